@@ -1,11 +1,12 @@
 -- A block arrives: what a grant, a supply or what was read makes of a client that asks for its call, in terms of a fact that is kept.
 use Rattle.std.proofs.Common.{◌≡◌, ◌⊎◌, inl, inr, ℕ, ◌-◌, ◌^◌, Bool, true, false, ◌&&◌, ◌==◌, not, nat_lt, List, [], ◌∷◌, Option, Some, None, is_some, is_none, refl, sym, ap, subst, ◌∙◌, arith}
 use Rattle.std.proofs.lemmas.Bool.Decides.{nat_tests}
-use Rattle.client_node.specs.declared.serving.Serving.{Serving}
-use Rattle.client_node.specs.Flights.{held_at}
-use Rattle.client_node.specs.Follow.{follows, follows_one, notes_clean, notes_copy}
-use Rattle.client_node.specs.Reads.{ask_after, begins, begins_over, confirmed_next, confirms, drawn_after, ends_reading, group_in, kept_while, loses, loses_at, reading_in, reads, reads_over, same_target, target_of, with_reading}
-use Rattle.client_node.specs.Sends as client
+use Rattle.client_parts.specs.Reads.{kept_while, reading_in, same_target, target_of}
+use Rattle.client_serving.specs.declared.serving.Serving.{Serving}
+use Rattle.client_serving.specs.Flights.{held_at}
+use Rattle.client_serving.specs.Follow.{follows, follows_one, notes_clean, notes_copy}
+use Rattle.client_serving.specs.Reads.{ask_after, begins, begins_over, confirmed_next, confirms, drawn_after, ends_reading, group_in, loses, loses_at, reads, reads_over, with_reading}
+use Rattle.client_serving.specs.Sends as client
 use Rattle.group_map.specs.declared.group.Group.{Group}
 use Rattle.group_map.specs.GroupMapState.{GroupMapState}
 use Rattle.node_base.specs.Room.{has_long_room}

@@ -9,11 +9,12 @@ use Rattle.client_log.specs.declared.input.In.TheVariants as log_ins
 use Rattle.client_log.specs.declared.output.Out as log_out
 use Rattle.client_log.specs.declared.output.Out.TheVariants.{Send, Settled}
 use Rattle.client_log.specs.Transition as log
-use Rattle.client_node.specs.Blocks.{changes, wrote}
-use Rattle.client_node.specs.declared.serving.Serving.{Serving}
-use Rattle.client_node.specs.Flights.{feeds, gives_if_clean, gives_up, held_at, is_giving, is_settling, keeps_clean, notes_settled, settled_rows, settles, writes, writes_one}
-use Rattle.client_node.specs.Follow.{notes_clean, notes_gone, seals}
-use Rattle.client_node.specs.Sends as client
+use Rattle.client_parts.specs.Flights.{is_giving, is_settling}
+use Rattle.client_serving.specs.Blocks.{changes, wrote}
+use Rattle.client_serving.specs.declared.serving.Serving.{Serving}
+use Rattle.client_serving.specs.Flights.{feeds, gives_if_clean, gives_up, held_at, keeps_clean, notes_settled, settled_rows, settles, writes, writes_one}
+use Rattle.client_serving.specs.Follow.{notes_clean, notes_gone, seals}
+use Rattle.client_serving.specs.Sends as client
 use Rattle.coop_cache.specs.CacheState.{CacheState}
 use Rattle.coop_cache.specs.Transition.{excess, is_clean, left, touched, used_last}
 use Rattle.token_client.specs.declared.held.Giving.{Giving}

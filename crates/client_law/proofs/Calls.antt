@@ -1,16 +1,17 @@
 -- The open call runs: that keeps a fact of a client that serves; and it writes at once, or lets go, what was just granted to be written.
 use Rattle.std.proofs.Common.{◌≡◌, inl, inr, ℕ, zero, suc, ◌+◌, ◌<◌, Bool, true, false, ◌==◌, List, Option, Some, None, is_some, is_none, refl, sym, ap, subst, ◌∙◌, arith}
 use Rattle.client_log.specs.declared.input.In.TheVariants as log_in
-use Rattle.client_node.specs.Blocks.{Made, changed, changes, changes_if_fits, got, gets, held_back, lets_go, makes, needs, puts, puts_again, puts_at, syncs, wrote}
-use Rattle.client_node.specs.declared.call.Call.{Call}
-use Rattle.client_node.specs.declared.call.Going.{Going}
-use Rattle.client_node.specs.declared.call.Going.TheVariants.{On, Ends}
-use Rattle.client_node.specs.declared.serving.Serving.{Serving}
-use Rattle.client_node.specs.Fitting.{put_fits}
-use Rattle.client_node.specs.Flights.{held_at}
-use Rattle.client_node.specs.Follow.{hands, notes_gone}
-use Rattle.client_node.specs.Running.{Ran, after_answer, answers_call, goes_on, most_steps, runs, runs_call, runs_once, runs_upto}
-use Rattle.client_node.specs.Sends as client
+use Rattle.client_parts.specs.Calls.{after_answer}
+use Rattle.client_parts.specs.declared.call.Call.{Call}
+use Rattle.client_parts.specs.declared.call.Going.TheVariants.{On, Ends}
+use Rattle.client_parts.specs.declared.call.Going.{Going}
+use Rattle.client_parts.specs.Fitting.{put_fits}
+use Rattle.client_serving.specs.Blocks.{Made, changed, changes, changes_if_fits, got, gets, held_back, lets_go, makes, needs, puts, puts_again, puts_at, syncs, wrote}
+use Rattle.client_serving.specs.declared.serving.Serving.{Serving}
+use Rattle.client_serving.specs.Flights.{held_at}
+use Rattle.client_serving.specs.Follow.{hands, notes_gone}
+use Rattle.client_serving.specs.Running.{Ran, answers_call, goes_on, most_steps, runs, runs_call, runs_once, runs_upto}
+use Rattle.client_serving.specs.Sends as client
 use Rattle.file_plan.specs.declared.block_call.BlockAnswer.{BlockAnswer}
 use Rattle.file_plan.specs.declared.block_call.BlockCall.{BlockCall}
 use Rattle.file_plan.specs.declared.block_call.BlockCall.TheVariants.{Get, Put, PutAt, Sync}

@@ -10,11 +10,12 @@ use Rattle.client_log.specs.declared.output.Out.TheVariants.{Send, Settled}
 use Rattle.client_log.specs.LogState.{LogState}
 use Rattle.client_log.specs.Transition as log
 use Rattle.client_log.specs.Transition.{can_go_on, has_next, if_full, is_idle, on_acked, on_maps, on_put, on_seal, on_tick, sealed, waits}
-use Rattle.client_node.specs.Blocks.{changes, wrote}
-use Rattle.client_node.specs.declared.serving.Serving.{Serving}
-use Rattle.client_node.specs.Flights.{feeds, gives_if_clean, gives_up, held_at, is_giving, is_settling, keeps_clean, notes_settled, settled_rows, settles, writes, writes_one}
-use Rattle.client_node.specs.Follow.{evicts, notes_clean, seals}
-use Rattle.client_node.specs.Sends as client
+use Rattle.client_parts.specs.Flights.{is_giving, is_settling}
+use Rattle.client_serving.specs.Blocks.{changes, wrote}
+use Rattle.client_serving.specs.declared.serving.Serving.{Serving}
+use Rattle.client_serving.specs.Flights.{feeds, gives_if_clean, gives_up, held_at, keeps_clean, notes_settled, settled_rows, settles, writes, writes_one}
+use Rattle.client_serving.specs.Follow.{evicts, notes_clean, seals}
+use Rattle.client_serving.specs.Sends as client
 use Rattle.coop_cache.specs.declared.output.Out as cache_out
 use Rattle.coop_cache.specs.declared.output.Out.TheVariants.{Victim}
 use Rattle.coop_cache.specs.Transition.{cleaned}

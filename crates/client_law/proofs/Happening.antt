@@ -2,18 +2,22 @@
 use Rattle.std.proofs.Common.{◌≡◌, inl, ℕ, Bool, true, ◌&&◌, List, [], ◌∷◌, Option, Some, None, is_some}
 use Rattle.client_log.specs.LogState as logs
 use Rattle.client_log.specs.LogState.{LogState}
-use Rattle.client_node.specs.declared.call.Going.{Going}
 use Rattle.client_node.specs.declared.client.Client.{Client}
-use Rattle.client_node.specs.declared.lasting.Lasting.{Lasting}
-use Rattle.client_node.specs.declared.phase.Phase.{Phase}
 use Rattle.client_node.specs.declared.phase.Phase.TheVariants.{Down, Opening, Serving as Serves}
-use Rattle.client_node.specs.declared.serving.Serving.{Serving}
-use Rattle.client_node.specs.Packets.{epochs_room, on_packet, on_tick}
-use Rattle.client_node.specs.Phases.{Went_to, after_opening, begins_call, begins_item, call_at, client_room, client_step, down_begins, happens, item_begins, lasting_of, next_life, on_begin, on_deliver, on_time, opened_on, opening_begins, opens, owner_of, phase_room, serving_begins, serving_room, takes, wish_of, with_begun}
-use Rattle.client_node.specs.Running.{goes_on, runs}
-use Rattle.client_node.specs.Sends as client
-use Rattle.client_node.specs.Sends.{gives}
-use Rattle.client_node.specs.Starting.{cached_upto, empty_end, first_client}
+use Rattle.client_node.specs.declared.phase.Phase.{Phase}
+use Rattle.client_node.specs.Phases.{Went_to, after_opening, begins_item, client_room, client_step, down_begins, happens, item_begins, lasting_of, on_begin, on_deliver, on_time, opened_on, opening_begins, owner_of, phase_room, serving_begins, takes, wish_of, with_begun}
+use Rattle.client_node.specs.Starting.{first_client}
+use Rattle.client_parts.specs.declared.call.Going.{Going}
+use Rattle.client_parts.specs.declared.lasting.Lasting.{Lasting}
+use Rattle.client_parts.specs.Lasting.{next_life}
+use Rattle.client_parts.specs.Promises.{epochs_room}
+use Rattle.client_parts.specs.Starting.{cached_upto, empty_end}
+use Rattle.client_serving.specs.declared.serving.Serving.{Serving}
+use Rattle.client_serving.specs.Opens.{begins_call, call_at, opens}
+use Rattle.client_serving.specs.Packets.{on_packet, on_tick, serving_room}
+use Rattle.client_serving.specs.Running.{goes_on, runs}
+use Rattle.client_serving.specs.Sends as client
+use Rattle.client_serving.specs.Sends.{gives}
 use Rattle.coop_cache.specs.CacheState as cache
 use Rattle.group_map.specs.Groups as groups
 use Rattle.group_map.specs.GroupMapState.{GroupMapState}

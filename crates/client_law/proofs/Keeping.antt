@@ -6,12 +6,12 @@ use Rattle.client_log.specs.declared.input.In as log_in
 use Rattle.client_log.specs.declared.input.In.TheVariants as log_ins
 use Rattle.client_log.specs.LogState.{LogState}
 use Rattle.client_log.specs.Transition.{on_seal}
-use Rattle.client_node.specs.Blocks.{changes}
-use Rattle.client_node.specs.declared.serving.Serving.{Serving}
-use Rattle.client_node.specs.Flights.{held_at, writes}
-use Rattle.client_node.specs.Follow.{follows, follows_one, hands, notes_clean, notes_gone, seals, takes_back}
-use Rattle.client_node.specs.Reads.{ends_reading}
-use Rattle.client_node.specs.Sends as client
+use Rattle.client_serving.specs.Blocks.{changes}
+use Rattle.client_serving.specs.declared.serving.Serving.{Serving}
+use Rattle.client_serving.specs.Flights.{held_at, writes}
+use Rattle.client_serving.specs.Follow.{follows, follows_one, hands, notes_clean, notes_gone, seals, takes_back}
+use Rattle.client_serving.specs.Reads.{ends_reading}
+use Rattle.client_serving.specs.Sends as client
 use Rattle.coop_cache.specs.CacheState.{CacheState}
 use Rattle.coop_cache.specs.Transition.{left, touched}
 use Rattle.group_map.specs.GroupMapState.{GroupMapState}

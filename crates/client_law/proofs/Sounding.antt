@@ -5,12 +5,14 @@ use Rattle.client_log.specs.declared.input.In as log_in
 use Rattle.client_log.specs.declared.output.Out as log_out
 use Rattle.client_log.specs.declared.output.Out.TheVariants.{Send, Settled}
 use Rattle.client_log.specs.Transition as log
-use Rattle.client_node.specs.declared.serving.Serving.{Serving}
-use Rattle.client_node.specs.Flights.{feeds, gives_if_clean, gives_up, held_at, is_giving, is_settling, keeps_clean, notes_settled, seals_again, settled_rows, settles, writes, writes_one}
-use Rattle.client_node.specs.Follow.{evicts, follows, follows_one, hands, notes_clean, notes_copy, notes_gone, seals, takes_back}
-use Rattle.client_node.specs.Reads.{begins, begins_over, confirmed_next, confirms, drawn_after, ends_reading, group_in, loses, loses_at, reading_in, reads, reads_over, same_target, target_of, with_reading}
-use Rattle.client_node.specs.Reads as reading
-use Rattle.client_node.specs.Sends.{Done}
+use Rattle.client_parts.specs.Flights.{is_giving, is_settling}
+use Rattle.client_parts.specs.Reads.{reading_in, same_target, target_of}
+use Rattle.client_serving.specs.declared.serving.Serving.{Serving}
+use Rattle.client_serving.specs.Flights.{feeds, gives_if_clean, gives_up, held_at, keeps_clean, notes_settled, seals_again, settled_rows, settles, writes, writes_one}
+use Rattle.client_serving.specs.Follow.{evicts, follows, follows_one, hands, notes_clean, notes_copy, notes_gone, seals, takes_back}
+use Rattle.client_serving.specs.Reads as reading
+use Rattle.client_serving.specs.Reads.{begins, begins_over, confirmed_next, confirms, drawn_after, ends_reading, group_in, loses, loses_at, reads, reads_over, with_reading}
+use Rattle.client_serving.specs.Sends.{Done}
 use Rattle.coop_cache.specs.declared.output.Out as cache_out
 use Rattle.coop_cache.specs.declared.output.Out.TheVariants.{Victim}
 use Rattle.coop_cache.specs.Transition.{cleaned, left}

@@ -1,11 +1,12 @@
 -- The facts of a client together hold at the start, and each event keeps them.
 use Rattle.std.proofs.Common.{◌≡◌, ℕ, Option, Some, None, inl, replicate, refl, sym, ◌∙◌}
 use Rattle.client_log.specs.LogState.{FlightState}
-use Rattle.client_node.specs.declared.phase.Phase.{Phase}
 use Rattle.client_node.specs.declared.phase.Phase.TheVariants.{Down, Opening, Serving as Serves}
-use Rattle.client_node.specs.declared.serving.Serving.{Serving}
+use Rattle.client_node.specs.declared.phase.Phase.{Phase}
 use Rattle.client_node.specs.Phases.{takes}
-use Rattle.client_node.specs.Starting.{first_lasting, first_serving}
+use Rattle.client_parts.specs.Lasting.{first_lasting}
+use Rattle.client_serving.specs.declared.serving.Serving.{Serving}
+use Rattle.client_serving.specs.Starting.{first_serving}
 use Rattle.group_map.specs.Groups.{started}
 use Rattle.group_map.specs.WellFormed.{IsGroupMap}
 use Rattle.client_law.specs.Grouped.{HasSuchMaps}

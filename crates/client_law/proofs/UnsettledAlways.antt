@@ -5,10 +5,10 @@ use Rattle.client_log.specs.declared.dirty.Change.{Change}
 use Rattle.client_log.specs.declared.input.In.TheVariants as log_ins
 use Rattle.client_log.specs.LogState.{LogState}
 use Rattle.client_log.specs.Transition.{can_go_on, has_next, if_full, is_full, on_put, waits}
-use Rattle.client_node.specs.Blocks.{changes}
-use Rattle.client_node.specs.declared.serving.Serving.{Serving}
-use Rattle.client_node.specs.Flights.{held_at, writes}
-use Rattle.client_node.specs.Follow.{notes_clean}
+use Rattle.client_serving.specs.Blocks.{changes}
+use Rattle.client_serving.specs.declared.serving.Serving.{Serving}
+use Rattle.client_serving.specs.Flights.{held_at, writes}
+use Rattle.client_serving.specs.Follow.{notes_clean}
 use Rattle.coop_cache.specs.Transition.{left}
 use Rattle.group_map.specs.GroupMapState.{GroupMapState}
 use Rattle.log_owner.specs.declared.opened.Progress.{Progress}

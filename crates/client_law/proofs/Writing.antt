@@ -6,10 +6,11 @@ use Rattle.client_log.specs.declared.input.In as log_in
 use Rattle.client_log.specs.declared.output.Out as log_out
 use Rattle.client_log.specs.declared.output.Out.TheVariants.{Send, Settled}
 use Rattle.client_log.specs.Transition as log
-use Rattle.client_node.specs.declared.serving.Serving.{Serving}
-use Rattle.client_node.specs.Flights.{is_giving, is_settling, seals_again, settles, writes, writes_one}
-use Rattle.client_node.specs.Follow.{evicts, notes_clean, notes_gone, seals}
-use Rattle.client_node.specs.Sends.{Done}
+use Rattle.client_parts.specs.Flights.{is_giving, is_settling}
+use Rattle.client_serving.specs.declared.serving.Serving.{Serving}
+use Rattle.client_serving.specs.Flights.{seals_again, settles, writes, writes_one}
+use Rattle.client_serving.specs.Follow.{evicts, notes_clean, notes_gone, seals}
+use Rattle.client_serving.specs.Sends.{Done}
 use Rattle.coop_cache.specs.declared.output.Out as cache_out
 use Rattle.coop_cache.specs.declared.output.Out.TheVariants.{Victim}
 use Rattle.coop_cache.specs.Transition.{cleaned, left}

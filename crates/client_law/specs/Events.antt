@@ -1,11 +1,11 @@
 -- A client after any events.
 use Rattle.std.specs.Prelude.{ℕ, List, [], ◌∷◌}
 use Rattle.client_node.specs.declared.client.Client.{Client}
-use Rattle.client_node.specs.declared.phase.Phase.{Phase}
 use Rattle.client_node.specs.declared.phase.Phase.TheVariants.{Down, Opening, Serving as Serves}
-use Rattle.client_node.specs.declared.serving.Serving.{Serving}
+use Rattle.client_node.specs.declared.phase.Phase.{Phase}
 use Rattle.client_node.specs.Phases.{client_step}
 use Rattle.client_node.specs.Starting.{first_client}
+use Rattle.client_serving.specs.declared.serving.Serving.{Serving}
 use Rattle.version_model.specs.declared.work.Work.{Work}
 use Rattle.wire_msg.specs.declared.packet.Do.{Do}
 use Rattle.xfs_base.specs.declared.setup.Setup.{Setup}

@@ -1,7 +1,7 @@
 -- What a client is to give up.
 use Rattle.std.specs.Prelude.{◌≡◌, true, is_some}
-use Rattle.client_node.specs.declared.serving.Serving.{Serving}
-use Rattle.client_node.specs.Flights.{held_at}
+use Rattle.client_serving.specs.declared.serving.Serving.{Serving}
+use Rattle.client_serving.specs.Flights.{held_at}
 use Rattle.token_client.specs.Held.{is_dirty}
 use Rattle.xfs_base.specs.declared.block.BlockId.{BlockId}
 use Rattle.client_law.specs.Events.{HoldsAfterAnyEvents}

@@ -1,8 +1,8 @@
 -- The map of groups over which a client stripes its segments.
 use Rattle.std.specs.Prelude.{◌≡◌, ℕ, All, IsTrue, List, Some}
 use Rattle.std.specs.List.{AllByRecursion}
-use Rattle.client_node.specs.declared.serving.Serving.{Serving}
 use Rattle.client_node.specs.Starting.{first_client}
+use Rattle.client_serving.specs.declared.serving.Serving.{Serving}
 use Rattle.group_map.specs.declared.group.Group.{Group}
 use Rattle.group_map.specs.Groups.{generation_at, group_of, started}
 use Rattle.group_map.specs.WellFormed.{IsGroupMap}

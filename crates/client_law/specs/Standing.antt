@@ -2,11 +2,11 @@
 use Rattle.std.specs.Prelude.{◌≡◌, ◌+◌, ℕ, List, Option, Some, None}
 use Rattle.client_log.specs.LogState.{FlightState}
 use Rattle.client_node.specs.declared.client.Client.{Client}
-use Rattle.client_node.specs.declared.phase.Phase.{Phase}
 use Rattle.client_node.specs.declared.phase.Phase.TheVariants.{Down, Opening, Serving as Serves}
-use Rattle.client_node.specs.declared.serving.Serving.{Serving}
+use Rattle.client_node.specs.declared.phase.Phase.{Phase}
 use Rattle.client_node.specs.Phases.{takes}
 use Rattle.client_node.specs.Starting.{first_client}
+use Rattle.client_serving.specs.declared.serving.Serving.{Serving}
 use Rattle.group_map.specs.Groups.{started}
 use Rattle.group_map.specs.WellFormed.{IsGroupMap}
 use Rattle.log_owner.specs.declared.opening.Opening as openings

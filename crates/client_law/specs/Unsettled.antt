@@ -2,8 +2,8 @@
 use Rattle.std.specs.Prelude.{◌≡◌, ◌<◌, ◌≤◌, ◌⊎◌, ℕ, true, List, [], Option, Some, None, is_some, map}
 use Rattle.std.specs.Map.{keys_of, lookup}
 use Rattle.client_log.specs.LogState.{FlightState, LogState}
-use Rattle.client_node.specs.declared.serving.Serving.{Serving}
-use Rattle.client_node.specs.Flights.{held_at}
+use Rattle.client_serving.specs.declared.serving.Serving.{Serving}
+use Rattle.client_serving.specs.Flights.{held_at}
 use Rattle.segment_format.specs.Rows.{rows_of}
 use Rattle.token_client.specs.Held.{is_dirty}
 use Rattle.xfs_base.specs.Blocks.{same_block}

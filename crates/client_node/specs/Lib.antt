@@ -1,13 +1,4 @@
-pub mod Blocks
-pub mod Bodies
 pub mod Clocks
-pub mod Follow
-pub mod Fitting
-pub mod Flights
-pub mod Packets
 pub mod Parts
 pub mod Phases
-pub mod Reads
-pub mod Running
-pub mod Sends
 pub mod Starting

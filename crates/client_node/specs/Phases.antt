@@ -1,42 +1,35 @@
 -- What an event makes of a client.
-use Rattle.std.specs.Prelude.{ℕ, ◌+◌, Bool, true, ◌&&◌, nat_lt, if◌then◌else◌, List, [], ◌∷◌, ◌++◌, Option, Some, None, map, unwrap_or, is_some}
-use Rattle.client_log.specs.LogState.{FlightState, LogState}
-use Rattle.client_node.specs.declared.beginning.Wish.{Wish}
+use Rattle.std.specs.Prelude.{ℕ, Bool, true, ◌&&◌, if◌then◌else◌, [], ◌∷◌, ◌++◌, Option, Some, None}
 use Rattle.client_node.specs.declared.beginning.Wish.TheVariants as wish
+use Rattle.client_node.specs.declared.beginning.Wish.{Wish}
 use Rattle.client_node.specs.declared.client.Client.{Client}
-use Rattle.client_node.specs.declared.call.Going.{Going}
-use Rattle.client_node.specs.declared.lasting.Lasting.{Lasting}
-use Rattle.client_node.specs.declared.phase.Phase.{Phase}
 use Rattle.client_node.specs.declared.phase.Phase.TheVariants.{Down, Opening, Serving as Serves}
-use Rattle.client_node.specs.declared.serving.Serving.{Serving}
-use Rattle.client_node.specs.Packets.{epochs_room, on_packet, on_tick}
-use Rattle.client_node.specs.Running.{call_of, goes_on, runs}
-use Rattle.client_node.specs.Sends.{Done, gives}
-use Rattle.client_node.specs.Starting.{cached_upto}
-use Rattle.coop_cache.specs.CacheState as cache
+use Rattle.client_node.specs.declared.phase.Phase.{Phase}
+use Rattle.client_parts.specs.declared.lasting.Lasting.{Lasting}
+use Rattle.client_parts.specs.Lasting.{next_life}
+use Rattle.client_serving.specs.Crash.{falls}
+use Rattle.client_serving.specs.declared.serving.Serving.{Serving}
+use Rattle.client_serving.specs.Opens.{opens}
+use Rattle.client_serving.specs.Packets.{on_packet, on_tick, serving_room}
+use Rattle.client_serving.specs.Running.{runs}
+use Rattle.client_serving.specs.Sends.{Done}
+use Rattle.client_serving.specs.Starting.{returned}
 use Rattle.log_owner.specs.declared.ended.Owner.{Owner}
 use Rattle.log_owner.specs.declared.opened.Opened.{Opened}
 use Rattle.log_owner.specs.declared.opened.Progress.{Progress}
 use Rattle.log_owner.specs.declared.opened.Progress.TheVariants as progress
 use Rattle.log_owner.specs.declared.opening.Opening as openings
-use Rattle.log_owner.specs.declared.promised.Promised.{Promised}
 use Rattle.log_owner.specs.Opening as opening
-use Rattle.log_owner.specs.Opening.{Went, log_room}
+use Rattle.log_owner.specs.Opening.{Went}
 use Rattle.log_owner.specs.Sending.{pushes_all}
-use Rattle.node_base.specs.Beginning.{next_item, begun, work_at, waiting, answered, answers_unanswered}
-use Rattle.delta_feed.specs.FeedState.{FeedState}
+use Rattle.node_base.specs.Beginning.{next_item, begun, work_at, answered, answers_unanswered}
 use Rattle.node_base.specs.declared.effects.Effect.{Effect}
 use Rattle.node_base.specs.declared.effects.Effect.TheVariants.{Answer as Answers, Does}
-use Rattle.node_base.specs.declared.maps.Maps.{Maps}
 use Rattle.node_base.specs.declared.peers.Peers.{Peers}
 use Rattle.node_base.specs.Effects.{packets_of, acts_of}
 use Rattle.node_base.specs.Room.{has_room}
 use Rattle.node_base.specs.Shape.{is_well_formed}
-use Rattle.segment_format.specs.declared.segment.Item.{Item}
-use Rattle.segment_format.specs.declared.segment.Item.TheVariants.{Block, Delta, Part}
-use Rattle.token_client.specs.State.{started, held_of, dirty_in}
-use Rattle.version_model.specs.declared.act.Act.TheVariants.{Fell, Back}
-use Rattle.version_model.specs.declared.act.Fall.{Fall}
+use Rattle.version_model.specs.declared.act.Act.TheVariants.{Back}
 use Rattle.version_model.specs.declared.answer.Answer.{Answer}
 use Rattle.version_model.specs.declared.answer.Answer.TheVariants as answer
 use Rattle.version_model.specs.declared.work.Work.{Work}
@@ -45,10 +38,7 @@ use Rattle.wire_msg.specs.declared.packet.Do.{Do}
 use Rattle.wire_msg.specs.declared.packet.Do.TheVariants.{Begin, Deliver, Tick}
 use Rattle.wire_msg.specs.declared.packet.Packet.{Packet}
 use Rattle.wire_msg.specs.NodeStep.{NodeStep}
-use Rattle.xfs_base.specs.Blocks.{same_block}
-use Rattle.xfs_base.specs.declared.block.BlockId.{BlockId}
 use Rattle.xfs_base.specs.declared.node.NodeId.TheVariants.{Client as AClient}
-use Rattle.xfs_base.specs.Limits.{u32_end}
 use Rattle.xfs_base.specs.Steps.{Stepped, still, after}
 
 -- the phase of a client after an event, and what the event has it do
@@ -56,34 +46,6 @@ abbrev pub Went_to : Type 0
 Went_to = Stepped Phase Effect
 
 -- ---- crash
-
-abbrev pub version_of : BlockId → Item → Option ℕ
-version_of block (Block b value) = None
-version_of block (Delta b ver hop item) = if same_block b block then Some ver else None
-version_of block (Part slot rows) = None
-
--- the version of a block among items, or else this one
-abbrev pub version_in : BlockId → ℕ → List Item → ℕ
-version_in block low [] = low
-version_in block low (item ∷ items) = unwrap_or (version_of block item) (version_in block low items)
-
-abbrev pub flown_version : Option FlightState → BlockId → ℕ → ℕ
-flown_version None block low = low
-flown_version (Some f) block low = version_in block low f.segment.items
-
--- the versions to which a block may fall: the settled one, and the one that is in flight
-unfoldable pub fall_of : Serving → BlockId → Fall
-fall_of s block =
-    let low = (held_of s.tokens.blocks block).settled in
-    record { block = block; low = low; high = flown_version s.log.flight block low }
-
-abbrev pub flight_of : Option FlightState → Option (ℕ × ℕ)
-flight_of None = None
-flight_of (Some f) = Some (f.segment.name.seq, f.segment.name.pass.inc)
-
--- what a crash may make of the blocks whose newest version isn't settled
-abbrev pub falls : Serving → Effect
-falls s = Does (Fell s.lasting.number (flight_of s.log.flight) (map (fall_of s) (dirty_in s.tokens.blocks)))
 
 -- Crash: the item that is open is cut, and all is lost but what outlives it.
 abbrev pub crashed : Lasting → ℕ → Went_to
@@ -95,10 +57,6 @@ crashed l number =
 
 -- ---- restart
 
--- the next incarnation, whose restart is not answered yet
-abbrev pub next_life : Lasting → ℕ → Lasting
-next_life l number = record l { inc = if nat_lt l.inc u32_end then l.inc + 1 else l.inc; items = waiting l.items number }
-
 abbrev pub owner_of : Lasting → Owner
 owner_of l = record { log = record { 0 = l.number }; inc = l.inc }
 
@@ -109,20 +67,6 @@ restarted servers l =
     record { state = Opening (record l { questions = w.questions }) (opening.at_first (owner_of l) servers l.questions); outs = w.effects }
 
 -- ---- the end of an opening
-
--- a client whose log is open again: nothing is cached
-abbrev pub returned : Lasting → ℕ → Maps → Promised → LogState → FeedState → Serving
-returned l capacity maps promised log feed =
-    record {
-      lasting = l;
-      maps = maps;
-      managers = promised.managers;
-      tokens = started l.inc promised.epochs;
-      log = log;
-      feed = feed;
-      cache = cache.started (cached_upto capacity);
-      call = None;
-    }
 
 abbrev pub served : Lasting → ℕ → Opened → Serving
 served l capacity o = returned (record l { items = answered l.items }) capacity o.maps o.promised o.log o.feed
@@ -148,21 +92,6 @@ opened_on l capacity w = after w.effects (after_opening (record l { questions = 
 
 abbrev pub answers : Phase → ℕ → Answer → Went_to
 answers phase number a = record { state = phase; outs = Answers number a ∷ [] }
-
-abbrev pub begins_call : Serving → ℕ → Option Going → Done
-begins_call s number None = gives s (Answers number answer.Done ∷ [])
-begins_call s number (Some going) =
-    (let d = goes_on (record s { lasting = record s.lasting { items = waiting s.lasting.items number } }) going in after d.outs (runs d.state))
-
-abbrev pub call_at : Serving → ℕ → Option Work → Option Going
-call_at s number None = None
-call_at s number (Some w) = call_of w number s.lasting.number
-
--- Begin of a call: it opens, and runs until it must wait. While another is open it is refused.
-unfoldable pub opens : Serving → ℕ → Done
-opens s number =
-    if is_some s.lasting.items.unanswered then gives s (Answers number answer.Busy ∷ [])
-    else begins_call s number (call_at s number (work_at s.lasting.items number))
 
 abbrev pub serves_on : Done → Went_to
 serves_on d = record { state = Serves d.state; outs = d.outs }
@@ -250,10 +179,6 @@ abbrev pub happens : Client → Do → Went_to
 happens c what = on_event c.peers c.cache c.phase what
 
 -- ---- the ends of counters
-
-abbrev pub serving_room : Serving → Bool
-serving_room s =
-    has_room s.maps.version && (has_room s.tokens.req && (log_room s.log && epochs_room s.tokens))
 
 abbrev pub phase_room : Phase → Bool
 phase_room (Down l) = true

@@ -2,15 +2,17 @@
 ghost use Rattle.std.specs.Prelude.{◌≡◌, ◌++◌, ℕ, IfOk, OnOk};
 ghost use Rattle.client_node.specs.declared.phase.Phase.TheVariants.{Opening as Opens};
 ghost use Rattle.client_node.specs.Phases.{on_begin, delivers, on_time, on_event, client_room, phase_room, takes};
-ghost use Rattle.client_node.specs.Packets.{on_packet, on_tick};
-ghost use Rattle.client_node.specs.Running.{runs};
 ghost use Rattle.client_node.specs.Starting.{first_client};
+ghost use Rattle.client_serving.specs.Packets.{on_packet, on_tick};
+ghost use Rattle.client_serving.specs.Running.{runs};
 ghost use Rattle.node_base.specs.Setups.{IsSetup};
 ghost use Rattle.segment_format.specs.Format.{IsLog};
 
+use crate::Phase;
 use crate::beginning::{begin_down, begin_opening, begin_serving, what_outlives};
 use crate::returning::after;
-use crate::{Lasting, Phase, Serving};
+use client_parts::Lasting;
+use client_serving::Serving;
 use log_owner::Opening;
 use node_base::{Effects, Peers, groups_of, has_room, is_well_formed};
 use std::alloc::Global;

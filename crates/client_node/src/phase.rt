@@ -2,7 +2,8 @@
 ghost use Rattle.std.specs.Prelude.{◌≡◌};
 ghost use Rattle.client_node.specs.Phases.{lasting_of};
 
-use crate::{Lasting, Serving};
+use client_parts::Lasting;
+use client_serving::Serving;
 use log_owner::Opening;
 
 /// What a client has: in each phase what outlives a crash, and in each what exists in it alone.

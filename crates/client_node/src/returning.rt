@@ -7,7 +7,9 @@ ghost use Rattle.node_base.specs.declared.effects.Effect.TheVariants.{Does};
 ghost use Rattle.version_model.specs.declared.act.Act.TheVariants.{Back};
 ghost use Rattle.version_model.specs.declared.answer.Answer.TheVariants as answer;
 
-use crate::{Lasting, Phase, Serving};
+use crate::Phase;
+use client_parts::Lasting;
+use client_serving::Serving;
 use log_owner::sending::push_all;
 use log_owner::{Opened, Progress};
 use node_base::Effects;

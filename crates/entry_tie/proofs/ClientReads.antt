@@ -3,14 +3,13 @@
 use Rattle.std.proofs.Common.{ℕ, Bool, List, [], ◌∷◌, Option, Some, None, is_some}
 use Rattle.std.specs.List.{AllByRecursion, list_any}
 use Rattle.std.specs.Map.{values_of}
-use Rattle.client_node.specs.declared.call.Call.{Call}
-use Rattle.client_node.specs.declared.call.Going.{Going}
-use Rattle.client_node.specs.declared.call.Going.TheVariants.{On, Ends}
-use Rattle.client_node.specs.declared.call.Plan.{Plan}
-use Rattle.client_node.specs.declared.call.Plan.TheVariants.{One, File}
-use Rattle.client_node.specs.Packets.{heard}
-use Rattle.client_node.specs.Reads.{reading_in, call_with, is_fetched, kept_while}
-use Rattle.client_node.specs.Running.{going_by, after_answer, may_make, file_call, call_of}
+use Rattle.client_parts.specs.Calls.{going_by, after_answer, may_make, file_call, call_of}
+use Rattle.client_parts.specs.declared.call.Call.{Call}
+use Rattle.client_parts.specs.declared.call.Going.TheVariants.{On, Ends}
+use Rattle.client_parts.specs.declared.call.Going.{Going}
+use Rattle.client_parts.specs.declared.call.Plan.TheVariants.{One, File}
+use Rattle.client_parts.specs.declared.call.Plan.{Plan}
+use Rattle.client_parts.specs.Reads.{heard, reading_in, call_with, is_fetched, kept_while}
 use Rattle.file_plan.specs.declared.block_call.BlockAnswer.{BlockAnswer}
 use Rattle.file_plan.specs.declared.block_call.Next.{Next as Planned}
 use Rattle.file_plan.specs.declared.block_call.Next.TheVariants.{Step as Steps, Reply}

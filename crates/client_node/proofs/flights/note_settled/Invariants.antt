@@ -1,7 +1,0 @@
-use Rattle.std.proofs.Common.{◌≡◌, drop}
-use Rattle.std.specs.Prelude.{fold}
-use Rattle.client_node.specs.Parts.{row_settled}
-use Rattle.client_node.proofs.flights.note_settled.Given as goal
-
-abbrev pub invariant-loop-row : goal.invariant-loop-row
-invariant-loop-row l = fold row_settled l.tokens (drop l.row-index l.rows) ≡ fold row_settled l.initial.tokens l.rows

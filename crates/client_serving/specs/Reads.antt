@@ -1,0 +1,99 @@
+-- Reading a block from a log.
+use Rattle.std.specs.Prelude.{ℕ, if◌then◌else◌, ◌∷◌, Option, Some, None, is_none}
+use Rattle.client_parts.specs.Reads.{reading_in, call_with, kept_while, fetches, target_of, same_target}
+use Rattle.client_serving.specs.declared.serving.Serving.{Serving}
+use Rattle.client_serving.specs.Sends.{Done, gives}
+use Rattle.group_map.specs.declared.group.Group.{Group}
+use Rattle.group_map.specs.Groups.{group_of}
+use Rattle.group_map.specs.GroupMapState.{GroupMapState}
+use Rattle.node_base.specs.Asking.{next_ask, drawn}
+use Rattle.node_base.specs.Beginning.{answered, answers_unanswered}
+use Rattle.node_base.specs.declared.effects.Effect.TheVariants.{Lose}
+use Rattle.stripe_code.specs.declared.reading.Next.{Next}
+use Rattle.stripe_code.specs.declared.reading.Next.TheVariants as next
+use Rattle.stripe_code.specs.declared.reading.Stage.{Stage}
+use Rattle.stripe_code.specs.declared.reading.Stage.TheVariants.{Asking, Between, Doubted, Over}
+use Rattle.stripe_code.specs.declared.target.BlockAt.{BlockAt}
+use Rattle.stripe_code.specs.declared.target.Target.{Target}
+use Rattle.stripe_code.specs.Reading.{ReadingState, Step, begun, on_confirmed}
+use Rattle.token_client.specs.Transition.{on_quit}
+use Rattle.version_model.specs.declared.answer.Answer.TheVariants.{Lost}
+use Rattle.xfs_base.specs.declared.block.BlockId.{BlockId}
+use Rattle.xfs_base.specs.declared.entry.Place.{Place}
+use Rattle.xfs_base.specs.declared.segment.SegName.{SegName}
+use Rattle.xfs_base.specs.Steps.{still}
+
+-- ---- the reading of the open call
+
+abbrev pub with_reading : Serving → Option ReadingState → Serving
+with_reading s r = record s { call = call_with s.call r }
+
+-- a question is drawn
+abbrev pub draws : Serving → Serving
+draws s = record s { lasting = record s.lasting { questions = drawn s.lasting.questions } }
+
+-- a reading ends with the fetch that it is for
+abbrev pub ends_reading : Serving → Serving
+ends_reading s = with_reading s (kept_while s.tokens (reading_in s.call))
+
+-- ---- what is lost
+
+-- a segment that the open call needs is lost: the call is answered so, and its want and its fetch are over
+unfoldable pub loses : Serving → BlockId → SegName → Done
+loses s block seg =
+    gives
+    (record s { lasting = record s.lasting { items = answered s.lasting.items }; call = None; tokens = (on_quit s.tokens block).state })
+    (Lose seg ∷ answers_unanswered s.lasting.items.unanswered (Lost seg))
+
+abbrev pub loses_at : Serving → Option BlockAt → SegName → Done
+loses_at s None seg = still s
+loses_at s (Some at) seg = loses s at.block seg
+
+-- ---- rounds
+
+abbrev pub group_in : Option GroupMapState → ℕ → Option Group
+group_in None id = None
+group_in (Some groups) id = group_of groups id
+
+abbrev pub begins_over : Serving → Target → Option Group → Done
+begins_over s target None = still s
+begins_over s target (Some group) = (let r = begun target group (next_ask s.lasting.questions) in gives (with_reading (draws s) (Some r)) (fetches r))
+
+-- the first round begins
+unfoldable pub begins : Serving → Target → Done
+begins s target = begins_over s target (group_in s.maps.groups target.seg.group)
+
+abbrev pub confirmed_next : Serving → ReadingState → Next → Done
+confirmed_next s r next.Lost = loses_at s r.target.block r.target.seg.name
+confirmed_next s r next.Ask = gives (with_reading s (Some r)) (fetches r)
+confirmed_next s r next.Wait = still (with_reading s (Some r))
+confirmed_next s r next.Again = still (with_reading s (Some r))
+confirmed_next s r (next.Read segment) = still (with_reading s (Some r))
+
+abbrev pub confirmed_by : Serving → Step → Done
+confirmed_by s step = confirmed_next s step.state step.next
+
+-- the question under which a further round asks: a new one where the place was confirmed between two rounds
+abbrev pub ask_after : Serving → ℕ → Stage → ℕ
+ask_after s ask Between = next_ask s.lasting.questions
+ask_after s ask Asking = ask
+ask_after s ask Doubted = ask
+ask_after s ask Over = ask
+
+abbrev pub drawn_after : Serving → Stage → Serving
+drawn_after s Between = draws s
+drawn_after s Asking = s
+drawn_after s Doubted = s
+drawn_after s Over = s
+
+-- the place of the block was confirmed: a further round begins, or the segment is lost
+unfoldable pub confirms : Serving → ReadingState → Done
+confirms s r = confirmed_by (drawn_after s r.stage) (on_confirmed r (ask_after s r.ask r.stage))
+
+abbrev pub reads_over : Serving → Target → Option ReadingState → Done
+reads_over s target None = begins s target
+reads_over s target (Some r) = if same_target r.target target then confirms s r else begins s target
+
+-- Read: the block is to be read at a place. That is confirmed where it is being read there and was asked for again, and else it is read anew.
+unfoldable pub reads : Serving → BlockId → Place → Done
+reads s block place = if is_none s.call then still s else reads_over (with_reading s None) (target_of block place) (reading_in s.call)

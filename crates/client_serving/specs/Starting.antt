@@ -1,0 +1,45 @@
+-- A client that begins to serve.
+use Rattle.std.specs.Prelude.{ℕ, None, replicate}
+use Rattle.client_log.specs.LogState as log
+use Rattle.client_log.specs.LogState.{LogState}
+use Rattle.client_parts.specs.declared.lasting.Lasting.{Lasting}
+use Rattle.client_parts.specs.Starting.{cached_upto, empty_end}
+use Rattle.client_serving.specs.declared.serving.Serving.{Serving}
+use Rattle.coop_cache.specs.CacheState as cache
+use Rattle.delta_feed.specs.FeedState as feed
+use Rattle.delta_feed.specs.FeedState.{FeedState}
+use Rattle.group_map.specs.GroupMapState.{GroupMapState}
+use Rattle.log_owner.specs.declared.promised.Promised.{Promised}
+use Rattle.log_owner.specs.Promised.{first_managers}
+use Rattle.node_base.specs.declared.maps.Maps.{Maps}
+use Rattle.node_base.specs.Maps.{at_start}
+use Rattle.token_client.specs.State as tokens
+use Rattle.token_client.specs.State.{started}
+
+-- nothing is cached, and the log is empty
+abbrev pub first_serving : Lasting → ℕ → ℕ → GroupMapState → Serving
+first_serving l managers capacity groups =
+    record {
+      lasting = l;
+      maps = at_start groups;
+      managers = first_managers managers;
+      tokens = tokens.started 1 (replicate 8 1);
+      log = log.started (record { 0 = l.number }) 1 empty_end groups;
+      feed = feed.started 0;
+      cache = cache.started (cached_upto capacity);
+      call = None;
+    }
+
+-- a client whose log is open again: nothing is cached
+abbrev pub returned : Lasting → ℕ → Maps → Promised → LogState → FeedState → Serving
+returned l capacity maps promised log feed =
+    record {
+      lasting = l;
+      maps = maps;
+      managers = promised.managers;
+      tokens = started l.inc promised.epochs;
+      log = log;
+      feed = feed;
+      cache = cache.started (cached_upto capacity);
+      call = None;
+    }

@@ -1,0 +1,128 @@
+//! What the tokens have a client do.
+ghost use Rattle.std.specs.Prelude.{◌≡◌, ◌++◌, OnOk};
+ghost use Rattle.client_serving.specs.Follow.{follows, follows_one, hands, notes_clean, notes_copy, notes_gone, takes_back};
+
+use crate::Serving;
+use client_parts::flights::seal;
+use client_parts::follow::{evict_all, send_gave, send_want};
+use client_parts::reads::end_reading;
+use node_base::Effects;
+use std::alloc::Global;
+use token_client::{In, Out};
+use wire_msg::{Gave, Want};
+use xfs_base::{BlockId, List, Mem, Mode, Stamp};
+
+impl Serving {
+    /// Hands the tokens an input, and does what they say.
+    #[tactic(auto, unfolding(crate::specs::Follow::hands))]
+    pub(crate) fn hand(&mut self, alloc: Global, effects: &mut Effects, input: In) -> Mem<()>
+        ensures state { OnOk result (self.new ≡ (hands self.old input).state) }
+        ensures effects { OnOk result (effects.new ≡ effects.old ++ (hands self.old input).outs) }
+    {
+        let outs = self.tokens.take(alloc, input)?;
+        end_reading(&self.tokens, &mut self.call);
+        self.follow(alloc, effects, outs)
+    }
+
+    /// Does what the tokens say, in order.
+    #[tactic(auto, unfolding(crate::specs::Follow::follows))]
+    pub(crate) fn follow(
+        &mut self,
+        alloc: Global,
+        effects: &mut Effects,
+        outs: List<Out>,
+    ) -> Mem<()>
+        ensures state { OnOk result (self.new ≡ (follows self.old outs).state) }
+        ensures effects { OnOk result (effects.new ≡ effects.old ++ (follows self.old outs).outs) }
+    {
+        for out in outs.into_vec() {
+            self.follow_one(alloc, effects, out)?;
+        }
+        Ok(())
+    }
+
+    // A value that is to be supplied goes to the client that the forward names, so that it is sent there.
+    #[tactic(auto, unfolding(crate::specs::Follow::follows_one, crate::specs::Follow::seals))]
+    fn follow_one(&mut self, alloc: Global, effects: &mut Effects, out: Out) -> Mem<()>
+        ensures state { OnOk result (self.new ≡ (follows_one self.old out).state) }
+        ensures effects { OnOk result (effects.new ≡ effects.old ++ (follows_one self.old out).outs) }
+    {
+        match out {
+            Out::Want {
+                block,
+                req,
+                again,
+                mode,
+            } => {
+                let want = Want {
+                    block,
+                    inc: self.lasting.inc,
+                    req,
+                    again,
+                    mode,
+                    end: self.log.end().seq,
+                };
+                send_want(alloc, effects, &mut self.feed, self.managers, want)
+            }
+            Out::Gave { block, stamp } => {
+                let gave = Gave {
+                    block,
+                    stamp,
+                    end: self.log.end().seq,
+                };
+                send_gave(alloc, effects, &mut self.feed, self.managers, gave)
+            }
+            Out::Flush { .. } => seal(alloc, effects, &mut self.log),
+            Out::Read { block, place } => self.read(alloc, effects, block, place),
+            Out::Ready { block } => self.note_copy(alloc, block),
+            Out::Supply { .. } => Ok(()),
+        }
+    }
+
+    /// Takes a block back, as a manager recalls it; one that isn't held then leaves the cache.
+    #[tactic(auto, unfolding(crate::specs::Follow::takes_back))]
+    pub(crate) fn take_back(
+        &mut self,
+        alloc: Global,
+        effects: &mut Effects,
+        block: BlockId,
+        stamp: Stamp,
+        keep: bool,
+    ) -> Mem<()>
+        ensures state { OnOk result (self.new ≡ (takes_back self.old block stamp keep).state) }
+        ensures effects { OnOk result (effects.new ≡ effects.old ++ (takes_back self.old block stamp keep).outs) }
+    {
+        self.hand(alloc, effects, In::Recalled { block, stamp, keep })?;
+        self.note_gone(alloc, block)
+    }
+
+    // A block may be read or written from now on. A copy is clean.
+    #[tactic(auto, unfolding(crate::specs::Follow::notes_copy))]
+    fn note_copy(&mut self, alloc: Global, block: BlockId) -> Mem<()>
+        ensures { OnOk result (self.new ≡ notes_copy self.old block) }
+    {
+        if self.tokens.mode(block).is_same(Mode::Copy) {
+            self.note_clean(alloc, block)?;
+        }
+        Ok(())
+    }
+
+    /// A block is held and clean: it goes into the cache, and what leaves for it is let go.
+    pub(crate) fn note_clean(&mut self, alloc: Global, block: BlockId) -> Mem<()>
+        ensures { OnOk result (self.new ≡ notes_clean self.old block) }
+    {
+        let outs = self.cache.take(alloc, coop_cache::In::Clean(block))?;
+        evict_all(alloc, &mut self.tokens, outs)
+    }
+
+    /// A block that isn't held leaves the cache.
+    #[tactic(auto, unfolding(crate::specs::Follow::notes_gone))]
+    pub(crate) fn note_gone(&mut self, alloc: Global, block: BlockId) -> Mem<()>
+        ensures { OnOk result (self.new ≡ notes_gone self.old block) }
+    {
+        if self.tokens.mode(block).is_nothing() {
+            drop(self.cache.take(alloc, coop_cache::In::Gone(block))?);
+        }
+        Ok(())
+    }
+}

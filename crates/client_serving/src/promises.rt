@@ -1,0 +1,159 @@
+//! Promises: polls of managers, and maps.
+ghost use Rattle.std.specs.Prelude.{◌≡◌, ◌<◌, ◌++◌, IfOk, OnOk};
+ghost use Rattle.client_serving.specs.Packets.{hears, on_news, on_poll, on_welcome, polled, promises, regroups, renews};
+ghost use Rattle.xfs_base.specs.Steps.{steps};
+
+use crate::Serving;
+use client_parts::promises::report;
+use client_parts::reads::end_reading;
+use group_map::GroupMap;
+use node_base::Effects;
+use std::alloc::Global;
+use token_client::{In, Out};
+use wire_msg::{News, Poll, Welcome};
+use xfs_base::{List, Mem, NodeId, SlotNews};
+
+impl Serving {
+    /// A slot's new manager asks what the client holds.
+    pub(crate) fn on_poll(
+        &mut self,
+        alloc: Global,
+        effects: &mut Effects,
+        from: NodeId,
+        poll: Poll,
+    ) -> Mem<()>
+        ensures state { OnOk result (self.new ≡ (on_poll self.old from poll).state) }
+        ensures effects { OnOk result (effects.new ≡ effects.old ++ (on_poll self.old from poll).outs) }
+    {
+        match from {
+            NodeId::Manager(manager) => self.polled(alloc, effects, manager, poll),
+            NodeId::Client(_) | NodeId::Server(_) | NodeId::Cleaner | NodeId::Registry => Ok(()),
+        }
+    }
+
+    #[tactic(auto, unfolding(crate::specs::Packets::polled))]
+    fn polled(&mut self, alloc: Global, effects: &mut Effects, manager: u8, poll: Poll) -> Mem<()>
+        ensures state { OnOk result (self.new ≡ (polled self.old manager poll).state) }
+        ensures effects { OnOk result (effects.new ≡ effects.old ++ (polled self.old manager poll).outs) }
+    {
+        let Poll { slot, epoch } = poll;
+        if 8 <= slot || epoch < self.tokens.promised(slot) {
+            return Ok(());
+        }
+        let outs = self.promise(alloc, slot, epoch, manager)?;
+        let end = self.log.end();
+        match report(
+            alloc,
+            effects,
+            &self.tokens,
+            self.managers,
+            end,
+            slot,
+            epoch,
+        ) {
+            Ok(()) => self.follow(alloc, effects, outs),
+            Err(error) => {
+                drop(outs);
+                Err(error)
+            }
+        }
+    }
+
+    // The slot is promised to this epoch of this manager; what the tokens have the client do.
+    #[tactic(auto, unfolding(crate::specs::Packets::promises))]
+    fn promise(&mut self, alloc: Global, slot: u8, epoch: u32, manager: u8) -> Mem<List<Out>>
+        requires { slot < 8 }
+        ensures state { OnOk result (self.new ≡ (promises self.old slot epoch manager).state) }
+        ensures outs { IfOk result (λ outs. outs ≡ (promises self.old slot epoch manager).outs) }
+    {
+        self.renew(alloc, slot, epoch)?;
+        self.managers.set(slot, manager);
+        let outs = self.tokens.take(alloc, In::Promise { slot, epoch })?;
+        end_reading(&self.tokens, &mut self.call);
+        Ok(outs)
+    }
+
+    // A new manager is told all from the base on.
+    #[tactic(auto, unfolding(crate::specs::Packets::renews))]
+    fn renew(&mut self, alloc: Global, slot: u8, epoch: u32) -> Mem<()>
+        requires { slot < 8 }
+        ensures { OnOk result (self.new ≡ renews self.old slot epoch) }
+    {
+        if self.tokens.promised(slot) < epoch {
+            drop(self.feed.take(alloc, delta_feed::In::NewEpoch { slot })?);
+        }
+        Ok(())
+    }
+
+    /// The answer to a question for the maps.
+    #[tactic(auto, unfolding(crate::specs::Packets::on_welcome))]
+    pub(crate) fn on_welcome(
+        &mut self,
+        alloc: Global,
+        effects: &mut Effects,
+        welcome: &Welcome,
+    ) -> Mem<()>
+        ensures state { OnOk result (self.new ≡ (on_welcome self.old welcome.now).state) }
+        ensures effects { OnOk result (effects.new ≡ effects.old ++ (on_welcome self.old welcome.now).outs) }
+    {
+        if welcome.inc != self.lasting.inc {
+            return Ok(());
+        }
+        self.on_news(alloc, effects, &welcome.news)
+    }
+
+    /// The maps: newer groups are taken, then slots of greater epochs in order, and then it is looked
+    /// whether the segment in flight is settled.
+    #[tactic(auto, unfolding(crate::specs::Packets::takes_news))]
+    pub(crate) fn on_news(&mut self, alloc: Global, effects: &mut Effects, news: &News) -> Mem<()>
+        ensures state { OnOk result (self.new ≡ (on_news self.old news.now).state) }
+        ensures effects { OnOk result (effects.new ≡ effects.old ++ (on_news self.old news.now).outs) }
+    {
+        if !self.maps.fits(news) {
+            return Ok(());
+        }
+        let newer = self.maps.take(alloc, news)?;
+        self.hear_all(alloc, effects, news.slots.as_slice())?;
+        self.regroup(alloc, effects, newer, &news.groups)
+    }
+
+    fn hear_all(&mut self, alloc: Global, effects: &mut Effects, slots: &[SlotNews]) -> Mem<()>
+        ensures state { OnOk result (self.new ≡ (steps hears self.old slots.now).state) }
+        ensures effects { OnOk result (effects.new ≡ effects.old ++ (steps hears self.old slots.now).outs) }
+    {
+        for slot in slots {
+            self.hear(alloc, effects, slot)?;
+        }
+        Ok(())
+    }
+
+    #[tactic(auto, unfolding(crate::specs::Packets::hears))]
+    fn hear(&mut self, alloc: Global, effects: &mut Effects, news: &SlotNews) -> Mem<()>
+        ensures state { OnOk result (self.new ≡ (hears self.old news.now).state) }
+        ensures effects { OnOk result (effects.new ≡ effects.old ++ (hears self.old news.now).outs) }
+    {
+        if 8 <= news.slot || news.epoch <= self.tokens.promised(news.slot) {
+            return Ok(());
+        }
+        let outs = self.promise(alloc, news.slot, news.epoch, news.manager)?;
+        self.follow(alloc, effects, outs)
+    }
+
+    // With newer groups it is looked whether the segment in flight is settled.
+    fn regroup(
+        &mut self,
+        alloc: Global,
+        effects: &mut Effects,
+        newer: bool,
+        groups: &GroupMap,
+    ) -> Mem<()>
+        ensures state { OnOk result (self.new ≡ (regroups self.old newer groups.now).state) }
+        ensures effects { OnOk result (effects.new ≡ effects.old ++ (regroups self.old newer groups.now).outs) }
+    {
+        if !newer {
+            return Ok(());
+        }
+        let groups = groups.copy(alloc)?;
+        self.write(alloc, effects, client_log::In::Maps(groups))
+    }
+}

@@ -1,0 +1,247 @@
+//! Reading a block from a log.
+ghost use Rattle.std.specs.Prelude.{◌≡◌, ◌++◌, OnOk};
+ghost use Rattle.client_serving.specs.Packets.{ends_fetch, on_found, on_missing, on_told, told_by};
+ghost use Rattle.client_serving.specs.Reads.{ask_after, begins, confirmed_next, confirms, drawn_after, loses_at, reads, reads_over};
+
+use crate::Serving;
+use client_parts::grants::lose;
+use client_parts::reads::{
+    ask_reading, block_read, hear, same_target, set_reading, take_reading, target_of, value_at,
+};
+use node_base::Effects;
+use std::alloc::Global;
+use stripe_code::{BlockAt, Next, Reading, Stage, Target, Told};
+use token_client::In;
+use wire_msg::{Found, Missing};
+use xfs_base::{BlockId, Mem, NodeId, Place, SegName};
+
+impl Serving {
+    /// A block is to be read at a place: that is confirmed where it is being read there and was asked for
+    /// again, and else it is read anew.
+    #[tactic(auto, unfolding(crate::specs::Reads::reads))]
+    pub(crate) fn read(
+        &mut self,
+        alloc: Global,
+        effects: &mut Effects,
+        block: BlockId,
+        place: Place,
+    ) -> Mem<()>
+        ensures state { OnOk result (self.new ≡ (reads self.old block place).state) }
+        ensures effects { OnOk result (effects.new ≡ effects.old ++ (reads self.old block place).outs) }
+    {
+        if self.call.is_none() {
+            return Ok(());
+        }
+        let reading = take_reading(&mut self.call);
+        self.read_over(alloc, effects, target_of(block, place), reading)
+    }
+
+    fn read_over(
+        &mut self,
+        alloc: Global,
+        effects: &mut Effects,
+        target: Target,
+        reading: Option<Reading>,
+    ) -> Mem<()>
+        ensures state { OnOk result (self.new ≡ (reads_over self.old target reading).state) }
+        ensures effects { OnOk result (effects.new ≡ effects.old ++ (reads_over self.old target reading).outs) }
+    {
+        let Some(reading) = reading else {
+            return self.begin_reading(alloc, effects, target);
+        };
+        if same_target(reading.target(), target) {
+            self.confirm(alloc, effects, reading)
+        } else {
+            drop(reading);
+            self.begin_reading(alloc, effects, target)
+        }
+    }
+
+    #[tactic(auto, unfolding(crate::specs::Reads::begins))]
+    fn begin_reading(&mut self, alloc: Global, effects: &mut Effects, target: Target) -> Mem<()>
+        ensures state { OnOk result (self.new ≡ (begins self.old target).state) }
+        ensures effects { OnOk result (effects.new ≡ effects.old ++ (begins self.old target).outs) }
+    {
+        let Some(groups) = &self.maps.groups else {
+            return Ok(());
+        };
+        let Ok(group) = groups.lookup(target.seg.group) else {
+            return Ok(());
+        };
+        let reading = Reading::start(alloc, target, group, self.lasting.questions.draw())?;
+        ask_reading(alloc, effects, &mut self.call, reading)
+    }
+
+    // The place of a block was confirmed: a further round begins, or the segment is lost.
+    #[tactic(auto, unfolding(crate::specs::Reads::confirms))]
+    fn confirm(&mut self, alloc: Global, effects: &mut Effects, reading: Reading) -> Mem<()>
+        ensures state { OnOk result (self.new ≡ (confirms self.old reading).state) }
+        ensures effects { OnOk result (effects.new ≡ effects.old ++ (confirms self.old reading).outs) }
+    {
+        let mut reading = reading;
+        let ask = self.ask_after(reading.ask(), reading.stage());
+        match reading.confirmed(alloc, ask) {
+            Ok(next) => self.go_on_reading(alloc, effects, reading, next),
+            Err(error) => {
+                drop(reading);
+                Err(error)
+            }
+        }
+    }
+
+    // The question under which a further round asks.
+    fn ask_after(&mut self, ask: u32, stage: Stage) -> u32
+        ensures ask { result ≡ ask_after self.old ask stage }
+        ensures state { self.new ≡ drawn_after self.old stage }
+    {
+        match stage {
+            Stage::Between => self.lasting.questions.draw(),
+            Stage::Asking | Stage::Doubted | Stage::Over => ask,
+        }
+    }
+
+    fn go_on_reading(
+        &mut self,
+        alloc: Global,
+        effects: &mut Effects,
+        reading: Reading,
+        next: Next,
+    ) -> Mem<()>
+        ensures state { OnOk result (self.new ≡ (confirmed_next self.old reading next).state) }
+        ensures effects { OnOk result (effects.new ≡ effects.old ++ (confirmed_next self.old reading next).outs) }
+    {
+        match next {
+            Next::Lost => {
+                let Target { seg, block } = reading.target();
+                drop(reading);
+                self.lose_at(alloc, effects, block, seg.name)
+            }
+            Next::Ask => ask_reading(alloc, effects, &mut self.call, reading),
+            Next::Wait | Next::Again | Next::Read(_) => {
+                set_reading(&mut self.call, Some(reading));
+                Ok(())
+            }
+        }
+    }
+
+    #[tactic(auto, unfolding(crate::specs::Reads::loses))]
+    fn lose_at(
+        &mut self,
+        alloc: Global,
+        effects: &mut Effects,
+        at: Option<BlockAt>,
+        seg: SegName,
+    ) -> Mem<()>
+        ensures state { OnOk result (self.new ≡ (loses_at self.old at seg).state) }
+        ensures effects { OnOk result (effects.new ≡ effects.old ++ (loses_at self.old at seg).outs) }
+    {
+        match at {
+            Some(at) => lose(
+                alloc,
+                effects,
+                &mut self.lasting,
+                &mut self.call,
+                &mut self.tokens,
+                at.block,
+                seg,
+            ),
+            None => Ok(()),
+        }
+    }
+
+    /// A server's fragment, in answer to a fetch.
+    pub(crate) fn on_found(
+        &mut self,
+        alloc: Global,
+        effects: &mut Effects,
+        from: NodeId,
+        found: &Found,
+    ) -> Mem<()>
+        ensures state { OnOk result (self.new ≡ (on_found self.old from found.now).state) }
+        ensures effects { OnOk result (effects.new ≡ effects.old ++ (on_found self.old from found.now).outs) }
+    {
+        let told = Told::Held(found.fragment.copy(alloc)?);
+        self.on_told(alloc, effects, from, found.ask, told)
+    }
+
+    /// A server lacks a segment, in answer to a fetch.
+    pub(crate) fn on_missing(
+        &mut self,
+        alloc: Global,
+        effects: &mut Effects,
+        from: NodeId,
+        missing: Missing,
+    ) -> Mem<()>
+        ensures state { OnOk result (self.new ≡ (on_missing self.old from missing).state) }
+        ensures effects { OnOk result (effects.new ≡ effects.old ++ (on_missing self.old from missing).outs) }
+    {
+        let told = Told::Missing(missing.generation);
+        self.on_told(alloc, effects, from, missing.ask, told)
+    }
+
+    fn on_told(
+        &mut self,
+        alloc: Global,
+        effects: &mut Effects,
+        from: NodeId,
+        ask: u32,
+        told: Told,
+    ) -> Mem<()>
+        ensures state { OnOk result (self.new ≡ (on_told self.old from ask told).state) }
+        ensures effects { OnOk result (effects.new ≡ effects.old ++ (on_told self.old from ask told).outs) }
+    {
+        match from {
+            NodeId::Server(server) => self.told_by(alloc, effects, server, ask, told),
+            NodeId::Client(_) | NodeId::Manager(_) | NodeId::Cleaner | NodeId::Registry => {
+                drop(told);
+                Ok(())
+            }
+        }
+    }
+
+    #[tactic(auto, unfolding(crate::specs::Packets::told_by))]
+    fn told_by(
+        &mut self,
+        alloc: Global,
+        effects: &mut Effects,
+        server: u8,
+        ask: u32,
+        told: Told,
+    ) -> Mem<()>
+        ensures state { OnOk result (self.new ≡ (told_by self.old server ask told).state) }
+        ensures effects { OnOk result (effects.new ≡ effects.old ++ (told_by self.old server ask told).outs) }
+    {
+        let Some(at) = block_read(&self.call) else {
+            drop(told);
+            return Ok(());
+        };
+        let next = hear(alloc, &mut self.call, &self.maps.groups, ask, server, told)?;
+        self.end_fetch(alloc, effects, at, next)
+    }
+
+    // The segment is read, and with it the block; or its place is to be confirmed.
+    fn end_fetch(
+        &mut self,
+        alloc: Global,
+        effects: &mut Effects,
+        at: BlockAt,
+        next: Next,
+    ) -> Mem<()>
+        ensures state { OnOk result (self.new ≡ (ends_fetch self.old at next).state) }
+        ensures effects { OnOk result (effects.new ≡ effects.old ++ (ends_fetch self.old at next).outs) }
+    {
+        match next {
+            Next::Again => self.hand(alloc, effects, In::Reask { block: at.block }),
+            Next::Read(segment) => {
+                let value = value_at(alloc, &segment, at.item);
+                drop(segment);
+                let input = In::Fetched {
+                    block: at.block,
+                    value: value?,
+                };
+                self.hand(alloc, effects, input)
+            }
+            Next::Wait | Next::Ask | Next::Lost => Ok(()),
+        }
+    }
+}
