@@ -1,16 +1,17 @@
 -- A client whose open call runs asks for its call still: while a call on blocks waits, for the block that it needs; once it is answered, for none.
 use Rattle.std.proofs.Common.{◌≡◌, ℕ, zero, suc, ◌+◌, ◌^◌, ◌-◌, Bool, true, false, ◌||◌, ◌&&◌, ◌==◌, nat_lt, List, Option, Some, None, is_none, is_some, refl, sym, ap, subst, ◌∙◌}
 use Rattle.client_log.specs.declared.input.In.TheVariants as log_in
-use Rattle.client_node.specs.Blocks.{Made, answers, changed, changes, changes_if_fits, got, gets, held_back, lets_go, makes, needs, put_of, puts, puts_again, puts_at, synced_answer, syncs, waits, wrote}
-use Rattle.client_node.specs.declared.call.Call.{Call}
-use Rattle.client_node.specs.declared.call.Going.{Going}
-use Rattle.client_node.specs.declared.call.Going.TheVariants.{On, Ends}
-use Rattle.client_node.specs.declared.serving.Serving.{Serving}
-use Rattle.client_node.specs.Fitting.{put_fits}
-use Rattle.client_node.specs.Flights.{held_at}
-use Rattle.client_node.specs.Follow.{hands, notes_gone, seals}
-use Rattle.client_node.specs.Running.{Ran, after_answer, answers_call, goes_on, most_steps, runs, runs_call, runs_once, runs_upto}
-use Rattle.client_node.specs.Sends.{Done}
+use Rattle.client_parts.specs.Calls.{after_answer}
+use Rattle.client_parts.specs.declared.call.Call.{Call}
+use Rattle.client_parts.specs.declared.call.Going.TheVariants.{On, Ends}
+use Rattle.client_parts.specs.declared.call.Going.{Going}
+use Rattle.client_parts.specs.Fitting.{put_fits}
+use Rattle.client_serving.specs.Blocks.{Made, answers, changed, changes, changes_if_fits, got, gets, held_back, lets_go, makes, needs, put_of, puts, puts_again, puts_at, synced_answer, syncs, waits, wrote}
+use Rattle.client_serving.specs.declared.serving.Serving.{Serving}
+use Rattle.client_serving.specs.Flights.{held_at}
+use Rattle.client_serving.specs.Follow.{hands, notes_gone, seals}
+use Rattle.client_serving.specs.Running.{Ran, answers_call, goes_on, most_steps, runs, runs_call, runs_once, runs_upto}
+use Rattle.client_serving.specs.Sends.{Done}
 use Rattle.file_plan.specs.declared.block_call.BlockAnswer.{BlockAnswer}
 use Rattle.file_plan.specs.declared.block_call.BlockCall.{BlockCall}
 use Rattle.file_plan.specs.declared.block_call.BlockCall.TheVariants.{Get, Put, PutAt, Sync}

@@ -1,17 +1,19 @@
 -- A client that serves asks for its call: at the start, when it serves again, and after each event.
 use Rattle.std.proofs.Common.{◌≡◌, ℕ, false, [], ◌∷◌, Option, Some, None, is_none, is_some, replicate, refl, sym, ap, subst}
 use Rattle.client_log.specs.LogState.{LogState}
-use Rattle.client_node.specs.declared.call.Going.{Going}
 use Rattle.client_node.specs.declared.client.Client.{Client}
-use Rattle.client_node.specs.declared.lasting.Lasting.{Lasting}
-use Rattle.client_node.specs.declared.phase.Phase.{Phase}
 use Rattle.client_node.specs.declared.phase.Phase.TheVariants.{Down, Opening, Serving as Serves}
-use Rattle.client_node.specs.declared.serving.Serving.{Serving}
-use Rattle.client_node.specs.Packets.{on_packet, on_tick}
-use Rattle.client_node.specs.Phases.{Went_to, after_opening, begins_call, begins_item, call_at, client_room, delivers, down_begins, happens, item_begins, lasting_of, on_begin, on_deliver, on_time, opened_on, opening_begins, opens, returned, served, serving_begins, wish_of, with_begun}
-use Rattle.client_node.specs.Running.{goes_on}
-use Rattle.client_node.specs.Sends.{Done, gives}
-use Rattle.client_node.specs.Starting.{first_lasting, first_serving}
+use Rattle.client_node.specs.declared.phase.Phase.{Phase}
+use Rattle.client_node.specs.Phases.{Went_to, after_opening, begins_item, client_room, delivers, down_begins, happens, item_begins, lasting_of, on_begin, on_deliver, on_time, opened_on, opening_begins, served, serving_begins, wish_of, with_begun}
+use Rattle.client_parts.specs.declared.call.Going.{Going}
+use Rattle.client_parts.specs.declared.lasting.Lasting.{Lasting}
+use Rattle.client_parts.specs.Lasting.{first_lasting}
+use Rattle.client_serving.specs.declared.serving.Serving.{Serving}
+use Rattle.client_serving.specs.Opens.{begins_call, call_at, opens}
+use Rattle.client_serving.specs.Packets.{on_packet, on_tick}
+use Rattle.client_serving.specs.Running.{goes_on}
+use Rattle.client_serving.specs.Sends.{Done, gives}
+use Rattle.client_serving.specs.Starting.{returned, first_serving}
 use Rattle.delta_feed.specs.FeedState.{FeedState}
 use Rattle.group_map.specs.GroupMapState.{GroupMapState}
 use Rattle.group_map.specs.Groups as groups

@@ -15,10 +15,11 @@ use Rattle.token_client.specs.declared.held.Giving.{Giving}
 use Rattle.token_client.specs.declared.input.In.TheVariants as input
 use Rattle.token_client.specs.Held.{is_dirty}
 use Rattle.token_client.specs.State.{dirty_in}
-use Rattle.client_node.specs.declared.serving.Serving.{Serving}
-use Rattle.client_node.specs.Flights.{feeds, gives_if_clean, gives_up, held_at, is_giving, is_settling, keeps_clean, notes_settled, seals_again, settled_rows, settles, writes, writes_one}
-use Rattle.client_node.specs.Follow.{notes_clean, seals}
-use Rattle.client_node.specs.Sends.{Done}
+use Rattle.client_parts.specs.Flights.{is_giving, is_settling}
+use Rattle.client_serving.specs.declared.serving.Serving.{Serving}
+use Rattle.client_serving.specs.Flights.{feeds, gives_if_clean, gives_up, held_at, keeps_clean, notes_settled, seals_again, settled_rows, settles, writes, writes_one}
+use Rattle.client_serving.specs.Follow.{notes_clean, seals}
+use Rattle.client_serving.specs.Sends.{Done}
 use Rattle.node_tie.proofs.AsksBlock.{Need}
 use Rattle.node_tie.proofs.AsksFrames.{Keeps, keeps_same, keeps_through, steps_keep, fold_keeps, takes-keeps}
 use Rattle.node_tie.proofs.AsksFollow.{notes_clean-keeps, seals-keeps, takes_back-keeps}

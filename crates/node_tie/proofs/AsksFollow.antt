@@ -16,10 +16,11 @@ use Rattle.token_client.specs.declared.output.Out.TheVariants.{Want, Gave, Suppl
 use Rattle.token_client.specs.State.{held_of}
 use Rattle.token_client.specs.Transition.{transition}
 use Rattle.token_client.proofs.Promises.{Each}
-use Rattle.client_node.specs.declared.call.Call.{Call}
-use Rattle.client_node.specs.declared.serving.Serving.{Serving}
-use Rattle.client_node.specs.Follow.{evicts, notes_clean, notes_gone, notes_copy, seals, follows_one, follows, hands, takes_back}
-use Rattle.client_node.specs.Reads.{call_with, ends_reading, kept_while, reading_in, with_reading}
+use Rattle.client_parts.specs.declared.call.Call.{Call}
+use Rattle.client_parts.specs.Reads.{call_with, kept_while, reading_in}
+use Rattle.client_serving.specs.declared.serving.Serving.{Serving}
+use Rattle.client_serving.specs.Follow.{evicts, notes_clean, notes_gone, notes_copy, seals, follows_one, follows, hands, takes_back}
+use Rattle.client_serving.specs.Reads.{ends_reading, with_reading}
 use Rattle.stripe_code.specs.Reading.{ReadingState}
 use Rattle.node_tie.proofs.AsksBlock.{Need}
 use Rattle.node_tie.proofs.AsksTokens.{IsQuiet}

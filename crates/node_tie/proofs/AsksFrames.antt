@@ -11,10 +11,10 @@ use Rattle.token_client.specs.declared.held.Held.{Held}
 use Rattle.token_client.specs.declared.held.Wanted.{Wanted}
 use Rattle.token_client.specs.declared.input.In.{In}
 use Rattle.token_client.specs.Transition.{transition}
-use Rattle.client_node.specs.declared.call.Call.{Call}
-use Rattle.client_node.specs.declared.serving.Serving.{Serving}
-use Rattle.client_node.specs.Flights.{held_at}
-use Rattle.client_node.specs.Sends.{Done}
+use Rattle.client_parts.specs.declared.call.Call.{Call}
+use Rattle.client_serving.specs.declared.serving.Serving.{Serving}
+use Rattle.client_serving.specs.Flights.{held_at}
+use Rattle.client_serving.specs.Sends.{Done}
 use Rattle.file_plan.specs.declared.block_call.BlockCall.{BlockCall}
 use Rattle.node_tie.specs.Asks.{AsksForCall, needed, needed_by}
 use Rattle.node_tie.proofs.AsksBlock.{Need, WantSuits, FetchSuits}

@@ -27,10 +27,11 @@ use Rattle.token_client.specs.declared.output.Out.TheVariants.{Want, Gave, Suppl
 use Rattle.token_client.specs.State.{TokensState}
 use Rattle.token_client.specs.Transition.{on_granted, transition}
 use Rattle.token_client.proofs.Readings.{quit_ends}
-use Rattle.client_node.specs.declared.serving.Serving.{Serving}
-use Rattle.client_node.specs.Follow.{follows, follows_one, hands}
-use Rattle.client_node.specs.Reads.{ask_after, begins, begins_over, confirmed_next, confirms, drawn_after, draws, ends_reading, group_in, kept_while, loses, loses_at, reading_in, reads, reads_over, same_at, same_target, target_of, with_reading}
-use Rattle.client_node.specs.Sends.{Done}
+use Rattle.client_parts.specs.Reads.{kept_while, reading_in, same_at, same_target, target_of}
+use Rattle.client_serving.specs.declared.serving.Serving.{Serving}
+use Rattle.client_serving.specs.Follow.{follows, follows_one, hands}
+use Rattle.client_serving.specs.Reads.{ask_after, begins, begins_over, confirmed_next, confirms, drawn_after, draws, ends_reading, group_in, loses, loses_at, reads, reads_over, with_reading}
+use Rattle.client_serving.specs.Sends.{Done}
 use Rattle.node_tie.specs.Asks.{AsksForCall, needed}
 use Rattle.node_tie.proofs.AsksInputs.{AsksAs, OneRead, ReadSuits, granted-asks, granted-outs, nothing_asks, transition-asks}
 use Rattle.node_tie.proofs.AsksFrames.{asks_as, asks_for, asks_none, kept, needed_same}

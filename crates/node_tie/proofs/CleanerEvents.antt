@@ -366,7 +366,7 @@ cleaner_takes logs members part promised most n small low few adopted cleaner wh
     (still cleaner.phase)
     (λ room. happened part promised most small low cleaner.peers cleaner.phase what room stands owed)
     (λ room. goes_still part promised most small low cleaner.phase stands) in
-    (goes, cleaner_runs logs members part n few adopted cleaner.peers cleaner.phase what copies told goes.next _ goes.does)
+    (goes, cleaner_runs logs members part n few adopted cleaner what copies told goes.next _ goes.does)
 
 pub cleaner_starts : CleanerStarts
 cleaner_starts part most small setup works =

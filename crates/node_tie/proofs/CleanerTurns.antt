@@ -15,6 +15,7 @@ use Rattle.node_base.specs.declared.peers.Peers.{Peers}
 use Rattle.node_base.specs.Effects.{acts_of}
 use Rattle.node_base.specs.Shape.{is_well_formed}
 use Rattle.cleaner_node.specs.CleanerEvents.{Went_to, crashes, after_opening, restarts, down_wishes, opening_wishes, serving_wishes, begun_life, wish_at, down_at, opening_at, serving_at, on_begin, hears, on_deliver, on_time, happens, phase_room, takes}
+use Rattle.cleaner_node.specs.declared.cleaner.Cleaner.{Cleaner as CleanerNode}
 use Rattle.cleaner_node.specs.declared.cleaner.Phase.{Phase}
 use Rattle.cleaner_node.specs.declared.cleaner.Phase.TheVariants.{Down, Opening, Serving as Serves}
 use Rattle.cleaner_node.specs.declared.cleaner.Wish.{Wish}
@@ -32,7 +33,7 @@ use Rattle.wire_msg.specs.declared.packet.Packet.{Packet}
 use Rattle.xfs_base.proofs.Booleans.{by_test}
 use Rattle.xfs_base.specs.declared.node.NodeId.TheVariants.{Cleaner}
 use Rattle.xfs_base.specs.Steps.{still}
-use Rattle.node_tie.specs.CleanerEvents.{CleanerDoes}
+use Rattle.node_tie.specs.CleanerEvents.{CleanerDoes, IsTaken}
 use Rattle.node_tie.specs.CleanerLogs.{its_log, AreCopies, ServesCopies, CleanerCopies, ReopensAt, EndsAt, CleanerTold, PacketTold, InTime, OwnGoes, CleanerRuns, after_cleaner}
 use Rattle.node_tie.specs.LogRows.{LogSeen, rows_waiting, told}
 use Rattle.node_tie.specs.Sight.{SameLog}
@@ -163,11 +164,11 @@ module _ (members part : ℕ) (few : members ≤ its_log) (adopted : Bool) where
       (let w : Went = opening.on_packet o l.questions packet in ended k l (record l { questions = w.questions }) o w.progress owed)
   heard k (Serves e) packet h owed = serving k e (on_packet e packet).state (packet_heard members part few k e packet owed h)
 
-  delivered : (k : Books) (peers : Peers) (p : Phase) (packet : Packet) → CleanerCopies k p → PacketTold k adopted p packet
-      → Turned k p (on_deliver peers p packet).state
+  delivered : (k : Books) (peers : Peers) (p : Phase) (packet : Packet) → CleanerCopies k p
+      → (is_well_formed peers packet ≡ true → PacketTold k adopted p packet) → Turned k p (on_deliver peers p packet).state
   unfolding on_deliver
   delivered k peers p packet h owed =
-      by_test (λ (w : Went_to). Turned k p w.state) (is_well_formed peers packet) (hears p packet) (still p) (λ t. heard k p packet h owed)
+      by_test (λ (w : Went_to). Turned k p w.state) (is_well_formed peers packet) (hears p packet) (still p) (λ t. heard k p packet h (owed t))
       (λ t. as_it_was k p h)
 
   ticked : (k : Books) (p : Phase) → CleanerCopies k p → InTime k adopted p → Turned k p (on_time p).state
@@ -177,15 +178,26 @@ module _ (members part : ℕ) (few : members ≤ its_log) (adopted : Bool) where
       (let w : Went = opening.on_tick o l.questions in ended k l (record l { questions = w.questions }) o w.progress owed)
   ticked k (Serves e) h owed = serving k e (on_tick e).state (time_passes members part few k e h)
 
-  happened : (k : Books) (peers : Peers) (p : Phase) (what : Do) → CleanerCopies k p → CleanerTold k adopted p what → Turned k p (happens peers p what).state
-  happened k peers p Begin h owed = begins k peers.servers p h
-  happened k peers p (Deliver packet) h owed = delivered k peers p packet h owed
-  happened k peers p Tick h owed = ticked k p h owed
+  abbrev Formed : Peers → Do → Type 0
+  Formed peers what = (q : Packet) → what ≡ Deliver q → is_well_formed peers q ≡ true
 
-  turned : (k : Books) (peers : Peers) (p : Phase) (what : Do) → CleanerCopies k p → CleanerTold k adopted p what → Turned k p (takes peers p what).state
-  turned k peers p what h owed =
-      by_test (λ (w : Went_to). Turned k p w.state) (phase_room p) (happens peers p what) (still p) (λ room. happened k peers p what h owed)
-      (λ room. as_it_was k p h)
+  one_packet : (a b : Packet) → Deliver a ≡ Deliver b → a ≡ b
+  one_packet a b same = cc
+
+  happened : (k : Books) (peers : Peers) (p : Phase) (what : Do) → CleanerCopies k p → (Formed peers what → CleanerTold k adopted p what)
+      → Turned k p (happens peers p what).state
+  happened k peers p Begin h owed = begins k peers.servers p h
+  happened k peers p (Deliver packet) h owed =
+      delivered k peers p packet h
+      (λ formed. owed (λ q same. subst (λ (x : Packet). is_well_formed peers x ≡ true) (one_packet packet q same) formed))
+  happened k peers p Tick h owed = ticked k p h (owed (λ q clash. absurd cc))
+
+  turned : (k : Books) (cleaner : CleanerNode) (what : Do) → CleanerCopies k cleaner.phase → (IsTaken cleaner what → CleanerTold k adopted cleaner.phase what)
+      → Turned k cleaner.phase (takes cleaner.peers cleaner.phase what).state
+  turned k cleaner what h owed =
+      by_test (λ (w : Went_to). Turned k cleaner.phase w.state) (phase_room cleaner.phase) (happens cleaner.peers cleaner.phase what) (still cleaner.phase)
+      (λ room. happened k cleaner.peers cleaner.phase what h (λ formed. owed (record { room = room; formed = formed })))
+      (λ room. as_it_was k cleaner.phase h)
 
 -- ---- the whole event
 
@@ -197,22 +209,22 @@ done_last logs members part n books now life outs does runs =
     (says_all logs members part m (acts_of Cleaner outs)
     (neutral_acts Cleaner (CleanerDoes part now life) (λ a neutral. neutral) outs (recursion_from_All (CleanerDoes part now life) outs does)))
 
-pub cleaner_runs : (logs : Bool) (members part : ℕ) (n : Net) → Premise logs (members ≤ its_log) → (adopted : Bool) (peers : Peers) (p : Phase)
-    (what : Do)
-    → Premise logs (CleanerCopies n.books p) → Premise logs (CleanerTold n.books adopted p what) → (now life : ℕ)
-    → All (CleanerDoes part now life) (takes peers p what).outs → CleanerRuns logs members part n adopted p (takes peers p what).state (takes peers p what).outs
-cleaner_runs true members part n few adopted peers p what copies told now life does =
-    let t = turned members part few adopted n.books peers p what copies told in
+pub cleaner_runs : (logs : Bool) (members part : ℕ) (n : Net) → Premise logs (members ≤ its_log) → (adopted : Bool) (cleaner : CleanerNode) (what : Do)
+    → Premise logs (CleanerCopies n.books cleaner.phase) → Premise logs (IsTaken cleaner what → CleanerTold n.books adopted cleaner.phase what) → (now life : ℕ)
+    → All (CleanerDoes part now life) (takes cleaner.peers cleaner.phase what).outs
+    → CleanerRuns logs members part n adopted cleaner.phase (takes cleaner.peers cleaner.phase what).state (takes cleaner.peers cleaner.phase what).outs
+cleaner_runs true members part n few adopted cleaner what copies told now life does =
+    let t = turned members part few adopted n.books cleaner what copies told in
     record {
       books = t.next;
-      runs = done_last true members part n t.next now life (takes peers p what).outs does (t.runs n);
+      runs = done_last true members part n t.next now life (takes cleaner.peers cleaner.phase what).outs does (t.runs n);
       others = t.others;
       own = t.own;
       copies = t.copies;
     }
-cleaner_runs false members part n few adopted peers p what copies told now life does = record {
+cleaner_runs false members part n few adopted cleaner what copies told now life does = record {
   books = n.books;
-  runs = done_last false members part n n.books now life (takes peers p what).outs does Begun;
+  runs = done_last false members part n n.books now life (takes cleaner.peers cleaner.phase what).outs does Begun;
   others = λ l other. same_log n.books l;
   own = tt;
   copies = tt;

@@ -3,12 +3,14 @@ use Rattle.std.proofs.Common.{◌≡◌, ◌<◌, ℕ, ◌+◌, Bool, true, fals
 use Rattle.std.proofs.lemmas.Bool.Decides.{nat_tests}
 use Rattle.std.proofs.lemmas.List.Elements.{All-nil, All-cons}
 use Rattle.client_log.specs.LogState.{FlightState}
-use Rattle.client_node.specs.declared.serving.Serving.{Serving}
-use Rattle.client_node.specs.Flights.{held_at, on_stored}
-use Rattle.client_node.specs.Follow.{hands, takes_back}
-use Rattle.client_node.specs.Packets.{on_supply, supplied_by, on_forward, is_stamp, again, says_again, on_recall, is_gone, on_gone, is_acked, on_ack, ends_fetch, block_read, Heard, heard, told_at, told_by, on_told, on_found, on_missing, asks_for_maps}
-use Rattle.client_node.specs.Reads.{loses, reading_in, with_reading, value_at}
-use Rattle.client_node.specs.Sends.{Done, gives, gave}
+use Rattle.client_parts.specs.Grants.{is_stamp}
+use Rattle.client_parts.specs.Reads.{block_read, Heard, heard, reading_in, value_at}
+use Rattle.client_serving.specs.declared.serving.Serving.{Serving}
+use Rattle.client_serving.specs.Flights.{held_at, on_stored}
+use Rattle.client_serving.specs.Follow.{hands, takes_back}
+use Rattle.client_serving.specs.Packets.{on_supply, supplied_by, on_forward, again, says_again, on_recall, is_gone, on_gone, is_acked, on_ack, ends_fetch, told_at, told_by, on_told, on_found, on_missing, asks_for_maps}
+use Rattle.client_serving.specs.Reads.{loses, with_reading}
+use Rattle.client_serving.specs.Sends.{Done, gives, gave}
 use Rattle.delta_feed.specs.Transition.{acknowledged}
 use Rattle.log_owner.specs.Sending.{hello}
 use Rattle.node_base.specs.Asking.{next_ask, drawn}

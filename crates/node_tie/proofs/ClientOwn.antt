@@ -1,16 +1,17 @@
 -- A client that serves gets a grant. One to own is used in its event: the open call, for which it was asked, runs on and writes, or lets it go.
 use Rattle.std.proofs.Common.{◌≡◌, ◌<◌, ◌+◌, ◌-◌, ◌^◌, ℕ, ◌==◌, ◌&&◌, not, Bool, true, false, cond, List, [], Option, Some, None, is_none, nat_lt, refl, sym, ap, subst, ◌∙◌, arith}
 use Rattle.std.proofs.lemmas.Bool.Decides.{nat_tests}
-use Rattle.client_node.specs.Blocks.{Made, changes, changes_if_fits, puts, needs, changed, held_back, puts_again, puts_at, makes}
-use Rattle.client_node.specs.declared.call.Call.{Call}
-use Rattle.client_node.specs.declared.serving.Serving.{Serving}
-use Rattle.client_node.specs.Fitting.{put_fits}
-use Rattle.client_node.specs.Flights.{held_at}
-use Rattle.client_node.specs.Follow.{notes_clean, notes_copy, notes_gone, follows_one, follows, hands}
-use Rattle.client_node.specs.Packets.{on_grant}
-use Rattle.client_node.specs.Reads.{ends_reading, kept_while, reading_in, call_with}
-use Rattle.client_node.specs.Running.{runs_call, runs_once, runs}
-use Rattle.client_node.specs.Sends.{Done}
+use Rattle.client_parts.specs.declared.call.Call.{Call}
+use Rattle.client_parts.specs.Fitting.{put_fits}
+use Rattle.client_parts.specs.Reads.{kept_while, reading_in, call_with}
+use Rattle.client_serving.specs.Blocks.{Made, changes, changes_if_fits, puts, needs, changed, held_back, puts_again, puts_at, makes}
+use Rattle.client_serving.specs.declared.serving.Serving.{Serving}
+use Rattle.client_serving.specs.Flights.{held_at}
+use Rattle.client_serving.specs.Follow.{notes_clean, notes_copy, notes_gone, follows_one, follows, hands}
+use Rattle.client_serving.specs.Packets.{on_grant}
+use Rattle.client_serving.specs.Reads.{ends_reading}
+use Rattle.client_serving.specs.Running.{runs_call, runs_once, runs}
+use Rattle.client_serving.specs.Sends.{Done}
 use Rattle.file_plan.specs.declared.block_call.BlockCall.{BlockCall}
 use Rattle.file_plan.specs.declared.block_call.BlockCall.TheVariants.{Get, Put, PutAt, Sync}
 use Rattle.node_base.specs.Room.{has_long_room}

@@ -2,13 +2,17 @@
 use Rattle.std.proofs.Common.{◌≡◌, ◌≤◌, ◌<◌, ℕ, ◌&&◌, Bool, true, false, List, [], ◌∷◌, ◌++◌, Option, Some, None, refl, sym, ap, subst, ◌∙◌, arith, map}
 use Rattle.std.proofs.lemmas.List.Elements.{All-nil, All-cons, All-append}
 use Rattle.client_node.specs.declared.client.Client.{Client}
-use Rattle.client_node.specs.declared.phase.Phase.{Phase}
 use Rattle.client_node.specs.declared.phase.Phase.TheVariants.{Down, Opening, Serving as Serves}
-use Rattle.client_node.specs.declared.serving.Serving.{Serving}
-use Rattle.client_node.specs.Packets as packets
-use Rattle.client_node.specs.Packets.{epochs_room}
-use Rattle.client_node.specs.Phases.{Went_to, fall_of, falls, flight_of, crashed, answers, opens, serves_on, wish_of, wish_at, serving_begins, lasting_of, with_begun, item_begins, begins_item, on_begin, then_runs, on_deliver, on_time, delivers, happens, phase_room, client_room, serving_room}
-use Rattle.client_node.specs.Sends.{gives}
+use Rattle.client_node.specs.declared.phase.Phase.{Phase}
+use Rattle.client_node.specs.Phases.{Went_to, crashed, answers, serves_on, wish_of, wish_at, serving_begins, lasting_of, with_begun, item_begins, begins_item, on_begin, then_runs, on_deliver, on_time, delivers, happens, phase_room, client_room}
+use Rattle.client_parts.specs.Crash.{flight_of}
+use Rattle.client_parts.specs.Promises.{epochs_room}
+use Rattle.client_serving.specs.Crash.{fall_of, falls}
+use Rattle.client_serving.specs.declared.serving.Serving.{Serving}
+use Rattle.client_serving.specs.Opens.{opens}
+use Rattle.client_serving.specs.Packets as packets
+use Rattle.client_serving.specs.Packets.{serving_room}
+use Rattle.client_serving.specs.Sends.{gives}
 use Rattle.log_owner.specs.Opening.{attempt_of, log_room}
 use Rattle.node_base.specs.Beginning.{next_item, work_at, begun, answers_unanswered}
 use Rattle.node_base.specs.declared.effects.Effect.{Effect}
@@ -38,7 +42,7 @@ use Rattle.wire_msg.specs.declared.packet.Packet as wire
 use Rattle.xfs_base.proofs.Booleans.{by_test, and_first, and_second}
 use Rattle.xfs_base.specs.declared.node.NodeId.TheVariants.{Client as AClient}
 use Rattle.xfs_base.specs.Steps.{still, after}
-use Rattle.node_tie.specs.ClientEvents.{SeesServing, ClientAgrees, ClientStands, ClientGets, EndsInTime, ClientDid, ClientGoes, ClientOwed, ClientTakes}
+use Rattle.node_tie.specs.ClientEvents.{SeesServing, ClientAgrees, ClientStands, ClientGets, EndsInTime, ClientDid, ClientGoes, ClientOwed, ClientTakes, IsTaken}
 use Rattle.node_tie.specs.ClientLogs.{LogAgrees}
 use Rattle.node_tie.proofs.ClientBooks.{onward_still, put_here, put_there, same_log}
 use Rattle.node_tie.proofs.ClientCrash.{falls_so, once}
@@ -222,10 +226,10 @@ module _ (logs : Bool) (members part most c : ℕ) (small : part < 8) (pos : 0 <
   on_deliver_so capacity (Serves s) packet sees h gets known room = serving_packet s sees h (log_has_room s room) packet gets (wants_have_room s room)
 
   delivers_so : (peers : Peers) (capacity : ℕ) (p : Phase) (packet : wire.Packet) → ClientAgrees logs part c n p → ClientStands part most c n p
-      → ClientGets logs part most c n p packet → phase_room p ≡ true → Goes p (delivers peers capacity p packet)
+      → (is_well_formed peers packet ≡ true → ClientGets logs part most c n p packet) → phase_room p ≡ true → Goes p (delivers peers capacity p packet)
   delivers_so peers capacity p packet sees h gets room =
       by_test (λ (w : Went_to). Goes p w) (is_well_formed peers packet) (on_deliver capacity p packet) (still p)
-      (λ t. on_deliver_so capacity p packet sees h gets
+      (λ t. on_deliver_so capacity p packet sees h (gets t)
       (and_first (has_logs packet.body) (has_slot packet.body) (and_second (has_node peers packet.from) (has_logs packet.body && has_slot packet.body) t))
       room)
       (λ t. still_so p sees h)
@@ -237,9 +241,12 @@ module _ (logs : Bool) (members part most c : ℕ) (small : part < 8) (pos : 0 <
   on_time_so capacity (Opening l o) sees h ends room = opening.opening_time logs members part most c small pos less n l o sees h capacity ends
   on_time_so capacity (Serves s) sees h ends room = serving_time s sees h (log_has_room s room)
 
+  one_packet : (a b : wire.Packet) → Deliver a ≡ Deliver b → a ≡ b
+  one_packet a b same = cc
+
   happens_so : (client : Client) (what : Do) → ClientAgrees logs part c n client.phase → ClientStands part most c n client.phase
-      → ClientOwed logs part most c n client.phase what → client_room client ≡ true → Goes client.phase (happens client what)
-  happens_so client what sees h owed room = by_event what owed
+      → (IsTaken client what → ClientOwed logs part most c n client.phase what) → client_room client ≡ true → Goes client.phase (happens client what)
+  happens_so client what sees h owed room = by_event what refl (λ formed. owed (record { room = room; formed = formed }))
     where
       later : has_room (lasting_of client.phase).inc ≡ true
       later = and_first (has_room (lasting_of client.phase).inc) (has_room (lasting_of client.phase).questions.last && phase_room client.phase) room
@@ -249,10 +256,15 @@ module _ (logs : Bool) (members part most c : ℕ) (small : part < 8) (pos : 0 <
           and_second (has_room (lasting_of client.phase).questions.last) (phase_room client.phase)
           (and_second (has_room (lasting_of client.phase).inc) (has_room (lasting_of client.phase).questions.last && phase_room client.phase) room)
 
-      by_event : (what : Do) → ClientOwed logs part most c n client.phase what → Goes client.phase (happens client what)
-      by_event Begin owed = on_begin_so client.peers.servers client.phase sees h later inside
-      by_event (Deliver packet) owed = delivers_so client.peers client.cache client.phase packet sees h owed inside
-      by_event Tick owed = on_time_so client.cache client.phase sees h owed inside
+      Formed : Do → Type 0
+      Formed x = (q : wire.Packet) → x ≡ Deliver q → is_well_formed client.peers q ≡ true
+
+      by_event : (x : Do) → what ≡ x → (Formed x → ClientOwed logs part most c n client.phase x) → Goes client.phase (happens client x)
+      by_event Begin is owed = on_begin_so client.peers.servers client.phase sees h later inside
+      by_event (Deliver packet) is owed =
+          delivers_so client.peers client.cache client.phase packet sees h
+          (λ formed. owed (λ q same. subst (λ (x : wire.Packet). is_well_formed client.peers x ≡ true) (one_packet packet q same) formed)) inside
+      by_event Tick is owed = on_time_so client.cache client.phase sees h (owed (λ q clash. absurd cc)) inside
 
 -- an event is taken where no counter is near its end, and changes nothing else
 pub client_takes : ClientTakes

@@ -10,11 +10,11 @@ use Rattle.std.proofs.lemmas.List.{get_or-set_same}
 use Rattle.std.proofs.lemmas.List.Elements.{All-nil, All-cons, recursion_from_All}
 use Rattle.client_log.specs.declared.input.In.TheVariants as log_in
 use Rattle.client_log.specs.LogState.{FlightState, LogState}
-use Rattle.client_node.specs.declared.serving.Serving.{Serving}
-use Rattle.client_node.specs.Flights.{held_at, writes}
-use Rattle.client_node.specs.Follow.{follows, follows_one}
-use Rattle.client_node.specs.Packets.{renews, promised_by, promises, reports, may_report, polled, on_poll, promised_in, is_news, hears, regroups, takes_news, on_news, on_welcome}
-use Rattle.client_node.specs.Sends.{Done, report}
+use Rattle.client_serving.specs.declared.serving.Serving.{Serving}
+use Rattle.client_serving.specs.Flights.{held_at, writes}
+use Rattle.client_serving.specs.Follow.{follows, follows_one}
+use Rattle.client_serving.specs.Packets.{renews, promised_by, promises, reports, may_report, polled, on_poll, promised_in, is_news, hears, regroups, takes_news, on_news, on_welcome}
+use Rattle.client_serving.specs.Sends.{Done, report}
 use Rattle.delta_feed.specs.Transition.{new_epoch}
 use Rattle.group_map.specs.GroupMapState.{GroupMapState}
 use Rattle.node_base.specs.Maps.{fits, is_older, taken}

@@ -6,8 +6,8 @@ use Rattle.std.proofs.lemmas.List.{drop-map, take-map}
 use Rattle.client_log.specs.Items.{items_of}
 use Rattle.client_log.specs.LogState.{FlightState, LogState}
 use Rattle.client_log.specs.Transition as log
-use Rattle.client_node.specs.declared.serving.Serving.{Serving}
-use Rattle.client_node.specs.Flights.{notes_settled}
+use Rattle.client_serving.specs.declared.serving.Serving.{Serving}
+use Rattle.client_serving.specs.Flights.{notes_settled}
 use Rattle.group_map.specs.GroupMapState.{GroupMapState}
 use Rattle.segment_format.specs.declared.segment.Item.{Item}
 use Rattle.segment_format.specs.declared.segment.Item.TheVariants.{Block, Delta, Part}

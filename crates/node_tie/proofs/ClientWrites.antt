@@ -14,10 +14,11 @@ use Rattle.client_log.specs.Fate.{fate_of}
 use Rattle.client_log.specs.Items.{items_of}
 use Rattle.client_log.specs.LogState.{FlightState, LogState, is_noted}
 use Rattle.client_log.specs.Transition as log
-use Rattle.client_node.specs.declared.serving.Serving.{Serving}
-use Rattle.client_node.specs.Flights.{settles, writes_one, is_settling, is_giving, seals_again, writes}
-use Rattle.client_node.specs.Follow.{seals}
-use Rattle.client_node.specs.Sends.{Done}
+use Rattle.client_parts.specs.Flights.{is_settling, is_giving}
+use Rattle.client_serving.specs.declared.serving.Serving.{Serving}
+use Rattle.client_serving.specs.Flights.{settles, writes_one, seals_again, writes}
+use Rattle.client_serving.specs.Follow.{seals}
+use Rattle.client_serving.specs.Sends.{Done}
 use Rattle.group_map.specs.declared.group.Member.{Member}
 use Rattle.group_map.specs.GroupMapState.{GroupMapState}
 use Rattle.log_owner.specs.Sending.{store}

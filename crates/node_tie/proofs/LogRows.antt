@@ -3,7 +3,7 @@ use Rattle.std.proofs.Common.{◌≡◌, ℕ, zero, suc, ◌+◌, ◌≤◌, Lis
 use Rattle.std.specs.List.{filter_map, slice_get}
 use Rattle.client_log.specs.declared.dirty.Change.{Change}
 use Rattle.client_log.specs.Items.{change_items, items_of}
-use Rattle.client_node.specs.Reads.{value_in}
+use Rattle.client_parts.specs.Reads.{value_in}
 use Rattle.segment_format.specs.declared.segment.Item.{Item}
 use Rattle.segment_format.specs.declared.segment.Item.TheVariants.{Block, Delta}
 use Rattle.segment_format.specs.Rule.{no_item}

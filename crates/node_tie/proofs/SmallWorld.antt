@@ -22,6 +22,11 @@ pub premise_by : (logs : Bool) {P Q : Type 0} → (P → Q) → Premise logs P �
 premise_by true f p = f p
 premise_by false f p = tt
 
+-- a premise that is met only where something else is so
+pub premise_to : (logs : Bool) (P Q : Type 0) → Premise logs (P → Q) → P → Premise logs Q
+premise_to true P Q f p = f p
+premise_to false P Q f p = tt
+
 pub premise_both : (logs : Bool) {P Q R : Type 0} → (P → Q → R) → Premise logs P → Premise logs Q → Premise logs R
 premise_both true f p q = f p q
 premise_both false f p q = tt

@@ -1,8 +1,8 @@
 -- What a client asks for: at most one block, for the open call.
 use Rattle.std.specs.Prelude.{◌≡◌, Option, Some, None, false}
-use Rattle.client_node.specs.declared.call.Call.{Call}
-use Rattle.client_node.specs.declared.serving.Serving.{Serving}
-use Rattle.client_node.specs.Flights.{held_at}
+use Rattle.client_parts.specs.declared.call.Call.{Call}
+use Rattle.client_serving.specs.declared.serving.Serving.{Serving}
+use Rattle.client_serving.specs.Flights.{held_at}
 use Rattle.file_plan.specs.declared.block_call.BlockCall.{BlockCall}
 use Rattle.file_plan.specs.declared.block_call.BlockCall.TheVariants.{Get, Put, PutAt, Sync}
 use Rattle.token_client.specs.Laws.{IsSound}

@@ -1,10 +1,11 @@
 -- What an event makes of what the cleaner has promised of one slot of the map.
-use Rattle.std.specs.Prelude.{◌≡◌, ◌⊎◌, ◌<◌, ◌≤◌, ℕ, Bool, List, All, length}
+use Rattle.std.specs.Prelude.{◌≡◌, ◌⊎◌, ◌<◌, ◌≤◌, ℕ, Bool, List, All, length, true}
 use Rattle.log_owner.specs.declared.opening.Opening as openings
 use Rattle.log_owner.specs.declared.promised.Promised.{Promised}
+use Rattle.node_base.specs.Shape.{is_well_formed}
 use Rattle.node_base.specs.declared.effects.Effect.{Effect}
 use Rattle.node_base.specs.declared.effects.Effect.TheVariants.{Send, Answer, Lose, Does}
-use Rattle.cleaner_node.specs.CleanerEvents.{cleaner_start, lasting_of, takes}
+use Rattle.cleaner_node.specs.CleanerEvents.{cleaner_start, lasting_of, phase_room, takes}
 use Rattle.cleaner_node.specs.declared.cleaner.Cleaner.{Cleaner}
 use Rattle.cleaner_node.specs.declared.cleaner.Phase.{Phase}
 use Rattle.cleaner_node.specs.declared.cleaner.Phase.TheVariants.{Down, Opening, Serving as Serves}
@@ -20,6 +21,7 @@ use Rattle.wire_msg.specs.declared.body.Body.{Body}
 use Rattle.wire_msg.specs.declared.body.Body.TheVariants as body
 use Rattle.wire_msg.specs.declared.packet.Do.{Do}
 use Rattle.wire_msg.specs.declared.packet.Do.TheVariants.{Begin, Deliver, Tick}
+use Rattle.wire_msg.specs.declared.packet.Packet.{Packet}
 use Rattle.wire_msg.specs.declared.registry.Welcome.{Welcome}
 use Rattle.xfs_base.specs.declared.news.SlotNews.{SlotNews}
 use Rattle.xfs_base.specs.declared.setup.Setup.{Setup}
@@ -108,14 +110,19 @@ pub record CleanerGoes (part promised most : ℕ) (p p' : Phase) (outs : List Ef
   -- an opening leaves what was promised
   pub keeps : IsOpening p' → next ≡ promised
 
--- Each event of the cleaner, if the world owes it what its packet says. Where logs keep their word, no client has the number of its log; and it is said whether
+-- The event is taken: no counter of the cleaner is near its end, and a packet that comes is well formed.
+pub record IsTaken (cleaner : Cleaner) (what : Do) : Type 0 where
+  pub room : phase_room cleaner.phase ≡ true
+  pub formed : (q : Packet) → what ≡ Deliver q → is_well_formed cleaner.peers q ≡ true
+
+-- Each event of the cleaner, if the world owes it what its packet says, and logs what they owe where it is taken. Where logs keep their word, no client has the number of its log; and it is said whether
 -- an opening that ends has what was in flight.
 abbrev pub CleanerTakes : Type 0
 CleanerTakes =
     (logs : Bool) (members part promised most : ℕ) (n : Net) → part < 8 → promised ≤ most → Premise logs (members ≤ its_log) → (adopted : Bool) (cleaner : Cleaner)
     (what : Do)
     → CleanerStands part promised most cleaner.phase → CleanerOwed part promised most cleaner.phase what
-    → Premise logs (CleanerCopies n.books cleaner.phase) → Premise logs (CleanerTold n.books adopted cleaner.phase what)
+    → Premise logs (CleanerCopies n.books cleaner.phase) → Premise logs (IsTaken cleaner what → CleanerTold n.books adopted cleaner.phase what)
     → CleanerGoes part promised most cleaner.phase (takes cleaner.peers cleaner.phase what).state (takes cleaner.peers cleaner.phase what).outs
     × CleanerRuns logs members part n adopted cleaner.phase (takes cleaner.peers cleaner.phase what).state (takes cleaner.peers cleaner.phase what).outs
 

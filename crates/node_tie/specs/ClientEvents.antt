@@ -1,17 +1,18 @@
 -- What an event makes of a client, as the small world sees it.
 use Rattle.std.specs.Prelude.{◌≡◌, ◌⊎◌, ◌<◌, ◌≤◌, ◌++◌, ℕ, Bool, true, false, List, Some, All, length, is_some}
 use Rattle.client_node.specs.declared.client.Client as clients
-use Rattle.client_node.specs.declared.lasting.Lasting.{Lasting}
-use Rattle.client_node.specs.declared.phase.Phase.{Phase}
 use Rattle.client_node.specs.declared.phase.Phase.TheVariants.{Down, Opening, Serving as Serves}
-use Rattle.client_node.specs.declared.serving.Serving.{Serving}
-use Rattle.client_node.specs.Phases.{lasting_of, takes}
+use Rattle.client_node.specs.declared.phase.Phase.{Phase}
+use Rattle.client_node.specs.Phases.{client_room, lasting_of, takes}
 use Rattle.client_node.specs.Starting.{first_client}
+use Rattle.client_parts.specs.declared.lasting.Lasting.{Lasting}
+use Rattle.client_serving.specs.declared.serving.Serving.{Serving}
 use Rattle.log_owner.specs.declared.opening.Opening as openings
 use Rattle.log_owner.specs.Opening as opens
 use Rattle.log_owner.specs.declared.opening.Stage as stages
 use Rattle.log_owner.specs.declared.opening.Stage.TheVariants as stage
 use Rattle.log_scan.specs.declared.stage.Stage.TheVariants as scan
+use Rattle.node_base.specs.Shape.{is_well_formed}
 use Rattle.node_base.specs.declared.effects.Effect.{Effect}
 use Rattle.node_base.specs.declared.effects.Effect.TheVariants.{Send, Answer, Lose, Does}
 use Rattle.node_base.specs.Effects.{acts_of}
@@ -226,17 +227,23 @@ pub record ClientGoes (logs : Bool) (members part most c : ℕ) (n : Net) (p p' 
   pub stands : IsAway p' → next.tokens c ≡ n.tokens c
   pub back : SaysBack c outs p p'
 
+-- The event is taken: no counter of the client is near its end, and a packet that comes is well formed.
+pub record IsTaken (client : clients.Client) (what : Do) : Type 0 where
+  pub room : client_room client ≡ true
+  pub formed : (q : packets.Packet) → what ≡ Deliver q → is_well_formed client.peers q ≡ true
+
 -- what the world owes an event
 abbrev pub ClientOwed : (logs : Bool) (part most c : ℕ) → Net → Phase → Do → Type 0
 ClientOwed logs part most c n p Begin = Unit {0}
 ClientOwed logs part most c n p (Deliver packet) = ClientGets logs part most c n p packet
 ClientOwed logs part most c n p Tick = Premise logs (EndsInTime part most c n p)
 
--- Each event of a client is a run of the small world.
+-- Each event of a client is a run of the small world, if the world owes it what it brings where it is taken.
 abbrev pub ClientTakes : Type 0
 ClientTakes =
     (logs : Bool) (members part most c : ℕ) → part < 8 → 0 < c → c < members → (n : Net) (client : clients.Client) (what : Do)
-    → ClientAgrees logs part c n client.phase → ClientStands part most c n client.phase → ClientOwed logs part most c n client.phase what
+    → ClientAgrees logs part c n client.phase → ClientStands part most c n client.phase
+    → (IsTaken client what → ClientOwed logs part most c n client.phase what)
     → ClientGoes logs members part most c n client.phase (takes client what).state (takes client what).outs
 
 -- At the start each client is seen in the small world, and what is promised is within any bound from 1 on.

@@ -2,9 +2,8 @@
 use Rattle.std.specs.Prelude.{◌≡◌, ◌⊎◌, ◌<◌, ◌≤◌, ℕ, suc, ◌+◌, true, List, [], Option, Some, None}
 use Rattle.std.specs.List.{AllByRecursion}
 use Rattle.client_log.specs.LogState.{FlightState, LogState}
-use Rattle.client_node.specs.declared.serving.Serving.{Serving}
-use Rattle.client_node.specs.Packets.{block_read, heard}
-use Rattle.client_node.specs.Reads.{reading_in, value_at}
+use Rattle.client_parts.specs.Reads.{block_read, heard, reading_in, value_at}
+use Rattle.client_serving.specs.declared.serving.Serving.{Serving}
 use Rattle.log_owner.specs.declared.opened.Opened.{Opened}
 use Rattle.log_owner.specs.declared.opened.Progress.{Progress}
 use Rattle.log_owner.specs.declared.opened.Progress.TheVariants as progress

@@ -3,7 +3,7 @@ use Rattle.std.specs.Prelude.{◌≡◌, ℕ, suc, List, [], Option, Some, None,
 use Rattle.std.specs.List.{filter_map, slice_get}
 use Rattle.client_log.specs.declared.dirty.Change.{Change}
 use Rattle.client_log.specs.LogState.{FlightState, LogState}
-use Rattle.client_node.specs.Reads.{value_in}
+use Rattle.client_parts.specs.Reads.{value_in}
 use Rattle.segment_format.specs.declared.segment.Item.{Item}
 use Rattle.segment_format.specs.declared.segment.Item.TheVariants.{Block, Delta, Part}
 use Rattle.token_law.specs.Books.{Books, Row}

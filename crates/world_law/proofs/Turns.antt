@@ -7,12 +7,12 @@ use Rattle.core_world.specs.declared.any_node.AnyNode.{AnyNode}
 use Rattle.core_world.specs.declared.any_node.AnyNode.TheVariants as any
 use Rattle.manager_node.specs.Events.{happens}
 use Rattle.manager_node.specs.Phases as managers
-use Rattle.node_tie.proofs.SmallWorld.{premise}
+use Rattle.node_tie.proofs.SmallWorld.{premise, premise_to}
 use Rattle.node_tie.proofs.StoreFrames.{all_neutral}
 use Rattle.node_tie.specs.AskingEvents.{EventsKeepAsking, PhaseAsks, StartsAsking}
 use Rattle.node_tie.specs.CleanerEvents.{CleanerDoes, CleanerGoes, CleanerOwed, CleanerStarts, CleanerTakes}
 use Rattle.node_tie.specs.CleanerLogs.{CleanerRuns}
-use Rattle.node_tie.specs.ClientEvents.{ClientAgrees, ClientGoes, ClientOwed, ClientStands, ClientTakes}
+use Rattle.node_tie.specs.ClientEvents.{ClientAgrees, ClientGoes, ClientOwed, ClientStands, ClientTakes, IsTaken}
 use Rattle.node_tie.specs.ManagerEvents.{EventGets as ManagerEventGets, FirstManagerAgrees, ManagerEventGoes, ManagerGoes}
 use Rattle.node_tie.specs.RegistryEvents.{RegistryEventGoes, RegistryGoes, RegistrySound, RegistryStarts}
 use Rattle.node_tie.specs.Sight.{ManagerDoes, ServerSends}
@@ -72,17 +72,19 @@ pub record NodeLaws : Type 0 where
 pub one_node : {X : Type 0} (a b : X) → Some a ≡ Some b → a ≡ b
 one_node a b same = ap (λ o. unwrap_or o a) same
 
--- From one moment to a later one what was given stays given, and who was at an epoch in the incarnation in which that was given to it was so.
+-- From one moment to a later one what was given stays given, who was at an epoch in the incarnation in which that was given to it was so, and the cleaner's
+-- promise doesn't fall.
 module _ (k : Cluster) (part : ℕ) where
   pub record Since (s t : Scene) : Type 0 where
     pub epochs : epoch_now k part s ≤ epoch_now k part t
+    pub promises : s.net.promised ≤ t.net.promised
     pub reigns : (j : ℕ) → life_of_manager s j ≤ life_of_manager t j
     pub given : (e : ℕ) → e ≤ epoch_now k part s → (t.lord e ≡ s.lord e) × (t.since e ≡ s.since e)
     pub past : (j life e : ℕ) → PastAt k part (s.manager j).phase life e → PastAt k part (t.manager j).phase life e
 
   since_of : (s t : Scene) → Grown k part s t
       → ((j life e : ℕ) → PastAt k part (s.manager j).phase life e → PastAt k part (t.manager j).phase life e) → Since s t
-  since_of s t g past = record { epochs = g.epochs; reigns = g.reigns; given = g.given; past = past }
+  since_of s t g past = record { epochs = g.epochs; promises = g.promises; reigns = g.reigns; given = g.given; past = past }
 
 module _ (laws : NodeLaws) (logs : Bool) (k : Cluster) (part : ℕ) (of_eight : part < 8) where
   -- ---- one node takes its step
@@ -135,7 +137,7 @@ module _ (laws : NodeLaws) (logs : Bool) (k : Cluster) (part : ℕ) (of_eight : 
         turned : Owed (Client c) (any.Client (s.client c)) → Turned (Client c) (any.Client (s.client c))
         turned owed =
             went (laws.client logs (members k part) part (epoch_now k part s) c of_eight b.some less s.net (s.client c) what agreed.0 agreed.1
-            (gets what refl owed))
+            (λ taken. gets what refl (premise_to logs (IsTaken (s.client c) what) (ClientTold part (epoch_now k part s) s.net c (s.client c).phase what) owed taken)))
           where
             went : ClientGoes logs (members k part) part (epoch_now k part s) c s.net (s.client c).phase (takes (s.client c) what).state
                 (takes (s.client c) what).outs
@@ -267,6 +269,7 @@ module _ (laws : NodeLaws) (logs : Bool) (k : Cluster) (part : ℕ) (of_eight : 
       since =
           (let g = boards.grown logs k part nodes sent _ said said_st place clock at here what said_facts go in record {
             epochs = g.epochs;
+            promises = g.promises;
             reigns = g.reigns;
             given = g.given;
             past = λ j life e past. past;
@@ -330,7 +333,13 @@ module _ (laws : NodeLaws) (logs : Bool) (k : Cluster) (part : ℕ) (of_eight : 
     event_turns cluster may st owed = next_keeps any_step EventTurned w event (record {
       next = s;
       stands = st;
-      since = record { epochs = omega arith; reigns = λ j. omega arith; given = λ e low. (refl, refl); past = λ j life e past. past };
+      since = record {
+        epochs = omega arith;
+        promises = let x = s.net.promised in omega arith;
+        reigns = λ j. omega arith;
+        given = λ e low. (refl, refl);
+        past = λ j life e past. past;
+      };
       stay = λ e none. none;
       books = inl refl;
       falls = λ falls. falls;

@@ -11,6 +11,8 @@ use Rattle.manager_node.specs.declared.phase.Phase.{Phase as ManagerPhase}
 use Rattle.manager_node.specs.declared.phase.Phase.TheVariants as managing
 use Rattle.manager_node.specs.declared.slot_phase.SlotPhase.{SlotPhase}
 use Rattle.node_tie.specs.CleanerLogs.{CleanerTold, OwnGoes, its_log}
+use Rattle.node_tie.specs.CleanerEvents as cleaner
+use Rattle.node_tie.specs.ClientEvents as client
 use Rattle.node_tie.specs.ClientEvents.{EndsInTime, LogGoes, ReadsSo}
 use Rattle.node_tie.specs.ManagerEvents.{AbsentGets, DeltasGets, FoundGets, LastReportGets, slot_in}
 use Rattle.node_tie.specs.Sight.{SameLog}
@@ -52,12 +54,12 @@ module _ (members part : ℕ) (n : Net) where
   ManagerTold p (Deliver packet) = ServingTold p packet
   ManagerTold p Tick = Unit {0}
 
--- of the node of this name; servers and the registry are owed nothing
--- (of the cleaner it is said whether an opening that ends has what was in flight)
+-- Of the node of this name; servers and the registry are owed nothing, nor are a client and the cleaner of an event that is not taken. Of the cleaner it is said
+-- whether an opening that ends has what was in flight.
 abbrev pub NodeTold : Bool → (members part most : ℕ) → Net → NodeId → AnyNode → Do → Type 0
-NodeTold adopted members part most n (Client c) (any.Client node) what = ClientTold part most n c node.phase what
+NodeTold adopted members part most n (Client c) (any.Client node) what = client.IsTaken node what → ClientTold part most n c node.phase what
 NodeTold adopted members part most n (Manager j) (any.Manager node) what = ManagerTold members part n node.phase what
-NodeTold adopted members part most n Cleaner (any.Cleaner node) what = CleanerTold n.books adopted node.phase what
+NodeTold adopted members part most n Cleaner (any.Cleaner node) what = cleaner.IsTaken node what → CleanerTold n.books adopted node.phase what
 NodeTold adopted members part most n name node what = Unit {0}
 
 -- what logs owe this event of this node, where they keep their word
