@@ -1,5 +1,5 @@
--- What the owner holds of its log was in flight: it is booked; and a booked name is one of the log.
-use Rattle.std.proofs.Common.{ℕ, List, [], ◌∷◌, Option, Some, None, inl, inr, sym, subst, ◌∙◌, ap}
+-- What the owner holds of its log was in flight: it is booked; and a booked name is one of the log, as is what is listed.
+use Rattle.std.proofs.Common.{◌≡◌, ℕ, List, [], ◌∷◌, Option, Some, None, inl, inr, sym, subst, ◌∙◌, ap}
 use Rattle.std.specs.Prelude.{IfSome}
 use Rattle.client_log.specs.LogState.{FlightState}
 use Rattle.log_protocol.specs.State.{State}
@@ -10,9 +10,12 @@ use Rattle.log_tie.specs.Setting.{Setting}
 use Rattle.segment_format.specs.declared.segment.Segment.{Segment}
 use Rattle.xfs_base.specs.declared.segment.SegName.{SegName}
 use Rattle.log_law.specs.Below.{Below}
-use Rattle.log_law.specs.Held.{OwnerFlew, WhatFlewIsOfTheLog, WhatIsHeldFlew}
+use Rattle.log_law.specs.Held.{OwnerFlew, WhatFlewIsOfTheLog, WhatIsHeldFlew, WhatIsListedFlew}
 use Rattle.log_law.specs.Net.{Net, Owner}
 use Rattle.log_law.specs.Net.Owner.{Down, Opening, Writing, Serving}
+use Rattle.log_law.specs.Net.Packet.{ListedSent}
+use Rattle.log_tie.specs.Scans.{AllMetas}
+use Rattle.xfs_base.specs.declared.fragment.FragMeta.{FragMeta}
 use Rattle.log_law.proofs.Calmer.{doubtful}
 use Rattle.log_law.proofs.Views.{Flown, OwnerShown, View}
 use Rattle.log_law.proofs.Wholeness.{seen}
@@ -50,3 +53,16 @@ what_flew_is_of_the_log k g n m s among =
     let h : View (doubtful g) n = seen k g n m in
     let x = h.flown.booked s among in
     ap (λ (z : Segment). z.name.log) x.2 ∙ ap (λ (name : SegName). name.log) (h.paged x.0 x.1).named
+
+module _ (w : State) (book : ℕ → Segment) (flown : List Segment) (f : Flown w book flown) where
+  listed_flew : (ms : List FragMeta) → AllMetas book w.booked ms → (meta : FragMeta) → In meta ms
+      → (s : Segment) × In s flown × (meta.name ≡ s.name) × (meta.group ≡ s.group)
+  listed_flew [] all meta is = absurd is
+  listed_flew (m ∷ ms) all meta (inl e) =
+      (let x = all.0 in
+      (book x.0, f.all x.0 x.2, ap (λ (m : FragMeta). m.name) (e ∙ x.3), ap (λ (m : FragMeta). m.group) (e ∙ x.3)))
+  listed_flew (m ∷ ms) all meta (inr is) = listed_flew ms all.1 meta is
+
+pub what_is_listed_flew : Below → WhatIsListedFlew
+what_is_listed_flew k g n m lists sent meta among =
+    (let h : View (doubtful g) n = seen k g n m in listed_flew h.w h.book n.flown h.flown lists (h.sent (ListedSent lists) sent) meta among)

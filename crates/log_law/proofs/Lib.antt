@@ -28,6 +28,7 @@ mod InLine
 mod Adopting
 mod Ends
 mod Places
+mod Groups
 mod Held
 mod Written
 mod ReadingDown

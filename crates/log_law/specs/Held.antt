@@ -1,4 +1,5 @@
--- What the owner of a log holds of it, the segment that it has in flight and what it has read back, was in flight; and what was in flight is of the log.
+-- What the owner of a log holds of it, the segment that it has in flight and what it has read back, was in flight; what was in flight is of the log; and what is
+-- listed is of what was in flight.
 use Rattle.std.specs.Prelude.{◌≡◌, List, IfSome}
 use Rattle.client_log.specs.LogState.{FlightState, LogState}
 use Rattle.log_protocol.specs.Tables.{In}
@@ -7,6 +8,8 @@ use Rattle.segment_format.specs.declared.segment.Segment.{Segment}
 use Rattle.log_law.specs.Laws.{Moment}
 use Rattle.log_law.specs.Net.{Net, Owner}
 use Rattle.log_law.specs.Net.Owner.{Down, Opening, Writing, Serving}
+use Rattle.log_law.specs.Net.Packet.{ListedSent}
+use Rattle.xfs_base.specs.declared.fragment.FragMeta.{FragMeta}
 
 -- its flight is among the segments that were in flight
 abbrev pub FlightFlew : List Segment → LogState → Type 0
@@ -30,3 +33,9 @@ WhatIsHeldFlew = (g : Setting) (n : Net) → Moment g n → OwnerFlew n.flown n.
 -- each segment that was in flight bears the number of the log
 abbrev pub WhatFlewIsOfTheLog : Type 0
 WhatFlewIsOfTheLog = (g : Setting) (n : Net) → Moment g n → (s : Segment) → In s n.flown → s.name.log ≡ g.log
+
+-- each fragment that a server listed is of a segment that was in flight, with its name and its group
+abbrev pub WhatIsListedFlew : Type 0
+WhatIsListedFlew =
+    (g : Setting) (n : Net) → Moment g n → (lists : List FragMeta) → In (ListedSent lists) n.sent → (meta : FragMeta) → In meta lists
+    → (s : Segment) × In s n.flown × (meta.name ≡ s.name) × (meta.group ≡ s.group)

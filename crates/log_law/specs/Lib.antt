@@ -11,3 +11,4 @@ pub mod Runs
 pub mod Held
 pub mod Written
 pub mod ReadBack
+pub mod Groups

@@ -5,7 +5,8 @@
 #![tactic(auto)]
 
 ghost use Rattle.log_law.specs.Ends.{EndsAreLast, FilesItsFlight};
-ghost use Rattle.log_law.specs.Held.{WhatFlewIsOfTheLog, WhatIsHeldFlew};
+ghost use Rattle.log_law.specs.Groups.{EndsNameGroups, PriorsNameGroups};
+ghost use Rattle.log_law.specs.Held.{WhatFlewIsOfTheLog, WhatIsHeldFlew, WhatIsListedFlew};
 ghost use Rattle.log_law.specs.Laws.{AReopeningAdopts, LogsStayInLine, LogsStayWhole, OneNameOneText, SomeSegmentFiled, TheFeedIsWhole};
 ghost use Rattle.log_law.specs.Openings.{FliesNext, NothingFiledOpening, OpeningsGoOn};
 ghost use Rattle.log_law.specs.Places.{APlaceNamesOneContent};
@@ -13,7 +14,7 @@ ghost use Rattle.log_law.specs.ReadBack.{OpeningsReadDown, ReopensBehind};
 ghost use Rattle.log_law.specs.Runs.{SomeRestarts};
 ghost use Rattle.log_law.specs.Tails.{ARestartFilesTheTail, ATailIsFiledOrNever};
 ghost use Rattle.log_law.specs.Below.{Below};
-ghost use Rattle.log_law.specs.Written.{WhatFlewIsWritten, WhatFliesIsNext};
+ghost use Rattle.log_law.specs.Written.{WhatFlewIsWritten, WhatFliesIsNext, WhatIsReadBackIsLinked};
 
 use client_log::laws::{end_rises_by_one, flight_is_next, settles_what_is_due};
 use log_protocol::{
@@ -70,20 +71,33 @@ pub fn a_place_names_one_content()
     below();
 }
 
+/// What names a segment names its group: at each moment of every run the segment that another one names as the one before it, or that the end of a log that is
+/// served names, is over the group that is named, among all that were in flight.
+pub fn names_bear_groups()
+    ensures priors { PriorsNameGroups }
+    ensures ends { EndsNameGroups }
+{
+    below();
+}
+
 /// What an owner holds of its log was in flight: at each moment of every run the segment that it has in flight, and each that it has read back while its
-/// opening segment is written, is among those that were in flight; and each of these bears the number of the log.
+/// opening segment is written, is among those that were in flight; and each of these bears the number of the log. So is each that a server listed, with its
+/// group.
 pub fn what_is_held_flew()
     ensures held { WhatIsHeldFlew }
     ensures own { WhatFlewIsOfTheLog }
+    ensures listed { WhatIsListedFlew }
 {
     below();
 }
 
 /// What its owner writes of a log: at each moment of every run each segment that was in flight is of the log, of a boot and a number from 1 on, and has a text;
-/// and what an owner that serves has in flight has the number after the end of its log, and names that end as the one before it.
+/// what an owner that serves has in flight has the number after the end of its log, and names that end as the one before it; and what was read back is linked, up to
+/// the opening segment.
 pub fn what_flew_is_written()
     ensures written { WhatFlewIsWritten }
     ensures next { WhatFliesIsNext }
+    ensures linked { WhatIsReadBackIsLinked }
 {
     below();
 }
