@@ -64,7 +64,7 @@ use Rattle.opening_law.proofs.Asking.{packet_few, starts_few, tick_few}
 use Rattle.cleaner_log_tie.specs.Owner.{its_asker, its_number, LastsAs, Stands, CleanerAgrees}
 use Rattle.cleaner_log_tie.specs.OwnerEvents.{OpeningOwed, PacketOwed, CleanerOwed, ActSeen, Grows, OwnerTakes}
 use Rattle.cleaner_log_tie.proofs.Frames.{CleanerDoes, AllDone, Gone, still_grows, still_once, grows_on, all_more}
-use Rattle.client_log_tie.proofs.Straight.{away_straight, never_then, once_straight, served_straight}
+use Rattle.client_log_tie.proofs.Straight.{down_straight, never_then, once_straight, served_straight}
 use Rattle.cleaner_log_tie.proofs.Serving as serving
 use Rattle.cleaner_log_tie.proofs.StandIn as stand_in
 use Rattle.cleaner_log_tie.proofs.StandIn.{WentOn}
@@ -105,7 +105,7 @@ module _ (g : Setting) (is : g.log ≡ cleaner_log) (w : Scene) where
     agrees = p.stands;
     does = p.does;
     flies = inl (same_boot w.net p.next.net (log_up g its_number w log sees) (log_up g its_number p.next d.state.log p.stands.log) p.boot);
-    straight = served_straight g w.net p.next.net p.grown.runs (ap is_serving sees.owner) (ap is_serving p.stands.log.owner);
+    straight = served_straight g w.net p.next.net p.grown.runs (ap is_serving sees.owner) (ap is_serving p.stands.log.owner) p.boot;
     only = p.only;
   }
 
@@ -176,7 +176,7 @@ module _ (g : Setting) (is : g.log ≡ cleaner_log) (w : Scene) where
     does = all_append (CleanerDoes g (fallen w)) (answers_unanswered l.items.unanswered answer.Cut) _ (answers_do (fallen w) l.items.unanswered answer.Cut)
         (tt, tt);
     flies = inr ((fall_of w.net).flown, (fall_of w.net).filed);
-    straight = away_straight g w.net (fallen w).net (fallen_grows w).runs (fallen_never w) (ap is_serving (fall_of w.net).down);
+    straight = down_straight g w.net (fallen w).net (fallen_grows w).runs (fallen_never w) (fall_of w.net).down;
     only = λ name is. inl (subst (In name) (fall_of w.net).dropped is);
   }
 
@@ -232,7 +232,7 @@ module _ (g : Setting) (is : g.log ≡ cleaner_log) (w : Scene) where
           tt,
         );
         flies = inr (refl, refl);
-        straight = record { never = λ e. (refl, (refl, tt)); once = λ a b. contrary b };
+        straight = record { never = λ e. (refl, (refl, tt)); once = λ a b. contrary b; stays = λ a b. contrary b; picks = λ e. contrary e };
         only = λ name is. inl is;
       }
 
@@ -275,10 +275,10 @@ module _ (g : Setting) (is : g.log ≡ cleaner_log) (w : Scene) where
         does = all_append (CleanerDoes g (fallen t.next)) x.effects (answers_unanswered l.items.unanswered (answer.Lost seg))
             (all_more g t.next (fallen t.next) (fallen_grows t.next) x.effects t.does) (answers_do (fallen t.next) l.items.unanswered (answer.Lost seg));
         flies = inr ((fall_of t.next.net).flown ∙ (lost tt).0, (fall_of t.next.net).filed ∙ (lost tt).1.0);
-        straight = away_straight g w.net (fallen t.next).net (then_on t.grown.runs (fallen_grows t.next).runs)
+        straight = down_straight g w.net (fallen t.next).net (then_on t.grown.runs (fallen_grows t.next).runs)
             (never_then g w.net t.next.net (fallen t.next).net t.grown.runs (fallen_grows t.next).runs
             ((once_straight g w.net t.next.net t.grown.runs t.once).never (lost tt).1.1) (fallen_never t.next))
-            (ap is_serving (fall_of t.next.net).down);
+            (fall_of t.next.net).down;
         only = λ name is. inl (subst (In name) ((fall_of t.next.net).dropped ∙ t.kept) is);
       }
 

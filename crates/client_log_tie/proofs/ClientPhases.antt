@@ -2,16 +2,19 @@
 use Rattle.std.proofs.Common.{◌≡◌, ◌<◌, ℕ, suc, ◌+◌, ◌&&◌, true, false, cond, List, [], ◌∷◌, ◌++◌, Option, Some, None, is_some, nat_lt, refl, sym, ap, subst, ◌∙◌, inl, inr, arith}
 use Rattle.std.proofs.lemmas.Bool.Decides.{nat_tests}
 use Rattle.std.proofs.lemmas.List.Elements.{All-nil, All-cons, All-append}
-use Rattle.client_node.specs.declared.call.Going.{Going}
 use Rattle.client_node.specs.declared.client.Client.{Client}
-use Rattle.client_node.specs.declared.lasting.Lasting.{Lasting}
-use Rattle.client_node.specs.declared.phase.Phase.{Phase}
 use Rattle.client_node.specs.declared.phase.Phase.TheVariants.{Down, Opening, Serving as Serves}
-use Rattle.client_node.specs.declared.serving.Serving.{Serving}
-use Rattle.client_node.specs.Packets as packets
-use Rattle.client_node.specs.Phases.{owner_of, takes, Went_to, falls, crashed, next_life, restarted, after_opening, opened_on, answers, begins_call, call_at, opens, serves_on, wish_of, down_begins, opening_begins, serving_begins, lasting_of, begins_item, on_begin, on_deliver, on_time, delivers, happens, phase_room, client_room}
-use Rattle.client_node.specs.Running.{goes_on}
-use Rattle.client_node.specs.Sends.{Done, gives}
+use Rattle.client_node.specs.declared.phase.Phase.{Phase}
+use Rattle.client_node.specs.Phases.{owner_of, takes, Went_to, crashed, restarted, after_opening, opened_on, answers, serves_on, wish_of, down_begins, opening_begins, serving_begins, lasting_of, begins_item, on_begin, on_deliver, on_time, delivers, happens, phase_room, client_room}
+use Rattle.client_parts.specs.declared.call.Going.{Going}
+use Rattle.client_parts.specs.declared.lasting.Lasting.{Lasting}
+use Rattle.client_parts.specs.Lasting.{next_life}
+use Rattle.client_serving.specs.Crash.{falls}
+use Rattle.client_serving.specs.declared.serving.Serving.{Serving}
+use Rattle.client_serving.specs.Opens.{begins_call, call_at, opens}
+use Rattle.client_serving.specs.Packets as packets
+use Rattle.client_serving.specs.Running.{goes_on}
+use Rattle.client_serving.specs.Sends.{Done, gives}
 use Rattle.log_owner.specs.declared.opened.Opened.{Opened}
 use Rattle.log_owner.specs.declared.opened.Progress.{Progress}
 use Rattle.log_owner.specs.declared.opened.Progress.TheVariants as progress
@@ -71,7 +74,7 @@ use Rattle.client_log_tie.proofs.Questions.{ask_rises, put_here, put_keeps, put_
 use Rattle.client_log_tie.proofs.ServingCalls as calls
 use Rattle.client_log_tie.proofs.ServingPackets as serving
 use Rattle.client_log_tie.proofs.ServingTokens as tokens
-use Rattle.client_log_tie.proofs.Straight.{away_straight, once_straight, served_straight}
+use Rattle.client_log_tie.proofs.Straight.{down_straight, once_straight, served_straight}
 
 next_inc : (k : ℕ) → has_room k ≡ true → cond (nat_lt k u32_end) (k + 1) k ≡ suc k
 next_inc k room = grind (arith, nat_tests)
@@ -165,7 +168,7 @@ module _ (g : Setting) (c : ℕ) (is : g.log ≡ record { 0 = c }) (small : is_l
     written = tt;
     does = plain (fallen w);
     flies = inr ((fall_of w.net).flown, (fall_of w.net).filed);
-    straight = away_straight g w.net (fallen w).net (fallen_grown w).runs (fallen_never w) (ap is_serving (fall_of w.net).down);
+    straight = down_straight g w.net (fallen w).net (fallen_grown w).runs (fallen_never w) (fall_of w.net).down;
     puts = λ s owns serves. contrary (sym (ap is_serving (fall_of w.net).down) ∙ serves);
   }
 
@@ -231,7 +234,7 @@ module _ (g : Setting) (c : ℕ) (is : g.log ≡ record { 0 = c }) (small : is_l
             })
             (All-nil (ClientDoes g c v));
         flies = inr (refl, refl);
-        straight = record { never = λ e. (refl, (refl, tt)); once = λ a b. contrary b };
+        straight = record { never = λ e. (refl, (refl, tt)); once = λ a b. contrary b; stays = λ a b. contrary b; picks = λ e. contrary e };
         puts = λ s owns serves. contrary serves;
       }
 
@@ -300,10 +303,10 @@ module _ (g : Setting) (c : ℕ) (is : g.log ≡ record { 0 = c }) (small : is_l
               (frames.all_more g c t.next (fallen t.next) (fallen_grown t.next) x.effects t.does)
               (tokens.plain_answers g c l.items.unanswered (answer.Lost seg) (fallen t.next));
           flies = inr ((fall_of t.next.net).flown ∙ (lost tt).0, (fall_of t.next.net).filed ∙ (lost tt).1.0);
-          straight = away_straight g w.net (fallen t.next).net (frames.grown_on g w t.next (fallen t.next) t.grown (fallen_grown t.next)).runs
+          straight = down_straight g w.net (fallen t.next).net (frames.grown_on g w t.next (fallen t.next) t.grown (fallen_grown t.next)).runs
               (frames.never_on g w t.next (fallen t.next) t.grown (fallen_grown t.next)
               ((once_straight g w.net t.next.net t.grown.runs t.once).never (lost tt).1.1) (fallen_never t.next))
-              (ap is_serving (fall_of t.next.net).down);
+              (fall_of t.next.net).down;
           puts = λ s owns serves. contrary (sym away ∙ ap is_serving owns);
         }
 
@@ -323,7 +326,7 @@ module _ (g : Setting) (c : ℕ) (is : g.log ≡ record { 0 = c }) (small : is_l
     written = p.stands.written;
     does = p.does;
     flies = inl (same_boot w.net p.next.net (log_up g c w log sees) (log_up g c p.next d.state.log p.stands.sees) p.boot);
-    straight = served_straight g w.net p.next.net p.grown.runs (ap is_serving sees.owner) (ap is_serving p.stands.sees.owner);
+    straight = served_straight g w.net p.next.net p.grown.runs (ap is_serving sees.owner) (ap is_serving p.stands.sees.owner) p.boot;
     puts = λ s owns serves. p.puts s owns;
   }
 

@@ -4,10 +4,10 @@ use Rattle.std.specs.Prelude.{IfSome}
 use Rattle.std.specs.List.{list_all}
 use Rattle.std.proofs.lemmas.Bool.Decides.{nat_tests}
 use Rattle.std.proofs.lemmas.List.Elements.{All-nil, All-cons}
-use Rattle.client_node.specs.Blocks.{wrote}
-use Rattle.client_node.specs.declared.serving.Serving.{Serving}
-use Rattle.client_node.specs.Fitting.{block_fits, is_byte, value_fits, put_fits}
-use Rattle.client_node.specs.Flights.{held_at}
+use Rattle.client_parts.specs.Fitting.{block_fits, is_byte, value_fits, put_fits}
+use Rattle.client_serving.specs.Blocks.{wrote}
+use Rattle.client_serving.specs.declared.serving.Serving.{Serving}
+use Rattle.client_serving.specs.Flights.{held_at}
 use Rattle.segment_format.specs.Format.{second_version, IsLength, is_length}
 use Rattle.segment_format.specs.Ranges.{FitsBlock}
 use Rattle.stripe_code.specs.Stripe.{IsBytes}

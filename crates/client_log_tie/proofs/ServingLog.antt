@@ -8,10 +8,12 @@ use Rattle.client_log.specs.declared.input.In.TheVariants as log_in
 use Rattle.client_log.specs.declared.output.Out.{Out}
 use Rattle.client_log.specs.declared.output.Out.TheVariants.{Send, Settled}
 use Rattle.client_log.specs.Transition as log
-use Rattle.client_node.specs.declared.serving.Serving.{Serving}
-use Rattle.client_node.specs.Flights.{held_at, log_of, notes_settled, keeps_clean, gives_up, gives_if_clean, feeds, settled_rows, settles, writes_one, is_settling, is_giving, seals_again, writes}
-use Rattle.client_node.specs.Follow.{notes_clean, seals}
-use Rattle.client_node.specs.Sends.{Done, gives}
+use Rattle.client_parts.specs.Flights.{is_settling, is_giving}
+use Rattle.client_parts.specs.Lasting.{log_of}
+use Rattle.client_serving.specs.declared.serving.Serving.{Serving}
+use Rattle.client_serving.specs.Flights.{held_at, notes_settled, keeps_clean, gives_up, gives_if_clean, feeds, settled_rows, settles, writes_one, seals_again, writes}
+use Rattle.client_serving.specs.Follow.{notes_clean, seals}
+use Rattle.client_serving.specs.Sends.{Done, gives}
 use Rattle.group_map.specs.GroupMapState.{GroupMapState}
 use Rattle.log_owner.specs.Sending.{store, name_of, pushes_all}
 use Rattle.node_base.specs.declared.effects.Effect.{Effect}

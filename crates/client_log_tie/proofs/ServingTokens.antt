@@ -7,10 +7,11 @@ use Rattle.client_log.specs.declared.input.In.TheVariants as log_in
 use Rattle.client_log.specs.declared.output.Out.{Out as LogOut}
 use Rattle.client_log.specs.declared.output.Out.TheVariants as log_out
 use Rattle.client_log.specs.Transition as log
-use Rattle.client_node.specs.declared.serving.Serving.{Serving}
-use Rattle.client_node.specs.Follow.{evicts, notes_clean, notes_gone, notes_copy, seals, follows_one, follows, hands, takes_back}
-use Rattle.client_node.specs.Reads.{ends_reading, with_reading, draws, reading_in, loses, loses_at, fetches, group_in, begins_over, begins, confirmed_next, ask_after, drawn_after, confirms, target_of, same_target, reads_over, reads}
-use Rattle.client_node.specs.Sends.{Done, gives, deltas, want, before_want, gave}
+use Rattle.client_parts.specs.Reads.{reading_in, fetches, target_of, same_target}
+use Rattle.client_serving.specs.declared.serving.Serving.{Serving}
+use Rattle.client_serving.specs.Follow.{evicts, notes_clean, notes_gone, notes_copy, seals, follows_one, follows, hands, takes_back}
+use Rattle.client_serving.specs.Reads.{ends_reading, with_reading, draws, loses, loses_at, group_in, begins_over, begins, confirmed_next, ask_after, drawn_after, confirms, reads_over, reads}
+use Rattle.client_serving.specs.Sends.{Done, gives, deltas, want, before_want, gave}
 use Rattle.coop_cache.specs.declared.output.Out as cache_out
 use Rattle.coop_cache.specs.declared.output.Out.TheVariants.{Victim}
 use Rattle.coop_cache.specs.Transition.{cleaned, left}

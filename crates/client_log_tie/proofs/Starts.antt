@@ -2,7 +2,7 @@
 use Rattle.std.proofs.Common.{◌≡◌, ◌≤◌, ℕ, true, refl, sym, ap, arith}
 use Rattle.std.proofs.lemmas.Bool.Decides.{nat_tests}
 use Rattle.client_log.specs.LogState.{started}
-use Rattle.client_node.specs.Starting.{empty_end}
+use Rattle.client_parts.specs.Starting.{empty_end}
 use Rattle.group_map.specs.Groups as groups
 use Rattle.node_base.specs.Shape.{is_log}
 use Rattle.segment_format.specs.Format.{IsLog}

@@ -1,5 +1,5 @@
 -- What an event makes of a client, as the small world of its log sees it.
-use Rattle.std.specs.Prelude.{◌≡◌, ◌⊎◌, ℕ, true, false, List, All, IfSome}
+use Rattle.std.specs.Prelude.{◌≡◌, ◌⊎◌, ℕ, Bool, true, false, List, All, IfSome}
 use Rattle.client_node.specs.declared.client.Client as clients
 use Rattle.client_node.specs.declared.phase.Phase.{Phase}
 use Rattle.client_node.specs.declared.phase.Phase.TheVariants.{Down, Opening, Serving as Serves}
@@ -27,7 +27,8 @@ use Rattle.xfs_base.specs.declared.segment.SegName.{SegName}
 use Rattle.xfs_base.specs.declared.setup.Setup.{Setup}
 use Rattle.log_protocol.specs.Tables.{In}
 use Rattle.log_tie.specs.Setting.{Setting}
-use Rattle.log_law.specs.Net.{Net, Packet, chain_in, opening}
+use Rattle.log_law.specs.Net.{Net, Packet, chain_in, is_reading, opening}
+use Rattle.log_law.specs.Net.{Owner as owner}
 use Rattle.log_law.specs.Net.Packet.{MapSent}
 use Rattle.log_law.specs.Events.{CameToScan, Runs}
 use Rattle.log_law.specs.Events.Runs.{Begun, On}
@@ -126,10 +127,20 @@ IsOnce Begun = Unit {0}
 IsOnce (On Begun happens) = Unit {0}
 IsOnce (On (On run before) happens) = ⊥
 
--- Unless the owner serves then, it served nowhere on the way; and where it didn't serve before and does then, that is by one thing that happens.
+-- it opens its log, and has picked where that goes on
+abbrev pub has_picked : owner → Bool
+has_picked owner.Down = false
+has_picked (owner.Opening s) = is_reading s.stage
+has_picked (owner.Writing chain s) = true
+has_picked (owner.Serving s) = false
+
+-- Unless the owner serves then, it served nowhere on the way; where it didn't serve before and does then, that is by one thing that happens; where it served
+-- before and does then, it stayed in its boot; and where it opens its log and has picked then where that goes on, one thing happened at most.
 pub record ServesStraight {g : Setting} {n o : Net} (runs : Runs g n o) : Type 0 where
   pub never : is_serving o.owner ≡ false → NeverServes runs
   pub once : is_serving n.owner ≡ false → is_serving o.owner ≡ true → IsOnce runs
+  pub stays : is_serving n.owner ≡ true → is_serving o.owner ≡ true → o.inc ≡ n.inc
+  pub picks : has_picked o.owner ≡ true → IsOnce runs
 
 -- It runs on to one in which the client is seen as it is then, all that it sends was sent, and all that it tells to be filed is filed; it stores to its own log
 -- alone.
