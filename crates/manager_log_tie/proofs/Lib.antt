@@ -15,3 +15,4 @@ mod Phases
 mod Starts
 mod Told
 mod Servers
+mod Listing

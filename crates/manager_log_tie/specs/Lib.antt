@@ -3,3 +3,4 @@ pub mod Owner
 pub mod OwnerEvents
 pub mod Told
 pub mod Servers
+pub mod Listing

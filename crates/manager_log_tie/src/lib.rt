@@ -2,6 +2,7 @@
 //! has no code: each function below calls the laws that it stands on, and its contract is a law. `specs/Owner.antt` says how a manager is seen there.
 #![tactic(auto)]
 
+ghost use Rattle.manager_log_tie.specs.Listing.{ServersListWhatWasStored, ServersStartBare};
 ghost use Rattle.manager_log_tie.specs.OwnerEvents.{ManagerStarts, ManagerTakes};
 ghost use Rattle.manager_log_tie.specs.Servers.{ServersStartEmpty, ServersTellBytes};
 ghost use Rattle.manager_log_tie.specs.Told.{WhatIsToldIsInRange};
@@ -38,4 +39,15 @@ pub fn what_is_told_is_in_range()
 pub fn what_servers_tell_is_bytes()
     ensures start { ServersStartEmpty }
     ensures events { ServersTellBytes }
+{}
+
+/// Whichever logs are asked about, a storage server holds and lists fragments of these alone, where each that is stored there, and each that another server lists
+/// to it, is of one of these: what it fills in once it is rebuilt is of a segment that was listed.
+///
+/// - `start`: a server at its start holds nothing.
+/// - `events`: where what it holds, what was listed to it and what it reads for a rebuild is of these logs, and what the packet that comes stores or lists, then
+///   so is it after the event, and all that it sends lists only such.
+pub fn servers_list_what_was_stored()
+    ensures start { ServersStartBare }
+    ensures events { ServersListWhatWasStored }
 {}

@@ -1,5 +1,5 @@
 -- Each event keeps all logs standing to their small worlds, which lead on, and the numbers of all that is sent in the ranges of their types.
-use Rattle.std.proofs.Common.{◌≡◌, ⊎_elim, ◌^◌, ℕ, ◌+◌, ◌==◌, ◌≤◌, ◌<◌, false, List, [], ◌++◌, Some, map, get_or, slice_get, slice_set, if◌then◌else◌, inl, inr, refl, sym, ap, subst, ◌∙◌, arith}
+use Rattle.std.proofs.Common.{◌≡◌, ⊎_elim, ◌^◌, ℕ, ◌+◌, ◌==◌, ◌≤◌, ◌<◌, Bool, List, [], ◌++◌, Some, map, get_or, slice_get, slice_set, if◌then◌else◌, refl, sym, ap, subst, ◌∙◌, arith}
 use Rattle.std.specs.Prelude.{All}
 use Rattle.std.proofs.lemmas.List.Elements.{All-from_recursion}
 use Rattle.cleaner_node.specs.CleanerEvents as cleaners
@@ -16,16 +16,16 @@ use Rattle.entry_tie.specs.CleanerTells.{CleanerHolds}
 use Rattle.entry_tie.specs.ClientTells.{ClientHolds}
 use Rattle.entry_tie.specs.Told.{PacketTold, TellsTold}
 use Rattle.group_map.specs.declared.group.Group.{Group}
-use Rattle.log_law.specs.Net.{opening}
 use Rattle.log_tie.proofs.Names.{unequal}
 use Rattle.log_tie.specs.Setting.{Setting}
+use Rattle.manager_log_tie.specs.Listing.{CarriesOf, Lists}
 use Rattle.manager_log_tie.specs.Servers.{CarriesBytes, TellsBytes}
 use Rattle.manager_node.specs.Events.{happens as manager_happens, manager_step}
 use Rattle.manager_node.specs.Phases as managers
 use Rattle.node_base.specs.Setups.{IsSetup}
-use Rattle.node_log_tie.proofs.Going.{run_later}
 use Rattle.node_log_tie.specs.CleanerEvents.{CleanerGoes, CleanerOwed, CleanerSeen}
-use Rattle.node_log_tie.specs.RegistryEvents.{Hears, IsFiled, RegistryGoes, low_of}
+use Rattle.node_log_tie.specs.CleanerStores.{StoresItsOwn}
+use Rattle.node_log_tie.specs.RegistryEvents.{RegistryGoes}
 use Rattle.node_log_tie.specs.ServerEvents.{ServerGoes, ServerOwed}
 use Rattle.node_log_tie.specs.Sight.{BodySeen, PacketSeen, ReachedBy}
 use Rattle.node_tie.specs.RegistryEvents as board
@@ -36,7 +36,6 @@ use Rattle.store_nodes.specs.ServerEvents.{server_step}
 use Rattle.store_nodes.specs.ServerEvents as servers
 use Rattle.token_protocol.specs.Basics.{In}
 use Rattle.version_model.specs.declared.act.Act.{Act}
-use Rattle.version_model.specs.declared.act.Act.TheVariants as act
 use Rattle.wire_msg.specs.declared.packet.Do.{Do}
 use Rattle.wire_msg.specs.declared.packet.Do.TheVariants.{Begin, Deliver, Tick}
 use Rattle.wire_msg.specs.declared.packet.Packet.{Packet}
@@ -47,18 +46,20 @@ use Rattle.world_base.specs.NextWorld.{sent_at}
 use Rattle.world_law.proofs.Nodes as places
 use Rattle.world_law.proofs.OtherTurns.{equal_or_not}
 use Rattle.world_law.proofs.Places.{Behind, behind}
-use Rattle.world_law.proofs.Sent.{in_append}
 use Rattle.world_law.specs.Owners.{node_in}
 use Rattle.world_logs.proofs.CleanerEvents as cleaner_log_events
 use Rattle.world_logs.proofs.ClientEvents as client_log_events
-use Rattle.world_logs.proofs.Fits.{DoFits, PacketFits, all_still, cleaner_sends, client_sends, do_carries, held_at, in_range, registry_sends, server_sends}
+use Rattle.world_logs.proofs.Fits.{DoFits, NodeHolds, PacketFits, cleaner_sends, client_sends, do_carries, in_range, registry_sends, server_sends}
 use Rattle.world_logs.proofs.Goods as goods
 use Rattle.world_logs.proofs.Goods.{NodeLaws}
+use Rattle.world_logs.proofs.Listing.{NodeKeeps, cleaner_lists, owner_sends, registry_lists}
+use Rattle.world_logs.proofs.Lists.{all_at, all_set}
 use Rattle.world_logs.proofs.ManagerEvents as manager_log_events
 use Rattle.world_logs.proofs.Owed.{sent_from}
 use Rattle.world_logs.proofs.OwnerTurns.{idle_turn}
+use Rattle.world_logs.proofs.RegistryEvents.{registry_goes}
 use Rattle.world_logs.proofs.Roles.{high_log, no_server}
-use Rattle.world_logs.specs.Roles.{Role, asker_by, log_by, owner_by, renews}
+use Rattle.world_logs.specs.Roles.{Role, asker_by, log_by, owner_by}
 use Rattle.world_logs.specs.Roles.Role.{OfClient, OfCleaner, OfManager}
 use Rattle.world_logs.proofs.Says.{MaySay, OfLog, Plain, sent_apart}
 use Rattle.world_logs.proofs.Settings.{map_fits}
@@ -66,7 +67,7 @@ use Rattle.world_logs.specs.Standing.{CleanerAs, Seen, Stands}
 use Rattle.world_logs.proofs.StoreTurns.{cleaner_turn, registry_turn, server_turn}
 use Rattle.world_logs.proofs.Turns.{Next, next_so, turned}
 use Rattle.world_logs.specs.Doings.{owns}
-use Rattle.world_logs.specs.Horizons.{Reached, board_of}
+use Rattle.world_logs.specs.Horizons.{board_of}
 use Rattle.world_logs.specs.Shelves.{group_at}
 use Rattle.xfs_base.specs.declared.node.NodeId.{NodeId}
 use Rattle.xfs_base.specs.declared.node.NodeId.TheVariants.{Client, Manager, Server, Cleaner, Registry}
@@ -120,12 +121,7 @@ module _ (laws : NodeLaws) (base : Setting) (end : World AnyNode) (setup : Setup
 
     -- what comes is in range
     comes : (name : NodeId) → Gets name → DoFits name what
-    comes name gets = by what refl
-      where
-        by : (x : Do) → what ≡ x → DoFits name x
-        by Begin same = tt
-        by (Deliver q) same = (let h = gets q same in subst (λ to. PacketFits to q.body) h.1 (good.fits q h.0))
-        by Tick same = tt
+    comes name gets = goods.what_fits laws base end setup ok few nodes sent told good clock name what gets
 
     abbrev Says : List Packet → Type 0
     Says packets = (q : Packet) → In q (sent ++ map (sent_at clock) packets) → MaySay q.from q.body
@@ -142,6 +138,25 @@ module _ (laws : NodeLaws) (base : Setting) (end : World AnyNode) (setup : Setup
 
     all_fit : (packets : List Packet) → All (λ (p : Packet). PacketFits p.to p.body) packets → AllFit packets
     all_fit packets all = goods.all_fit laws base end setup ok few nodes sent told good clock packets all
+
+    abbrev owned : LogId → Bool
+    owned log = goods.owned laws base end setup ok few log
+
+    all_ours : (packets : List Packet) → All (λ (p : Packet). CarriesOf owned p.body) packets → (q : Packet)
+        → In q (sent ++ map (sent_at clock) packets)
+        → CarriesOf owned q.body
+    all_ours packets all = goods.all_ours laws base end setup ok few nodes sent told good clock packets all
+
+    abbrev Keeps : AnyNode → Type 0
+    Keeps x = NodeKeeps setup.clients setup.managers x
+
+    -- an owner stores to its own log, and lists nothing
+    stores : (r : Role) → There r → (packets : List Packet) → All (λ (p : Packet). Plain p.body) packets
+        → All (λ (p : Packet). OfLog (log_by r) p.body) packets
+        → All (λ (p : Packet). CarriesOf owned p.body) packets
+    stores r there packets plain own i d less =
+        owner_sends setup.clients setup.managers (log_by r) (goods.owns_one laws base end setup ok few r there) (get_or packets i d).body (plain i d less)
+        (own i d less)
 
     -- ---- the log of another owner
 
@@ -177,7 +192,9 @@ module _ (laws : NodeLaws) (base : Setting) (end : World AnyNode) (setup : Setup
     server_after v gets at (any.Server node) is known = record {
       fits = all_fit (server_step node what).packets (λ i d less. server_sends (get_or packets i d).to (get_or packets i d).body (may i d less)
           (All-from_recursion (λ (p : Packet). CarriesBytes p.body) packets tells.packets i d less));
-      holds = all_still nodes place (any.Server (server_step node what).node) good.holds tells.node;
+      holds = all_set NodeHolds nodes place (any.Server (server_step node what).node) good.holds tells.node;
+      ours = all_ours packets (All-from_recursion (λ (p : Packet). CarriesOf owned p.body) packets lists.packets);
+      keeps = all_set Keeps nodes place (any.Server (server_step node what).node) good.keeps lists.node;
       logs = one;
     }
       where
@@ -188,7 +205,11 @@ module _ (laws : NodeLaws) (base : Setting) (end : World AnyNode) (setup : Setup
         may = all_say (Server node.number) packets (sent_from (Server node.number) (servers.takes node what).outs) known.says
 
         tells : TellsBytes (server_step node what)
-        tells = laws.servers_tell node what (held_at nodes place (any.Server node) good.holds is) (do_carries v what (comes (Server v) gets))
+        tells = laws.servers_tell node what (all_at NodeHolds nodes place (any.Server node) good.holds is) (do_carries v what (comes (Server v) gets))
+
+        lists : Lists owned (server_step node what)
+        lists = laws.servers_list owned node what (all_at Keeps nodes place (any.Server node) good.keeps is)
+            (goods.what_comes laws base end setup ok few nodes sent told good clock what (λ q same. (gets q same).0))
 
         one : (r : Role) → Now (Server v) (any.Server node) r
         one r h =
@@ -255,21 +276,18 @@ module _ (laws : NodeLaws) (base : Setting) (end : World AnyNode) (setup : Setup
       -- what it tells, and stores
       cleaner_told : TellsTold (CleanerHolds in_range) in_range (cleaner_step node what)
       cleaner_told = cleaner_log_events.cleaner_told laws base end setup few nodes sent (told cleaner_log.0) place clock what good.fits gets at node is
-          (good.logs OfCleaner tt) (held_at nodes place (any.Cleaner node) good.holds is) (comes Cleaner gets)
+          (good.logs OfCleaner tt) (all_at NodeHolds nodes place (any.Cleaner node) good.holds is) (comes Cleaner gets)
 
       client_one : There (OfClient 1)
       client_one = (omega arith, ok.clients.0)
 
-      cleaner_fits : Says (cleaner_step node what).packets → All (λ (p : Packet). PacketFits p.to p.body) (cleaner_step node what).packets
-      cleaner_fits says i d less =
-          let packets : List Packet = (cleaner_step node what).packets in
-          let p : Packet = get_or packets i d in
-          cleaner_sends p.to p.body (all_say Cleaner packets (sent_from Cleaner (cleaners.takes node.peers node.phase what).outs) says i d less)
-          (All-from_recursion (PacketTold in_range) packets cleaner_told.packets i d less)
-          (cleaner_log_events.cleaner_stores laws base end setup few nodes sent (told cleaner_log.0) place clock what good.fits gets at node is
-          (good.logs OfCleaner tt)
-          (laws.cleaner_stores (g (OfClient 1)) (asker_by (OfClient 1) first.0) first.0.net node what (λ e. absurd (one_apart e)) (λ e. absurd cc)
-          (first.1.seen Cleaner (any.Cleaner node) (named Cleaner _ at is)) (heard_first what refl)) i d less)
+      cleaner_may : Says (cleaner_step node what).packets → All (λ (p : Packet). MaySay Cleaner p.body) (cleaner_step node what).packets
+      cleaner_may says = all_say Cleaner (cleaner_step node what).packets (sent_from Cleaner (cleaners.takes node.peers node.phase what).outs) says
+
+      cleaner_own : All (λ (p : Packet). StoresItsOwn p.body) (cleaner_step node what).packets
+      cleaner_own =
+          laws.cleaner_stores (g (OfClient 1)) (asker_by (OfClient 1) first.0) first.0.net node what (λ e. absurd (one_apart e)) (λ e. absurd cc)
+          (first.1.seen Cleaner (any.Cleaner node) (named Cleaner _ at is)) (heard_first what refl)
         where
           one_apart : (g (OfClient 1)).log ≡ cleaner_log → ⊥
           one_apart e = (let n = ap (λ (x : LogId). x.0) e in absurd (omega (arith, n)))
@@ -279,6 +297,16 @@ module _ (laws : NodeLaws) (base : Setting) (end : World AnyNode) (setup : Setup
           heard_first Tick same = tt
           heard_first (Deliver q) same = (let h_ = gets q same in (h_.1, first.1.facts q h_.0))
 
+      cleaner_fits : Says (cleaner_step node what).packets → All (λ (p : Packet). PacketFits p.to p.body) (cleaner_step node what).packets
+      cleaner_fits says i d less =
+          let packets : List Packet = (cleaner_step node what).packets in
+          let p : Packet = get_or packets i d in
+          cleaner_sends p.to p.body (cleaner_may says i d less)
+          (All-from_recursion (PacketTold in_range) packets cleaner_told.packets i d less)
+          (cleaner_log_events.cleaner_stores laws base end setup few nodes sent (told cleaner_log.0) place clock what good.fits gets at node is
+          (good.logs OfCleaner tt)
+          cleaner_own i d less)
+
     cleaner_after : Gets Cleaner → place_of k Cleaner ≡ Some place → (x : AnyNode) → slice_get nodes place ≡ Some x → After Cleaner x
     cleaner_after gets at (any.Client node) is known = absurd (first.1.seen Cleaner (any.Client node) (named Cleaner _ at is))
     cleaner_after gets at (any.Manager node) is known = absurd (first.1.seen Cleaner (any.Manager node) (named Cleaner _ at is))
@@ -286,7 +314,11 @@ module _ (laws : NodeLaws) (base : Setting) (end : World AnyNode) (setup : Setup
     cleaner_after gets at (any.Registry node) is known = absurd (first.1.seen Cleaner (any.Registry node) (named Cleaner _ at is))
     cleaner_after gets at (any.Cleaner node) is known = record {
       fits = all_fit (cleaner_step node what).packets (cleaner_fits gets at node is known.says);
-      holds = all_still nodes place (any.Cleaner (cleaner_step node what).node) good.holds (cleaner_told gets at node is).node;
+      holds = all_set NodeHolds nodes place (any.Cleaner (cleaner_step node what).node) good.holds (cleaner_told gets at node is).node;
+      ours = all_ours (cleaner_step node what).packets (λ i d less.
+          cleaner_lists setup.clients setup.managers (get_or (cleaner_step node what).packets i d).body (cleaner_may gets at node is known.says i d less)
+          (cleaner_own gets at node is i d less));
+      keeps = all_set Keeps nodes place (any.Cleaner (cleaner_step node what).node) good.keeps tt;
       logs = cleaner_logs gets at node is;
     }
 
@@ -300,7 +332,10 @@ module _ (laws : NodeLaws) (base : Setting) (end : World AnyNode) (setup : Setup
     registry_after gets at (any.Registry node) is known = record {
       fits = all_fit (registry_step node what).packets (λ i d less. registry_sends 0 what (registry_step node what).node.board
           (map_fits (registry_step node what).node.board.groups (goes (OfClient 1) (omega arith, ok.clients.0)).seen.map) _ _ (sends.sends i d less));
-      holds = all_still nodes place y good.holds tt;
+      holds = all_set NodeHolds nodes place y good.holds tt;
+      ours = all_ours (registry_step node what).packets
+          (λ i d less. registry_lists setup.clients setup.managers 0 what (registry_step node what).node.board _ _ (sends.sends i d less));
+      keeps = all_set Keeps nodes place y good.keeps tt;
       logs = one;
     }
       where
@@ -313,42 +348,10 @@ module _ (laws : NodeLaws) (base : Setting) (end : World AnyNode) (setup : Setup
         sends : board.RegistryGoes 0 node what
         sends = laws.tokens.registry 0 (omega arith) node (sound node (named Registry _ at is)) what
 
-        owed : (r : Role) (l : (v : Scene) × Stands (g r) r v k nodes sent (told (log_by r))) (x : Do) → what ≡ x
-            → Hears (g r) (asker_by r l.0) l.0.net x
-        owed r l Begin same = tt
-        owed r l Tick same = tt
-        owed r l (Deliver q) same = l.1.facts q (gets q same).0
-
-        -- of a log of which horizons tell
-        low_goes : (r : Role) (h : There r) → renews r ≡ false → log_by r ≤ 9
-            → RegistryGoes (g r) (asker_by r (good.logs r h).0) (good.logs r h).0.net node what
-        low_goes r h keeps few_ =
-            laws.registry (g r) (asker_by r l.0) l.0.net node what few_ (l.1.seen Registry (any.Registry node) (named Registry _ at is)) (owed r l what refl)
-            (record {
-              named = known.named (registry_step node what).node.board (ap board_of after) r;
-              filed = filed (known.reached (registry_step node what).node.board (ap board_of after) r h keeps);
-            })
-          where
-            l : (v : Scene) × Stands (g r) r v k nodes sent (told (log_by r))
-            l = good.logs r h
-
-            low : 1 ≤ l.0.net.low
-            low = (run_later (g r) (opening (g r) l.1.moment.map) l.0.net l.1.moment.run).low
-
-            filed : Reached (told (log_by r) ++ (if owns (log_by r) Registry then (registry_step node what).acts else []))
-                (low_of (g r) (registry_step node what).node.board)
-                → IsFiled l.0.net (low_of (g r) (registry_step node what).node.board)
-            filed (inl lowest) = inl (let m = low in omega arith)
-            filed (inr f) = inr (f.0, ⊎_elim (λ h_. l.1.filed f.0 h_) (λ h_. absurd h_) (in_append (told (log_by r)) [] (act.Filed f.0) f.1), f.2)
-
         goes : (r : Role) (h : There r) → RegistryGoes (g r) (asker_by r (good.logs r h).0) (good.logs r h).0.net node what
-        goes (OfClient c) h = low_goes (OfClient c) h refl (let m = goods.eight laws base end setup ok few c h.1 in omega arith)
-        goes OfCleaner h = low_goes OfCleaner h refl (omega arith)
-        goes (OfManager j) h =
-            (let l = good.logs (OfManager j) h in
-            laws.registry_above (g (OfManager j)) (asker_by (OfManager j) l.0) l.0.net node what (high_log j h.0)
-            (l.1.seen Registry (any.Registry node) (named Registry _ at is)) (owed (OfManager j) l what refl)
-            (known.named (registry_step node what).node.board (ap board_of after) (OfManager j)))
+        goes = registry_goes laws base end setup ok few nodes sent told good what (λ q same. (gets q same).0) node (named Registry _ at is)
+            (known.named (registry_step node what).node.board (ap board_of after))
+            (known.reached (registry_step node what).node.board (ap board_of after))
 
         one : (r : Role) → Now Registry (any.Registry node) r
         one r h =
@@ -367,7 +370,9 @@ module _ (laws : NodeLaws) (base : Setting) (end : World AnyNode) (setup : Setup
       fits = all_fit packets
           (manager_log_events.all_fit laws base end setup few j b.some nodes sent (told (log_by (OfManager j))) place clock what good.fits gets
           at node is own);
-      holds = all_still nodes place (any.Manager (manager_step node what).node) good.holds tt;
+      holds = all_set NodeHolds nodes place (any.Manager (manager_step node what).node) good.holds tt;
+      ours = all_ours packets (stores (OfManager j) there packets may all_own);
+      keeps = all_set Keeps nodes place (any.Manager (manager_step node what).node) good.keeps tt;
       logs = by_owner;
     }
       where
@@ -389,13 +394,17 @@ module _ (laws : NodeLaws) (base : Setting) (end : World AnyNode) (setup : Setup
             ∙ ap Manager
             (manager_log_events.number laws base end setup few j b.some nodes sent (told (log_by (OfManager j))) place clock what good.fits gets at node is own)
 
+        may : All (λ (p : Packet). MaySay (Manager j) p.body) packets
+        may = all_say (Manager j) packets from known.says
+
+        all_own : All (λ (p : Packet). OfLog (log_by (OfManager j)) p.body) packets
+        all_own = manager_log_events.all_own laws base end setup few j b.some nodes sent (told (log_by (OfManager j))) place clock what good.fits gets at node is
+            own
+
         away : (r : Role) → (log_by (OfManager j) ≡ log_by r → ⊥) → (owner_by r ≡ Manager j → ⊥)
             → owns (log_by r) (Manager j) ≡ (log_by (OfManager j) == log_by r)
             → ((w : Scene) → Seen (g r) r w (Manager j) (any.Manager (manager_step node what).node)) → Now (Manager j) (any.Manager node) r
-        away = apart (Manager j) (log_by (OfManager j)) at (any.Manager node) is from (all_say (Manager j) packets from known.says)
-            (manager_log_events.all_own laws base end setup few j b.some nodes sent
-            (told (log_by (OfManager j))) place clock what good.fits gets at node is own)
-            (λ r w generation. tt)
+        away = apart (Manager j) (log_by (OfManager j)) at (any.Manager node) is from may all_own (λ r w generation. tt)
 
         by_owner : (r : Role) → Now (Manager j) (any.Manager node) r
         by_owner (OfClient c) h = away (OfClient c)
@@ -427,7 +436,9 @@ module _ (laws : NodeLaws) (base : Setting) (end : World AnyNode) (setup : Setup
           let p : Packet = get_or packets i d_ in
           client_sends p.to p.body (may i d_ less).0 (may i d_ less).1 (All-from_recursion (PacketTold in_range) packets tells.packets i d_ less)
           (client_log_events.all_stored laws base end setup few d b.some eight nodes sent (told d) place clock what good.fits gets at node is own i d_ less));
-      holds = all_still nodes place (any.Client (client_step node what).node) good.holds tells.node;
+      holds = all_set NodeHolds nodes place (any.Client (client_step node what).node) good.holds tells.node;
+      ours = all_ours packets (stores (OfClient d) there packets (λ i d_ less. (may i d_ less).0) all_own);
+      keeps = all_set Keeps nodes place (any.Client (client_step node what).node) good.keeps tt;
       logs = by_owner;
     }
       where
@@ -454,15 +465,16 @@ module _ (laws : NodeLaws) (base : Setting) (end : World AnyNode) (setup : Setup
         may : All (λ (p : Packet). MaySay (Client d) p.body) packets
         may = all_say (Client d) packets from known.says
 
+        all_own : All (λ (p : Packet). OfLog d p.body) packets
+        all_own = client_log_events.all_own laws base end setup few d b.some eight nodes sent (told d) place clock what good.fits gets at node is own
+
         tells : TellsTold (ClientHolds in_range) in_range (client_step node what)
         tells = client_log_events.client_told laws base end setup few d b.some eight nodes sent (told d) place clock what good.fits gets at node is own
-            (held_at nodes place (any.Client node) good.holds is) (comes (Client d) gets)
+            (all_at NodeHolds nodes place (any.Client node) good.holds is) (comes (Client d) gets)
 
         away : (r : Role) → (d ≡ log_by r → ⊥) → (owner_by r ≡ Client d → ⊥) → owns (log_by r) (Client d) ≡ (d == log_by r)
             → ((w : Scene) → Seen (g r) r w (Client d) (any.Client (client_step node what).node)) → Now (Client d) (any.Client node) r
-        away = apart (Client d) d at (any.Client node) is from (λ i d_ less. (may i d_ less).0)
-            (client_log_events.all_own laws base end setup few d b.some eight nodes sent (told d) place clock what good.fits gets at node is own)
-            (λ r w generation. tt)
+        away = apart (Client d) d at (any.Client node) is from (λ i d_ less. (may i d_ less).0) all_own (λ r w generation. tt)
 
         by_owner : (r : Role) → Now (Client d) (any.Client node) r
         by_owner (OfClient c) h = ⊎_elim (λ same. subst (λ n. Now (Client d) (any.Client node) (OfClient n)) same mine h)

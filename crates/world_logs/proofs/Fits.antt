@@ -1,5 +1,5 @@
 -- The numbers of all that is sent in a run are in the ranges of their types, and the fragments that servers hold are bytes.
-use Rattle.std.proofs.Common.{◌≡◌, ℕ, ◌==◌, true, List, [], ◌∷◌, Some, slice_get, slice_set, zero, suc, inl, sym, ap, subst}
+use Rattle.std.proofs.Common.{◌≡◌, ℕ, ◌==◌, true, List, inl, sym, ap, subst}
 use Rattle.std.specs.List.{AllByRecursion}
 use Rattle.cleaner_log_tie.specs.Fitting as cleaner_fits
 use Rattle.client_log_tie.specs.ClientEvents.{BodyFits, OfItsLog}
@@ -172,19 +172,6 @@ NodeHolds (any.Registry node) = Unit {0}
 
 abbrev pub AllHold : List AnyNode → Type 0
 AllHold nodes = AllByRecursion NodeHolds nodes
-
-pub held_at : (nodes : List AnyNode) (place : ℕ) (x : AnyNode) → AllHold nodes → slice_get nodes place ≡ Some x → NodeHolds x
-held_at [] place x all is = absurd cc
-held_at (y ∷ nodes) zero x all is = subst NodeHolds (same y x is) all.0
-  where
-    same : (y x : AnyNode) → Some y ≡ Some x → y ≡ x
-    same y x e = cc
-held_at (y ∷ nodes) (suc place) x all is = held_at nodes place x all.1 is
-
-pub all_still : (nodes : List AnyNode) (place : ℕ) (y : AnyNode) → AllHold nodes → NodeHolds y → AllHold (slice_set nodes place y)
-all_still [] place y all new = tt
-all_still (x ∷ nodes) zero y all new = (new, all.1)
-all_still (x ∷ nodes) (suc place) y all new = (all.0, all_still nodes place y all.1 new)
 
 -- ---- what comes
 

@@ -6,9 +6,9 @@ use Rattle.cleaner_node.specs.EmptyingEvents.{cleaner_log}
 use Rattle.cleaner_node.specs.declared.cleaner.Phase.{Phase as CleanerPhase}
 use Rattle.cleaner_node.specs.declared.cleaner.Phase.TheVariants as cleaners
 use Rattle.client_log_tie.specs.Owner.{Scene, ClientAgrees, LastsAs, MapCame, SeesStage}
-use Rattle.client_node.specs.declared.lasting.Lasting.{Lasting}
-use Rattle.client_node.specs.declared.phase.Phase.{Phase}
 use Rattle.client_node.specs.declared.phase.Phase.TheVariants as clients
+use Rattle.client_node.specs.declared.phase.Phase.{Phase}
+use Rattle.client_parts.specs.declared.lasting.Lasting.{Lasting}
 use Rattle.group_map.specs.GroupMapState.{GroupMapState}
 use Rattle.log_law.specs.Net.{Net}
 use Rattle.log_law.specs.Openings.{next_number}

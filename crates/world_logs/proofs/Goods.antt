@@ -1,5 +1,5 @@
 -- How all logs stand at a moment of a run, and what is known of it besides.
-use Rattle.std.proofs.Common.{◌≡◌, ⊎_elim, ◌^◌, ℕ, ◌≤◌, ◌<◌, false, List, ◌++◌, Some, map, get_or, arith}
+use Rattle.std.proofs.Common.{◌≡◌, ⊎_elim, ◌^◌, ℕ, ◌≤◌, ◌<◌, Bool, true, false, List, ◌++◌, Some, map, get_or, refl, subst, arith}
 use Rattle.std.specs.Prelude.{All}
 use Rattle.cleaner_log_tie.specs.OwnerEvents.{OwnerStarts, OwnerTakes}
 use Rattle.client_log_tie.specs.ClientEvents.{ClientStarts, ClientTakes}
@@ -10,6 +10,7 @@ use Rattle.log_law.specs.Held.{WhatIsHeldFlew}
 use Rattle.log_law.specs.Openings.{FliesNext, OpeningsGoOn}
 use Rattle.log_law.specs.ReadBack.{OpeningsReadDown}
 use Rattle.log_tie.specs.Setting.{Setting}
+use Rattle.manager_log_tie.specs.Listing.{CarriesOf, ComesOf, ServersListWhatWasStored, ServersStartBare}
 use Rattle.manager_log_tie.specs.OwnerEvents.{ManagerStarts, ManagerTakes}
 use Rattle.manager_log_tie.specs.Servers.{ServersStartEmpty, ServersTellBytes}
 use Rattle.manager_log_tie.specs.Told.{WhatIsToldIsInRange}
@@ -21,6 +22,8 @@ use Rattle.node_log_tie.specs.ServerEvents.{SentMapsName, ServerEventGoes, Serve
 use Rattle.registry.specs.BoardState.{BoardState}
 use Rattle.token_protocol.specs.Basics.{In}
 use Rattle.version_model.specs.declared.act.Act.{Act}
+use Rattle.wire_msg.specs.declared.packet.Do.{Do}
+use Rattle.wire_msg.specs.declared.packet.Do.TheVariants.{Begin, Deliver, Tick}
 use Rattle.wire_msg.specs.declared.packet.Packet.{Packet}
 use Rattle.world_base.specs.Cluster.{cluster_of, place_of}
 use Rattle.world_base.specs.declared.cluster.Cluster.{Cluster}
@@ -29,8 +32,9 @@ use Rattle.world_base.specs.NextWorld.{sent_at}
 use Rattle.world_law.proofs.Laws as tokens
 use Rattle.world_law.proofs.Sent.{at_clock, in_append, in_get}
 use Rattle.world_law.specs.Owners.{node_in}
-use Rattle.world_logs.proofs.Fits.{AllHold, PacketFits}
+use Rattle.world_logs.proofs.Fits.{AllHold, DoFits, PacketFits}
 use Rattle.world_logs.proofs.Leading.{stands_still}
+use Rattle.world_logs.proofs.Listing.{AllKeep, has_owner, its_owner}
 use Rattle.world_logs.proofs.Lists.{in_after, in_map}
 use Rattle.world_logs.proofs.Roles.{managers_log}
 use Rattle.world_logs.specs.Roles.{IsThere, Role, log_by, renews}
@@ -44,6 +48,7 @@ use Rattle.world_logs.specs.Horizons.{Reached, board_of}
 use Rattle.world_logs.specs.Shelves.{group_at}
 use Rattle.xfs_base.specs.declared.node.NodeId.{NodeId}
 use Rattle.xfs_base.specs.declared.node.NodeId.TheVariants.{Registry}
+use Rattle.xfs_base.specs.declared.segment.LogId.{LogId}
 use Rattle.xfs_base.specs.declared.setup.Setup.{Setup}
 
 -- the laws of the nodes, each of its kind
@@ -66,6 +71,8 @@ pub record NodeLaws : Type 0 where
   pub manager : ManagerTakes
   pub servers_start : ServersStartEmpty
   pub servers_tell : ServersTellBytes
+  pub servers_bare : ServersStartBare
+  pub servers_list : ServersListWhatWasStored
   -- of the small world: behind what an opening tells a log goes on, and that goes down to the horizon; what begins to fly is next, what is held flew, and what
   -- is told is bytes
   pub goes_on : OpeningsGoOn
@@ -85,11 +92,17 @@ module _ (laws : NodeLaws) (base : Setting) (end : World AnyNode) (setup : Setup
   abbrev pub There : Role → Type 0
   There r = IsThere setup.clients setup.managers r
 
+  -- the logs of the run
+  abbrev pub owned : LogId → Bool
+  owned log = has_owner setup.clients setup.managers log
+
   -- ---- how all logs stand at a moment
 
   pub record Good (nodes : List AnyNode) (sent : List Packet) (told : ℕ → List Act) : Type 0 where
     pub fits : (q : Packet) → In q sent → PacketFits q.to q.body
     pub holds : AllHold nodes
+    pub ours : (q : Packet) → In q sent → CarriesOf owned q.body
+    pub keeps : AllKeep setup.clients setup.managers nodes
     pub logs : (r : Role) → There r → (v : Scene) × Stands (g r) r v k nodes sent (told (log_by r))
 
   -- what each owner did may be said otherwise
@@ -97,6 +110,8 @@ module _ (laws : NodeLaws) (base : Setting) (end : World AnyNode) (setup : Setup
   good_so nodes sent a b same h = record {
     fits = h.fits;
     holds = h.holds;
+    ours = h.ours;
+    keeps = h.keeps;
     logs = λ r there. (
       (h.logs r there).0,
       stands_so (g r) r (h.logs r there).0 k nodes sent (a (log_by r)) (b (log_by r)) (same (log_by r)) (h.logs r there).1,
@@ -111,6 +126,8 @@ module _ (laws : NodeLaws) (base : Setting) (end : World AnyNode) (setup : Setup
     pub record Leads (later : List AnyNode) (more : List Packet) (now : ℕ → List Act) : Type 0 where
       pub fits : (q : Packet) → In q more → PacketFits q.to q.body
       pub holds : AllHold later
+      pub ours : (q : Packet) → In q more → CarriesOf owned q.body
+      pub keeps : AllKeep setup.clients setup.managers later
       pub logs : (r : Role) → Led later more now r
 
     -- what each owner did may be said otherwise
@@ -118,6 +135,8 @@ module _ (laws : NodeLaws) (base : Setting) (end : World AnyNode) (setup : Setup
     leads_so later more a b same l = record {
       fits = l.fits;
       holds = l.holds;
+      ours = l.ours;
+      keeps = l.keeps;
       logs = λ r h.
           next_so (g r) r (good.logs r h).0 (good.logs r h).1.moment name k later more (a (log_by r)) (b (log_by r)) (same (log_by r)) (l.logs r h);
     }
@@ -127,6 +146,8 @@ module _ (laws : NodeLaws) (base : Setting) (end : World AnyNode) (setup : Setup
     still = record {
       fits = good.fits;
       holds = good.holds;
+      ours = good.ours;
+      keeps = good.keeps;
       logs = λ r h. record {
         scene = (good.logs r h).0;
         stands = (good.logs r h).1;
@@ -135,7 +156,13 @@ module _ (laws : NodeLaws) (base : Setting) (end : World AnyNode) (setup : Setup
     }
 
     abbrev pub led : (later : List AnyNode) (more : List Packet) (now : ℕ → List Act) → Leads later more now → Good later more now
-    led later more now l = record { fits = l.fits; holds = l.holds; logs = λ r h. ((l.logs r h).scene, (l.logs r h).stands) }
+    led later more now l = record {
+      fits = l.fits;
+      holds = l.holds;
+      ours = l.ours;
+      keeps = l.keeps;
+      logs = λ r h. ((l.logs r h).scene, (l.logs r h).stands);
+    }
 
   -- what is known of a moment besides: who may have sent what, that the registry's groups are those of the end, and that its horizons were filed
   pub record Known (nodes : List AnyNode) (sent : List Packet) (told : ℕ → List Act) : Type 0 where
@@ -168,3 +195,33 @@ module _ (laws : NodeLaws) (base : Setting) (end : World AnyNode) (setup : Setup
     all_fit packets all q h = ⊎_elim (λ old. good.fits q old)
         (λ new. at_clock clock (λ (p : Packet). PacketFits p.to p.body) (λ (p : Packet). PacketFits p.to p.body) (λ p f. f) packets all q new)
         (in_append sent (map (sent_at clock) packets) q h)
+
+    -- what is stored and listed is of the logs of the run
+    pub all_ours : (packets : List Packet) → All (λ (p : Packet). CarriesOf owned p.body) packets → (q : Packet)
+        → In q (sent ++ map (sent_at clock) packets)
+        → CarriesOf owned q.body
+    all_ours packets all q h = ⊎_elim (λ old. good.ours q old)
+        (λ new. at_clock clock (λ (p : Packet). CarriesOf owned p.body) (λ (p : Packet). CarriesOf owned p.body) (λ p f. f) packets all q new)
+        (in_append sent (map (sent_at clock) packets) q h)
+
+    -- what comes is in range
+    pub what_fits : (name : NodeId) (what : Do) → ((q : Packet) → what ≡ Deliver q → In q sent × (q.to ≡ name)) → DoFits name what
+    what_fits name what gets = by what refl
+      where
+        by : (x : Do) → what ≡ x → DoFits name x
+        by Begin same = tt
+        by (Deliver q) same = (let h = gets q same in subst (λ to. PacketFits to q.body) h.1 (good.fits q h.0))
+        by Tick same = tt
+
+    -- and stores and lists fragments of the logs of the run
+    pub what_comes : (what : Do) → ((q : Packet) → what ≡ Deliver q → In q sent) → ComesOf owned what
+    what_comes what gets = by what refl
+      where
+        by : (x : Do) → what ≡ x → ComesOf owned x
+        by Begin same = tt
+        by (Deliver q) same = good.ours q (gets q same)
+        by Tick same = tt
+
+  -- an owner of a log of the run
+  pub owns_one : (r : Role) → There r → owned (record { 0 = log_by r }) ≡ true
+  owns_one r there = its_owner setup.clients setup.managers ok.managers.1 r there

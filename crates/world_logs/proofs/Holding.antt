@@ -8,9 +8,9 @@ use Rattle.cleaner_node.specs.declared.cleaner.Phase.TheVariants as cleaners
 use Rattle.cleaner_node.specs.EmptyingEvents.{cleaner_log}
 use Rattle.client_log.specs.LogState.{FlightState, LogState}
 use Rattle.client_log_tie.specs.Owner.{ClientAgrees, Scene, SeesStage}
-use Rattle.client_node.specs.declared.phase.Phase.{Phase}
 use Rattle.client_node.specs.declared.phase.Phase.TheVariants as clients
-use Rattle.client_node.specs.Flights.{log_of}
+use Rattle.client_node.specs.declared.phase.Phase.{Phase}
+use Rattle.client_parts.specs.Lasting.{log_of}
 use Rattle.entry_tie.specs.CleanerTells as cleaner_tells
 use Rattle.entry_tie.specs.ClientTells as client_tells
 use Rattle.entry_tie.specs.ClientTells.{FlightOwed, SegmentOwed, StageOwed}

@@ -10,9 +10,13 @@ use Rattle.group_map.specs.Groups as groups
 use Rattle.log_law.specs.Laws.{LogsStayWhole, OneNameOneText}
 use Rattle.log_tie.specs.Exist.{SomeSetting}
 use Rattle.log_tie.specs.Setting.{Setting, server_of}
+use Rattle.log_protocol.specs.Tables.{In}
 use Rattle.node_base.specs.Setups.{IsSetup}
 use Rattle.node_log_tie.specs.RegistryEvents.{NamesGroups}
 use Rattle.store_nodes.specs.RegistryEvents.{registry_start}
+use Rattle.wire_msg.specs.declared.body.Body.TheVariants as body
+use Rattle.wire_msg.specs.declared.packet.Packet.{Packet}
+use Rattle.wire_msg.specs.declared.storage.Listed.{Listed}
 use Rattle.world_base.specs.Cluster.{cluster_of, place_of}
 use Rattle.world_base.specs.declared.cluster.Cluster.{Cluster}
 use Rattle.world_base.specs.declared.estate.Estate.{Estate}
@@ -27,8 +31,11 @@ use Rattle.world_law.specs.Owners.{moment, node_in, node_named}
 use Rattle.world_logs.proofs.Fronts.{From, Steps, front_good, front_steps, named_so}
 use Rattle.world_logs.proofs.Goods.{Good, NodeLaws}
 use Rattle.world_logs.proofs.Groups.{GroupsStay, board_has_map, first_map, in_run, map_in_run}
+use Rattle.world_logs.proofs.Listing.{listed_of, owner_of, start_keeps}
 use Rattle.world_logs.specs.Lines.{IsBegun}
+use Rattle.world_logs.proofs.Lists.{in_listed}
 use Rattle.world_logs.specs.Lines.{HasLines, Line, RunsHaveLines}
+use Rattle.world_logs.specs.Listing.{HasOwner, RunsListTheirLogs}
 use Rattle.world_logs.proofs.Reading.{has_text, is_whole, members_exist}
 use Rattle.world_logs.specs.Roles.{IsThere, Role, log_by, renews}
 use Rattle.world_logs.specs.Roles.Role.{OfClient, OfCleaner, OfManager}
@@ -39,6 +46,7 @@ use Rattle.world_logs.specs.Doings.{did}
 use Rattle.world_logs.specs.Logs.{CleanersLogStands, LogStands, LogsStand, ManagersLogsStand}
 use Rattle.world_logs.specs.Horizons.{HorizonsReached, IsOpened, RunsReachHorizons, board_of}
 use Rattle.world_logs.specs.Shelves.{group_at, shelf_at, shelf_of}
+use Rattle.xfs_base.specs.declared.fragment.FragMeta.{FragMeta}
 use Rattle.xfs_base.specs.declared.node.NodeId.TheVariants.{Server, Registry}
 use Rattle.xfs_base.specs.declared.setup.Setup.{Setup}
 
@@ -113,6 +121,8 @@ module _ (laws : NodeLaws) (stay : GroupsStay) (base : Setting) (e : Estate AnyN
   first_good = record {
     fits = λ q h. absurd h;
     holds = start_holds laws.servers_start e.script;
+    ours = λ q h. absurd h;
+    keeps = start_keeps setup.clients setup.managers laws.servers_bare e.script;
     logs = λ r there. (
       first_scene laws.client_starts laws.owner_starts laws.manager_starts laws.server_starts laws.cleaner_starts laws.registry_starts e.script ok
           (g r) r (refl, refl) refl there (first_named r),
@@ -129,6 +139,13 @@ module _ (laws : NodeLaws) (stay : GroupsStay) (base : Setting) (e : Estate AnyN
 
   abbrev good_at : (count : ℕ) → Good laws base e.world setup ok few (moment e count).nodes (moment e count).sent (λ c. did e c count)
   good_at count = front_good laws stay base e.world setup ok few e.events count Start (λ c. []) from_start first_good
+
+  -- what a server lists is of a log of the run
+  pub lists : (count : ℕ) (p : Packet) (m : Listed) → In p (moment e count).sent → p.body ≡ body.Listed m → (meta : FragMeta) → In meta m.held
+      → HasOwner setup.clients setup.managers meta.name.log
+  lists count p m among is meta held =
+      owner_of setup.clients setup.managers ok.managers.1 meta.name.log
+      (listed_of setup.clients setup.managers p.body m is ((good_at count).ours p (in_listed (moment e count).sent p among)) meta held)
 
   steps : (count : ℕ) (r : Role) (h : There r)
       → Steps laws stay base e.world setup ok few r (slice_get e.events count) ((good_at count).logs r h).0 ((good_at count).logs r h).1.moment
@@ -151,6 +168,9 @@ module _ (laws : NodeLaws) (stay : GroupsStay) (base : Setting) (e : Estate AnyN
 
 pub runs_have_lines : NodeLaws → GroupsStay → RunsReachHorizons → RunsHaveLines
 runs_have_lines laws stay horizons base e ok run = lines laws stay base e ok run (horizons e ok run)
+
+pub runs_list_their_logs : Below → RunsReachHorizons → RunsListTheirLogs
+runs_list_their_logs below horizons e ok run = lists below.nodes below.groups below.setting.0 e ok run (horizons e ok run)
 
 -- ---- what each line says
 

@@ -12,6 +12,7 @@ pub mod Groups
 pub mod Room
 pub mod Says
 pub mod Fits
+pub mod Listing
 pub mod Holding
 pub mod Owed
 pub mod Start
@@ -19,6 +20,7 @@ pub mod Goods
 pub mod CleanerEvents
 pub mod ClientEvents
 pub mod ManagerEvents
+pub mod RegistryEvents
 pub mod Events
 pub mod Fronts
 pub mod Reading

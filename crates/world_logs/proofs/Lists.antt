@@ -1,5 +1,6 @@
--- Members of lists that grow.
-use Rattle.std.proofs.Common.{suc, List, [], ◌∷◌, ◌++◌, Some, map, sym, ap, inl, inr}
+-- Members of lists that grow, and what holds of all of a list.
+use Rattle.std.proofs.Common.{◌≡◌, ℕ, zero, suc, List, [], ◌∷◌, ◌++◌, Some, map, slice_get, slice_set, sym, ap, subst, inl, inr}
+use Rattle.std.specs.List.{AllByRecursion}
 use Rattle.log_protocol.specs.Tables as tables
 use Rattle.token_protocol.specs.Basics.{In}
 use Rattle.wire_msg.specs.declared.packet.Packet.{Packet}
@@ -29,3 +30,18 @@ pub in_was : (sent : List Packet) (p : Packet) → In p sent → WasSent sent p
 in_was [] p h = absurd h
 in_was (x ∷ sent) p (inl e) = (0, ap Some (sym e))
 in_was (x ∷ sent) p (inr h) = (let w = in_was sent p h in (suc w.0, w.1))
+
+-- what is at a place, and where another is put there
+module _ {X : Type 0} (P : X → Type 0) where
+  same_item : (y x : X) → Some y ≡ Some x → y ≡ x
+  same_item y x e = cc
+
+  pub all_at : (xs : List X) (place : ℕ) (x : X) → AllByRecursion P xs → slice_get xs place ≡ Some x → P x
+  all_at [] place x all is = absurd cc
+  all_at (y ∷ xs) zero x all is = subst P (same_item y x is) all.0
+  all_at (y ∷ xs) (suc place) x all is = all_at xs place x all.1 is
+
+  pub all_set : (xs : List X) (place : ℕ) (y : X) → AllByRecursion P xs → P y → AllByRecursion P (slice_set xs place y)
+  all_set [] place y all new = tt
+  all_set (x ∷ xs) zero y all new = (new, all.1)
+  all_set (x ∷ xs) (suc place) y all new = (all.0, all_set xs place y all.1 new)

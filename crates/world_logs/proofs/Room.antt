@@ -15,10 +15,10 @@ use Rattle.client_log.specs.Transition.{has_next}
 use Rattle.client_log_tie.specs.ClientEvents.{ClientGoes, FliesInBoot}
 use Rattle.client_log_tie.specs.Owner.{Scene, ClientAgrees, SeesStage}
 use Rattle.client_node.specs.declared.client.Client.{Client as ClientNode}
-use Rattle.client_node.specs.declared.phase.Phase.{Phase}
 use Rattle.client_node.specs.declared.phase.Phase.TheVariants as clients
-use Rattle.client_node.specs.Packets.{epochs_room}
+use Rattle.client_node.specs.declared.phase.Phase.{Phase}
 use Rattle.client_node.specs.Phases.{client_room, client_step, happens, lasting_of, phase_room, takes}
+use Rattle.client_parts.specs.Promises.{epochs_room}
 use Rattle.log_law.specs.Events.{Runs}
 use Rattle.log_law.specs.Laws.{Moment}
 use Rattle.log_law.specs.Net.{Net, Owner}

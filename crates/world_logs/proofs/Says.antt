@@ -48,6 +48,7 @@ SaidByServer _ = Unit {0}
 -- what is not the cleaner's
 abbrev pub SaidByCleaner : Body → Type 0
 SaidByCleaner (body.Fragment m) = ⊥
+SaidByCleaner (body.Listed m) = ⊥
 SaidByCleaner (body.Grant m) = ⊥
 SaidByCleaner (body.Live m) = ⊥
 SaidByCleaner (body.Welcome m) = ⊥
@@ -100,6 +101,7 @@ server_may _ h = tt
 
 cleaner_may : (part promised life : ℕ) (m : Body) → CleanerSends part promised life m → SaidByCleaner m
 cleaner_may part promised life (body.Fragment m) h = h
+cleaner_may part promised life (body.Listed m) h = h
 cleaner_may part promised life (body.Grant m) h = h
 cleaner_may part promised life (body.Live m) h = h
 cleaner_may part promised life (body.Welcome m) h = h

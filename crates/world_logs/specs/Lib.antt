@@ -6,3 +6,4 @@ pub mod Roles
 pub mod Settings
 pub mod Standing
 pub mod Lines
+pub mod Listing

@@ -5,6 +5,7 @@
 
 ghost use Rattle.world_logs.specs.Horizons.{RunsReachHorizons};
 ghost use Rattle.world_logs.specs.Lines.{LinesHaveTexts, RunsHaveLines};
+ghost use Rattle.world_logs.specs.Listing.{RunsListTheirLogs};
 ghost use Rattle.world_logs.specs.Logs.{RunsKeepLogs, RunsKeepManagersLogs, RunsKeepTheCleanersLog};
 
 use cleaner_log_tie::cleaner_log_events_are_seen;
@@ -19,7 +20,8 @@ use log_law::{
 };
 use log_tie::settings_exist;
 use manager_log_tie::{
-    manager_log_events_are_seen, what_is_told_is_in_range, what_servers_tell_is_bytes,
+    manager_log_events_are_seen, servers_list_what_was_stored, what_is_told_is_in_range,
+    what_servers_tell_is_bytes,
 };
 use node_log_tie::{cleaner_events_are_seen, registry_events_are_seen, server_events_are_seen};
 use node_tie::{
@@ -38,6 +40,7 @@ use node_tie::{
 /// - `managers`: so is the log of each manager, which begins anew wherever the manager restarts.
 /// - `lines`: each of these logs has a line in such a run: its small world at each count of the events, each of which runs on to the next, by its owner alone
 ///   at an event of its owner.
+/// - `lists`: what a server lists in such a run is of a log of the run's clients, of its cleaner or of its managers.
 /// - `texts`: lines have one text of each name: that of each segment of the name that was in flight in any log, at any count.
 pub fn runs_keep_logs()
     ensures horizons { RunsReachHorizons }
@@ -45,6 +48,7 @@ pub fn runs_keep_logs()
     ensures cleaners { RunsKeepTheCleanersLog }
     ensures managers { RunsKeepManagersLogs }
     ensures lines { RunsHaveLines }
+    ensures lists { RunsListTheirLogs }
     ensures texts { LinesHaveTexts }
 {
     clients_ask_for_their_call();
@@ -63,6 +67,7 @@ pub fn runs_keep_logs()
     cleaner_log_events_are_seen();
     manager_log_events_are_seen();
     what_servers_tell_is_bytes();
+    servers_list_what_was_stored();
     what_is_told_is_in_range();
     what_is_held_flew();
     groups_stay_as_made();

@@ -1,7 +1,7 @@
 use Rattle.world_law.proofs.Laws.{NodeLaws}
 use Rattle.world_logs.proofs.Horizons.{horizons_reached}
 use Rattle.world_logs.proofs.Texts.{texts_of}
-use Rattle.world_logs.proofs.Laws.{Below, cleaners_log_stands, logs_stand, managers_logs_stand, runs_have_lines}
+use Rattle.world_logs.proofs.Laws.{Below, cleaners_log_stands, logs_stand, managers_logs_stand, runs_have_lines, runs_list_their_logs}
 use Rattle.world_logs.specs.Lines.{RunsHaveLines}
 use Rattle.world_logs.proofs.runs_keep_logs.Goals as goal
 use Rattle.world_logs.specs.Horizons.{RunsReachHorizons}
@@ -60,6 +60,8 @@ returns c =
         manager = c.manager_log_events_are_seen.ensures.events;
         servers_start = c.what_servers_tell_is_bytes.ensures.start;
         servers_tell = c.what_servers_tell_is_bytes.ensures.events;
+        servers_bare = c.servers_list_what_was_stored.ensures.start;
+        servers_list = c.servers_list_what_was_stored.ensures.events;
         goes_on = c.openings_go_on.ensures.on;
         reads_down = c.a_reopening_reads_back.ensures.down;
         flies = c.openings_go_on.ensures.flies;
@@ -75,6 +77,7 @@ returns c =
     record {
       horizons = horizons;
       lines = lines;
+      lists = runs_list_their_logs below horizons;
       texts = λ base e ok all. texts_of below.text c.what_is_held_flew.ensures.own base e ok all;
       keeps = λ e ok run. logs_stand below e ok run (lines below.setting.0 e ok run);
       cleaners = λ e ok run. cleaners_log_stands below e ok run (lines below.setting.0 e ok run);
