@@ -3,8 +3,8 @@ use Rattle.std.proofs.Common.{◌≡◌, ℕ, zero, suc, ◌+◌, ◌-◌, ◌�
 use Rattle.std.proofs.lemmas.Bool.Decides.{nat_tests}
 use Rattle.std.proofs.lemmas.Option.{unwrap_or-slice_get}
 use Rattle.cleaner_node.specs.declared.emptying.Emptying.{Emptying}
-use Rattle.client_node.specs.declared.serving.Serving.{Serving}
 use Rattle.client_node.specs.declared.phase.Phase.TheVariants as clients
+use Rattle.client_serving.specs.declared.serving.Serving.{Serving}
 use Rattle.cleaner_node.specs.declared.cleaner.Phase.TheVariants as cleaning
 use Rattle.core_world.specs.declared.any_node.AnyNode.{AnyNode}
 use Rattle.index_tie.proofs.Takeovers.{of_log_in}

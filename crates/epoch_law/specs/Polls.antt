@@ -4,7 +4,7 @@ use Rattle.checkpoint.specs.WriterState.{Rows}
 use Rattle.cleaner_node.specs.declared.cleaner.Phase.TheVariants as cleaning
 use Rattle.cleaner_node.specs.declared.emptying.Emptying.{Emptying}
 use Rattle.client_node.specs.declared.phase.Phase.TheVariants as clients
-use Rattle.client_node.specs.declared.serving.Serving.{Serving}
+use Rattle.client_serving.specs.declared.serving.Serving.{Serving}
 use Rattle.core_world.specs.declared.any_node.AnyNode.{AnyNode}
 use Rattle.index_tie.specs.Net.{Net, Runs, opening}
 use Rattle.index_tie.specs.Takeovers.{of_log}

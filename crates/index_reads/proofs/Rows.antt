@@ -10,7 +10,7 @@ use Rattle.xfs_base.specs.Blocks.{same_block}
 use Rattle.xfs_base.specs.declared.block.BlockId.{BlockId}
 use Rattle.xfs_base.specs.declared.entry.Entry.{Entry}
 use Rattle.xfs_base.specs.declared.entry.Place.{Place}
-use Rattle.client_node.specs.Reads.{value_in}
+use Rattle.client_parts.specs.Reads.{value_in}
 use Rattle.delta_index.specs.Entries.{no_entry, first_greatest}
 use Rattle.delta_index.specs.Join.{join}
 use Rattle.delta_index.proofs.EntryAlgebra.{first_greatest-none, first_greatest-newer}

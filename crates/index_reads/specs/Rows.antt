@@ -1,7 +1,7 @@
 -- What a segment says of a block, as the small world of tokens has it, a version and a value, and as that of the index has it, a version and where it lies.
 use Rattle.std.specs.Prelude.{◌≡◌, ◌<◌, ◌≤◌, ℕ, List, Option, Some, None, Contains, length}
 use Rattle.std.specs.List.{AllByRecursion}
-use Rattle.client_node.specs.Reads.{value_at}
+use Rattle.client_parts.specs.Reads.{value_at}
 use Rattle.index_tie.specs.Growth.{said_of}
 use Rattle.node_tie.specs.LogRows.{rows_told}
 use Rattle.segment_format.specs.Rows.{rows_of}

@@ -2,9 +2,9 @@
 use Rattle.std.proofs.Common.{ℕ, ◌&&◌, not, List, [], ◌∷◌}
 use Rattle.std.specs.Prelude.{fold}
 use Rattle.client_log.specs.LogState.{LogState}
-use Rattle.client_node.specs.declared.serving.Serving.{Serving}
-use Rattle.client_node.specs.Flights.{held_at, notes_settled, keeps_clean, settled_rows}
-use Rattle.client_node.specs.Follow.{evicts, notes_clean, notes_gone, notes_copy}
+use Rattle.client_serving.specs.declared.serving.Serving.{Serving}
+use Rattle.client_serving.specs.Flights.{held_at, notes_settled, keeps_clean, settled_rows}
+use Rattle.client_serving.specs.Follow.{evicts, notes_clean, notes_gone, notes_copy}
 use Rattle.coop_cache.specs.declared.output.Out as cache_out
 use Rattle.coop_cache.specs.declared.output.Out.TheVariants.{Victim}
 use Rattle.coop_cache.specs.Transition.{cleaned, left}

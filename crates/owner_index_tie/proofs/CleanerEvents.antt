@@ -13,7 +13,7 @@ use Rattle.owner_index_tie.specs.CleanerMoves.{DoAnswers}
 use Rattle.owner_index_tie.specs.Filing.{IsSameLog}
 use Rattle.owner_index_tie.proofs.Moving.{cleaner_moves_answered, moves_later}
 use Rattle.owner_index_tie.proofs.Running.{texts_after, others_after}
-use Rattle.owner_index_tie.proofs.CleanerPhases.{OpensMoved, takes_so, stands, agrees}
+use Rattle.owner_index_tie.proofs.CleanerPhases.{OpensMoved, takes_so, stands, agrees, away}
 
 -- what is asked of an opening is asked of it
 opens_moved : (part : ℕ) (texts : Texts) (n : Net) (small : part < 8) (p : Phase) → OpensMoved (NewFor part texts n p) part texts n small p
@@ -50,6 +50,7 @@ cleaner_event_goes part texts asked n cleaner what small agreed owed =
       horizon = k.grows.horizon;
       parts = k.grows.parts;
       promised = k.grows.promised;
+      away = away new part texts n small k.next w.state k.at;
       sent = k.grows.sent;
       deleted = k.grows.deleted;
       questions = k.questions;

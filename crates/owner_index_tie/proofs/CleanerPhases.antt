@@ -50,7 +50,7 @@ use Rattle.wire_msg.specs.declared.packet.Packet.{Packet as Sent}
 use Rattle.xfs_base.proofs.Booleans.{by_test}
 use Rattle.xfs_base.specs.declared.node.NodeId.{NodeId}
 use Rattle.xfs_base.specs.Steps.{still}
-use Rattle.owner_index_tie.specs.CleanerEvents.{CleanerRests, PhaseAgrees, IsMoved, CleanerSays, CleanerActs, CleanerDoes, EventGets, PacketGets, ReopensOn, WritesTexts}
+use Rattle.owner_index_tie.specs.CleanerEvents.{CleanerRests, IsAway, PhaseAgrees, IsMoved, CleanerSays, CleanerActs, CleanerDoes, EventGets, PacketGets, ReopensOn, WritesTexts}
 use Rattle.owner_index_tie.specs.CleanerMoves.{CleanerMoves}
 use Rattle.owner_index_tie.specs.Filing.{filing, filed_after}
 use Rattle.owner_index_tie.specs.Owners.{LogFits, OpeningSeen, StageWrites}
@@ -96,10 +96,14 @@ module _ (New : Filed → Segment → Type 0) (part : ℕ) (texts : Texts) (n : 
   abbrev At : Net → Emptying → Type 0
   At v e = Stands New part texts since n.sent v e.log e.feed e.promised e.job
 
+  -- it doesn't serve, and has promised nothing more
+  abbrev Rests : Net → Type 0
+  Rests v = CleanerRests part v × (v.promised ≡ n.promised)
+
   -- the cleaner, as it is seen then; that what is in flight is the text of its name is apart
   abbrev pub PhaseSo : Net → Phase → Type 0
-  PhaseSo v (Down l) = CleanerRests part v
-  PhaseSo v (Opening l o) = CleanerRests part v × OpeningSeen 9 o
+  PhaseSo v (Down l) = Rests v
+  PhaseSo v (Opening l o) = Rests v × OpeningSeen 9 o
   PhaseSo v (Serving e) = At v e
 
   abbrev Goes : Questions → Net → Went_to → Type 0
@@ -135,20 +139,20 @@ module _ (New : Filed → Segment → Type 0) (part : ℕ) (texts : Texts) (n : 
       all_both (frames.Plain New part texts since n.sent asked v) (answers_unanswered l.items.unanswered answer.Cut) (Answers number answer.Done ∷ [])
       (answers_plain New part texts since n.sent asked v l.items.unanswered answer.Cut) (tt, tt)
 
-  crashes_so : (asked : Questions) (v : Net) (l : Lasting) (number : ℕ) → CleanerRests part v → Goes asked v (crashes l number)
+  crashes_so : (asked : Questions) (v : Net) (l : Lasting) (number : ℕ) → Rests v → Goes asked v (crashes l number)
   unfolding crashes
   crashes_so asked v l number h = quiet asked v (Down (record l { items = answered l.items })) (crashes l number).outs h (crash_plain asked v l number)
 
-  serving_crashes : (asked : Questions) (v : Net) (e : Emptying) (number : ℕ) → At v e → Goes asked v (crashes e.lasting number)
-  serving_crashes asked v e number h =
+  serving_crashes : (asked : Questions) (v : Net) (e : Emptying) (number : ℕ) → At v e → v.promised ≡ n.promised → Goes asked v (crashes e.lasting number)
+  serving_crashes asked v e number h same =
       frames.went_after New part texts since n.sent PhaseSo asked asked v (jobless New part texts since n.sent v) (crashes e.lasting number)
       (On Begun (JobBegins 0))
       (grows_jobless New part texts since n.sent v) refl
       (λ x is. is)
       (crashes_so asked (jobless New part texts since n.sent v) e.lasting number
-      (record { fits = record { fit = h.seen.owner.feed.fit; short = h.seen.owner.feed.short }; job = told_nothing 0 part }))
+      (record { fits = record { fit = h.seen.owner.feed.fit; short = h.seen.owner.feed.short }; job = told_nothing 0 part }, same))
 
-  restarts_so : (asked : Questions) (v : Net) (servers : ℕ) (l : Lasting) (number : ℕ) → CleanerRests part v → Goes asked v (restarts servers l number)
+  restarts_so : (asked : Questions) (v : Net) (servers : ℕ) (l : Lasting) (number : ℕ) → Rests v → Goes asked v (restarts servers l number)
   unfolding restarts
   restarts_so asked v servers l number h =
       let r = next_life l number in
@@ -217,8 +221,8 @@ module _ (New : Filed → Segment → Type 0) (part : ℕ) (texts : Texts) (n : 
     none_in : (v : Net) → v ≡ filing n v.filed → promised_at v.job.promised part ≡ 0
     none_in v is = ap (λ (x : CleaningState). promised_at x.promised part) (job_in v is) ∙ none
 
-    rests_in : (v : Net) → v ≡ filing n v.filed → LogFits part (filing n v.filed) 9 → CleanerRests part v
-    rests_in v is fits = record { fits = fits_in v is fits; job = none_in v is }
+    rests_in : (v : Net) → v ≡ filing n v.filed → LogFits part (filing n v.filed) 9 → Rests v
+    rests_in v is fits = (record { fits = fits_in v is fits; job = none_in v is }, promised_in v is)
 
     back_so : (asked : Questions) (v : Net) (l : Lasting) (o : Opened) → Files v (progress.Opened o) → length o.promised.epochs ≡ 8
         → n.promised ≤ epoch_of o.promised part
@@ -269,7 +273,7 @@ module _ (New : Filed → Segment → Type 0) (part : ℕ) (texts : Texts) (n : 
 
   -- ---- the next item begins
 
-  down_wish : (asked : Questions) (servers : ℕ) (l : Lasting) (number : ℕ) (wish : Wish) → CleanerRests part n
+  down_wish : (asked : Questions) (servers : ℕ) (l : Lasting) (number : ℕ) (wish : Wish) → Rests n
       → Goes asked n (down_wishes servers l number wish)
   down_wish asked servers l number Restart h = restarts_so asked n servers l number h
   down_wish asked servers l number Crash h = answers_so asked n (Down l) number answer.Down h
@@ -282,12 +286,12 @@ module _ (New : Filed → Segment → Type 0) (part : ℕ) (texts : Texts) (n : 
   opening_wish asked l o number (Clean count) h = answers_so asked n (Opening l o) number answer.Down h
 
   serving_wish : (asked : Questions) (e : Emptying) (number : ℕ) (wish : Wish) → At n e → Goes asked n (serving_wishes e number wish)
-  serving_wish asked e number Crash h = serving_crashes asked n e number h
+  serving_wish asked e number Crash h = serving_crashes asked n e number h refl
   serving_wish asked e number Restart h = answers_so asked n (Serving e) number answer.Up h
   serving_wish asked e number (Clean count) h = serves_so asked n (on_clean e number count)
       (clean_so New part texts since n.sent small asked n e number count h)
 
-  down_item : (asked : Questions) (servers : ℕ) (l : Lasting) (item : Option ℕ) → CleanerRests part n → Goes asked n (down_at servers l item)
+  down_item : (asked : Questions) (servers : ℕ) (l : Lasting) (item : Option ℕ) → Rests n → Goes asked n (down_at servers l item)
   down_item asked servers l None h = quiet asked n (Down l) [] h tt
   down_item asked servers l (Some number) h = down_wish asked servers l number (wish_at l.items number) h
 
@@ -340,7 +344,7 @@ module _ (New : Filed → Segment → Type 0) (part : ℕ) (texts : Texts) (n : 
       → log.WentSo New part texts n 9 since n.filed o.stage w → AllByRecursion (MayDo owner) w.effects
       → Goes_on asked (Opening l o) (opened_on l w)
   opens_to moved asked owner l o w h goes may gets =
-      opened_on_so h.0.job moved asked owner l w (goes (gets_end l o (record l { questions = w.questions }) w.progress gets)) may
+      opened_on_so h.0.0.job moved asked owner l w (goes (gets_end l o (record l { questions = w.questions }) w.progress gets)) may
       (gets_newer l o (opened_on l w).state gets)
 
   hears_so : (asked : Questions) (p : Phase) (packet : Sent) → OpensMoved p → PhaseText p → PacketGets part n p packet → Goes_on asked p (hears p packet)
@@ -348,7 +352,7 @@ module _ (New : Filed → Segment → Type 0) (part : ℕ) (texts : Texts) (n : 
   hears_so asked (Down l) packet moved h gets = λ reopens. quiet asked n (Down l) [] h.0 tt
   hears_so asked (Opening l o) packet moved h gets =
       opens_to moved asked o.known.owner l o (opening.on_packet o l.questions packet) h.0
-      (events.packet_goes New part texts n 9 since n.filed (omega arith) h.0.0.fits o.stage o l.questions packet h.0.1 (is_stage o.stage h.1.0))
+      (events.packet_goes New part texts n 9 since n.filed (omega arith) h.0.0.0.fits o.stage o l.questions packet h.0.1 (is_stage o.stage h.1.0))
       (behaving.packet_so o l.questions packet).does
   hears_so asked (Serving e) packet moved h gets = λ reopens. serves_so asked n (on_packet e packet)
       (serving.packet_so New part texts since n.sent small asked n e h.0 (h.1.0, h.1.1.0.flight) packet gets)
@@ -365,7 +369,7 @@ module _ (New : Filed → Segment → Type 0) (part : ℕ) (texts : Texts) (n : 
   time_so asked (Down l) moved h = λ reopens. quiet asked n (Down l) [] h.0 tt
   time_so asked (Opening l o) moved h =
       opens_to moved asked o.known.owner l o (opening.on_tick o l.questions) h.0
-      (events.tick_goes New part texts n 9 since n.filed (omega arith) h.0.0.fits o.stage o l.questions h.0.1 (is_stage o.stage h.1.0))
+      (events.tick_goes New part texts n 9 since n.filed (omega arith) h.0.0.0.fits o.stage o l.questions h.0.1 (is_stage o.stage h.1.0))
       (behaving.tick_so o l.questions).does
   time_so asked (Serving e) moved h = λ reopens. serves_so asked n (on_tick e)
       (serving.time_so New part texts since n.sent small asked n e h.0 (h.1.0, h.1.1.0.flight))
@@ -385,11 +389,16 @@ module _ (New : Filed → Segment → Type 0) (part : ℕ) (texts : Texts) (n : 
   -- ---- what it is there
 
   pub stands : (p : Phase) → PhaseAgrees part n texts p → CleanerMoves part n.sent p → PhaseText p
-  stands (Down l) h moves = (h, (tt, moves))
-  stands (Opening l o) h moves = ((h.0, h.1.0), (h.1.1, moves))
+  stands (Down l) h moves = ((h, refl), (tt, moves))
+  stands (Opening l o) h moves = (((h.0, refl), h.1.0), (h.1.1, moves))
   stands (Serving e) h moves = (record { late = omega arith; heard = λ x is. is; seen = h.0 }, (h.1, moves))
 
   pub agrees : (v : Net) (p : Phase) → PhaseSo v p → WritesTexts part texts n p → PhaseAgrees part v texts p
-  agrees v (Down l) h text = h
-  agrees v (Opening l o) h text = (h.0, (h.1, text))
+  agrees v (Down l) h text = h.0
+  agrees v (Opening l o) h text = (h.0.0, (h.1, text))
   agrees v (Serving e) h text = (h.seen, text)
+
+  pub away : (v : Net) (p : Phase) → PhaseSo v p → IsAway p → v.promised ≡ n.promised
+  away v (Down l) h none = h.1
+  away v (Opening l o) h none = h.0.1
+  away v (Serving e) h none = absurd none

@@ -1,16 +1,19 @@
 -- What each event makes of a client: it stands so with what it files, and what it tells of its log is so.
 use Rattle.std.proofs.Common.{◌≡◌, ◌≤◌, ◌<◌, ℕ, List, [], ◌∷◌, ◌++◌, Option, Some, None, is_some, refl, ap, arith}
 use Rattle.std.proofs.lemmas.List.Elements.{All-from_recursion}
-use Rattle.client_node.specs.declared.call.Going.{Going}
 use Rattle.client_node.specs.declared.client.Client.{Client}
-use Rattle.client_node.specs.declared.lasting.Lasting.{Lasting}
-use Rattle.client_node.specs.declared.phase.Phase.{Phase}
 use Rattle.client_node.specs.declared.phase.Phase.TheVariants.{Down, Opening, Serving as Serves}
-use Rattle.client_node.specs.declared.serving.Serving.{Serving}
-use Rattle.client_node.specs.Packets as packets
-use Rattle.client_node.specs.Phases.{Went_to, crashed, next_life, owner_of, restarted, back, after_opening, opened_on, answers, begins_call, call_at, opens, serves_on, wish_of, down_begins, opening_begins, serving_begins, falls, lasting_of, begins_item, on_begin, on_deliver, on_time, delivers, happens, client_room, takes}
-use Rattle.client_node.specs.Running.{goes_on, runs}
-use Rattle.client_node.specs.Sends.{Done, gives}
+use Rattle.client_node.specs.declared.phase.Phase.{Phase}
+use Rattle.client_node.specs.Phases.{Went_to, crashed, owner_of, restarted, back, after_opening, opened_on, answers, serves_on, wish_of, down_begins, opening_begins, serving_begins, lasting_of, begins_item, on_begin, on_deliver, on_time, delivers, happens, client_room, takes}
+use Rattle.client_parts.specs.declared.call.Going.{Going}
+use Rattle.client_parts.specs.declared.lasting.Lasting.{Lasting}
+use Rattle.client_parts.specs.Lasting.{next_life}
+use Rattle.client_serving.specs.Crash.{falls}
+use Rattle.client_serving.specs.declared.serving.Serving.{Serving}
+use Rattle.client_serving.specs.Opens.{begins_call, call_at, opens}
+use Rattle.client_serving.specs.Packets as packets
+use Rattle.client_serving.specs.Running.{goes_on, runs}
+use Rattle.client_serving.specs.Sends.{Done, gives}
 use Rattle.index_tie.specs.Filed.{Filed}
 use Rattle.index_tie.specs.Net.{Net}
 use Rattle.index_tie.specs.Net.Happens.{ClientFiles}

@@ -1,15 +1,16 @@
 -- What a client that serves does for the open call, its puts and seals, files nothing, and leaves it standing.
 use Rattle.std.proofs.Common.{ℕ, zero, suc, ◌+◌, ◌==◌, ◌<◌, ◌≤◌, List, [], ◌∷◌, Option, Some, None, is_none}
-use Rattle.client_node.specs.Blocks.{Made, needs, got, gets, wrote, put_of, changes, held_back, changes_if_fits, puts, lets_go, changed, puts_again, puts_at, is_settled, synced_acts, syncs, makes}
-use Rattle.client_node.specs.declared.call.Call.{Call}
-use Rattle.client_node.specs.declared.call.Going.{Going}
-use Rattle.client_node.specs.declared.call.Going.TheVariants.{On, Ends}
-use Rattle.client_node.specs.declared.serving.Serving.{Serving}
-use Rattle.client_node.specs.Fitting.{put_fits}
-use Rattle.client_node.specs.Flights.{held_at}
-use Rattle.client_node.specs.Follow.{notes_gone, seals}
-use Rattle.client_node.specs.Running.{after_answer, goes_on, Ran, answers_call, ran, runs_call, runs_once, runs_upto, runs, most_steps}
-use Rattle.client_node.specs.Sends.{Done}
+use Rattle.client_parts.specs.Calls.{after_answer}
+use Rattle.client_parts.specs.declared.call.Call.{Call}
+use Rattle.client_parts.specs.declared.call.Going.TheVariants.{On, Ends}
+use Rattle.client_parts.specs.declared.call.Going.{Going}
+use Rattle.client_parts.specs.Fitting.{put_fits}
+use Rattle.client_serving.specs.Blocks.{Made, needs, got, gets, wrote, put_of, changes, held_back, changes_if_fits, puts, lets_go, changed, puts_again, puts_at, is_settled, synced_acts, syncs, makes}
+use Rattle.client_serving.specs.declared.serving.Serving.{Serving}
+use Rattle.client_serving.specs.Flights.{held_at}
+use Rattle.client_serving.specs.Follow.{notes_gone, seals}
+use Rattle.client_serving.specs.Running.{goes_on, Ran, answers_call, ran, runs_call, runs_once, runs_upto, runs, most_steps}
+use Rattle.client_serving.specs.Sends.{Done}
 use Rattle.file_plan.specs.declared.block_call.BlockAnswer.{BlockAnswer}
 use Rattle.file_plan.specs.declared.block_call.BlockCall.{BlockCall}
 use Rattle.file_plan.specs.declared.block_call.BlockCall.TheVariants.{Get, Put, PutAt, Sync}

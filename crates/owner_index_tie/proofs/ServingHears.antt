@@ -3,12 +3,14 @@ use Rattle.std.proofs.Common.{◌≡◌, ◌<◌, ◌≤◌, ℕ, true, List, []
 use Rattle.std.proofs.lemmas.Bool.Decides.{nat_tests}
 use Rattle.std.specs.List.{flat_map}
 use Rattle.client_log.specs.declared.input.In.TheVariants as log_in
-use Rattle.client_node.specs.declared.serving.Serving.{Serving}
-use Rattle.client_node.specs.Flights.{held_at, writes}
-use Rattle.client_node.specs.Follow.{hands, takes_back, follows}
-use Rattle.client_node.specs.Packets.{on_grant, on_supply, supplies, on_forward, is_stamp, again, says_again, on_recall, is_gone, on_gone, is_acked, on_ack, ends_fetch, block_read, Heard, heard, told_at, told_by, on_told, asks_for_maps, renews, promises, reports, may_report, polled, on_poll, promised_in, is_news, hears, fetches_again, on_tick}
-use Rattle.client_node.specs.Reads.{loses, reading_in, with_reading, value_at}
-use Rattle.client_node.specs.Sends.{Done, gives, report}
+use Rattle.client_parts.specs.Grants.{supplies, is_stamp}
+use Rattle.client_parts.specs.Reads.{block_read, Heard, heard, fetches_again, reading_in, value_at}
+use Rattle.client_serving.specs.declared.serving.Serving.{Serving}
+use Rattle.client_serving.specs.Flights.{held_at, writes}
+use Rattle.client_serving.specs.Follow.{hands, takes_back, follows}
+use Rattle.client_serving.specs.Packets.{on_grant, on_supply, on_forward, again, says_again, on_recall, is_gone, on_gone, is_acked, on_ack, ends_fetch, told_at, told_by, on_told, asks_for_maps, renews, promises, reports, may_report, polled, on_poll, promised_in, is_news, hears, on_tick}
+use Rattle.client_serving.specs.Reads.{loses, with_reading}
+use Rattle.client_serving.specs.Sends.{Done, gives, report}
 use Rattle.delta_feed.specs.Transition.{acknowledged, new_epoch}
 use Rattle.index_tie.specs.Filed.{Filed}
 use Rattle.index_tie.specs.Net.{Net}

@@ -7,10 +7,12 @@ use Rattle.client_log.specs.declared.output.Out.{Out}
 use Rattle.client_log.specs.declared.output.Out.TheVariants.{Send, Settled}
 use Rattle.client_log.specs.Transition as log
 use Rattle.client_log.specs.Transition.{end_from}
-use Rattle.client_node.specs.declared.serving.Serving.{Serving}
-use Rattle.client_node.specs.Flights.{held_at, log_of, gives_up, gives_if_clean, feeds, settled_rows, settles, writes_one, is_settling, is_giving, seals_again, writes}
-use Rattle.client_node.specs.Follow.{seals}
-use Rattle.client_node.specs.Sends.{Done, gives}
+use Rattle.client_parts.specs.Flights.{is_settling, is_giving}
+use Rattle.client_parts.specs.Lasting.{log_of}
+use Rattle.client_serving.specs.declared.serving.Serving.{Serving}
+use Rattle.client_serving.specs.Flights.{held_at, gives_up, gives_if_clean, feeds, settled_rows, settles, writes_one, seals_again, writes}
+use Rattle.client_serving.specs.Follow.{seals}
+use Rattle.client_serving.specs.Sends.{Done, gives}
 use Rattle.delta_feed.specs.Transition as feeding
 use Rattle.index_tie.specs.Filed.{Filed}
 use Rattle.index_tie.specs.Net.{Net}

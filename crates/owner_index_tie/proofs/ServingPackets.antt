@@ -2,12 +2,12 @@
 use Rattle.std.proofs.Common.{◌≡◌, ◌≤◌, ◌<◌, ◌==◌, ℕ, List, [], ◌∷◌, refl, sym, subst, ◌∙◌, nat_lt}
 use Rattle.std.specs.List.{AllByRecursion}
 use Rattle.client_log.specs.declared.input.In.TheVariants as log_in
-use Rattle.client_node.specs.declared.serving.Serving.{Serving}
-use Rattle.client_node.specs.Flights.{writes}
-use Rattle.client_node.specs.Follow.{follows_one, follows}
-use Rattle.client_node.specs.Packets.{renews, promises, promised_in, is_news, hears, regroups, takes_news, on_news, on_welcome, on_body, asks_for_maps, on_packet, on_tick}
-use Rattle.client_node.specs.Running.{runs}
-use Rattle.client_node.specs.Sends.{Done}
+use Rattle.client_serving.specs.declared.serving.Serving.{Serving}
+use Rattle.client_serving.specs.Flights.{writes}
+use Rattle.client_serving.specs.Follow.{follows_one, follows}
+use Rattle.client_serving.specs.Packets.{renews, promises, promised_in, is_news, hears, regroups, takes_news, on_news, on_welcome, on_body, asks_for_maps, on_packet, on_tick}
+use Rattle.client_serving.specs.Running.{runs}
+use Rattle.client_serving.specs.Sends.{Done}
 use Rattle.delta_feed.specs.Transition.{new_epoch}
 use Rattle.index_tie.specs.Filed.{Filed}
 use Rattle.index_tie.specs.Net.{Net}

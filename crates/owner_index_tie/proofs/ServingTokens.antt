@@ -2,10 +2,11 @@
 use Rattle.std.proofs.Common.{ℕ, ◌==◌, ◌≤◌, ◌<◌, Bool, List, [], ◌∷◌, Option, Some, None, is_none}
 use Rattle.std.specs.List.{flat_map}
 use Rattle.client_log.specs.Transition as log
-use Rattle.client_node.specs.declared.serving.Serving.{Serving}
-use Rattle.client_node.specs.Follow.{notes_copy, seals, follows_one, follows, hands, takes_back}
-use Rattle.client_node.specs.Reads.{ends_reading, with_reading, draws, reading_in, loses, loses_at, fetches, group_in, begins_over, begins, confirmed_next, ask_after, drawn_after, confirms, target_of, same_target, reads_over, reads}
-use Rattle.client_node.specs.Sends.{Done, gives, deltas, want, before_want, gave}
+use Rattle.client_parts.specs.Reads.{reading_in, fetches, target_of, same_target}
+use Rattle.client_serving.specs.declared.serving.Serving.{Serving}
+use Rattle.client_serving.specs.Follow.{notes_copy, seals, follows_one, follows, hands, takes_back}
+use Rattle.client_serving.specs.Reads.{ends_reading, with_reading, draws, loses, loses_at, group_in, begins_over, begins, confirmed_next, ask_after, drawn_after, confirms, reads_over, reads}
+use Rattle.client_serving.specs.Sends.{Done, gives, deltas, want, before_want, gave}
 use Rattle.group_map.specs.declared.group.Group.{Group}
 use Rattle.index_tie.specs.Filed.{Filed}
 use Rattle.index_tie.specs.Net.{Net}

@@ -6,10 +6,10 @@ use Rattle.cleaner_node.specs.declared.cleaner.Cleaner.{Cleaner}
 use Rattle.cleaner_node.specs.declared.cleaner.Phase.TheVariants as cleaning
 use Rattle.cleaner_node.specs.declared.emptying.Emptying.{Emptying}
 use Rattle.client_log.specs.LogState.{FlightState, LogState}
-use Rattle.client_node.specs.Phases as clients
 use Rattle.client_node.specs.declared.client.Client.{Client}
 use Rattle.client_node.specs.declared.phase.Phase.TheVariants as client
-use Rattle.client_node.specs.declared.serving.Serving.{Serving}
+use Rattle.client_node.specs.Phases as clients
+use Rattle.client_serving.specs.declared.serving.Serving.{Serving}
 use Rattle.index_tie.specs.Filed.{IsSegment}
 use Rattle.index_tie.specs.Net.{Net}
 use Rattle.node_base.specs.declared.effects.Effect.{Effect}

@@ -195,8 +195,13 @@ module _ (part : ℕ) (questions : Questions) (n : Net) (since : ℕ) where
   CleanerDoes (Lose seg) = Unit {0}
   CleanerDoes (Does act) = CleanerActs act
 
+-- it doesn't serve
+abbrev pub IsAway : Phase → Type 0
+IsAway (Serving e) = ⊥
+IsAway _ = Unit {0}
+
 -- An event of the cleaner is a list of things that happen in the small world: its log files what it acts to be filed, and what it has promised, its job, what was
--- to be deleted and packets go on.
+-- to be deleted and packets go on; where it doesn't serve after it, it has promised nothing more.
 pub record CleanerGoes (part : ℕ) (texts : Texts) (asked : Questions) (n : Net) (w : Went_to) : Type 0 where
   pub next : Net
   pub runs : Runs part (held_in part texts) n next
@@ -210,6 +215,7 @@ pub record CleanerGoes (part : ℕ) (texts : Texts) (asked : Questions) (n : Net
   pub horizon : next.horizon ≡ n.horizon
   pub parts : next.parts ≡ n.parts
   pub promised : n.promised ≤ next.promised
+  pub away : IsAway w.state → next.promised ≡ n.promised
   pub sent : (x : Packet) → In x n.sent → In x next.sent
   pub deleted : (name : SegName) → In name n.deleted → In name next.deleted
   pub questions : Questions

@@ -74,6 +74,7 @@ module _ (part : ℕ) (texts : Texts) (asked : Questions) (n : Net) where
     horizon = refl;
     parts = refl;
     promised = let x = n.promised in omega arith;
+    away = λ none. refl;
     sent = λ x is. is;
     deleted = λ name is. is;
     questions = asked;

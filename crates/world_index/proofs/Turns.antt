@@ -229,6 +229,7 @@ module _ (laws : NodeLaws) (k : Cluster) (part : ℕ) (of_eight : part < 8) (tex
                 horizon = go.horizon;
                 parts = go.parts;
                 promised = go.promised;
+                away = go.away;
                 deleted = go.deleted;
               };
               came = none_came Cleaner _ go.slots;

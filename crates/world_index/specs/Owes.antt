@@ -23,7 +23,7 @@ use Rattle.node_index_tie.specs.ManagerEvents.{FoundGets, AbsentGets, ManagedAt,
 use Rattle.node_index_tie.specs.ManagerEvents as managed
 use Rattle.node_index_tie.specs.Sight.{Texts, Questions}
 use Rattle.node_tie.specs.ManagerEvents.{HeldAt, Names, epoch_in, phase_at, slot_in}
-use Rattle.owner_index_tie.specs.CleanerEvents.{EffectOwed, NewFor, PollGets, ReadGets, ReopensOn, WritesTexts}
+use Rattle.owner_index_tie.specs.CleanerEvents.{EffectOwed, IsAway, NewFor, PollGets, ReadGets, ReopensOn, WritesTexts}
 use Rattle.owner_index_tie.specs.ClientEvents.{ClientOwed}
 use Rattle.owner_index_tie.specs.Filing.{FilesOwed, filed_after, filing}
 use Rattle.stripe_code.specs.declared.round.Told.TheVariants.{Held, Missing as Lacks}
@@ -149,6 +149,7 @@ module _ (part : ℕ) (texts : Texts) (n next : Net) where
     pub horizon : next.horizon ≡ n.horizon
     pub parts : next.parts ≡ n.parts
     pub promised : n.promised ≤ next.promised
+    pub away : IsAway (cleaners.takes node.peers node.phase what).state → next.promised ≡ n.promised
     pub deleted : (name : SegName) → tables.In name n.deleted → tables.In name next.deleted
 
   -- of a manager only slots and packets: of the slots those of the epochs that it held or is given; one that enters is managed by it then
