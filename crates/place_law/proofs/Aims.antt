@@ -1,8 +1,7 @@
 -- A reading of the place of a fetch: it stays so while the reading is of the same target, and no fetch begins.
 use Rattle.std.proofs.Common.{◌≡◌, ◌==◌, ◌&&◌, ℕ, Bool, true, Option, None, Some, refl, sym, ap, subst, ◌∙◌}
 use Rattle.std.specs.List.{AllByRecursion}
-use Rattle.client_node.specs.Packets.{heard}
-use Rattle.client_node.specs.Reads.{is_fetched, kept_while, same_at, same_target, target_of}
+use Rattle.client_parts.specs.Reads.{heard, is_fetched, kept_while, same_at, same_target, target_of}
 use Rattle.entry_tie.proofs.ClientReads.{OutTold, tokens_say}
 use Rattle.entry_tie.proofs.ClientTokens.{FetchesTold, InputTold, tokens_so}
 use Rattle.entry_tie.specs.ClientTells.{FetchTold}

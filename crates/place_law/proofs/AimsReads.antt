@@ -2,16 +2,17 @@
 use Rattle.std.proofs.Common.{◌≡◌, ℕ, Bool, true, List, [], ◌∷◌, Option, Some, None, is_none, unwrap_or, refl, sym, ap, ◌∙◌}
 use Rattle.std.specs.List.{AllByRecursion}
 use Rattle.std.specs.Prelude.{fold}
-use Rattle.client_node.specs.declared.call.Call.{Call}
-use Rattle.client_node.specs.declared.call.Going.{Going}
-use Rattle.client_node.specs.declared.call.Going.TheVariants.{On, Ends}
-use Rattle.client_node.specs.declared.call.Plan.{Plan}
-use Rattle.client_node.specs.declared.call.Plan.TheVariants.{One, File}
-use Rattle.client_node.specs.declared.serving.Serving.{Serving}
-use Rattle.client_node.specs.Follow.{evicts, notes_clean, notes_gone, notes_copy, seals, follows_one, follows, hands, takes_back}
-use Rattle.client_node.specs.Reads.{ends_reading, with_reading, draws, reading_in, call_with, kept_while, loses, loses_at, group_in, begins_over, begins, confirmed_next, ask_after, drawn_after, confirms, target_of, same_target, reads_over, reads}
-use Rattle.client_node.specs.Running.{going_by, after_answer, may_make, file_call, call_of}
-use Rattle.client_node.specs.Sends.{Done}
+use Rattle.client_parts.specs.Calls.{going_by, after_answer, may_make, file_call, call_of}
+use Rattle.client_parts.specs.declared.call.Call.{Call}
+use Rattle.client_parts.specs.declared.call.Going.TheVariants.{On, Ends}
+use Rattle.client_parts.specs.declared.call.Going.{Going}
+use Rattle.client_parts.specs.declared.call.Plan.TheVariants.{One, File}
+use Rattle.client_parts.specs.declared.call.Plan.{Plan}
+use Rattle.client_parts.specs.Reads.{reading_in, call_with, kept_while, target_of, same_target}
+use Rattle.client_serving.specs.declared.serving.Serving.{Serving}
+use Rattle.client_serving.specs.Follow.{evicts, notes_clean, notes_gone, notes_copy, seals, follows_one, follows, hands, takes_back}
+use Rattle.client_serving.specs.Reads.{ends_reading, with_reading, draws, loses, loses_at, group_in, begins_over, begins, confirmed_next, ask_after, drawn_after, confirms, reads_over, reads}
+use Rattle.client_serving.specs.Sends.{Done}
 use Rattle.coop_cache.specs.declared.output.Out as cache_out
 use Rattle.coop_cache.specs.declared.output.Out.TheVariants.{Victim}
 use Rattle.coop_cache.specs.Transition.{cleaned, left}

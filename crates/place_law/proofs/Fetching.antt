@@ -1,8 +1,7 @@
 -- What a client reads of the place of its fetch is what the filed segment there says.
 use Rattle.std.proofs.Common.{◌≡◌, ℕ, List, Option, None, Some, refl, sym, ap, subst, ◌∙◌}
-use Rattle.client_node.specs.declared.serving.Serving.{Serving}
-use Rattle.client_node.specs.Packets.{block_read, heard}
-use Rattle.client_node.specs.Reads.{reading_in, value_at}
+use Rattle.client_parts.specs.Reads.{block_read, heard, reading_in, value_at}
+use Rattle.client_serving.specs.declared.serving.Serving.{Serving}
 use Rattle.entry_tie.specs.ClientTells.{FetchTold}
 use Rattle.entry_tie.specs.Told.{PlaceTold, told_by}
 use Rattle.index_reads.specs.Ties.{ArePlain, BooksAre}

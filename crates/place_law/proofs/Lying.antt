@@ -3,7 +3,7 @@ use Rattle.std.proofs.Common.{◌≡◌, ◌<◌, ◌≤◌, inl, inr, ℕ, Bool
 use Rattle.xfs_base.proofs.Booleans.{by_test}
 use Rattle.std.specs.Prelude.{Contains}
 use Rattle.std.proofs.lemmas.Bool.Decides.{nat_tests}
-use Rattle.client_node.specs.Reads.{value_at}
+use Rattle.client_parts.specs.Reads.{value_at}
 use Rattle.entry_tie.specs.Told.{told_by}
 use Rattle.index_reads.proofs.Rows.{deltas_are_said, rows_are_entries}
 use Rattle.index_reads.specs.Rows.{IsPlain, SaysSame}

@@ -5,7 +5,7 @@ use Rattle.checkpoint.specs.WriterState.{Rows}
 use Rattle.cleaner_node.specs.declared.emptying.Emptying.{Emptying}
 use Rattle.cleaner_node.specs.declared.job.Job.{Job}
 use Rattle.cleaner_node.specs.Jobs.{check_of, hand_of}
-use Rattle.client_node.specs.Reads.{value_at}
+use Rattle.client_parts.specs.Reads.{value_at}
 use Rattle.entry_tie.specs.Told.{told_by}
 use Rattle.index_reads.specs.Ties.{ArePlain, Tied}
 use Rattle.index_tie.specs.Cleaning.{is_filed_name, IsWithin}

@@ -1,13 +1,13 @@
 -- What is read of the place of a client's fetch is what the filed segment there says.
 use Rattle.std.specs.Prelude.{◌≡◌, ℕ, List, Some}
 use Rattle.client_node.specs.declared.client.Client.{Client}
-use Rattle.client_node.specs.declared.phase.Phase.{Phase}
 use Rattle.client_node.specs.declared.phase.Phase.TheVariants.{Down, Opening, Serving as Serves}
-use Rattle.client_node.specs.declared.serving.Serving.{Serving}
-use Rattle.client_node.specs.Flights.{held_at}
+use Rattle.client_node.specs.declared.phase.Phase.{Phase}
 use Rattle.client_node.specs.Phases.{takes}
-use Rattle.client_node.specs.Reads.{reading_in}
 use Rattle.client_node.specs.Starting.{first_client}
+use Rattle.client_parts.specs.Reads.{reading_in}
+use Rattle.client_serving.specs.declared.serving.Serving.{Serving}
+use Rattle.client_serving.specs.Flights.{held_at}
 use Rattle.core_world.specs.declared.any_node.AnyNode.{AnyNode}
 use Rattle.core_world.specs.declared.any_node.AnyNode.TheVariants as any
 use Rattle.entry_tie.specs.ClientTells.{ServingHolds}

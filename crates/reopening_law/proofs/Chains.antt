@@ -3,7 +3,7 @@ use Rattle.std.proofs.Common.{◌≡◌, ⊎_elim, ◌⊎◌, ◌≤◌, ◌+◌
 use Rattle.std.proofs.lemmas.Bool.Decides.{nat_tests}
 use Rattle.std.specs.List.{AllByRecursion}
 use Rattle.client_log.specs.LogState.{FlightState}
-use Rattle.client_node.specs.Phases.{flight_of}
+use Rattle.client_parts.specs.Crash.{flight_of}
 use Rattle.log_law.specs.Net.{names_of}
 use Rattle.log_law.specs.ReadBack.{EndsAt}
 use Rattle.log_owner.specs.Opened.{names_in}

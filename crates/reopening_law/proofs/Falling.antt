@@ -6,11 +6,14 @@ use Rattle.std.proofs.lemmas.Bool.Decides.{nat_tests}
 use Rattle.act_tie.proofs.Falling.{settled_told}
 use Rattle.client_log.specs.LogState.{FlightState}
 use Rattle.client_node.specs.declared.client.Client.{Client as AClient}
-use Rattle.client_node.specs.declared.lasting.Lasting.{Lasting}
-use Rattle.client_node.specs.declared.phase.Phase.{Phase}
 use Rattle.client_node.specs.declared.phase.Phase.TheVariants.{Down, Opening, Serving as Serves}
-use Rattle.client_node.specs.declared.serving.Serving.{Serving}
-use Rattle.client_node.specs.Phases.{Went_to, after_opening, begins_item, client_room, crashed, down_begins, falls, fall_of, flight_of, happens, lasting_of, next_life, on_begin, on_deliver, on_time, opening_begins, owner_of, restarted, serving_begins, wish_of}
+use Rattle.client_node.specs.declared.phase.Phase.{Phase}
+use Rattle.client_node.specs.Phases.{Went_to, after_opening, begins_item, client_room, crashed, down_begins, happens, lasting_of, on_begin, on_deliver, on_time, opening_begins, owner_of, restarted, serving_begins, wish_of}
+use Rattle.client_parts.specs.Crash.{flight_of}
+use Rattle.client_parts.specs.declared.lasting.Lasting.{Lasting}
+use Rattle.client_parts.specs.Lasting.{next_life}
+use Rattle.client_serving.specs.Crash.{falls, fall_of}
+use Rattle.client_serving.specs.declared.serving.Serving.{Serving}
 use Rattle.log_owner.proofs.Behaving as behaving
 use Rattle.log_owner.specs.Behaves.{MayAct, MayDo}
 use Rattle.log_owner.specs.declared.ended.Owner.{Owner}

@@ -4,7 +4,7 @@ use Rattle.std.proofs.lemmas.Bool.Decides.{nat_tests}
 use Rattle.std.specs.Prelude.{IfSome}
 use Rattle.client_log.specs.LogState.{FlightState, LogState}
 use Rattle.client_log.specs.Transition as log
-use Rattle.client_node.specs.Phases.{flight_of}
+use Rattle.client_parts.specs.Crash.{flight_of}
 use Rattle.index_tie.specs.Filed.{Filed}
 use Rattle.log_law.specs.Events.Runs.{Begun, On}
 use Rattle.log_law.specs.Laws.{IsAttemptOf}

@@ -3,9 +3,10 @@ use Rattle.std.specs.Prelude.{◌≡◌, ℕ, List, [], ◌∷◌, ◌++◌, Opt
 use Rattle.std.specs.List.{AllByRecursion}
 use Rattle.client_log.specs.LogState.{FlightState}
 use Rattle.client_node.specs.declared.client.Client.{Client as AClient}
-use Rattle.client_node.specs.declared.phase.Phase.{Phase}
 use Rattle.client_node.specs.declared.phase.Phase.TheVariants.{Down, Opening, Serving as Serves}
-use Rattle.client_node.specs.Phases.{flight_of, lasting_of, takes}
+use Rattle.client_node.specs.declared.phase.Phase.{Phase}
+use Rattle.client_node.specs.Phases.{lasting_of, takes}
+use Rattle.client_parts.specs.Crash.{flight_of}
 use Rattle.node_base.specs.Effects.{acts_of}
 use Rattle.version_model.specs.declared.act.Act.{Act}
 use Rattle.version_model.specs.declared.act.Act.TheVariants as act

@@ -10,14 +10,15 @@ use Rattle.client_log.specs.LogState.{LogState}
 use Rattle.client_log.specs.Transition as log
 use Rattle.client_law.proofs.Happening.{AnyBlock, AnyMap, OpensSo, PhaseHolds, Reopens, Starts, arrives_any, brings_any, takes-so}
 use Rattle.client_law.proofs.Keeping.{Fact, IsOuter, Keeps, TakesKeep, notes_gone-keeps, seals-keeps, takes_back-keeps}
-use Rattle.client_node.specs.Blocks.{changes, wrote}
-use Rattle.client_node.specs.declared.phase.Phase.{Phase}
 use Rattle.client_node.specs.declared.phase.Phase.TheVariants.{Down, Opening, Serving as Serves}
-use Rattle.client_node.specs.declared.serving.Serving.{Serving}
-use Rattle.client_node.specs.Flights.{feeds, gives_if_clean, gives_up, held_at, is_giving, is_settling, keeps_clean, notes_settled, settled_rows, settles, writes, writes_one}
-use Rattle.client_node.specs.Follow.{evicts, notes_clean, notes_gone, seals}
+use Rattle.client_node.specs.declared.phase.Phase.{Phase}
 use Rattle.client_node.specs.Phases.{takes}
-use Rattle.client_node.specs.Sends as client
+use Rattle.client_parts.specs.Flights.{is_giving, is_settling}
+use Rattle.client_serving.specs.Blocks.{changes, wrote}
+use Rattle.client_serving.specs.declared.serving.Serving.{Serving}
+use Rattle.client_serving.specs.Flights.{feeds, gives_if_clean, gives_up, held_at, keeps_clean, notes_settled, settled_rows, settles, writes, writes_one}
+use Rattle.client_serving.specs.Follow.{evicts, notes_clean, notes_gone, seals}
+use Rattle.client_serving.specs.Sends as client
 use Rattle.coop_cache.specs.declared.output.Out as cache_out
 use Rattle.coop_cache.specs.declared.output.Out.TheVariants.{Victim}
 use Rattle.coop_cache.specs.Transition.{cleaned}

@@ -25,7 +25,7 @@ stage_rests g c w k last (stage.Scanning s) sees = ap is_serving sees.owner
 stage_rests g c w k last (stage.Settling s) sees = ap is_serving sees.owner
 
 pub clients_acts_file : RestartsFileWhatFlew → ClientsFileShort → ClientsFileTheirFlights → ClientsActsFile
-clients_acts_file restarts short flights part texts g c w v n node what some below sure room sees agrees gets runs straight filed = by node.phase refl
+clients_acts_file restarts short flights part texts g c w v n node what some below sure room says sees agrees gets runs straight filed = by node.phase refl
   where
     outs : List Effect
     outs = (clients.takes node what).outs
@@ -44,10 +44,10 @@ clients_acts_file restarts short flights part texts g c w v n node what some bel
     by : (p : Phase) → node.phase ≡ p → ActsFile v.net outs
     by (client.Down l) is = rests (ap is_serving (seen (client.Down l) is).1)
     by (client.Opening l o) is = rests (stage_rests g c w o.known l.questions.last o.stage (seen (client.Opening l o) is).1)
-    by (client.Serving s) is = record { filed = filed; short = (flights part texts g c w n node what s some below sure room sees is agrees gets).short }
+    by (client.Serving s) is = record { filed = filed; short = (flights part texts g c w n node what s some below sure room (says s is) sees is agrees gets).short }
 
 pub cleaners_acts_file : RestartsFileWhatFlew → CleanerFilesShort → CleanerFilesItsFlights → CleanersActsFile
-cleaners_acts_file restarts short flights part texts g w v n node what small sure room sees agrees gets asks runs straight filed = by node.phase refl
+cleaners_acts_file restarts short flights part texts g w v n node what small sure room says sees agrees gets asks runs straight filed = by node.phase refl
   where
     outs : List Effect
     outs = (cleaners.takes node.peers node.phase what).outs
@@ -66,4 +66,4 @@ cleaners_acts_file restarts short flights part texts g w v n node what small sur
     by : (p : cleaner_phases.Phase) → node.phase ≡ p → ActsFile v.net outs
     by (cleaning.Down l) is = rests (ap is_serving (seen (cleaning.Down l) is).1)
     by (cleaning.Opening l o) is = rests (stage_rests g cleaner_log.its_number w o.known l.questions.last o.stage (seen (cleaning.Opening l o) is).sees)
-    by (cleaning.Serving e) is = record { filed = filed; short = (flights part texts g w n node what e small sure room sees is agrees gets asks).short }
+    by (cleaning.Serving e) is = record { filed = filed; short = (flights part texts g w n node what e small sure room (says e is) sees is agrees gets asks).short }

@@ -14,10 +14,10 @@ use Rattle.client_log.specs.declared.input.In.{In as Input}
 use Rattle.client_log.specs.declared.output.Out.{Out}
 use Rattle.client_log.specs.declared.output.Out.TheVariants.{Send, Settled}
 use Rattle.client_log_tie.specs.Owner.{Scene, ClientAgrees}
-use Rattle.client_node.specs.Phases as clients
-use Rattle.client_node.specs.declared.phase.Phase.{Phase}
 use Rattle.client_node.specs.declared.phase.Phase.TheVariants as client
-use Rattle.client_node.specs.declared.serving.Serving.{Serving as ServingClient}
+use Rattle.client_node.specs.declared.phase.Phase.{Phase}
+use Rattle.client_node.specs.Phases as clients
+use Rattle.client_serving.specs.declared.serving.Serving.{Serving as ServingClient}
 use Rattle.cleaner_log_tie.specs.Owner as cleaner_log
 use Rattle.cleaner_node.specs.declared.emptying.Emptying.{Emptying}
 use Rattle.node_base.specs.Room.{has_room}
@@ -44,8 +44,8 @@ use Rattle.xfs_base.specs.declared.segment.LogId.{LogId}
 use Rattle.xfs_base.specs.declared.segment.SegName.{SegName}
 use Rattle.world_lines.proofs.Lines.{flown_fits, flown_segment}
 use Rattle.world_lines.proofs.Owners.{NextFits, cleaner_fits, client_fits, short_all}
-use Rattle.world_lines.specs.Filing.{CleanerFilesItsFlights, ClientsFileTheirFlights, FilesItsFlight, OpeningsFileWhatFlew, WhatIsFiledFlew}
-use Rattle.world_lines.specs.Lines.{IsSure}
+use Rattle.world_lines.specs.Filing.{CleanerFilesItsFlights, ClientsFileTheirFlights, FilesItsFlight, FlightSays, OpeningsFileWhatFlew, WhatIsFiledFlew}
+use Rattle.world_lines.specs.Lines.{IsSure, SaysBlocks}
 use Rattle.world_lines.specs.Owners.{HasFlown, IsRoomy}
 use Rattle.world_lines.specs.Turns.{AllSo}
 
@@ -128,7 +128,7 @@ openings_file_what_flew whole held written due g n o m chain s is (Drops lists m
 -- ---- an owner that serves
 
 module _ (held : WhatIsHeldFlew) (written : WhatFlewIsWritten) (next : WhatFliesIsNext) (texts : Texts) (l : ℕ) (g : Setting) (n : Net)
-    (sure : IsSure texts l g n) (s : LogState) (is : n.owner ≡ Serving s) where
+    (sure : IsSure texts l g n) (s : LogState) (is : n.owner ≡ Serving s) (says : FlightSays s) where
   serving_flew : (f : FlightState) → s.flight ≡ Some f → In f.segment n.flown
   serving_flew f flies = by s.flight flies (subst (OwnerFlew n.flown) is (held g n sure.moment))
     where
@@ -141,7 +141,8 @@ module _ (held : WhatIsHeldFlew) (written : WhatFlewIsWritten) (next : WhatFlies
 
   pub may_land : NextFits n.owner → MayLand l s
   may_land fits = record {
-    segment = λ f flies. flown_segment written texts l g n sure f.segment f.segment.name.seq (serving_flew f flies) refl;
+    segment = λ f flies. flown_segment written texts l g n sure f.segment f.segment.name.seq (serving_flew f flies) refl
+        (subst (λ o. IfSome o (λ (x : FlightState). SaysBlocks x.segment)) flies says);
     fits = λ f flies. flown_fits written texts l g n sure f.segment (serving_flew f flies);
     short = λ f flies. let seq = (next g n sure.moment s is f flies).seq in
         below f.segment.name.seq (fits f.segment.name.seq (let e = ap next_number is in omega arith));
@@ -163,10 +164,10 @@ serves_so : (g : Setting) (c : ℕ) (w : Scene) (p : Phase) (s : ServingClient) 
 serves_so g c w p s is sees = (subst (ClientAgrees g c w) is sees).1.owner
 
 pub clients_file_their_flights : WhatIsHeldFlew → WhatFlewIsWritten → WhatFliesIsNext → ClientsFileFlights → ClientsFileTheirFlights
-clients_file_their_flights held written next flights part texts g c w n node what s some below sure room sees is agrees gets =
+clients_file_their_flights held written next flights part texts g c w n node what s some below sure room says sees is agrees gets =
     by_test (λ (t : clients.Went_to). (MayLand c s.log → AllSo (IsFlight s.log) t.outs) → FilesItsFlight w.net s.log t.outs) (clients.client_room node)
     (clients.happens node what) (still node.phase)
-    (λ has. files_its_flight held written next texts c g w.net sure s.log (serves_so g c w node.phase s is sees) room
+    (λ has. files_its_flight held written next texts c g w.net sure s.log (serves_so g c w node.phase s is sees) says room
     (client_fits g c w node.phase sees
     (and_second (has_room (clients.lasting_of node.phase).questions.last) (clients.phase_room node.phase)
     (and_second (has_room (clients.lasting_of node.phase).inc) _ has))) (clients.happens node what).outs)
@@ -177,9 +178,9 @@ emptying_so : (g : Setting) (w : Scene) (p : cleaner_phases.Phase) (e : Emptying
 emptying_so g w p e is sees = (subst (cleaner_log.CleanerAgrees g w) is sees).log.owner
 
 pub cleaner_files_its_flights : WhatIsHeldFlew → WhatFlewIsWritten → WhatFliesIsNext → CleanerFilesFlights → CleanerFilesItsFlights
-cleaner_files_its_flights held written next flights part texts g w n node what e small sure room sees is agrees gets asks =
+cleaner_files_its_flights held written next flights part texts g w n node what e small sure room says sees is agrees gets asks =
     by_test (λ (t : cleaners.Went_to). (MayLand 9 e.log → AllSo (IsFlight e.log) t.outs) → FilesItsFlight w.net e.log t.outs) (cleaners.phase_room node.phase)
     (cleaners.happens node.peers node.phase what) (still node.phase)
-    (λ has. files_its_flight held written next texts 9 g w.net sure e.log (emptying_so g w node.phase e is sees) room (cleaner_fits g w node.phase sees has)
+    (λ has. files_its_flight held written next texts 9 g w.net sure e.log (emptying_so g w node.phase e is sees) says room (cleaner_fits g w node.phase sees has)
     (cleaners.happens node.peers node.phase what).outs)
     (λ _ goes. nothing_filed w.net e.log) (flights part texts n node what e small is agrees gets asks)

@@ -14,17 +14,16 @@ use Rattle.segment_format.specs.Rows.{rows_of}
 use Rattle.xfs_base.specs.declared.segment.End.{End}
 use Rattle.xfs_base.specs.declared.segment.LogId.{LogId}
 use Rattle.xfs_base.specs.declared.segment.SegName.{SegName}
-use Rattle.world_lines.specs.Lines.{AreLines, IsLined, IsSure, LinesAreFiled, LinesAreTexts, LinesGive}
+use Rattle.world_lines.specs.Lines.{AreLines, IsLined, IsSure, SaysBlocks, LinesAreFiled, LinesAreTexts, LinesGive}
 use Rattle.world_lines.proofs.Rows.{rows_fit}
 
 -- ---- one log
 
 module _ (written : WhatFlewIsWritten) (texts : Texts) (l : ℕ) (g : Setting) (n : Net) (k : IsSure texts l g n) where
-  -- a segment that flew, of a number
-  pub flown_segment : (s : Segment) (q : ℕ) → In s n.flown → s.name.seq ≡ q → IsSegment l q s
-  flown_segment s q is seq =
-      let w : IsOfLog g s = written g n k.moment s is in
-      let says = k.says s is in record {
+  -- a segment that flew, of a number, and says of blocks
+  pub flown_segment : (s : Segment) (q : ℕ) → In s n.flown → s.name.seq ≡ q → SaysBlocks s → IsSegment l q s
+  flown_segment s q is seq says =
+      let w : IsOfLog g s = written g n k.moment s is in record {
         log = ap (λ (x : LogId). x.0) (w.log ∙ k.own);
         seq = seq;
         boot = w.boot;
@@ -99,6 +98,7 @@ module _ (written : WhatFlewIsWritten) (texts : Texts) (has : ℕ → Bool) (set
       let had = filed_has l q some most in
       let line = (are.each l had).lined in
       flown_segment written texts l (settings l) (nets l) (are.sure l had) (f.segment l q) q (line.flown q some most) (line.seq q some most)
+      (are.says l q had some most)
 
   text : (l q : ℕ) → 0 < q → q ≤ f.head l → f.segment l q ≡ texts (f.segment l q).name
   text l q some most =

@@ -11,10 +11,10 @@ use Rattle.cleaner_node.specs.declared.cleaner.Phase.TheVariants as cleaning
 use Rattle.client_log.specs.LogState.{LogState}
 use Rattle.client_log.specs.Transition.{has_next}
 use Rattle.client_log_tie.specs.Owner.{Scene, ClientAgrees, SeesStage}
-use Rattle.client_node.specs.Packets.{epochs_room}
-use Rattle.client_node.specs.Phases as clients
-use Rattle.client_node.specs.declared.phase.Phase.{Phase}
 use Rattle.client_node.specs.declared.phase.Phase.TheVariants as client
+use Rattle.client_node.specs.declared.phase.Phase.{Phase}
+use Rattle.client_node.specs.Phases as clients
+use Rattle.client_parts.specs.Promises.{epochs_room}
 use Rattle.index_tie.specs.Filed.{Filed}
 use Rattle.index_tie.specs.Net as index
 use Rattle.log_law.specs.Ends.{EndsAreLast}

@@ -29,7 +29,7 @@ use Rattle.xfs_base.proofs.Booleans.{by_test}
 use Rattle.xfs_base.specs.Limits.{u32_end}
 use Rattle.xfs_base.specs.declared.segment.SegName.{SegName}
 use Rattle.world_lines.proofs.Lines.{flown_fits, flown_segment}
-use Rattle.world_lines.specs.Lines.{IsLined, IsSure}
+use Rattle.world_lines.specs.Lines.{IsLined, IsSure, SaysBlocks}
 use Rattle.world_lines.specs.Turns.{ActSo, AllNew, AllSo, EffectSo, CleanersFilesAreOwed, ClientsFilesAreOwed, LinesBegin, LinesGoOn, LinesStay, NewAct, NewEffect}
 
 pub lines_begin : LinesBegin
@@ -92,12 +92,12 @@ module _ (whole : LogsStayWhole) (texts : Texts) (l : ℕ) (g : Setting) (o : Ne
   -- ---- what is filed next is owed
 
   module _ (written : WhatFlewIsWritten) (New : Filed → Segment → Type 0) where
-    owed_name : (f : Filed) (name : SegName) → In name o.filed → has_next name.seq ≡ true → (name.seq ≡ suc (f.head l) → New f (texts name))
-        → OwedAct New texts l f (ActsFiled name)
-    owed_name f name is short new at =
+    owed_name : (f : Filed) (name : SegName) → In name o.filed → has_next name.seq ≡ true → SaysBlocks (texts name)
+        → (name.seq ≡ suc (f.head l) → New f (texts name)) → OwedAct New texts l f (ActsFiled name)
+    owed_name f name is short says new at =
         let t = flew name is in record {
           named = t.named;
-          segment = flown_segment written texts l g o k (texts name) (suc (f.head l)) t.flown (ap (λ (x : SegName). x.seq) t.named ∙ at);
+          segment = flown_segment written texts l g o k (texts name) (suc (f.head l)) t.flown (ap (λ (x : SegName). x.seq) t.named ∙ at) says;
           new = new at;
           fits = flown_fits written texts l g o k (texts name) t.flown;
           short = (let less : name.seq < u32_end = below name.seq short in omega arith);
@@ -106,22 +106,23 @@ module _ (whole : LogsStayWhole) (texts : Texts) (l : ℕ) (g : Setting) (o : Ne
         below : (q : ℕ) → has_next q ≡ true → q < u32_end
         below q is = grind (arith, nat_tests, is)
 
-    owed_act : (f : Filed) (a : Act) → ActSo (λ name. In name o.filed) a → ActSo (λ name. has_next name.seq ≡ true) a → NewAct New texts l f a
-        → OwedAct New texts l f a
-    owed_act f (ActsFiled name) is short new = owed_name f name is short new
-    owed_act f _ is short new = tt
+    owed_act : (f : Filed) (a : Act) → ActSo (λ name. In name o.filed) a → ActSo (λ name. has_next name.seq ≡ true) a
+        → ActSo (λ name. SaysBlocks (texts name)) a → NewAct New texts l f a → OwedAct New texts l f a
+    owed_act f (ActsFiled name) is short says new = owed_name f name is short says new
+    owed_act f _ is short says new = tt
 
-    owed_effect : (f : Filed) (e : Effect) → EffectSo (λ name. In name o.filed) e → EffectSo (λ name. has_next name.seq ≡ true) e → NewEffect New texts l f e
-        → OwedEffect New texts l f e
-    owed_effect f (Send to m) is short new = tt
-    owed_effect f (Answer item answer) is short new = tt
-    owed_effect f (Lose seg) is short new = tt
-    owed_effect f (Does act) is short new = owed_act f act is short new
+    owed_effect : (f : Filed) (e : Effect) → EffectSo (λ name. In name o.filed) e → EffectSo (λ name. has_next name.seq ≡ true) e
+        → EffectSo (λ name. SaysBlocks (texts name)) e → NewEffect New texts l f e → OwedEffect New texts l f e
+    owed_effect f (Send to m) is short says new = tt
+    owed_effect f (Answer item answer) is short says new = tt
+    owed_effect f (Lose seg) is short says new = tt
+    owed_effect f (Does act) is short says new = owed_act f act is short says new
 
     pub owed : (f : Filed) (outs : List Effect) → AllSo (λ name. In name o.filed) outs → AllSo (λ name. has_next name.seq ≡ true) outs
-        → AllNew New texts l f outs → FilesOwed New texts l f outs
-    owed f [] is short new = tt
-    owed f (e ∷ es) is short new = (owed_effect f e is.0 short.0 new.0, owed (after_effect texts l f e) es is.1 short.1 new.1)
+        → AllSo (λ name. SaysBlocks (texts name)) outs → AllNew New texts l f outs → FilesOwed New texts l f outs
+    owed f [] is short says new = tt
+    owed f (e ∷ es) is short says new =
+        (owed_effect f e is.0 short.0 says.0 new.0, owed (after_effect texts l f e) es is.1 short.1 says.1 new.1)
 
   -- ---- what is filed then is lined
 
@@ -171,11 +172,12 @@ module _ (whole : LogsStayWhole) (texts : Texts) (l : ℕ) (g : Setting) (o : Ne
   lined_after f (e ∷ es) is h = lined_after (after_effect texts l f e) es is.1 (lined_effect f e is.0 h)
 
 pub clients_files_are_owed : WhatFlewIsWritten → LogsStayWhole → ClientsFilesAreOwed
-clients_files_are_owed written whole part texts c g o f outs k acts new = owed whole texts c g o k written (IsNews part) f outs acts.filed acts.short new
+clients_files_are_owed written whole part texts c g o f outs k acts says new =
+    owed whole texts c g o k written (IsNews part) f outs acts.filed acts.short says new
 
 pub cleaners_files_are_owed : WhatFlewIsWritten → LogsStayWhole → CleanersFilesAreOwed
-cleaners_files_are_owed written whole part texts n p g o f outs k acts new =
-    owed whole texts 9 g o k written (NewFor part texts n p) f outs acts.filed acts.short new
+cleaners_files_are_owed written whole part texts n p g o f outs k acts says new =
+    owed whole texts 9 g o k written (NewFor part texts n p) f outs acts.filed acts.short says new
 
 -- ---- the owner's turn
 

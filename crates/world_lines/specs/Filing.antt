@@ -1,5 +1,5 @@
 -- What owners act to be filed flew before the event: what one that serves had in flight, and what one that opens its log had read back.
-use Rattle.std.specs.Prelude.{◌≡◌, ◌<◌, ℕ, true, false, List}
+use Rattle.std.specs.Prelude.{◌≡◌, ◌<◌, ℕ, true, false, List, IfSome}
 use Rattle.std.specs.List.{AllByRecursion}
 use Rattle.cleaner_log_tie.specs.Owner as cleaner_log
 use Rattle.cleaner_node.specs.CleanerEvents as cleaners
@@ -10,10 +10,10 @@ use Rattle.client_log.specs.LogState.{LogState}
 use Rattle.client_log.specs.Transition.{has_next}
 use Rattle.client_log_tie.specs.ClientEvents.{ServesStraight}
 use Rattle.client_log_tie.specs.Owner.{Scene, ClientAgrees}
-use Rattle.client_node.specs.Phases as clients
 use Rattle.client_node.specs.declared.client.Client.{Client}
 use Rattle.client_node.specs.declared.phase.Phase.TheVariants as client
-use Rattle.client_node.specs.declared.serving.Serving.{Serving}
+use Rattle.client_node.specs.Phases as clients
+use Rattle.client_serving.specs.declared.serving.Serving.{Serving}
 use Rattle.index_tie.specs.Net as index
 use Rattle.log_law.specs.Events.{Happens, Runs}
 use Rattle.log_law.specs.Laws.{Moment}
@@ -30,7 +30,7 @@ use Rattle.owner_index_tie.specs.ClientEvents as client_index
 use Rattle.segment_format.specs.declared.segment.Segment.{Segment}
 use Rattle.wire_msg.specs.declared.packet.Do.{Do}
 use Rattle.xfs_base.specs.declared.segment.SegName.{SegName}
-use Rattle.world_lines.specs.Lines.{IsSure}
+use Rattle.world_lines.specs.Lines.{IsSure, SaysBlocks}
 use Rattle.world_lines.specs.Owners.{HasFlown, IsRoomy}
 use Rattle.world_lines.specs.Turns.{ActsFile, AllSo}
 
@@ -56,11 +56,15 @@ pub record FilesItsFlight (n : Net) (s : LogState) (outs : List Effect) : Type 0
   pub flown : AllSo (HasFlown n) outs
   pub short : AllSo (λ name. has_next name.seq ≡ true) outs
 
--- So it is of a client,
+-- what a log has in flight says of blocks
+abbrev pub FlightSays : LogState → Type 0
+FlightSays s = IfSome s.flight (λ f. SaysBlocks f.segment)
+
+-- So it is of a client, whose flight says of blocks,
 abbrev pub ClientsFileTheirFlights : Type 0
 ClientsFileTheirFlights =
     (part : ℕ) (texts : Texts) (g : Setting) (c : ℕ) (w : Scene) (n : index.Net) (node : Client) (what : Do) (s : Serving) → 0 < c → c < 9
-    → IsSure texts c g w.net → IsRoomy w.net → ClientAgrees g c w node.phase → node.phase ≡ client.Serving s
+    → IsSure texts c g w.net → IsRoomy w.net → FlightSays s.log → ClientAgrees g c w node.phase → node.phase ≡ client.Serving s
     → client_index.ClientAgrees part texts n c node.phase → client_index.EventGets part texts n c node.phase what
     → FilesItsFlight w.net s.log (clients.takes node what).outs
 
@@ -68,7 +72,7 @@ ClientsFileTheirFlights =
 abbrev pub CleanerFilesItsFlights : Type 0
 CleanerFilesItsFlights =
     (part : ℕ) (texts : Texts) (g : Setting) (w : Scene) (n : index.Net) (node : Cleaner) (what : Do) (e : Emptying) → part < 8 → IsSure texts 9 g w.net
-    → IsRoomy w.net → cleaner_log.CleanerAgrees g w node.phase → node.phase ≡ cleaning.Serving e → cleaner_index.CleanerAgrees part n texts node.phase
+    → IsRoomy w.net → FlightSays e.log → cleaner_log.CleanerAgrees g w node.phase → node.phase ≡ cleaning.Serving e → cleaner_index.CleanerAgrees part n texts node.phase
     → cleaner_index.EventGets part n node.phase what
     → AllByRecursion (cleaner_index.EffectOwed part n) (cleaners.takes node.peers node.phase what).outs
     → FilesItsFlight w.net e.log (cleaners.takes node.peers node.phase what).outs
@@ -79,7 +83,7 @@ CleanerFilesItsFlights =
 abbrev pub ClientsActsFile : Type 0
 ClientsActsFile =
     (part : ℕ) (texts : Texts) (g : Setting) (c : ℕ) (w v : Scene) (n : index.Net) (node : Client) (what : Do) → 0 < c → c < 9 → IsSure texts c g w.net
-    → IsRoomy w.net → ClientAgrees g c w node.phase → client_index.ClientAgrees part texts n c node.phase
+    → IsRoomy w.net → ((s : Serving) → node.phase ≡ client.Serving s → FlightSays s.log) → ClientAgrees g c w node.phase → client_index.ClientAgrees part texts n c node.phase
     → client_index.EventGets part texts n c node.phase what → (runs : Runs g w.net v.net) → ServesStraight runs
     → AllSo (λ name. In name v.net.filed) (clients.takes node what).outs → ActsFile v.net (clients.takes node what).outs
 
@@ -87,7 +91,8 @@ ClientsActsFile =
 abbrev pub CleanersActsFile : Type 0
 CleanersActsFile =
     (part : ℕ) (texts : Texts) (g : Setting) (w v : Scene) (n : index.Net) (node : Cleaner) (what : Do) → part < 8 → IsSure texts 9 g w.net
-    → IsRoomy w.net → cleaner_log.CleanerAgrees g w node.phase → cleaner_index.CleanerAgrees part n texts node.phase
+    → IsRoomy w.net → ((e : Emptying) → node.phase ≡ cleaning.Serving e → FlightSays e.log) → cleaner_log.CleanerAgrees g w node.phase
+    → cleaner_index.CleanerAgrees part n texts node.phase
     → cleaner_index.EventGets part n node.phase what
     → AllByRecursion (cleaner_index.EffectOwed part n) (cleaners.takes node.peers node.phase what).outs → (runs : Runs g w.net v.net) → ServesStraight runs
     → AllSo (λ name. In name v.net.filed) (cleaners.takes node.peers node.phase what).outs

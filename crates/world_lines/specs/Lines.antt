@@ -26,13 +26,12 @@ module _ (texts : Texts) where
   abbrev pub FlownAreTexts : Net → Type 0
   FlownAreTexts n = (s : Segment) → In s n.flown → texts s.name ≡ s
 
-  -- A log of which no restart that ended was doubtful, at a moment of its run; what its owner writes says of blocks, and is the text of its name.
+  -- A log of which no restart that ended was doubtful, at a moment of its run; what its owner writes is the text of its name.
   pub record IsSure (l : ℕ) (g : Setting) (n : Net) : Type 0 where
     pub own : g.log ≡ record { 0 = l }
     pub trusted : g.doubts ≡ false
     pub moment : Moment g n
     pub sure : IsSureRun moment.run
-    pub says : (s : Segment) → In s n.flown → SaysBlocks s
     pub are_texts : FlownAreTexts n
 
 -- ---- the line
@@ -49,11 +48,12 @@ pub record IsLine (l : ℕ) (n : Net) (f : Filed) : Type 0 where
   pub all : (name : SegName) → In name n.filed → (0 < name.seq) × (name.seq ≤ f.head l)
 
 module _ (texts : Texts) (has : ℕ → Bool) (settings : ℕ → Setting) (nets : ℕ → Net) where
-  -- Each log that somebody has is one of logs 1 to 9, is sure, and has its line in what is filed; and no other log files anything.
+  -- Each log that somebody has is one of logs 1 to 9, is sure, and has its line in what is filed, which says of blocks; and no other log files anything.
   pub record AreLines (f : Filed) : Type 0 where
     pub within : (l : ℕ) → has l ≡ true → (0 < l) × (l ≤ 9)
     pub sure : (l : ℕ) → has l ≡ true → IsSure texts l (settings l) (nets l)
     pub each : (l : ℕ) → has l ≡ true → IsLine l (nets l) f
+    pub says : (l q : ℕ) → has l ≡ true → 0 < q → q ≤ f.head l → SaysBlocks (f.segment l q)
     pub none : (l : ℕ) → (has l ≡ true) ⊎ (f.head l ≡ 0)
 
 -- ---- the laws

@@ -22,7 +22,7 @@ use Rattle.owner_index_tie.specs.Filing.{FilesOwed, IsSameLog, after_effect, fil
 use Rattle.segment_format.specs.declared.segment.Segment.{Segment}
 use Rattle.version_model.specs.declared.act.Act.{Act}
 use Rattle.version_model.specs.declared.act.Act.TheVariants.{Filed as ActsFiled}
-use Rattle.world_lines.specs.Lines.{IsLine, IsSure}
+use Rattle.world_lines.specs.Lines.{IsLine, IsSure, SaysBlocks}
 
 -- ---- at the start, and in an event of another
 
@@ -56,10 +56,11 @@ pub record ActsFile (o : Net) (outs : List Effect) : Type 0 where
   pub filed : AllSo (λ name. In name o.filed) outs
   pub short : AllSo (λ name. has_next name.seq ≡ true) outs
 
--- Then it is owed, where what is new of its text is given: of a client
+-- Then it is owed, where its text says of blocks, and what is new of that is given: of a client
 abbrev pub ClientsFilesAreOwed : Type 0
 ClientsFilesAreOwed =
     (part : ℕ) (texts : Texts) (c : ℕ) (g : Setting) (o : Net) (f : Filed) (outs : List Effect) → IsSure texts c g o → ActsFile o outs
+    → AllSo (λ name. SaysBlocks (texts name)) outs
     → AllNew (IsNews part) texts c f outs → FilesOwed (IsNews part) texts c f outs
 
 -- and of the cleaner
@@ -67,6 +68,7 @@ abbrev pub CleanersFilesAreOwed : Type 0
 CleanersFilesAreOwed =
     (part : ℕ) (texts : Texts) (n : index.Net) (p : CleanerPhase) (g : Setting) (o : Net) (f : Filed) (outs : List Effect) → IsSure texts 9 g o
     → ActsFile o outs
+    → AllSo (λ name. SaysBlocks (texts name)) outs
     → AllNew (NewFor part texts n p) texts 9 f outs → FilesOwed (NewFor part texts n p) texts 9 f outs
 
 -- An event of the owner: what it acts to be filed is filed after it. Where the owner serves then, its end is the last of what is filed then (which the law of the

@@ -19,8 +19,8 @@ use owner_index_tie::owners_file_their_flights;
 
 /// Lines are filed as the index wants it, and give what it is owed of logs.
 ///
-/// - `filed`: where each log that somebody has is sure, and has its line in what is filed, each segment bears its log and its number, some boot wrote it, and it
-///   says of blocks versions from 1 on.
+/// - `filed`: where each log that somebody has is sure, and has its line in what is filed, which says of blocks versions from 1 on, each segment bears its log and
+///   its number, some boot wrote it, and it says so.
 /// - `texts`: each is the text of its name.
 /// - `give`: what they say of blocks fits its types; from the least horizon on a log is linked; and each filed name is that of the segment of its number.
 pub fn lines_are_filed()
@@ -46,7 +46,8 @@ pub fn lines_go_on()
     ends_are_last();
 }
 
-/// What an owner acts to be filed is owed: it is the text of its name, the next segment of its log, fits its types, and its number isn't the last.
+/// What an owner acts to be filed is owed, where it says of blocks: it is the text of its name, the next segment of its log, fits its types, and its number isn't
+/// the last.
 pub fn what_is_filed_is_owed()
     ensures client { ClientsFilesAreOwed }
     ensures cleaner { CleanersFilesAreOwed }
@@ -109,7 +110,7 @@ pub fn owners_lines_go_on()
 /// - `filed`: so did all that is filed, where nothing more is.
 /// - `openings`: so did all that is filed by one thing that happens to an owner whose opening segment is in flight.
 /// - `restarts`: so did all that is filed after an event of an owner that didn't serve before it.
-/// - `clients`, `cleaner`: an owner that serves acts nothing to be filed but what it had in flight, and its number has one after it.
+/// - `clients`, `cleaner`: an owner that serves, and has in flight what says of blocks, acts nothing to be filed but that, and its number has one after it.
 pub fn what_is_filed_flew()
     ensures filed { WhatIsFiledFlew }
     ensures openings { OpeningsFileWhatFlew }
