@@ -1,0 +1,12 @@
+pub mod Ranks
+pub mod Deletes
+pub mod Nodes
+pub mod Spans
+pub mod Picks
+pub mod Doubting
+pub mod Sure
+pub mod Unlost
+pub mod Quiet
+pub mod Servers
+pub mod FirstGroups
+pub mod NoLosses

@@ -1,0 +1,4 @@
+pub mod Restarts
+pub mod Sure
+pub mod Below
+pub mod Unlost
