@@ -1,0 +1,10 @@
+mod Leaving
+mod Saying
+mod Takeovers
+mod Flights
+mod Slots
+mod Tables
+mod Checkpoints
+mod Serving
+pub mod Managers
+pub mod Registries

@@ -1,0 +1,4 @@
+pub mod References
+pub mod Managers
+pub mod Registries
+pub mod Owners
