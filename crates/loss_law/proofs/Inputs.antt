@@ -1,7 +1,8 @@
 -- Each input of an opening keeps what is known of it, and what it says is lost then is earned.
-use Rattle.std.proofs.Common.{◌≡◌, ℕ, ◌≤◌, ◌==◌, ◌&&◌, max, List, [], ◌∷◌, ◌++◌, Option, Some, None, length, refl, sym, ap, subst, arith}
+use Rattle.std.proofs.Common.{◌≡◌, ℕ, ◌≤◌, ◌==◌, ◌&&◌, true, max, List, [], ◌∷◌, ◌++◌, Option, Some, None, length, refl, sym, ap, subst, arith}
 use Rattle.xfs_base.specs.declared.fragment.Fragment.{Fragment}
 use Rattle.xfs_base.specs.declared.news.SlotNews.{SlotNews}
+use Rattle.xfs_base.specs.declared.segment.SegRef.{SegRef}
 use Rattle.xfs_base.proofs.Booleans.{by_test, and_first}
 use Rattle.group_map.specs.GroupMapState.{GroupMapState}
 use Rattle.stripe_code.specs.declared.round.Told.{Told}
@@ -26,7 +27,7 @@ use Rattle.log_law.specs.Net.Packet.{MapSent, WelcomeSent}
 use Rattle.log_law.specs.Net.Owner.{Opening}
 use Rattle.log_law.specs.Events.{CameToScan, Happens, Runs}
 use Rattle.log_law.specs.Events.Runs.{On}
-use Rattle.loss_law.specs.Losses.{IsTrue}
+use Rattle.loss_law.specs.Losses.{is_opening, IsTorn, IsTrue}
 use Rattle.loss_law.proofs.Pairs.{ToldSo}
 use Rattle.loss_law.proofs.Growing.{AreNamed, Base, Grows}
 use Rattle.loss_law.proofs.Interval.{Between}
@@ -36,24 +37,25 @@ use Rattle.loss_law.proofs.Readings.{Loses, fetches_lose, fences_lose, same_ask,
 at_least : (a b : ℕ) → b ≤ max a b
 at_least a b = omega arith
 
-module _ (g : Setting) (start n o : Net) (run : Runs g start n) (e : Happens g n o) (grows : Grows g n o) (boot : o.inc ≡ n.inc) (base : Base g n)
-    (s : ScanState) (is : n.owner ≡ Opening s) where
+module _ (g : Setting) (Was Now : SegRef → Type 0) (start n o : Net) (run : Runs g start n) (e : Happens g n o) (grows : Grows g n o) (boot : o.inc ≡ n.inc)
+    (base : Base g n) (s : ScanState) (is : n.owner ≡ Opening s) (up : is_opening o.owner ≡ true → (seg : SegRef) → Was seg → Now seg)
+    (torn_now : (seg : SegRef) → IsTorn g seg n → Was seg) where
   abbrev To : Done → Type 0
-  To d = Goes g start n o run e grows boot base s is d
+  To d = Goes g Was Now start n o run e grows boot base s is up torn_now d
 
   abbrev Alike : OpeningState → Type 0
-  Alike p = Like g start n o run e grows boot base s is p
+  Alike p = Like g Was Now start n o run e grows boot base s is up torn_now p
 
   own : Alike s.opening
   own = record { ask = refl; log = (base.opening s is).log; groups = (base.opening s is).groups }
 
   -- the opening stays where it stands, with the same question
-  still : (p : OpeningState) (stage : Stage) (outs : List Out) → p.ask ≡ s.opening.ask → StageKept g run s.opening.ask stage → Loses (WasTorn g run s) outs
+  still : (p : OpeningState) (stage : Stage) (outs : List Out) → p.ask ≡ s.opening.ask → StageKept g Was run s.opening.ask stage → Loses (WasTorn Was s) outs
       → To (goes p stage outs)
   still p stage outs same known quiet =
       record {
-        kept = λ opens. subst (λ ask. StageKept g (On run e) ask stage) (sym same)
-            (stage_on g start n o run e grows boot opens s.opening.ask stage known);
+        kept = λ opens. subst (λ ask. StageKept g Now (On run e) ask stage) (sym same)
+            (stage_on g Was Now start n o run e grows boot (up opens) s.opening.ask stage known);
         lost = quiet;
       }
 
@@ -70,29 +72,30 @@ module _ (g : Setting) (start n o : Net) (run : Runs g start n) (e : Happens g n
     risen_alike : Alike risen
     risen_alike = record { ask = refl; log = own.log; groups = named }
 
-    confirms_goes : (b : Backward) (r : Option ReadingState) → s.stage ≡ Reads b r → ReadKept g run s.opening.ask b r → To (scan.confirms risen b r)
+    confirms_goes : (b : Backward) (r : Option ReadingState) → s.stage ≡ Reads b r → ReadKept g Was run s.opening.ask b r → To (scan.confirms risen b r)
     unfolding scan.confirms
     confirms_goes b None at k =
         by_test To (scan.is_bottom risen.low b.next) (goes risen Over (scan.chain_of b ∷ [])) (scan.begins_round risen b)
-        (λ t. over_goes g start n o run e grows boot base s is risen b) (λ t. round_goes g start n o run e grows boot base s is risen b risen_alike)
-    confirms_goes b (Some r) at k = confirmed g start n o run e grows boot base s is b r at k risen risen_alike reached
+        (λ t. over_goes g Was Now start n o run e grows boot base s is up torn_now risen b)
+        (λ t. round_goes g Was Now start n o run e grows boot base s is up torn_now risen b risen_alike)
+    confirms_goes b (Some r) at k = confirmed g Was Now start n o run e grows boot base s is up torn_now b r at k risen risen_alike reached
       where
-        reached : (d : Doubts g run s.opening.ask r.target.seg) → d.bound ≤ risen.low
+        reached : (d : Doubts g Was run s.opening.ask r.target.seg) → d.bound ≤ risen.low
         reached d =
             let x : d.bound ≤ least_horizon g.log.0 news = d.heard news heard.0 heard.1 in
             let y : least_horizon s.opening.log.0 news ≡ least_horizon g.log.0 news = ap (λ l. least_horizon l.0 news) own.log in
             let z : least ≤ max s.opening.low least = at_least s.opening.low least in
             omega arith
 
-    welcomed_goes : (stage : Stage) → s.stage ≡ stage → StageKept g run s.opening.ask stage
+    welcomed_goes : (stage : Stage) → s.stage ≡ stage → StageKept g Was run s.opening.ask stage
         → To (scan.welcomed (record s.opening { groups = Some m }) stage least)
-    welcomed_goes Hails at k = record { kept = λ opens. tt; lost = fences_lose (WasTorn g run s) (scan.awaited (Some m) []) }
+    welcomed_goes Hails at k = record { kept = λ opens. tt; lost = fences_lose (WasTorn Was s) (scan.awaited (Some m) []) }
     welcomed_goes (Gathers lists) at k = record { kept = λ opens. tt; lost = tt }
-    welcomed_goes (Asks lists) at k = picks_goes g start n o run e grows boot base s is risen lists risen_alike
+    welcomed_goes (Asks lists) at k = picks_goes g Was Now start n o run e grows boot base s is up torn_now risen lists risen_alike
     welcomed_goes (Reads b r) at k = confirms_goes b r at k
     welcomed_goes Over at k = record { kept = λ opens. tt; lost = tt }
 
-  welcome_goes : (ask : ℕ) (news : List SlotNews) (m : GroupMapState) → CameToScan g n (scan_in.Welcome ask news m) → StageKept g run s.opening.ask s.stage
+  welcome_goes : (ask : ℕ) (news : List SlotNews) (m : GroupMapState) → CameToScan g n (scan_in.Welcome ask news m) → StageKept g Was run s.opening.ask s.stage
       → To (scan.on_welcome s.opening s.stage ask news m)
   unfolding scan.on_welcome
   welcome_goes ask news m came k =
@@ -113,7 +116,7 @@ module _ (g : Setting) (start n o : Net) (run : Runs g start n) (e : Happens g n
       by_test To (length (scan.awaited s.opening.groups lists) == 0) (scan.asks_anew s.opening (Asks lists)) (stays s.opening (Gathers lists))
       (λ t. record { kept = λ opens. tt; lost = tt }) (λ t. record { kept = λ opens. tt; lost = tt })
 
-  fenced_goes : (stage : Stage) (l : Listing) → StageKept g run s.opening.ask stage → To (scan.on_fenced s.opening stage l)
+  fenced_goes : (stage : Stage) (l : Listing) → StageKept g Was run s.opening.ask stage → To (scan.on_fenced s.opening stage l)
   unfolding scan.on_fenced
   fenced_goes Hails l k = still s.opening Hails [] refl k tt
   fenced_goes (Gathers lists) l k =
@@ -128,22 +131,24 @@ module _ (g : Setting) (start n o : Net) (run : Runs g start n) (e : Happens g n
   -- what is told is true, where it answers the question of the round that is on
   abbrev TellsTrue : ℕ → ℕ → Told → Type 0
   TellsTrue ask server t =
-      (b : Backward) (r : ReadingState) → s.stage ≡ Reads b (Some r) → (a : Asks_on g run r) → ask ≡ r.ask
+      (b : Backward) (r : ReadingState) → s.stage ≡ Reads b (Some r) → (a : Asks_on g Was run r) → ask ≡ r.ask
       → ToldSo (Between g r.target.seg.name a.middle.net n) server t
 
   module _ (ask server : ℕ) (t : Told) (true_then : TellsTrue ask server t) where
-    heard_with_goes : (b : Backward) (r : ReadingState) (groups : Option GroupMapState) → s.stage ≡ Reads b (Some r) → ReadingKept g run s.opening.ask b r
+    heard_with_goes : (b : Backward) (r : ReadingState) (groups : Option GroupMapState) → s.stage ≡ Reads b (Some r) → ReadingKept g Was run s.opening.ask b r
         → To (scan.heard_with s.opening b r groups ask server t)
     heard_with_goes b r None at k = still s.opening (Reads b (Some r)) [] refl k tt
-    heard_with_goes b r (Some groups) at k = answered g start n o run e grows boot base s is b r at k groups ask server t own (true_then b r at)
+    heard_with_goes b r (Some groups) at k =
+        answered g Was Now start n o run e grows boot base s is up torn_now b r at k groups ask server t own (true_then b r at)
 
-    heard_goes : (b : Backward) (r : Option ReadingState) → s.stage ≡ Reads b r → ReadKept g run s.opening.ask b r → To (scan.heard s.opening b r ask server t)
+    heard_goes : (b : Backward) (r : Option ReadingState) → s.stage ≡ Reads b r → ReadKept g Was run s.opening.ask b r
+        → To (scan.heard s.opening b r ask server t)
     heard_goes b None at k = still s.opening (Reads b None) [] refl k tt
     heard_goes b (Some r) at k =
         by_test To (scan.can_ask s.opening) (scan.heard_with s.opening b r s.opening.groups ask server t) (stays s.opening (Reads b (Some r)))
         (λ can. heard_with_goes b r s.opening.groups at k) (λ can. still s.opening (Reads b (Some r)) [] refl k tt)
 
-    told_goes : (stage : Stage) → s.stage ≡ stage → StageKept g run s.opening.ask stage → To (scan.on_told s.opening stage ask server t)
+    told_goes : (stage : Stage) → s.stage ≡ stage → StageKept g Was run s.opening.ask stage → To (scan.on_told s.opening stage ask server t)
     unfolding scan.on_told
     told_goes Hails at k = still s.opening Hails [] refl k tt
     told_goes (Gathers lists) at k = still s.opening (Gathers lists) [] refl k tt
@@ -153,16 +158,16 @@ module _ (g : Setting) (start n o : Net) (run : Runs g start n) (e : Happens g n
 
   -- ---- time
 
-  asked_quiet : (r : Option ReadingState) → Loses (WasTorn g run s) (scan.asked_again s.opening r)
+  asked_quiet : (r : Option ReadingState) → Loses (WasTorn Was s) (scan.asked_again s.opening r)
   asked_quiet None = tt
   asked_quiet (Some r) =
-      by_test (Loses (WasTorn g run s)) (is_asking r.stage) (scan.fetches r) (Hello s.opening.ask ∷ [])
-      (λ t. fetches_lose (WasTorn g run s) r.target.seg.name r.ask (to_ask r)) (λ t. tt)
+      by_test (Loses (WasTorn Was s)) (is_asking r.stage) (scan.fetches r) (Hello s.opening.ask ∷ [])
+      (λ t. fetches_lose (WasTorn Was s) r.target.seg.name r.ask (to_ask r)) (λ t. tt)
 
-  tick_quiet : (stage : Stage) → Loses (WasTorn g run s) (scan.on_tick s.opening stage)
+  tick_quiet : (stage : Stage) → Loses (WasTorn Was s) (scan.on_tick s.opening stage)
   unfolding scan.on_tick
   tick_quiet Hails = tt
-  tick_quiet (Gathers lists) = fences_lose (WasTorn g run s) (scan.awaited s.opening.groups lists)
+  tick_quiet (Gathers lists) = fences_lose (WasTorn Was s) (scan.awaited s.opening.groups lists)
   tick_quiet (Asks lists) = tt
   tick_quiet (Reads b r) = asked_quiet r
   tick_quiet Over = tt
@@ -176,7 +181,7 @@ module _ (g : Setting) (start n o : Net) (run : Runs g start n) (e : Happens g n
   missing_true ask server generation truth b r at a same =
       a.drawn server generation (truth b r server generation at (ap (λ z. scan_in.Missing z server generation) same))
 
-  pub takes_goes : (i : Input) → CameToScan g n i → IsTrue run s i → StageKept g run s.opening.ask s.stage → To (scan.transition s i)
+  pub takes_goes : (i : Input) → CameToScan g n i → IsTrue run s i → StageKept g Was run s.opening.ask s.stage → To (scan.transition s i)
   takes_goes (scan_in.Welcome ask news m) came truth k = welcome_goes ask news m came k
   takes_goes (scan_in.Fenced server generation held) came truth k = fenced_goes s.stage (record { server = server; generation = generation; held = held }) k
   takes_goes (scan_in.Got ask server generation f) came truth k = told_goes ask server (told.Held f) (held_true ask server f) s.stage refl k

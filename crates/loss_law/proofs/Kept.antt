@@ -25,7 +25,8 @@ use Rattle.loss_law.proofs.Pairs.{Single, AllAsked, AllSo, so_on}
 use Rattle.loss_law.proofs.Growing.{Base, Grows, sent_then}
 use Rattle.loss_law.proofs.Interval.{Before, Between}
 
-module _ (g : Setting) {start n : Net} (run : Runs g start n) where
+-- `Was` is what there is to show of a segment that was torn at a moment of this opening.
+module _ (g : Setting) (Was : SegRef → Type 0) {start n : Net} (run : Runs g start n) where
   -- the moment at which the last round ended, and the pairs that were Missing in that round
   pub record Middle (seg : SegRef) (kept : List (ℕ × ℕ)) : Type 0 where
     pub net : Net
@@ -33,7 +34,7 @@ module _ (g : Setting) {start n : Net} (run : Runs g start n) where
     pub later : Runs g net n
     pub pairs : Each (λ p. Before g seg.name net p.0 p.1) kept
     -- it is of this opening
-    pub known : IsTorn g seg net → Once is_opening (IsTorn g seg) run
+    pub known : IsTorn g seg net → Was seg
 
   -- a round is on: its question was drawn after that moment, and so what is told tells of a moment since
   pub record Asks_on (r : ReadingState) : Type 0 where
@@ -44,7 +45,7 @@ module _ (g : Setting) {start n : Net} (run : Runs g start n) where
   -- Two rounds missed the segment: it was torn, unless a horizon passed it; and whatever answers the question that is out is no earlier than that horizon.
   pub record Doubts (ask : ℕ) (seg : SegRef) : Type 0 where
     pub bound : ℕ
-    pub torn : bound ≤ seg.name.seq → Once is_opening (IsTorn g seg) run
+    pub torn : bound ≤ seg.name.seq → Was seg
     pub past : bound ≤ n.low
     pub heard : (news : List SlotNews) (m : GroupMapState) → In (WelcomeSent n.inc ask news m) n.sent → bound ≤ least_horizon g.log.0 news
 
@@ -89,15 +90,15 @@ once_now keeps P (On run e) is now = (is, inl now)
 
 -- ---- an event goes by
 
-module _ (g : Setting) (start n o : Net) (run : Runs g start n) (e : Happens g n o) (grows : Grows g n o) (boot : o.inc ≡ n.inc)
-    (opens : is_opening o.owner ≡ true) where
+module _ (g : Setting) (Was Now : SegRef → Type 0) (start n o : Net) (run : Runs g start n) (e : Happens g n o) (grows : Grows g n o) (boot : o.inc ≡ n.inc)
+    (up : (seg : SegRef) → Was seg → Now seg) where
   pub between_on : (name : SegName) (m : Net) (v generation : ℕ) → Between g name m n v generation → Between g name m o v generation
   between_on name m v generation b = record { at = b.at; first = b.first; later = On b.later e; lacks = b.lacks }
 
-  pub middle_on : (seg : SegRef) (kept : List (ℕ × ℕ)) → Middle g run seg kept → Middle g (On run e) seg kept
-  middle_on seg kept m = record { net = m.net; base = m.base; later = On m.later e; pairs = m.pairs; known = λ t. (opens, inr (m.known t)) }
+  pub middle_on : (seg : SegRef) (kept : List (ℕ × ℕ)) → Middle g Was run seg kept → Middle g Now (On run e) seg kept
+  middle_on seg kept m = record { net = m.net; base = m.base; later = On m.later e; pairs = m.pairs; known = λ t. up seg (m.known t) }
 
-  asks_on : (r : ReadingState) → Asks_on g run r → Asks_on g (On run e) r
+  asks_on : (r : ReadingState) → Asks_on g Was run r → Asks_on g Now (On run e) r
   unfolding middle_on
   asks_on r a =
       record {
@@ -115,9 +116,9 @@ module _ (g : Setting) (start n o : Net) (run : Runs g start n) (e : Happens g n
           by (inl now) = record { at = o; first = On a.middle.later e; later = Begun; lacks = now }
           by (inr old) = between_on r.target.seg.name a.middle.net v generation (a.drawn v generation old)
 
-  doubts_on : (ask : ℕ) (seg : SegRef) → Doubts g run ask seg → Doubts g (On run e) ask seg
+  doubts_on : (ask : ℕ) (seg : SegRef) → Doubts g Was run ask seg → Doubts g Now (On run e) ask seg
   doubts_on ask seg d =
-      record { bound = d.bound; torn = λ above. (opens, inr (d.torn above)); past = (let a = d.past in let b = grows.low in omega arith); heard = heard }
+      record { bound = d.bound; torn = λ above. up seg (d.torn above); past = (let a = d.past in let b = grows.low in omega arith); heard = heard }
     where
       heard : (news : List SlotNews) (m : GroupMapState) → In (WelcomeSent o.inc ask news m) o.sent → d.bound ≤ least_horizon g.log.0 news
       heard news m is = by (sent_then g n o grows (WelcomeSent o.inc ask news m) is)
@@ -127,13 +128,13 @@ module _ (g : Setting) (start n o : Net) (run : Runs g start n) (e : Happens g n
           by (inl new) = let a = d.past in let b = new.1 in omega arith
           by (inr old) = d.heard news m (subst (λ inc. In (WelcomeSent inc ask news m) n.sent) boot old)
 
-  round_on : (ask : ℕ) (r : ReadingState) (stage : rounds.Stage) → RoundKept g run ask r stage → RoundKept g (On run e) ask r stage
+  round_on : (ask : ℕ) (r : ReadingState) (stage : rounds.Stage) → RoundKept g Was run ask r stage → RoundKept g Now (On run e) ask r stage
   round_on ask r stand.Asking k = asks_on r k
   round_on ask r stand.Between k = middle_on r.target.seg r.kept k
   round_on ask r stand.Doubted k = doubts_on ask r.target.seg k
   round_on ask r stand.Over k = tt
 
-  pub reading_on : (ask : ℕ) (b : Backward) (r : ReadingState) → ReadingKept g run ask b r → ReadingKept g (On run e) ask b r
+  pub reading_on : (ask : ℕ) (b : Backward) (r : ReadingState) → ReadingKept g Was run ask b r → ReadingKept g Now (On run e) ask b r
   reading_on ask b r k =
       record {
         of_log = k.of_log;
@@ -145,11 +146,11 @@ module _ (g : Setting) (start n o : Net) (run : Runs g start n) (e : Happens g n
         stage = round_on ask r r.stage k.stage;
       }
 
-  read_on : (ask : ℕ) (b : Backward) (r : Option ReadingState) → ReadKept g run ask b r → ReadKept g (On run e) ask b r
+  read_on : (ask : ℕ) (b : Backward) (r : Option ReadingState) → ReadKept g Was run ask b r → ReadKept g Now (On run e) ask b r
   read_on ask b None k = tt
   read_on ask b (Some r) k = reading_on ask b r k
 
-  pub stage_on : (ask : ℕ) (stage : Stage) → StageKept g run ask stage → StageKept g (On run e) ask stage
+  pub stage_on : (ask : ℕ) (stage : Stage) → StageKept g Was run ask stage → StageKept g Now (On run e) ask stage
   stage_on ask Hails k = tt
   stage_on ask (Gathers lists) k = tt
   stage_on ask (Asks lists) k = tt
@@ -159,8 +160,8 @@ module _ (g : Setting) (start n o : Net) (run : Runs g start n) (e : Happens g n
 -- ---- what is said to be lost
 
 -- the name is that of the segment that is read, and at some moment of this opening that was torn
-pub record WasTorn (g : Setting) {n m : Net} (run : Runs g n m) (s : ScanState) (name : SegName) : Type 0 where
+pub record WasTorn (Was : SegRef → Type 0) (s : ScanState) (name : SegName) : Type 0 where
   pub segment : SegRef
   pub named : name ≡ segment.name
   pub is_read : IsRead s.stage segment
-  pub once : Once is_opening (IsTorn g segment) run
+  pub once : Was segment

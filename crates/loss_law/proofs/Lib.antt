@@ -1,14 +1,14 @@
-mod Counting
+pub mod Counting
 mod Pairs
 mod Shelves
-mod Growing
+pub mod Growing
 mod Asking
-mod Events
-mod Interval
+pub mod Events
+pub mod Interval
 mod Torn
-mod Kept
+pub mod Kept
 mod Answering
-mod Readings
-mod Inputs
+pub mod Readings
+pub mod Inputs
 mod Disks
-mod Losing
+pub mod Losing

@@ -1,6 +1,7 @@
 -- In every run what is known of an opening stays so, and so what a reopening says is lost was torn.
 use Rattle.std.proofs.Common.{◌≡◌, suc, List, [], ◌∷◌, refl, sym, ap, subst, inl, inr}
 use Rattle.xfs_base.specs.declared.segment.SegName.{SegName}
+use Rattle.xfs_base.specs.declared.segment.SegRef.{SegRef}
 use Rattle.log_scan.specs.declared.input.In.{In as Input}
 use Rattle.log_scan.specs.declared.output.Out.{Out}
 use Rattle.log_scan.specs.declared.output.Out.TheVariants.{Hello, Fence, Fetch, Chain, Lost}
@@ -15,40 +16,52 @@ use Rattle.log_law.specs.Events.{CameToScan, Happens, Runs}
 use Rattle.log_law.specs.Events.Happens.{Acts, Writes, Opens, Crashes, Restarts, Renews, Serves, Bars, Lists, Hears, Raises, Publishes, Welcomes, Drops}
 use Rattle.log_law.specs.Events.Runs.{Begun, On}
 use Rattle.log_law.specs.Laws.{LogsStayWhole}
-use Rattle.loss_law.specs.Losses.{is_opening, Takes, IsTrue, MissingsTrue, AReopeningLosesWhatIsTorn}
+use Rattle.loss_law.specs.Losses.{Once, IsTorn, is_opening, Takes, IsTrue, MissingsTrue, AReopeningLosesWhatIsTorn}
 use Rattle.loss_law.proofs.Growing.{Base}
 use Rattle.loss_law.proofs.Events.{first_base, opened_to, same_boot, writes_none, grows, base_then}
-use Rattle.loss_law.proofs.Kept.{StageKept, Kept, WasTorn, stage_on}
+use Rattle.loss_law.proofs.Kept.{StageKept, Kept, WasTorn, once_now, stage_on}
 use Rattle.loss_law.proofs.Readings.{Loses, Goes}
 use Rattle.loss_law.proofs.Inputs.{takes_goes}
 use Rattle.loss_law.proofs.Disks.{once_lost}
 
+-- at some moment of this opening it was torn
+abbrev TornIn : (g : Setting) {start n : Net} → Runs g start n → SegRef → Type 0
+TornIn g run seg = Once is_opening (IsTorn g seg) run
+
 -- an event that leaves the owner alone
-module _ (g : Setting) (start n o : Net) (run : Runs g start n) (base : Base g n) (e : Happens g n o) (kept : Kept g run) where
-  aside : o.inc ≡ n.inc → o.owner ≡ n.owner → Kept g (On run e)
-  aside boot owner s is = stage_on g start n o run e (grows g n o base e) boot (ap is_opening is) s.opening.ask s.stage (kept s (sym_owner owner is))
+module _ (g : Setting) (start n o : Net) (run : Runs g start n) (base : Base g n) (e : Happens g n o) (kept : Kept g (TornIn g run) run) where
+  aside : o.inc ≡ n.inc → o.owner ≡ n.owner → Kept g (TornIn g (On run e)) (On run e)
+  aside boot owner s is =
+      stage_on g (TornIn g run) (TornIn g (On run e)) start n o run e (grows g n o base e) boot (λ seg t. (ap is_opening is, inr t)) s.opening.ask s.stage
+      (kept s (sym_owner owner is))
     where
       sym_owner : o.owner ≡ n.owner → o.owner ≡ Opening s → n.owner ≡ Opening s
       sym_owner a b = cc
 
+torn_now : (g : Setting) (start n : Net) (run : Runs g start n) (s : ScanState) → n.owner ≡ Opening s → (seg : SegRef) → IsTorn g seg n → TornIn g run seg
+torn_now g start n run s is seg t = once_now is_opening (IsTorn g seg) run (ap is_opening is) t
+
 goes_of : (g : Setting) (start n : Net) (run : Runs g start n) (base : Base g n) (s : ScanState) (i : Input) (is : n.owner ≡ Opening s)
-    (came : CameToScan g n i) (e : Happens g n (after_scan g n s (scan.transition s i))) → IsTrue run s i → Kept g run
-    → Goes g start n (after_scan g n s (scan.transition s i)) run e (grows g n _ base e) (same_boot g n s (scan.transition s i)) base s is (scan.transition s i)
+    (came : CameToScan g n i) (e : Happens g n (after_scan g n s (scan.transition s i))) → IsTrue run s i → Kept g (TornIn g run) run
+    → Goes g (TornIn g run) (TornIn g (On run e)) start n (after_scan g n s (scan.transition s i)) run e (grows g n _ base e)
+    (same_boot g n s (scan.transition s i)) base s is (λ opens seg t. (opens, inr t)) (torn_now g start n run s is) (scan.transition s i)
 goes_of g start n run base s i is came e truth kept =
-    takes_goes g start n (after_scan g n s (scan.transition s i)) run e (grows g n _ base e) (same_boot g n s (scan.transition s i)) base s is i came truth
-    (kept s is)
+    takes_goes g (TornIn g run) (TornIn g (On run e)) start n (after_scan g n s (scan.transition s i)) run e (grows g n _ base e)
+    (same_boot g n s (scan.transition s i)) base s is (λ opens seg t. (opens, inr t)) (torn_now g start n run s is) i came truth (kept s is)
 
 kept_then : (g : Setting) (start n o : Net) (run : Runs g start n) (base : Base g n) (e : Happens g n o)
-    → ((s : ScanState) (i : Input) → Takes e s i → IsTrue run s i) → Kept g run → Kept g (On run e)
+    → ((s : ScanState) (i : Input) → Takes e s i → IsTrue run s i) → Kept g (TornIn g run) run → Kept g (TornIn g (On run e)) (On run e)
 kept_then g start n o run base (Acts s i is came texts) truth kept t at = absurd cc
 kept_then g start n o run base (Writes chain s i is came texts) truth kept t at =
     absurd (writes_none g n chain (log.transition s i) (log.transition s i).state.flight t at)
 kept_then g start n o run base (Opens s i is came can) truth kept t at =
     let d = scan.transition s i in
     let goes = goes_of g start n run base s i is came (Opens s i is came can) (truth s i (refl, refl)) kept in
-    subst (λ (z : ScanState). StageKept g (On run (Opens s i is came can)) z.opening.ask z.stage) (sym (opened_to g n s d t at)) (goes.kept (ap is_opening at))
+    subst (λ (z : ScanState). StageKept g (TornIn g (On run (Opens s i is came can))) (On run (Opens s i is came can)) z.opening.ask z.stage)
+    (sym (opened_to g n s d t at)) (goes.kept (ap is_opening at))
 kept_then g start n o run base Crashes truth kept t at = absurd cc
-kept_then g start n o run base (Restarts is) truth kept t at = subst (λ (z : ScanState). StageKept g (On run (Restarts is)) z.opening.ask z.stage) (same at) tt
+kept_then g start n o run base (Restarts is) truth kept t at =
+    subst (λ (z : ScanState). StageKept g (TornIn g (On run (Restarts is))) (On run (Restarts is)) z.opening.ask z.stage) (same at) tt
   where
     same : Opening (started g.log (suc n.inc)) ≡ Opening t → started g.log (suc n.inc) ≡ t
     same e = cc
@@ -68,16 +81,17 @@ kept_then g start n o run base (Drops lists meta is among below) truth kept t at
 
 record Known (g : Setting) {start n : Net} (run : Runs g start n) : Type 0 where
   base : Base g n
-  kept : Kept g run
+  kept : Kept g (TornIn g run) run
 
-known : (g : Setting) (start n : Net) (run : Runs g start n) → Base g start → Kept g (Begun {n = start}) → MissingsTrue run → Known g run
+known : (g : Setting) (start n : Net) (run : Runs g start n) → Base g start → Kept g (TornIn g (Begun {n = start})) (Begun {n = start}) → MissingsTrue run
+    → Known g run
 known g start n Begun base kept truth = record { base = base; kept = kept }
 known g start n (On {m = m} run e) base kept truth = on (known g start m run base kept truth.0)
   where
     on : Known g run → Known g (On run e)
     on k = record { base = base_then g m n k.base e; kept = kept_then g start m n run k.base e truth.1 k.kept }
 
-lost_in : (P : SegName → Type 0) (outs : List Out) → Loses P outs → (name : SegName) → In (Lost name) outs → P name
+pub lost_in : (P : SegName → Type 0) (outs : List Out) → Loses P outs → (name : SegName) → In (Lost name) outs → P name
 lost_in P [] all name is = absurd is
 lost_in P (Hello ask ∷ outs) all name (inl e) = absurd cc
 lost_in P (Hello ask ∷ outs) all name (inr is) = lost_in P outs all name is
@@ -95,14 +109,14 @@ lost_in P (Lost other ∷ outs) all name (inr is) = lost_in P outs all.1 name is
 
 torn : (g : Setting) (start n o : Net) (run : Runs g start n) (k : Known g run) (e : Happens g n o)
     → ((s : ScanState) (i : Input) → Takes e s i → IsTrue run s i) → (s : ScanState) (i : Input) → Takes e s i → (name : SegName)
-    → In (Lost name) (scan.transition s i).outs → WasTorn g run s name
+    → In (Lost name) (scan.transition s i).outs → WasTorn (TornIn g run) s name
 torn g start n o run k (Acts s i is came texts) truth t j takes name lost = absurd takes
 torn g start n o run k (Writes chain s i is came texts) truth t j takes name lost = absurd takes
 torn g start n o run k (Opens s i is came can) truth t j takes name lost =
     let goes = goes_of g start n run k.base s i is came (Opens s i is came can) (truth s i (refl, refl)) k.kept in
     let said : In (Lost name) (scan.transition s i).outs =
     subst (λ z. In (Lost name) (scan.transition s z).outs) (sym takes.1) (subst (λ z. In (Lost name) (scan.transition z j).outs) (sym takes.0) lost) in
-    subst (λ z. WasTorn g run z name) takes.0 (lost_in (WasTorn g run s) (scan.transition s i).outs goes.lost name said)
+    subst (λ z. WasTorn (TornIn g run) z name) takes.0 (lost_in (WasTorn (TornIn g run) s) (scan.transition s i).outs goes.lost name said)
 torn g start n o run k Crashes truth t j takes name lost = absurd takes
 torn g start n o run k (Restarts is) truth t j takes name lost = absurd takes
 torn g start n o run k (Renews m high doubts is came) truth t j takes name lost = absurd takes

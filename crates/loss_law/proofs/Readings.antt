@@ -77,12 +77,13 @@ more_than a b e = grind (arith, nat_tests)
 pub same_ask : (a b : ℕ) → (a == b) ≡ true → a ≡ b
 same_ask a b e = grind (arith, nat_tests)
 
-module _ (g : Setting) (start n o : Net) (run : Runs g start n) (e : Happens g n o) (grows : Grows g n o) (boot : o.inc ≡ n.inc) (base : Base g n)
-    (s : ScanState) (is : n.owner ≡ Opening s) where
+module _ (g : Setting) (Was Now : SegRef → Type 0) (start n o : Net) (run : Runs g start n) (e : Happens g n o) (grows : Grows g n o) (boot : o.inc ≡ n.inc)
+    (base : Base g n) (s : ScanState) (is : n.owner ≡ Opening s) (up : is_opening o.owner ≡ true → (seg : SegRef) → Was seg → Now seg)
+    (torn_now : (seg : SegRef) → IsTorn g seg n → Was seg) where
   -- what is to be shown of what it does: what is known of it stays so while it is an opening, and what it says is lost is earned
   pub record Goes (d : Done) : Type 0 where
-    pub kept : is_opening o.owner ≡ true → StageKept g (On run e) d.state.opening.ask d.state.stage
-    pub lost : Loses (WasTorn g run s) d.outs
+    pub kept : is_opening o.owner ≡ true → StageKept g Now (On run e) d.state.opening.ask d.state.stage
+    pub lost : Loses (WasTorn Was s) d.outs
 
   -- an opening with the same last question
   pub record Like (p : OpeningState) : Type 0 where
@@ -99,12 +100,13 @@ module _ (g : Setting) (start n o : Net) (run : Runs g start n) (e : Happens g n
       by (inr old) = absurd (not_drawn ask s.opening.ask less (subst (λ z. has_drawn ask z ≡ true) is (once_keeps (has_drawn ask) P run old)))
 
   -- this moment
-  now_middle : (seg : SegRef) (kept : List (ℕ × ℕ)) → Each (λ p. Before g seg.name n p.0 p.1) kept → is_opening o.owner ≡ true → Middle g (On run e) seg kept
+  now_middle : (seg : SegRef) (kept : List (ℕ × ℕ)) → Each (λ p. Before g seg.name n p.0 p.1) kept → is_opening o.owner ≡ true
+      → Middle g Now (On run e) seg kept
   now_middle seg kept all opens =
-      record { net = n; base = base; later = On Begun e; pairs = all; known = λ t. (opens, inr (once_now is_opening (IsTorn g seg) run (ap is_opening is) t)) }
+      record { net = n; base = base; later = On Begun e; pairs = all; known = λ t. up opens seg (torn_now seg t) }
 
   -- a round begins
-  first_asked : (r : ReadingState) → Middle g (On run e) r.target.seg r.kept → s.opening.ask < r.ask → r.round.answers ≡ [] → Asks_on g (On run e) r
+  first_asked : (r : ReadingState) → Middle g Now (On run e) r.target.seg r.kept → s.opening.ask < r.ask → r.round.answers ≡ [] → Asks_on g Now (On run e) r
   first_asked r m less none = record {
     middle = m;
     drawn = λ v generation once. record { at = o; first = m.later; later = Begun; lacks = drawn_now r.ask (LacksIn r.target.seg.name v generation) less once };
@@ -117,7 +119,7 @@ module _ (g : Setting) (start n o : Net) (run : Runs g start n) (e : Happens g n
     abbrev begun : ReadingState
     begun = reading.begun (scan.target_at p.log b.next) group (p.ask + 1)
 
-    begun_kept : is_opening o.owner ≡ true → ReadingKept g (On run e) (p.ask + 1) b begun
+    begun_kept : is_opening o.owner ≡ true → ReadingKept g Now (On run e) (p.ask + 1) b begun
     begun_kept opens = let named = like.groups b.next.group group of in record {
       of_log = like.log;
       next = refl;
@@ -133,7 +135,7 @@ module _ (g : Setting) (start n o : Net) (run : Runs g start n) (e : Happens g n
   begins_goes p b (Some group) of like =
       record {
         kept = begun_kept p b group of like;
-        lost = fetches_lose (WasTorn g run s) (scan.name_at p.log b.next) (p.ask + 1) (to_ask (begun p b group of like));
+        lost = fetches_lose (WasTorn Was s) (scan.name_at p.log b.next) (p.ask + 1) (to_ask (begun p b group of like));
       }
 
   pub round_goes : (p : OpeningState) (b : Backward) → Like p → Goes (scan.begins_round p b)
@@ -158,23 +160,23 @@ module _ (g : Setting) (start n o : Net) (run : Runs g start n) (e : Happens g n
 
   -- ---- the segment that is read
 
-  module _ (b : Backward) (r : ReadingState) (at : s.stage ≡ Reads b (Some r)) (k : ReadingKept g run s.opening.ask b r) where
+  module _ (b : Backward) (r : ReadingState) (at : s.stage ≡ Reads b (Some r)) (k : ReadingKept g Was run s.opening.ask b r) where
     -- the same reading, with what else is known of it, waits
-    waits : (p : OpeningState) (q : ReadingState) → p.ask ≡ s.opening.ask → ReadingKept g run s.opening.ask b q → Goes (scan.goes_on p b q next.Wait)
+    waits : (p : OpeningState) (q : ReadingState) → p.ask ≡ s.opening.ask → ReadingKept g Was run s.opening.ask b q → Goes (scan.goes_on p b q next.Wait)
     unfolding scan.goes_on
     waits p q same known =
         record {
-          kept = λ opens. subst (λ ask. ReadingKept g (On run e) ask b q) (sym same)
-              (reading_on g start n o run e grows boot opens s.opening.ask b q known);
+          kept = λ opens. subst (λ ask. ReadingKept g Now (On run e) ask b q) (sym same)
+              (reading_on g Was Now start n o run e grows boot (up opens) s.opening.ask b q known);
           lost = tt;
         }
 
     -- the next round
-    module _ (p : OpeningState) (like : Like p) (m : Middle g run r.target.seg r.kept) where
+    module _ (p : OpeningState) (like : Like p) (m : Middle g Was run r.target.seg r.kept) where
       abbrev anew : ReadingState
       anew = (reading.goes_on r (p.ask + 1) stand.Between).state
 
-      anew_kept : is_opening o.owner ≡ true → ReadingKept g (On run e) (p.ask + 1) b anew
+      anew_kept : is_opening o.owner ≡ true → ReadingKept g Now (On run e) (p.ask + 1) b anew
       anew_kept opens = record {
         of_log = k.of_log;
         next = k.next;
@@ -182,20 +184,21 @@ module _ (g : Setting) (start n o : Net) (run : Runs g start n) (e : Happens g n
         parity = k.parity;
         single = tt;
         asked = tt;
-        stage = first_asked anew (middle_on g start n o run e grows boot opens r.target.seg r.kept m) (let a = like.ask in omega arith) refl;
+        stage = first_asked anew (middle_on g Was Now start n o run e grows boot (up opens) r.target.seg r.kept m) (let a = like.ask in omega arith) refl;
       }
 
       again : Goes (scan.goes_on p b anew next.Ask)
       unfolding scan.goes_on
-      again = record { kept = anew_kept; lost = fetches_lose (WasTorn g run s) r.target.seg.name (p.ask + 1) (to_ask anew) }
+      again = record { kept = anew_kept; lost = fetches_lose (WasTorn Was s) r.target.seg.name (p.ask + 1) (to_ask anew) }
 
-    loses : (p : OpeningState) (q : ReadingState) → q.target ≡ r.target → WasTorn g run s r.target.seg.name → Goes (scan.goes_on p b q next.Lost)
+    loses : (p : OpeningState) (q : ReadingState) → q.target ≡ r.target → WasTorn Was s r.target.seg.name → Goes (scan.goes_on p b q next.Lost)
     unfolding scan.goes_on
-    loses p q same earned = record { kept = λ opens. tt; lost = (subst (λ (t : Target). WasTorn g run s t.seg.name) (sym same) earned, tt) }
+    loses p q same earned = record { kept = λ opens. tt; lost = (subst (λ (t : Target). WasTorn Was s t.seg.name) (sym same) earned, tt) }
 
     -- the question of the reader is answered, by a horizon that doesn't pass the segment
-    decided : (p : OpeningState) (stage : rounds.Stage) → Like p → ((d : Doubts g run s.opening.ask r.target.seg) → d.bound ≤ p.low) → p.low ≤ b.next.seq
-        → RoundKept g run s.opening.ask r stage → Goes (scan.goes_on p b (reading.goes_on r (p.ask + 1) stage).state (reading.goes_on r (p.ask + 1) stage).next)
+    decided : (p : OpeningState) (stage : rounds.Stage) → Like p → ((d : Doubts g Was run s.opening.ask r.target.seg) → d.bound ≤ p.low) → p.low ≤ b.next.seq
+        → RoundKept g Was run s.opening.ask r stage
+        → Goes (scan.goes_on p b (reading.goes_on r (p.ask + 1) stage).state (reading.goes_on r (p.ask + 1) stage).next)
     decided p stand.Asking like reached above known = waits p r like.ask k
     decided p stand.Between like reached above known = again p like known
     decided p stand.Doubted like reached above known = loses p (record r { stage = stand.Over }) refl (record {
@@ -206,7 +209,7 @@ module _ (g : Setting) (start n o : Net) (run : Runs g start n) (e : Happens g n
     })
     decided p stand.Over like reached above known = waits p r like.ask k
 
-    pub confirmed : (p : OpeningState) → Like p → ((d : Doubts g run s.opening.ask r.target.seg) → d.bound ≤ p.low) → Goes (scan.confirms p b (Some r))
+    pub confirmed : (p : OpeningState) → Like p → ((d : Doubts g Was run s.opening.ask r.target.seg) → d.bound ≤ p.low) → Goes (scan.confirms p b (Some r))
     unfolding scan.confirms reading.on_confirmed
     confirmed p like reached =
         by_test Goes (scan.is_bottom p.low b.next) (goes p Over (scan.chain_of b ∷ [])) (scan.confirms_by p b (Some r)) (λ t. over_goes p b)
@@ -214,7 +217,7 @@ module _ (g : Setting) (start n o : Net) (run : Runs g start n) (e : Happens g n
 
     -- ---- an answer
 
-    module _ (like : Like s.opening) (a : Asks_on g run r) (asking : r.stage ≡ stand.Asking) (now : RoundSoFar)
+    module _ (like : Like s.opening) (a : Asks_on g Was run r) (asking : r.stage ≡ stand.Asking) (now : RoundSoFar)
         (so : RoundSo (Between g r.target.seg.name a.middle.net n) r.round.servers r.round.parity now) where
       abbrev seg : SegRef
       seg = r.target.seg
@@ -222,7 +225,7 @@ module _ (g : Setting) (start n o : Net) (run : Runs g start n) (e : Happens g n
       abbrev q : ReadingState
       q = record r { round = now }
 
-      goes_further : ReadingKept g run s.opening.ask b q
+      goes_further : ReadingKept g Was run s.opening.ask b q
       goes_further = record {
         of_log = k.of_log;
         next = k.next;
@@ -230,7 +233,7 @@ module _ (g : Setting) (start n o : Net) (run : Runs g start n) (e : Happens g n
         parity = so.its_parity ∙ k.parity;
         single = so.single;
         asked = so.asked;
-        stage = subst (RoundKept g run s.opening.ask q) (sym asking) (record { middle = a.middle; drawn = a.drawn; told = so.told });
+        stage = subst (RoundKept g Was run s.opening.ask q) (sym asking) (record { middle = a.middle; drawn = a.drawn; told = so.told });
       }
 
       -- it was so before the end of the round
@@ -257,17 +260,15 @@ module _ (g : Setting) (start n o : Net) (run : Runs g start n) (e : Happens g n
             by (inl new) = let z = new.1 in omega arith
             by (inr old) = absurd (none_before o.inc boot old)
 
-        doubted : nat_lt now.parity (length (missing_twice r.kept pairs)) ≡ true → is_opening o.owner ≡ true → Doubts g (On run e) (s.opening.ask + 1) seg
+        doubted : nat_lt now.parity (length (missing_twice r.kept pairs)) ≡ true → is_opening o.owner ≡ true → Doubts g Now (On run e) (s.opening.ask + 1) seg
         doubted t opens = record {
           bound = n.low;
-          torn = λ above. (
-            opens,
-            inr (a.middle.known
-                (is_torn g seg k.of_log a.middle.net n a.middle.base a.middle.later
-                (λ dropped. (let z = base.below seg.name dropped in let y = above in absurd (omega arith))) r.kept pairs now.servers now.parity
-                (so.its_servers ∙ k.servers) (so.its_parity ∙ k.parity) a.middle.pairs each apart among
-                (more_than now.parity (length (missing_twice r.kept pairs)) t))),
-          );
+          torn = λ above. up opens seg
+              (a.middle.known
+              (is_torn g seg k.of_log a.middle.net n a.middle.base a.middle.later
+              (λ dropped. (let z = base.below seg.name dropped in let y = above in absurd (omega arith))) r.kept pairs now.servers now.parity
+              (so.its_servers ∙ k.servers) (so.its_parity ∙ k.parity) a.middle.pairs each apart among
+              (more_than now.parity (length (missing_twice r.kept pairs)) t)));
           past = grows.low;
           heard = heard;
         }
@@ -276,7 +277,7 @@ module _ (g : Setting) (start n o : Net) (run : Runs g start n) (e : Happens g n
         unfolding scan.goes_on
         round_ends = record { kept = kept; lost = tt }
           where
-            kept : is_opening o.owner ≡ true → ReadingKept g (On run e) (s.opening.ask + 1) b ended
+            kept : is_opening o.owner ≡ true → ReadingKept g Now (On run e) (s.opening.ask + 1) b ended
             kept opens = record {
               of_log = k.of_log;
               next = k.next;
@@ -284,7 +285,7 @@ module _ (g : Setting) (start n o : Net) (run : Runs g start n) (e : Happens g n
               parity = so.its_parity ∙ k.parity;
               single = so.single;
               asked = so.asked;
-              stage = by_test (RoundKept g (On run e) (s.opening.ask + 1) ended) (are_gone now.parity r.kept pairs) stand.Doubted stand.Between
+              stage = by_test (RoundKept g Now (On run e) (s.opening.ask + 1) ended) (are_gone now.parity r.kept pairs) stand.Doubted stand.Between
                   (λ t. doubted t opens) (λ t. now_middle seg pairs (each_on _ _ before_now pairs each) opens);
             }
 
@@ -304,7 +305,7 @@ module _ (g : Setting) (start n o : Net) (run : Runs g start n) (e : Happens g n
 
     -- what is told, where it counts, was so
     pub answered : (groups : GroupMapState) (ask server : ℕ) (t : Told) → Like s.opening
-        → ((a : Asks_on g run r) → ask ≡ r.ask → ToldSo (Between g r.target.seg.name a.middle.net n) server t)
+        → ((a : Asks_on g Was run r) → ask ≡ r.ask → ToldSo (Between g r.target.seg.name a.middle.net n) server t)
         → Goes (scan.goes_on s.opening b (reading.on_answer r groups ask server t).state (reading.on_answer r groups ask server t).next)
     unfolding reading.on_answer
     answered groups ask server t like true_then = by_test (λ (step : Step). Goes (scan.goes_on s.opening b step.state step.next)) (counts r ask server t)
@@ -317,7 +318,7 @@ module _ (g : Setting) (start n o : Net) (run : Runs g start n) (e : Happens g n
         takes test =
             let c = counted_parts (is_asking r.stage) (ask == r.ask) (asks r.round server) (name_fits r.target t && told_fits r.round t) test in
             let asking : r.stage ≡ stand.Asking = asks_still r.stage c.first in
-            let a : Asks_on g run r = subst (RoundKept g run s.opening.ask r) asking k.stage in
+            let a : Asks_on g Was run r = subst (RoundKept g Was run s.opening.ask r) asking k.stage in
             judged like a asking (taken r.round server t)
             (taken_so (Between g r.target.seg.name a.middle.net n) r.round.servers r.round.parity r.round server t
             (record { its_servers = refl; its_parity = refl; single = k.single; asked = k.asked; told = a.told }) c.third
