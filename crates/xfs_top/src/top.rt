@@ -3,19 +3,23 @@ ghost use Rattle.std.specs.Prelude.{◌≡◌, false, IfSome, map, string_bytes}
 ghost use Rattle.core_world.specs.AnyNode.{any_step, any_start};
 ghost use Rattle.top_call.specs.Claim.{writing, reading, Claim};
 ghost use Rattle.top_call.specs.Commands.{command_of, reads};
+ghost use Rattle.torn_law.specs.Torn.{ReopeningLossesEarned};
 ghost use Rattle.world_law.specs.Fallen.{FallsApartThroughout, NobodyHoldsThroughout};
 ghost use Rattle.world_law.specs.Managers.{OneManagerThroughout};
 ghost use Rattle.world_law.specs.Owners.{OneOwnerThroughout};
 ghost use Rattle.world_logs.specs.Horizons.{HorizonsReached};
 ghost use Rattle.world_logs.specs.Logs.{CleanersLogStands, LogsStand, ManagersLogsStand};
+ghost use Rattle.world_reads.specs.Legal.{LegalActs, LegalWithoutLosses};
 
 use core_world::AnyNode;
 use std::alloc::Global;
 use std::sync::Wait;
 use std::thread::Threads;
 use top_call::{Outcome, Sink, Source, answer};
+use torn_law::reopenings_lose_what_is_torn;
 use world_law::{every_run_has_one_manager, every_run_has_one_owner, what_fell_is_held_by_nobody};
 use world_logs::runs_keep_logs;
+use world_reads::every_runs_acts_are_legal;
 use xfs_base::Gate;
 
 /// The program for all words but those that start threads. `README.md` lists the statuses, and
@@ -26,7 +30,11 @@ use xfs_base::Gate;
 /// least horizon of a client's log, or of the cleaner's, was 1, or no more than one beyond a segment that its owner
 /// filed (`horizons_filed`). What clients filed stood whole on the servers' shelves, but for what was deleted and
 /// for lost disks, and one name had one text (`logs_stand`). So did what the cleaner filed (`cleaners_log_stands`),
-/// and what managers filed (`managers_logs_stand`).
+/// and what managers filed (`managers_logs_stand`). Until a restart ended that was doubtful, each read was of the newest
+/// version of its block, and no fall went below a version that was synced or read elsewhere (`legal_acts`); in a run of
+/// a script that has no server lose its disk so it was throughout (`legal_without_losses`). What a
+/// client, or the cleaner, said was lost while it opened its log was torn at a moment since it began to
+/// (`reopening_losses_earned`).
 pub fn solo<S: Source, K: Sink>(
     alloc: Global,
     words: &[String],
@@ -43,11 +51,16 @@ pub fn solo<S: Source, K: Sink>(
     ensures logs_stand { IfSome result.estate LogsStand }
     ensures cleaners_log_stands { IfSome result.estate CleanersLogStands }
     ensures managers_logs_stand { IfSome result.estate ManagersLogsStand }
+    ensures legal_acts { IfSome result.estate LegalActs }
+    ensures legal_without_losses { IfSome result.estate LegalWithoutLosses }
+    ensures reopening_losses_earned { IfSome result.estate ReopeningLossesEarned }
 {
     every_run_has_one_owner();
     every_run_has_one_manager();
     what_fell_is_held_by_nobody();
     runs_keep_logs();
+    every_runs_acts_are_legal();
+    reopenings_lose_what_is_torn();
     answer(alloc, words, source, sink)
 }
 
@@ -71,6 +84,9 @@ pub fn xfs<R: Threads + Wait + Sync, S: Source, K: Sink, G: Gate>(
     ensures logs_stand { IfSome result.estate LogsStand }
     ensures cleaners_log_stands { IfSome result.estate CleanersLogStands }
     ensures managers_logs_stand { IfSome result.estate ManagersLogsStand }
+    ensures legal_acts { IfSome result.estate LegalActs }
+    ensures legal_without_losses { IfSome result.estate LegalWithoutLosses }
+    ensures reopening_losses_earned { IfSome result.estate ReopeningLossesEarned }
 {
     solo(alloc, words, source, sink)
 }

@@ -1,8 +1,10 @@
+use Rattle.torn_law.specs.Torn.{ReopeningLossesEarned}
 use Rattle.world_law.specs.Fallen.{FallsApartThroughout, NobodyHoldsThroughout}
 use Rattle.world_law.specs.Managers.{OneManagerThroughout}
 use Rattle.world_law.specs.Owners.{OneOwnerThroughout}
 use Rattle.world_logs.specs.Horizons.{HorizonsReached}
 use Rattle.world_logs.specs.Logs.{CleanersLogStands, LogsStand, ManagersLogsStand}
+use Rattle.world_reads.specs.Legal.{LegalActs, LegalWithoutLosses}
 use Rattle.xfs_top.proofs.Runs.{played_has}
 use Rattle.xfs_top.proofs.top.solo.Goals as goal
 
@@ -37,3 +39,14 @@ returns-clause-cleaners_log_stands g c = played_has CleanersLogStands c.runs_kee
 
 pub returns-clause-managers_logs_stand : goal.returns-clause-managers_logs_stand
 returns-clause-managers_logs_stand g c = played_has ManagersLogsStand c.runs_keep_logs.ensures.managers c.answer.result.estate c.answer.ensures.claim.run
+
+pub returns-clause-legal_acts : goal.returns-clause-legal_acts
+returns-clause-legal_acts g c = played_has LegalActs c.every_runs_acts_are_legal.ensures.legal c.answer.result.estate c.answer.ensures.claim.run
+
+pub returns-clause-legal_without_losses : goal.returns-clause-legal_without_losses
+returns-clause-legal_without_losses g c =
+    played_has LegalWithoutLosses c.every_runs_acts_are_legal.ensures.unlost c.answer.result.estate c.answer.ensures.claim.run
+
+pub returns-clause-reopening_losses_earned : goal.returns-clause-reopening_losses_earned
+returns-clause-reopening_losses_earned g c =
+    played_has ReopeningLossesEarned c.reopenings_lose_what_is_torn.ensures.torn c.answer.result.estate c.answer.ensures.claim.run

@@ -29,3 +29,12 @@ returns-clause-cleaners_log_stands g c = c.solo.ensures.cleaners_log_stands
 
 pub returns-clause-managers_logs_stand : goal.returns-clause-managers_logs_stand
 returns-clause-managers_logs_stand g c = c.solo.ensures.managers_logs_stand
+
+pub returns-clause-legal_acts : goal.returns-clause-legal_acts
+returns-clause-legal_acts g c = c.solo.ensures.legal_acts
+
+pub returns-clause-legal_without_losses : goal.returns-clause-legal_without_losses
+returns-clause-legal_without_losses g c = c.solo.ensures.legal_without_losses
+
+pub returns-clause-reopening_losses_earned : goal.returns-clause-reopening_losses_earned
+returns-clause-reopening_losses_earned g c = c.solo.ensures.reopening_losses_earned
