@@ -19,6 +19,3 @@ pub use history::{BlockHistory, FallTold, Version};
 pub use judge::legal;
 pub use verdict::Verdict;
 pub use work::Work;
-
-#[cfg(test)]
-mod tests;

@@ -39,6 +39,3 @@ pub use text::Text;
 pub use threads::Crosses;
 pub use token::{Mode, Stamp};
 pub use value::{Value, ValueError};
-
-#[cfg(test)]
-mod tests;
