@@ -27,7 +27,7 @@ use Rattle.world_reads.proofs.AfterClients.{OwnAfter}
 use Rattle.world_reads.proofs.AfterLaws.{AfterLaws}
 use Rattle.world_reads.proofs.AfterLogs.{flight_left, stays_known}
 use Rattle.world_reads.proofs.AfterTells.{tells_same}
-use Rattle.world_reads.proofs.Joint.{There, WritesKind, flew_at, log_at}
+use Rattle.world_reads.specs.Joint.{There, WritesKind, flew_at, log_at}
 
 module _ (base : Setting) (e : Estate AnyNode) (lines : HasLines base e) (texts : Texts base e lines) (part : ℕ) (first : ℕ → ℕ → Segment) where
   -- some owner has this log

@@ -68,8 +68,9 @@ use Rattle.world_reads.proofs.CleanerGets.{AreReached, GetsBelow, answer_reads, 
 use Rattle.world_reads.proofs.CleanerLow.{least_promised}
 use Rattle.world_reads.proofs.CleanerMoment.{IsHere}
 use Rattle.world_reads.proofs.CleanerNames.{all_named}
-use Rattle.world_reads.proofs.CleanerReading.{Flew, ListsOurs, MayBeDropped, below, flew_so, its_group, job_seen, within}
-use Rattle.world_reads.proofs.Joint.{Joint, There, log_at}
+use Rattle.world_reads.proofs.CleanerReading.{ListsOurs, MayBeDropped, below, flew_so, its_group, job_seen, within}
+use Rattle.world_reads.specs.Joint.{Joint, There, log_at}
+use Rattle.world_reads.specs.References.{Flew}
 use Rattle.xfs_base.proofs.Orders.{seg_cmp_exact}
 use Rattle.xfs_base.specs.Blocks.{slot_of}
 use Rattle.xfs_base.specs.declared.block.BlockId.{BlockId}

@@ -42,8 +42,8 @@ use Rattle.world_reads.proofs.CleanerMoment.{IsHere, Steps, in_tokens, its_line}
 use Rattle.world_reads.proofs.CleanerMoving.{Moved}
 use Rattle.world_reads.proofs.CleanerOwed.{Beside, OwedBelow}
 use Rattle.world_reads.proofs.CleanerReading.{ListsOurs}
-use Rattle.world_reads.proofs.Joint.{IsSureUpto, Joint, There, flew_at}
 use Rattle.world_reads.proofs.Taking.{Took, took_it}
+use Rattle.world_reads.specs.Joint.{IsSureUpto, Joint, There, flew_at}
 use Rattle.xfs_base.specs.declared.node.NodeId.TheVariants.{Cleaner, Registry}
 
 -- the laws of runs

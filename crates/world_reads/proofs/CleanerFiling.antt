@@ -47,7 +47,7 @@ use Rattle.world_reads.proofs.CleanerFiles.{adopted_moves, all_new}
 use Rattle.world_reads.proofs.CleanerMoment.{Steps, agrees, its_line, its_moment, its_scene, its_setting, owns, sure_at, upto_before}
 use Rattle.world_reads.proofs.CleanerReopening.{ReopensBelow, calm, came, one}
 use Rattle.world_reads.proofs.CleanerSaying.{adopted_says, filed_says, says_once}
-use Rattle.world_reads.proofs.Joint.{IsSureUpto, Joint}
+use Rattle.world_reads.specs.Joint.{IsSureUpto, Joint}
 use Rattle.xfs_base.specs.declared.node.NodeId.TheVariants.{Cleaner}
 use Rattle.xfs_base.specs.declared.segment.SegName.{SegName}
 

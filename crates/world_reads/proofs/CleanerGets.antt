@@ -9,6 +9,7 @@ use Rattle.cleaner_node.specs.Jobs.{hand_of, told_by, told_in}
 use Rattle.core_world.specs.declared.any_node.AnyNode.{AnyNode}
 use Rattle.core_world.specs.declared.any_node.AnyNode.TheVariants as any
 use Rattle.index_tie.specs.Takeovers.{of_log}
+use Rattle.log_law.specs.Held.{WhatIsListedFlew}
 use Rattle.log_law.specs.Written.{WhatFlewIsWritten}
 use Rattle.log_owner.specs.Promised.{epoch_of}
 use Rattle.log_owner.specs.Sending.{server_in}
@@ -45,8 +46,8 @@ use Rattle.world_logs.specs.Roles.{Role, log_by, renews}
 use Rattle.world_logs.specs.Roles.Role.{OfCleaner}
 use Rattle.world_reads.proofs.CleanerMoment.{IsHere, agrees, its_line, its_scene, its_setting, sure_at}
 use Rattle.world_reads.proofs.CleanerReading.{ListsOurs, reads_within, refers}
-use Rattle.world_reads.proofs.Joint.{IsSureUpto, Joint, There}
-use Rattle.world_reads.proofs.KnownLogs.{ListedFlew, filed_known}
+use Rattle.world_reads.proofs.KnownLogs.{filed_known}
+use Rattle.world_reads.specs.Joint.{IsSureUpto, Joint, There}
 use Rattle.xfs_base.specs.declared.node.NodeId.{NodeId}
 use Rattle.xfs_base.specs.declared.node.NodeId.TheVariants.{Cleaner, Registry}
 
@@ -54,7 +55,7 @@ use Rattle.xfs_base.specs.declared.node.NodeId.TheVariants.{Cleaner, Registry}
 pub record GetsBelow : Type 0 where
   pub lines : LinesGive
   pub written : WhatFlewIsWritten
-  pub flew : ListedFlew
+  pub flew : WhatIsListedFlew
   pub hands : HandsReadTexts
 
 module _ (below : GetsBelow) (base : Setting) (e : Estate AnyNode) (lines : HasLines base e) (texts : Texts base e lines) (part : ℕ)

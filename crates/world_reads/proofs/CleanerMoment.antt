@@ -5,12 +5,8 @@ use Rattle.cleaner_node.specs.declared.cleaner.Cleaner.{Cleaner as CleanerNode}
 use Rattle.client_log_tie.specs.Owner.{Scene}
 use Rattle.core_world.specs.declared.any_node.AnyNode.{AnyNode}
 use Rattle.core_world.specs.declared.any_node.AnyNode.TheVariants as any
-use Rattle.log_law.specs.Events.{Runs}
-use Rattle.log_law.specs.Events.Runs.{Begun, On}
 use Rattle.log_law.specs.Laws.{Moment}
-use Rattle.log_law.specs.Net.{Net}
 use Rattle.log_law.specs.Restarts.{IsSureRun}
-use Rattle.log_law.specs.Tails.{then_on}
 use Rattle.log_tie.specs.Setting.{Setting}
 use Rattle.node_base.specs.Effects.{acts_of}
 use Rattle.node_tie.specs.CleanerLogs.{its_log}
@@ -28,16 +24,12 @@ use Rattle.world_logs.specs.Doings.{did}
 use Rattle.world_logs.specs.Lines.{HasLines, Line, Texts, cluster, setting}
 use Rattle.world_logs.specs.Roles.Role.{OfCleaner}
 use Rattle.world_logs.specs.Standing.{CleanerOwns}
-use Rattle.world_reads.proofs.Joint.{IsSureUpto, Joint}
+use Rattle.world_reads.proofs.Stepping.{sure_before}
+use Rattle.world_reads.specs.Joint.{IsSureUpto, Joint}
 use Rattle.xfs_base.specs.declared.node.NodeId.TheVariants.{Cleaner}
 
 pub same_cleaner : (a b : CleanerNode) → Some (any.Cleaner a) ≡ Some (any.Cleaner b) → a ≡ b
 same_cleaner a b is = cc
-
--- what is sure of a run was sure before
-pub sure_before : {g : Setting} {n m o : Net} (run : Runs g n m) (more : Runs g m o) → IsSureRun (then_on run more) → IsSureRun run
-sure_before run Begun sure = sure
-sure_before run (On more happens) sure = sure_before run more sure.0
 
 module _ (base : Setting) (e : Estate AnyNode) (lines : HasLines base e) (texts : Texts base e lines) (part : ℕ) (first : ℕ → ℕ → Segment) where
   abbrev pub its_line : Line base e OfCleaner

@@ -34,7 +34,7 @@ use Rattle.world_logs.specs.Lines.{HasLines, Texts}
 use Rattle.world_logs.specs.Roles.Role.{OfCleaner}
 use Rattle.world_reads.proofs.AfterLogs.{flight_left, flight_stays, served_last}
 use Rattle.world_reads.proofs.CleanerMoment.{IsHere, its_line, its_moment, its_scene, its_setting, owns}
-use Rattle.world_reads.proofs.Joint.{flew_at}
+use Rattle.world_reads.specs.Joint.{flew_at}
 use Rattle.xfs_base.specs.declared.node.NodeId.TheVariants.{Cleaner}
 
 -- ---- what is moved stays so

@@ -50,13 +50,13 @@ use Rattle.world_reads.proofs.AfterOwners.{never_files}
 use Rattle.world_reads.proofs.CleanerAsking.{AsksBelow, asks}
 use Rattle.world_reads.proofs.CleanerFiling.{FilesBelow, restart_files, serving_files, still_files}
 use Rattle.world_reads.proofs.CleanerGets.{AreReached, PollsAreLow, cleaner_gets}
-use Rattle.world_reads.proofs.CleanerMoment.{IsHere, Steps, agrees, in_tokens, its_line, its_moment, its_scene, its_setting, owns, upto_before}
 use Rattle.world_reads.proofs.CleanerMoment as sight
+use Rattle.world_reads.proofs.CleanerMoment.{IsHere, Steps, agrees, in_tokens, its_line, its_moment, its_scene, its_setting, owns, upto_before}
 use Rattle.world_reads.proofs.CleanerReading.{ListsOurs}
 use Rattle.world_reads.proofs.CleanerReopening.{reopens_on}
 use Rattle.world_reads.proofs.CleanerWriting.{writes_texts}
-use Rattle.world_reads.proofs.Joint.{IsSureUpto, Joint, flew_at}
 use Rattle.world_reads.proofs.Stepping.{comes}
+use Rattle.world_reads.specs.Joint.{IsSureUpto, Joint, flew_at}
 use Rattle.xfs_base.proofs.Booleans.{and_first, and_second, contrary}
 use Rattle.xfs_base.specs.declared.node.NodeId.TheVariants.{Cleaner}
 use Rattle.xfs_base.specs.Limits.{counter_room, u32_end}

@@ -15,6 +15,7 @@ use Rattle.log_law.specs.Written.{WhatFlewIsWritten}
 use Rattle.log_protocol.specs.Tables.{In}
 use Rattle.log_scan.specs.Transition.{least_horizon}
 use Rattle.log_tie.specs.Setting.{Setting}
+use Rattle.log_law.specs.Held.{WhatIsListedFlew}
 use Rattle.log_law.specs.Net.{Net}
 use Rattle.node_log_tie.specs.CleanerEvents.{CleanerSeen, DropOfLog, EmptyingSeen, JobPhaseSeen, JobSeen, MayDrop}
 use Rattle.place_law.specs.Hands.{HandRefers, ReadsWithin}
@@ -37,8 +38,9 @@ use Rattle.world_logs.specs.Roles.{Role, log_by, renews}
 use Rattle.world_logs.specs.Roles.Role.{OfClient, OfCleaner, OfManager}
 use Rattle.world_logs.specs.Standing.{CleanerOwns}
 use Rattle.world_reads.proofs.CleanerMoment.{IsHere}
-use Rattle.world_reads.proofs.Joint.{Joint, There, log_at}
-use Rattle.world_reads.proofs.KnownLogs.{ListedFlew, listed_flew, of_its_log}
+use Rattle.world_reads.proofs.KnownLogs.{listed_flew, of_its_log}
+use Rattle.world_reads.specs.Joint.{Joint, There, log_at}
+use Rattle.world_reads.specs.References.{Flew, OfSomeLog}
 use Rattle.xfs_base.specs.declared.fragment.FragMeta.{FragMeta}
 use Rattle.xfs_base.specs.declared.node.NodeId.TheVariants.{Cleaner, Registry}
 use Rattle.xfs_base.specs.declared.segment.LogId.{LogId}
@@ -49,28 +51,14 @@ module _ (base : Setting) (e : Estate AnyNode) (lines : HasLines base e) (texts 
   abbrev sent : List Packet
   sent = (moment e count).sent
 
-  -- the segment of this name is of a log of the run
-  pub record OfSomeLog (name : SegName) : Type 0 where
-    pub role : Role
-    pub there : There base e lines texts part first role
-    pub own : name.log ≡ record { 0 = log_by role }
-
-  -- so is each that a server listed
+  -- each that a server listed is of a log of the run
   abbrev pub ListsOurs : Type 0
-  ListsOurs = (p : Packet) (m : Listed) → In p sent → p.body ≡ body.Listed m → (meta : FragMeta) → In meta m.held → OfSomeLog meta.name
+  ListsOurs = (p : Packet) (m : Listed) → In p sent → p.body ≡ body.Listed m → (meta : FragMeta) → In meta m.held → OfSomeLog base e lines texts part first count meta.name
 
-  -- What was listed flew in its log, with its group.
-  pub record Flew (seg : SegRef) : Type 0 where
-    pub of : OfSomeLog seg.name
-    pub segment : Segment
-    pub among : In segment (log_at base e lines texts part first of.role of.there count).flown
-    pub named : seg.name ≡ segment.name
-    pub grouped : seg.group ≡ segment.group
-
-  module _ (flew : ListedFlew) (ours : ListsOurs) where
-    pub flew_so : (seg : SegRef) → listed_in sent Cleaner seg.name seg.group → Flew seg
+  module _ (flew : WhatIsListedFlew) (ours : ListsOurs) where
+    pub flew_so : (seg : SegRef) → listed_in sent Cleaner seg.name seg.group → Flew base e lines texts part first count seg
     flew_so seg l =
-        let o : OfSomeLog l.meta.name = ours l.packet l.said l.among l.is l.meta l.held in
+        let o : OfSomeLog base e lines texts part first count l.meta.name = ours l.packet l.said l.among l.is l.meta l.held in
         let f = listed_flew base e lines texts part first count o.role o.there flew l.packet l.said l.among l.is l.meta l.held o.own in
         record {
           of = record { role = o.role; there = o.there; own = ap (λ (x : SegName). x.log) l.named ∙ o.own };
@@ -80,7 +68,7 @@ module _ (base : Setting) (e : Estate AnyNode) (lines : HasLines base e) (texts 
           grouped = l.grouped ∙ f.3;
         }
 
-    pub its_group : (seg : SegRef) → Flew seg → seg.group ≡ (texts.text seg.name).group
+    pub its_group : (seg : SegRef) → Flew base e lines texts part first count seg → seg.group ≡ (texts.text seg.name).group
     its_group seg f =
         f.grouped ∙ (ap (λ (s : Segment). s.group) (sym (texts.flown f.of.role f.of.there count f.segment f.among))
         ∙ ap (λ (n : SegName). (texts.text n).group) (sym f.named))
@@ -100,7 +88,7 @@ module _ (base : Setting) (e : Estate AnyNode) (lines : HasLines base e) (texts 
       MayBeDropped name = (r : Role) (there : There base e lines texts part first r)
           → DropOfLog (setting base e r) (log_at base e lines texts part first r there count) name
 
-      module _ (seg : SegRef) (f : Flew seg) (may : MayBeDropped seg.name) where
+      module _ (seg : SegRef) (f : Flew base e lines texts part first count seg) (may : MayBeDropped seg.name) where
         abbrev r : Role
         r = f.of.role
 

@@ -47,7 +47,7 @@ use Rattle.world_logs.specs.Lines.{HasLines, Texts}
 use Rattle.world_logs.specs.Roles.Role.{OfCleaner}
 use Rattle.world_reads.proofs.CleanerMoment.{Steps, its_line, its_moment, its_scene, its_setting, owns}
 use Rattle.world_reads.proofs.CleanerReopens.{ComesBack, comes_back}
-use Rattle.world_reads.proofs.Joint.{IsSureUpto, Joint}
+use Rattle.world_reads.specs.Joint.{IsSureUpto, Joint}
 
 -- what a segment that has a text says of blocks fits its types
 items_fit : (s : Segment) (items : List Item) → AllByRecursion FitsItem items → RowsFit (filter_map (row_of s) items)

@@ -39,7 +39,7 @@ use Rattle.world_law.specs.Owners.{moment}
 use Rattle.world_logs.specs.Lines.{HasLines, Texts, cluster}
 use Rattle.world_reads.proofs.CleanerMoment.{Steps, its_line, its_setting}
 use Rattle.world_reads.proofs.CleanerReopening.{ReopensBelow, came, reopens_at}
-use Rattle.world_reads.proofs.Joint.{IsSureUpto, Joint}
+use Rattle.world_reads.specs.Joint.{IsSureUpto, Joint}
 use Rattle.xfs_base.specs.Steps.{still}
 
 -- ---- the node

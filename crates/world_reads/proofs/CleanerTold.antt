@@ -41,12 +41,12 @@ use Rattle.world_law.specs.Owes.{TurnOwes}
 use Rattle.world_logs.specs.Lines.{HasLines, Texts}
 use Rattle.world_reads.proofs.CleanerGets.{has_job}
 use Rattle.world_reads.proofs.CleanerHand.{asks_of_hand}
+use Rattle.world_reads.proofs.CleanerMoment.{its_moment, its_scene}
 use Rattle.world_reads.proofs.CleanerNames.{all_exact}
 use Rattle.world_reads.proofs.CleanerOwed.{Beside, OwedBelow}
-use Rattle.world_reads.proofs.CleanerMoment.{its_moment, its_scene}
 use Rattle.world_reads.proofs.CleanerReopening.{adopts, came, reopens, reopens_at}
 use Rattle.world_reads.proofs.CleanerTelling.{IsTaken, live_told, serves_then}
-use Rattle.world_reads.proofs.Joint.{Joint}
+use Rattle.world_reads.specs.Joint.{Joint}
 use Rattle.xfs_base.specs.declared.node.NodeId.TheVariants.{Cleaner}
 
 -- the laws of the crates below

@@ -54,8 +54,8 @@ use Rattle.world_logs.specs.Roles.Role.{OfClient}
 use Rattle.world_logs.specs.Standing.{OwnerSeen}
 use Rattle.world_reads.proofs.ClientLog as log
 use Rattle.world_reads.proofs.ClientLog.{ClientEvent, ClientLaws}
-use Rattle.world_reads.proofs.Joint.{There, k}
 use Rattle.world_reads.proofs.Stepping.{comes, served_last}
+use Rattle.world_reads.specs.Joint.{There, k}
 use Rattle.xfs_base.proofs.Booleans.{by_test}
 use Rattle.xfs_base.specs.declared.segment.SegName.{SegName}
 

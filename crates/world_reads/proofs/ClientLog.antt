@@ -40,9 +40,9 @@ use Rattle.world_logs.specs.Doings.{owns}
 use Rattle.world_logs.specs.Lines.{HasLines, Line, Texts, setting}
 use Rattle.world_logs.specs.Roles.Role.{OfClient}
 use Rattle.world_logs.specs.Standing.{OwnerSeen}
-use Rattle.world_reads.proofs.Joint.{IsSureUpto, Joint, There}
 use Rattle.world_reads.proofs.Stepping.{sure_before}
 use Rattle.world_reads.proofs.Taking.{Took, did_then, moment_next, node_then, took_it}
+use Rattle.world_reads.specs.Joint.{IsSureUpto, Joint, There}
 use Rattle.xfs_base.specs.declared.node.NodeId.TheVariants.{Client}
 
 -- the laws of the crates below on which it stands

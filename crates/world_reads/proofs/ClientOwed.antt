@@ -55,8 +55,8 @@ use Rattle.world_logs.specs.Standing.{OwnerSeen}
 use Rattle.world_reads.proofs.ClientFiles as files
 use Rattle.world_reads.proofs.ClientLog as log
 use Rattle.world_reads.proofs.ClientLog.{ClientEvent, ClientLaws}
-use Rattle.world_reads.proofs.Joint.{There}
 use Rattle.world_reads.proofs.Stepping.{comes}
+use Rattle.world_reads.specs.Joint.{There}
 use Rattle.xfs_base.specs.declared.node.NodeId.TheVariants.{Registry}
 
 -- what a segment that has a text says of blocks fits its types

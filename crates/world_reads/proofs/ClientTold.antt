@@ -52,7 +52,7 @@ use Rattle.world_reads.proofs.ClientFiles as files
 use Rattle.world_reads.proofs.ClientLog as log
 use Rattle.world_reads.proofs.ClientLog.{ClientEvent, ClientLaws}
 use Rattle.world_reads.proofs.ClientOwed as owed
-use Rattle.world_reads.proofs.Joint.{There}
+use Rattle.world_reads.specs.Joint.{There}
 use Rattle.xfs_base.specs.declared.node.NodeId.TheVariants.{Client}
 
 -- the laws of the crates below on which it stands besides

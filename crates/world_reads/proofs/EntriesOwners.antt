@@ -31,8 +31,8 @@ use Rattle.world_logs.specs.Doings.{owns}
 use Rattle.world_logs.specs.Lines.{HasLines, Line, Texts, setting}
 use Rattle.world_logs.specs.Roles.{Role, log_by}
 use Rattle.world_reads.proofs.EntriesRise.{rows_filed}
-use Rattle.world_reads.proofs.Joint.{There, log_at}
 use Rattle.world_reads.proofs.Taking.{Took, did_then}
+use Rattle.world_reads.specs.Joint.{There, log_at}
 use Rattle.xfs_base.proofs.Members.{contains_cases}
 use Rattle.xfs_base.specs.declared.block.BlockId.{BlockId}
 use Rattle.xfs_base.specs.declared.entry.Entry.{Entry}

@@ -14,8 +14,8 @@ use Rattle.world_lines.specs.Lines.{IsLine, IsSure, LinesGive}
 use Rattle.world_logs.specs.Lines.{HasLines, Texts, setting}
 use Rattle.world_logs.specs.Roles.{Role, log_by, renews}
 use Rattle.world_reads.proofs.EntriesRise.{rows_filed}
-use Rattle.world_reads.proofs.Joint.{IsSureUpto, Joint, There, log_at}
 use Rattle.world_reads.proofs.KnownLogs.{HasLog, filed_log}
+use Rattle.world_reads.specs.Joint.{IsSureUpto, Joint, There, log_at}
 use Rattle.xfs_base.proofs.Members.{contains_nothing}
 use Rattle.xfs_base.specs.declared.block.BlockId.{BlockId}
 use Rattle.xfs_base.specs.declared.entry.Entry.{Entry}

@@ -76,9 +76,9 @@ use Rattle.world_reads.proofs.EntriesParts.{among_nodes, part_later, part_more}
 use Rattle.world_reads.proofs.EntriesRise.{EntryKinds, entries_rise, rows_more}
 use Rattle.world_reads.proofs.EntriesSame.{same_rows, sure_log}
 use Rattle.world_reads.proofs.EntriesStay.{AnyOwed, entries_stay}
-use Rattle.world_reads.proofs.Joint.{IsSureUpto, Joint, There, log_at}
 use Rattle.world_reads.proofs.Taking.{Took, moment_next}
 use Rattle.world_reads.specs.Entries.{EntriesStand, PartKnown, PartsNamed}
+use Rattle.world_reads.specs.Joint.{IsSureUpto, Joint, There, log_at}
 use Rattle.xfs_base.specs.declared.node.NodeId.{NodeId}
 use Rattle.xfs_base.specs.declared.node.NodeId.TheVariants.{Client, Manager, Server, Cleaner, Registry}
 use Rattle.xfs_base.specs.declared.segment.LogId.{LogId}

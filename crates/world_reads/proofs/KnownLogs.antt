@@ -6,9 +6,7 @@ use Rattle.std.proofs.lemmas.Bool.Decides.{nat_tests}
 use Rattle.core_world.specs.declared.any_node.AnyNode.{AnyNode}
 use Rattle.group_map.specs.declared.group.Group.{Group}
 use Rattle.index_tie.proofs.Runs.{good_in}
-use Rattle.log_law.specs.Laws.{Moment}
-use Rattle.log_law.specs.Net.{Net}
-use Rattle.log_law.specs.Net.Packet.{ListedSent}
+use Rattle.log_law.specs.Held.{WhatIsListedFlew}
 use Rattle.log_protocol.specs.Tables.{In}
 use Rattle.log_tie.specs.Setting.{Setting}
 use Rattle.log_tie.specs.Shelves.{is_of_log}
@@ -29,7 +27,7 @@ use Rattle.world_logs.specs.Roles.{Role, asker_by, log_by, renews}
 use Rattle.world_logs.specs.Roles.Role.{OfClient, OfCleaner, OfManager}
 use Rattle.world_logs.specs.Settings.{stripe_by}
 use Rattle.world_logs.specs.Shelves.{group_at}
-use Rattle.world_reads.proofs.Joint.{Joint, There, log_at}
+use Rattle.world_reads.specs.Joint.{Joint, There, log_at}
 use Rattle.xfs_base.specs.declared.fragment.FragMeta.{FragMeta}
 use Rattle.xfs_base.specs.declared.segment.LogId.{LogId}
 use Rattle.xfs_base.specs.declared.segment.SegName.{SegName}
@@ -43,12 +41,6 @@ members_alike (Some group) = refl
 parity_alike : (o : Option Group) → (cut_of o).parity ≡ (stripe_by o).parity
 parity_alike None = refl
 parity_alike (Some group) = refl
-
--- a fragment that was listed is of a segment that was in flight, with its name and its group
-abbrev pub ListedFlew : Type 0
-ListedFlew =
-    (g : Setting) (n : Net) → Moment g n → (lists : List FragMeta) → In (ListedSent lists) n.sent → (meta : FragMeta) → In meta lists
-    → (s : Segment) × In s n.flown × (meta.name ≡ s.name) × (meta.group ≡ s.group)
 
 module _ (base : Setting) (e : Estate AnyNode) (lines : HasLines base e) (texts : Texts base e lines) (part : ℕ) (first : ℕ → ℕ → Segment) where
   -- the log of this number is a client's or the cleaner's
@@ -116,7 +108,7 @@ module _ (base : Setting) (e : Estate AnyNode) (lines : HasLines base e) (texts 
           itself n = grind (arith, nat_tests)
 
       -- what a server listed of it flew
-      pub listed_flew : ListedFlew → (p : Packet) (m : Listed) → In p sent → p.body ≡ body.Listed m → (meta : FragMeta) → In meta m.held
+      pub listed_flew : WhatIsListedFlew → (p : Packet) (m : Listed) → In p sent → p.body ≡ body.Listed m → (meta : FragMeta) → In meta m.held
           → meta.name.log ≡ record { 0 = log_by r }
           → (s : Segment) × In s (log_at base e lines texts part first r there count).flown × (meta.name ≡ s.name) × (meta.group ≡ s.group)
       listed_flew flew p m among is meta held own =

@@ -15,8 +15,8 @@ use Rattle.world_law.proofs.RegistryTurns.{slot_below}
 use Rattle.world_law.proofs.Standing.{members}
 use Rattle.world_law.specs.Owners.{moment}
 use Rattle.world_logs.specs.Lines.{HasLines, Texts}
-use Rattle.world_reads.proofs.Joint.{Joint, k}
 use Rattle.world_reads.specs.Below.{BlocksMakeLegal}
+use Rattle.world_reads.specs.Joint.{Joint, k}
 use Rattle.xfs_base.specs.Blocks.{slot_of}
 use Rattle.xfs_base.specs.declared.block.BlockId.{BlockId}
 

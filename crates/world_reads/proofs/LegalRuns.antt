@@ -1,38 +1,63 @@
--- The acts of each run are legal up to each moment up to which no restart that ended was doubtful: that moment stands to the small worlds of each slot.
-use Rattle.std.proofs.Common.{ℕ}
+-- Each moment of a run up to which no restart that ended was doubtful stands to the small worlds of each slot: so the acts up to it are legal, and the indexes of
+-- slots are kept.
+use Rattle.std.proofs.Common.{ℕ, ◌<◌}
+use Rattle.core_world.specs.AnyNode.{any_start, any_step}
+use Rattle.core_world.specs.declared.any_node.AnyNode.{AnyNode}
 use Rattle.log_tie.specs.Setting.{Setting}
+use Rattle.node_base.specs.Setups.{IsSetup}
 use Rattle.reopening_law.specs.Reopens.{TellsApart}
+use Rattle.restart_law.specs.Restarts.{NoDoubtfulRestart}
 use Rattle.restart_law.specs.Unlost.{ScriptsWithoutLossesAreUndoubted}
-use Rattle.segment_format.specs.declared.segment.Segment.{Segment}
+use Rattle.version_model.specs.Legal.{AreLegal}
+use Rattle.world_base.specs.Cluster.{cluster_of}
+use Rattle.world_base.specs.declared.estate.Estate.{Estate}
+use Rattle.world_base.specs.Runs.{IsRun}
+use Rattle.world_index.proofs.Laws.{keeps}
+use Rattle.world_index.specs.Laws.{KeepsIndexes}
+use Rattle.world_law.specs.Owners.{moment}
 use Rattle.world_logs.specs.Lines.{HasLines, Texts}
 use Rattle.world_reads.proofs.LegalJoints.{acts_are_legal}
+use Rattle.world_reads.proofs.TurnRun.{moment_cluster}
 use Rattle.world_reads.proofs.TurnWhole.{whole_at}
-use Rattle.world_reads.proofs.WholeLaws.{whole_below}
+use Rattle.world_reads.proofs.WholeLaws.{index_nodes, token_nodes, whole_below}
 use Rattle.world_reads.specs.Below.{Below}
+use Rattle.world_reads.specs.Indexes.{EveryRunKeepsItsIndexes}
+use Rattle.world_reads.specs.Joint.{Joint}
 use Rattle.world_reads.specs.Legal.{EveryRunWithoutLossesIsLegal, EveryRunsActsAreLegal}
+use Rattle.world_reads.specs.Moments.{EveryMomentStands, MomentStands, first_of}
 
-pub every_runs_acts_are_legal : Below → EveryRunsActsAreLegal
-every_runs_acts_are_legal below e setup run count none =
-    acts_are_legal below.tokens.acts_are_legal below.tokens.blocks_make_legal base e lines texts first count
-    (below.tokens.every_run_has_falls_apart e setup run count)
-    (whole_at (whole_below below) base e lines texts first apart setup run count
-    (λ r there keeps. below.lines.undoubted_runs_are_sure base e lines count none r there keeps)).joints
-  where
-    base : Setting
-    base = below.lines.telling_setting.0
+module _ (below : Below) where
+  module _ (base : Setting) (apart : TellsApart base) (e : Estate AnyNode) (setup : IsSetup e.script.setup)
+      (run : IsRun any_step any_start e.script e.events e.world) (lines : HasLines base e) (texts : Texts base e lines) (count : ℕ)
+      (none : NoDoubtfulRestart e count) where
+    stands : MomentStands base e lines texts count
+    stands =
+        let w = whole_at (whole_below below) base e lines texts (first_of base e lines texts) apart setup run count
+        (λ r there keeps. below.lines.undoubted_runs_are_sure base e lines count none r there keeps) in
+        record { joints = w.joints; references = w.references }
 
-    apart : TellsApart base
-    apart = below.lines.telling_setting.1
+    legal : AreLegal (moment e count).acts
+    legal =
+        acts_are_legal below.tokens.acts_are_legal below.tokens.blocks_make_legal base e lines texts (first_of base e lines texts) count
+        (below.tokens.every_run_has_falls_apart e setup run count) stands.joints
 
-    lines : HasLines base e
-    lines = below.logs.runs_have_lines base e setup run
+    kept : (part : ℕ) → part < 8 → KeepsIndexes (moment e count) part texts.text
+    kept part of_eight =
+        let joint : Joint base e lines texts part (first_of base e lines texts) count = stands.joints part of_eight in
+        keeps (index_nodes below) (token_nodes below) (cluster_of e.script.setup) part of_eight texts.text (first_of base e lines texts)
+        below.index.each_index_is_the_join below.index.newest_is_never_deleted (moment e count) (moment_cluster e count) joint.idx joint.index_stands
 
-    texts : Texts base e lines
-    texts = below.logs.lines_have_texts base e setup lines
+  pub every_moment_stands : EveryMomentStands
+  every_moment_stands base apart e setup run lines texts count none = stands base apart e setup run lines texts count none
 
-    -- what the index begins with under each name is the text of that
-    first : ℕ → ℕ → Segment
-    first l q = texts.text (record { log = record { 0 = l }; seq = q; pass = record { inc = 0; att = 0 } })
+  pub every_run_keeps_its_indexes : EveryRunKeepsItsIndexes
+  every_run_keeps_its_indexes base apart e setup run lines texts count none = kept base apart e setup run lines texts count none
+
+  pub every_runs_acts_are_legal : EveryRunsActsAreLegal
+  every_runs_acts_are_legal e setup run count none =
+      let lines = below.logs.runs_have_lines below.lines.telling_setting.0 e setup run in
+      legal below.lines.telling_setting.0 below.lines.telling_setting.1 e setup run lines
+      (below.logs.lines_have_texts below.lines.telling_setting.0 e setup lines) count none
 
 -- where the script has no server lose its disk, up to each moment
 pub every_run_without_losses_is_legal : EveryRunsActsAreLegal → ScriptsWithoutLossesAreUndoubted → EveryRunWithoutLossesIsLegal

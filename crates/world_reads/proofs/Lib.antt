@@ -1,4 +1,3 @@
-pub mod Joint
 pub mod Stepping
 pub mod Taking
 pub mod ClientLog

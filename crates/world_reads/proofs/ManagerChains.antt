@@ -5,12 +5,11 @@ use Rattle.std.specs.Prelude.{Contains}
 use Rattle.std.specs.List.{AllByRecursion}
 use Rattle.core_world.specs.declared.any_node.AnyNode.{AnyNode}
 use Rattle.group_map.specs.declared.group.Group.{Group}
-use Rattle.log_law.specs.Laws.{Moment, OneNameOneText}
-use Rattle.log_law.specs.Net.{Net}
+use Rattle.log_law.specs.Groups.{PriorsNameGroups}
+use Rattle.log_law.specs.Laws.{OneNameOneText}
 use Rattle.log_law.specs.Net.Packet.{FragmentSent}
 use Rattle.log_law.specs.Places.{APlaceNamesOneContent}
 use Rattle.log_protocol.specs.Tables.{In}
-use Rattle.log_scan.specs.Transition.{end_below, name_at}
 use Rattle.log_tie.proofs.Names.{itself}
 use Rattle.log_tie.specs.Setting.{Setting}
 use Rattle.log_tie.specs.Shelves.{is_of_log}
@@ -34,18 +33,13 @@ use Rattle.world_logs.specs.Lines.{HasLines, Texts, setting}
 use Rattle.world_logs.specs.Roles.{Role, asker_by}
 use Rattle.world_logs.specs.Settings.{stripe_by}
 use Rattle.world_logs.specs.Shelves.{group_at}
-use Rattle.world_reads.proofs.CleanerReading.{Flew, OfSomeLog}
-use Rattle.world_reads.proofs.Joint.{There, log_at}
+use Rattle.world_reads.specs.Joint.{There, log_at}
+use Rattle.world_reads.specs.References.{Flew, OfSomeLog}
 use Rattle.xfs_base.specs.declared.fragment.Fragment.{Fragment}
 use Rattle.xfs_base.specs.declared.node.NodeId.{NodeId}
 use Rattle.xfs_base.specs.declared.segment.LogId.{LogId}
 use Rattle.xfs_base.specs.declared.segment.SegName.{SegName}
 use Rattle.xfs_base.specs.declared.segment.SegRef.{SegRef}
-
--- of all that flew in a log, the segment that another one names as the one before it is over the group that is named
-abbrev pub PriorsNameGroups : Type 0
-PriorsNameGroups =
-    (g : Setting) (n : Net) → Moment g n → (s t : Segment) → In s n.flown → In t n.flown → t.name ≡ name_at g.log (end_below s) → t.group ≡ s.prior.group
 
 one_of : {X : Type 0} (P : X → Type 0) (xs : List X) (x : X) → AllByRecursion P xs → In x xs → P x
 one_of P [] x all is = absurd is

@@ -39,8 +39,8 @@ use Rattle.world_law.specs.Owners.{moment, node_in, node_named}
 use Rattle.world_lines.specs.Flights.{ManagersWriteTexts}
 use Rattle.world_logs.specs.Lines.{HasLines, Line, Texts, cluster, setting}
 use Rattle.world_logs.specs.Roles.Role.{OfManager}
-use Rattle.world_reads.proofs.Joint.{Joint, There}
 use Rattle.world_reads.proofs.Taking.{Took, moment_next, node_then, took_it}
+use Rattle.world_reads.specs.Joint.{Joint, There}
 use Rattle.xfs_base.specs.declared.node.NodeId.TheVariants.{Manager}
 
 same_manager : (a b : ManagerNode) → Some (any.Manager a) ≡ Some (any.Manager b) → a ≡ b

@@ -35,17 +35,16 @@ use Rattle.world_law.specs.Owes.{TurnOwes}
 use Rattle.world_law.specs.Owners.{moment}
 use Rattle.world_logs.specs.Lines.{HasLines, Texts, cluster}
 use Rattle.world_logs.specs.Roles.Role.{OfManager}
-use Rattle.world_reads.proofs.CleanerReading.{Flew}
-use Rattle.world_reads.proofs.Joint.{There}
 use Rattle.world_reads.proofs.ManagerMoment as manager
 use Rattle.world_reads.proofs.ManagerMoment.{Coming, ManagerEvent}
 use Rattle.world_reads.proofs.ManagerReading as reading
 use Rattle.world_reads.proofs.ManagerReading.{ManagerLaws, SourcesFlew, at_slot}
-use Rattle.world_reads.proofs.ManagerReferences.{EndFlew, ReferencesStand, ReportFlew, its}
 use Rattle.world_reads.proofs.ManagerSources.{sources_flew}
 use Rattle.world_reads.proofs.ManagerTelling as telling
 use Rattle.world_reads.proofs.ManagerTelling.{TellingLaws}
 use Rattle.world_reads.proofs.Taking.{Took, took_it}
+use Rattle.world_reads.specs.Joint.{There}
+use Rattle.world_reads.specs.References.{EndFlew, Flew, ReferencesStand, ReportFlew, its}
 use Rattle.xfs_base.proofs.Members.{contains_cases, contains_nothing}
 use Rattle.xfs_base.specs.declared.node.NodeId.TheVariants.{Client, Manager, Cleaner}
 use Rattle.xfs_base.specs.declared.segment.End.{End}

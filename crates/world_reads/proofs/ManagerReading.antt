@@ -5,6 +5,7 @@ use Rattle.std.specs.Prelude.{Contains}
 use Rattle.std.specs.List.{AllByRecursion}
 use Rattle.core_world.specs.declared.any_node.AnyNode.{AnyNode}
 use Rattle.core_world.specs.declared.any_node.AnyNode.TheVariants as any
+use Rattle.log_law.specs.Groups.{PriorsNameGroups}
 use Rattle.log_law.specs.Laws.{OneNameOneText}
 use Rattle.log_law.specs.Places.{APlaceNamesOneContent}
 use Rattle.log_owner.specs.Sending.{server_in}
@@ -49,11 +50,11 @@ use Rattle.world_law.specs.Owners.{moment}
 use Rattle.world_lines.specs.Flights.{ManagersWriteTexts}
 use Rattle.world_logs.specs.Lines.{HasLines, Texts}
 use Rattle.world_logs.specs.Roles.Role.{OfManager}
-use Rattle.world_reads.proofs.CleanerReading.{Flew}
-use Rattle.world_reads.proofs.Joint.{There}
-use Rattle.world_reads.proofs.ManagerChains.{PriorsNameGroups, Refers, known, names_its_group, refers_down}
+use Rattle.world_reads.proofs.ManagerChains.{Refers, known, names_its_group, refers_down}
 use Rattle.world_reads.proofs.ManagerMoment as manager
 use Rattle.world_reads.proofs.ManagerMoment.{ManagerEvent}
+use Rattle.world_reads.specs.Joint.{There}
+use Rattle.world_reads.specs.References.{Flew}
 use Rattle.xfs_base.specs.declared.node.NodeId.{NodeId}
 use Rattle.xfs_base.specs.declared.node.NodeId.TheVariants.{Client, Manager, Server, Cleaner, Registry}
 

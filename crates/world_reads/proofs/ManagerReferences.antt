@@ -1,22 +1,14 @@
 -- What nodes refer to at a moment of a run: the parts of checkpoints flew in logs of the run, and so did the ends that were reported, over the groups with
 -- which they are referred to. So it is at the start, and it stays so for what was told before.
-use Rattle.std.proofs.Common.{◌≡◌, ◌⊎◌, inl, inr, ℕ, suc, List, [], ◌∷◌, map, sym, subst, arith}
+use Rattle.std.proofs.Common.{inl, inr, ℕ, suc, List, [], ◌∷◌, map, sym, subst, arith}
 use Rattle.core_world.specs.AnyNode.{any_start}
 use Rattle.core_world.specs.declared.any_node.AnyNode.{AnyNode}
 use Rattle.core_world.specs.declared.any_node.AnyNode.TheVariants as any
-use Rattle.log_law.specs.Laws.{Moment}
-use Rattle.log_law.specs.Net.{Net}
-use Rattle.log_law.specs.Net.Owner.{Serving}
-use Rattle.client_log.specs.LogState.{LogState}
-use Rattle.log_protocol.specs.Tables as tables
-use Rattle.log_scan.specs.Transition.{name_at}
 use Rattle.log_tie.specs.Setting.{Setting}
 use Rattle.reference_tie.proofs.Managers.{managers_start}
 use Rattle.reference_tie.proofs.Registries.{registry_starts}
 use Rattle.reference_tie.proofs.Rising.{managers_rise, packets_rise, registry_rises}
-use Rattle.reference_tie.specs.Managers.{ManagerRefers}
-use Rattle.reference_tie.specs.References.{PacketRefers, References, Weaker}
-use Rattle.reference_tie.specs.Registries.{RegistryRefers}
+use Rattle.reference_tie.specs.References.{References, Weaker}
 use Rattle.segment_format.specs.declared.segment.Segment.{Segment}
 use Rattle.token_protocol.specs.Basics.{In}
 use Rattle.version_model.specs.declared.work.Work.{Work}
@@ -24,34 +16,14 @@ use Rattle.wire_msg.specs.declared.packet.Packet.{Packet}
 use Rattle.world_base.specs.Cluster.{cluster_of, nodes_of}
 use Rattle.world_base.specs.declared.estate.Estate.{Estate}
 use Rattle.world_base.specs.NextWorld.{first_node, start_world}
-use Rattle.world_law.specs.Owners.{moment}
 use Rattle.world_logs.proofs.Line.{grows}
 use Rattle.world_logs.specs.Lines.{HasLines, Texts}
-use Rattle.world_reads.proofs.CleanerReading.{Flew}
+use Rattle.world_reads.specs.References.{AllRefer, AnyRefers, EndFlew, Flew, ReferencesStand, ReportFlew, its}
 use Rattle.xfs_base.specs.declared.node.NodeId.{NodeId}
 use Rattle.xfs_base.specs.declared.node.NodeId.TheVariants.{Client, Manager, Server, Cleaner, Registry}
 use Rattle.xfs_base.specs.declared.segment.End.{End}
 use Rattle.xfs_base.specs.declared.segment.SegRef.{SegRef}
 use Rattle.xfs_base.specs.declared.setup.Setup.{Setup}
-
--- of all that flew in a log, the segment that the end of a log that is served names is over the group that it names
-abbrev pub EndsNameGroups : Type 0
-EndsNameGroups =
-    (g : Setting) (n : Net) → Moment g n → (s : LogState) → n.owner ≡ Serving s → (t : Segment) → tables.In t n.flown → t.name ≡ name_at g.log s.end
-    → t.group ≡ s.end.group
-
--- to what a node refers; clients, servers and the cleaner hold no such references
-abbrev pub AnyRefers : References → AnyNode → Type 0
-AnyRefers r (any.Client node) = Unit {0}
-AnyRefers r (any.Manager node) = ManagerRefers r node
-AnyRefers r (any.Server node) = Unit {0}
-AnyRefers r (any.Cleaner node) = Unit {0}
-AnyRefers r (any.Registry node) = RegistryRefers r node
-
--- so it is of each node, and of each packet that was sent
-pub record AllRefer (r : References) (nodes : List AnyNode) (sent : List Packet) : Type 0 where
-  pub each_node : (node : AnyNode) → In node nodes → AnyRefers r node
-  pub each_packet : (p : Packet) → In p sent → PacketRefers r p
 
 any_rises : (r later : References) → Weaker r later → (node : AnyNode) → AnyRefers r node → AnyRefers later node
 any_rises r later w (any.Client node) h = tt
@@ -91,27 +63,6 @@ all_begin r e = record {
 -- ---- beside one run
 
 module _ (base : Setting) (e : Estate AnyNode) (lines : HasLines base e) (texts : Texts base e lines) (part : ℕ) (first : ℕ → ℕ → Segment) where
-  -- the end of log l is none, or flew in it
-  abbrev pub EndFlew : ℕ → ℕ → End → Type 0
-  EndFlew count l end =
-      (end.seq ≡ 0)
-      ⊎ Flew base e lines texts part first count (record { name = record { log = record { 0 = l }; seq = end.seq; pass = end.pass }; group = end.group })
-
-  -- what a node reports; of others than the owners of logs nothing is asked
-  abbrev pub ReportFlew : ℕ → NodeId → End → Type 0
-  ReportFlew count (Client c) end = EndFlew count c end
-  ReportFlew count (Manager j) end = Unit {0}
-  ReportFlew count (Server v) end = Unit {0}
-  ReportFlew count Cleaner end = EndFlew count 9 end
-  ReportFlew count Registry end = Unit {0}
-
-  abbrev pub its : ℕ → References
-  its count = record { part = Flew base e lines texts part first count; end = ReportFlew count }
-
-  -- What Joint carries of it: all references at a moment are so.
-  abbrev pub ReferencesStand : ℕ → Type 0
-  ReferencesStand count = AllRefer (its count) (moment e count).nodes (moment e count).sent
-
   -- what flew flew later, too
   flew_then : (count : ℕ) (seg : SegRef) → Flew base e lines texts part first count seg → Flew base e lines texts part first (suc count) seg
   flew_then count seg f = record {
@@ -122,19 +73,20 @@ module _ (base : Setting) (e : Estate AnyNode) (lines : HasLines base e) (texts 
     grouped = f.grouped;
   }
 
-  end_then : (count l : ℕ) (end : End) → EndFlew count l end → EndFlew (suc count) l end
+  end_then : (count l : ℕ) (end : End) → EndFlew base e lines texts part first count l end → EndFlew base e lines texts part first (suc count) l end
   end_then count l end (inl none) = inl none
   end_then count l end (inr f) = inr (flew_then count _ f)
 
-  report_then : (count : ℕ) (from : NodeId) (end : End) → ReportFlew count from end → ReportFlew (suc count) from end
+  report_then : (count : ℕ) (from : NodeId) (end : End) → ReportFlew base e lines texts part first count from end
+      → ReportFlew base e lines texts part first (suc count) from end
   report_then count (Client c) end h = end_then count c end h
   report_then count (Manager j) end h = tt
   report_then count (Server v) end h = tt
   report_then count Cleaner end h = end_then count 9 end h
   report_then count Registry end h = tt
 
-  pub weaker_then : (count : ℕ) → Weaker (its count) (its (suc count))
+  pub weaker_then : (count : ℕ) → Weaker (its base e lines texts part first count) (its base e lines texts part first (suc count))
   weaker_then count = record { part = flew_then count; end = report_then count }
 
-  pub references_begin : ReferencesStand 0
-  references_begin = all_begin (its 0) e
+  pub references_begin : ReferencesStand base e lines texts part first 0
+  references_begin = all_begin (its base e lines texts part first 0) e

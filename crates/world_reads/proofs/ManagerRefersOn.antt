@@ -21,6 +21,7 @@ use Rattle.client_serving.specs.declared.serving.Serving.{Serving as ServingClie
 use Rattle.core_world.specs.AnyNode.{any_step}
 use Rattle.core_world.specs.declared.any_node.AnyNode.{AnyNode}
 use Rattle.core_world.specs.declared.any_node.AnyNode.TheVariants as any
+use Rattle.log_law.specs.Groups.{EndsNameGroups}
 use Rattle.log_law.specs.Ends.{EndsAreLast}
 use Rattle.log_law.specs.Held.{OwnerFlew, WhatIsHeldFlew}
 use Rattle.log_law.specs.Laws.{LogsStayWhole}
@@ -66,11 +67,11 @@ use Rattle.world_law.proofs.Turns.{one_node}
 use Rattle.world_law.specs.Owners.{moment, node_in}
 use Rattle.world_logs.specs.Lines.{HasLines, Texts, cluster, setting}
 use Rattle.world_logs.specs.Roles.Role.{OfClient, OfCleaner, OfManager}
-use Rattle.world_reads.proofs.CleanerReading.{Flew}
-use Rattle.world_reads.proofs.Joint.{IsSureUpto, Joint, There}
 use Rattle.world_reads.proofs.ManagerMoment.{Coming, brought_by}
-use Rattle.world_reads.proofs.ManagerReferences.{AllRefer, AnyRefers, EndFlew, EndsNameGroups, ReferencesStand, all_rise, its, weaker_then}
+use Rattle.world_reads.proofs.ManagerReferences.{all_rise, weaker_then}
 use Rattle.world_reads.proofs.Taking.{moment_next}
+use Rattle.world_reads.specs.Joint.{IsSureUpto, Joint, There}
+use Rattle.world_reads.specs.References.{AllRefer, AnyRefers, EndFlew, Flew, ReferencesStand, its}
 use Rattle.xfs_base.specs.declared.node.NodeId.{NodeId}
 use Rattle.xfs_base.specs.declared.node.NodeId.TheVariants.{Client, Manager, Server, Cleaner, Registry}
 use Rattle.xfs_base.specs.declared.segment.End.{End}

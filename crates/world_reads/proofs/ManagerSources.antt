@@ -27,9 +27,9 @@ use Rattle.takeover.specs.Sources.{from_end, log_source, log_sources, part_sourc
 use Rattle.token_protocol.specs.Basics.{In}
 use Rattle.world_base.specs.declared.estate.Estate.{Estate}
 use Rattle.world_logs.specs.Lines.{HasLines, Texts}
-use Rattle.world_reads.proofs.CleanerReading.{Flew}
-use Rattle.world_reads.proofs.Joint.{Joint, log_at}
 use Rattle.world_reads.proofs.KnownLogs.{filed_known, filed_log}
+use Rattle.world_reads.specs.Joint.{Joint, log_at}
+use Rattle.world_reads.specs.References.{Flew}
 use Rattle.xfs_base.proofs.Members.{contains_cases, contains_first, contains_nothing, contains_rest}
 use Rattle.xfs_base.specs.declared.news.SlotNews.{SlotNews}
 use Rattle.xfs_base.specs.declared.node.NodeId.TheVariants.{Client, Cleaner}

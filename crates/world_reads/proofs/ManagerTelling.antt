@@ -54,11 +54,11 @@ use Rattle.world_law.specs.Owes.{ManagerTold, ServingTold, SlotTold, TurnOwes}
 use Rattle.world_law.specs.Owners.{moment, node_in}
 use Rattle.world_logs.specs.Lines.{HasLines, Texts}
 use Rattle.world_logs.specs.Roles.Role.{OfManager}
-use Rattle.world_reads.proofs.Joint.{There}
 use Rattle.world_reads.proofs.ManagerMoment as manager
 use Rattle.world_reads.proofs.ManagerMoment.{ManagerEvent}
 use Rattle.world_reads.proofs.ManagerReading as reading
 use Rattle.world_reads.proofs.ManagerReading.{ManagerLaws, SourcesFlew}
+use Rattle.world_reads.specs.Joint.{There}
 use Rattle.xfs_base.specs.declared.node.NodeId.{NodeId}
 use Rattle.xfs_base.specs.declared.node.NodeId.TheVariants.{Client, Manager, Server, Cleaner, Registry}
 

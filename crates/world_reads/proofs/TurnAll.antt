@@ -21,12 +21,12 @@ use Rattle.world_index.specs.Standing.{SentBy}
 use Rattle.world_law.proofs.RegistryTurns.{slot_below}
 use Rattle.world_law.specs.Owners.{moment}
 use Rattle.world_logs.specs.Lines.{HasLines, Texts}
-use Rattle.world_reads.proofs.Joint.{IsSureUpto, Joint, k}
 use Rattle.world_reads.proofs.TurnBoth.{Both}
 use Rattle.world_reads.proofs.TurnLaws.{StepsBelow}
 use Rattle.world_reads.proofs.TurnLives.{lives_lie}
 use Rattle.world_reads.proofs.TurnNext.{Grows}
 use Rattle.world_reads.proofs.TurnRun.{Step, both_then, joint_then}
+use Rattle.world_reads.specs.Joint.{IsSureUpto, Joint, k}
 use Rattle.xfs_base.specs.Blocks.{slot_of}
 use Rattle.xfs_base.specs.declared.node.NodeId.{NodeId}
 use Rattle.xfs_base.specs.declared.node.NodeId.TheVariants.{Client, Manager, Server, Cleaner, Registry}

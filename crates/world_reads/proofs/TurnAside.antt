@@ -43,9 +43,9 @@ use Rattle.world_law.specs.Owes.{ClientTold, ManagerTold, TurnOwes}
 use Rattle.world_law.specs.Owners.{moment, node_in}
 use Rattle.world_logs.specs.Lines.{HasLines, Texts}
 use Rattle.world_reads.proofs.AfterFalls.{all_aside, client_aside}
-use Rattle.world_reads.proofs.Joint.{k}
 use Rattle.world_reads.proofs.Taking.{Took, took_it}
 use Rattle.world_reads.proofs.TurnBoth.{Both, TurnLaws, delivered_to, sent_before}
+use Rattle.world_reads.specs.Joint.{k}
 use Rattle.xfs_base.specs.declared.node.NodeId.{NodeId}
 use Rattle.xfs_base.specs.declared.node.NodeId.TheVariants.{Client, Manager, Server, Cleaner, Registry}
 

@@ -43,8 +43,8 @@ use Rattle.world_law.specs.Owners.{moment, node_in}
 use Rattle.world_logs.specs.Lines.{HasLines, Texts}
 use Rattle.world_logs.specs.Roles.Role.{OfCleaner}
 use Rattle.world_reads.proofs.AfterCleaner.{AdoptsWhatFlew}
-use Rattle.world_reads.proofs.Joint.{Joint, k}
 use Rattle.world_reads.proofs.Taking.{NothingHappens, Took, moment_next}
+use Rattle.world_reads.specs.Joint.{Joint, k}
 use Rattle.xfs_base.specs.declared.node.NodeId.{NodeId}
 use Rattle.xfs_base.specs.declared.node.NodeId.TheVariants.{Cleaner}
 

@@ -64,12 +64,12 @@ use Rattle.world_reads.proofs.AfterLogs.{served_last}
 use Rattle.world_reads.proofs.CleanerMoment.{sure_at, upto_before}
 use Rattle.world_reads.proofs.CleanerPromises.{promised_then}
 use Rattle.world_reads.proofs.CleanerSaying.{says_once}
-use Rattle.world_reads.proofs.Joint.{IsSureUpto, k}
 use Rattle.world_reads.proofs.Taking.{Took, did_then, moment_next, node_then, took_it}
 use Rattle.world_reads.proofs.TurnBoth.{AdoptsThere, Both, IsOwed, Turned, sent_before}
 use Rattle.world_reads.proofs.TurnLaws.{StepsBelow}
 use Rattle.world_reads.proofs.TurnMoment as now
 use Rattle.world_reads.proofs.TurnMoment.{same_cleaner}
+use Rattle.world_reads.specs.Joint.{IsSureUpto, k}
 use Rattle.xfs_base.specs.declared.node.NodeId.TheVariants.{Cleaner}
 use Rattle.xfs_base.specs.Limits.{counter_room, u32_end}
 use Rattle.xfs_base.specs.Steps.{still}

@@ -19,12 +19,12 @@ use Rattle.world_logs.specs.Lines.{HasLines, Texts}
 use Rattle.world_reads.proofs.CleanerBeside.{CleanerEvent, RunLaws, beside}
 use Rattle.world_reads.proofs.CleanerOwed as owed
 use Rattle.world_reads.proofs.CleanerOwed.{Beside}
-use Rattle.world_reads.proofs.CleanerTold.{ToldBelow, adopted, adopts_flight}
 use Rattle.world_reads.proofs.CleanerTold as told
-use Rattle.world_reads.proofs.Joint.{IsSureUpto, Joint, k}
+use Rattle.world_reads.proofs.CleanerTold.{ToldBelow, adopted, adopts_flight}
 use Rattle.world_reads.proofs.Taking.{Took}
 use Rattle.world_reads.proofs.TurnBoth.{both_of}
 use Rattle.world_reads.proofs.TurnOwed.{CleanerOwed, IndexOwed}
+use Rattle.world_reads.specs.Joint.{IsSureUpto, Joint, k}
 use Rattle.xfs_base.specs.declared.node.NodeId.TheVariants.{Cleaner}
 
 module _ (runs : RunLaws) (law : ToldBelow) (base : Setting) (e : Estate AnyNode) (lines : HasLines base e) (texts : Texts base e lines) (part : ℕ)

@@ -54,12 +54,12 @@ use Rattle.world_reads.proofs.AfterClients.{OwnAfter}
 use Rattle.world_reads.proofs.AfterLogs.{served_last}
 use Rattle.world_reads.proofs.CleanerMoment.{upto_before}
 use Rattle.world_reads.proofs.CleanerSaying.{says_once}
-use Rattle.world_reads.proofs.Joint.{IsSureUpto, There, flew_at, k}
 use Rattle.world_reads.proofs.Taking.{Took, did_then, moment_next, node_then, took_it}
 use Rattle.world_reads.proofs.TurnBoth.{Both, IsOwed, Turned}
 use Rattle.world_reads.proofs.TurnLaws.{StepsBelow}
 use Rattle.world_reads.proofs.TurnMoment as now
 use Rattle.world_reads.proofs.TurnMoment.{same_client}
+use Rattle.world_reads.specs.Joint.{IsSureUpto, There, flew_at, k}
 use Rattle.xfs_base.specs.declared.node.NodeId.TheVariants.{Client}
 
 module _ (laws : StepsBelow) (base : Setting) (e : Estate AnyNode) (lines : HasLines base e) (texts : Texts base e lines) (part : ℕ)

@@ -42,7 +42,6 @@ use Rattle.world_reads.proofs.ClientLog.{ClientEvent, ClientLaws}
 use Rattle.world_reads.proofs.ClientOwed as owed
 use Rattle.world_reads.proofs.ClientTold as told
 use Rattle.world_reads.proofs.ClientTold.{TokenLaws}
-use Rattle.world_reads.proofs.Joint.{IsSureUpto, Joint, There, k}
 use Rattle.world_reads.proofs.KnownLogs.{filed_known}
 use Rattle.world_reads.proofs.Taking.{Took, took_it}
 use Rattle.world_reads.proofs.TurnBoth.{both_of, delivered_to, sent_before}
@@ -50,6 +49,7 @@ use Rattle.world_reads.proofs.TurnMoment as now
 use Rattle.world_reads.proofs.TurnMoment.{same_client}
 use Rattle.world_reads.proofs.TurnOwed.{IndexOwed, TokensOwed}
 use Rattle.world_reads.proofs.TurnRun.{moment_cluster}
+use Rattle.world_reads.specs.Joint.{IsSureUpto, Joint, There, k}
 use Rattle.xfs_base.specs.declared.node.NodeId.TheVariants.{Client}
 use Rattle.xfs_base.specs.Steps.{still}
 

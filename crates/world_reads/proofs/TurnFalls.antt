@@ -34,7 +34,6 @@ use Rattle.world_logs.specs.Roles.Role.{OfClient}
 use Rattle.world_reads.proofs.After.{left_flight}
 use Rattle.world_reads.proofs.AfterLogs.{served_last}
 use Rattle.world_reads.proofs.AfterWrites.{serving_told}
-use Rattle.world_reads.proofs.Joint.{IsSureUpto, There, flew_at, k}
 use Rattle.world_reads.proofs.Taking.{Took, moment_next, took_it}
 use Rattle.world_reads.proofs.TurnAside.{others_quiet}
 use Rattle.world_reads.proofs.TurnBoth.{Both, IsOwed, Turned}
@@ -43,6 +42,7 @@ use Rattle.world_reads.proofs.TurnLaws.{StepsBelow}
 use Rattle.world_reads.proofs.TurnLogs.{LogsKnown, client_or_not}
 use Rattle.world_reads.proofs.TurnMoment as now
 use Rattle.world_reads.proofs.TurnMoment.{same_client}
+use Rattle.world_reads.specs.Joint.{IsSureUpto, There, flew_at, k}
 use Rattle.xfs_base.specs.declared.node.NodeId.TheVariants.{Client}
 
 module _ (base : Setting) (e : Estate AnyNode) (lines : HasLines base e) (texts : Texts base e lines) (part : ℕ) (first : ℕ → ℕ → Segment) where

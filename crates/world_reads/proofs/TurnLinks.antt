@@ -31,11 +31,11 @@ use Rattle.world_lines.specs.Polls.{ClientLinked, CleanerLinked, LinkedSince}
 use Rattle.world_logs.specs.Lines.{HasLines, Texts, setting}
 use Rattle.world_logs.specs.Roles.Role.{OfClient, OfCleaner}
 use Rattle.world_reads.proofs.CleanerMoment.{sure_at}
-use Rattle.world_reads.proofs.Joint.{IsSureUpto, There, k}
 use Rattle.world_reads.proofs.TurnBoth.{Both}
 use Rattle.world_reads.proofs.TurnLaws.{StepsBelow}
 use Rattle.world_reads.proofs.TurnLogs.{LogsKnown}
 use Rattle.world_reads.proofs.TurnMoment as now
+use Rattle.world_reads.specs.Joint.{IsSureUpto, There, k}
 use Rattle.xfs_base.specs.declared.block.BlockId.{BlockId}
 
 most_of : (a b : ℕ) → nat_le a b ≡ true → a ≤ b

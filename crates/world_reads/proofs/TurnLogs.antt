@@ -22,7 +22,6 @@ use Rattle.world_logs.specs.Lines.{HasLines, Texts}
 use Rattle.world_logs.specs.Roles.{Role, log_by, owner_by, renews}
 use Rattle.world_logs.specs.Roles.Role.{OfClient, OfCleaner, OfManager}
 use Rattle.world_reads.proofs.After.{AllKnown, KnownAt, NothingElse, Owns, left_after}
-use Rattle.world_reads.proofs.Joint.{IsSureUpto, Joint, There, flew_at, k}
 use Rattle.world_reads.proofs.Taking.{Took, took_it}
 use Rattle.world_reads.proofs.TurnBooks.{IsOther, books_left, filed_left}
 use Rattle.world_reads.proofs.TurnBoth.{Both, IsOwed, Turned, both_of}
@@ -30,6 +29,7 @@ use Rattle.world_reads.proofs.TurnCleaner.{cleaner_known}
 use Rattle.world_reads.proofs.TurnClient.{client_known}
 use Rattle.world_reads.proofs.TurnLaws.{StepsBelow}
 use Rattle.world_reads.proofs.TurnMoment as now
+use Rattle.world_reads.specs.Joint.{IsSureUpto, Joint, There, flew_at, k}
 use Rattle.xfs_base.proofs.Booleans.{contrary}
 use Rattle.xfs_base.specs.declared.node.NodeId.{NodeId}
 use Rattle.xfs_base.specs.declared.node.NodeId.TheVariants.{Client, Manager, Server, Cleaner, Registry}

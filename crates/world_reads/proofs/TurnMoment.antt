@@ -21,8 +21,8 @@ use Rattle.world_logs.specs.Lines.{HasLines, Texts, setting}
 use Rattle.world_logs.specs.Roles.{Role}
 use Rattle.world_logs.specs.Roles.Role.{OfClient, OfCleaner}
 use Rattle.world_logs.specs.Standing.{CleanerOwns, OwnerSeen}
-use Rattle.world_reads.proofs.Joint.{IsSureUpto, There, k}
 use Rattle.world_reads.proofs.TurnBoth.{Both}
+use Rattle.world_reads.specs.Joint.{IsSureUpto, There, k}
 use Rattle.xfs_base.specs.declared.node.NodeId.TheVariants.{Client, Cleaner, Registry}
 
 pub same_client : (a b : ClientNode) → Some (any.Client a) ≡ Some (any.Client b) → a ≡ b

@@ -30,7 +30,6 @@ use Rattle.world_logs.specs.Roles.{Role, renews}
 use Rattle.world_logs.specs.Roles.Role.{OfClient, OfCleaner}
 use Rattle.world_reads.proofs.After.{OfLogs, of_logs}
 use Rattle.world_reads.proofs.AfterWrites.{cleaner_writes_then, clients_write_then}
-use Rattle.world_reads.proofs.Joint.{IsSureUpto, Joint, There, flew_at, k}
 use Rattle.world_reads.proofs.CleanerMoving.{moved_then}
 use Rattle.world_reads.proofs.Taking.{Took, took_it}
 use Rattle.world_reads.proofs.TurnBooks.{promised_left}
@@ -43,6 +42,7 @@ use Rattle.world_reads.proofs.TurnLogs.{LogsKnown, cleaner_or_not, known_then, l
 use Rattle.world_reads.proofs.TurnMoment as now
 use Rattle.world_reads.proofs.TurnStill.{IsStill, Rests, flew_still, known_still, rested}
 use Rattle.world_reads.specs.Entries.{EntriesStand}
+use Rattle.world_reads.specs.Joint.{IsSureUpto, Joint, There, flew_at, k}
 use Rattle.xfs_base.specs.declared.node.NodeId.TheVariants.{Cleaner}
 
 -- A moment that stands to all small worlds, by which no less is filed than was.

@@ -16,9 +16,9 @@ use Rattle.world_law.proofs.Standing as tokens
 use Rattle.world_law.specs.Owes.{NodeTold}
 use Rattle.world_law.specs.Owners.{moment}
 use Rattle.world_logs.specs.Lines.{HasLines, Texts}
-use Rattle.world_reads.proofs.Joint.{k}
 use Rattle.world_reads.proofs.Taking.{Took}
 use Rattle.world_reads.proofs.TurnBoth.{AdoptsThere, Both, IsOwed, IsOwedAs}
+use Rattle.world_reads.specs.Joint.{k}
 use Rattle.xfs_base.specs.declared.node.NodeId.{NodeId}
 use Rattle.xfs_base.specs.declared.node.NodeId.TheVariants.{Client, Manager, Cleaner}
 

@@ -20,7 +20,6 @@ use Rattle.world_law.specs.Owners.{moment}
 use Rattle.world_logs.specs.Lines.{HasLines, IsLeft, Texts}
 use Rattle.world_logs.specs.Roles.{Role, renews}
 use Rattle.world_logs.specs.Roles.Role.{OfClient, OfCleaner, OfManager}
-use Rattle.world_reads.proofs.Joint.{IsSureUpto, Joint, There, k}
 use Rattle.world_reads.proofs.Taking.{NothingHappens, Took, moment_next}
 use Rattle.world_reads.proofs.TurnBoth.{Both, Turned, both_of, goes}
 use Rattle.world_reads.proofs.TurnLaws.{StepsBelow}
@@ -28,6 +27,7 @@ use Rattle.world_reads.proofs.TurnLogs.{LogsKnown, cleaner_or_not, client_or_not
 use Rattle.world_reads.proofs.TurnNext.{Grows, LivesTell, TellsEntries, stays, taken}
 use Rattle.world_reads.proofs.TurnOwed.{AllOwed, is_owed}
 use Rattle.world_reads.proofs.TurnStill.{IsStill, Rests, rested}
+use Rattle.world_reads.specs.Joint.{IsSureUpto, Joint, There, k}
 use Rattle.xfs_base.proofs.Booleans.{contrary}
 
 -- ---- counts

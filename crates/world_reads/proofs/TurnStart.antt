@@ -38,7 +38,6 @@ use Rattle.world_logs.specs.Lines.{HasLines, IsBegun, Texts, setting}
 use Rattle.world_logs.specs.Roles.{log_by}
 use Rattle.world_logs.specs.Roles.Role.{OfCleaner}
 use Rattle.world_reads.proofs.AfterClients.{OwnAfter}
-use Rattle.world_reads.proofs.Joint.{IsSureUpto, Joint, WritesKind, flew_at, k}
 use Rattle.world_reads.proofs.TurnBoth.{Both}
 use Rattle.world_reads.proofs.TurnFalls.{FallsKnown, fell_serving}
 use Rattle.world_reads.proofs.TurnLaws.{StepsBelow}
@@ -46,6 +45,7 @@ use Rattle.world_reads.proofs.TurnLogs.{LogsKnown}
 use Rattle.world_reads.proofs.TurnNext.{IsKnown, joint_of}
 use Rattle.world_reads.proofs.TurnRun.{moment_cluster}
 use Rattle.world_reads.specs.Entries.{EntriesStand}
+use Rattle.world_reads.specs.Joint.{IsSureUpto, Joint, WritesKind, flew_at, k}
 
 -- of a log that has just begun nothing is known to be filed, and nothing was in flight
 module _ (begin : LinesBegin) (first : ℕ → ℕ → Segment) (l : ℕ) (Kind : Segment → Type 0) where

@@ -28,16 +28,16 @@ use Rattle.world_logs.specs.Lines.{HasLines, IsLeft, Texts, setting}
 use Rattle.world_logs.specs.Roles.{Role, log_by, renews}
 use Rattle.world_logs.specs.Roles.Role.{OfClient, OfCleaner, OfManager}
 use Rattle.world_reads.proofs.After.{AllKnown, KnownAt, left_after, left_flight}
-use Rattle.world_reads.proofs.AfterClients.{OwnAfter, client_away, client_end}
 use Rattle.world_reads.proofs.AfterCleaner.{cleaner_away, cleaner_end}
+use Rattle.world_reads.proofs.AfterClients.{OwnAfter, client_away, client_end}
 use Rattle.world_reads.proofs.AfterStill as still
 use Rattle.world_reads.proofs.AfterStill.{same_filing, same_log}
 use Rattle.world_reads.proofs.CleanerMoment.{sure_at}
-use Rattle.world_reads.proofs.Joint.{IsSureUpto, There, WritesKind, flew_at, k}
 use Rattle.world_reads.proofs.TurnBoth.{Both, same_moment}
 use Rattle.world_reads.proofs.TurnLaws.{StepsBelow}
 use Rattle.world_reads.proofs.TurnLogs.{LogsKnown}
 use Rattle.world_reads.proofs.TurnMoment as now
+use Rattle.world_reads.specs.Joint.{IsSureUpto, There, WritesKind, flew_at, k}
 use Rattle.xfs_base.proofs.Booleans.{contrary}
 
 module _ (base : Setting) (e : Estate AnyNode) (lines : HasLines base e) (texts : Texts base e lines) (part : ℕ) (first : ℕ → ℕ → Segment) (count : ℕ) where

@@ -36,11 +36,10 @@ use Rattle.world_reads.proofs.EntriesNames.{names_begin, names_rise}
 use Rattle.world_reads.proofs.EntriesParts.{part_later}
 use Rattle.world_reads.proofs.EntriesRise.{entries_begin, rows_more}
 use Rattle.world_reads.proofs.EntriesThen.{EntryEvent, EntryLaws, entries_then, named_then}
-use Rattle.world_reads.proofs.Joint.{Joint, There, k, log_at}
 use Rattle.world_reads.proofs.ManagerMoment.{Coming}
 use Rattle.world_reads.proofs.ManagerOwed.{ManagerOwes, manager_owes}
 use Rattle.world_reads.proofs.ManagerReading.{ManagerLaws}
-use Rattle.world_reads.proofs.ManagerReferences.{ReferencesStand, references_begin}
+use Rattle.world_reads.proofs.ManagerReferences.{references_begin}
 use Rattle.world_reads.proofs.ManagerRefersOn.{ReferenceLaws, references_go_on, references_stay}
 use Rattle.world_reads.proofs.ManagerTelling.{TellingLaws}
 use Rattle.world_reads.proofs.Taking.{Took}
@@ -56,6 +55,8 @@ use Rattle.world_reads.proofs.TurnOwed.{AllOwed, IndexOwed, TokensOwed, is_owed}
 use Rattle.world_reads.proofs.TurnRun.{StepIsOwed, may_at, moment_cluster, past_end}
 use Rattle.world_reads.proofs.TurnStart.{start_joint}
 use Rattle.world_reads.specs.Entries.{EntriesStand, PartKnown, PartsNamed}
+use Rattle.world_reads.specs.Joint.{Joint, There, k, log_at}
+use Rattle.world_reads.specs.References.{ReferencesStand}
 use Rattle.xfs_base.specs.declared.node.NodeId.TheVariants.{Manager}
 
 -- the laws of the crates below on which it stands

@@ -60,7 +60,7 @@ module _ (below : Below) where
     fetches = below.reads.runs_read_their_fetches;
   }
 
-  token_nodes : tokens.NodeLaws
+  pub token_nodes : tokens.NodeLaws
   token_nodes = record {
     starts_asking = below.tokens.starts_asking;
     keeps_asking = below.tokens.events_keep_asking;
@@ -74,7 +74,7 @@ module _ (below : Below) where
     cleaner = below.tokens.cleaner_takes;
   }
 
-  index_nodes : index.NodeLaws
+  pub index_nodes : index.NodeLaws
   index_nodes = record {
     client_starts = below.index.first_client_agrees;
     client = below.index.client_event_goes;

@@ -11,7 +11,7 @@ use Rattle.epoch_law.specs.Polls.{CleanerPollsAreLow, ClientPollsAreLow, Horizon
 use Rattle.epoch_law.specs.Slots.{SlotsStartSame, SlotsStaySame}
 use Rattle.index_reads.specs.Clients.{FlightsAreNews, NothingIsNews}
 use Rattle.index_reads.specs.Managers.{DeltasAreCovered}
-use Rattle.index_tie.specs.NetLaws.{CheckpointsHaveManagers, EachIndexIsTheJoin}
+use Rattle.index_tie.specs.NetLaws.{CheckpointsHaveManagers, EachIndexIsTheJoin, NewestIsNeverDeleted}
 use Rattle.log_law.specs.Ends.{EndsAreLast}
 use Rattle.log_law.specs.Groups.{EndsNameGroups, PriorsNameGroups}
 use Rattle.log_law.specs.Held.{WhatFlewIsOfTheLog, WhatIsHeldFlew, WhatIsListedFlew}
@@ -106,6 +106,7 @@ pub record IndexBelow : Type 0 where
   pub registry_starts : registries.RegistryStarts
   pub registry_event_goes : registries.RegistryEventGoes
   pub each_index_is_the_join : EachIndexIsTheJoin
+  pub newest_is_never_deleted : NewestIsNeverDeleted
   pub checkpoints_have_managers : CheckpointsHaveManagers
   pub flights_are_news : FlightsAreNews
   pub nothing_is_news : NothingIsNews

@@ -1,3 +1,7 @@
 pub mod Below
 pub mod Entries
+pub mod Joint
+pub mod References
+pub mod Moments
+pub mod Indexes
 pub mod Legal

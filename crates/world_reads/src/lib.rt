@@ -1,11 +1,13 @@
 //! The law of every run of the nodes' world about what its acts say: each read is of the newest version, while no restart was doubtful. It has no code of the
 //! product: its functions call the laws that they stand on, and their contracts are laws. The proof carries, beside one run of the nodes, both small worlds of
-//! each slot of the map, that of tokens and that of the index, and those of all logs: each gives the others what they are owed. `proofs/Joint.antt` says how a
+//! each slot of the map, that of tokens and that of the index, and those of all logs: each gives the others what they are owed. `specs/Joint.antt` says how a
 //! moment of the run stands to all of them.
 #![tactic(auto)]
 
 ghost use Rattle.world_reads.specs.Below.{IndexBelow, LinesBelow, LogsBelow, ReadsBelow, TokensBelow};
+ghost use Rattle.world_reads.specs.Indexes.{EveryRunKeepsItsIndexes};
 ghost use Rattle.world_reads.specs.Legal.{EveryRunWithoutLossesIsLegal, EveryRunsActsAreLegal};
+ghost use Rattle.world_reads.specs.Moments.{EveryMomentStands};
 
 use act_tie::blocks;
 use entry_tie::{
@@ -141,9 +143,14 @@ fn lines_below()
 /// - `legal`: so it is of every run of a script of whose setup a run can be started: at each moment of it up to which no restart that ended was doubtful, the
 ///   acts up to there are legal.
 /// - `unlost`: where the script has no line by which a server loses its disk, no restart is doubtful, and all acts of the run are legal.
+/// - `indexes`: up to there the index of each manager that manages a slot is the join of what it has applied, and the newest row of a block is in no segment that
+///   a server was told to delete (on the imap and on cleaning).
+/// - `moments`: what all of it stands on: each such moment stands to the small worlds of tokens, of each slot's index and of all logs.
 pub fn every_runs_acts_are_legal()
     ensures legal { EveryRunsActsAreLegal }
     ensures unlost { EveryRunWithoutLossesIsLegal }
+    ensures indexes { EveryRunKeepsItsIndexes }
+    ensures moments { EveryMomentStands }
 {
     tokens_below();
     index_below();

@@ -1,14 +1,21 @@
-use Rattle.world_reads.proofs.LegalRuns.{every_run_without_losses_is_legal, every_runs_acts_are_legal}
+use Rattle.world_reads.proofs.LegalRuns.{every_moment_stands, every_run_keeps_its_indexes, every_run_without_losses_is_legal, every_runs_acts_are_legal}
 use Rattle.world_reads.proofs.every_runs_acts_are_legal.Goals as goal
+use Rattle.world_reads.specs.Below.{Below}
 use Rattle.world_reads.specs.Legal.{EveryRunsActsAreLegal}
 
 pub returns : goal.returns
 returns c =
-    let legal : EveryRunsActsAreLegal = every_runs_acts_are_legal (record {
+    let below : Below = record {
       tokens = c.tokens_below.ensures;
       index = c.index_below.ensures;
       reads = c.reads_below.ensures;
       logs = c.logs_below.ensures;
       lines = c.lines_below.ensures;
-    }) in
-    record { legal = legal; unlost = every_run_without_losses_is_legal legal c.without_losses_no_restart_is_doubtful.ensures.scripts }
+    } in
+    let legal : EveryRunsActsAreLegal = every_runs_acts_are_legal below in
+    record {
+      legal = legal;
+      unlost = every_run_without_losses_is_legal legal c.without_losses_no_restart_is_doubtful.ensures.scripts;
+      indexes = every_run_keeps_its_indexes below;
+      moments = every_moment_stands below;
+    }
