@@ -15,11 +15,11 @@ use Rattle.token_protocol.specs.Acts.{LegalActs}
 use Rattle.token_protocol.specs.Entry as abstract
 use Rattle.token_protocol.proofs.Told.{acts_legal}
 use Rattle.token_protocol.proofs.Invariant.{Owned, owned, always as invariant}
-use Rattle.token_protocol.proofs.Laws.{single_owner, epoch_promised, beliefs_cover, acceptable_believed, no_holder_after_fall, flights_new, join_is_join}
+use Rattle.token_protocol.proofs.Laws.{single_owner, epoch_promised, beliefs_cover, acceptable_believed, no_holder_after_fall, flights_new, join_is_join, acceptable_joins}
 use Rattle.token_tie.specs.Seen.{rank, local_of, entry_seen}
 use Rattle.token_tie.proofs.Leaves.{taking}
 use Rattle.token_tie.proofs.SmallFacts.{equal_numbers}
-use Rattle.token_law.specs.Laws.{Moment, IsClient, Reigns, OneOwner, ActiveEpochsPromised, HoldingsBelieved, GrantsBelieved, NobodyHoldsAfterFall, ActsAreLegal, FallsAreApart, FlightsAreNewer}
+use Rattle.token_law.specs.Laws.{Moment, IsClient, Reigns, OneOwner, ActiveEpochsPromised, HoldingsBelieved, GrantsBelieved, NobodyHoldsAfterFall, ActsAreLegal, FallsAreApart, FlightsAreNewer, GrantsAreOfTheNewest}
 use Rattle.token_law.specs.Net.{Net, Happens, Runs, opening}
 use Rattle.token_law.specs.Net.Happens.{Acts, Elsewhere, Reports, GetsCopy, GetsOwn, Declines, GetsRecall, GetsForward, GetsSupply, Fetches, Reads, Syncs, Seals, Files, GetsDeltas, GetsWant, GetsGave, Ticks, Crashes, Returns, SealsCopies, FilesCopies, Reopens, Activates, Says}
 use Rattle.token_law.specs.Net.Runs.{Begun, On}
@@ -167,5 +167,19 @@ flights_are_newer members part n b m c is some l q filed =
     let other = ap (λ (r : abstract.Row). r.version) (v.kept.says l q) in
     let end = v.kept.ends l in
     let above = (flights_new w whole c (let many = v.many in let within = is.within in omega arith)).above (omega arith) in
+    let most = (join_is_join w whole).upper l q (omega arith) in
+    omega arith
+
+pub grants_are_of_the_newest : GrantsAreOfTheNewest
+grants_are_of_the_newest members part n b m c is up stamp inc req mode entry sent accepted l q filed =
+    let v = seen true members part n b m c is in
+    let w = v.world in
+    let whole = invariant members w v.steps in
+    let shown = shown_up true members part b n v c is.some is.within up in
+    let may = taking true (setting b c (n.tokens c).inc) 0 w (local_of (n.tokens c) b) stamp inc req mode (entry_seen entry) shown
+    (promised_by true members part n b m v c is) (v.sent _ sent refl) accepted in
+    let told = acceptable_joins w whole _ may.1.sent may.1.live in
+    let row = ap (λ (r : abstract.Row). r.version) (v.kept.says l q) in
+    let end = v.kept.ends l in
     let most = (join_is_join w whole).upper l q (omega arith) in
     omega arith

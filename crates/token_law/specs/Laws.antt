@@ -86,3 +86,11 @@ FlightsAreNewer =
     (members part : ℕ) (n : Net) (b : BlockId) → Moment true members part n b → (c : ℕ) → IsClient members c
     → 0 < (said n.books c (suc (n.books.end c)) b).version → (l q : ℕ) → q ≤ n.books.end l
     → (said n.books l q b).version < (said n.books c (suc (n.books.end c)) b).version
+
+-- Where logs keep their word: what a sent Grant that the client would still accept tells of a block of the slot is at or above all that any log has filed of the
+-- block.
+abbrev pub GrantsAreOfTheNewest : Type 0
+GrantsAreOfTheNewest =
+    (members part : ℕ) (n : Net) (b : BlockId) → Moment true members part n b → (c : ℕ) → IsClient members c → n.up c ≡ true
+    → (stamp : Stamp) (inc req : ℕ) (mode : Mode) (entry : Entry) → In (GrantSent c b stamp inc req mode entry) n.sent
+    → accepts (n.tokens c) b stamp inc req mode ≡ true → (l q : ℕ) → q ≤ n.books.end l → (said n.books l q b).version ≤ entry.ver

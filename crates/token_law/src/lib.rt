@@ -3,7 +3,7 @@
 #![tactic(auto)]
 
 ghost use Rattle.token_law.specs.Example.{IsShared};
-ghost use Rattle.token_law.specs.Laws.{OneOwner, ActiveEpochsPromised, HoldingsBelieved, GrantsBelieved, NobodyHoldsAfterFall, ActsAreLegal, FallsAreApart, FlightsAreNewer};
+ghost use Rattle.token_law.specs.Laws.{OneOwner, ActiveEpochsPromised, HoldingsBelieved, GrantsBelieved, NobodyHoldsAfterFall, ActsAreLegal, FallsAreApart, FlightsAreNewer, GrantsAreOfTheNewest};
 
 /// The law of every run of the small world, however managers follow each other, clients fall and return, and packets come, whether or not logs keep their
 /// word (the 1996 paper, on cache consistency).
@@ -36,6 +36,13 @@ pub fn acts_are_legal()
 /// - `newer`: what a client has in flight of a block, or had when it fell, is above all that any log has filed of the block.
 pub fn flights_are_newer()
     ensures newer { FlightsAreNewer }
+{}
+
+/// The law of Grants, where logs keep their word.
+///
+/// - `newest`: what a sent Grant that the client would still accept tells of a block is at or above all that any log has filed of the block.
+pub fn grants_tell_the_newest()
+    ensures newest { GrantsAreOfTheNewest }
 {}
 
 /// What is said of runs is said of some: one in which a client writes a block and files it, and another reads it.
