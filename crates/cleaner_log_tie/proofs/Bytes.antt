@@ -19,17 +19,17 @@ use Rattle.segment_format.specs.ReadingItems.{answer_of}
 use Rattle.segment_format.specs.Text.{block_text, item_text, head_of, head_text, IsItem, IsText}
 use Rattle.segment_format.proofs.SegmentLaws.{answer_takes}
 use Rattle.group_map.specs.GroupMapState.{GroupMapState}
-use Rattle.stripe_code.specs.declared.reading.Next.{Next}
-use Rattle.stripe_code.specs.declared.reading.Next.TheVariants as next
-use Rattle.stripe_code.specs.declared.reading.Stage.{Stage}
-use Rattle.stripe_code.specs.declared.reading.Stage.TheVariants as stage
+use Rattle.segment_reading.specs.declared.reading.Next.{Next}
+use Rattle.segment_reading.specs.declared.reading.Next.TheVariants as next
+use Rattle.segment_reading.specs.declared.reading.Stage.{Stage}
+use Rattle.segment_reading.specs.declared.reading.Stage.TheVariants as stage
+use Rattle.segment_reading.specs.Reading.{ReadingState, Step, is_target, segment_found, counts, read_as, judged, on_answer, goes_on, on_confirmed}
 use Rattle.stripe_code.specs.declared.round.Answer.{Answer}
 use Rattle.stripe_code.specs.declared.round.RoundState.{RoundState}
 use Rattle.stripe_code.specs.declared.round.RoundState.TheVariants.{Read, Short, Waiting}
 use Rattle.stripe_code.specs.declared.round.Told.{Told}
 use Rattle.stripe_code.specs.declared.round.Told.TheVariants.{Held, Missing}
 use Rattle.stripe_code.specs.Joined.{part_at, rest_onto, one_gone, lower_of, two_gone, recovered_at, recovered, missing_from, filled, joined}
-use Rattle.stripe_code.specs.Reading.{ReadingState, Step, is_target, segment_found, counts, read_as, judged, on_answer, goes_on, on_confirmed}
 use Rattle.stripe_code.specs.Round.{RoundSoFar, has_answered, taken, bytes_told, bytes_in, parts_in, missing_in, len_in, is_enough, have_answered, state_of}
 use Rattle.stripe_code.specs.Stripe.{plain, weighted}
 use Rattle.cleaner_log_tie.specs.Fitting.{ItemFits, SegmentFits, ToldFits, RoundFits}

@@ -7,8 +7,8 @@ use Rattle.xfs_base.specs.declared.segment.SegRef.{SegRef}
 use Rattle.group_map.specs.declared.group.Group.{Group}
 use Rattle.group_map.specs.GroupMapState.{GroupMapState}
 use Rattle.node_base.specs.declared.questions.Questions.{Questions}
+use Rattle.segment_reading.specs.Reading.{ReadingState, on_answer, on_confirmed}
 use Rattle.stripe_code.specs.declared.round.Told.{Told}
-use Rattle.stripe_code.specs.Reading.{ReadingState, on_answer, on_confirmed}
 use Rattle.cleaner_node.specs.declared.hand.Hand.{Hand}
 use Rattle.cleaner_node.specs.EmptyingEvents.{hand_moved}
 use Rattle.cleaner_node.specs.Hands.{Heard, Taken, is_in_hand, known_group, taken_over, takes_in_hand, hears_by, hand_hears, confirmed_by, hand_confirmed, checks_under}

@@ -7,10 +7,10 @@ use Rattle.segment_format.specs.declared.segment.Item.TheVariants.{Block}
 use Rattle.segment_format.specs.declared.segment.Segment.{Segment}
 use Rattle.segment_format.specs.Format.{second_version, IsLength}
 use Rattle.segment_format.specs.Ranges.{FitsBlock, FitsRow}
+use Rattle.segment_reading.specs.Reading.{ReadingState}
 use Rattle.stripe_code.specs.declared.round.Answer.{Answer}
 use Rattle.stripe_code.specs.declared.round.Told.{Told}
 use Rattle.stripe_code.specs.declared.round.Told.TheVariants.{Held, Missing}
-use Rattle.stripe_code.specs.Reading.{ReadingState}
 use Rattle.stripe_code.specs.Round.{RoundSoFar}
 use Rattle.stripe_code.specs.Stripe.{IsBytes}
 use Rattle.stripe_cleaner.specs.declared.checks.Check.{Check}

@@ -14,13 +14,13 @@ use Rattle.node_base.specs.declared.effects.Effect.{Effect}
 use Rattle.node_base.specs.declared.effects.Effect.TheVariants.{Send, Does}
 use Rattle.node_base.specs.declared.questions.Questions.{Questions}
 use Rattle.segment_format.specs.declared.segment.Segment.{Segment}
+use Rattle.segment_reading.specs.declared.reading.Next.{Next}
+use Rattle.segment_reading.specs.declared.reading.Next.TheVariants as next
 use Rattle.stripe_cleaner.specs.declared.input.In.{In}
 use Rattle.stripe_cleaner.specs.declared.input.In.TheVariants as input
 use Rattle.stripe_cleaner.specs.declared.output.Out.{Out}
 use Rattle.stripe_cleaner.specs.declared.output.Out.TheVariants as out
 use Rattle.stripe_cleaner.specs.Transition.{transition}
-use Rattle.stripe_code.specs.declared.reading.Next.{Next}
-use Rattle.stripe_code.specs.declared.reading.Next.TheVariants as next
 use Rattle.stripe_code.specs.declared.round.Told.{Told}
 use Rattle.stripe_code.specs.declared.round.Told.TheVariants as told
 use Rattle.version_model.specs.declared.act.Act.TheVariants.{Dropped}

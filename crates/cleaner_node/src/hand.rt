@@ -8,11 +8,12 @@ ghost use Rattle.cleaner_node.specs.Hands.{same_segment, is_in_hand, known_group
 use group_map::{Group, GroupMap};
 use log_owner::send_fetch;
 use node_base::{Effects, Questions};
+use segment_reading::{Next, Reading, Target};
 use std::alloc::Global;
 use std::collections::BTreeMap;
 use std::marker::Model;
 use std::mem;
-use stripe_code::{Next, Reading, Target, Told};
+use stripe_code::Told;
 use xfs_base::{BlockId, Crosses, Mem, SegName, SegRef};
 
 /// For each block of the segment in hand the question of its newest check. Contracts see the list of both,

@@ -7,9 +7,10 @@ ghost use Rattle.cleaner_node.specs.EmptyingEvents.{new_job, hand_moved, hello_o
 use crate::hand::{Hand, take_in_hand};
 use group_map::GroupMap;
 use node_base::Questions;
+use segment_reading::Next;
 use std::alloc::Global;
 use stripe_cleaner::Cleaning;
-use stripe_code::{Next, Told};
+use stripe_code::Told;
 use xfs_base::{BlockId, Crosses, Mem, SegRef};
 
 /// A job of the cleaner.

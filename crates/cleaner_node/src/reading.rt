@@ -7,9 +7,10 @@ use crate::emptying::Emptying;
 use crate::hand::fetch;
 use node_base::Effects;
 use segment_format::Segment;
+use segment_reading::Next;
 use std::alloc::Global;
 use stripe_cleaner::In;
-use stripe_code::{Next, Told};
+use stripe_code::Told;
 use wire_msg::{Found, Missing};
 use xfs_base::Mem;
 

@@ -16,11 +16,11 @@ use Rattle.log_owner.specs.Promised.{manager_set}
 use Rattle.node_base.specs.Known.{names_known}
 use Rattle.node_base.specs.Maps.{fits, is_older, taken}
 use Rattle.node_base.specs.Room.{has_long_room}
-use Rattle.stripe_code.specs.declared.reading.Next.{Next}
-use Rattle.stripe_code.specs.declared.reading.Next.TheVariants as next
+use Rattle.segment_reading.specs.declared.reading.Next.{Next}
+use Rattle.segment_reading.specs.declared.reading.Next.TheVariants as next
+use Rattle.segment_reading.specs.declared.target.BlockAt.{BlockAt}
 use Rattle.stripe_code.specs.declared.round.Told.{Told}
 use Rattle.stripe_code.specs.declared.round.Told.TheVariants as tells
-use Rattle.stripe_code.specs.declared.target.BlockAt.{BlockAt}
 use Rattle.token_client.specs.declared.input.In.TheVariants as tokens
 use Rattle.token_client.specs.Held.{may_end_fetch}
 use Rattle.token_client.specs.State.{TokensState, epoch_of, held_of}

@@ -8,8 +8,8 @@ use Rattle.xfs_base.specs.declared.node.NodeId.{NodeId}
 use Rattle.xfs_base.specs.declared.node.NodeId.TheVariants.{Client, Manager, Server, Cleaner, Registry}
 use Rattle.xfs_base.specs.declared.segment.LogId.{LogId}
 use Rattle.group_map.specs.GroupMapState.{GroupMapState}
-use Rattle.stripe_code.specs.declared.reading.Stage as readings
-use Rattle.stripe_code.specs.declared.reading.Stage.TheVariants as reading
+use Rattle.segment_reading.specs.declared.reading.Stage as readings
+use Rattle.segment_reading.specs.declared.reading.Stage.TheVariants as reading
 use Rattle.stripe_code.specs.declared.round.Told.TheVariants as round_told
 use Rattle.client_log.specs.declared.input.In.TheVariants as log_in
 use Rattle.client_log.specs.LogState.{started}
@@ -18,7 +18,7 @@ use Rattle.log_scan.specs.declared.input.In.TheVariants as input
 use Rattle.log_scan.specs.declared.stage.Stage as scan_stages
 use Rattle.log_scan.specs.declared.stage.Stage.TheVariants.{Hails, Gathers, Asks, Reads, Over}
 use Rattle.log_scan.specs.declared.stage.Backward.{Backward}
-use Rattle.stripe_code.specs.Reading.{ReadingState}
+use Rattle.segment_reading.specs.Reading.{ReadingState}
 use Rattle.log_scan.specs.Transition as scan
 use Rattle.log_owner.specs.declared.known.Known.{Known}
 use Rattle.log_owner.specs.declared.opened.Progress.TheVariants as progress

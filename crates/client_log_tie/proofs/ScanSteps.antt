@@ -8,15 +8,15 @@ use Rattle.xfs_base.specs.declared.segment.End.{End}
 use Rattle.segment_format.specs.declared.segment.Segment.{Segment}
 use Rattle.group_map.specs.declared.group.Group.{Group}
 use Rattle.group_map.specs.GroupMapState.{GroupMapState}
-use Rattle.stripe_code.specs.declared.reading.Next.TheVariants as next
-use Rattle.stripe_code.specs.declared.reading.Stage as readings
-use Rattle.stripe_code.specs.declared.reading.Stage.TheVariants as reading
+use Rattle.segment_reading.specs.declared.reading.Next.TheVariants as next
+use Rattle.segment_reading.specs.declared.reading.Stage as readings
+use Rattle.segment_reading.specs.declared.reading.Stage.TheVariants as reading
+use Rattle.segment_reading.specs.Reading.{ReadingState, Step, begun, is_asking, to_ask, segment_found, counts, name_fits, ends, read_as, judged, on_answer}
+use Rattle.segment_reading.specs.Lost.{are_gone}
+use Rattle.segment_reading.specs.Reading as rounds
 use Rattle.stripe_code.specs.declared.round.RoundState.{RoundState}
 use Rattle.stripe_code.specs.declared.round.RoundState.TheVariants as round
 use Rattle.stripe_code.specs.declared.round.Told.{Told}
-use Rattle.stripe_code.specs.Reading.{ReadingState, Step, begun, is_asking, to_ask, segment_found, counts, name_fits, ends, read_as, judged, on_answer}
-use Rattle.stripe_code.specs.Lost.{are_gone}
-use Rattle.stripe_code.specs.Reading as rounds
 use Rattle.segment_format.specs.ReadingItems.{answer_of}
 use Rattle.stripe_code.specs.Round.{asks as round_asks, taken, told_fits, state_of}
 use Rattle.log_scan.specs.declared.listing.Listing.{Listing}

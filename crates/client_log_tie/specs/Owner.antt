@@ -13,9 +13,9 @@ use Rattle.log_owner.specs.declared.opening.Stage.TheVariants as stage
 use Rattle.log_scan.specs.declared.stage.Stage.{Stage}
 use Rattle.log_scan.specs.declared.stage.Stage.TheVariants.{Hails, Gathers, Asks, Reads, Over}
 use Rattle.node_base.specs.declared.questions.Asked.{Asked}
-use Rattle.stripe_code.specs.declared.reading.Stage as readings
-use Rattle.stripe_code.specs.declared.reading.Stage.TheVariants as reading
-use Rattle.stripe_code.specs.Reading.{ReadingState}
+use Rattle.segment_reading.specs.declared.reading.Stage as readings
+use Rattle.segment_reading.specs.declared.reading.Stage.TheVariants as reading
+use Rattle.segment_reading.specs.Reading.{ReadingState}
 use Rattle.xfs_base.specs.declared.node.NodeId.TheVariants.{Client}
 use Rattle.log_protocol.specs.Tables.{In}
 use Rattle.log_tie.specs.Setting.{Setting}

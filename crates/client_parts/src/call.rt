@@ -4,9 +4,9 @@ ghost use Rattle.client_parts.specs.Calls.{call_for, going, call_of, file_call, 
 
 use file_plan::planning::made_by;
 use file_plan::{BlockAnswer, BlockCall, FilePlan, Next};
+use segment_reading::Reading;
 use std::alloc::Global;
 use std::mem;
-use stripe_code::Reading;
 use version_model::{Answer, FileCall, Work};
 use xfs_base::Mem;
 

@@ -8,9 +8,10 @@ use group_map::GroupMap;
 use log_owner::send_fetch;
 use node_base::Effects;
 use segment_format::{Item, Segment};
+use segment_reading::{BlockAt, Next, Reading, Target};
 use std::alloc::Global;
 use std::mem;
-use stripe_code::{BlockAt, Next, Reading, Target, Told};
+use stripe_code::Told;
 use token_client::Tokens;
 use xfs_base::{BlockId, Mem, Place, SegName, Value};
 

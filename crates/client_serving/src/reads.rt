@@ -9,8 +9,9 @@ use client_parts::reads::{
     ask_reading, block_read, hear, same_target, set_reading, take_reading, target_of, value_at,
 };
 use node_base::Effects;
+use segment_reading::{BlockAt, Next, Reading, Stage, Target};
 use std::alloc::Global;
-use stripe_code::{BlockAt, Next, Reading, Stage, Target, Told};
+use stripe_code::Told;
 use token_client::In;
 use wire_msg::{Found, Missing};
 use xfs_base::{BlockId, Mem, NodeId, Place, SegName};

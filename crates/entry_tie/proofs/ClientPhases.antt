@@ -29,8 +29,8 @@ use Rattle.node_base.specs.Beginning.{next_item, begun, work_at, waiting, answer
 use Rattle.node_base.specs.declared.effects.Effect.TheVariants.{Answer as Answers}
 use Rattle.node_base.specs.declared.peers.Peers.{Peers}
 use Rattle.node_base.specs.Shape.{is_well_formed}
-use Rattle.stripe_code.specs.declared.target.BlockAt.{BlockAt}
-use Rattle.stripe_code.specs.Reading.{ReadingState}
+use Rattle.segment_reading.specs.declared.target.BlockAt.{BlockAt}
+use Rattle.segment_reading.specs.Reading.{ReadingState}
 use Rattle.token_client.specs.declared.held.Fetch.{Fetch}
 use Rattle.version_model.specs.declared.act.Act.{Act}
 use Rattle.version_model.specs.declared.answer.Answer.{Answer}

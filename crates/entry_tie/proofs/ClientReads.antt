@@ -17,13 +17,13 @@ use Rattle.file_plan.specs.declared.state.PlanState.{PlanState}
 use Rattle.file_plan.specs.Plan as plans
 use Rattle.group_map.specs.GroupMapState.{GroupMapState}
 use Rattle.segment_format.specs.declared.segment.Segment.{Segment}
-use Rattle.stripe_code.specs.declared.reading.Next.TheVariants as next
-use Rattle.stripe_code.specs.declared.reading.Stage.{Stage}
-use Rattle.stripe_code.specs.declared.reading.Stage.TheVariants.{Asking, Between, Doubted, Over}
+use Rattle.segment_reading.specs.declared.reading.Next.TheVariants as next
+use Rattle.segment_reading.specs.declared.reading.Stage.{Stage}
+use Rattle.segment_reading.specs.declared.reading.Stage.TheVariants.{Asking, Between, Doubted, Over}
+use Rattle.segment_reading.specs.Reading.{ReadingState, Step, counts, read_as, judged, on_answer, goes_on, on_confirmed}
 use Rattle.stripe_code.specs.declared.round.RoundState.{RoundState}
 use Rattle.stripe_code.specs.declared.round.RoundState.TheVariants as rounds
 use Rattle.stripe_code.specs.declared.round.Told.{Told as Answered}
-use Rattle.stripe_code.specs.Reading.{ReadingState, Step, counts, read_as, judged, on_answer, goes_on, on_confirmed}
 use Rattle.stripe_code.specs.Round.{taken, state_of}
 use Rattle.token_client.specs.declared.held.Wanted.{Wanted}
 use Rattle.token_client.specs.declared.input.In.{In}

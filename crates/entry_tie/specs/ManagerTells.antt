@@ -16,9 +16,9 @@ use Rattle.manager_node.specs.Slots.{fetch_of}
 use Rattle.segment_format.specs.declared.segment.Item.{Item}
 use Rattle.segment_format.specs.declared.segment.Item.TheVariants.{Block, Delta, Part}
 use Rattle.segment_format.specs.declared.segment.Segment.{Segment}
+use Rattle.segment_reading.specs.Reading.{ReadingState, on_answer}
 use Rattle.stripe_code.specs.declared.round.Told.{Told as Answered}
 use Rattle.stripe_code.specs.declared.round.Told.TheVariants as answered
-use Rattle.stripe_code.specs.Reading.{ReadingState, on_answer}
 use Rattle.takeover.specs.Course.{segment_of}
 use Rattle.takeover.specs.declared.source.Present.{Present}
 use Rattle.takeover.specs.Rows.{told_of}

@@ -6,11 +6,11 @@ use Rattle.segment_format.specs.declared.seg_error.SegError.{SegError}
 use Rattle.segment_format.specs.Text.{text_of}
 use Rattle.segment_format.specs.ReadingItems.{answer_of}
 use Rattle.segment_format.proofs.SegmentLaws.{answer_again}
+use Rattle.segment_reading.specs.Reading as reading
+use Rattle.segment_reading.specs.Reading.{ReadingState}
 use Rattle.stripe_code.specs.declared.round.Told.TheVariants as told
 use Rattle.stripe_code.specs.Fragments.{meta_of}
 use Rattle.stripe_code.specs.Joined.{joined}
-use Rattle.stripe_code.specs.Reading as reading
-use Rattle.stripe_code.specs.Reading.{ReadingState}
 use Rattle.stripe_code.specs.Round as round
 use Rattle.stripe_code.specs.Stripe.{stripe_of}
 use Rattle.client_log.specs.Fragments.{piece}

@@ -1,6 +1,6 @@
 //! Reading the chain back, one segment after the other.
 ghost use Rattle.std.specs.Prelude.{◌≡◌, ◌++◌, ◌<◌, IfOk, OnOk, Some, map};
-ghost use Rattle.stripe_code.specs.Reading.{ReadingState};
+ghost use Rattle.segment_reading.specs.Reading.{ReadingState};
 ghost use Rattle.xfs_base.specs.Limits.{u32_end};
 ghost use Rattle.log_scan.specs.declared.output.Out.TheVariants.{Fetch};
 ghost use Rattle.log_scan.specs.Transition.{read_from, end_below, with_segment, prior_at, chain_of, fetches, target_at, names_none, is_bottom, begins_round, follows, goes_on, confirms_by, confirms, heard_with, heard};
@@ -9,8 +9,9 @@ use crate::Out;
 use crate::opening::{Opening, known_group};
 use crate::stage::{Backward, Stage};
 use segment_format::Segment;
+use segment_reading::{Next, Reading, Target};
 use std::alloc::Global;
-use stripe_code::{Next, Reading, Target, Told};
+use stripe_code::Told;
 use xfs_base::{End, List, LogId, Mem, Prior, SegName, SegRef};
 
 impl Backward {

@@ -4,7 +4,7 @@ ghost use Rattle.log_scan.specs.Transition.{is_between, awaits_welcome};
 
 use crate::listing::Listing;
 use segment_format::Segment;
-use stripe_code::Reading;
+use segment_reading::Reading;
 use xfs_base::{End, List};
 
 /// The chain as far as it is read back.

@@ -12,8 +12,9 @@ use crate::pick::start_of;
 use crate::stage::{Backward, Stage};
 use crate::{In, Out};
 use group_map::GroupMap;
+use segment_reading::Reading;
 use std::alloc::Global;
-use stripe_code::{Reading, Told};
+use stripe_code::Told;
 use xfs_base::{List, Mem, SlotNews};
 
 impl Opening {

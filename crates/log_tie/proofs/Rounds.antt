@@ -14,7 +14,9 @@ use Rattle.segment_format.specs.ReadingItems.{answer_of}
 use Rattle.segment_format.specs.Text.{text_of}
 use Rattle.segment_format.proofs.SegmentLaws.{answer_again}
 use Rattle.group_map.specs.GroupMapState.{GroupMapState}
-use Rattle.stripe_code.specs.declared.reading.Next.TheVariants as next
+use Rattle.segment_reading.specs.declared.reading.Next.TheVariants as next
+use Rattle.segment_reading.specs.Reading.{ReadingState, Step, is_target, segment_found, name_fits, counts, read_as, judged, on_answer}
+use Rattle.segment_reading.specs.Reading as reading
 use Rattle.stripe_code.specs.declared.round.Answer.{Answer}
 use Rattle.stripe_code.specs.declared.round.RoundState.{RoundState}
 use Rattle.stripe_code.specs.declared.round.RoundState.TheVariants as round
@@ -22,8 +24,6 @@ use Rattle.stripe_code.specs.declared.round.Told.{Told}
 use Rattle.stripe_code.specs.declared.round.Told.TheVariants.{Held, Missing}
 use Rattle.stripe_code.specs.Fragments.{fragment_at}
 use Rattle.stripe_code.specs.Joined.{AreOf, missing_from, joined}
-use Rattle.stripe_code.specs.Reading.{ReadingState, Step, is_target, segment_found, name_fits, counts, read_as, judged, on_answer}
-use Rattle.stripe_code.specs.Reading as reading
 use Rattle.stripe_code.specs.Round.{RoundSoFar, count_of, asks, has_answered, len_in, bytes_in, parts_in, is_enough, have_answered, missing_in, taken, state_of, told_fits, new_round, TellsPart}
 use Rattle.stripe_code.specs.Stripe.{IsCut, part_of, pieces, stripe_of}
 use Rattle.stripe_code.proofs.Given.{gives_back}

@@ -8,8 +8,8 @@ use Rattle.segment_format.specs.declared.segment.Segment.{Segment}
 use Rattle.group_map.specs.declared.group.Group.{Group}
 use Rattle.group_map.specs.GroupMapState.{GroupMapState}
 use Rattle.group_map.specs.Groups.{group_of}
+use Rattle.segment_reading.specs.Reading.{ReadingState}
 use Rattle.stripe_code.specs.Fragments.{meta_of}
-use Rattle.stripe_code.specs.Reading.{ReadingState}
 use Rattle.stripe_code.specs.Stripe.{IsCut}
 use Rattle.log_scan.specs.declared.input.In as inputs
 use Rattle.log_scan.specs.declared.input.In.TheVariants.{Welcome, Fenced, Got, Missing, Maps, Tick}

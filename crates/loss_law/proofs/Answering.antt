@@ -1,14 +1,14 @@
 -- A round with one more answer, and what its state says of its pairs.
 use Rattle.std.proofs.Common.{◌≡◌, ℕ, ◌&&◌, Bool, true, false, cond, List, [], ◌∷◌, ◌++◌, refl, sym, ap}
 use Rattle.std.specs.Prelude.{unwrap_or}
+use Rattle.segment_reading.specs.declared.reading.Stage as rounds
+use Rattle.segment_reading.specs.declared.reading.Stage.TheVariants as stand
+use Rattle.segment_reading.specs.Reading.{is_asking}
 use Rattle.xfs_base.proofs.Booleans.{by_test, contrary}
-use Rattle.stripe_code.specs.declared.reading.Stage as rounds
-use Rattle.stripe_code.specs.declared.reading.Stage.TheVariants as stand
 use Rattle.stripe_code.specs.declared.round.RoundState.{RoundState}
 use Rattle.stripe_code.specs.declared.round.RoundState.TheVariants.{Read, Short, Waiting}
 use Rattle.stripe_code.specs.declared.round.Told.{Told}
 use Rattle.stripe_code.specs.Joined.{joined}
-use Rattle.stripe_code.specs.Reading.{is_asking}
 use Rattle.stripe_code.specs.Round.{RoundSoFar, has_answered, asks, taken, is_enough, have_answered, parts_in, len_in, missing_in, state_of}
 use Rattle.loss_law.proofs.Pairs.{Single, AllAsked, ToldSo, AllSo, single_more, asked_more, so_more}
 

@@ -5,9 +5,9 @@ use Rattle.xfs_base.specs.declared.news.SlotNews.{SlotNews}
 use Rattle.xfs_base.specs.declared.segment.SegRef.{SegRef}
 use Rattle.xfs_base.proofs.Booleans.{by_test, and_first}
 use Rattle.group_map.specs.GroupMapState.{GroupMapState}
+use Rattle.segment_reading.specs.Reading.{ReadingState, is_asking, to_ask}
 use Rattle.stripe_code.specs.declared.round.Told.{Told}
 use Rattle.stripe_code.specs.declared.round.Told.TheVariants as told
-use Rattle.stripe_code.specs.Reading.{ReadingState, is_asking, to_ask}
 use Rattle.log_scan.specs.declared.input.In.{In as Input}
 use Rattle.log_scan.specs.declared.input.In.TheVariants as scan_in
 use Rattle.log_scan.specs.declared.listing.Listing.{Listing}

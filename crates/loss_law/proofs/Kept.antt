@@ -4,9 +4,9 @@ use Rattle.xfs_base.specs.declared.news.SlotNews.{SlotNews}
 use Rattle.xfs_base.specs.declared.segment.SegName.{SegName}
 use Rattle.xfs_base.specs.declared.segment.SegRef.{SegRef}
 use Rattle.group_map.specs.GroupMapState.{GroupMapState}
-use Rattle.stripe_code.specs.declared.reading.Stage as rounds
-use Rattle.stripe_code.specs.declared.reading.Stage.TheVariants as stand
-use Rattle.stripe_code.specs.Reading.{ReadingState}
+use Rattle.segment_reading.specs.declared.reading.Stage as rounds
+use Rattle.segment_reading.specs.declared.reading.Stage.TheVariants as stand
+use Rattle.segment_reading.specs.Reading.{ReadingState}
 use Rattle.log_scan.specs.declared.stage.Backward.{Backward}
 use Rattle.log_scan.specs.declared.stage.Stage.{Stage}
 use Rattle.log_scan.specs.declared.stage.Stage.TheVariants.{Hails, Gathers, Asks, Reads, Over}

@@ -3,11 +3,11 @@ use Rattle.std.proofs.Common.{◌≡◌, ℕ, ◌==◌, ◌||◌, Bool, true, fa
 use Rattle.std.specs.List.{list_any}
 use Rattle.std.proofs.lemmas.Bool.{or_parts}
 use Rattle.std.proofs.lemmas.Bool.Decides.{nat_tests}
+use Rattle.segment_reading.specs.Lost.{same_pair}
 use Rattle.xfs_base.proofs.Booleans.{contrary, and_first, and_second}
 use Rattle.stripe_code.specs.declared.round.Answer.{Answer}
 use Rattle.stripe_code.specs.declared.round.Told.{Told}
 use Rattle.stripe_code.specs.declared.round.Told.TheVariants.{Held, Missing}
-use Rattle.stripe_code.specs.Lost.{same_pair}
 use Rattle.stripe_code.specs.Round.{has_answered, missing_told, missing_in}
 use Rattle.loss_law.proofs.Counting.{is_in, Apart, Each, Among}
 

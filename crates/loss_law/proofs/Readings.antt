@@ -11,16 +11,16 @@ use Rattle.segment_format.specs.declared.segment.Segment.{Segment}
 use Rattle.segment_format.specs.ReadingItems.{answer_of}
 use Rattle.group_map.specs.declared.group.Group.{Group}
 use Rattle.group_map.specs.GroupMapState.{GroupMapState}
-use Rattle.stripe_code.specs.declared.reading.Next.TheVariants as next
-use Rattle.stripe_code.specs.declared.reading.Stage as rounds
-use Rattle.stripe_code.specs.declared.reading.Stage.TheVariants as stand
+use Rattle.segment_reading.specs.declared.reading.Next.TheVariants as next
+use Rattle.segment_reading.specs.declared.reading.Stage as rounds
+use Rattle.segment_reading.specs.declared.reading.Stage.TheVariants as stand
+use Rattle.segment_reading.specs.declared.target.Target.{Target}
+use Rattle.segment_reading.specs.Lost.{missing_twice, are_gone}
+use Rattle.segment_reading.specs.Reading.{ReadingState, Step, counts, name_fits, is_asking, to_ask}
+use Rattle.segment_reading.specs.Reading as reading
 use Rattle.stripe_code.specs.declared.round.RoundState.{RoundState}
 use Rattle.stripe_code.specs.declared.round.RoundState.TheVariants as round
 use Rattle.stripe_code.specs.declared.round.Told.{Told}
-use Rattle.stripe_code.specs.declared.target.Target.{Target}
-use Rattle.stripe_code.specs.Lost.{missing_twice, are_gone}
-use Rattle.stripe_code.specs.Reading.{ReadingState, Step, counts, name_fits, is_asking, to_ask}
-use Rattle.stripe_code.specs.Reading as reading
 use Rattle.stripe_code.specs.Round.{RoundSoFar, asks, taken, state_of, told_fits}
 use Rattle.log_scan.specs.declared.listing.Listing.{Listing}
 use Rattle.log_scan.specs.declared.opening.Opening.{Opening as OpeningState}

@@ -5,7 +5,7 @@ use Rattle.std.specs.List.{count_by, list_any}
 use Rattle.xfs_base.specs.declared.segment.SegRef.{SegRef}
 use Rattle.group_map.specs.declared.group.Member.{Member}
 use Rattle.fragment_store.specs.ShelfState.{held_at}
-use Rattle.stripe_code.specs.Lost.{same_pair, missing_twice}
+use Rattle.segment_reading.specs.Lost.{same_pair, missing_twice}
 use Rattle.log_protocol.specs.Tables.{In}
 use Rattle.log_tie.specs.Setting.{Setting}
 use Rattle.log_law.specs.Net.{Net}

@@ -5,7 +5,7 @@ use Rattle.xfs_base.specs.declared.segment.SegName.{SegName}
 use Rattle.xfs_base.specs.declared.segment.SegRef.{SegRef}
 use Rattle.segment_format.specs.declared.segment.Segment.{Segment}
 use Rattle.fragment_store.specs.ShelfState.{held_at, is_held}
-use Rattle.stripe_code.specs.Reading.{ReadingState}
+use Rattle.segment_reading.specs.Reading.{ReadingState}
 use Rattle.log_scan.specs.declared.input.In.{In as Input}
 use Rattle.log_scan.specs.declared.input.In.TheVariants.{Missing}
 use Rattle.log_scan.specs.declared.output.Out.TheVariants.{Lost}

@@ -6,7 +6,7 @@ use Rattle.xfs_base.specs.declared.node.NodeId.{NodeId}
 use Rattle.xfs_base.specs.declared.segment.End.{End}
 use Rattle.xfs_base.specs.declared.segment.SegRef.{SegRef}
 use Rattle.segment_format.specs.declared.segment.Segment.{Segment}
-use Rattle.stripe_code.specs.Reading.{ReadingState, on_answer}
+use Rattle.segment_reading.specs.Reading.{ReadingState, on_answer}
 use Rattle.stripe_code.specs.declared.round.Told.{Told}
 use Rattle.stripe_code.specs.declared.round.Told.TheVariants.{Held, Missing as Lacks}
 use Rattle.takeover.specs.Course.{Course, segment_of, and_of, read_in, read_at, read_by, read_after, after_input, after_inputs}

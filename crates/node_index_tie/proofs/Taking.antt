@@ -28,7 +28,7 @@ use Rattle.node_tie.proofs.ManagerTakes.{IsPlain, ArePlain, fetches_plain, tick_
 use Rattle.group_map.specs.GroupMapState.{GroupMapState}
 use Rattle.group_map.specs.Groups.{group_of}
 use Rattle.group_map.specs.declared.group.Group.{Group}
-use Rattle.stripe_code.specs.Reading.{ReadingState, begun, to_ask}
+use Rattle.segment_reading.specs.Reading.{ReadingState, begun, to_ask}
 use Rattle.takeover.specs.TakeState.{TakeState}
 use Rattle.takeover.specs.Transition.{Done as Told, can_ask, target_of, sought_over, sought, waits_in, waiting, sought_again, on_maps, transition}
 use Rattle.takeover.specs.declared.source.Present.{Present}

@@ -19,7 +19,7 @@ use Rattle.manager_node.specs.declared.slot_phase.Taking.{Taking}
 use Rattle.manager_node.specs.Slots.{fetch_of}
 use Rattle.node_tie.specs.ManagerEvents.{phase_at, HeldAt, Names, slot_in, epoch_in, is_serving}
 use Rattle.segment_format.specs.declared.segment.Segment.{Segment}
-use Rattle.stripe_code.specs.Reading.{ReadingState, on_answer}
+use Rattle.segment_reading.specs.Reading.{ReadingState, on_answer}
 use Rattle.stripe_code.specs.declared.round.Told.{Told}
 use Rattle.stripe_code.specs.declared.round.Told.TheVariants.{Held, Missing as Lacks}
 use Rattle.takeover.specs.Course.{course_of, segment_of}

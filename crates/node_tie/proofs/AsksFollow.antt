@@ -21,7 +21,7 @@ use Rattle.client_parts.specs.Reads.{call_with, kept_while, reading_in}
 use Rattle.client_serving.specs.declared.serving.Serving.{Serving}
 use Rattle.client_serving.specs.Follow.{evicts, notes_clean, notes_gone, notes_copy, seals, follows_one, follows, hands, takes_back}
 use Rattle.client_serving.specs.Reads.{ends_reading, with_reading}
-use Rattle.stripe_code.specs.Reading.{ReadingState}
+use Rattle.segment_reading.specs.Reading.{ReadingState}
 use Rattle.node_tie.proofs.AsksBlock.{Need}
 use Rattle.node_tie.proofs.AsksTokens.{IsQuiet}
 use Rattle.node_tie.proofs.AsksInputs.{InputSuits, transition-quiet}

@@ -15,14 +15,14 @@ use Rattle.cleaner_node.specs.declared.hand.Hand.{Hand}
 use Rattle.cleaner_node.specs.declared.job.Job.{Job}
 use Rattle.cleaner_node.specs.Hands.{Heard, fetches_for, fetches}
 use Rattle.cleaner_node.specs.Jobs.{Done, with_questions, asks_maps, asks_list, asks_usage, checks_block, check_sent, asks_check, hand_of, holds, reads, puts, puts_block, moves, is_whole, drops, deletes, says, job_takes, cleans, lists_of, usages_of, check_of, is_out, takes_in, checked_in, holds_in, told_in, confirmed_in, on_listed, on_usage, on_live, on_dead, on_deleted, job_read, ends_reading, told_by, confirmed, after_confirmed, reads_again, after_told, on_told}
+use Rattle.segment_reading.specs.declared.reading.Next.{Next}
+use Rattle.segment_reading.specs.declared.reading.Next.TheVariants as next
+use Rattle.segment_reading.specs.Reading.{ReadingState, to_ask}
 use Rattle.stripe_cleaner.specs.declared.input.In.{In}
 use Rattle.stripe_cleaner.specs.declared.input.In.TheVariants as input
 use Rattle.stripe_cleaner.specs.declared.output.Out.{Out}
 use Rattle.stripe_cleaner.specs.declared.output.Out.TheVariants as out
-use Rattle.stripe_code.specs.declared.reading.Next.{Next}
-use Rattle.stripe_code.specs.declared.reading.Next.TheVariants as next
 use Rattle.stripe_code.specs.declared.round.Told.{Told}
-use Rattle.stripe_code.specs.Reading.{ReadingState, to_ask}
 use Rattle.version_model.specs.declared.answer.Answer.TheVariants.{Count}
 use Rattle.wire_msg.specs.declared.body.Body.{Body}
 use Rattle.wire_msg.specs.declared.body.Body.TheVariants as body

@@ -14,11 +14,11 @@ use Rattle.client_serving.specs.Sends.{Done, gives, gave}
 use Rattle.delta_feed.specs.Transition.{acknowledged}
 use Rattle.log_owner.specs.Sending.{hello}
 use Rattle.node_base.specs.Asking.{next_ask, drawn}
-use Rattle.stripe_code.specs.declared.reading.Next.{Next}
-use Rattle.stripe_code.specs.declared.reading.Next.TheVariants as next
+use Rattle.segment_reading.specs.declared.reading.Next.{Next}
+use Rattle.segment_reading.specs.declared.reading.Next.TheVariants as next
+use Rattle.segment_reading.specs.declared.target.BlockAt.{BlockAt}
 use Rattle.stripe_code.specs.declared.round.Told.{Told}
 use Rattle.stripe_code.specs.declared.round.Told.TheVariants as told
-use Rattle.stripe_code.specs.declared.target.BlockAt.{BlockAt}
 use Rattle.token_client.specs.declared.input.In.TheVariants as input
 use Rattle.token_client.specs.declared.output.Out as outputs
 use Rattle.token_client.specs.declared.output.Out.TheVariants as output

@@ -8,17 +8,17 @@ use Rattle.segment_format.specs.declared.segment.Segment.{Segment}
 use Rattle.segment_format.specs.ReadingItems.{answer_of}
 use Rattle.group_map.specs.declared.group.Group.{Group}
 use Rattle.group_map.specs.GroupMapState.{GroupMapState}
-use Rattle.stripe_code.specs.declared.reading.Next.{Next}
-use Rattle.stripe_code.specs.declared.reading.Next.TheVariants as next
-use Rattle.stripe_code.specs.declared.reading.Stage as readings
-use Rattle.stripe_code.specs.declared.reading.Stage.TheVariants as reading
+use Rattle.segment_reading.specs.declared.reading.Next.{Next}
+use Rattle.segment_reading.specs.declared.reading.Next.TheVariants as next
+use Rattle.segment_reading.specs.declared.reading.Stage as readings
+use Rattle.segment_reading.specs.declared.reading.Stage.TheVariants as reading
+use Rattle.segment_reading.specs.declared.target.Target.{Target}
+use Rattle.segment_reading.specs.Reading.{ReadingState, Step, is_asking, to_ask, name_fits, segment_found, counts, ends, read_as, judged, on_answer, on_confirmed}
+use Rattle.segment_reading.specs.Reading as rounds
 use Rattle.stripe_code.specs.declared.round.RoundState.{RoundState}
 use Rattle.stripe_code.specs.declared.round.RoundState.TheVariants as round
 use Rattle.stripe_code.specs.declared.round.Told.{Told}
 use Rattle.stripe_code.specs.declared.round.Told.TheVariants as told
-use Rattle.stripe_code.specs.declared.target.Target.{Target}
-use Rattle.stripe_code.specs.Reading.{ReadingState, Step, is_asking, to_ask, name_fits, segment_found, counts, ends, read_as, judged, on_answer, on_confirmed}
-use Rattle.stripe_code.specs.Reading as rounds
 use Rattle.stripe_code.specs.Round.{RoundSoFar, asks as round_asks, taken, state_of, told_fits, unanswered}
 use Rattle.log_scan.specs.declared.input.In.{In}
 use Rattle.log_scan.specs.declared.input.In.TheVariants as input

@@ -18,8 +18,8 @@ use Rattle.log_scan.specs.ScanState.{ScanState}
 use Rattle.log_scan.specs.Transition.{can_ask, transition}
 use Rattle.node_base.specs.declared.questions.Questions.{Questions}
 use Rattle.node_base.specs.Room.{has_room}
-use Rattle.stripe_code.specs.declared.reading.Stage.TheVariants as reading
-use Rattle.stripe_code.specs.Reading.{ReadingState}
+use Rattle.segment_reading.specs.declared.reading.Stage.TheVariants as reading
+use Rattle.segment_reading.specs.Reading.{ReadingState}
 use Rattle.wire_msg.specs.declared.packet.Packet.{Packet}
 
 -- it reads a segment over a group without members, and waits for good

@@ -18,10 +18,10 @@ use Rattle.node_base.specs.Asking.{next_ask, drawn}
 use Rattle.node_index_tie.specs.Sight.{Texts, Questions}
 use Rattle.node_index_tie.proofs.Owners.{feeds_stay}
 use Rattle.segment_format.specs.declared.segment.Segment.{Segment}
+use Rattle.segment_reading.specs.declared.reading.Next.{Next}
+use Rattle.segment_reading.specs.declared.reading.Next.TheVariants as next
 use Rattle.stripe_cleaner.specs.declared.input.In as inputs
 use Rattle.stripe_cleaner.specs.declared.input.In.TheVariants as input
-use Rattle.stripe_code.specs.declared.reading.Next.{Next}
-use Rattle.stripe_code.specs.declared.reading.Next.TheVariants as next
 use Rattle.stripe_code.specs.declared.round.Told.{Told}
 use Rattle.wire_msg.specs.declared.cleaning.Dead.{Dead}
 use Rattle.wire_msg.specs.declared.cleaning.Live.{Live}

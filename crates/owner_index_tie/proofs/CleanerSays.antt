@@ -31,11 +31,11 @@ use Rattle.node_base.specs.declared.effects.Effect.TheVariants.{Send, Does}
 use Rattle.node_base.specs.declared.questions.Questions.{Questions as Asker}
 use Rattle.node_index_tie.specs.Sight.{Texts, Questions}
 use Rattle.node_index_tie.proofs.Moves.{all_both, all_weaker}
+use Rattle.segment_reading.specs.Reading.{ReadingState, to_ask}
 use Rattle.stripe_cleaner.specs.CleaningState.{CleaningState, started}
 use Rattle.stripe_cleaner.specs.declared.output.Out.{Out}
 use Rattle.stripe_cleaner.specs.declared.output.Out.TheVariants as out
 use Rattle.stripe_cleaner.specs.Promises.{promised_at}
-use Rattle.stripe_code.specs.Reading.{ReadingState, to_ask}
 use Rattle.version_model.specs.declared.act.Act.TheVariants.{Dropped}
 use Rattle.version_model.specs.declared.answer.Answer.{Answer}
 use Rattle.wire_msg.specs.declared.body.Body.TheVariants as body

@@ -25,9 +25,9 @@ use Rattle.node_index_tie.specs.Pages.{FlightIsText}
 use Rattle.node_index_tie.specs.Sight.{Texts, Questions, held_in, AreTexts, CheckKnown}
 use Rattle.segment_format.specs.declared.segment.Segment.{Segment}
 use Rattle.index_tie.specs.Growth.{IsMore, said_of}
+use Rattle.segment_reading.specs.declared.reading.Next.TheVariants as next
 use Rattle.stripe_cleaner.specs.CleaningState.{CleaningState}
 use Rattle.stripe_cleaner.specs.Promises.{promised_at}
-use Rattle.stripe_code.specs.declared.reading.Next.TheVariants as next
 use Rattle.stripe_code.specs.declared.round.Told.{Told}
 use Rattle.stripe_code.specs.declared.round.Told.TheVariants.{Held, Missing as Lacks}
 use Rattle.version_model.specs.declared.act.Act.{Act}

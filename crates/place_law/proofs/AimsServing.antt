@@ -32,11 +32,12 @@ use Rattle.log_owner.specs.Promised.{manager_set}
 use Rattle.node_base.specs.Known.{names_known}
 use Rattle.node_base.specs.Maps.{fits, is_older, taken}
 use Rattle.node_base.specs.Room.{has_long_room}
-use Rattle.stripe_code.specs.declared.reading.Next.{Next}
-use Rattle.stripe_code.specs.declared.reading.Next.TheVariants as next
+use Rattle.segment_reading.specs.declared.reading.Next.{Next}
+use Rattle.segment_reading.specs.declared.reading.Next.TheVariants as next
+use Rattle.segment_reading.specs.declared.target.BlockAt.{BlockAt}
+use Rattle.segment_reading.specs.Reading.{ReadingState}
 use Rattle.stripe_code.specs.declared.round.Told.{Told as Answered}
 use Rattle.stripe_code.specs.declared.round.Told.TheVariants as answered
-use Rattle.stripe_code.specs.declared.target.BlockAt.{BlockAt}
 use Rattle.token_client.specs.declared.held.Giving.{Giving}
 use Rattle.token_client.specs.declared.input.In.TheVariants as input
 use Rattle.token_client.specs.Held.{is_dirty, may_write}
@@ -65,7 +66,6 @@ use Rattle.xfs_base.specs.declared.segment.End.{End}
 use Rattle.xfs_base.specs.declared.token.Mode.TheVariants.{Copy, Own}
 use Rattle.xfs_base.specs.Modes.{is_held, is_nothing, is_own}
 use Rattle.xfs_base.specs.Steps.{still, after, steps}
-use Rattle.stripe_code.specs.Reading.{ReadingState}
 use Rattle.entry_tie.proofs.ClientReads.{OutTold}
 use Rattle.place_law.proofs.Aims.{Nowhere, Its, its_heard, its_none, reads_nothing}
 use Rattle.place_law.proofs.AimsReads.{Aimed, GoingNew, ends_so, fold_keeps, follows_so, granted_so, hands_so, loses_so, next_new, notes_clean_so, notes_gone_so, read_so, seals_so, taken_so, takes_back_so}

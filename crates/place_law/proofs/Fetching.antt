@@ -18,12 +18,12 @@ use Rattle.reading_tie.specs.Arrivals.{AnsweredIn, Cuts, answered_in, cut_by}
 use Rattle.reading_tie.specs.Came.{ReadsTarget}
 use Rattle.reading_tie.specs.ClientReads.{ClientsReadWhatCame, ReadsPlace}
 use Rattle.segment_format.specs.declared.segment.Segment.{Segment}
-use Rattle.stripe_code.specs.declared.reading.Next.{Next}
-use Rattle.stripe_code.specs.declared.reading.Next.TheVariants as next
+use Rattle.segment_reading.specs.declared.reading.Next.{Next}
+use Rattle.segment_reading.specs.declared.reading.Next.TheVariants as next
+use Rattle.segment_reading.specs.declared.target.BlockAt.{BlockAt}
+use Rattle.segment_reading.specs.Reading.{ReadingState}
 use Rattle.stripe_code.specs.declared.round.Told.{Told as Answered}
 use Rattle.stripe_code.specs.declared.round.Told.TheVariants as answered
-use Rattle.stripe_code.specs.declared.target.BlockAt.{BlockAt}
-use Rattle.stripe_code.specs.Reading.{ReadingState}
 use Rattle.token_law.specs.Books.{Books}
 use Rattle.token_law.specs.Net as tokens
 use Rattle.token_law.specs.Owed.{ReadsThere}

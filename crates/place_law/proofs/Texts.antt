@@ -19,8 +19,8 @@ use Rattle.segment_format.specs.declared.segment.Item.TheVariants.{Block, Delta,
 use Rattle.segment_format.specs.declared.segment.Segment.{Segment}
 use Rattle.segment_format.specs.Ranges.{FitsItem, FitsRow}
 use Rattle.segment_format.specs.Rows.{row_of, rows_of}
+use Rattle.segment_reading.specs.Reading.{ReadingState}
 use Rattle.stripe_code.specs.declared.round.Told.TheVariants.{Held}
-use Rattle.stripe_code.specs.Reading.{ReadingState}
 use Rattle.takeover.specs.Rows.{is_of, part_rows, told_of}
 use Rattle.wire_msg.specs.declared.body.Body.{Body}
 use Rattle.wire_msg.specs.declared.body.Body.TheVariants as body

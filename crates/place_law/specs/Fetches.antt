@@ -19,8 +19,8 @@ use Rattle.node_index_tie.specs.Sight.{Texts}
 use Rattle.node_tie.specs.ClientEvents.{ServingReads}
 use Rattle.reading_tie.specs.Arrivals.{Cuts, answered_in, cut_by}
 use Rattle.reading_tie.specs.ClientReads.{ServesSo}
-use Rattle.stripe_code.specs.declared.target.BlockAt.{BlockAt}
-use Rattle.stripe_code.specs.Reading.{ReadingState}
+use Rattle.segment_reading.specs.declared.target.BlockAt.{BlockAt}
+use Rattle.segment_reading.specs.Reading.{ReadingState}
 use Rattle.token_client.specs.declared.held.Fetch.{Fetch}
 use Rattle.token_law.specs.Net as tokens
 use Rattle.version_model.specs.declared.work.Work.{Work}

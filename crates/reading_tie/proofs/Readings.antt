@@ -9,18 +9,18 @@ use Rattle.group_map.specs.GroupMapState.{GroupMapState}
 use Rattle.segment_format.specs.declared.seg_error.SegError.{SegError}
 use Rattle.segment_format.specs.declared.segment.Segment.{Segment}
 use Rattle.segment_format.specs.ReadingItems.{answer_of}
+use Rattle.segment_reading.specs.declared.reading.Next.TheVariants.{Wait, Read}
+use Rattle.segment_reading.specs.declared.reading.Stage.{Stage}
+use Rattle.segment_reading.specs.declared.reading.Stage.TheVariants.{Asking, Between, Doubted, Over}
+use Rattle.segment_reading.specs.declared.target.Target.{Target}
+use Rattle.segment_reading.specs.Reading.{ReadingState, Step, begun, is_asking, name_fits, counts, ends, read_as, segment_found, is_target, is_known, has_block, judged, on_answer, goes_on, on_confirmed}
 use Rattle.stripe_code.proofs.Rounds.{pushed_is_round}
-use Rattle.stripe_code.specs.declared.reading.Next.TheVariants.{Wait, Read}
-use Rattle.stripe_code.specs.declared.reading.Stage.{Stage}
-use Rattle.stripe_code.specs.declared.reading.Stage.TheVariants.{Asking, Between, Doubted, Over}
 use Rattle.stripe_code.specs.declared.round.Answer.{Answer}
 use Rattle.stripe_code.specs.declared.round.RoundState.{RoundState}
 use Rattle.stripe_code.specs.declared.round.RoundState.TheVariants as round
 use Rattle.stripe_code.specs.declared.round.Told.{Told as Answered}
 use Rattle.stripe_code.specs.declared.round.Told.TheVariants.{Held, Missing}
-use Rattle.stripe_code.specs.declared.target.Target.{Target}
 use Rattle.stripe_code.specs.Fragments.{same_name}
-use Rattle.stripe_code.specs.Reading.{ReadingState, Step, begun, is_asking, name_fits, counts, ends, read_as, segment_found, is_target, is_known, has_block, judged, on_answer, goes_on, on_confirmed}
 use Rattle.stripe_code.specs.Round.{RoundSoFar, TellsPart, count_of, asks, has_answered, taken, told_fits, state_of}
 use Rattle.xfs_base.proofs.Booleans.{by_test, and_first, and_second}
 use Rattle.xfs_base.specs.declared.segment.SegName.{SegName}

@@ -7,13 +7,13 @@ use Rattle.group_map.specs.declared.group.Group.{Group}
 use Rattle.group_map.specs.GroupMapState.{GroupMapState}
 use Rattle.group_map.specs.Groups.{group_of}
 use Rattle.segment_format.specs.declared.segment.Segment.{Segment}
-use Rattle.stripe_code.specs.declared.reading.Next.{Next}
-use Rattle.stripe_code.specs.declared.reading.Next.TheVariants as next
+use Rattle.segment_reading.specs.declared.reading.Next.{Next}
+use Rattle.segment_reading.specs.declared.reading.Next.TheVariants as next
+use Rattle.segment_reading.specs.declared.target.Target.{Target}
+use Rattle.segment_reading.specs.Reading.{ReadingState, begun, on_answer, on_confirmed}
 use Rattle.stripe_code.specs.declared.round.Told.{Told as Answered}
 use Rattle.stripe_code.specs.declared.round.Told.TheVariants.{Held}
 use Rattle.stripe_code.specs.declared.round.Told.TheVariants as answered
-use Rattle.stripe_code.specs.declared.target.Target.{Target}
-use Rattle.stripe_code.specs.Reading.{ReadingState, begun, on_answer, on_confirmed}
 use Rattle.takeover.proofs.Ending.{nobody}
 use Rattle.takeover.proofs.Readings.{target-on_answer, target-on_confirmed}
 use Rattle.takeover.specs.Course.{segment_of}

@@ -10,9 +10,9 @@ use Rattle.client_serving.specs.declared.serving.Serving.{Serving}
 use Rattle.group_map.specs.GroupMapState.{GroupMapState}
 use Rattle.group_map.specs.Groups.{started}
 use Rattle.segment_format.specs.declared.segment.Segment.{Segment}
-use Rattle.stripe_code.specs.declared.reading.Next.TheVariants.{Read}
+use Rattle.segment_reading.specs.declared.reading.Next.TheVariants.{Read}
+use Rattle.segment_reading.specs.Reading.{ReadingState}
 use Rattle.stripe_code.specs.declared.round.Told.{Told as Answered}
-use Rattle.stripe_code.specs.Reading.{ReadingState}
 use Rattle.version_model.specs.declared.work.Work.{Work}
 use Rattle.wire_msg.specs.declared.packet.Packet.{Packet}
 use Rattle.xfs_base.specs.declared.setup.Setup.{Setup}

@@ -1,4 +1,3 @@
-pub mod Courses
 pub mod Given
 pub mod Pieces
 pub mod Recovery

@@ -1,5 +1,5 @@
 //! The types of this crate that may be sent to other threads and shared between them.
-use crate::{Answer, BlockAt, JoinError, Next, Reading, Round, RoundState, Stage, Target, Told};
+use crate::{Answer, JoinError, Round, RoundState, Told};
 use xfs_base::Crosses;
 
 impl Crosses for JoinError {}
@@ -11,13 +11,3 @@ impl Crosses for Answer {}
 impl Crosses for RoundState {}
 
 impl Crosses for Round {}
-
-impl Crosses for BlockAt {}
-
-impl Crosses for Target {}
-
-impl Crosses for Stage {}
-
-impl Crosses for Next {}
-
-impl Crosses for Reading {}

@@ -6,19 +6,19 @@ use Rattle.segment_format.specs.declared.segment.Segment.{Segment}
 use Rattle.segment_format.specs.declared.seg_error.SegError.{SegError}
 use Rattle.segment_format.specs.ReadingItems.{answer_of}
 use Rattle.std.specs.Prelude.{Result, Ok, Err}
+use Rattle.segment_reading.specs.Reading.{ReadingState, Step, on_answer, on_confirmed, counts, judged, read_as, goes_on, segment_found, is_target}
+use Rattle.segment_reading.specs.declared.reading.Next.{Next}
+use Rattle.segment_reading.specs.declared.reading.Next.TheVariants.{Wait, Ask, Again, Read, Lost}
+use Rattle.segment_reading.specs.declared.reading.Stage.{Stage}
+use Rattle.segment_reading.specs.declared.reading.Stage.TheVariants.{Asking, Between, Doubted, Over}
+use Rattle.segment_reading.specs.declared.target.Target.{Target}
 use Rattle.xfs_base.specs.declared.segment.SegName.{SegName}
 use Rattle.xfs_base.proofs.Booleans.{by_test, and_first}
 use Rattle.stripe_code.specs.Fragments.{same_name}
-use Rattle.stripe_code.specs.Reading.{ReadingState, Step, on_answer, on_confirmed, counts, judged, read_as, goes_on, segment_found, is_target}
 use Rattle.stripe_code.specs.Round.{taken, state_of}
-use Rattle.stripe_code.specs.declared.reading.Next.{Next}
-use Rattle.stripe_code.specs.declared.reading.Next.TheVariants.{Wait, Ask, Again, Read, Lost}
-use Rattle.stripe_code.specs.declared.reading.Stage.{Stage}
-use Rattle.stripe_code.specs.declared.reading.Stage.TheVariants.{Asking, Between, Doubted, Over}
 use Rattle.stripe_code.specs.declared.round.RoundState.{RoundState}
 use Rattle.stripe_code.specs.declared.round.RoundState.TheVariants as round
 use Rattle.stripe_code.specs.declared.round.Told.{Told}
-use Rattle.stripe_code.specs.declared.target.Target.{Target}
 
 -- names that pass the test are one
 same_name_exact : (a b : SegName) → same_name a b ≡ true → b ≡ a

@@ -4,9 +4,9 @@ use Rattle.group_map.specs.GroupMapState.{GroupMapState}
 use Rattle.delta_index.specs.Index.{entry_of, merged_all}
 use Rattle.delta_index.specs.Join.{join}
 use Rattle.segment_format.specs.declared.segment.Segment.{Segment}
-use Rattle.stripe_code.specs.Reading.{ReadingState, on_answer}
-use Rattle.stripe_code.specs.declared.reading.Next.{Next}
-use Rattle.stripe_code.specs.declared.reading.Next.TheVariants as next
+use Rattle.segment_reading.specs.Reading.{ReadingState, on_answer}
+use Rattle.segment_reading.specs.declared.reading.Next.{Next}
+use Rattle.segment_reading.specs.declared.reading.Next.TheVariants as next
 use Rattle.stripe_code.specs.declared.round.Told.{Told}
 use Rattle.stripe_code.specs.declared.round.Told.TheVariants.{Held}
 use Rattle.stripe_code.specs.declared.round.Told.TheVariants as told

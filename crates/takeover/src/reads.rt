@@ -1,6 +1,6 @@
 //! The reading of a takeover, one segment after the other.
 ghost use Rattle.std.specs.Prelude.{◌≡◌, ◌++◌, IfOk, OnOk, IsTrue, Some};
-ghost use Rattle.stripe_code.specs.Reading.{on_answer};
+ghost use Rattle.segment_reading.specs.Reading.{on_answer};
 ghost use Rattle.takeover.specs.Transition.{can_ask, reads, asks, sought, go_on, active, handed, with_chain, goes_on_from, has_read, lost, again, judged_as, told_in};
 
 use crate::Take;
@@ -9,8 +9,9 @@ use crate::report::{applied_of, beliefs_of};
 use crate::rows::{Row, is_index, join, told_of};
 use crate::source::{Present, Source, add_fetches};
 use segment_format::Segment;
+use segment_reading::{Next, Reading};
 use std::alloc::Global;
-use stripe_code::{Next, Reading, Told};
+use stripe_code::Told;
 use xfs_base::{List, Mem, SegName};
 
 impl Take {

@@ -7,9 +7,9 @@ ghost use Rattle.takeover.specs.Transition.{target_of, waits_in, unanswered, fet
 use crate::output::Out;
 use crate::report::{Report, end_of, horizon_at};
 use segment_format::Segment;
+use segment_reading::{Reading, Target};
 use std::alloc::Global;
 use std::collections::VecDeque;
-use stripe_code::{Reading, Target};
 use xfs_base::{List, LogId, Mem, Pass, Prior, SegName, SegRef, SlotNews};
 
 /// A segment, and those before it in its log that are not below a number.

@@ -26,17 +26,17 @@ use Rattle.node_base.specs.declared.effects.Effect.{Effect}
 use Rattle.node_base.specs.declared.questions.Questions.{Questions}
 use Rattle.node_tie.proofs.StoreFrames.{all_append, all_flat_map, all_map}
 use Rattle.segment_format.specs.declared.segment.Segment.{Segment}
+use Rattle.segment_reading.specs.declared.reading.Next.{Next}
+use Rattle.segment_reading.specs.declared.reading.Next.TheVariants as next
+use Rattle.segment_reading.specs.declared.reading.Stage.{Stage}
+use Rattle.segment_reading.specs.declared.reading.Stage.TheVariants.{Asking, Between, Doubted, Over}
+use Rattle.segment_reading.specs.Reading.{ReadingState, on_answer, on_confirmed, to_ask}
+use Rattle.segment_reading.specs.Reading as rounds
 use Rattle.stripe_cleaner.specs.declared.input.In.{In as Input}
 use Rattle.stripe_cleaner.specs.declared.input.In.TheVariants as input
 use Rattle.stripe_cleaner.specs.declared.output.Out.{Out}
 use Rattle.stripe_cleaner.specs.declared.output.Out.TheVariants as out
-use Rattle.stripe_code.specs.declared.reading.Next.{Next}
-use Rattle.stripe_code.specs.declared.reading.Next.TheVariants as next
-use Rattle.stripe_code.specs.declared.reading.Stage.{Stage}
-use Rattle.stripe_code.specs.declared.reading.Stage.TheVariants.{Asking, Between, Doubted, Over}
 use Rattle.stripe_code.specs.declared.round.Told.{Told as Answered}
-use Rattle.stripe_code.specs.Reading.{ReadingState, on_answer, on_confirmed, to_ask}
-use Rattle.stripe_code.specs.Reading as rounds
 use Rattle.version_model.specs.declared.answer.Answer.TheVariants as answer
 use Rattle.wire_msg.specs.declared.cleaning.Dead.{Dead}
 use Rattle.wire_msg.specs.declared.cleaning.Live.{Live}

@@ -31,12 +31,12 @@ use Rattle.node_base.specs.declared.effects.Effect.{Effect}
 use Rattle.node_base.specs.declared.effects.Effect.TheVariants.{Send, Answer, Lose, Does}
 use Rattle.node_log_tie.proofs.Lists.{answers_send}
 use Rattle.node_tie.proofs.StoreFrames.{all_append, all_flat_map, all_map, all_weaker}
-use Rattle.stripe_code.specs.declared.reading.Stage.{Stage}
-use Rattle.stripe_code.specs.declared.reading.Stage.TheVariants.{Asking, Between, Doubted, Over}
-use Rattle.stripe_code.specs.declared.target.BlockAt.{BlockAt}
-use Rattle.stripe_code.specs.declared.target.Target.{Target}
-use Rattle.stripe_code.specs.Reading.{ReadingState, Step, begun, to_ask, on_confirmed}
-use Rattle.stripe_code.specs.Reading as rounds
+use Rattle.segment_reading.specs.declared.reading.Stage.{Stage}
+use Rattle.segment_reading.specs.declared.reading.Stage.TheVariants.{Asking, Between, Doubted, Over}
+use Rattle.segment_reading.specs.declared.target.BlockAt.{BlockAt}
+use Rattle.segment_reading.specs.declared.target.Target.{Target}
+use Rattle.segment_reading.specs.Reading.{ReadingState, Step, begun, to_ask, on_confirmed}
+use Rattle.segment_reading.specs.Reading as rounds
 use Rattle.token_client.specs.declared.input.In as inputs
 use Rattle.token_client.specs.declared.input.In.TheVariants as input
 use Rattle.token_client.specs.declared.output.Out as outputs

@@ -49,14 +49,14 @@ use Rattle.node_base.specs.Room.{has_long_room}
 use Rattle.node_tie.proofs.StoreFrames.{all_append, all_flat_map, all_map}
 use Rattle.segment_format.specs.ReadingItems.{answer_of}
 use Rattle.segment_format.specs.declared.segment.Segment.{Segment}
-use Rattle.stripe_code.specs.declared.reading.Next.{Next}
-use Rattle.stripe_code.specs.declared.reading.Next.TheVariants as next
+use Rattle.segment_reading.specs.declared.reading.Next.{Next}
+use Rattle.segment_reading.specs.declared.reading.Next.TheVariants as next
+use Rattle.segment_reading.specs.declared.target.BlockAt.{BlockAt}
+use Rattle.segment_reading.specs.Reading.{ReadingState, Step, to_ask, counts, judged, on_answer, read_as, segment_found}
 use Rattle.stripe_code.specs.declared.round.RoundState.{RoundState}
 use Rattle.stripe_code.specs.declared.round.RoundState.TheVariants as round
 use Rattle.stripe_code.specs.declared.round.Told.{Told as Answered}
 use Rattle.stripe_code.specs.declared.round.Told.TheVariants as answered
-use Rattle.stripe_code.specs.declared.target.BlockAt.{BlockAt}
-use Rattle.stripe_code.specs.Reading.{ReadingState, Step, to_ask, counts, judged, on_answer, read_as, segment_found}
 use Rattle.stripe_code.specs.Round.{taken as told_to, state_of}
 use Rattle.token_client.specs.declared.held.Giving.{Giving}
 use Rattle.token_client.specs.declared.input.In.TheVariants as input

@@ -23,8 +23,8 @@ use Rattle.node_base.specs.Asking.{own_of}
 use Rattle.node_base.specs.declared.questions.Asked.{Asked}
 use Rattle.node_base.specs.Maps.{fits}
 use Rattle.node_log_tie.specs.Sight.{Asker, AnsweredBy, BodySeen, FencedSeen, FragmentSeen, NewsSeen, WelcomeSeen}
-use Rattle.stripe_code.specs.declared.reading.Stage as readings
-use Rattle.stripe_code.specs.declared.reading.Stage.TheVariants as reading
+use Rattle.segment_reading.specs.declared.reading.Stage as readings
+use Rattle.segment_reading.specs.declared.reading.Stage.TheVariants as reading
 use Rattle.wire_msg.specs.declared.body.Body.TheVariants as body
 use Rattle.wire_msg.specs.declared.packet.Do.{Do}
 use Rattle.wire_msg.specs.declared.packet.Do.TheVariants as done

@@ -24,9 +24,9 @@ use Rattle.loss_law.proofs.Interval.{passed}
 use Rattle.loss_law.proofs.Kept.{Asks_on, Doubts, Middle, ReadingKept, ReadKept, RoundKept, StageKept, WasTorn, once_keeps, stage_on}
 use Rattle.loss_law.proofs.Losing.{lost_in}
 use Rattle.loss_law.specs.Losses.{IsTorn, IsTrue, Once, has_drawn, is_opening}
-use Rattle.stripe_code.specs.declared.reading.Stage as rounds
-use Rattle.stripe_code.specs.declared.reading.Stage.TheVariants as stand
-use Rattle.stripe_code.specs.Reading.{ReadingState}
+use Rattle.segment_reading.specs.declared.reading.Stage as rounds
+use Rattle.segment_reading.specs.declared.reading.Stage.TheVariants as stand
+use Rattle.segment_reading.specs.Reading.{ReadingState}
 use Rattle.xfs_base.specs.declared.segment.SegName.{SegName}
 use Rattle.xfs_base.specs.declared.segment.SegRef.{SegRef}
 

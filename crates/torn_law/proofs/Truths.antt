@@ -23,8 +23,8 @@ use Rattle.loss_law.proofs.Growing.{Base}
 use Rattle.loss_law.proofs.Kept.{StageKept, once_now}
 use Rattle.loss_law.specs.Losses.{IsTorn, IsTrue, LacksIn, Once, has_drawn}
 use Rattle.node_base.specs.declared.questions.Asked.{Asked}
-use Rattle.stripe_code.specs.declared.target.Target.{Target}
-use Rattle.stripe_code.specs.Reading.{ReadingState}
+use Rattle.segment_reading.specs.declared.target.Target.{Target}
+use Rattle.segment_reading.specs.Reading.{ReadingState}
 use Rattle.token_protocol.specs.Basics.{In}
 use Rattle.wire_msg.specs.declared.body.Body.TheVariants as body
 use Rattle.wire_msg.specs.declared.packet.Do.{Do}

@@ -17,7 +17,7 @@ use Rattle.loss_law.proofs.Kept.{StageKept}
 use Rattle.loss_law.specs.Losses.{LacksIn}
 use Rattle.node_log_tie.specs.Sight.{Asker, BodySeen}
 use Rattle.node_tie.proofs.StoreFrames.{packets_do}
-use Rattle.stripe_code.specs.Reading.{ReadingState}
+use Rattle.segment_reading.specs.Reading.{ReadingState}
 use Rattle.token_protocol.specs.Basics.{In}
 use Rattle.wire_msg.specs.declared.body.Body.TheVariants as body
 use Rattle.wire_msg.specs.declared.packet.Do.{Do}

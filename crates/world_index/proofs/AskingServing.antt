@@ -27,14 +27,14 @@ use Rattle.node_base.specs.Known.{names_known}
 use Rattle.node_base.specs.Maps.{fits, is_older, taken}
 use Rattle.owner_index_tie.proofs.Frames.{all_map}
 use Rattle.segment_format.specs.declared.segment.Segment.{Segment}
+use Rattle.segment_reading.specs.declared.reading.Next.{Next}
+use Rattle.segment_reading.specs.declared.reading.Next.TheVariants as next
+use Rattle.segment_reading.specs.Reading.{ReadingState}
 use Rattle.stripe_cleaner.specs.declared.input.In.{In}
 use Rattle.stripe_cleaner.specs.declared.input.In.TheVariants as input
 use Rattle.stripe_cleaner.specs.declared.phase.Phase.{Phase as CleaningPhase}
-use Rattle.stripe_code.specs.declared.reading.Next.{Next}
-use Rattle.stripe_code.specs.declared.reading.Next.TheVariants as next
 use Rattle.stripe_code.specs.declared.round.Told.{Told}
 use Rattle.stripe_code.specs.declared.round.Told.TheVariants.{Held, Missing as Lacks}
-use Rattle.stripe_code.specs.Reading.{ReadingState}
 use Rattle.version_model.specs.declared.act.Act.TheVariants.{Filed}
 use Rattle.version_model.specs.declared.answer.Answer.TheVariants.{Busy}
 use Rattle.wire_msg.specs.declared.body.Body.{Body}

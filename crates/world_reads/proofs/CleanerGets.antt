@@ -24,8 +24,8 @@ use Rattle.reading_tie.specs.CleanerMeets.{AnyJobMet, HandMet, JobMet, NodeMet, 
 use Rattle.reading_tie.specs.CleanerReads.{PhaseHolds, ServesSo}
 use Rattle.registry.specs.Board.{all_news}
 use Rattle.segment_format.specs.declared.segment.Segment.{Segment}
+use Rattle.segment_reading.specs.declared.reading.Next.TheVariants as next
 use Rattle.stripe_cleaner.specs.CleaningState.{CleaningState}
-use Rattle.stripe_code.specs.declared.reading.Next.TheVariants as next
 use Rattle.stripe_code.specs.declared.round.Told.{Told}
 use Rattle.stripe_code.specs.declared.round.Told.TheVariants.{Held, Missing}
 use Rattle.token_protocol.specs.Basics.{In}

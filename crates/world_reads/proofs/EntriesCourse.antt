@@ -5,11 +5,11 @@ use Rattle.group_map.specs.declared.group.Group.{Group}
 use Rattle.group_map.specs.GroupMapState.{GroupMapState}
 use Rattle.group_map.specs.Groups.{group_of}
 use Rattle.segment_format.specs.declared.segment.Segment.{Segment}
-use Rattle.stripe_code.specs.declared.reading.Next.{Next}
-use Rattle.stripe_code.specs.declared.reading.Next.TheVariants as next
+use Rattle.segment_reading.specs.declared.reading.Next.{Next}
+use Rattle.segment_reading.specs.declared.reading.Next.TheVariants as next
+use Rattle.segment_reading.specs.Reading.{ReadingState, begun, on_answer, on_confirmed}
 use Rattle.stripe_code.specs.declared.round.Told.{Told}
 use Rattle.stripe_code.specs.declared.round.Told.TheVariants as told
-use Rattle.stripe_code.specs.Reading.{ReadingState, begun, on_answer, on_confirmed}
 use Rattle.takeover.proofs.Readings.{IsNamed, named-on_answer, target-on_answer, target-on_confirmed}
 use Rattle.takeover.specs.Course.{Course, after_input, after_inputs, course_of, and_of, read_after, read_at, read_by, read_in, segment_of}
 use Rattle.takeover.specs.declared.input.In.{In as Input}

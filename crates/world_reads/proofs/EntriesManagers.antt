@@ -30,12 +30,12 @@ use Rattle.segment_format.specs.declared.segment.Item.{Item}
 use Rattle.segment_format.specs.declared.segment.Item.TheVariants.{Block, Delta, Part}
 use Rattle.segment_format.specs.declared.segment.Segment.{Segment}
 use Rattle.segment_format.specs.Rows.{row_of, rows_of}
-use Rattle.stripe_code.specs.declared.reading.Next.{Next}
-use Rattle.stripe_code.specs.declared.reading.Next.TheVariants as next
+use Rattle.segment_reading.specs.declared.reading.Next.{Next}
+use Rattle.segment_reading.specs.declared.reading.Next.TheVariants as next
+use Rattle.segment_reading.specs.declared.target.Target.{Target}
+use Rattle.segment_reading.specs.Reading.{on_answer}
 use Rattle.stripe_code.specs.declared.round.Told.{Told as Answered}
 use Rattle.stripe_code.specs.declared.round.Told.TheVariants as answered
-use Rattle.stripe_code.specs.declared.target.Target.{Target}
-use Rattle.stripe_code.specs.Reading.{on_answer}
 use Rattle.takeover.proofs.Readings.{IsNamed, named-on_answer}
 use Rattle.takeover.specs.Course.{segment_of}
 use Rattle.takeover.specs.declared.source.Present.{Present}

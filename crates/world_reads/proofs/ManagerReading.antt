@@ -28,9 +28,9 @@ use Rattle.reading_tie.specs.Came.{ReadsJoined}
 use Rattle.reading_tie.specs.ManagerReads.{PhaseHolds, SlotHolds}
 use Rattle.reading_tie.specs.TakeoverReads.{PresentHolds, StandsBy, TakeHolds, TakeoversReadWhatCame, to_any}
 use Rattle.segment_format.specs.declared.segment.Segment.{Segment}
+use Rattle.segment_reading.specs.Reading.{ReadingState}
 use Rattle.stripe_code.specs.declared.round.Told.{Told}
 use Rattle.stripe_code.specs.declared.round.Told.TheVariants.{Held, Missing}
-use Rattle.stripe_code.specs.Reading.{ReadingState}
 use Rattle.takeover.specs.declared.source.Present.{Present}
 use Rattle.takeover.specs.declared.source.Source.{Source}
 use Rattle.takeover.specs.Sources.{sources_of}

@@ -6,16 +6,16 @@ use Rattle.std.specs.Prelude.{nat_lt, if◌then◌else◌}
 use Rattle.group_map.specs.GroupMapState.{GroupMapState}
 use Rattle.segment_format.specs.declared.segment.Segment.{Segment}
 use Rattle.segment_format.specs.ReadingItems.{answer_of}
-use Rattle.stripe_code.specs.declared.reading.Next.TheVariants.{Wait}
-use Rattle.stripe_code.specs.declared.reading.Stage.{Stage}
-use Rattle.stripe_code.specs.declared.reading.Stage.TheVariants.{Asking, Between, Doubted, Over}
 use Rattle.stripe_code.specs.declared.round.RoundState.{RoundState}
 use Rattle.stripe_code.specs.declared.round.RoundState.TheVariants as round
 use Rattle.stripe_code.specs.declared.round.Told.{Told}
-use Rattle.stripe_code.specs.Course.{Event, Answered, Alike, Course, transition, after_step, course, MissedTwice, Decides, IsLostExactly}
-use Rattle.stripe_code.specs.Lost.{missing_twice, are_gone}
-use Rattle.stripe_code.specs.Reading.{ReadingState, Step, begun, on_answer, on_confirmed, counts, judged, read_as, ends, goes_on, segment_found}
 use Rattle.stripe_code.specs.Round.{RoundSoFar, has_answered, taken, state_of}
+use Rattle.segment_reading.specs.declared.reading.Next.TheVariants.{Wait}
+use Rattle.segment_reading.specs.declared.reading.Stage.{Stage}
+use Rattle.segment_reading.specs.declared.reading.Stage.TheVariants.{Asking, Between, Doubted, Over}
+use Rattle.segment_reading.specs.Course.{Event, Answered, Alike, Course, transition, after_step, course, MissedTwice, Decides, IsLostExactly}
+use Rattle.segment_reading.specs.Lost.{missing_twice, are_gone}
+use Rattle.segment_reading.specs.Reading.{ReadingState, Step, begun, on_answer, on_confirmed, counts, judged, read_as, ends, goes_on, segment_found}
 
 first_of : List (List (ℕ × ℕ)) → List (ℕ × ℕ)
 first_of [] = []

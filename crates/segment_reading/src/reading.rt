@@ -2,17 +2,18 @@
 ghost use Rattle.std.specs.Prelude.{◌≡◌, ◌&&◌, IfOk, OnOk, length, map, nat_lt, if◌then◌else◌};
 ghost use Rattle.std.specs.List.{list_any};
 ghost use Rattle.segment_format.specs.ReadingItems.{answer_of};
-ghost use Rattle.stripe_code.specs.Lost.{missing_twice, same_pair};
-ghost use Rattle.stripe_code.specs.Reading.{begun, to_ask, judged, read_as, on_answer, on_confirmed, is_asking, counts, ends, name_fits, segment_found};
 ghost use Rattle.stripe_code.specs.Round.{told_fits};
 ghost use Rattle.stripe_code.specs.Stripe.{IsCut};
+ghost use Rattle.segment_reading.specs.Lost.{missing_twice, same_pair};
+ghost use Rattle.segment_reading.specs.Reading.{begun, to_ask, judged, read_as, on_answer, on_confirmed, is_asking, counts, ends, name_fits, segment_found};
 
-use crate::{Round, RoundState, Target, Told};
+use crate::Target;
 use group_map::{Group, GroupMap, Member};
 use segment_format::{SegError, Segment, decode};
 use std::alloc::{AllocError, Global};
 use std::marker::Model;
 use std::mem;
+use stripe_code::{Round, RoundState, Told};
 use xfs_base::{List, Mem};
 
 /// Where a reading stands.
@@ -56,7 +57,7 @@ pub struct Reading {
 }
 
 impl Model for Reading {
-    ghost use Rattle.stripe_code.specs.Reading.{ReadingState};
+    ghost use Rattle.segment_reading.specs.Reading.{ReadingState};
 
     ghost Value = { ReadingState };
 

@@ -1,6 +1,6 @@
 use Rattle.std.proofs.Common.{◌≡◌, ◌+◌, ◌≤◌, length, drop}
-use Rattle.stripe_code.specs.Lost.{missing_twice}
-use Rattle.stripe_code.proofs.reading.same_count.Given as goal
+use Rattle.segment_reading.specs.Lost.{missing_twice}
+use Rattle.segment_reading.proofs.reading.same_count.Given as goal
 
 abbrev pub invariant-loop-pair : goal.invariant-loop-pair
 invariant-loop-pair l = record {

@@ -12,19 +12,19 @@ use Rattle.segment_format.specs.declared.segment.Item.{Item}
 use Rattle.segment_format.specs.declared.segment.Item.TheVariants.{Block, Delta, Part}
 use Rattle.segment_format.specs.declared.segment.Segment.{Segment}
 use Rattle.segment_format.specs.ReadingItems.{answer_of}
-use Rattle.stripe_code.specs.declared.reading.Next.{Next}
-use Rattle.stripe_code.specs.declared.reading.Next.TheVariants.{Wait, Ask, Again, Read, Lost}
-use Rattle.stripe_code.specs.declared.reading.Stage.{Stage}
-use Rattle.stripe_code.specs.declared.reading.Stage.TheVariants.{Asking, Between, Doubted, Over}
 use Rattle.stripe_code.specs.declared.round.RoundState.{RoundState}
 use Rattle.stripe_code.specs.declared.round.RoundState.TheVariants as round
 use Rattle.stripe_code.specs.declared.round.Told.{Told}
 use Rattle.stripe_code.specs.declared.round.Told.TheVariants.{Held, Missing}
-use Rattle.stripe_code.specs.declared.target.BlockAt.{BlockAt}
-use Rattle.stripe_code.specs.declared.target.Target.{Target}
 use Rattle.stripe_code.specs.Fragments.{same_name}
-use Rattle.stripe_code.specs.Lost.{are_gone}
 use Rattle.stripe_code.specs.Round.{RoundSoFar, new_round, asks, taken, state_of, told_fits, unanswered}
+use Rattle.segment_reading.specs.declared.reading.Next.{Next}
+use Rattle.segment_reading.specs.declared.reading.Next.TheVariants.{Wait, Ask, Again, Read, Lost}
+use Rattle.segment_reading.specs.declared.reading.Stage.{Stage}
+use Rattle.segment_reading.specs.declared.reading.Stage.TheVariants.{Asking, Between, Doubted, Over}
+use Rattle.segment_reading.specs.declared.target.BlockAt.{BlockAt}
+use Rattle.segment_reading.specs.declared.target.Target.{Target}
+use Rattle.segment_reading.specs.Lost.{are_gone}
 
 -- what is looked for, the question of the present round, the pairs that were Missing in the round before, the present round, and where it stands
 pub record ReadingState : Type 0 where

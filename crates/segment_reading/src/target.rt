@@ -1,6 +1,6 @@
 //! What a reader looks for.
 ghost use Rattle.std.specs.Prelude.{◌≡◌, slice_get};
-ghost use Rattle.stripe_code.specs.Reading.{is_target, is_known, is_block};
+ghost use Rattle.segment_reading.specs.Reading.{is_target, is_known, is_block};
 
 use group_map::GroupMap;
 use segment_format::{Item, Segment};

@@ -1,7 +1,7 @@
 use Rattle.std.proofs.Common.{◌≡◌, drop}
 use Rattle.std.specs.List.{list_any}
-use Rattle.stripe_code.specs.Lost.{same_pair}
-use Rattle.stripe_code.proofs.reading.is_among.Given as goal
+use Rattle.segment_reading.specs.Lost.{same_pair}
+use Rattle.segment_reading.proofs.reading.is_among.Given as goal
 
 -- the pair is among the rest exactly where it is among all
 abbrev pub invariant-loop-other : goal.invariant-loop-other

@@ -1,6 +1,6 @@
 //! What is true over any course of a reading. The function stands for the law that its contract states; a
 //! call of it does nothing.
-ghost use Rattle.stripe_code.specs.Course.{IsLostExactly};
+ghost use Rattle.segment_reading.specs.Course.{IsLostExactly};
 
 /// A segment is lost exactly where, in the last two rounds, more of the same pairs of a server and its
 /// generation were Missing than the parity makes good, and the reader's question after them was answered

@@ -1,5 +1,5 @@
 use Rattle.std.proofs.Common.{◌≡◌, ◌++◌, drop, map}
-use Rattle.stripe_code.proofs.reading.servers_of.Given as goal
+use Rattle.segment_reading.proofs.reading.servers_of.Given as goal
 
 abbrev pub invariant-loop-member : goal.invariant-loop-member
 invariant-loop-member l = l.servers ++ map (λ m. m.server) (drop l.member-index l.members) ≡ map (λ m. m.server) l.members
