@@ -16,9 +16,9 @@ use Rattle.segment_format.specs.declared.segment.Item.{Item}
 use Rattle.segment_format.specs.declared.segment.Item.TheVariants.{Block, Delta, Part}
 use Rattle.segment_format.specs.declared.segment.Segment.{Segment}
 use Rattle.segment_format.specs.Rows as segments
+use Rattle.slot_beliefs.specs.Index.{Indexed, indexed, indexed_all}
 use Rattle.takeover.specs.Rows.{is_of, part_rows, told_of}
 use Rattle.takeover.specs.Transition.{joined}
-use Rattle.token_manager.specs.Index.{Indexed, indexed, indexed_all}
 use Rattle.xfs_base.proofs.BlockOrder.{block_cmp_exact}
 use Rattle.xfs_base.proofs.Booleans.{by_test}
 use Rattle.xfs_base.specs.Blocks.{block_cmp}

@@ -2,18 +2,19 @@
 use Rattle.std.proofs.Common.{ℕ, ◌==◌, not, List, [], ◌∷◌, length}
 use Rattle.std.specs.Prelude.{Option, Some, None, is_some}
 use Rattle.std.specs.List.{AllByRecursion, list_any}
-use Rattle.token_manager.specs.Beliefs.{others}
+use Rattle.slot_beliefs.specs.declared.job.Awaited.{Awaited}
+use Rattle.slot_beliefs.specs.declared.job.Job.{Job}
+use Rattle.slot_beliefs.specs.declared.job.Wanted.{Wanted}
+use Rattle.slot_beliefs.specs.Beliefs.{others}
+use Rattle.slot_beliefs.specs.Index.{nothing_indexed}
+use Rattle.slot_beliefs.specs.Recalls.{applied_of, answers, noted, is_ready, ready_blocks, recalls, job_at, without_job, applied_upto, is_followed}
 use Rattle.token_manager.specs.declared.input.In.{In as Input}
 use Rattle.token_manager.specs.declared.input.In.TheVariants as input
-use Rattle.token_manager.specs.declared.job.Awaited.{Awaited}
-use Rattle.token_manager.specs.declared.job.Job.{Job}
-use Rattle.token_manager.specs.declared.job.Wanted.{Wanted}
 use Rattle.token_manager.specs.declared.output.Out.{Out}
 use Rattle.token_manager.specs.declared.output.Out.TheVariants.{Grant, Applied, Live, Dead}
-use Rattle.token_manager.specs.Index.{nothing_indexed}
-use Rattle.token_manager.specs.Recalls.{applied_of, answers, noted, is_ready, ready_blocks, recalls, recall_of, sent, all_sent}
+use Rattle.token_manager.specs.Recalls.{recall_of, sent, all_sent}
 use Rattle.token_manager.specs.SlotState.{SlotState}
-use Rattle.token_manager.specs.Transition.{Done, started, has_turns, job_at, without_job, entry_at, passers, answer, finished, finish, recalled, recall, recall_or_finish, is_dropped, on_want, given, gave_last, gave_one, gave_noted, gave_job, on_gave, finished_job, finished_at, applied_upto, with_deltas, apply, can_apply, apply_or_not, joins_on, is_followed, told_applied, deltas_of, on_deltas, is_place, found, want_of, transition}
+use Rattle.token_manager.specs.Transition.{Done, started, has_turns, entry_at, passers, answer, finished, finish, recalled, recall, recall_or_finish, is_dropped, on_want, given, gave_last, gave_one, gave_noted, gave_job, on_gave, finished_job, finished_at, with_deltas, apply, can_apply, apply_or_not, joins_on, told_applied, deltas_of, on_deltas, is_place, found, want_of, transition}
 use Rattle.xfs_base.proofs.Booleans.{by_test}
 use Rattle.xfs_base.specs.declared.block.BlockId.{BlockId}
 use Rattle.xfs_base.specs.declared.entry.Entry.{Entry}

@@ -8,11 +8,11 @@ use Rattle.node_base.specs.Beginning.{answers_unanswered}
 use Rattle.node_base.specs.declared.effects.Effect.{Effect}
 use Rattle.node_base.specs.declared.effects.Effect.TheVariants.{Send, Answer, Lose, Does}
 use Rattle.node_base.specs.Effects.{packets_of}
+use Rattle.slot_beliefs.specs.Recalls.{applied_of, applied_upto, is_followed}
 use Rattle.takeover.specs.declared.report.Report.{Report}
 use Rattle.takeover.specs.Reports.{applied_of as applied_from}
-use Rattle.token_manager.specs.Recalls.{applied_of}
 use Rattle.token_manager.specs.SlotState.{SlotState}
-use Rattle.token_manager.specs.Transition.{applied_upto, joins_on, is_followed}
+use Rattle.token_manager.specs.Transition.{joins_on}
 use Rattle.version_model.specs.declared.answer.Answer.{Answer as Answered}
 use Rattle.xfs_base.specs.declared.node.NodeId.{NodeId}
 use Rattle.xfs_base.specs.declared.segment.LogId.{LogId}

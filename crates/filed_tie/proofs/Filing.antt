@@ -15,13 +15,12 @@ use Rattle.manager_node.specs.Serving.{fed_log}
 use Rattle.manager_node.specs.SlotTable.{next_of, horizon_of}
 use Rattle.node_base.specs.Effects.{packets_of}
 use Rattle.registry.specs.Checkpoints.{horizon_at as horizon_kept}
+use Rattle.slot_beliefs.specs.Recalls.{applied_of, is_followed}
 use Rattle.store_nodes.specs.declared.registry_node.RegistryNode.{RegistryNode}
 use Rattle.store_nodes.specs.RegistryEvents.{takes as registry_takes}
 use Rattle.takeover.specs.declared.report.Report.{Report}
 use Rattle.takeover.specs.Reports.{same_node, end_from, end_of, horizon_at, applied_at, applied_of as applied_from}
-use Rattle.token_manager.specs.Recalls.{applied_of}
 use Rattle.token_manager.specs.SlotState.{SlotState}
-use Rattle.token_manager.specs.Transition.{is_followed}
 use Rattle.wire_msg.specs.declared.body.Body.{Body}
 use Rattle.wire_msg.specs.declared.body.Body.TheVariants as body
 use Rattle.wire_msg.specs.declared.packet.Do.{Do}

@@ -7,12 +7,12 @@ use Rattle.std.proofs.lemmas.List.FromFn.{get_or-map-range_with_len}
 use Rattle.manager_node.specs.Events.{happens}
 use Rattle.manager_node.specs.Phases.{lasting_of}
 use Rattle.manager_node.specs.SlotTable.{next_of, horizon_of}
+use Rattle.slot_beliefs.specs.Recalls.{applied_of, applied_upto}
 use Rattle.store_nodes.specs.RegistryEvents.{takes as registry_takes}
 use Rattle.takeover.specs.declared.report.Report.{Report}
 use Rattle.takeover.specs.Reports.{horizon_at, applied_at, applied_of as applied_from}
-use Rattle.token_manager.specs.Recalls.{applied_of}
 use Rattle.token_manager.specs.SlotState.{SlotState}
-use Rattle.token_manager.specs.Transition.{applied_upto, joins_on}
+use Rattle.token_manager.specs.Transition.{joins_on}
 use Rattle.xfs_base.proofs.Booleans.{and_second}
 use Rattle.xfs_base.specs.declared.node.NodeId.{NodeId}
 use Rattle.xfs_base.specs.declared.node.NodeId.TheVariants.{Manager as AManager, Registry}

@@ -2,15 +2,15 @@
 use Rattle.std.proofs.Common.{ℕ, ◌==◌, not, List, [], ◌∷◌, length}
 use Rattle.std.specs.Prelude.{Option, Some, None}
 use Rattle.std.specs.List.{list_any}
+use Rattle.slot_beliefs.specs.declared.job.Awaited.{Awaited}
+use Rattle.slot_beliefs.specs.declared.job.Job.{Job}
+use Rattle.slot_beliefs.specs.declared.job.Wanted.{Wanted}
+use Rattle.slot_beliefs.specs.Beliefs.{others}
+use Rattle.slot_beliefs.specs.Recalls.{applied_of, answers, noted, is_ready, ready_blocks, job_at, without_job, applied_upto, is_followed}
 use Rattle.token_manager.specs.declared.input.In.{In as Input}
 use Rattle.token_manager.specs.declared.input.In.TheVariants as input
-use Rattle.token_manager.specs.declared.job.Awaited.{Awaited}
-use Rattle.token_manager.specs.declared.job.Job.{Job}
-use Rattle.token_manager.specs.declared.job.Wanted.{Wanted}
-use Rattle.token_manager.specs.Beliefs.{others}
-use Rattle.token_manager.specs.Recalls.{applied_of, answers, noted, is_ready, ready_blocks}
 use Rattle.token_manager.specs.SlotState.{SlotState}
-use Rattle.token_manager.specs.Transition.{Done, has_turns, job_at, without_job, finished, finish, recalled, recall, recall_or_finish, is_dropped, on_want, given, gave_last, gave_one, gave_noted, gave_job, on_gave, finished_job, finished_at, applied_upto, with_deltas, apply, can_apply, apply_or_not, joins_on, is_followed, told_applied, deltas_of, on_deltas, want_of, transition}
+use Rattle.token_manager.specs.Transition.{Done, has_turns, finished, finish, recalled, recall, recall_or_finish, is_dropped, on_want, given, gave_last, gave_one, gave_noted, gave_job, on_gave, finished_job, finished_at, with_deltas, apply, can_apply, apply_or_not, joins_on, told_applied, deltas_of, on_deltas, want_of, transition}
 use Rattle.xfs_base.proofs.Booleans.{by_test}
 use Rattle.xfs_base.specs.declared.block.BlockId.{BlockId}
 use Rattle.xfs_base.specs.declared.entry.Entry.{Entry}

@@ -9,12 +9,12 @@ use Rattle.node_index_tie.specs.ManagerEvents as places
 use Rattle.node_index_tie.specs.Pages.{Desk}
 use Rattle.node_index_tie.specs.Sight.{Texts, DeltasKnown, held_in}
 use Rattle.node_tie.specs.ManagerEvents as owners
+use Rattle.slot_beliefs.specs.Index.{indexed_all}
+use Rattle.slot_beliefs.specs.Recalls.{applied_of}
 use Rattle.token_client.specs.State.{is_in_slot}
 use Rattle.token_law.specs.Net as tokens
 use Rattle.token_law.specs.Owed.{Covers, DeltasCover}
 use Rattle.token_law.proofs.Views.{some_one}
-use Rattle.token_manager.specs.Index.{indexed_all}
-use Rattle.token_manager.specs.Recalls.{applied_of}
 use Rattle.token_manager.specs.SlotState.{SlotState}
 use Rattle.token_manager.specs.Transition.{entry_at, joins_on}
 use Rattle.wire_msg.specs.declared.deltas.Deltas.{Deltas}

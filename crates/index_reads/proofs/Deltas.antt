@@ -14,10 +14,10 @@ use Rattle.index_tie.proofs.Rows.{ranged_between}
 use Rattle.log_protocol.specs.IndexState.{IndexState}
 use Rattle.log_protocol.specs.IndexLaws.{IndexReached}
 use Rattle.log_protocol.proofs.IndexInduction.{index_is_join_always}
+use Rattle.slot_beliefs.specs.Recalls.{applied_of}
 use Rattle.token_law.specs.Books.{Books, said}
 use Rattle.token_law.specs.Books as books
 use Rattle.token_law.specs.Owed.{Covers}
-use Rattle.token_manager.specs.Recalls.{applied_of}
 use Rattle.token_manager.specs.SlotState.{SlotState}
 use Rattle.token_manager.specs.Transition.{entry_at, joins_on}
 use Rattle.index_reads.proofs.Sayings.{Same, BeginsAtOne, same_version, names_filed}

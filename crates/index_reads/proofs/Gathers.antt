@@ -23,6 +23,7 @@ use Rattle.node_tie.specs.ManagerEvents as owners
 use Rattle.node_tie.specs.ManagerEvents.{ends_of}
 use Rattle.node_tie.proofs.ManagerPlain.{plain_hands_nothing}
 use Rattle.node_tie.proofs.ManagerTakes.{Hands, took}
+use Rattle.slot_beliefs.specs.Recalls.{applied_of as applied_in_slot}
 use Rattle.takeover.specs.Reports.{applied_of, beliefs_of, end_of, end_from, horizon_at}
 use Rattle.takeover.specs.TakeState.{TakeState}
 use Rattle.takeover.specs.Transition.{active, transition}
@@ -32,7 +33,6 @@ use Rattle.token_client.specs.State.{is_in_slot}
 use Rattle.token_law.specs.Books.{row_in, said, IsFiled}
 use Rattle.token_law.specs.Net as tokens
 use Rattle.token_law.specs.Owed.{Gathered}
-use Rattle.token_manager.specs.Recalls.{applied_of as applied_in_slot}
 use Rattle.token_manager.specs.SlotState.{SlotState}
 use Rattle.token_manager.specs.Transition.{started, entry_at}
 use Rattle.token_protocol.specs.Basics.{In}

@@ -20,6 +20,7 @@ use Rattle.segment_format.specs.declared.segment.Segment.{Segment}
 use Rattle.checkpoint.specs.Laws.{Event, rows_in, nothing_checkpointed, after_event, slot_after, MayCome, AllMayCome}
 use Rattle.checkpoint.specs.Laws.Event.{Written}
 use Rattle.checkpoint.specs.WriterState.{Rows}
+use Rattle.slot_beliefs.specs.Index.{pages_of}
 use Rattle.stripe_cleaner.specs.Promises.{promised_at}
 use Rattle.takeover.specs.declared.input.In.{In as TakeoverIn}
 use Rattle.takeover.specs.declared.output.Out.TheVariants.{Active}
@@ -33,7 +34,6 @@ use Rattle.takeover.proofs.Standing.{taken_over}
 use Rattle.token_manager.specs.declared.input.In.TheVariants.{Check}
 use Rattle.token_manager.specs.declared.output.Out.{Out}
 use Rattle.token_manager.specs.declared.output.Out.TheVariants.{Live, Dead}
-use Rattle.token_manager.specs.Index.{pages_of}
 use Rattle.token_manager.specs.SlotState.{SlotState}
 use Rattle.token_manager.specs.Transition as slot
 use Rattle.log_protocol.specs.Tables.{In, put_at}

@@ -17,6 +17,7 @@ use Rattle.segment_format.specs.Rows.{rows_of}
 use Rattle.checkpoint.specs.WriterState.{Rows}
 use Rattle.delta_index.specs.Index.{entry_of}
 use Rattle.delta_index.proofs.IndexJoin.{index_join}
+use Rattle.slot_beliefs.specs.Index.{Indexed, nothing_indexed, indexed_all}
 use Rattle.takeover.specs.declared.input.In.{In as TakeoverIn}
 use Rattle.takeover.specs.declared.input.In.TheVariants.{Report}
 use Rattle.takeover.specs.declared.output.Out.TheVariants.{Active}
@@ -25,7 +26,6 @@ use Rattle.takeover.specs.Reports as reports
 use Rattle.takeover.specs.Reports.{no_end, end_of, same_node, writer_of}
 use Rattle.takeover.specs.Transition as takeover
 use Rattle.token_manager.specs.declared.input.In.TheVariants.{Deltas}
-use Rattle.token_manager.specs.Index.{Indexed, nothing_indexed, indexed_all}
 use Rattle.token_manager.specs.Transition.{started, cleaned, transition}
 use Rattle.index_tie.specs.Filed.{IsSegment}
 use Rattle.index_tie.specs.Growth.{with_segment}

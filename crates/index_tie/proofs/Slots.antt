@@ -11,11 +11,11 @@ use Rattle.delta_index.specs.Entries.{first_greatest}
 use Rattle.delta_index.specs.Index.{entry_of, merged_all}
 use Rattle.delta_index.specs.Join.{join}
 use Rattle.delta_index.proofs.IndexJoin.{entry_of-merged_all}
+use Rattle.slot_beliefs.specs.Index.{Indexed, indexed, indexed_all}
+use Rattle.slot_beliefs.specs.Recalls.{applied_of, ready_blocks, applied_upto}
 use Rattle.token_manager.specs.declared.input.In.TheVariants.{Want, Gave, Deltas, Check, Tick}
-use Rattle.token_manager.specs.Index.{Indexed, indexed, indexed_all}
-use Rattle.token_manager.specs.Recalls.{applied_of, ready_blocks}
 use Rattle.token_manager.specs.SlotState.{SlotState}
-use Rattle.token_manager.specs.Transition.{want_of, entry_at, joins_on, applied_upto, with_deltas, finished_at}
+use Rattle.token_manager.specs.Transition.{want_of, entry_at, joins_on, with_deltas, finished_at}
 use Rattle.token_manager.proofs.Cases.{by_want, by_gave, by_deltas, by_finished_at}
 use Rattle.log_protocol.specs.Tables.{put}
 use Rattle.log_protocol.specs.IndexState.{IndexState, Joins}

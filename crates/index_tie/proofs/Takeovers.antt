@@ -25,6 +25,9 @@ use Rattle.delta_index.specs.Join.{join}
 use Rattle.delta_index.proofs.EntryAlgebra.{first_greatest-none}
 use Rattle.delta_index.proofs.IndexJoin.{index_join}
 use Rattle.delta_index.proofs.JoinAlgebra.{join-append, join-cons, join-one, none-join, same_block-eq}
+use Rattle.slot_beliefs.specs.Index.{nothing_indexed, indexed_all}
+use Rattle.slot_beliefs.specs.Recalls as recalls
+use Rattle.slot_beliefs.proofs.Counting.{nothing_counted, keeps-counted-all}
 use Rattle.takeover.specs.declared.report.Report.{Report}
 use Rattle.takeover.specs.declared.source.Source.{Source}
 use Rattle.takeover.specs.Course.{Course, course_of, after_input, IsTakenOver}
@@ -33,10 +36,7 @@ use Rattle.takeover.specs.Reports as reports
 use Rattle.takeover.specs.Reports.{end_of, horizon_at, applied_at}
 use Rattle.takeover.specs.Sources.{part_source, log_source, log_sources}
 use Rattle.takeover.proofs.Standing.{taken_over}
-use Rattle.token_manager.specs.Index.{nothing_indexed, indexed_all}
-use Rattle.token_manager.specs.Recalls as recalls
 use Rattle.token_manager.specs.Transition.{started, entry_at}
-use Rattle.token_manager.proofs.Counting.{nothing_counted, keeps-counted-all}
 use Rattle.log_protocol.specs.Tables.{put}
 use Rattle.log_protocol.specs.IndexState.{IndexState, Joins}
 use Rattle.log_protocol.specs.IndexState as index

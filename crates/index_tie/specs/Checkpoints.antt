@@ -4,11 +4,11 @@ use Rattle.std.specs.List.{AllByRecursion}
 use Rattle.xfs_base.specs.declared.block.BlockId.{BlockId}
 use Rattle.xfs_base.specs.declared.segment.SegRef.{SegRef}
 use Rattle.segment_format.specs.declared.segment.Segment.{Segment}
+use Rattle.slot_beliefs.specs.Index.{pages_of}
+use Rattle.slot_beliefs.specs.Recalls.{applied_of}
 use Rattle.takeover.specs.ReadBack.{AreReadBack, told_by_all}
 use Rattle.takeover.specs.Rows.{told_of}
 use Rattle.takeover.specs.Sources.{part_source}
-use Rattle.token_manager.specs.Index.{pages_of}
-use Rattle.token_manager.specs.Recalls.{applied_of}
 use Rattle.token_manager.specs.SlotState.{SlotState}
 use Rattle.checkpoint.specs.Laws.{Event, rows_in, rows_of_items, nothing_checkpointed, after_event, slot_after, MayCome, AllMayCome}
 use Rattle.checkpoint.specs.Laws.Event.{Written}

@@ -4,7 +4,7 @@ use Rattle.xfs_base.specs.declared.block.BlockId.{BlockId}
 use Rattle.xfs_base.specs.declared.entry.Entry.{Entry}
 use Rattle.xfs_base.specs.declared.entry.Place.{Place}
 use Rattle.delta_index.specs.Entries.{no_entry, is_newer, HasSameRank}
-use Rattle.token_manager.specs.Recalls.{applied_of}
+use Rattle.slot_beliefs.specs.Recalls.{applied_of}
 use Rattle.token_manager.specs.SlotState.{SlotState}
 use Rattle.token_manager.specs.Transition.{entry_at}
 use Rattle.log_protocol.specs.IndexState.{IndexState}

@@ -18,6 +18,7 @@ use Rattle.xfs_base.specs.Blocks.{slot_of}
 use Rattle.checkpoint.specs.Laws.{Event, nothing_checkpointed, after_event, slot_after, MayCome, AllMayCome}
 use Rattle.checkpoint.specs.Laws.Event.{Written}
 use Rattle.checkpoint.specs.WriterState.{Rows}
+use Rattle.slot_beliefs.specs.Index.{pages_of}
 use Rattle.stripe_cleaner.specs.declared.input.In as job_inputs
 use Rattle.stripe_cleaner.specs.declared.input.In.TheVariants as job_input
 use Rattle.stripe_cleaner.specs.declared.output.Out as job_outputs
@@ -38,7 +39,6 @@ use Rattle.token_manager.specs.declared.input.In as slot_inputs
 use Rattle.token_manager.specs.declared.input.In.TheVariants.{Want, Gave, Deltas, Check, Tick}
 use Rattle.token_manager.specs.declared.output.Out as slot_outputs
 use Rattle.token_manager.specs.declared.output.Out.TheVariants as slot_output
-use Rattle.token_manager.specs.Index.{pages_of}
 use Rattle.token_manager.specs.SlotState.{SlotState}
 use Rattle.token_manager.specs.Transition as slot
 use Rattle.log_protocol.specs.Tables.{In, put}

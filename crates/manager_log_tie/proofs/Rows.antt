@@ -31,10 +31,10 @@ use Rattle.index_pages.specs.Pages.{PagesState, held, rows_on, all_rows, changed
 use Rattle.checkpoint.specs.declared.plan.Plan.{Plan}
 use Rattle.checkpoint.specs.Plan.{writes_all, plan_of}
 use Rattle.checkpoint.specs.WriterState.{Rows}
+use Rattle.slot_beliefs.specs.Index.{Indexed, indexed, indexed_all}
 use Rattle.takeover.specs.Rows.{is_of, part_rows, told_of}
 use Rattle.token_manager.specs.declared.output.Out.{Out}
 use Rattle.token_manager.specs.declared.output.Out.TheVariants.{Live, Dead}
-use Rattle.token_manager.specs.Index.{Indexed, indexed, indexed_all}
 use Rattle.token_manager.specs.Transition.{is_place, found}
 use Rattle.node_log_tie.proofs.Lists.{all_append}
 use Rattle.manager_log_tie.specs.Fitting.{IsRowInRange, PagesFit, RowsFit, RowsInRange}

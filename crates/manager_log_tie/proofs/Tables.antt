@@ -12,10 +12,10 @@ use Rattle.manager_node.specs.Takeovers as takeovers
 use Rattle.manager_node.specs.Takeovers.{Asker, asker}
 use Rattle.manager_node.specs.Tokens as tokens
 use Rattle.node_base.specs.declared.effects.Effect.{Effect}
+use Rattle.slot_beliefs.specs.Index.{pages_of}
 use Rattle.takeover.specs.declared.input.In.{In as TakeIn}
 use Rattle.takeover.specs.declared.input.In.TheVariants as take_in
 use Rattle.token_manager.specs.declared.input.In.TheVariants as slot_in
-use Rattle.token_manager.specs.Index.{pages_of}
 use Rattle.wire_msg.specs.declared.cleaning.Check.{Check}
 use Rattle.wire_msg.specs.declared.cleaning.UsageAsk.{UsageAsk}
 use Rattle.wire_msg.specs.declared.deltas.Deltas.{Deltas}

@@ -6,9 +6,9 @@ use Rattle.xfs_base.specs.declared.entry.Entry.{Entry}
 use Rattle.xfs_base.specs.declared.segment.SegName.{SegName}
 use Rattle.xfs_base.specs.Segments.{seg_cmp}
 use Rattle.xfs_base.specs.Limits.{u32_end}
+use Rattle.slot_beliefs.specs.Index.{segment_of, live_in}
 use Rattle.usage_table.specs.Counts.{blocks_at}
 use Rattle.takeover.specs.Course.{MayStart}
-use Rattle.token_manager.specs.Index.{segment_of, live_in}
 
 -- no segment has more of the rows than there are
 live_in-most : (seg : SegName) (rows : List (BlockId × Entry)) → live_in seg rows ≤ length rows

@@ -9,10 +9,10 @@ use Rattle.manager_map.specs.declared.entry.SlotEntry.{SlotEntry}
 use Rattle.manager_map.specs.Slots.{start_entries, entry_at}
 use Rattle.node_base.specs.declared.effects.Effect.{Effect}
 use Rattle.node_base.specs.declared.questions.Questions.{Questions}
+use Rattle.slot_beliefs.specs.Index.{pages_of}
+use Rattle.slot_beliefs.specs.Recalls.{applied_of}
 use Rattle.takeover.specs.declared.input.In.{In}
 use Rattle.takeover.specs.declared.input.In.TheVariants as input
-use Rattle.token_manager.specs.Index.{pages_of}
-use Rattle.token_manager.specs.Recalls.{applied_of}
 use Rattle.token_manager.specs.SlotState.{SlotState}
 use Rattle.token_manager.specs.Transition.{cleaned}
 use Rattle.wire_msg.specs.declared.cleaning.Check.{Check}

@@ -2,7 +2,7 @@
 ghost use Rattle.std.specs.Prelude.{◌≡◌, ◌++◌, ◌≤◌, IfOk, OnOk, map, find, slice_get};
 ghost use Rattle.xfs_base.specs.Steps.{steps};
 ghost use Rattle.checkpoint.specs.Plan.{plan_of};
-ghost use Rattle.token_manager.specs.Index.{pages_of};
+ghost use Rattle.slot_beliefs.specs.Index.{pages_of};
 ghost use Rattle.manager_node.specs.SlotTable.{first_phase, first_table, unknown_phase, unknown_table, table_has_room, is_active_at, is_next, next_active, on_want, on_gave, on_deltas, on_check, on_usage_ask, usage_in, recalls, recalls_all, next_of, begin_with, begin_in, begin_at, cleaned_phase, named_phase, cleaned_at, named_at};
 
 use crate::slot_phase::{Active, SlotPhase, first_active};

@@ -20,8 +20,9 @@ use Rattle.manager_node.specs.declared.slot_phase.Active.{Active}
 use Rattle.manager_node.specs.declared.slot_phase.SlotPhase.{SlotPhase}
 use Rattle.manager_node.specs.declared.slot_phase.SlotPhase.TheVariants as phase
 use Rattle.node_base.specs.declared.effects.Effect.{Effect}
-use Rattle.token_manager.specs.Index.{Indexed, pages_of}
-use Rattle.token_manager.specs.Recalls.{applied_of}
+use Rattle.slot_beliefs.specs.Index.{Indexed, pages_of}
+use Rattle.slot_beliefs.specs.Recalls.{applied_of}
+use Rattle.slot_beliefs.specs.Recalls as slot_recalls
 use Rattle.token_manager.specs.SlotState.{SlotState}
 use Rattle.token_manager.specs.Transition as slot
 use Rattle.token_manager.specs.declared.input.In.{In as Input}
@@ -147,12 +148,12 @@ module _ (part : ℕ) (texts : Texts) (asked : Questions) (brought : Brought) (d
   active_deltas : (n : Net) (a : Active) (of : LogId) (m : Deltas) → DeltasKnown part n of.0 m → ActiveAgrees part texts n desk a
       → Event n (phase.Active a) (holding a (slot.transition a.slot (deltas_input of m)).state)
       (flat_map (said m.slot a.slot.epoch) (slot.transition a.slot (deltas_input of m)).outs)
-  active_deltas n a of m known agrees = by (slot.is_followed of) refl
+  active_deltas n a of m known agrees = by (slot_recalls.is_followed of) refl
     where
-      within : (x : ℕ) → slot.is_followed (record { 0 = x }) ≡ true → x - 1 < 9
+      within : (x : ℕ) → slot_recalls.is_followed (record { 0 = x }) ≡ true → x - 1 < 9
       within x h = grind (arith, nat_tests)
 
-      by : (t : Bool) → slot.is_followed of ≡ t → IsEvent n a m.slot (slot.transition a.slot (deltas_input of m))
+      by : (t : Bool) → slot_recalls.is_followed of ≡ t → IsEvent n a m.slot (slot.transition a.slot (deltas_input of m))
       by true is =
           let d = slot.transition a.slot (deltas_input of m) in
           let w = within of.0 is in

@@ -8,8 +8,8 @@ use Rattle.manager_node.specs.declared.slot_phase.Active.{Active}
 use Rattle.manager_node.specs.declared.slot_phase.SlotPhase.{SlotPhase}
 use Rattle.manager_node.specs.declared.slot_phase.SlotPhase.TheVariants as phase
 use Rattle.node_tie.specs.ManagerEvents.{phase_at, HeldAt}
+use Rattle.slot_beliefs.specs.Index.{pages_of}
 use Rattle.takeover.specs.TakeState.{TakeState}
-use Rattle.token_manager.specs.Index.{pages_of}
 use Rattle.wire_msg.specs.declared.registry.CkptDone.{CkptDone}
 use Rattle.node_index_tie.specs.ManagerEvents.{TakingAgrees, ActiveAgrees, PhaseAgrees, ServingAgrees}
 use Rattle.node_index_tie.specs.Pages.{WriterAgrees, DoneIn, DoneSeen}

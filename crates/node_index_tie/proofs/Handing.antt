@@ -33,6 +33,8 @@ use Rattle.node_base.specs.declared.questions.Questions.{Questions as Numbers}
 use Rattle.node_tie.specs.ManagerEvents.{HeldAt}
 use Rattle.node_tie.proofs.ManagerTakes.{Hands, Brings, took, all_heard, same_node_is}
 use Rattle.segment_format.specs.declared.segment.Segment.{Segment}
+use Rattle.slot_beliefs.specs.Index.{nothing_indexed, pages_of, indexed_all}
+use Rattle.slot_beliefs.specs.Recalls.{applied_of as applied_in_slot}
 use Rattle.takeover.specs.Course.{Course, course_of, after_input, IsTakenOver}
 use Rattle.takeover.specs.ReadBack.{told_by_all}
 use Rattle.takeover.specs.Reports.{applied_of, applied_at, beliefs_of, same_node, is_heard, end_of, end_from, no_end, writer_of, polled, client_after, awaited_of, horizon_at}
@@ -43,8 +45,6 @@ use Rattle.takeover.specs.declared.input.In.TheVariants as input
 use Rattle.takeover.specs.declared.output.Out.TheVariants as out
 use Rattle.takeover.specs.declared.report.Report.{Report as Heard}
 use Rattle.takeover.proofs.Standing.{taken_over}
-use Rattle.token_manager.specs.Index.{nothing_indexed, pages_of, indexed_all}
-use Rattle.token_manager.specs.Recalls.{applied_of as applied_in_slot}
 use Rattle.token_manager.specs.SlotState.{SlotState}
 use Rattle.token_manager.specs.Transition.{started as slot_started}
 use Rattle.token_protocol.specs.Basics.{In as Among}

@@ -5,11 +5,11 @@ use Rattle.xfs_base.specs.declared.entry.Entry.{Entry}
 use Rattle.xfs_base.specs.declared.segment.LogId.{LogId}
 use Rattle.index_tie.specs.Net.{IsOfTokens}
 use Rattle.index_tie.proofs.Slots.{Same, same_itself, answering}
+use Rattle.slot_beliefs.specs.Recalls.{ready_blocks, applied_upto}
 use Rattle.token_manager.specs.declared.input.In.{In}
 use Rattle.token_manager.specs.declared.input.In.TheVariants.{Want, Gave, Deltas, Check, Tick}
-use Rattle.token_manager.specs.Recalls.{ready_blocks}
 use Rattle.token_manager.specs.SlotState.{SlotState}
-use Rattle.token_manager.specs.Transition.{want_of, applied_upto, with_deltas, transition}
+use Rattle.token_manager.specs.Transition.{want_of, with_deltas, transition}
 use Rattle.token_manager.proofs.Cases.{by_want, by_gave, by_deltas}
 
 -- what is of tokens leaves these as they were

@@ -31,8 +31,8 @@ use Rattle.manager_node.specs.declared.slot_phase.Active.{Active}
 use Rattle.manager_node.specs.declared.slot_phase.SlotPhase.{SlotPhase}
 use Rattle.manager_node.specs.declared.slot_phase.SlotPhase.TheVariants as phase
 use Rattle.node_tie.specs.ManagerEvents.{phase_at, HeldAt}
-use Rattle.token_manager.specs.Index.{Indexed, pages_of, cleaned_index}
-use Rattle.token_manager.specs.Recalls.{applied_of}
+use Rattle.slot_beliefs.specs.Index.{Indexed, pages_of, cleaned_index}
+use Rattle.slot_beliefs.specs.Recalls.{applied_of}
 use Rattle.token_manager.specs.SlotState.{SlotState}
 use Rattle.token_manager.specs.Transition as slot
 use Rattle.node_index_tie.specs.ManagerEvents.{ManagedAt, ActiveAgrees, PhaseAgrees, ServingAgrees}

@@ -6,8 +6,8 @@ use Rattle.checkpoint.specs.Laws.Event.{Merged}
 use Rattle.checkpoint.specs.WriterState.{Rows, WorkState}
 use Rattle.index_pages.specs.Pages.{PagesState, put_newer, cleaned}
 use Rattle.index_tie.specs.Net.{Net}
-use Rattle.token_manager.specs.Index.{Indexed, nothing_indexed, pages_of, indexed, indexed_all}
-use Rattle.token_manager.proofs.Counting.{pages-indexed}
+use Rattle.slot_beliefs.specs.Index.{Indexed, nothing_indexed, pages_of, indexed, indexed_all}
+use Rattle.slot_beliefs.proofs.Counting.{pages-indexed}
 use Rattle.node_index_tie.specs.Pages.{put_all, checkpointed, Desk, IsWork, Paged, WorkSeen}
 use Rattle.node_index_tie.specs.Pages.Paged.{Covered, Written, Ended}
 use Rattle.node_index_tie.specs.Sight.{Texts, held_in, RowsFit}

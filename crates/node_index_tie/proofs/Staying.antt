@@ -14,8 +14,8 @@ use Rattle.manager_node.specs.declared.slot_phase.SlotPhase.{SlotPhase}
 use Rattle.manager_node.specs.declared.slot_phase.SlotPhase.TheVariants as phase
 use Rattle.node_tie.specs.ManagerEvents.{phase_at, HeldAt}
 use Rattle.segment_format.specs.declared.segment.Segment.{Segment}
+use Rattle.slot_beliefs.specs.Index.{pages_of}
 use Rattle.takeover.specs.TakeState.{TakeState}
-use Rattle.token_manager.specs.Index.{pages_of}
 use Rattle.wire_msg.specs.declared.registry.CkptDone.{CkptDone}
 use Rattle.xfs_base.specs.declared.segment.SegRef.{SegRef}
 use Rattle.node_index_tie.specs.ManagerEvents.{TakingAgrees, PhaseAgrees, Passes, ManagersStay}

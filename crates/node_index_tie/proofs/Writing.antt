@@ -34,7 +34,7 @@ use Rattle.node_base.specs.Asking.{next_ask}
 use Rattle.node_base.specs.declared.effects.Effect.{Effect}
 use Rattle.node_tie.specs.ManagerEvents.{phase_at, HeldAt}
 use Rattle.segment_format.specs.declared.segment.Item.{Item}
-use Rattle.token_manager.specs.Index.{pages_of}
+use Rattle.slot_beliefs.specs.Index.{pages_of}
 use Rattle.wire_msg.specs.declared.registry.CkptDone.{CkptDone}
 use Rattle.node_index_tie.specs.ManagerEvents.{ManagedAt, PhaseAgrees, ServingAgrees}
 use Rattle.node_index_tie.specs.Pages.{checkpointed, Desk, desk_of, Paged, WriterAgrees, DoneSeen}

@@ -20,6 +20,8 @@ use Rattle.manager_node.specs.Slots.{fetch_of}
 use Rattle.node_tie.specs.ManagerEvents.{phase_at, HeldAt, Names, slot_in, epoch_in, is_serving}
 use Rattle.segment_format.specs.declared.segment.Segment.{Segment}
 use Rattle.segment_reading.specs.Reading.{ReadingState, on_answer}
+use Rattle.slot_beliefs.specs.Index.{pages_of}
+use Rattle.slot_beliefs.specs.Recalls.{applied_of}
 use Rattle.stripe_code.specs.declared.round.Told.{Told}
 use Rattle.stripe_code.specs.declared.round.Told.TheVariants.{Held, Missing as Lacks}
 use Rattle.takeover.specs.Course.{course_of, segment_of}
@@ -29,8 +31,6 @@ use Rattle.takeover.specs.declared.input.In.{In as TakeoverIn}
 use Rattle.takeover.specs.declared.input.In.TheVariants.{Got, Missing}
 use Rattle.takeover.specs.declared.report.Report.{Report as Heard}
 use Rattle.takeover.specs.declared.source.Present.{Present}
-use Rattle.token_manager.specs.Index.{pages_of}
-use Rattle.token_manager.specs.Recalls.{applied_of}
 use Rattle.token_manager.specs.SlotState.{SlotState}
 use Rattle.token_protocol.specs.Basics.{In as Among}
 use Rattle.version_model.specs.declared.work.Work.{Work}

@@ -8,6 +8,8 @@ use Rattle.xfs_base.specs.declared.segment.LogId.{LogId}
 use Rattle.xfs_base.specs.Blocks.{slot_of}
 use Rattle.xfs_base.specs.Steps.{still}
 use Rattle.node_base.specs.declared.effects.Effect.{Effect}
+use Rattle.slot_beliefs.specs.Recalls.{applied_of}
+use Rattle.slot_beliefs.specs.Recalls as slot_recalls
 use Rattle.token_client.specs.State.{is_in_slot}
 use Rattle.token_law.specs.Net.{Net, Packet, Happens, slot_packets, after_slot}
 use Rattle.token_law.specs.Net.Happens.{GetsDeltas, GetsWant, GetsGave, Ticks}
@@ -16,7 +18,6 @@ use Rattle.token_manager.specs.declared.input.In.{In as Input}
 use Rattle.token_manager.specs.declared.input.In.TheVariants as input
 use Rattle.token_manager.specs.declared.output.Out.{Out}
 use Rattle.token_manager.specs.declared.output.Out.TheVariants as out
-use Rattle.token_manager.specs.Recalls.{applied_of}
 use Rattle.token_manager.specs.SlotState.{SlotState}
 use Rattle.token_manager.specs.Transition as slot
 use Rattle.token_protocol.specs.Basics.{put, In}
@@ -171,12 +172,12 @@ module _ (logs : Bool) (members part most life : ℕ) where
       → Premise logs (DeltasJoin members part n (phase.Active a) log deltas) → Made n deltas.slot a (slot.transition a.slot (deltas_input log deltas))
   unfolding said
   active_deltas n a log deltas agrees owed =
-      by (slot.is_followed log) refl
+      by (slot_recalls.is_followed log) refl
     where
-      followed : (x : ℕ) → slot.is_followed (record { 0 = x }) ≡ true → (0 < x) × (x - 1 < 9)
+      followed : (x : ℕ) → slot_recalls.is_followed (record { 0 = x }) ≡ true → (0 < x) × (x - 1 < 9)
       followed x h = (grind (arith, nat_tests), grind (arith, nat_tests))
 
-      joined : (t : Bool) → slot.is_followed log ≡ true → slot.joins_on (applied_of a.slot.applied log.0) deltas.first deltas.upto ≡ t
+      joined : (t : Bool) → slot_recalls.is_followed log ≡ true → slot.joins_on (applied_of a.slot.applied log.0) deltas.first deltas.upto ≡ t
           → Made n deltas.slot a (slot.transition a.slot (deltas_input log deltas))
       joined true of is =
           let f = followed log.0 of in
@@ -193,7 +194,7 @@ module _ (logs : Bool) (members part most life : ℕ) where
           ∙ ap (λ t. cond t (slot.apply_or_not a.slot log deltas.upto deltas.rows) (slot.told_applied a.slot log)) is))
           (event_same n (phase.Active a) _ agrees (tt, tt))
 
-      by : (t : Bool) → slot.is_followed log ≡ t → Made n deltas.slot a (slot.transition a.slot (deltas_input log deltas))
+      by : (t : Bool) → slot_recalls.is_followed log ≡ t → Made n deltas.slot a (slot.transition a.slot (deltas_input log deltas))
       by true is = joined (slot.joins_on (applied_of a.slot.applied log.0) deltas.first deltas.upto) is refl
       by false is =
           subst (Made n deltas.slot a) (sym (ap (λ t. cond t (slot.deltas_of a.slot log deltas.first deltas.upto deltas.rows) (still a.slot)) is))

@@ -10,14 +10,16 @@ use Rattle.xfs_base.specs.declared.block.BlockId.{BlockId}
 use Rattle.xfs_base.specs.Blocks.{block_cmp, slot_of}
 use Rattle.xfs_base.specs.Modes.{is_own}
 use Rattle.xfs_base.specs.Steps.{steps}
+use Rattle.slot_beliefs.specs.declared.job.Awaited.{Awaited}
+use Rattle.slot_beliefs.specs.declared.job.Job.{Job}
+use Rattle.slot_beliefs.specs.declared.job.Wanted.{Wanted}
+use Rattle.slot_beliefs.specs.Recalls.{recalls, ready_blocks}
+use Rattle.slot_beliefs.specs.Recalls as slot_recalls
 use Rattle.token_manager.specs.declared.input.In.{In}
 use Rattle.token_manager.specs.declared.input.In.TheVariants as input
-use Rattle.token_manager.specs.declared.job.Awaited.{Awaited}
-use Rattle.token_manager.specs.declared.job.Job.{Job}
-use Rattle.token_manager.specs.declared.job.Wanted.{Wanted}
 use Rattle.token_manager.specs.declared.output.Out.{Out}
 use Rattle.token_manager.specs.declared.output.Out.TheVariants as out
-use Rattle.token_manager.specs.Recalls.{recalls, recall_of, sent, all_sent, ready_blocks}
+use Rattle.token_manager.specs.Recalls.{recall_of, sent, all_sent}
 use Rattle.token_manager.specs.SlotState.{SlotState}
 use Rattle.token_manager.specs.Transition as slot
 use Rattle.token_manager.proofs.Cases.{recalled_from, all_given, let_go, by_want, by_gave, by_deltas, by_finished_at}
@@ -69,10 +71,10 @@ module _ (k : ℕ) where
   the_job : (j job : Job) → Some j ≡ Some job → j ≡ job
   the_job j job h = cc
 
-  of_found : (jobs : List (BlockId × Job)) (block : BlockId) (job : Job) → AreOf jobs → slot.job_at jobs block ≡ Some job → IsOf job.want.block
+  of_found : (jobs : List (BlockId × Job)) (block : BlockId) (job : Job) → AreOf jobs → slot_recalls.job_at jobs block ≡ Some job → IsOf job.want.block
   of_found [] block job all is = absurd (cc)
   of_found (e ∷ es) block job all is =
-      elim (is_at (block_cmp block) e.0) as (λ t. cond t (Some e.1) (slot.job_at es block) ≡ Some job → IsOf job.want.block) [
+      elim (is_at (block_cmp block) e.0) as (λ t. cond t (Some e.1) (slot_recalls.job_at es block) ≡ Some job → IsOf job.want.block) [
         | true ↦ λ h. subst (λ (j : Job). IsOf j.want.block) (the_job e.1 job h) all.0.1
         | false ↦ λ h. of_found es block job all.1 h
       ] is
@@ -135,7 +137,7 @@ module _ (k : ℕ) where
       (λ job is. record { jobs = of_put s.jobs block _ all of (of_found s.jobs block job all is); outs = tt })
   of_takes s (input.Deltas log first upto rows) of all =
       by_deltas KeepsTo s log first upto rows (record { jobs = all; outs = tt }) (record { jobs = all; outs = (tt, tt) })
-      (λ _. let t = of_steps (slot.with_deltas s log upto rows) (ready_blocks s.jobs (slot.applied_upto s.applied log upto)) all in
+      (λ _. let t = of_steps (slot.with_deltas s log upto rows) (ready_blocks s.jobs (slot_recalls.applied_upto s.applied log upto)) all in
       record { jobs = t.jobs; outs = (tt, t.outs) })
   of_takes s (input.Check block place) of all = record { jobs = all; outs = by (slot.is_place (slot.entry_at s block).place place) }
     where

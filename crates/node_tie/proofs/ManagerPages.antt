@@ -5,13 +5,14 @@ use Rattle.xfs_base.specs.declared.entry.Entry.{Entry}
 use Rattle.xfs_base.specs.declared.segment.LogId.{LogId}
 use Rattle.xfs_base.specs.declared.token.Stamp.{Stamp}
 use Rattle.xfs_base.specs.Steps.{still, steps}
+use Rattle.slot_beliefs.specs.declared.job.Awaited.{Awaited}
+use Rattle.slot_beliefs.specs.declared.job.Job.{Job}
+use Rattle.slot_beliefs.specs.declared.job.Wanted.{Wanted}
+use Rattle.slot_beliefs.specs.Index.{Indexed, indexed, indexed_all}
+use Rattle.slot_beliefs.specs.Recalls.{applied_of, is_ready, ready_blocks, noted, answers}
+use Rattle.slot_beliefs.specs.Recalls as slot_recalls
 use Rattle.token_manager.specs.declared.input.In.{In}
 use Rattle.token_manager.specs.declared.input.In.TheVariants as input
-use Rattle.token_manager.specs.declared.job.Awaited.{Awaited}
-use Rattle.token_manager.specs.declared.job.Job.{Job}
-use Rattle.token_manager.specs.declared.job.Wanted.{Wanted}
-use Rattle.token_manager.specs.Index.{Indexed, indexed, indexed_all}
-use Rattle.token_manager.specs.Recalls.{applied_of, is_ready, ready_blocks, noted, answers}
 use Rattle.token_manager.specs.SlotState.{SlotState}
 use Rattle.token_manager.specs.Transition as slot
 use Rattle.std.specs.List.{list_any}
@@ -81,7 +82,7 @@ module _ (s : SlotState) where
       (λ _. record { state = refl; outs = refl })
 
   gave_alike : (client : ℕ) (block : BlockId) (stamp : Stamp) (end : ℕ) → Alike (slot.on_gave s client block stamp end) (slot.on_gave b client block stamp end)
-  gave_alike client block stamp end = by (slot.job_at s.jobs block)
+  gave_alike client block stamp end = by (slot_recalls.job_at s.jobs block)
     where
       by : (o : Option Job) → Alike (slot.gave_job s client block stamp end o) (slot.gave_job b client block stamp end o)
       by None = still_alike
@@ -91,11 +92,11 @@ module _ (s : SlotState) where
 
   finished_at-alike : (block : BlockId) → Alike (slot.finished_at s block) (slot.finished_at b block)
   unfolding slot.finished_at
-  finished_at-alike block = by (slot.job_at s.jobs block)
+  finished_at-alike block = by (slot_recalls.job_at s.jobs block)
     where
       by : (o : Option Job) → Alike (slot.finished_job s block o) (slot.finished_job b block o)
       by None = still_alike
-      by (Some job) = finished_alike (record s { jobs = slot.without_job s.jobs block }) job.want
+      by (Some job) = finished_alike (record s { jobs = slot_recalls.without_job s.jobs block }) job.want
 
 -- what is alike without pages is alike whatever the pages
 pub alike_both : (f : SlotState → slot.Done) → ((s : SlotState) → Alike (f s) (f (without_pages s))) → (s t : SlotState) → SameButPages s t → Alike (f s) (f t)
@@ -121,14 +122,14 @@ module _ (s : SlotState) (log : LogId) (upto : ℕ) (rows : List (BlockId × Ent
   apply_alike : Alike (slot.apply s log upto rows) (slot.apply u log upto rows)
   apply_alike =
       let same : SameButPages (slot.with_deltas s log upto rows) (slot.with_deltas u log upto rows) = ap
-      (λ i. record s { index = i; applied = slot.applied_upto s.applied log upto }) (bare_all s.index u.index rows refl) in
-      let all = steps_alike (ready_blocks s.jobs (slot.applied_upto s.applied log upto)) (slot.with_deltas s log upto rows)
+      (λ i. record s { index = i; applied = slot_recalls.applied_upto s.applied log upto }) (bare_all s.index u.index rows refl) in
+      let all = steps_alike (ready_blocks s.jobs (slot_recalls.applied_upto s.applied log upto)) (slot.with_deltas s log upto rows)
       (slot.with_deltas u log upto rows) same in
       record { state = all.state; outs = ap (λ xs. Applied log upto ∷ xs) all.outs }
 
   deltas_alike : (first : ℕ) → Alike (slot.on_deltas s log first upto rows) (slot.on_deltas u log first upto rows)
   deltas_alike first =
-      by_both (slot.is_followed log) (slot.deltas_of s log first upto rows) (still s) (slot.deltas_of u log first upto rows) (still u)
+      by_both (slot_recalls.is_followed log) (slot.deltas_of s log first upto rows) (still s) (slot.deltas_of u log first upto rows) (still u)
       (λ _. by_both (slot.joins_on (applied_of s.applied log.0) first upto) (slot.apply_or_not s log upto rows) (slot.told_applied s log)
       (slot.apply_or_not u log upto rows) (slot.told_applied u log)
       (λ _. by_both (slot.can_apply s log upto rows) (slot.apply s log upto rows) (still s) (slot.apply u log upto rows) (still u) (λ _. apply_alike)
@@ -168,7 +169,7 @@ takes_stay s (input.Want client block inc req again mode end) = by_want (Stays s
     (λ _ _. (refl, refl)) (λ _. (refl, refl))
 takes_stay s (input.Gave client block stamp end) = by_gave (Stays s) s client block stamp end (stays_same s) (λ _ _ _. (refl, refl)) (λ _ _. (refl, refl))
 takes_stay s (input.Deltas log first upto rows) = by_deltas (Stays s) s log first upto rows (stays_same s) (refl, refl) (λ _.
-    let h = steps_stay (slot.with_deltas s log upto rows) (ready_blocks s.jobs (slot.applied_upto s.applied log upto)) in
+    let h = steps_stay (slot.with_deltas s log upto rows) (ready_blocks s.jobs (slot_recalls.applied_upto s.applied log upto)) in
     (h.0, h.1 ∙ length-set s.applied (log.0 - 1) upto))
 takes_stay s (input.Check block place) = (refl, refl)
 takes_stay s input.Tick = (refl, refl)

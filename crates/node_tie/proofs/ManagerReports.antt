@@ -13,6 +13,7 @@ use Rattle.xfs_base.specs.declared.node.NodeId.{NodeId}
 use Rattle.xfs_base.specs.declared.node.NodeId.TheVariants.{Client, Manager, Server, Cleaner, Registry}
 use Rattle.xfs_base.specs.declared.segment.End.{End}
 use Rattle.xfs_base.specs.declared.token.Mode.{Mode}
+use Rattle.slot_beliefs.specs.Recalls.{applied_of}
 use Rattle.takeover.specs.declared.report.Report.{Report as Heard}
 use Rattle.takeover.specs.Reports.{applied_of as applied_by, same_node, polled, client_after, end_from, held_by, beliefs_of}
 use Rattle.takeover.specs.TakeState.{TakeState}
@@ -21,7 +22,6 @@ use Rattle.token_law.specs.Net.{Net, Happens, IsLatest}
 use Rattle.token_law.specs.Net.Packet.{ReportSent}
 use Rattle.token_law.specs.Net.Happens.{Activates}
 use Rattle.token_law.specs.Owed.{Gathered}
-use Rattle.token_manager.specs.Recalls.{applied_of}
 use Rattle.token_manager.specs.Transition.{started as slot_started}
 use Rattle.token_protocol.specs.Basics.{put, In}
 use Rattle.token_protocol.specs.Premises.{Premise}

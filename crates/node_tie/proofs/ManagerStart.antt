@@ -6,8 +6,8 @@ use Rattle.xfs_base.specs.Blocks.{slot_of}
 use Rattle.xfs_base.specs.declared.block.BlockId.{BlockId}
 use Rattle.xfs_base.specs.declared.setup.Setup.{Setup}
 use Rattle.manager_map.specs.Slots.{start_entries, entry_at}
+use Rattle.slot_beliefs.specs.declared.job.Job.{Job}
 use Rattle.token_law.specs.Net.{opening}
-use Rattle.token_manager.specs.declared.job.Job.{Job}
 use Rattle.token_manager.specs.Transition.{started}
 use Rattle.version_model.specs.declared.work.Work.{Work}
 use Rattle.manager_node.specs.SlotTable.{all_slots, first_phase}

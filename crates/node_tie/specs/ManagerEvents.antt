@@ -18,6 +18,8 @@ use Rattle.manager_node.specs.declared.slot_phase.Active.{Active}
 use Rattle.manager_node.specs.declared.slot_phase.SlotPhase.{SlotPhase}
 use Rattle.manager_node.specs.declared.slot_phase.SlotPhase.TheVariants as phase
 use Rattle.manager_node.specs.declared.slot_phase.Taking.{Taking}
+use Rattle.slot_beliefs.specs.declared.job.Job.{Job}
+use Rattle.slot_beliefs.specs.Recalls.{applied_of}
 use Rattle.takeover.specs.Reports.{applied_of as applied_by, end_from}
 use Rattle.takeover.specs.TakeState.{TakeState}
 use Rattle.takeover.specs.Transition.{active, awaited, transition}
@@ -28,10 +30,8 @@ use Rattle.takeover.specs.declared.source.Present.{Present}
 use Rattle.token_law.specs.Net.{Net, Packet, Runs, IsLatest, opening}
 use Rattle.token_law.specs.Net.Packet.{ReportSent}
 use Rattle.token_law.specs.Owed.{DeltasCover, Gathered}
-use Rattle.token_manager.specs.Recalls.{applied_of}
 use Rattle.token_manager.specs.SlotState.{SlotState}
 use Rattle.token_manager.specs.Transition.{joins_on}
-use Rattle.token_manager.specs.declared.job.Job.{Job}
 use Rattle.token_protocol.specs.Basics.{In}
 use Rattle.token_protocol.specs.Premises.{Premise}
 use Rattle.node_base.specs.Effects.{acts_of}

@@ -6,7 +6,7 @@ use Rattle.checkpoint.specs.declared.input.In.{In as WriterIn}
 use Rattle.checkpoint.specs.declared.plan.Plan.{Plan}
 use Rattle.checkpoint.specs.Plan.{plan_of, writes_all}
 use Rattle.index_pages.specs.Pages.{PagesState, all_rows, changed_rows}
-use Rattle.token_manager.specs.Index.{pages_of}
+use Rattle.slot_beliefs.specs.Index.{pages_of}
 use Rattle.xfs_base.proofs.Booleans.{by_test}
 use Rattle.checkpoint.specs.declared.input.In.TheVariants as writer_in
 use Rattle.group_map.specs.GroupMapState.{GroupMapState}

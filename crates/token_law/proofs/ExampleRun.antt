@@ -23,7 +23,7 @@ use Rattle.token_manager.specs.Transition as slot
 use Rattle.token_protocol.specs.Basics.{put}
 use Rattle.delta_index.specs.Entries.{no_entry}
 use Rattle.delta_index.specs.Index.{entry_of, merged}
-use Rattle.token_manager.specs.Index.{indexed, indexed_all}
+use Rattle.slot_beliefs.specs.Index.{indexed, indexed_all}
 use Rattle.token_law.specs.Books.{Row, row_in, nothing_said, said, sealed, filed}
 use Rattle.token_law.specs.Example.{example_block, example_value, IsShared}
 use Rattle.token_law.specs.Net.{Net, opening, IsServing, Happens}

@@ -16,12 +16,12 @@ use Rattle.version_model.specs.Effects.{history_after}
 use Rattle.version_model.specs.History.{nothing_yet}
 use Rattle.act_tie.specs.BlockActs.{fall_of, with_fall, told_with, acts_of}
 use Rattle.act_tie.proofs.Onward.{acts_on}
+use Rattle.slot_beliefs.specs.Recalls as slot
 use Rattle.token_client.specs.declared.held.Held.{Held}
 use Rattle.token_client.specs.Held.{is_dirty}
 use Rattle.token_client.specs.State.{held_of, is_in_slot, epoch_of}
 use Rattle.token_client.specs.State.{started as fresh_tokens}
 use Rattle.token_client.specs.Transition as client
-use Rattle.token_manager.specs.Transition as slot
 use Rattle.token_protocol.specs.Acts as block
 use Rattle.token_protocol.specs.Acts.Act.{Fell as FellBlock, Back as BackBlock}
 use Rattle.token_protocol.specs.Basics.{put, In}

@@ -6,8 +6,8 @@ use Rattle.xfs_base.specs.declared.token.Mode.TheVariants.{Nothing, Copy, Own}
 use Rattle.xfs_base.specs.Blocks.{slot_of}
 use Rattle.xfs_base.specs.Modes.{is_held, is_own}
 use Rattle.xfs_base.proofs.Booleans.{contrary}
+use Rattle.slot_beliefs.specs.Beliefs.{share_of}
 use Rattle.token_client.specs.State.{held_of, epoch_of}
-use Rattle.token_manager.specs.Laws.{share_of}
 use Rattle.token_manager.specs.SlotState.{SlotState}
 use Rattle.version_model.specs.declared.act.Act.{Act}
 use Rattle.act_tie.specs.BlockActs.{acts_of}

@@ -9,14 +9,14 @@ use Rattle.xfs_base.specs.declared.segment.SegName.{SegName}
 use Rattle.version_model.specs.declared.act.Act.TheVariants as act
 use Rattle.xfs_base.specs.declared.token.Mode.{Mode}
 use Rattle.delta_index.specs.Index.{entry_of}
+use Rattle.slot_beliefs.specs.Beliefs.{all_believed, share_of}
+use Rattle.slot_beliefs.specs.Index.{indexed_all}
 use Rattle.token_client.specs.Laws.{IsSound}
 use Rattle.token_client.specs.State.{started as fresh_tokens, epoch_of, is_in_slot}
 use Rattle.token_client.proofs.AllInputs.{started-sound}
 use Rattle.token_manager.specs.declared.input.In as slot_in
 use Rattle.token_manager.specs.declared.input.In.TheVariants as told
-use Rattle.token_manager.specs.Beliefs.{all_believed}
-use Rattle.token_manager.specs.Index.{indexed_all}
-use Rattle.token_manager.specs.Laws.{share_of, OwnsAlone, IsNotTick}
+use Rattle.token_manager.specs.Laws.{OwnsAlone, IsNotTick}
 use Rattle.token_manager.specs.Recalls.{all_sent}
 use Rattle.token_manager.specs.SlotState.{SlotState}
 use Rattle.token_manager.specs.Transition as slot

@@ -7,13 +7,14 @@ use Rattle.xfs_base.specs.declared.entry.Entry.{Entry}
 use Rattle.xfs_base.specs.declared.token.Mode.{Mode}
 use Rattle.xfs_base.specs.Modes.{is_own}
 use Rattle.xfs_base.proofs.StepLoops.{steps_keep}
+use Rattle.slot_beliefs.specs.declared.job.Awaited.{Awaited}
+use Rattle.slot_beliefs.specs.Recalls.{recalls, noted, ready_blocks, applied_upto}
 use Rattle.token_manager.specs.declared.input.In.{In}
 use Rattle.token_manager.specs.declared.input.In.TheVariants.{Want, Gave, Deltas, Check, Tick}
-use Rattle.token_manager.specs.declared.job.Awaited.{Awaited}
 use Rattle.token_manager.specs.Laws.{IsGivenOut, RecallsAreGivenOut, state_after}
-use Rattle.token_manager.specs.Recalls.{recalls, recall_of, sent, all_sent, noted, ready_blocks}
+use Rattle.token_manager.specs.Recalls.{recall_of, sent, all_sent}
 use Rattle.token_manager.specs.SlotState.{SlotState}
-use Rattle.token_manager.specs.Transition.{started, want_of, applied_upto, with_deltas, finished_at, transition}
+use Rattle.token_manager.specs.Transition.{started, want_of, with_deltas, finished_at, transition}
 use Rattle.token_manager.proofs.Cases.{recalled_from, by_want, by_gave, by_deltas, by_finished_at}
 use Rattle.token_manager.proofs.JobsBarGrants.{Waiting, waiting-removed, waiting-put, nobody_waits}
 use Rattle.token_manager.proofs.RecallTurns.{given-all}

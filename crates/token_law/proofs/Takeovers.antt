@@ -6,9 +6,10 @@ use Rattle.xfs_base.specs.declared.block.BlockId.{BlockId}
 use Rattle.xfs_base.specs.declared.entry.Entry.{Entry}
 use Rattle.xfs_base.specs.declared.token.Mode.{Mode}
 use Rattle.xfs_base.specs.declared.token.Mode.TheVariants.{Nothing, Copy, Own}
+use Rattle.slot_beliefs.specs.Beliefs.{share_of, all_believed}
+use Rattle.slot_beliefs.specs.Recalls.{applied_of}
+use Rattle.slot_beliefs.specs.Index.{nothing_indexed, indexed_all}
 use Rattle.token_client.specs.State.{held_of}
-use Rattle.token_manager.specs.Laws.{share_of}
-use Rattle.token_manager.specs.Recalls.{applied_of}
 use Rattle.token_manager.specs.SlotState.{SlotState}
 use Rattle.token_manager.specs.Transition as slot
 use Rattle.token_manager.proofs.Guarded.{Sound}
@@ -28,8 +29,6 @@ use Rattle.token_protocol.specs.Entry as abstract_entry
 use Rattle.token_tie.specs.Epochs.{reported}
 use Rattle.token_client.specs.declared.held.Held.{Held}
 use Rattle.token_client.specs.State.{held_in, is_in_slot}
-use Rattle.token_manager.specs.Beliefs.{all_believed}
-use Rattle.token_manager.specs.Index.{nothing_indexed, indexed_all}
 use Rattle.delta_index.specs.Index.{entry_of}
 use Rattle.token_protocol.specs.Takeover as takeover
 use Rattle.token_protocol.specs.Entry.{Row}

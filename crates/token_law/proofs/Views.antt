@@ -4,13 +4,14 @@ use Rattle.xfs_base.specs.declared.block.BlockId.{BlockId}
 use Rattle.xfs_base.specs.declared.entry.Entry.{Entry}
 use Rattle.xfs_base.specs.declared.token.Mode.TheVariants.{Copy}
 use Rattle.xfs_base.specs.Blocks.{slot_of}
+use Rattle.slot_beliefs.specs.declared.job.Job.{Job}
+use Rattle.slot_beliefs.specs.Beliefs.{share_of}
+use Rattle.slot_beliefs.specs.Recalls as slot_recalls
 use Rattle.token_client.specs.declared.output.Out as outputs
 use Rattle.token_client.specs.declared.output.Out.TheVariants as output
 use Rattle.token_client.specs.Laws.{IsSound}
 use Rattle.token_client.specs.State.{held_of}
 use Rattle.token_client.specs.Transition as client
-use Rattle.token_manager.specs.declared.job.Job.{Job}
-use Rattle.token_manager.specs.Laws.{share_of}
 use Rattle.token_manager.specs.SlotState.{SlotState}
 use Rattle.token_manager.specs.Transition as slot
 use Rattle.token_manager.proofs.Guarded.{Sound}
@@ -197,8 +198,8 @@ managed_on b s c w v by m = record {
   belief = λ d. subst (λ n. n ≤ share_of s.beliefs b d) (sym (ap (λ (u : World). u.belief d) by.others)) (m.belief d);
   applied = λ d some. ap (λ (u : World). u.applied d) by.others ∙ m.applied d some;
   index = ap (λ (u : World). u.index) by.others ∙ m.index;
-  job = job_wants (slot.job_at s.jobs b) s.epoch v.awaited v.keep v.owed v.applied w.wants v.wants v.recalls by.wants
-      (subst (λ (u : World). JobShown (slot.job_at s.jobs b) s.epoch u.awaited u.keep u.owed u.applied w.wants u.recalls) (sym by.others) m.job);
+  job = job_wants (slot_recalls.job_at s.jobs b) s.epoch v.awaited v.keep v.owed v.applied w.wants v.wants v.recalls by.wants
+      (subst (λ (u : World). JobShown (slot_recalls.job_at s.jobs b) s.epoch u.awaited u.keep u.owed u.applied w.wants u.recalls) (sym by.others) m.job);
 }
 
 -- ---- a client's step

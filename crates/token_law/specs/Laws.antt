@@ -5,10 +5,10 @@ use Rattle.xfs_base.specs.declared.entry.Entry.{Entry}
 use Rattle.xfs_base.specs.declared.token.Mode.{Mode}
 use Rattle.xfs_base.specs.declared.token.Stamp.{Stamp}
 use Rattle.xfs_base.specs.Modes.{is_held, is_own}
+use Rattle.slot_beliefs.specs.Beliefs.{share_of}
 use Rattle.token_client.specs.Held.{is_dirty}
 use Rattle.token_client.specs.State.{held_of, epoch_of, is_in_slot}
 use Rattle.token_client.specs.Transition.{accepts}
-use Rattle.token_manager.specs.Laws.{share_of}
 use Rattle.token_manager.specs.SlotState.{SlotState}
 use Rattle.token_protocol.specs.Basics.{In}
 use Rattle.token_tie.specs.Seen.{rank}

@@ -6,15 +6,15 @@ use Rattle.xfs_base.specs.declared.block.BlockId.{BlockId}
 use Rattle.xfs_base.specs.declared.entry.Entry.{Entry}
 use Rattle.xfs_base.specs.declared.token.Mode.{Mode}
 use Rattle.xfs_base.proofs.StepLoops.{steps_keep}
+use Rattle.slot_beliefs.specs.Index.{IsCounted, nothing_indexed}
+use Rattle.slot_beliefs.specs.Recalls.{applied_of, ready_blocks, applied_upto}
+use Rattle.slot_beliefs.proofs.Counting.{nothing_counted, keeps-counted-all}
 use Rattle.token_manager.specs.declared.input.In.{In}
 use Rattle.token_manager.specs.declared.input.In.TheVariants.{Want, Gave, Deltas, Check, Tick}
-use Rattle.token_manager.specs.Index.{IsCounted, nothing_indexed}
-use Rattle.token_manager.specs.Recalls.{applied_of, ready_blocks}
 use Rattle.token_manager.specs.SlotState.{SlotState}
-use Rattle.token_manager.specs.Transition.{Done, started, want_of, joins_on, applied_upto, with_deltas, finished_at, transition}
+use Rattle.token_manager.specs.Transition.{Done, started, want_of, joins_on, with_deltas, finished_at, transition}
 use Rattle.token_manager.specs.Laws.{state_after}
 use Rattle.token_manager.proofs.Cases.{by_want, by_gave, by_deltas, by_finished_at}
-use Rattle.token_manager.proofs.Counting.{nothing_counted, keeps-counted-all}
 
 rises : (xs : List ℕ) (i j v : ℕ) → get_or xs i 0 < v → get_or xs j 0 ≤ get_or (set xs i v) j 0
 rises [] i j v less = omega arith

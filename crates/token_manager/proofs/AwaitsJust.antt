@@ -19,19 +19,19 @@ use Rattle.xfs_base.proofs.BlockOrder.{block_cmp_total, lookup-insert_entry, sam
 use Rattle.xfs_base.proofs.Members.{contains_nothing, contains_first, contains_rest, contains_cases}
 use Rattle.xfs_base.proofs.StepLoops.{steps_keep}
 use Rattle.xfs_base.specs.Modes.{is_own}
-use Rattle.token_manager.specs.declared.job.Holder.{Holder}
-use Rattle.token_manager.specs.declared.job.Wanted.{Wanted}
-use Rattle.token_manager.specs.declared.job.Job.{Job}
-use Rattle.token_manager.specs.declared.job.Awaited.{Awaited}
+use Rattle.slot_beliefs.specs.declared.job.Holder.{Holder}
+use Rattle.slot_beliefs.specs.declared.job.Wanted.{Wanted}
+use Rattle.slot_beliefs.specs.declared.job.Job.{Job}
+use Rattle.slot_beliefs.specs.declared.job.Awaited.{Awaited}
+use Rattle.slot_beliefs.specs.Beliefs.{holder_cmp, holder, others, without_block, owned_by, held_by, want_met, given_up, share, share_of, wanted_share}
+use Rattle.slot_beliefs.specs.Recalls.{recalls, answers, noted, ready_blocks, job_at, without_job, applied_upto}
+use Rattle.slot_beliefs.proofs.Shares.{holder_cmp_exact, holder_cmp_total, holder_laws, belief, belief-without_block, apart_test, disowned, forgotten, gives_way}
 use Rattle.token_manager.specs.declared.input.In.{In}
 use Rattle.token_manager.specs.declared.input.In.TheVariants.{Want, Gave, Deltas, Check, Tick}
-use Rattle.token_manager.specs.Beliefs.{holder_cmp, holder, others, without_block, owned_by, held_by, want_met, given_up}
-use Rattle.token_manager.specs.Recalls.{recalls, answers, noted, ready_blocks}
 use Rattle.token_manager.specs.SlotState.{SlotState}
-use Rattle.token_manager.specs.Transition.{started, job_at, without_job, want_of, finished, given, gave_one, applied_upto, with_deltas, finished_at, transition}
-use Rattle.token_manager.specs.Laws.{share, share_of, wanted_share, OwnsAlone, Awaits, MustGiveWay, IsGuarded, state_after}
+use Rattle.token_manager.specs.Transition.{started, want_of, finished, given, gave_one, with_deltas, finished_at, transition}
+use Rattle.token_manager.specs.Laws.{OwnsAlone, Awaits, MustGiveWay, IsGuarded, state_after}
 use Rattle.token_manager.proofs.Cases.{recalled_from, by_want, all_given, by_gave_answered, by_deltas, let_go, by_finished_at}
-use Rattle.token_manager.proofs.Shares.{holder_cmp_exact, holder_cmp_total, holder_laws, belief, belief-without_block, apart_test, disowned, forgotten, gives_way}
 use Rattle.token_manager.proofs.JobsBarGrants.{Waiting, block_laws, waiting-removed, after_removal, was_there, gone, not_waiting}
 use Rattle.token_manager.proofs.Guarded.{Sound, sound-transition, sound-answered, sound-start, ReadyAt, ready_finds, jobs_fewer, equal_numbers}
 

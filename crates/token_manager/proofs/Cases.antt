@@ -7,13 +7,13 @@ use Rattle.xfs_base.specs.declared.entry.Entry.{Entry}
 use Rattle.xfs_base.specs.declared.segment.LogId.{LogId}
 use Rattle.xfs_base.specs.declared.token.Stamp.{Stamp}
 use Rattle.xfs_base.specs.Modes.{is_own}
-use Rattle.token_manager.specs.declared.job.Wanted.{Wanted}
-use Rattle.token_manager.specs.declared.job.Awaited.{Awaited}
-use Rattle.token_manager.specs.declared.job.Job.{Job}
-use Rattle.token_manager.specs.Beliefs.{others}
-use Rattle.token_manager.specs.Recalls.{answers, noted, applied_of, is_ready}
+use Rattle.slot_beliefs.specs.declared.job.Wanted.{Wanted}
+use Rattle.slot_beliefs.specs.declared.job.Awaited.{Awaited}
+use Rattle.slot_beliefs.specs.declared.job.Job.{Job}
+use Rattle.slot_beliefs.specs.Beliefs.{others}
+use Rattle.slot_beliefs.specs.Recalls.{answers, noted, applied_of, is_ready, job_at, without_job, is_followed}
 use Rattle.token_manager.specs.SlotState.{SlotState}
-use Rattle.token_manager.specs.Transition.{Done, has_turns, job_at, without_job, finished, finish, recalled, recall, recall_or_finish, is_dropped, on_want, given, gave_last, gave_one, gave_noted, gave_job, on_gave, finished_job, finished_at, can_apply, apply, apply_or_not, joins_on, is_followed, told_applied, deltas_of, on_deltas}
+use Rattle.token_manager.specs.Transition.{Done, has_turns, finished, finish, recalled, recall, recall_or_finish, is_dropped, on_want, given, gave_last, gave_one, gave_noted, gave_job, on_gave, finished_job, finished_at, can_apply, apply, apply_or_not, joins_on, told_applied, deltas_of, on_deltas}
 
 choose : (Q : Done → Type 0) (b : Bool) (x y : Done) → (b ≡ true → Q x) → (b ≡ false → Q y) → Q (cond b x y)
 choose Q true x y first second = first refl

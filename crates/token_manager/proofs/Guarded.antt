@@ -22,19 +22,19 @@ use Rattle.xfs_base.proofs.Sorted.{sorted_insert, sorted_remove}
 use Rattle.xfs_base.specs.Modes.{is_own, is_nothing}
 use Rattle.xfs_base.proofs.Booleans.{and_first, and_second}
 use Rattle.xfs_base.proofs.Members.{contains_nothing, contains_first, contains_rest, contains_cases}
-use Rattle.token_manager.specs.declared.job.Holder.{Holder}
-use Rattle.token_manager.specs.declared.job.Wanted.{Wanted}
-use Rattle.token_manager.specs.declared.job.Job.{Job}
-use Rattle.token_manager.specs.declared.job.Awaited.{Awaited}
+use Rattle.slot_beliefs.specs.declared.job.Holder.{Holder}
+use Rattle.slot_beliefs.specs.declared.job.Wanted.{Wanted}
+use Rattle.slot_beliefs.specs.declared.job.Job.{Job}
+use Rattle.slot_beliefs.specs.declared.job.Awaited.{Awaited}
+use Rattle.slot_beliefs.specs.Beliefs.{holder_cmp, holder, without_block, owned_by, held_by, want_met, given_up, believed, all_believed, share, share_of, wanted_share}
+use Rattle.slot_beliefs.specs.Recalls.{recalls, answers, noted, is_applied, is_ready, ready_blocks, job_at, without_job, applied_upto}
+use Rattle.slot_beliefs.proofs.Shares.{holder_cmp_exact, holder_cmp_total, holder_laws, belief, least, asker, less, kept, found_by}
 use Rattle.token_manager.specs.declared.input.In.{In}
 use Rattle.token_manager.specs.declared.input.In.TheVariants.{Want, Gave, Deltas, Check, Tick}
-use Rattle.token_manager.specs.Beliefs.{holder_cmp, holder, without_block, owned_by, held_by, want_met, given_up, believed, all_believed}
-use Rattle.token_manager.specs.Recalls.{recalls, answers, noted, is_applied, is_ready, ready_blocks}
 use Rattle.token_manager.specs.SlotState.{SlotState}
-use Rattle.token_manager.specs.Transition.{started, job_at, without_job, want_of, finished, given, applied_upto, with_deltas, finished_at, transition}
-use Rattle.token_manager.specs.Laws.{share, share_of, wanted_share, OwnsAlone, Awaits}
+use Rattle.token_manager.specs.Transition.{started, want_of, finished, given, with_deltas, finished_at, transition}
+use Rattle.token_manager.specs.Laws.{OwnsAlone, Awaits}
 use Rattle.token_manager.proofs.Cases.{recalled_from, by_want, all_given, by_gave, by_deltas, let_go, by_finished_at}
-use Rattle.token_manager.proofs.Shares.{holder_cmp_exact, holder_cmp_total, holder_laws, belief, least, asker, less, kept, found_by}
 use Rattle.token_manager.proofs.JobsBarGrants.{Waiting, block_laws, after_removal, was_there, gone, waiting-removed, waiting-put, nobody_waits, not_waiting}
 
 -- ---- the beliefs stay in order

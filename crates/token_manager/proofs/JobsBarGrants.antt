@@ -18,16 +18,17 @@ use Rattle.xfs_base.proofs.BlockOrder.{block_cmp_total, block_cmp_exact, lookup-
 use Rattle.xfs_base.proofs.StepLoops.{steps_keep}
 use Rattle.xfs_base.proofs.Sorted.{sorted_insert, sorted_remove}
 use Rattle.xfs_base.specs.Modes.{is_own, is_nothing}
-use Rattle.token_manager.specs.declared.job.Wanted.{Wanted}
-use Rattle.token_manager.specs.declared.job.Job.{Job}
-use Rattle.token_manager.specs.declared.job.Awaited.{Awaited}
+use Rattle.slot_beliefs.specs.declared.job.Wanted.{Wanted}
+use Rattle.slot_beliefs.specs.declared.job.Job.{Job}
+use Rattle.slot_beliefs.specs.declared.job.Awaited.{Awaited}
+use Rattle.slot_beliefs.specs.Recalls.{recalls, noted, applied_of, ready_blocks, job_at, without_job, applied_upto}
 use Rattle.token_manager.specs.declared.output.Out.{Out}
 use Rattle.token_manager.specs.declared.output.Out.TheVariants.{Grant, Forward, Recall, Applied, Live, Dead}
 use Rattle.token_manager.specs.declared.input.In.{In}
 use Rattle.token_manager.specs.declared.input.In.TheVariants.{Want, Gave, Deltas, Check, Tick}
-use Rattle.token_manager.specs.Recalls.{recalls, sent, all_sent, noted, applied_of, ready_blocks}
+use Rattle.token_manager.specs.Recalls.{sent, all_sent}
 use Rattle.token_manager.specs.SlotState.{SlotState}
-use Rattle.token_manager.specs.Transition.{Done, started, job_at, without_job, want_of, passers, answer, finished, applied_upto, with_deltas, finished_at, is_place, entry_at, transition}
+use Rattle.token_manager.specs.Transition.{Done, started, want_of, passers, answer, finished, with_deltas, finished_at, is_place, entry_at, transition}
 use Rattle.token_manager.specs.Laws.{HandsOut, state_after}
 use Rattle.token_manager.proofs.Cases.{recalled_from, by_want, all_given, by_gave, by_deltas, let_go, by_finished_at}
 

@@ -1,10 +1,7 @@
-pub mod Counting
 pub mod Cases
 pub mod AppliedRises
 pub mod Turns
 pub mod JobsBarGrants
-pub mod Shares
-pub mod Together
 pub mod Guarded
 pub mod AwaitsJust
 pub mod RecallTurns

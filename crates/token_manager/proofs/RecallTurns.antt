@@ -14,13 +14,13 @@ use Rattle.xfs_base.specs.Steps.{steps}
 use Rattle.xfs_base.proofs.BlockOrder.{block_cmp_total, lookup-insert_entry}
 use Rattle.xfs_base.proofs.Booleans.{by_test}
 use Rattle.xfs_base.proofs.StepLoops.{steps_keep}
-use Rattle.token_manager.specs.declared.job.Awaited.{Awaited}
-use Rattle.token_manager.specs.declared.job.Job.{Job}
+use Rattle.slot_beliefs.specs.declared.job.Awaited.{Awaited}
+use Rattle.slot_beliefs.specs.declared.job.Job.{Job}
+use Rattle.slot_beliefs.specs.Recalls.{recalls, answers, noted, ready_blocks, job_at, without_job, applied_upto}
 use Rattle.token_manager.specs.declared.input.In.{In}
 use Rattle.token_manager.specs.declared.input.In.TheVariants.{Want, Gave, Deltas, Check, Tick}
-use Rattle.token_manager.specs.Recalls.{recalls, answers, noted, ready_blocks}
 use Rattle.token_manager.specs.SlotState.{SlotState}
-use Rattle.token_manager.specs.Transition.{started, job_at, without_job, want_of, applied_upto, with_deltas, finished_at, transition}
+use Rattle.token_manager.specs.Transition.{started, want_of, with_deltas, finished_at, transition}
 use Rattle.token_manager.specs.Laws.{IsGivenOut, RecallsAreGivenOut, state_after}
 use Rattle.token_manager.proofs.Cases.{recalled_from, by_want, by_gave, by_deltas, by_finished_at}
 use Rattle.token_manager.proofs.JobsBarGrants.{Waiting, after_removal, was_there, waiting-removed, waiting-put, nobody_waits}

@@ -3,14 +3,15 @@ use Rattle.std.proofs.Common.{◌≡◌, ℕ, ◌+◌, Bool, true, false, cond, 
 use Rattle.xfs_base.specs.Steps.{steps}
 use Rattle.xfs_base.specs.declared.block.BlockId.{BlockId}
 use Rattle.xfs_base.specs.Modes.{is_own}
-use Rattle.token_manager.specs.declared.job.Wanted.{Wanted}
+use Rattle.slot_beliefs.specs.declared.job.Wanted.{Wanted}
+use Rattle.slot_beliefs.specs.Recalls.{recalls, ready_blocks, applied_upto}
 use Rattle.token_manager.specs.declared.output.Out.{Out}
 use Rattle.token_manager.specs.declared.output.Out.TheVariants.{Grant, Forward, Recall, Applied, Live, Dead}
 use Rattle.token_manager.specs.declared.input.In.{In}
 use Rattle.token_manager.specs.declared.input.In.TheVariants.{Want, Gave, Deltas, Check, Tick}
-use Rattle.token_manager.specs.Recalls.{recalls, sent, ready_blocks}
+use Rattle.token_manager.specs.Recalls.{sent}
 use Rattle.token_manager.specs.SlotState.{SlotState}
-use Rattle.token_manager.specs.Transition.{Done, want_of, passers, answer, applied_upto, with_deltas, finished_at, is_place, entry_at, transition}
+use Rattle.token_manager.specs.Transition.{Done, want_of, passers, answer, with_deltas, finished_at, is_place, entry_at, transition}
 use Rattle.token_manager.specs.Laws.{CountsTurns, IsNotTick}
 use Rattle.token_manager.proofs.Cases.{recalled_from, by_want, all_given, by_gave, by_deltas, let_go, by_finished_at}
 

@@ -5,19 +5,19 @@ use Rattle.std.specs.BTreeMap.{is_at}
 use Rattle.xfs_base.specs.Steps.{steps}
 use Rattle.xfs_base.specs.declared.block.BlockId.{BlockId}
 use Rattle.xfs_base.specs.Modes.{is_own}
-use Rattle.token_manager.specs.declared.job.Holder.{Holder}
+use Rattle.slot_beliefs.specs.declared.job.Holder.{Holder}
+use Rattle.slot_beliefs.specs.declared.job.Wanted.{Wanted}
+use Rattle.slot_beliefs.specs.declared.job.Awaited.{Awaited}
+use Rattle.slot_beliefs.specs.declared.job.Job.{Job}
+use Rattle.slot_beliefs.specs.Beliefs.{share_of, wanted_share}
+use Rattle.slot_beliefs.specs.Recalls.{stamp, job_at}
 use Rattle.xfs_base.specs.declared.token.Mode.{Mode}
-use Rattle.token_manager.specs.declared.job.Wanted.{Wanted}
-use Rattle.token_manager.specs.declared.job.Awaited.{Awaited}
-use Rattle.token_manager.specs.declared.job.Job.{Job}
 use Rattle.token_manager.specs.declared.output.Out.{Out}
 use Rattle.token_manager.specs.declared.output.Out.TheVariants.{Grant, Forward, Recall, Applied, Live, Dead}
 use Rattle.token_manager.specs.declared.input.In.{In}
 use Rattle.token_manager.specs.declared.input.In.TheVariants.{Want, Gave, Deltas, Check, Tick}
-use Rattle.token_manager.specs.Beliefs.{holder_cmp, holder}
-use Rattle.token_manager.specs.Recalls.{stamp}
 use Rattle.token_manager.specs.SlotState.{SlotState}
-use Rattle.token_manager.specs.Transition.{job_at, transition}
+use Rattle.token_manager.specs.Transition.{transition}
 
 -- the state after any inputs, in order
 abbrev pub state_after : SlotState → List In → SlotState
@@ -51,21 +51,9 @@ HandsOut b (Applied log upto ∷ outs) = HandsOut b outs
 HandsOut b (Live entry ∷ outs) = HandsOut b outs
 HandsOut b (Dead ∷ outs) = HandsOut b outs
 
--- what a client is believed to have of a block: 0 nothing, 1 a copy, 2 the block
-abbrev pub share : Option Bool → ℕ
-share None = 0
-share (Some owns) = if owns then 2 else 1
-
-abbrev pub share_of : List (Holder × Bool) → BlockId → ℕ → ℕ
-share_of beliefs block client = share (lookup (is_at (holder_cmp (holder block client))) beliefs)
-
 -- no other client is believed to have anything of a block that one is believed to own
 abbrev pub OwnsAlone : List (Holder × Bool) → Type 0
 OwnsAlone beliefs = (block : BlockId) (client other : ℕ) → (client ≡ other → ⊥) → share_of beliefs block client + share_of beliefs block other ≤ 2
-
--- what a want asks for: 1 a copy, 2 the block
-abbrev pub wanted_share : Mode → ℕ
-wanted_share mode = if is_own mode then 2 else 1
 
 -- an unanswered recall to the client
 abbrev pub Awaits : List Awaited → ℕ → Type 0

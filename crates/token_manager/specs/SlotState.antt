@@ -1,9 +1,9 @@
 -- The state of a slot.
 use Rattle.std.specs.Prelude.{ℕ, Bool, List}
 use Rattle.xfs_base.specs.declared.block.BlockId.{BlockId}
-use Rattle.token_manager.specs.declared.job.Holder.{Holder}
-use Rattle.token_manager.specs.declared.job.Job.{Job}
-use Rattle.token_manager.specs.Index.{Indexed}
+use Rattle.slot_beliefs.specs.declared.job.Holder.{Holder}
+use Rattle.slot_beliefs.specs.declared.job.Job.{Job}
+use Rattle.slot_beliefs.specs.Index.{Indexed}
 
 pub record SlotState : Type 0 where
   -- the epoch of the slot, which all its stamps bear

@@ -1,8 +1,7 @@
 -- What a slot does on each input: one definition for each kind of input, and transition, which is all of them.
-use Rattle.std.specs.Prelude.{ℕ, ◌+◌, ◌-◌, ◌^◌, Bool, false, not, ◌&&◌, ◌||◌, ◌==◌, nat_lt, nat_le, List, [], ◌∷◌, length, slice_set, Option, Some, None, if◌then◌else◌, is_some}
+use Rattle.std.specs.Prelude.{ℕ, ◌+◌, ◌^◌, Bool, false, not, ◌&&◌, ◌||◌, ◌==◌, nat_lt, nat_le, List, [], ◌∷◌, length, Option, Some, None, if◌then◌else◌, is_some}
 use Rattle.std.specs.List.{list_any}
-use Rattle.std.specs.Map.{lookup, remove_entry}
-use Rattle.std.specs.BTreeMap.{is_at, insert_entry}
+use Rattle.std.specs.BTreeMap.{insert_entry}
 use Rattle.std.specs.Ordering.{is_eq}
 use Rattle.xfs_base.specs.Blocks.{block_cmp}
 use Rattle.xfs_base.specs.Segments.{seg_cmp}
@@ -15,16 +14,17 @@ use Rattle.xfs_base.specs.declared.token.Mode.{Mode}
 use Rattle.xfs_base.specs.declared.token.Stamp.{Stamp}
 use Rattle.delta_index.specs.Index.{entry_of}
 use Rattle.xfs_base.specs.Modes.{is_own, is_nothing}
-use Rattle.token_manager.specs.declared.job.Wanted.{Wanted}
-use Rattle.token_manager.specs.declared.job.Awaited.{Awaited}
-use Rattle.token_manager.specs.declared.job.Job.{Job}
+use Rattle.slot_beliefs.specs.declared.job.Wanted.{Wanted}
+use Rattle.slot_beliefs.specs.declared.job.Awaited.{Awaited}
+use Rattle.slot_beliefs.specs.declared.job.Job.{Job}
+use Rattle.slot_beliefs.specs.Beliefs.{holder, others, want_met, given_up, all_believed}
+use Rattle.slot_beliefs.specs.Index.{nothing_indexed, cleaned_index, indexed_all, has_room}
+use Rattle.slot_beliefs.specs.Recalls.{stamp, recalls, answers, noted, applied_of, is_ready, ready_blocks, job_at, without_job, is_followed, applied_upto}
 use Rattle.token_manager.specs.declared.output.Out.{Out}
 use Rattle.token_manager.specs.declared.output.Out.TheVariants.{Grant, Forward, Applied, Live, Dead}
 use Rattle.token_manager.specs.declared.input.In.{In}
 use Rattle.token_manager.specs.declared.input.In.TheVariants.{Want, Gave, Deltas, Check, Tick}
-use Rattle.token_manager.specs.Beliefs.{holder, others, want_met, given_up, all_believed}
-use Rattle.token_manager.specs.Index.{nothing_indexed, cleaned_index, indexed_all, has_room}
-use Rattle.token_manager.specs.Recalls.{stamp, recalls, sent, all_sent, answers, noted, applied_of, is_ready, ready_blocks}
+use Rattle.token_manager.specs.Recalls.{sent, all_sent}
 use Rattle.token_manager.specs.SlotState.{SlotState}
 
 -- a state of a slot, and what was sent on the way to it
@@ -49,12 +49,6 @@ cleaned s = record s { index = cleaned_index s.index }
 -- whether so many more turns can be given out
 abbrev pub has_turns : ℕ → ℕ → Bool
 has_turns turn n = nat_lt (turn + n) (2 ^ 64)
-
-abbrev pub job_at : List (BlockId × Job) → BlockId → Option Job
-job_at jobs block = lookup (is_at (block_cmp block)) jobs
-
-abbrev pub without_job : List (BlockId × Job) → BlockId → List (BlockId × Job)
-without_job jobs block = remove_entry (is_at (block_cmp block)) jobs
 
 abbrev pub entry_at : SlotState → BlockId → Entry
 entry_at s block = entry_of s.index.rows block
@@ -154,10 +148,6 @@ finished_job s block (Some job) = finished (record s { jobs = without_job s.jobs
 unfoldable pub finished_at : SlotState → BlockId → Done
 finished_at s block = finished_job s block (job_at s.jobs block)
 
--- what is applied, with this much of one log
-abbrev pub applied_upto : List ℕ → LogId → ℕ → List ℕ
-applied_upto applied log upto = slice_set applied (log.0 - 1) upto
-
 -- the rows are merged in their order, the counts follow, and so much of the log is applied
 abbrev pub with_deltas : SlotState → LogId → ℕ → List (BlockId × Entry) → SlotState
 with_deltas s log upto rows = record s { index = indexed_all s.index rows; applied = applied_upto s.applied log upto }
@@ -179,10 +169,6 @@ apply_or_not s log upto rows = if can_apply s log upto rows then apply s log upt
 -- whether deltas join on to what is applied of their log, and lead beyond it
 abbrev pub joins_on : ℕ → ℕ → ℕ → Bool
 joins_on applied first upto = nat_le first (applied + 1) && nat_lt applied upto
-
--- whether a slot follows a log: those of the clients and of the cleaner
-abbrev pub is_followed : LogId → Bool
-is_followed log = nat_le 1 log.0 && nat_le log.0 9
 
 -- how much of a log is applied, and nothing else
 abbrev pub told_applied : SlotState → LogId → Done

@@ -6,10 +6,10 @@ ghost use Rattle.xfs_base.specs.declared.entry.Entry.{Entry};
 ghost use Rattle.xfs_base.specs.declared.token.Mode.{Mode};
 ghost use Rattle.token_manager.specs.declared.input.In.{In};
 ghost use Rattle.index_pages.specs.Pages.{put_newer, cleaned};
-ghost use Rattle.token_manager.specs.Index.{Indexed, indexed, pages_of, cleaned_index, IsCounted};
-ghost use Rattle.token_manager.specs.Recalls.{applied_of};
+ghost use Rattle.slot_beliefs.specs.Index.{Indexed, indexed, pages_of, cleaned_index, IsCounted};
+ghost use Rattle.slot_beliefs.specs.Recalls.{applied_of, job_at};
 ghost use Rattle.token_manager.specs.SlotState.{SlotState};
-ghost use Rattle.token_manager.specs.Transition.{started, job_at, transition};
+ghost use Rattle.token_manager.specs.Transition.{started, transition};
 ghost use Rattle.token_manager.specs.Laws.{state_after, CountsTurns, IsNotTick, HandsOut, OwnsAlone, IsGuarded, RecallsAreGivenOut};
 
 /// Whatever a slot took, the live blocks that it counts in each segment are those that a count from

@@ -4,17 +4,12 @@
 //! epochs that change, or of how a slot came to its state.
 #![tactic(auto)]
 
-pub mod beliefs;
-pub mod index;
 pub mod input;
-pub mod job;
 pub mod laws;
 pub mod output;
 pub mod recalls;
 pub mod slot;
 
-pub use index::BlockIndex;
 pub use input::In;
-pub use job::{Awaited, Holder, Job, Wanted};
 pub use output::Out;
 pub use slot::Slot;

@@ -3,20 +3,20 @@ ghost use Rattle.std.specs.Prelude.{◌≡◌, ℕ, ◌+◌, ◌^◌, ◌<◌, �
 ghost use Rattle.xfs_base.specs.Modes.{is_own};
 ghost use Rattle.xfs_base.specs.Steps.{steps};
 ghost use Rattle.xfs_base.specs.declared.segment.SegName.{SegName};
-ghost use Rattle.token_manager.specs.Index.{pages_of, live_in, has_room};
-ghost use Rattle.token_manager.specs.Recalls.{applied_of, ready_blocks};
-ghost use Rattle.token_manager.specs.Transition.{started, cleaned, has_turns, passers, answer, finished, recall_or_finish, recall, is_dropped, on_want, gave_last, gave_noted, on_gave, finished_at, is_followed, applied_upto, apply, apply_or_not, on_deltas, on_check, on_tick, transition};
+ghost use Rattle.slot_beliefs.specs.Index.{pages_of, live_in, has_room};
+ghost use Rattle.slot_beliefs.specs.Recalls.{applied_of, ready_blocks, is_followed, applied_upto};
+ghost use Rattle.token_manager.specs.Transition.{started, cleaned, has_turns, passers, answer, finished, recall_or_finish, recall, is_dropped, on_want, gave_last, gave_noted, on_gave, finished_at, apply, apply_or_not, on_deltas, on_check, on_tick, transition};
 
-use crate::beliefs::{all_believed, give_way, meet_want, others};
-use crate::index::BlockIndex;
 use crate::input::In;
-use crate::job::{Awaited, Holder, Job, Wanted};
 use crate::output::{Out, found};
-use crate::recalls::{
-    applied_of, applied_upto, await_all, is_awaited, is_ready, nine, noted, ready_blocks, recalls,
-    send_all, take_want, wait,
-};
+use crate::recalls::{await_all, send_all};
 use index_pages::Pages;
+use slot_beliefs::beliefs::{all_believed, give_way, meet_want, others};
+use slot_beliefs::recalls::{
+    applied_of, applied_upto, is_awaited, is_ready, nine, noted, ready_blocks, recalls, take_want,
+    wait,
+};
+use slot_beliefs::{Awaited, BlockIndex, Holder, Job, Wanted};
 use std::alloc::Global;
 use std::collections::BTreeMap;
 use std::marker::Model;

@@ -19,19 +19,20 @@ use Rattle.std.specs.Ordering.{is_eq}
 use Rattle.std.specs.Map.{keys_of}
 use Rattle.std.specs.declared.cmp.Ordering.TheVariants.{Less}
 use Rattle.std.proofs.lemmas.List.{get_or-set_other, get_or-set_same}
-use Rattle.token_manager.specs.Index.{indexed_all}
+use Rattle.slot_beliefs.specs.declared.job.Awaited.{Awaited}
+use Rattle.slot_beliefs.specs.declared.job.Job.{Job}
+use Rattle.slot_beliefs.specs.Index.{indexed_all}
+use Rattle.slot_beliefs.specs.Beliefs.{holder}
+use Rattle.slot_beliefs.specs.Recalls.{recalls, applied_of, is_ready, ready_blocks, job_at, applied_upto, is_followed}
 use Rattle.token_manager.specs.declared.input.In as inputs
 use Rattle.token_manager.specs.declared.input.In.TheVariants.{Want, Gave, Deltas, Check, Tick}
 use Rattle.token_protocol.specs.Premises.{Premise, IndexCovers}
 use Rattle.xfs_base.proofs.BlockOrder.{block_cmp_exact}
-use Rattle.token_manager.specs.declared.job.Awaited.{Awaited}
-use Rattle.token_manager.specs.declared.job.Job.{Job}
 use Rattle.token_manager.specs.declared.output.Out.{Out}
 use Rattle.token_manager.specs.declared.output.Out.TheVariants.{Applied, Live, Dead}
-use Rattle.token_manager.specs.Beliefs.{holder}
-use Rattle.token_manager.specs.Recalls.{recalls, sent, applied_of, is_ready, recall_of, all_sent, ready_blocks}
+use Rattle.token_manager.specs.Recalls.{sent, recall_of, all_sent}
 use Rattle.token_manager.specs.SlotState.{SlotState}
-use Rattle.token_manager.specs.Transition.{Done, job_at, entry_at, passers, finished, finished_at, applied_upto, with_deltas, apply, can_apply, apply_or_not, joins_on, is_followed, told_applied, deltas_of, on_deltas, is_place, on_check, on_tick, transition}
+use Rattle.token_manager.specs.Transition.{Done, entry_at, passers, finished, finished_at, with_deltas, apply, can_apply, apply_or_not, joins_on, told_applied, deltas_of, on_deltas, is_place, on_check, on_tick, transition}
 use Rattle.token_manager.proofs.Cases.{let_go, by_finished_at}
 use Rattle.token_manager.proofs.Guarded.{Sound, ReadyAt, ready_finds, sound-answered, jobs_fewer, leaves_room, ready_none}
 use Rattle.token_manager.proofs.AwaitsJust.{more_elsewhere}

@@ -12,19 +12,20 @@ use Rattle.xfs_base.specs.declared.token.Stamp.{Stamp}
 use Rattle.xfs_base.specs.Blocks.{block_cmp}
 use Rattle.xfs_base.specs.Steps.{still}
 use Rattle.xfs_base.proofs.BlockOrder.{block_cmp_total, block_cmp_exact, lookup-insert_entry}
-use Rattle.token_manager.specs.declared.job.Wanted.{Wanted}
-use Rattle.token_manager.specs.declared.job.Awaited.{Awaited}
-use Rattle.token_manager.specs.declared.job.Holder.{Holder}
-use Rattle.token_manager.specs.declared.job.Job.{Job}
-use Rattle.token_manager.specs.Beliefs.{holder_cmp, holder, given_up}
-use Rattle.token_manager.specs.Laws as manager
-use Rattle.token_manager.specs.Laws.{share_of, Awaits, wanted_share, state_after}
-use Rattle.token_manager.specs.Recalls.{recalls, sent, applied_of, is_ready, is_applied, answers, noted}
-use Rattle.token_manager.specs.Recalls as recall
+use Rattle.slot_beliefs.specs.declared.job.Wanted.{Wanted}
+use Rattle.slot_beliefs.specs.declared.job.Awaited.{Awaited}
+use Rattle.slot_beliefs.specs.declared.job.Holder.{Holder}
+use Rattle.slot_beliefs.specs.declared.job.Job.{Job}
+use Rattle.slot_beliefs.specs.Beliefs.{holder_cmp, holder, given_up, share_of, wanted_share}
+use Rattle.slot_beliefs.specs.Beliefs as manager
+use Rattle.slot_beliefs.specs.Recalls.{recalls, applied_of, is_ready, is_applied, answers, noted, job_at}
+use Rattle.slot_beliefs.specs.Recalls as recall
+use Rattle.slot_beliefs.proofs.Shares.{belief, disowned, holder_laws}
+use Rattle.token_manager.specs.Laws.{Awaits, state_after}
+use Rattle.token_manager.specs.Recalls.{sent}
 use Rattle.token_manager.specs.SlotState.{SlotState}
-use Rattle.token_manager.specs.Transition.{Done, has_turns, job_at, passers, finished, given, gave_last, gave_one, gave_noted, gave_job, on_gave}
+use Rattle.token_manager.specs.Transition.{Done, has_turns, passers, finished, given, gave_last, gave_one, gave_noted, gave_job, on_gave}
 use Rattle.token_manager.proofs.Cases.{all_given}
-use Rattle.token_manager.proofs.Shares.{belief, disowned, holder_laws}
 use Rattle.token_manager.proofs.Guarded.{Sound, LeavesRoom, leaves_room, awaits-given, awaits-noted, ready_none}
 use Rattle.token_manager.proofs.AwaitsJust.{more_elsewhere, more_others, answered}
 use Rattle.token_manager.proofs.JobsBarGrants.{block_laws, after_removal, gone}

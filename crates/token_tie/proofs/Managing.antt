@@ -11,18 +11,19 @@ use Rattle.xfs_base.specs.declared.token.Stamp.{Stamp}
 use Rattle.xfs_base.specs.Blocks.{block_cmp}
 use Rattle.xfs_base.specs.Steps.{still}
 use Rattle.xfs_base.proofs.BlockOrder.{block_cmp_total, lookup-insert_entry}
-use Rattle.token_manager.specs.declared.job.Wanted.{Wanted}
-use Rattle.token_manager.specs.declared.job.Holder.{Holder}
-use Rattle.token_manager.specs.declared.job.Job.{Job}
+use Rattle.slot_beliefs.specs.declared.job.Wanted.{Wanted}
+use Rattle.slot_beliefs.specs.declared.job.Holder.{Holder}
+use Rattle.slot_beliefs.specs.declared.job.Job.{Job}
+use Rattle.slot_beliefs.specs.Beliefs.{holder_cmp, holder, others, without_block, owned_by, held_by, want_met, share_of, wanted_share}
+use Rattle.slot_beliefs.specs.Beliefs as manager
+use Rattle.slot_beliefs.specs.Recalls.{recalls, applied_of, stamp, job_at}
+use Rattle.slot_beliefs.proofs.Shares.{holder_cmp_total, holder_laws, belief, apart_test}
 use Rattle.token_manager.specs.declared.output.Out.{Out}
 use Rattle.token_manager.specs.declared.output.Out.TheVariants.{Grant, Forward, Recall, Applied, Live, Dead}
-use Rattle.token_manager.specs.Beliefs.{holder_cmp, holder, others, without_block, owned_by, held_by, want_met}
-use Rattle.token_manager.specs.Laws.{share_of, Awaits, wanted_share}
-use Rattle.token_manager.specs.Laws as manager
-use Rattle.token_manager.specs.Recalls.{recalls, sent, applied_of, stamp}
+use Rattle.token_manager.specs.Laws.{Awaits}
+use Rattle.token_manager.specs.Recalls.{sent}
 use Rattle.token_manager.specs.SlotState.{SlotState}
-use Rattle.token_manager.specs.Transition.{Done, job_at, entry_at, passers, answer, finished, recalled}
-use Rattle.token_manager.proofs.Shares.{holder_cmp_total, holder_laws, belief, apart_test}
+use Rattle.token_manager.specs.Transition.{Done, entry_at, passers, answer, finished, recalled}
 use Rattle.token_manager.proofs.Guarded.{LeavesRoom}
 use Rattle.token_manager.proofs.AwaitsJust.{Once}
 use Rattle.token_manager.proofs.JobsBarGrants.{block_laws}

@@ -13,17 +13,15 @@ use Rattle.xfs_base.specs.declared.token.Mode.{Mode}
 use Rattle.xfs_base.specs.declared.token.Mode.TheVariants.{Nothing, Copy, Own}
 use Rattle.xfs_base.specs.Blocks.{block_cmp}
 use Rattle.xfs_base.proofs.BlockOrder.{lookup-insert_entry, block_cmp_exact}
+use Rattle.slot_beliefs.specs.declared.job.Holder.{Holder}
+use Rattle.slot_beliefs.specs.Beliefs.{holder_cmp, holder, believed, all_believed, share_of}
+use Rattle.slot_beliefs.specs.Beliefs as manager
+use Rattle.slot_beliefs.proofs.Shares.{holder_cmp_exact, holder_cmp_total, holder_laws, belief}
 use Rattle.token_client.specs.declared.held.Held.{Held}
 use Rattle.token_client.specs.Held.{unknown}
 use Rattle.token_client.specs.State.{held_of, held_in, is_in_slot}
 use Rattle.token_client.specs.Transition.{is_promised}
 use Rattle.token_client.proofs.Promises.{Agrees, agrees-itself}
-use Rattle.token_manager.specs.declared.job.Holder.{Holder}
-use Rattle.token_manager.specs.Beliefs.{holder_cmp, holder, believed, all_believed}
-use Rattle.token_manager.specs.Laws as manager
-use Rattle.token_manager.specs.Laws.{share_of}
-use Rattle.token_manager.proofs.Shares.{holder_cmp_exact}
-use Rattle.token_manager.proofs.Shares.{holder_cmp_total, holder_laws, belief}
 use Rattle.token_protocol.proofs.StampsSeen.{activated}
 use Rattle.token_tie.specs.Seen.{ValueShown, rank, node_seen}
 use Rattle.token_tie.specs.Epochs.{SuppliesNewest, RestartShows, ActivationShows, ActivationManages, reported, all_reported, ReportsBelieved}

@@ -10,14 +10,15 @@ use Rattle.xfs_base.specs.declared.token.Mode.{Mode}
 use Rattle.xfs_base.specs.Blocks.{block_cmp}
 use Rattle.xfs_base.proofs.BlockOrder.{block_cmp_total, block_cmp_exact, lookup-insert_entry}
 use Rattle.xfs_base.proofs.StepLoops.{steps_keep}
-use Rattle.token_manager.specs.declared.job.Wanted.{Wanted}
-use Rattle.token_manager.specs.declared.job.Job.{Job}
-use Rattle.token_manager.specs.Beliefs.{holder}
-use Rattle.token_manager.specs.Recalls.{recalls, sent, applied_of}
+use Rattle.slot_beliefs.specs.declared.job.Wanted.{Wanted}
+use Rattle.slot_beliefs.specs.declared.job.Job.{Job}
+use Rattle.slot_beliefs.specs.Beliefs.{holder}
+use Rattle.slot_beliefs.specs.Recalls.{recalls, applied_of, job_at}
+use Rattle.slot_beliefs.proofs.Shares.{found_by}
+use Rattle.token_manager.specs.Recalls.{sent}
 use Rattle.token_manager.specs.SlotState.{SlotState}
-use Rattle.token_manager.specs.Transition.{want_of, started, job_at, passers, answer, finished, recalled, on_want, transition}
+use Rattle.token_manager.specs.Transition.{want_of, started, passers, answer, finished, recalled, on_want, transition}
 use Rattle.token_manager.proofs.Cases.{recalled_from, by_want}
-use Rattle.token_manager.proofs.Shares.{found_by}
 use Rattle.token_manager.proofs.Guarded.{Sound, sound-start, sound-transition, no_first, not_more}
 use Rattle.token_manager.proofs.AwaitsJust.{more_elsewhere, others_once}
 use Rattle.token_manager.proofs.JobsBarGrants.{block_laws}

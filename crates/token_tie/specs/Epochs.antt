@@ -6,13 +6,12 @@ use Rattle.xfs_base.specs.declared.token.Mode.{Mode}
 use Rattle.xfs_base.specs.declared.token.Stamp.{Stamp}
 use Rattle.xfs_base.specs.Blocks.{block_cmp, slot_of}
 use Rattle.delta_index.specs.Index.{entry_of}
+use Rattle.slot_beliefs.specs.Beliefs.{all_believed, share_of}
+use Rattle.slot_beliefs.specs.Index.{nothing_indexed, indexed_all}
+use Rattle.slot_beliefs.specs.Recalls.{applied_of}
 use Rattle.token_client.specs.declared.held.Held.{Held}
 use Rattle.token_client.specs.State.{TokensState, started as fresh_tokens, held_of, held_in, epoch_of, is_in_slot}
 use Rattle.token_client.specs.Transition.{serves}
-use Rattle.token_manager.specs.Beliefs.{all_believed}
-use Rattle.token_manager.specs.Index.{nothing_indexed, indexed_all}
-use Rattle.token_manager.specs.Laws.{share_of}
-use Rattle.token_manager.specs.Recalls.{applied_of}
 use Rattle.token_manager.specs.Transition.{started}
 use Rattle.token_protocol.specs.Client.{Client}
 use Rattle.token_protocol.specs.Crashing.{down, back}

@@ -3,15 +3,16 @@ use Rattle.std.specs.Prelude.{◌≡◌, ℕ, ◌≤◌, ◌<◌, ◌⊎◌, Boo
 use Rattle.xfs_base.specs.declared.block.BlockId.{BlockId}
 use Rattle.xfs_base.specs.declared.entry.Entry.{Entry}
 use Rattle.xfs_base.specs.declared.token.Mode.TheVariants.{Copy}
-use Rattle.token_manager.specs.declared.job.Wanted.{Wanted}
-use Rattle.token_manager.specs.declared.job.Awaited.{Awaited}
-use Rattle.token_manager.specs.declared.job.Job.{Job}
+use Rattle.slot_beliefs.specs.declared.job.Wanted.{Wanted}
+use Rattle.slot_beliefs.specs.declared.job.Awaited.{Awaited}
+use Rattle.slot_beliefs.specs.declared.job.Job.{Job}
+use Rattle.slot_beliefs.specs.Beliefs.{share_of}
+use Rattle.slot_beliefs.specs.Recalls.{applied_of, stamp, job_at}
 use Rattle.token_manager.specs.declared.output.Out.{Out}
 use Rattle.token_manager.specs.declared.output.Out.TheVariants.{Grant, Forward, Recall, Applied, Live, Dead}
-use Rattle.token_manager.specs.Laws.{share_of, Awaits}
-use Rattle.token_manager.specs.Recalls.{applied_of, stamp}
+use Rattle.token_manager.specs.Laws.{Awaits}
 use Rattle.token_manager.specs.SlotState.{SlotState}
-use Rattle.token_manager.specs.Transition.{Done, job_at, entry_at}
+use Rattle.token_manager.specs.Transition.{Done, entry_at}
 use Rattle.token_protocol.specs.Basics.{In}
 use Rattle.token_protocol.specs.Entry.{no_entry}
 use Rattle.token_protocol.specs.Packets as packets

@@ -3,11 +3,11 @@ use Rattle.std.specs.Prelude.{◌≡◌, ℕ, ◌-◌, ◌<◌, Bool, List, leng
 use Rattle.xfs_base.specs.declared.block.BlockId.{BlockId}
 use Rattle.xfs_base.specs.declared.entry.Entry.{Entry}
 use Rattle.xfs_base.specs.declared.token.Mode.{Mode}
+use Rattle.slot_beliefs.specs.Index.{indexed_all}
 use Rattle.token_manager.specs.declared.input.In as inputs
 use Rattle.token_manager.specs.Laws.{OwnsAlone, state_after}
 use Rattle.token_manager.specs.SlotState.{SlotState}
 use Rattle.token_manager.specs.declared.input.In.TheVariants.{Want, Gave, Deltas, Check, Tick}
-use Rattle.token_manager.specs.Index.{indexed_all}
 use Rattle.token_manager.specs.Transition.{started, want_of, transition}
 use Rattle.delta_index.specs.Index.{entry_of}
 use Rattle.token_protocol.specs.Premises.{Premise, IndexCovers}

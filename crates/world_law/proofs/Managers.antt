@@ -19,8 +19,8 @@ use Rattle.cleaner_node.specs.declared.cleaner.Phase.TheVariants as cleaners
 use Rattle.token_client.specs.State.{TokensState, epoch_of, held_of, is_in_slot}
 use Rattle.token_client.specs.Transition.{accepts}
 use Rattle.node_tie.proofs.SmallWorld.{with_promise}
+use Rattle.slot_beliefs.specs.Beliefs.{share_of}
 use Rattle.token_law.specs.Laws.{ActiveEpochsPromised, GrantsBelieved, HoldingsBelieved, Reigns}
-use Rattle.token_manager.specs.Laws.{share_of}
 use Rattle.token_manager.specs.SlotState.{SlotState}
 use Rattle.token_protocol.specs.Basics.{In}
 use Rattle.token_tie.specs.Seen.{rank}

@@ -11,9 +11,9 @@ use Rattle.node_tie.specs.ManagerEvents.{slot_in}
 use Rattle.registry.specs.Slots.{entry_of}
 use Rattle.cleaner_node.specs.declared.cleaner.Phase.{Phase as CleanerPhase}
 use Rattle.cleaner_node.specs.declared.cleaner.Phase.TheVariants as cleaners
+use Rattle.slot_beliefs.specs.Beliefs.{share_of}
 use Rattle.token_client.specs.State.{TokensState, epoch_of, held_of, is_in_slot}
 use Rattle.token_client.specs.Transition.{accepts}
-use Rattle.token_manager.specs.Laws.{share_of}
 use Rattle.token_manager.specs.SlotState.{SlotState}
 use Rattle.token_tie.specs.Seen.{rank}
 use Rattle.wire_msg.specs.declared.body.Body.TheVariants as body

@@ -1,4 +1,4 @@
-use Rattle.token_manager.proofs.Counting.{pages-indexed, pages-cleaned}
+use Rattle.slot_beliefs.proofs.Counting.{pages-indexed, pages-cleaned}
 use Rattle.token_manager.proofs.laws.pages_follow_the_index.Goals as goal
 
 pub returns-clause-merged : goal.returns-clause-merged

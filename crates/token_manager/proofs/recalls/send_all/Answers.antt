@@ -1,7 +1,7 @@
 -- The recalls of one want are sent, and those of the others are left.
 use Rattle.std.proofs.Common.{◌++◌, List, sym, ap, ◌∙◌, append_assoc}
 use Rattle.xfs_base.specs.declared.block.BlockId.{BlockId}
-use Rattle.token_manager.specs.declared.job.Job.{Job}
+use Rattle.slot_beliefs.specs.declared.job.Job.{Job}
 use Rattle.token_manager.specs.Recalls.{sent, all_sent}
 use Rattle.token_manager.proofs.recalls.send_all.Goals as goal
 

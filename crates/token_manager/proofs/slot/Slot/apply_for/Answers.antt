@@ -1,5 +1,5 @@
 use Rattle.std.proofs.Common.{◌≡◌, true, sym, ◌∙◌, arith}
-use Rattle.token_manager.proofs.Counting.{room_fits}
+use Rattle.slot_beliefs.proofs.Counting.{room_fits}
 use Rattle.token_manager.proofs.slot.Slot.apply_for.Goals as goal
 
 pub merge_all-requires : goal.merge_all-requires

@@ -1,6 +1,6 @@
 -- Where an answer is the last, the want is answered.
 use Rattle.std.proofs.Common.{◌≡◌, ◌++◌, true, OnOk, sym, subst, ◌∙◌, ap}
-use Rattle.token_manager.specs.Recalls.{is_ready}
+use Rattle.slot_beliefs.specs.Recalls.{is_ready}
 use Rattle.token_manager.specs.SlotState.{SlotState}
 use Rattle.token_manager.specs.Transition.{Done, gave_last, gave_noted}
 use Rattle.token_manager.proofs.Cases.{gave_noted-ready}

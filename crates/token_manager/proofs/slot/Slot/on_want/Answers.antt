@@ -1,6 +1,6 @@
 -- A want that is dropped changes nothing; another is recalled from those that are believed to stand in its way.
 use Rattle.std.proofs.Common.{◌≡◌, ◌++◌, not, OnOk, sym, ap, subst, ◌∙◌, append-nil}
-use Rattle.token_manager.specs.Beliefs.{others}
+use Rattle.slot_beliefs.specs.Beliefs.{others}
 use Rattle.token_manager.specs.SlotState.{SlotState}
 use Rattle.token_manager.specs.Transition.{Done, recall_or_finish}
 use Rattle.token_manager.proofs.Cases.{recalled_from, on_want-dropped, on_want-taken}

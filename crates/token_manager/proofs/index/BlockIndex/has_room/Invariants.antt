@@ -1,7 +1,0 @@
-use Rattle.std.proofs.Common.{◌≡◌, drop, length}
-use Rattle.token_manager.specs.Index.{has_room}
-use Rattle.token_manager.proofs.index.BlockIndex.has_room.Given as goal
-
--- there is room for the rows so far
-abbrev pub invariant-loop-row : goal.invariant-loop-row
-invariant-loop-row l = has_room (length l.rows) l.self.usage (drop l.row-index l.rows) ≡ has_room (length l.rows) l.self.usage l.rows
