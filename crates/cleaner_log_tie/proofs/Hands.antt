@@ -9,10 +9,9 @@ use Rattle.group_map.specs.GroupMapState.{GroupMapState}
 use Rattle.node_base.specs.declared.questions.Questions.{Questions}
 use Rattle.segment_reading.specs.Reading.{ReadingState, on_answer, on_confirmed}
 use Rattle.stripe_code.specs.declared.round.Told.{Told}
-use Rattle.cleaner_node.specs.declared.hand.Hand.{Hand}
-use Rattle.cleaner_node.specs.EmptyingEvents.{hand_moved}
-use Rattle.cleaner_node.specs.Hands.{Heard, Taken, is_in_hand, known_group, taken_over, takes_in_hand, hears_by, hand_hears, confirmed_by, hand_confirmed, checks_under}
-use Rattle.cleaner_node.specs.Jobs.{dropped, read_over}
+use Rattle.cleaner_parts.specs.declared.hand.Hand.{Hand}
+use Rattle.cleaner_parts.specs.Hands.{Heard, Taken, is_in_hand, known_group, taken_over, takes_in_hand, hears_by, hand_hears, confirmed_by, hand_confirmed, checks_under}
+use Rattle.cleaner_parts.specs.Jobs.{hand_moved, dropped, read_over}
 use Rattle.cleaner_log_tie.specs.Fitting.{ToldFits, RoundFits, HandFits}
 use Rattle.cleaner_log_tie.proofs.Bytes.{NextFits, StepFits, answered_fits, confirmed_fits}
 

@@ -43,12 +43,13 @@ use Rattle.wire_msg.specs.declared.cleaning.Live.{Live}
 use Rattle.wire_msg.specs.declared.cleaning.Usage.{Usage}
 use Rattle.wire_msg.specs.declared.storage.Deleted.{Deleted}
 use Rattle.wire_msg.specs.declared.storage.Listed.{Listed}
-use Rattle.cleaner_node.specs.declared.emptying.Emptying.{Emptying}
-use Rattle.cleaner_node.specs.declared.hand.Hand.{Hand}
-use Rattle.cleaner_node.specs.declared.job.Job.{Job}
-use Rattle.cleaner_node.specs.EmptyingEvents.{cleaner_log}
-use Rattle.cleaner_node.specs.Hands.{Heard, Taken, taken_over, takes_in_hand, is_in_hand, known_group, fetches_for, fetches, kept_ask, checks_under, checks, hand_hears, hand_confirmed}
-use Rattle.cleaner_node.specs.Jobs.{Done, with_questions, with_job, ask_of, drawn_unless, asks_maps, asks_list, asks_usage, job_checks, hand_checks_in, checked_in, checks_block, check_sent, asks_check, hand_of, holds_in, holds, reads, puts, puts_block, moves, is_whole, drops, deletes, finishes, says, takes_in, job_takes, cleans, lists_of, usages_of, check_of, is_out, on_listed, on_usage, on_live, on_dead, on_deleted, job_read, ends_reading, hand_hears_in, job_hears, hand_confirmed_in, job_confirmed, told_in, told_by, confirmed_in, confirmed, after_confirmed, reads_again, after_told, on_told}
+use Rattle.cleaner_emptying.specs.declared.emptying.Emptying.{Emptying}
+use Rattle.cleaner_emptying.specs.Jobs.{Done, with_questions, with_job, asks_maps, asks_list, asks_usage, checked_in, checks_block, check_sent, asks_check, holds_in, holds, reads, puts, puts_block, moves, deletes, finishes, says, takes_in, job_takes, cleans, on_listed, on_usage, on_live, on_dead, on_deleted, ends_reading, told_in, told_by, confirmed_in, confirmed, after_confirmed, reads_again, after_told, on_told}
+use Rattle.cleaner_parts.specs.declared.hand.Hand.{Hand}
+use Rattle.cleaner_parts.specs.declared.job.Job.{Job}
+use Rattle.cleaner_parts.specs.Hands.{Heard, Taken, taken_over, takes_in_hand, is_in_hand, known_group, fetches_for, fetches, kept_ask, checks_under, checks, hand_hears, hand_confirmed}
+use Rattle.cleaner_parts.specs.Jobs.{ask_of, drawn_unless, job_checks, hand_checks_in, hand_of, is_whole, drops, lists_of, usages_of, check_of, is_out, job_read, hand_hears_in, job_hears, hand_confirmed_in, job_confirmed}
+use Rattle.cleaner_parts.specs.Starting.{cleaner_log}
 use Rattle.log_protocol.specs.Tables.{In, put}
 use Rattle.log_tie.specs.Setting.{Setting}
 use Rattle.log_tie.specs.Shelves.{is_of_log}

@@ -44,10 +44,12 @@ use Rattle.wire_msg.specs.declared.packet.Packet as packets
 use Rattle.wire_msg.specs.declared.registry.News.{News}
 use Rattle.wire_msg.specs.declared.registry.Welcome.{Welcome}
 use Rattle.wire_msg.specs.declared.storage.Stored.{Stored}
-use Rattle.cleaner_node.specs.declared.emptying.Emptying.{Emptying}
-use Rattle.cleaner_node.specs.declared.job.Job.{Job}
-use Rattle.cleaner_node.specs.EmptyingEvents.{cleaner_log, promises_slot, promises_all, with_new_job, begins_job, on_clean, job_moved, fed, settles, writes_one, writes, on_stored, on_ack, renews, promises, reports, on_poll, hears_slot, hears_slots, job_regrouped, log_regrouped, takes_news, on_news, hello_of, greeted, welcomes_over, welcomes, on_welcome, on_body, asks_for_maps, on_packet, on_tick}
-use Rattle.cleaner_node.specs.Jobs.{Done, says, takes_in, job_takes, cleans, is_out}
+use Rattle.cleaner_emptying.specs.declared.emptying.Emptying.{Emptying}
+use Rattle.cleaner_emptying.specs.EmptyingEvents.{promises_slot, promises_all, with_new_job, begins_job, on_clean, fed, settles, writes_one, writes, on_stored, on_ack, renews, promises, reports, on_poll, hears_slot, hears_slots, job_regrouped, log_regrouped, takes_news, on_news, welcomes_over, welcomes, on_welcome, on_body, asks_for_maps, on_packet, on_tick}
+use Rattle.cleaner_emptying.specs.Jobs.{Done, says, takes_in, job_takes, cleans}
+use Rattle.cleaner_parts.specs.declared.job.Job.{Job}
+use Rattle.cleaner_parts.specs.Jobs.{job_moved, hello_of, greeted, is_out}
+use Rattle.cleaner_parts.specs.Starting.{cleaner_log}
 use Rattle.log_scan.specs.Transition.{least_horizon}
 use Rattle.log_protocol.specs.Tables.{In, put}
 use Rattle.log_tie.specs.Seen.{log_filed}

@@ -25,7 +25,7 @@ use Rattle.wire_msg.specs.declared.body.Body.{Body}
 use Rattle.wire_msg.specs.declared.body.Body.TheVariants as body
 use Rattle.wire_msg.specs.declared.packet.Packet as packets
 use Rattle.wire_msg.specs.declared.registry.Welcome.{Welcome}
-use Rattle.cleaner_node.specs.EmptyingEvents.{cleaner_log}
+use Rattle.cleaner_parts.specs.Starting.{cleaner_log}
 use Rattle.log_tie.specs.Setting.{Setting}
 use Rattle.node_log_tie.specs.Sight.{Question, AnsweredBy, ReachedBy, BodySeen}
 use Rattle.node_log_tie.specs.Sight.Question.{Unasked, OfMaps, OfOpening}

@@ -5,7 +5,7 @@ use Rattle.group_map.specs.Groups as groups
 use Rattle.log_law.specs.Net.{Owner as owner}
 use Rattle.log_law.specs.Net.{no_end}
 use Rattle.client_log_tie.proofs.Written.{what_fits_stays_written}
-use Rattle.cleaner_node.specs.EmptyingEvents.{cleaner_log}
+use Rattle.cleaner_parts.specs.Starting.{cleaner_log}
 use Rattle.cleaner_log_tie.specs.OwnerEvents.{OwnerStarts}
 
 pub owner_starts : OwnerStarts

@@ -20,7 +20,7 @@ use Rattle.stripe_cleaner.specs.declared.phase.Phase as phases
 use Rattle.stripe_cleaner.specs.declared.phase.Phase.TheVariants.{Checking}
 use Rattle.wire_msg.specs.declared.body.Body.{Body}
 use Rattle.wire_msg.specs.declared.body.Body.TheVariants as body
-use Rattle.cleaner_node.specs.declared.hand.Hand.{Hand}
+use Rattle.cleaner_parts.specs.declared.hand.Hand.{Hand}
 use Rattle.client_log_tie.specs.ClientEvents.{BodyFits}
 use Rattle.client_log_tie.specs.Texts.{PutFits}
 

@@ -1,5 +1,11 @@
 -- What an event makes of the cleaner.
 use Rattle.std.specs.Prelude.{ℕ, ◌+◌, Bool, ◌&&◌, nat_lt, if◌then◌else◌, List, [], ◌∷◌, ◌++◌, Option, Some, None}
+use Rattle.cleaner_emptying.specs.declared.emptying.Emptying.{Emptying}
+use Rattle.cleaner_emptying.specs.EmptyingEvents.{at_first, served, on_clean, on_packet, on_tick, emptying_room}
+use Rattle.cleaner_emptying.specs.Jobs.{Done}
+use Rattle.cleaner_parts.specs.declared.lasting.Lasting.{Lasting}
+use Rattle.cleaner_parts.specs.Lasting.{lasting_room}
+use Rattle.cleaner_parts.specs.Starting.{cleaner_log}
 use Rattle.log_owner.specs.declared.ended.Owner.{Owner}
 use Rattle.log_owner.specs.declared.opened.Opened.{Opened}
 use Rattle.log_owner.specs.declared.opened.Progress.{Progress}
@@ -34,10 +40,6 @@ use Rattle.cleaner_node.specs.declared.cleaner.Phase.{Phase}
 use Rattle.cleaner_node.specs.declared.cleaner.Phase.TheVariants.{Down, Opening, Serving}
 use Rattle.cleaner_node.specs.declared.cleaner.Wish.{Wish}
 use Rattle.cleaner_node.specs.declared.cleaner.Wish.TheVariants.{Crash, Restart, Clean}
-use Rattle.cleaner_node.specs.declared.emptying.Emptying.{Emptying}
-use Rattle.cleaner_node.specs.declared.lasting.Lasting.{Lasting}
-use Rattle.cleaner_node.specs.EmptyingEvents.{cleaner_log, at_first, served, on_clean, on_packet, on_tick, lasting_room, emptying_room}
-use Rattle.cleaner_node.specs.Jobs.{Done}
 
 -- the phase of the cleaner after an event, and what the event has it do
 abbrev pub Went_to : Type 0

@@ -1,5 +1,2 @@
 pub mod CleanerClocks
 pub mod CleanerEvents
-pub mod EmptyingEvents
-pub mod Hands
-pub mod Jobs

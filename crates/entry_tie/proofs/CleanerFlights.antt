@@ -1,10 +1,11 @@
 -- What maps and promises leave of the cleaner's log: its segment in flight is the same.
 use Rattle.std.proofs.Common.{ℕ, Bool, true, false, List, [], ◌∷◌, Option, Some, None, nat_lt}
 use Rattle.std.specs.List.{AllByRecursion}
-use Rattle.cleaner_node.specs.declared.emptying.Emptying.{Emptying}
-use Rattle.cleaner_node.specs.declared.job.Job.{Job}
-use Rattle.cleaner_node.specs.EmptyingEvents.{cleaner_log, promises, hears_slot, hears_slots, job_regrouped}
-use Rattle.cleaner_node.specs.Jobs.{Done, asks_usage, says, takes_in, job_takes, cleans}
+use Rattle.cleaner_emptying.specs.declared.emptying.Emptying.{Emptying}
+use Rattle.cleaner_emptying.specs.EmptyingEvents.{promises, hears_slot, hears_slots, job_regrouped}
+use Rattle.cleaner_emptying.specs.Jobs.{Done, asks_usage, says, takes_in, job_takes, cleans}
+use Rattle.cleaner_parts.specs.declared.job.Job.{Job}
+use Rattle.cleaner_parts.specs.Starting.{cleaner_log}
 use Rattle.delta_feed.specs.Transition as feed
 use Rattle.group_map.specs.GroupMapState.{GroupMapState}
 use Rattle.log_owner.specs.Promised.{epoch_of}

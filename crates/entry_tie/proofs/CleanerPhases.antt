@@ -32,17 +32,17 @@ use Rattle.version_model.specs.declared.answer.Answer.TheVariants as answer
 use Rattle.wire_msg.specs.declared.packet.Do.{Do}
 use Rattle.wire_msg.specs.declared.packet.Do.TheVariants.{Begin, Deliver, Tick}
 use Rattle.wire_msg.specs.declared.packet.Packet.{Packet}
+use Rattle.cleaner_emptying.specs.declared.emptying.Emptying.{Emptying}
+use Rattle.cleaner_emptying.specs.EmptyingEvents.{on_clean, on_packet, on_tick}
+use Rattle.cleaner_emptying.specs.Jobs.{Done}
 use Rattle.cleaner_node.specs.CleanerEvents.{cleaner_step, Went_to, serves_on, crashes, after_opening, opened_on, restarts, answers, down_wishes, opening_wishes, serving_wishes, begun_life, wish_at, down_at, opening_at, serving_at, on_begin, hears, on_deliver, on_time, happens, phase_room, takes}
 use Rattle.cleaner_node.specs.declared.cleaner.Cleaner.{Cleaner}
 use Rattle.cleaner_node.specs.declared.cleaner.Phase.{Phase}
 use Rattle.cleaner_node.specs.declared.cleaner.Phase.TheVariants.{Down, Opening, Serving}
 use Rattle.cleaner_node.specs.declared.cleaner.Wish.{Wish}
 use Rattle.cleaner_node.specs.declared.cleaner.Wish.TheVariants.{Crash, Restart, Clean}
-use Rattle.cleaner_node.specs.declared.emptying.Emptying.{Emptying}
-use Rattle.cleaner_node.specs.declared.job.Job.{Job}
-use Rattle.cleaner_node.specs.declared.lasting.Lasting.{Lasting}
-use Rattle.cleaner_node.specs.EmptyingEvents.{on_clean, on_packet, on_tick}
-use Rattle.cleaner_node.specs.Jobs.{Done}
+use Rattle.cleaner_parts.specs.declared.job.Job.{Job}
+use Rattle.cleaner_parts.specs.declared.lasting.Lasting.{Lasting}
 use Rattle.filed_tie.proofs.Frames.{all_append, all_before, all_behind}
 use Rattle.entry_tie.specs.CleanerTells.{MovedTold, WaitTold, ItemTold, FlightMoves, LogMoves, StageHolds, FateTold, CheckTold, CheckingTold, JobTold, PhaseHolds, CleanerHolds, PhaseOwed, CleanerOwed, CleanerStartsTold, CleanerHoldsRise, CleanerTellsTold}
 use Rattle.entry_tie.specs.ClientTells.{DeltasTold}

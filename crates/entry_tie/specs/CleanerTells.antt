@@ -1,13 +1,13 @@
 -- What the cleaner holds of where blocks lie.
 use Rattle.std.specs.Prelude.{◌≡◌, ℕ, ◌+◌, List, Option, Some, None, IfSome}
 use Rattle.std.specs.List.{AllByRecursion}
+use Rattle.cleaner_emptying.specs.declared.emptying.Emptying.{Emptying}
 use Rattle.cleaner_node.specs.CleanerEvents.{cleaner_start, cleaner_step}
 use Rattle.cleaner_node.specs.declared.cleaner.Cleaner.{Cleaner}
 use Rattle.cleaner_node.specs.declared.cleaner.Phase.{Phase}
 use Rattle.cleaner_node.specs.declared.cleaner.Phase.TheVariants.{Down, Opening, Serving}
-use Rattle.cleaner_node.specs.declared.emptying.Emptying.{Emptying}
-use Rattle.cleaner_node.specs.declared.job.Job.{Job}
-use Rattle.cleaner_node.specs.EmptyingEvents.{cleaner_log}
+use Rattle.cleaner_parts.specs.declared.job.Job.{Job}
+use Rattle.cleaner_parts.specs.Starting.{cleaner_log}
 use Rattle.client_log.specs.declared.dirty.Change.{Change}
 use Rattle.client_log.specs.LogState.{FlightState, LogState}
 use Rattle.log_owner.specs.declared.opening.Stage.{Stage}

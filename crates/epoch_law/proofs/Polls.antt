@@ -2,7 +2,7 @@
 use Rattle.std.proofs.Common.{◌≡◌, ℕ, zero, suc, ◌+◌, ◌-◌, ◌≤◌, ◌<◌, ◌==◌, Bool, min, true, List, [], ◌∷◌, inl, inr, slice_get, unwrap_or, Option, None, Some, refl, sym, ap, subst, ◌∙◌, mod-eq_of_lt, arith}
 use Rattle.std.proofs.lemmas.Bool.Decides.{nat_tests}
 use Rattle.std.proofs.lemmas.Option.{unwrap_or-slice_get}
-use Rattle.cleaner_node.specs.declared.emptying.Emptying.{Emptying}
+use Rattle.cleaner_emptying.specs.declared.emptying.Emptying.{Emptying}
 use Rattle.client_node.specs.declared.phase.Phase.TheVariants as clients
 use Rattle.client_serving.specs.declared.serving.Serving.{Serving}
 use Rattle.cleaner_node.specs.declared.cleaner.Phase.TheVariants as cleaning

@@ -1,8 +1,8 @@
 -- A Poll that the owner of a log answers is of an epoch whose horizon is the registry's: nobody is active at a later epoch, so no checkpoint of one was kept.
 use Rattle.std.specs.Prelude.{◌≡◌, ◌<◌, ◌≤◌, ℕ, suc, Bool, List, None}
 use Rattle.checkpoint.specs.WriterState.{Rows}
+use Rattle.cleaner_emptying.specs.declared.emptying.Emptying.{Emptying}
 use Rattle.cleaner_node.specs.declared.cleaner.Phase.TheVariants as cleaning
-use Rattle.cleaner_node.specs.declared.emptying.Emptying.{Emptying}
 use Rattle.client_node.specs.declared.phase.Phase.TheVariants as clients
 use Rattle.client_serving.specs.declared.serving.Serving.{Serving}
 use Rattle.core_world.specs.declared.any_node.AnyNode.{AnyNode}

@@ -1,11 +1,11 @@
 -- What the cleaner holds of what was filed of its log.
 use Rattle.std.specs.Prelude.{◌≤◌, List}
+use Rattle.cleaner_emptying.specs.declared.emptying.Emptying.{Emptying}
 use Rattle.cleaner_node.specs.CleanerEvents.{cleaner_start, cleaner_step}
-use Rattle.cleaner_node.specs.EmptyingEvents.{cleaner_log}
 use Rattle.cleaner_node.specs.declared.cleaner.Cleaner.{Cleaner}
 use Rattle.cleaner_node.specs.declared.cleaner.Phase.{Phase}
 use Rattle.cleaner_node.specs.declared.cleaner.Phase.TheVariants.{Down, Opening, Serving}
-use Rattle.cleaner_node.specs.declared.emptying.Emptying.{Emptying}
+use Rattle.cleaner_parts.specs.Starting.{cleaner_log}
 use Rattle.version_model.specs.declared.work.Work.{Work}
 use Rattle.xfs_base.specs.declared.setup.Setup.{Setup}
 use Rattle.filed_tie.specs.OpeningReach.{OpeningReaches}

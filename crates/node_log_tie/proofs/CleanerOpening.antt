@@ -47,7 +47,7 @@ use Rattle.wire_msg.specs.declared.storage.Fenced.{Fenced}
 use Rattle.wire_msg.specs.declared.storage.Found.{Found as Fragment}
 use Rattle.wire_msg.specs.declared.storage.Missing.{Missing}
 use Rattle.wire_msg.specs.declared.storage.Stored.{Stored}
-use Rattle.cleaner_node.specs.EmptyingEvents.{cleaner_log}
+use Rattle.cleaner_parts.specs.Starting.{cleaner_log}
 use Rattle.log_tie.specs.Setting.{Setting}
 use Rattle.log_tie.proofs.Names.{equal}
 use Rattle.log_law.specs.Net.{Net}

@@ -2,7 +2,7 @@
 use Rattle.std.specs.Prelude.{◌≡◌, All}
 use Rattle.cleaner_node.specs.CleanerEvents.{cleaner_step}
 use Rattle.cleaner_node.specs.declared.cleaner.Cleaner as cleaners
-use Rattle.cleaner_node.specs.EmptyingEvents.{cleaner_log}
+use Rattle.cleaner_parts.specs.Starting.{cleaner_log}
 use Rattle.log_law.specs.Net.{Net}
 use Rattle.log_tie.specs.Setting.{Setting}
 use Rattle.wire_msg.specs.declared.body.Body.{Body}

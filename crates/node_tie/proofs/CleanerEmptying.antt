@@ -23,9 +23,11 @@ use Rattle.node_base.specs.declared.effects.Effect.{Effect}
 use Rattle.node_base.specs.declared.effects.Effect.TheVariants.{Send, Answer, Lose, Does}
 use Rattle.node_base.specs.Known.{names_known}
 use Rattle.node_base.specs.Maps.{fits, is_older, taken}
-use Rattle.cleaner_node.specs.declared.emptying.Emptying.{Emptying}
-use Rattle.cleaner_node.specs.EmptyingEvents.{cleaner_log, renews, promises_slot, promises_all, with_new_job, begins_job, on_clean, fed, settles, writes_one, writes, on_ack, promises, reports, polled, on_poll, hears_slot, hears_slots, job_regrouped, log_regrouped, takes_news, on_news, hello_of, greeted, welcomes_over, welcomes, on_welcome, on_body, asks_for_maps, on_packet, on_tick}
-use Rattle.cleaner_node.specs.Jobs.{Done, cleans, is_out, on_dead, on_deleted, on_listed, on_live, on_told, on_usage}
+use Rattle.cleaner_emptying.specs.declared.emptying.Emptying.{Emptying}
+use Rattle.cleaner_emptying.specs.EmptyingEvents.{renews, promises_slot, promises_all, with_new_job, begins_job, on_clean, fed, settles, writes_one, writes, on_ack, promises, reports, polled, on_poll, hears_slot, hears_slots, job_regrouped, log_regrouped, takes_news, on_news, welcomes_over, welcomes, on_welcome, on_body, asks_for_maps, on_packet, on_tick}
+use Rattle.cleaner_emptying.specs.Jobs.{Done, cleans, on_dead, on_deleted, on_listed, on_live, on_told, on_usage}
+use Rattle.cleaner_parts.specs.Jobs.{hello_of, greeted, is_out}
+use Rattle.cleaner_parts.specs.Starting.{cleaner_log}
 use Rattle.stripe_cleaner.specs.declared.input.In.TheVariants as input
 use Rattle.stripe_code.specs.declared.round.Told.TheVariants as told
 use Rattle.token_client.specs.State.{epoch_of as slot_epoch}

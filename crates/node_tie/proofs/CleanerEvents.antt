@@ -24,15 +24,16 @@ use Rattle.node_base.specs.Maps.{fits}
 use Rattle.node_base.specs.Nodes.{has_node}
 use Rattle.node_base.specs.Room.{has_room}
 use Rattle.node_base.specs.Shape.{are_from, has_logs, has_slot, is_slot_news, is_well_formed}
+use Rattle.cleaner_emptying.specs.declared.emptying.Emptying.{Emptying}
+use Rattle.cleaner_emptying.specs.EmptyingEvents.{on_clean, on_packet, on_tick}
+use Rattle.cleaner_emptying.specs.Jobs.{Done}
 use Rattle.cleaner_node.specs.CleanerEvents.{Went_to, crashes, next_life, owner_of, back, after_opening, opened_on, restarts, restarts_in, down_wishes, opening_wishes, serving_wishes, serves_on, begun_life, wish_at, down_at, opening_at, serving_at, on_begin, hears, on_deliver, on_time, happens, phase_room, takes, lasting_of}
 use Rattle.cleaner_node.specs.declared.cleaner.Phase.{Phase}
 use Rattle.cleaner_node.specs.declared.cleaner.Phase.TheVariants.{Down, Opening, Serving as Serves}
 use Rattle.cleaner_node.specs.declared.cleaner.Wish.{Wish}
 use Rattle.cleaner_node.specs.declared.cleaner.Wish.TheVariants.{Crash, Restart, Clean}
-use Rattle.cleaner_node.specs.declared.emptying.Emptying.{Emptying}
-use Rattle.cleaner_node.specs.declared.lasting.Lasting.{Lasting}
-use Rattle.cleaner_node.specs.EmptyingEvents.{lasting_room, on_clean, on_packet, on_tick}
-use Rattle.cleaner_node.specs.Jobs.{Done}
+use Rattle.cleaner_parts.specs.declared.lasting.Lasting.{Lasting}
+use Rattle.cleaner_parts.specs.Lasting.{lasting_room}
 use Rattle.token_client.specs.State.{epoch_of}
 use Rattle.version_model.specs.declared.answer.Answer.{Answer as AnAnswer}
 use Rattle.version_model.specs.declared.answer.Answer.TheVariants as answer

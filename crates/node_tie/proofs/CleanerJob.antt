@@ -10,11 +10,12 @@ use Rattle.log_owner.specs.Sending.{fetch}
 use Rattle.node_base.specs.Asking.{next_ask, drawn}
 use Rattle.group_map.specs.GroupMapState.{GroupMapState}
 use Rattle.segment_format.specs.declared.segment.Segment.{Segment}
-use Rattle.cleaner_node.specs.declared.emptying.Emptying.{Emptying}
-use Rattle.cleaner_node.specs.declared.hand.Hand.{Hand}
-use Rattle.cleaner_node.specs.declared.job.Job.{Job}
-use Rattle.cleaner_node.specs.Hands.{Heard, fetches_for, fetches}
-use Rattle.cleaner_node.specs.Jobs.{Done, with_questions, asks_maps, asks_list, asks_usage, checks_block, check_sent, asks_check, hand_of, holds, reads, puts, puts_block, moves, is_whole, drops, deletes, says, job_takes, cleans, lists_of, usages_of, check_of, is_out, takes_in, checked_in, holds_in, told_in, confirmed_in, on_listed, on_usage, on_live, on_dead, on_deleted, job_read, ends_reading, told_by, confirmed, after_confirmed, reads_again, after_told, on_told}
+use Rattle.cleaner_emptying.specs.declared.emptying.Emptying.{Emptying}
+use Rattle.cleaner_emptying.specs.Jobs.{Done, with_questions, asks_maps, asks_list, asks_usage, checks_block, check_sent, asks_check, holds, reads, puts, puts_block, moves, deletes, says, job_takes, cleans, takes_in, checked_in, holds_in, told_in, confirmed_in, on_listed, on_usage, on_live, on_dead, on_deleted, ends_reading, told_by, confirmed, after_confirmed, reads_again, after_told, on_told}
+use Rattle.cleaner_parts.specs.declared.hand.Hand.{Hand}
+use Rattle.cleaner_parts.specs.declared.job.Job.{Job}
+use Rattle.cleaner_parts.specs.Hands.{Heard, fetches_for, fetches}
+use Rattle.cleaner_parts.specs.Jobs.{hand_of, is_whole, drops, lists_of, usages_of, check_of, is_out, job_read}
 use Rattle.segment_reading.specs.declared.reading.Next.{Next}
 use Rattle.segment_reading.specs.declared.reading.Next.TheVariants as next
 use Rattle.segment_reading.specs.Reading.{ReadingState, to_ask}

@@ -28,10 +28,11 @@ use Rattle.wire_msg.specs.declared.cleaning.Live.{Live}
 use Rattle.wire_msg.specs.declared.cleaning.Usage.{Usage}
 use Rattle.wire_msg.specs.declared.storage.Deleted.{Deleted}
 use Rattle.wire_msg.specs.declared.storage.Listed.{Listed}
-use Rattle.cleaner_node.specs.declared.emptying.Emptying.{Emptying}
-use Rattle.cleaner_node.specs.declared.hand.Hand.{Hand}
-use Rattle.cleaner_node.specs.declared.job.Job.{Job}
-use Rattle.cleaner_node.specs.Jobs.{Done, with_questions, asks_maps, asks_list, asks_usage, job_checks, hand_checks_in, checked_in, checks_block, check_sent, asks_check, hand_of, holds_in, holds, reads, puts, puts_block, moves, deletes, says, takes_in, job_takes, cleans, lists_of, usages_of, check_of, is_out, on_listed, on_usage, on_live, on_dead, on_deleted, job_read, ends_reading, hand_hears_in, job_hears, hand_confirmed_in, job_confirmed, told_in, told_by, confirmed_in, confirmed, after_confirmed, reads_again, after_told, on_told}
+use Rattle.cleaner_emptying.specs.declared.emptying.Emptying.{Emptying}
+use Rattle.cleaner_emptying.specs.Jobs.{Done, with_questions, asks_maps, asks_list, asks_usage, checked_in, checks_block, check_sent, asks_check, holds_in, holds, reads, puts, puts_block, moves, deletes, says, takes_in, job_takes, cleans, on_listed, on_usage, on_live, on_dead, on_deleted, ends_reading, told_in, told_by, confirmed_in, confirmed, after_confirmed, reads_again, after_told, on_told}
+use Rattle.cleaner_parts.specs.declared.hand.Hand.{Hand}
+use Rattle.cleaner_parts.specs.declared.job.Job.{Job}
+use Rattle.cleaner_parts.specs.Jobs.{job_checks, hand_checks_in, hand_of, lists_of, usages_of, check_of, is_out, job_read, hand_hears_in, job_hears, hand_confirmed_in, job_confirmed}
 use Rattle.token_law.specs.Books.{Books}
 use Rattle.node_tie.specs.CleanerLogs.{its_log, PhaseCopies, ServesCopies, LiveTold}
 use Rattle.node_tie.proofs.BooksLast.{Lasts}

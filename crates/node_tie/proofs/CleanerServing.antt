@@ -25,10 +25,11 @@ use Rattle.wire_msg.specs.declared.deltas.Poll.{Poll}
 use Rattle.wire_msg.specs.declared.packet.Packet.{Packet}
 use Rattle.wire_msg.specs.declared.registry.News.{News}
 use Rattle.wire_msg.specs.declared.registry.Welcome.{Welcome}
-use Rattle.cleaner_node.specs.declared.emptying.Emptying.{Emptying}
-use Rattle.cleaner_node.specs.declared.job.Job.{Job}
-use Rattle.cleaner_node.specs.EmptyingEvents.{renews, promises_slot, promises_all, with_new_job, begins_job, on_clean, job_moved, fed, settles, writes_one, writes, on_ack, promises, reports, on_poll, hears_slot, hears_slots, job_regrouped, log_regrouped, takes_news, on_news, hello_of, greeted, welcomes_over, welcomes, on_welcome, on_body, asks_for_maps, on_packet, on_tick}
-use Rattle.cleaner_node.specs.Jobs.{Done, cleans, is_out}
+use Rattle.cleaner_emptying.specs.declared.emptying.Emptying.{Emptying}
+use Rattle.cleaner_emptying.specs.EmptyingEvents.{renews, promises_slot, promises_all, with_new_job, begins_job, on_clean, fed, settles, writes_one, writes, on_ack, promises, reports, on_poll, hears_slot, hears_slots, job_regrouped, log_regrouped, takes_news, on_news, welcomes_over, welcomes, on_welcome, on_body, asks_for_maps, on_packet, on_tick}
+use Rattle.cleaner_emptying.specs.Jobs.{Done, cleans}
+use Rattle.cleaner_parts.specs.declared.job.Job.{Job}
+use Rattle.cleaner_parts.specs.Jobs.{job_moved, hello_of, greeted, is_out}
 use Rattle.token_law.specs.Books.{Books}
 use Rattle.node_tie.specs.CleanerLogs.{its_log, ServesCopies, ServingTold}
 use Rattle.node_tie.proofs.CleanerBooks.{PutCopies}

@@ -5,12 +5,12 @@ use Rattle.log_owner.specs.declared.promised.Promised.{Promised}
 use Rattle.node_base.specs.Shape.{is_well_formed}
 use Rattle.node_base.specs.declared.effects.Effect.{Effect}
 use Rattle.node_base.specs.declared.effects.Effect.TheVariants.{Send, Answer, Lose, Does}
+use Rattle.cleaner_emptying.specs.declared.emptying.Emptying.{Emptying}
 use Rattle.cleaner_node.specs.CleanerEvents.{cleaner_start, lasting_of, phase_room, takes}
 use Rattle.cleaner_node.specs.declared.cleaner.Cleaner.{Cleaner}
 use Rattle.cleaner_node.specs.declared.cleaner.Phase.{Phase}
 use Rattle.cleaner_node.specs.declared.cleaner.Phase.TheVariants.{Down, Opening, Serving as Serves}
-use Rattle.cleaner_node.specs.declared.emptying.Emptying.{Emptying}
-use Rattle.cleaner_node.specs.declared.lasting.Lasting.{Lasting}
+use Rattle.cleaner_parts.specs.declared.lasting.Lasting.{Lasting}
 use Rattle.token_client.specs.State.{epoch_of}
 use Rattle.token_law.specs.Books.{no_books}
 use Rattle.token_law.specs.Net.{Net}

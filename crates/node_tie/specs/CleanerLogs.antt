@@ -1,11 +1,11 @@
 -- How the cleaner's log is seen in the small world: what waits to be written to it, and what the cleaner's job is to move, are copies of what filed segments say.
 use Rattle.std.specs.Prelude.{◌≡◌, ◌≤◌, ◌++◌, ℕ, suc, Bool, true, List, [], None, IfSome}
 use Rattle.std.specs.List.{AllByRecursion}
+use Rattle.cleaner_emptying.specs.declared.emptying.Emptying.{Emptying}
 use Rattle.cleaner_node.specs.declared.cleaner.Phase.{Phase}
 use Rattle.cleaner_node.specs.declared.cleaner.Phase.TheVariants.{Down, Opening, Serving as Serves}
-use Rattle.cleaner_node.specs.declared.emptying.Emptying.{Emptying}
-use Rattle.cleaner_node.specs.EmptyingEvents.{cleaner_log}
-use Rattle.cleaner_node.specs.Jobs.{check_of, hand_of, is_out}
+use Rattle.cleaner_parts.specs.Jobs.{check_of, hand_of, is_out}
+use Rattle.cleaner_parts.specs.Starting.{cleaner_log}
 use Rattle.log_owner.specs.declared.opened.Opened.{Opened}
 use Rattle.log_owner.specs.declared.opened.Progress.{Progress}
 use Rattle.log_owner.specs.declared.opened.Progress.TheVariants as progress

@@ -5,10 +5,11 @@ use Rattle.std.proofs.Common.{◌≡◌, ◌≤◌, ◌<◌, ◌==◌, ℕ, zero
 use Rattle.std.specs.List.{range_with_len}
 use Rattle.std.proofs.lemmas.Bool.{eqb-true}
 use Rattle.std.proofs.lemmas.Bool.Decides.{nat_tests}
-use Rattle.cleaner_node.specs.declared.emptying.Emptying.{Emptying}
-use Rattle.cleaner_node.specs.declared.job.Job.{Job}
-use Rattle.cleaner_node.specs.EmptyingEvents.{promises_slot, promises_all, new_job, with_new_job, begins_job, on_clean}
-use Rattle.cleaner_node.specs.Jobs.{Done, says, takes_in, job_takes, cleans}
+use Rattle.cleaner_emptying.specs.declared.emptying.Emptying.{Emptying}
+use Rattle.cleaner_emptying.specs.EmptyingEvents.{promises_slot, promises_all, with_new_job, begins_job, on_clean}
+use Rattle.cleaner_emptying.specs.Jobs.{Done, says, takes_in, job_takes, cleans}
+use Rattle.cleaner_parts.specs.declared.job.Job.{Job}
+use Rattle.cleaner_parts.specs.Jobs.{new_job}
 use Rattle.index_tie.specs.Net.{Net, Packet, Happens, with_job}
 use Rattle.index_tie.specs.Net.Happens.{JobBegins, JobPromises, JobTakes}
 use Rattle.index_tie.specs.Net.Runs.{Begun, On}

@@ -2,8 +2,8 @@
 use Rattle.index_tie.specs.Filed.{Filed}
 use Rattle.std.proofs.Common.{◌≡◌, ◌≤◌, ◌<◌, ℕ, suc, List, [], ◌∷◌, ◌++◌, Option, Some, None, refl, sym, ap, subst, ◌∙◌, arith}
 use Rattle.std.specs.List.{AllByRecursion}
-use Rattle.cleaner_node.specs.declared.emptying.Emptying.{Emptying}
-use Rattle.cleaner_node.specs.declared.job.Job.{Job}
+use Rattle.cleaner_emptying.specs.declared.emptying.Emptying.{Emptying}
+use Rattle.cleaner_parts.specs.declared.job.Job.{Job}
 use Rattle.client_log.specs.LogState.{LogState}
 use Rattle.delta_feed.specs.FeedState.{FeedState}
 use Rattle.index_tie.specs.Cleaning.{IsWithin}

@@ -5,9 +5,9 @@ use Rattle.std.specs.List.{AllByRecursion}
 use Rattle.std.proofs.lemmas.Bool.{eqb-true}
 use Rattle.std.proofs.lemmas.Bool.Decides.{nat_tests}
 use Rattle.std.proofs.lemmas.List.{get_or-set_same, get_or-set_other, length-set}
-use Rattle.cleaner_node.specs.declared.emptying.Emptying.{Emptying}
-use Rattle.cleaner_node.specs.declared.job.Job.{Job}
-use Rattle.cleaner_node.specs.Jobs.{Done, says, takes_in, job_takes, cleans}
+use Rattle.cleaner_emptying.specs.declared.emptying.Emptying.{Emptying}
+use Rattle.cleaner_emptying.specs.Jobs.{Done, says, takes_in, job_takes, cleans}
+use Rattle.cleaner_parts.specs.declared.job.Job.{Job}
 use Rattle.group_map.specs.GroupMapState.{GroupMapState}
 use Rattle.index_tie.specs.Cleaning.{ReadFor}
 use Rattle.index_tie.specs.Net.{Net, Packet, Happens, IsOther, IsInHand, deletes_of, with_job}

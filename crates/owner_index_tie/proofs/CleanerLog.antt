@@ -3,10 +3,12 @@ use Rattle.index_tie.specs.Filed.{Filed}
 use Rattle.std.proofs.Common.{⊎_elim, ◌≡◌, ◌≤◌, ℕ, suc, List, [], ◌∷◌, map, Option, Some, None, refl, sym, ap, subst, ◌∙◌, arith}
 use Rattle.std.specs.List.{AllByRecursion}
 use Rattle.std.proofs.lemmas.List.Elements.{recursion_from_All}
-use Rattle.cleaner_node.specs.declared.emptying.Emptying.{Emptying}
-use Rattle.cleaner_node.specs.declared.job.Job.{Job}
-use Rattle.cleaner_node.specs.EmptyingEvents.{cleaner_log, job_moved, fed, settles, writes_one, writes}
-use Rattle.cleaner_node.specs.Jobs.{Done, cleans}
+use Rattle.cleaner_emptying.specs.declared.emptying.Emptying.{Emptying}
+use Rattle.cleaner_emptying.specs.EmptyingEvents.{fed, settles, writes_one, writes}
+use Rattle.cleaner_emptying.specs.Jobs.{Done, cleans}
+use Rattle.cleaner_parts.specs.declared.job.Job.{Job}
+use Rattle.cleaner_parts.specs.Jobs.{job_moved}
+use Rattle.cleaner_parts.specs.Starting.{cleaner_log}
 use Rattle.client_log.specs.declared.input.In.{In as LogIn}
 use Rattle.client_log.specs.declared.input.In.TheVariants.{Tick}
 use Rattle.client_log.specs.declared.output.Out.{Out}

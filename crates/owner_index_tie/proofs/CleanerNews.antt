@@ -4,10 +4,11 @@ use Rattle.segment_format.specs.declared.segment.Segment.{Segment}
 use Rattle.std.proofs.Common.{◌≡◌, ◌≤◌, ◌<◌, ◌==◌, ◌&&◌, ℕ, Bool, true, false, List, [], ◌∷◌, Option, Some, None, nat_lt, refl, sym, subst, ◌∙◌, arith}
 use Rattle.std.specs.List.{AllByRecursion}
 use Rattle.std.proofs.lemmas.Bool.Decides.{nat_tests}
-use Rattle.cleaner_node.specs.declared.emptying.Emptying.{Emptying}
-use Rattle.cleaner_node.specs.declared.job.Job.{Job}
-use Rattle.cleaner_node.specs.EmptyingEvents.{promises, hears_slot, hears_slots, job_regrouped, log_regrouped, takes_news, on_news, hello_of, greeted, welcomes_over, welcomes, on_welcome}
-use Rattle.cleaner_node.specs.Jobs.{Done, asks_usage, says, takes_in, job_takes, cleans, is_out}
+use Rattle.cleaner_emptying.specs.declared.emptying.Emptying.{Emptying}
+use Rattle.cleaner_emptying.specs.EmptyingEvents.{promises, hears_slot, hears_slots, job_regrouped, log_regrouped, takes_news, on_news, welcomes_over, welcomes, on_welcome}
+use Rattle.cleaner_emptying.specs.Jobs.{Done, asks_usage, says, takes_in, job_takes, cleans}
+use Rattle.cleaner_parts.specs.declared.job.Job.{Job}
+use Rattle.cleaner_parts.specs.Jobs.{hello_of, greeted, is_out}
 use Rattle.client_log.specs.declared.input.In.TheVariants as log_in
 use Rattle.delta_feed.specs.Transition.{new_epoch}
 use Rattle.group_map.specs.GroupMapState.{GroupMapState}

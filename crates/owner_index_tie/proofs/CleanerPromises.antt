@@ -3,10 +3,10 @@ use Rattle.segment_format.specs.declared.segment.Segment.{Segment}
 use Rattle.std.proofs.Common.{◌≡◌, ◌≤◌, ◌<◌, ◌==◌, ℕ, Bool, true, false, List, [], ◌∷◌, inl, inr, Option, Some, None, length, nat_lt, refl, sym, ap, subst, ◌∙◌, arith}
 use Rattle.std.proofs.lemmas.Bool.{eqb-true}
 use Rattle.std.proofs.lemmas.Bool.Decides.{nat_tests}
-use Rattle.cleaner_node.specs.declared.emptying.Emptying.{Emptying}
-use Rattle.cleaner_node.specs.declared.job.Job.{Job}
-use Rattle.cleaner_node.specs.EmptyingEvents.{promises}
-use Rattle.cleaner_node.specs.Jobs.{Done, says, takes_in, job_takes, cleans}
+use Rattle.cleaner_emptying.specs.declared.emptying.Emptying.{Emptying}
+use Rattle.cleaner_emptying.specs.EmptyingEvents.{promises}
+use Rattle.cleaner_emptying.specs.Jobs.{Done, says, takes_in, job_takes, cleans}
+use Rattle.cleaner_parts.specs.declared.job.Job.{Job}
 use Rattle.delta_feed.specs.Transition.{new_epoch}
 use Rattle.index_tie.specs.Filed.{Filed}
 use Rattle.index_tie.specs.Net.{Net, Packet, Happens, Runs, with_job, with_packet}

@@ -2,9 +2,9 @@
 use Rattle.index_tie.specs.Filed.{Filed}
 use Rattle.segment_format.specs.declared.segment.Segment.{Segment}
 use Rattle.std.proofs.Common.{◌<◌, ℕ, List, []}
-use Rattle.cleaner_node.specs.declared.emptying.Emptying.{Emptying}
-use Rattle.cleaner_node.specs.EmptyingEvents.{on_body, asks_for_maps, on_packet, on_tick, writes}
-use Rattle.cleaner_node.specs.Jobs.{Done, cleans}
+use Rattle.cleaner_emptying.specs.declared.emptying.Emptying.{Emptying}
+use Rattle.cleaner_emptying.specs.EmptyingEvents.{on_body, asks_for_maps, on_packet, on_tick, writes}
+use Rattle.cleaner_emptying.specs.Jobs.{Done, cleans}
 use Rattle.client_log.specs.declared.input.In.TheVariants as log_in
 use Rattle.index_tie.specs.Net.{Net, Packet}
 use Rattle.log_owner.specs.Sending.{pushes_all, server_in}

@@ -1,11 +1,12 @@
 -- Whatever a cleaner that serves does, what its log has, and what its job is to move, was answered Live.
 use Rattle.std.proofs.Common.{◌≡◌, ℕ, ◌==◌, ◌&&◌, Bool, true, false, List, [], ◌∷◌, Option, Some, None, is_some, nat_lt, refl, subst}
 use Rattle.std.specs.List.{AllByRecursion, range_with_len}
-use Rattle.cleaner_node.specs.declared.emptying.Emptying.{Emptying}
-use Rattle.cleaner_node.specs.declared.hand.Hand.{Hand}
-use Rattle.cleaner_node.specs.declared.job.Job.{Job}
-use Rattle.cleaner_node.specs.EmptyingEvents.{promises_slot, promises_all, with_new_job, begins_job, on_clean, job_moved, fed, settles, writes_one, writes, on_ack, promises, reports, polled, on_poll, hears_slot, hears_slots, job_regrouped, log_regrouped, takes_news, on_news, hello_of, greeted, welcomes_over, welcomes, on_welcome, on_body, asks_for_maps, on_packet, on_tick}
-use Rattle.cleaner_node.specs.Jobs.{Done, with_questions, asks_maps, asks_list, asks_usage, hand_checks_in, job_checks, checked_in, checks_block, check_sent, asks_check, hand_of, holds_in, holds, reads, puts, puts_block, moves, deletes, says, takes_in, job_takes, cleans, lists_of, usages_of, check_of, is_out, on_listed, on_usage, on_live, on_dead, on_deleted, job_read, ends_reading, hand_hears_in, job_hears, hand_confirmed_in, job_confirmed, told_in, told_by, confirmed_in, confirmed, after_confirmed, reads_again, after_told, on_told}
+use Rattle.cleaner_emptying.specs.declared.emptying.Emptying.{Emptying}
+use Rattle.cleaner_emptying.specs.EmptyingEvents.{promises_slot, promises_all, with_new_job, begins_job, on_clean, fed, settles, writes_one, writes, on_ack, promises, reports, polled, on_poll, hears_slot, hears_slots, job_regrouped, log_regrouped, takes_news, on_news, welcomes_over, welcomes, on_welcome, on_body, asks_for_maps, on_packet, on_tick}
+use Rattle.cleaner_emptying.specs.Jobs.{Done, with_questions, asks_maps, asks_list, asks_usage, checked_in, checks_block, check_sent, asks_check, holds_in, holds, reads, puts, puts_block, moves, deletes, says, takes_in, job_takes, cleans, on_listed, on_usage, on_live, on_dead, on_deleted, ends_reading, told_in, told_by, confirmed_in, confirmed, after_confirmed, reads_again, after_told, on_told}
+use Rattle.cleaner_parts.specs.declared.hand.Hand.{Hand}
+use Rattle.cleaner_parts.specs.declared.job.Job.{Job}
+use Rattle.cleaner_parts.specs.Jobs.{job_moved, hello_of, greeted, hand_checks_in, job_checks, hand_of, lists_of, usages_of, check_of, is_out, job_read, hand_hears_in, job_hears, hand_confirmed_in, job_confirmed}
 use Rattle.client_log.specs.declared.input.In.{In as LogIn}
 use Rattle.client_log.specs.declared.input.In.TheVariants as log_in
 use Rattle.client_log.specs.declared.output.Out.{Out as LogOut}

@@ -1,13 +1,14 @@
 -- How the cleaner and its job are seen in the small world of one slot's index, what the world owes each event of it, and what the event is there.
 use Rattle.std.specs.Prelude.{◌≡◌, ◌<◌, ◌≤◌, ℕ, true, List, Option, Some, None, length}
 use Rattle.std.specs.List.{All, AllByRecursion}
+use Rattle.cleaner_emptying.specs.declared.emptying.Emptying.{Emptying}
+use Rattle.cleaner_emptying.specs.Jobs.{told_by}
 use Rattle.cleaner_node.specs.CleanerEvents.{Went_to, cleaner_start, takes}
-use Rattle.cleaner_node.specs.Jobs.{check_of, hand_of, is_out, told_by}
 use Rattle.cleaner_node.specs.declared.cleaner.Cleaner.{Cleaner as ACleaner}
 use Rattle.cleaner_node.specs.declared.cleaner.Phase.{Phase}
 use Rattle.cleaner_node.specs.declared.cleaner.Phase.TheVariants.{Down, Opening, Serving}
-use Rattle.cleaner_node.specs.declared.emptying.Emptying.{Emptying}
-use Rattle.cleaner_node.specs.declared.job.Job.{Job}
+use Rattle.cleaner_parts.specs.declared.job.Job.{Job}
+use Rattle.cleaner_parts.specs.Jobs.{check_of, hand_of, is_out}
 use Rattle.client_log.specs.LogState.{LogState}
 use Rattle.delta_feed.specs.FeedState.{FeedState}
 use Rattle.index_tie.specs.Cleaning.{is_filed_name, IsWithin, ReadFor}

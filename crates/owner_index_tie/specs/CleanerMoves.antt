@@ -5,7 +5,7 @@ use Rattle.cleaner_node.specs.CleanerEvents.{cleaner_start, takes}
 use Rattle.cleaner_node.specs.declared.cleaner.Cleaner.{Cleaner}
 use Rattle.cleaner_node.specs.declared.cleaner.Phase.{Phase}
 use Rattle.cleaner_node.specs.declared.cleaner.Phase.TheVariants.{Down, Opening, Serving}
-use Rattle.cleaner_node.specs.declared.job.Job.{Job}
+use Rattle.cleaner_parts.specs.declared.job.Job.{Job}
 use Rattle.client_log.specs.declared.dirty.Change.{Change}
 use Rattle.client_log.specs.LogState.{FlightState, LogState}
 use Rattle.index_tie.specs.Net.{Packet, IsMove}

@@ -2,9 +2,9 @@
 use Rattle.std.specs.Prelude.{◌≡◌, ◌<◌, ◌≤◌, ℕ, true, List, Contains, Option, Some, IfSome, length, slice_get}
 use Rattle.std.specs.List.{AllByRecursion}
 use Rattle.checkpoint.specs.WriterState.{Rows}
-use Rattle.cleaner_node.specs.declared.emptying.Emptying.{Emptying}
-use Rattle.cleaner_node.specs.declared.job.Job.{Job}
-use Rattle.cleaner_node.specs.Jobs.{check_of, hand_of}
+use Rattle.cleaner_emptying.specs.declared.emptying.Emptying.{Emptying}
+use Rattle.cleaner_parts.specs.declared.job.Job.{Job}
+use Rattle.cleaner_parts.specs.Jobs.{check_of, hand_of}
 use Rattle.client_parts.specs.Reads.{value_at}
 use Rattle.entry_tie.specs.Told.{told_by}
 use Rattle.index_reads.specs.Ties.{ArePlain, Tied}

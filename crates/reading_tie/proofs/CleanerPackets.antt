@@ -2,11 +2,12 @@
 use Rattle.std.proofs.Common.{ℕ, ◌==◌, ◌&&◌, Bool, true, false, List, [], ◌∷◌, Option, Some, None, is_some}
 use Rattle.std.specs.Prelude.{nat_lt}
 use Rattle.std.specs.List.{range_with_len}
-use Rattle.cleaner_node.specs.declared.emptying.Emptying.{Emptying}
-use Rattle.cleaner_node.specs.declared.hand.Hand.{Hand}
-use Rattle.cleaner_node.specs.declared.job.Job.{Job}
-use Rattle.cleaner_node.specs.EmptyingEvents.{promises_slot, promises_all, with_new_job, begins_job, on_clean, hand_moved, job_moved, fed, settles, writes_one, writes, on_ack, promises, reports, on_poll, hears_slot, hears_slots, job_regrouped, log_regrouped, takes_news, on_news, hello_of, greeted, welcomes_over, welcomes, on_welcome, on_body, asks_for_maps, on_packet, on_tick}
-use Rattle.cleaner_node.specs.Jobs.{Done, hand_of, cleans, is_out}
+use Rattle.cleaner_emptying.specs.declared.emptying.Emptying.{Emptying}
+use Rattle.cleaner_emptying.specs.EmptyingEvents.{promises_slot, promises_all, with_new_job, begins_job, on_clean, fed, settles, writes_one, writes, on_ack, promises, reports, on_poll, hears_slot, hears_slots, job_regrouped, log_regrouped, takes_news, on_news, welcomes_over, welcomes, on_welcome, on_body, asks_for_maps, on_packet, on_tick}
+use Rattle.cleaner_emptying.specs.Jobs.{Done, cleans}
+use Rattle.cleaner_parts.specs.declared.hand.Hand.{Hand}
+use Rattle.cleaner_parts.specs.declared.job.Job.{Job}
+use Rattle.cleaner_parts.specs.Jobs.{hand_moved, job_moved, hello_of, greeted, hand_of, is_out}
 use Rattle.client_log.specs.declared.input.In.{In as LogIn}
 use Rattle.client_log.specs.declared.input.In.TheVariants as log_in
 use Rattle.client_log.specs.declared.output.Out.{Out as LogOut}

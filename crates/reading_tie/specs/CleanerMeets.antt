@@ -5,8 +5,8 @@ use Rattle.cleaner_node.specs.CleanerEvents.{cleaner_start, cleaner_step}
 use Rattle.cleaner_node.specs.declared.cleaner.Cleaner.{Cleaner}
 use Rattle.cleaner_node.specs.declared.cleaner.Phase as nodes
 use Rattle.cleaner_node.specs.declared.cleaner.Phase.TheVariants.{Down, Opening, Serving}
-use Rattle.cleaner_node.specs.declared.hand.Hand.{Hand}
-use Rattle.cleaner_node.specs.declared.job.Job.{Job}
+use Rattle.cleaner_parts.specs.declared.hand.Hand.{Hand}
+use Rattle.cleaner_parts.specs.declared.job.Job.{Job}
 use Rattle.log_owner.specs.Sending.{server_in}
 use Rattle.stripe_cleaner.specs.declared.phase.Phase.{Phase}
 use Rattle.stripe_cleaner.specs.declared.phase.Phase.TheVariants.{Greeting, Listing, Counting, Reading, Checking, Deleting, Over}

@@ -1,10 +1,10 @@
 -- What owners of logs report: the ends of their logs.
 use Rattle.std.specs.Prelude.{◌≡◌}
 use Rattle.std.specs.List.{AllByRecursion}
+use Rattle.cleaner_emptying.specs.declared.emptying.Emptying.{Emptying}
 use Rattle.cleaner_node.specs.CleanerEvents.{cleaner_step}
 use Rattle.cleaner_node.specs.declared.cleaner.Cleaner.{Cleaner}
 use Rattle.cleaner_node.specs.declared.cleaner.Phase.TheVariants as cleaning
-use Rattle.cleaner_node.specs.declared.emptying.Emptying.{Emptying}
 use Rattle.client_node.specs.declared.client.Client.{Client}
 use Rattle.client_node.specs.declared.phase.Phase.TheVariants as clients
 use Rattle.client_node.specs.Phases.{client_step, lasting_of}

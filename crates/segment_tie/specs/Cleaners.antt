@@ -1,10 +1,10 @@
 -- What the cleaner writes to its log: while it serves, what it moves; while it opens its log, nothing.
 use Rattle.std.specs.Prelude.{◌<◌, List}
+use Rattle.cleaner_emptying.specs.declared.emptying.Emptying.{Emptying}
 use Rattle.cleaner_node.specs.CleanerEvents.{cleaner_start, cleaner_step}
 use Rattle.cleaner_node.specs.declared.cleaner.Cleaner.{Cleaner}
 use Rattle.cleaner_node.specs.declared.cleaner.Phase.{Phase}
 use Rattle.cleaner_node.specs.declared.cleaner.Phase.TheVariants.{Down, Opening, Serving}
-use Rattle.cleaner_node.specs.declared.emptying.Emptying.{Emptying}
 use Rattle.entry_tie.specs.CleanerTells.{JobTold}
 use Rattle.entry_tie.specs.Told.{Told}
 use Rattle.version_model.specs.declared.work.Work.{Work}

@@ -7,11 +7,12 @@ use Rattle.xfs_base.specs.declared.entry.Entry.{Entry}
 use Rattle.xfs_base.specs.declared.entry.Place.{Place}
 use Rattle.xfs_base.specs.declared.segment.SegName.{SegName}
 use Rattle.xfs_base.specs.declared.segment.SegRef.{SegRef}
-use Rattle.cleaner_node.specs.declared.emptying.Emptying.{Emptying}
-use Rattle.cleaner_node.specs.declared.hand.Hand.{Hand}
-use Rattle.cleaner_node.specs.declared.job.Job.{Job}
-use Rattle.cleaner_node.specs.Hands.{Taken, is_in_hand, known_group, taken_over, takes_in_hand, fetches_for, fetches, hears_by, hand_hears, confirmed_by, hand_confirmed, checks_under, kept_ask, checks}
-use Rattle.cleaner_node.specs.Jobs.{Done, with_questions, drawn_unless, with_job, asks_maps, asks_list, asks_usage, hand_checks_in, job_checks, checked_in, checks_block, check_sent, asks_check, hand_of, holds_in, holds, reads, puts, puts_block, moves, is_whole, drops, dropped, deletes, says, takes_in, job_takes, cleans, lists_of, usages_of, check_of, is_out, on_listed, on_usage, on_live, on_dead, on_deleted, read_over, job_read, ends_reading, hand_hears_in, job_hears, hand_confirmed_in, job_confirmed, told_in, told_by, confirmed_in, confirmed, after_confirmed, reads_again, after_told, on_told}
+use Rattle.cleaner_emptying.specs.declared.emptying.Emptying.{Emptying}
+use Rattle.cleaner_emptying.specs.Jobs.{Done, with_questions, with_job, asks_maps, asks_list, asks_usage, checked_in, checks_block, check_sent, asks_check, holds_in, holds, reads, puts, puts_block, moves, deletes, says, takes_in, job_takes, cleans, on_listed, on_usage, on_live, on_dead, on_deleted, ends_reading, told_in, told_by, confirmed_in, confirmed, after_confirmed, reads_again, after_told, on_told}
+use Rattle.cleaner_parts.specs.declared.hand.Hand.{Hand}
+use Rattle.cleaner_parts.specs.declared.job.Job.{Job}
+use Rattle.cleaner_parts.specs.Hands.{Taken, is_in_hand, known_group, taken_over, takes_in_hand, fetches_for, fetches, hears_by, hand_hears, confirmed_by, hand_confirmed, checks_under, kept_ask, checks}
+use Rattle.cleaner_parts.specs.Jobs.{drawn_unless, hand_checks_in, job_checks, hand_of, is_whole, drops, dropped, lists_of, usages_of, check_of, is_out, read_over, job_read, hand_hears_in, job_hears, hand_confirmed_in, job_confirmed}
 use Rattle.client_log.specs.declared.input.In.{In as LogIn}
 use Rattle.client_log.specs.declared.input.In.TheVariants as log_in
 use Rattle.client_log.specs.declared.output.Out.{Out as LogOut}

@@ -3,14 +3,14 @@
 use Rattle.std.proofs.Common.{◌≡◌, ℕ, true, [], ◌∷◌, ◌++◌, Option, Some, None, refl, ap}
 use Rattle.xfs_base.proofs.Booleans.{by_test, and_first, and_second}
 use Rattle.xfs_base.specs.Steps.{still}
+use Rattle.cleaner_emptying.specs.declared.emptying.Emptying.{Emptying}
 use Rattle.cleaner_node.specs.CleanerEvents.{Went_to, crashes, after_opening, opened_on, restarts, down_wishes, opening_wishes, serving_wishes, begun_life, wish_at, lasting_of, down_at, opening_at, serving_at, on_begin, hears, on_deliver, on_time, happens, phase_room, takes}
 use Rattle.cleaner_node.specs.declared.cleaner.Phase.{Phase}
 use Rattle.cleaner_node.specs.declared.cleaner.Phase.TheVariants.{Down, Opening, Serving}
 use Rattle.cleaner_node.specs.declared.cleaner.Wish.{Wish}
 use Rattle.cleaner_node.specs.declared.cleaner.Wish.TheVariants.{Crash, Restart, Clean}
-use Rattle.cleaner_node.specs.declared.emptying.Emptying.{Emptying}
-use Rattle.cleaner_node.specs.declared.lasting.Lasting.{Lasting}
-use Rattle.cleaner_node.specs.EmptyingEvents.{lasting_room}
+use Rattle.cleaner_parts.specs.declared.lasting.Lasting.{Lasting}
+use Rattle.cleaner_parts.specs.Lasting.{lasting_room}
 use Rattle.log_owner.specs.declared.known.Known.{Known}
 use Rattle.log_owner.specs.declared.opened.Progress.{Progress}
 use Rattle.log_owner.specs.declared.opened.Progress.TheVariants as progress

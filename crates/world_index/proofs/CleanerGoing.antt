@@ -7,8 +7,8 @@ use Rattle.cleaner_node.specs.CleanerEvents.{lasting_of, phase_room, happens, ta
 use Rattle.cleaner_node.specs.declared.cleaner.Cleaner.{Cleaner as CleanerNode}
 use Rattle.cleaner_node.specs.declared.cleaner.Phase.{Phase}
 use Rattle.cleaner_node.specs.declared.cleaner.Phase.TheVariants.{Down, Opening, Serving}
-use Rattle.cleaner_node.specs.declared.lasting.Lasting.{Lasting}
-use Rattle.cleaner_node.specs.EmptyingEvents.{lasting_room}
+use Rattle.cleaner_parts.specs.declared.lasting.Lasting.{Lasting}
+use Rattle.cleaner_parts.specs.Lasting.{lasting_room}
 use Rattle.index_tie.proofs.Tables.{second_of, within_is}
 use Rattle.index_tie.specs.Net.{Net}
 use Rattle.index_tie.specs.Net.Runs.{Begun}

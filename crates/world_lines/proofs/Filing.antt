@@ -18,8 +18,8 @@ use Rattle.client_node.specs.declared.phase.Phase.TheVariants as client
 use Rattle.client_node.specs.declared.phase.Phase.{Phase}
 use Rattle.client_node.specs.Phases as clients
 use Rattle.client_serving.specs.declared.serving.Serving.{Serving as ServingClient}
+use Rattle.cleaner_emptying.specs.declared.emptying.Emptying.{Emptying}
 use Rattle.cleaner_log_tie.specs.Owner as cleaner_log
-use Rattle.cleaner_node.specs.declared.emptying.Emptying.{Emptying}
 use Rattle.node_base.specs.Room.{has_room}
 use Rattle.log_law.specs.Events.Happens.{Acts, Bars, Crashes, Drops, Hears, Lists, Opens, Publishes, Raises, Renews, Restarts, Serves, Welcomes, Writes}
 use Rattle.log_law.specs.Held.{OwnerFlew, WhatIsHeldFlew}

@@ -5,9 +5,9 @@ use Rattle.std.specs.List.{list_all}
 use Rattle.std.proofs.lemmas.Bool.Decides.{nat_tests}
 use Rattle.cleaner_log_tie.specs.Owner as cleaner_log
 use Rattle.cleaner_node.specs.CleanerEvents as cleaners
-use Rattle.cleaner_node.specs.EmptyingEvents.{lasting_room}
 use Rattle.cleaner_node.specs.declared.cleaner.Phase.{Phase as CleanerPhase}
 use Rattle.cleaner_node.specs.declared.cleaner.Phase.TheVariants as cleaning
+use Rattle.cleaner_parts.specs.Lasting.{lasting_room}
 use Rattle.client_log.specs.LogState.{LogState}
 use Rattle.client_log.specs.Transition.{has_next}
 use Rattle.client_log_tie.specs.Owner.{Scene, ClientAgrees, SeesStage}

@@ -1,9 +1,9 @@
 -- From which horizons on a log is linked: so an owner that serves may answer Polls of the epochs from the one on that it has promised.
 use Rattle.std.specs.Prelude.{◌≡◌, ◌<◌, ◌≤◌, ◌⊎◌, ℕ, Some, List}
 use Rattle.client_log.specs.LogState.{FlightState, LogState}
+use Rattle.cleaner_emptying.specs.declared.emptying.Emptying.{Emptying}
 use Rattle.cleaner_node.specs.declared.cleaner.Phase as cleaners
 use Rattle.cleaner_node.specs.declared.cleaner.Phase.TheVariants as cleaning
-use Rattle.cleaner_node.specs.declared.emptying.Emptying.{Emptying}
 use Rattle.client_node.specs.declared.phase.Phase as clients
 use Rattle.client_node.specs.declared.phase.Phase.TheVariants as client
 use Rattle.index_tie.specs.Filed.{Filed}

@@ -5,7 +5,7 @@ use Rattle.cleaner_log_tie.specs.OwnerEvents as owner_events
 use Rattle.cleaner_log_tie.specs.OwnerEvents.{OpeningOwed, OwnerGoes}
 use Rattle.cleaner_node.specs.declared.cleaner.Cleaner.{Cleaner as CleanerNode}
 use Rattle.cleaner_node.specs.CleanerEvents.{cleaner_step}
-use Rattle.cleaner_node.specs.EmptyingEvents.{cleaner_log}
+use Rattle.cleaner_parts.specs.Starting.{cleaner_log}
 use Rattle.client_log_tie.specs.Owner.{Scene}
 use Rattle.core_world.specs.declared.any_node.AnyNode.{AnyNode}
 use Rattle.core_world.specs.declared.any_node.AnyNode.TheVariants as any

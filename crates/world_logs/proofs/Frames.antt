@@ -2,9 +2,9 @@
 use Rattle.std.proofs.Common.{◌≡◌, ⊎_elim, ℕ, Option, Some, None, refl, sym, ap, subst, ◌∙◌, inl, inr, arith}
 use Rattle.cleaner_log_tie.proofs.Frames.{stands_later}
 use Rattle.cleaner_log_tie.specs.Owner.{CleanerAgrees, its_number}
-use Rattle.cleaner_node.specs.EmptyingEvents.{cleaner_log}
 use Rattle.cleaner_node.specs.declared.cleaner.Phase.{Phase as CleanerPhase}
 use Rattle.cleaner_node.specs.declared.cleaner.Phase.TheVariants as cleaners
+use Rattle.cleaner_parts.specs.Starting.{cleaner_log}
 use Rattle.client_log_tie.specs.Owner.{Scene, ClientAgrees, LastsAs, MapCame, SeesStage}
 use Rattle.client_node.specs.declared.phase.Phase.TheVariants as clients
 use Rattle.client_node.specs.declared.phase.Phase.{Phase}

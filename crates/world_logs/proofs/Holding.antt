@@ -5,7 +5,7 @@ use Rattle.std.specs.Prelude.{IfSome}
 use Rattle.cleaner_log_tie.specs.Owner.{CleanerAgrees, its_number}
 use Rattle.cleaner_node.specs.declared.cleaner.Phase.{Phase as CleanerPhase}
 use Rattle.cleaner_node.specs.declared.cleaner.Phase.TheVariants as cleaners
-use Rattle.cleaner_node.specs.EmptyingEvents.{cleaner_log}
+use Rattle.cleaner_parts.specs.Starting.{cleaner_log}
 use Rattle.client_log.specs.LogState.{FlightState, LogState}
 use Rattle.client_log_tie.specs.Owner.{ClientAgrees, Scene, SeesStage}
 use Rattle.client_node.specs.declared.phase.Phase.TheVariants as clients

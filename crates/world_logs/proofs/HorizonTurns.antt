@@ -3,8 +3,8 @@ use Rattle.std.proofs.Common.{◌≡◌, ⊎_elim, ℕ, ◌+◌, ◌==◌, ◌�
 use Rattle.std.specs.List.{AllByRecursion}
 use Rattle.cleaner_node.specs.CleanerEvents as cleaners
 use Rattle.cleaner_node.specs.CleanerEvents.{cleaner_step}
-use Rattle.cleaner_node.specs.EmptyingEvents.{cleaner_log}
 use Rattle.cleaner_node.specs.declared.cleaner.Cleaner.{Cleaner as CleanerNode}
+use Rattle.cleaner_parts.specs.Starting.{cleaner_log}
 use Rattle.client_node.specs.declared.client.Client.{Client as ClientNode}
 use Rattle.client_node.specs.Phases.{client_step, lasting_of, takes}
 use Rattle.core_world.specs.AnyNode.{any_step}

@@ -1,8 +1,8 @@
 -- How far the log of one client is filed by that client itself: whoever tells nothing of that log tells of nothing further, whatever it acts to be filed.
 use Rattle.std.proofs.Common.{◌≡◌, ℕ, ◌==◌, ◌≤◌, max, Bool, true, false, List, [], ◌∷◌, ◌++◌, Some, if◌then◌else◌, sym, ap, subst, arith}
-use Rattle.cleaner_node.specs.EmptyingEvents.{cleaner_log}
 use Rattle.cleaner_node.specs.declared.cleaner.Phase as cleaner_phases
 use Rattle.cleaner_node.specs.declared.cleaner.Phase.TheVariants as cleaning
+use Rattle.cleaner_parts.specs.Starting.{cleaner_log}
 use Rattle.client_node.specs.declared.phase.Phase.{Phase}
 use Rattle.client_node.specs.declared.phase.Phase.TheVariants as clients
 use Rattle.client_node.specs.Phases.{lasting_of}

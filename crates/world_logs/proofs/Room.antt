@@ -9,7 +9,7 @@ use Rattle.cleaner_node.specs.CleanerEvents as cleaner_events
 use Rattle.cleaner_node.specs.declared.cleaner.Cleaner.{Cleaner as CleanerNode}
 use Rattle.cleaner_node.specs.declared.cleaner.Phase.{Phase as CleanerPhase}
 use Rattle.cleaner_node.specs.declared.cleaner.Phase.TheVariants as cleaners
-use Rattle.cleaner_node.specs.EmptyingEvents.{lasting_room}
+use Rattle.cleaner_parts.specs.Lasting.{lasting_room}
 use Rattle.client_log.specs.LogState.{LogState}
 use Rattle.client_log.specs.Transition.{has_next}
 use Rattle.client_log_tie.specs.ClientEvents.{ClientGoes, FliesInBoot}

@@ -1,6 +1,6 @@
 -- Whose log it is: a client's, the cleaner's, or a manager's. The small world of a log has its owner by name and by number.
 use Rattle.std.specs.Prelude.{◌≡◌, ◌≤◌, ◌<◌, ℕ, Bool, true, false}
-use Rattle.cleaner_node.specs.EmptyingEvents.{cleaner_log}
+use Rattle.cleaner_parts.specs.Starting.{cleaner_log}
 use Rattle.client_log_tie.specs.Owner.{Scene}
 use Rattle.log_tie.specs.Setting.{Setting}
 use Rattle.manager_node.specs.Lasting.{log_of}

@@ -1,11 +1,12 @@
 -- What the cleaner gets: its log is linked from the horizon of an epoch that is polled, and the segment that it reads for its job is the filed one.
 use Rattle.std.proofs.Common.{◌≡◌, ◌≤◌, ℕ, false, List, Option, None, Some, refl, sym, ap, subst, ◌∙◌, arith}
+use Rattle.cleaner_emptying.specs.declared.emptying.Emptying.{Emptying}
+use Rattle.cleaner_emptying.specs.Jobs.{told_by, told_in}
 use Rattle.cleaner_node.specs.declared.cleaner.Cleaner.{Cleaner as CleanerNode}
 use Rattle.cleaner_node.specs.declared.cleaner.Phase as cleaning
 use Rattle.cleaner_node.specs.declared.cleaner.Phase.TheVariants.{Down, Opening, Serving}
-use Rattle.cleaner_node.specs.declared.emptying.Emptying.{Emptying}
-use Rattle.cleaner_node.specs.declared.job.Job.{Job}
-use Rattle.cleaner_node.specs.Jobs.{hand_of, told_by, told_in}
+use Rattle.cleaner_parts.specs.declared.job.Job.{Job}
+use Rattle.cleaner_parts.specs.Jobs.{hand_of}
 use Rattle.core_world.specs.declared.any_node.AnyNode.{AnyNode}
 use Rattle.core_world.specs.declared.any_node.AnyNode.TheVariants as any
 use Rattle.index_tie.specs.Takeovers.{of_log}

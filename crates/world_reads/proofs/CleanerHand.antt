@@ -3,14 +3,14 @@
 use Rattle.std.proofs.Common.{◌≡◌, ◌⊎◌, ◌<◌, ℕ, zero, suc, true, List, [], ◌∷◌, ◌++◌, Option, None, Some, map, take, slice_get, slice_set, inl, inr, refl, sym, ap, subst, ◌∙◌, arith}
 use Rattle.std.specs.Prelude.{IfSome}
 use Rattle.std.specs.List.{fold}
+use Rattle.cleaner_emptying.specs.declared.emptying.Emptying.{Emptying}
 use Rattle.cleaner_node.specs.CleanerEvents as cleaners
 use Rattle.cleaner_node.specs.CleanerEvents.{phase_room}
 use Rattle.cleaner_node.specs.declared.cleaner.Cleaner.{Cleaner as CleanerNode}
 use Rattle.cleaner_node.specs.declared.cleaner.Phase.TheVariants.{Serving}
-use Rattle.cleaner_node.specs.declared.emptying.Emptying.{Emptying}
-use Rattle.cleaner_node.specs.declared.hand.Hand.{Hand}
-use Rattle.cleaner_node.specs.declared.job.Job.{Job}
-use Rattle.cleaner_node.specs.Jobs.{check_of, hand_of}
+use Rattle.cleaner_parts.specs.declared.hand.Hand.{Hand}
+use Rattle.cleaner_parts.specs.declared.job.Job.{Job}
+use Rattle.cleaner_parts.specs.Jobs.{check_of, hand_of}
 use Rattle.client_node.specs.Phases as clients
 use Rattle.core_world.specs.AnyNode.{any_start, any_step}
 use Rattle.core_world.specs.declared.any_node.AnyNode.{AnyNode}

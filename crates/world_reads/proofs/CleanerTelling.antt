@@ -1,12 +1,12 @@
 -- What the small world of tokens is owed of the cleaner: where its log is opened again it is so as the books are, and what is answered Live is a copy.
 use Rattle.std.proofs.Common.{◌≡◌, ◌<◌, ℕ, suc, Bool, true, List, if◌then◌else◌, refl, sym, ap, subst, ◌∙◌, arith}
+use Rattle.cleaner_emptying.specs.declared.emptying.Emptying.{Emptying}
+use Rattle.cleaner_emptying.specs.EmptyingEvents.{served}
 use Rattle.cleaner_node.specs.CleanerEvents.{after_opening, happens, hears, on_deliver, on_time, phase_room, says_back, takes}
 use Rattle.cleaner_node.specs.declared.cleaner.Cleaner.{Cleaner as CleanerNode}
 use Rattle.cleaner_node.specs.declared.cleaner.Phase as cleaning
 use Rattle.cleaner_node.specs.declared.cleaner.Phase.TheVariants.{Opening, Serving}
-use Rattle.cleaner_node.specs.declared.emptying.Emptying.{Emptying}
-use Rattle.cleaner_node.specs.declared.lasting.Lasting.{Lasting}
-use Rattle.cleaner_node.specs.EmptyingEvents.{served}
+use Rattle.cleaner_parts.specs.declared.lasting.Lasting.{Lasting}
 use Rattle.client_log_tie.specs.ClientEvents.{ServesStraight}
 use Rattle.core_world.specs.declared.any_node.AnyNode.{AnyNode}
 use Rattle.entry_tie.specs.Told as entries

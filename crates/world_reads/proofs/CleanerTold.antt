@@ -1,12 +1,12 @@
 -- What the small world of tokens is owed of an event of the cleaner it gets: where an opening ends in it its log is open as the books are, and a Live that
 -- comes tells a copy.
 use Rattle.std.proofs.Common.{◌≡◌, ℕ, Bool, true, false, List, refl, sym, ap, subst, ◌∙◌}
+use Rattle.cleaner_emptying.specs.declared.emptying.Emptying.{Emptying}
 use Rattle.cleaner_node.specs.CleanerEvents.{takes}
 use Rattle.cleaner_node.specs.declared.cleaner.Cleaner.{Cleaner as CleanerNode}
 use Rattle.cleaner_node.specs.declared.cleaner.Phase as cleaning
 use Rattle.cleaner_node.specs.declared.cleaner.Phase.TheVariants.{Down, Opening, Serving}
-use Rattle.cleaner_node.specs.declared.emptying.Emptying.{Emptying}
-use Rattle.cleaner_node.specs.declared.lasting.Lasting.{Lasting}
+use Rattle.cleaner_parts.specs.declared.lasting.Lasting.{Lasting}
 use Rattle.client_log.specs.LogState.{LogState}
 use Rattle.client_parts.specs.Crash.{flight_of}
 use Rattle.core_world.specs.AnyNode.{any_start, any_step}

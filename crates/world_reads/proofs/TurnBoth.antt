@@ -3,10 +3,10 @@ use Rattle.std.proofs.Common.{◌≡◌, ◌⊎◌, ℕ, suc, ◌<◌, Bool, tru
 use Rattle.core_world.specs.AnyNode.{any_step}
 use Rattle.core_world.specs.declared.any_node.AnyNode.{AnyNode}
 use Rattle.core_world.specs.declared.any_node.AnyNode.TheVariants as any
+use Rattle.cleaner_emptying.specs.declared.emptying.Emptying.{Emptying}
 use Rattle.cleaner_node.specs.CleanerEvents as cleaners
 use Rattle.cleaner_node.specs.declared.cleaner.Phase.TheVariants.{Opening, Serving}
-use Rattle.cleaner_node.specs.declared.emptying.Emptying.{Emptying}
-use Rattle.cleaner_node.specs.declared.lasting.Lasting.{Lasting}
+use Rattle.cleaner_parts.specs.declared.lasting.Lasting.{Lasting}
 use Rattle.epoch_law.specs.Managers.{TokensAreGiven}
 use Rattle.epoch_law.specs.Slots.{BothStand, SameSlots, SlotsStaySame}
 use Rattle.log_owner.specs.declared.opening.Opening as openings

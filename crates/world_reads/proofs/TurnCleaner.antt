@@ -1,13 +1,13 @@
 -- An event that the cleaner takes, in both small worlds of a slot and in that of its log: what is known of its log then.
 use Rattle.std.proofs.Common.{◌≡◌, ℕ, suc, ◌≤◌, ◌<◌, inr, ◌&&◌, ◌-◌, Bool, true, false, nat_le, List, Option, None, Some, IfSome, if◌then◌else◌, slice_get, refl, sym, ap, subst, ◌∙◌, arith}
+use Rattle.cleaner_emptying.specs.declared.emptying.Emptying.{Emptying}
 use Rattle.cleaner_log_tie.specs.Owner as log_tie
 use Rattle.cleaner_node.specs.CleanerEvents.{Went_to, cleaner_step, happens, lasting_of, phase_room, takes}
-use Rattle.cleaner_node.specs.EmptyingEvents.{lasting_room}
 use Rattle.cleaner_node.specs.declared.cleaner.Cleaner.{Cleaner as CleanerNode}
 use Rattle.cleaner_node.specs.declared.cleaner.Phase.{Phase}
 use Rattle.cleaner_node.specs.declared.cleaner.Phase.TheVariants.{Down, Opening, Serving as Serves}
-use Rattle.cleaner_node.specs.declared.emptying.Emptying.{Emptying}
-use Rattle.cleaner_node.specs.declared.lasting.Lasting.{Lasting}
+use Rattle.cleaner_parts.specs.declared.lasting.Lasting.{Lasting}
+use Rattle.cleaner_parts.specs.Lasting.{lasting_room}
 use Rattle.client_log.specs.LogState.{FlightState}
 use Rattle.client_log_tie.specs.ClientEvents.{ServesStraight}
 use Rattle.client_log_tie.specs.Owner.{Scene}

@@ -1,0 +1,2 @@
+pub mod EmptyingEvents
+pub mod Jobs

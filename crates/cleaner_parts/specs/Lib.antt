@@ -1,0 +1,4 @@
+pub mod Hands
+pub mod Jobs
+pub mod Lasting
+pub mod Starting

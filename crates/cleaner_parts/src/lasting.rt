@@ -1,0 +1,28 @@
+//! What of the cleaner outlives a crash.
+ghost use Rattle.std.specs.Prelude.{◌≡◌};
+ghost use Rattle.cleaner_parts.specs.Lasting.{lasting_room};
+
+use node_base::{Items, Questions, has_room};
+use xfs_base::Crosses;
+
+/// What of the cleaner outlives a crash.
+#[derive(Drop)]
+pub struct Lasting {
+    /// How often it was started: its incarnation.
+    pub inc: u32,
+    /// The numbers of its questions.
+    pub questions: Questions,
+    /// What it is to do.
+    pub items: Items,
+}
+
+impl Crosses for Lasting {}
+
+impl Lasting {
+    /// Whether no event can raise a counter past its end.
+    pub fn has_room(&self) -> bool
+        ensures { result ≡ lasting_room self.now }
+    {
+        has_room(self.inc) && has_room(self.questions.last)
+    }
+}
