@@ -5,8 +5,8 @@ use Rattle.core_world.specs.declared.any_node.AnyNode.TheVariants as any
 use Rattle.manager_node.specs.declared.manager.Manager.{Manager as ManagerNode}
 use Rattle.manager_node.specs.declared.phase.Phase.{Phase}
 use Rattle.manager_node.specs.declared.phase.Phase.TheVariants.{Down, Waiting, Serving as Serves}
-use Rattle.manager_node.specs.declared.serving.Serving.{Serving}
 use Rattle.manager_node.specs.Phases.{lasting_of}
+use Rattle.manager_serving.specs.declared.serving.Serving.{Serving}
 use Rattle.node_index_tie.specs.Sight.{Texts}
 use Rattle.node_tie.specs.ManagerEvents.{AllNewsGets, HeldAt, ManagerAgrees, ManagerGets, NamedBy, NamedIn, Names, ServingGets, WaitingGets, epoch_in, slot_in}
 use Rattle.segment_format.specs.declared.segment.Segment.{Segment}

@@ -7,7 +7,7 @@ use Rattle.delta_feed.specs.Transition.{settled, acknowledged, new_epoch, pushed
 use Rattle.log_owner.specs.declared.promised.Managers.{Managers}
 use Rattle.log_owner.specs.Opened.{with_segment, fed, feed_of}
 use Rattle.log_owner.specs.Sending.{range, pushes, pushes_all}
-use Rattle.manager_node.specs.Serving.{fed_log}
+use Rattle.manager_serving.specs.Serving.{fed_log}
 use Rattle.segment_format.specs.declared.segment.Segment.{Segment}
 use Rattle.segment_format.specs.Rows.{rows_of}
 use Rattle.xfs_base.proofs.Booleans.{by_test}

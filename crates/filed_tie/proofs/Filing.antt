@@ -11,8 +11,8 @@ use Rattle.std.proofs.lemmas.Map.Lookups.{exact_unsigned}
 use Rattle.manager_node.specs.declared.phase.Phase.{Phase}
 use Rattle.manager_node.specs.Events.{happens}
 use Rattle.manager_node.specs.Phases.{lasting_of}
-use Rattle.manager_node.specs.Serving.{fed_log}
-use Rattle.manager_node.specs.SlotTable.{next_of, horizon_of}
+use Rattle.manager_parts.specs.SlotTable.{next_of, horizon_of}
+use Rattle.manager_serving.specs.Serving.{fed_log}
 use Rattle.node_base.specs.Effects.{packets_of}
 use Rattle.registry.specs.Checkpoints.{horizon_at as horizon_kept}
 use Rattle.slot_beliefs.specs.Recalls.{applied_of, is_followed}

@@ -6,7 +6,7 @@ use Rattle.std.proofs.lemmas.Bool.Decides.{nat_tests}
 use Rattle.std.proofs.lemmas.List.FromFn.{get_or-map-range_with_len}
 use Rattle.manager_node.specs.Events.{happens}
 use Rattle.manager_node.specs.Phases.{lasting_of}
-use Rattle.manager_node.specs.SlotTable.{next_of, horizon_of}
+use Rattle.manager_parts.specs.SlotTable.{next_of, horizon_of}
 use Rattle.slot_beliefs.specs.Recalls.{applied_of, applied_upto}
 use Rattle.store_nodes.specs.RegistryEvents.{takes as registry_takes}
 use Rattle.takeover.specs.declared.report.Report.{Report}

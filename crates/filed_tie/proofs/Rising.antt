@@ -2,7 +2,7 @@
 use Rattle.std.proofs.Common.{◌≡◌, ℕ, zero, suc, ◌+◌, ◌-◌, ◌≤◌, List, [], ◌∷◌, Option, Some, None, subst, arith}
 use Rattle.std.specs.Prelude.{length, unwrap_or, slice_get}
 use Rattle.log_scan.specs.Transition.{horizon_of, least_horizon}
-use Rattle.manager_node.specs.Serving.{fed_log}
+use Rattle.manager_serving.specs.Serving.{fed_log}
 use Rattle.wire_msg.specs.declared.body.Body.{Body}
 use Rattle.wire_msg.specs.declared.body.Body.TheVariants as body
 use Rattle.wire_msg.specs.declared.packet.Do.{Do}

@@ -5,10 +5,10 @@ use Rattle.std.specs.List.{AllByRecursion}
 use Rattle.client_log.specs.declared.input.In.TheVariants as log_input
 use Rattle.group_map.specs.GroupMapState.{GroupMapState}
 use Rattle.log_owner.specs.Sending.{server_in}
-use Rattle.manager_node.specs.Checkpoints.{Done, writes, tells_again}
-use Rattle.manager_node.specs.declared.serving.Serving.{Serving}
-use Rattle.manager_node.specs.Serving.{and_then, asker_of, with_slots, with_asker, client_in, fed_log, on_want, on_gave, on_deltas, on_check, on_usage_ask, takes, on_report, answered_by, fetch_of, on_found, on_missing, regroups, hearer_of, hears_with, hears_slots, on_newer, on_news, on_fitting_news, asks_for_maps, on_body, hears, recalls_again, asks_again, on_tick}
-use Rattle.manager_node.specs.SlotTable as table
+use Rattle.manager_parts.specs.SlotTable as table
+use Rattle.manager_serving.specs.Checkpoints.{Done, writes, tells_again}
+use Rattle.manager_serving.specs.declared.serving.Serving.{Serving}
+use Rattle.manager_serving.specs.Serving.{and_then, asker_of, with_slots, with_asker, client_in, fed_log, on_want, on_gave, on_deltas, on_check, on_usage_ask, takes, on_report, answered_by, fetch_of, on_found, on_missing, regroups, hearer_of, hears_with, hears_slots, on_newer, on_news, on_fitting_news, asks_for_maps, on_body, hears, recalls_again, asks_again, on_tick}
 use Rattle.node_base.specs.Known.{names_known}
 use Rattle.node_base.specs.Maps.{fits, is_older, taken}
 use Rattle.takeover.specs.declared.input.In.{In as TakeIn}

@@ -5,13 +5,13 @@ use Rattle.std.specs.List.{AllByRecursion}
 use Rattle.checkpoint.specs.declared.input.In.{In as WriterIn}
 use Rattle.checkpoint.specs.declared.input.In.TheVariants as writer_in
 use Rattle.group_map.specs.GroupMapState.{GroupMapState}
-use Rattle.manager_node.specs.declared.slot_phase.SlotPhase.{SlotPhase}
-use Rattle.manager_node.specs.declared.slot_phase.SlotPhase.TheVariants as phase
-use Rattle.manager_node.specs.Serving.{fed_log}
-use Rattle.manager_node.specs.SlotTable.{Table, Done, TableAsker, Asks, Hearer, all_slots, in_slot, at_slot, on_want, on_gave, on_deltas, on_check, usage_in, on_usage_ask, recalls, recalls_all, in_taken, at_taken, takes, on_report, asks, asks_all, regroups, regroups_all, hears_of, hears, hears_all, begin_one, begin_at, cleaned_phase, named_phase, changed_in, cleaned_at, named_at}
-use Rattle.manager_node.specs.Takeovers as takeovers
-use Rattle.manager_node.specs.Takeovers.{Asker, asker}
-use Rattle.manager_node.specs.Tokens as tokens
+use Rattle.manager_parts.specs.declared.slot_phase.SlotPhase.{SlotPhase}
+use Rattle.manager_parts.specs.declared.slot_phase.SlotPhase.TheVariants as phase
+use Rattle.manager_parts.specs.SlotTable.{Table, Done, TableAsker, Asks, Hearer, all_slots, in_slot, at_slot, on_want, on_gave, on_deltas, on_check, usage_in, on_usage_ask, recalls, recalls_all, in_taken, at_taken, takes, on_report, asks, asks_all, regroups, regroups_all, hears_of, hears, hears_all, begin_one, begin_at, cleaned_phase, named_phase, changed_in, cleaned_at, named_at}
+use Rattle.manager_parts.specs.Takeovers as takeovers
+use Rattle.manager_parts.specs.Takeovers.{Asker, asker}
+use Rattle.manager_parts.specs.Tokens as tokens
+use Rattle.manager_serving.specs.Serving.{fed_log}
 use Rattle.node_base.specs.declared.effects.Effect.{Effect}
 use Rattle.takeover.specs.declared.input.In.{In as TakeIn}
 use Rattle.takeover.specs.declared.input.In.TheVariants as take_in

@@ -1,12 +1,12 @@
 -- What keeps to bounds keeps to weaker ones.
 use Rattle.std.proofs.Common.{ℕ, suc, List, [], ◌∷◌}
 use Rattle.std.specs.Prelude.{Option, Some, None, IfSome}
-use Rattle.manager_node.specs.declared.checkpointing.Checkpointing.{Checkpointing}
 use Rattle.manager_node.specs.declared.phase.Phase.{Phase}
 use Rattle.manager_node.specs.declared.phase.Phase.TheVariants.{Down, Waiting, Serving as Serves}
-use Rattle.manager_node.specs.declared.slot_phase.SlotPhase.{SlotPhase}
-use Rattle.manager_node.specs.declared.slot_phase.SlotPhase.TheVariants as phase
-use Rattle.manager_node.specs.Serving.{fed_log}
+use Rattle.manager_parts.specs.declared.slot_phase.SlotPhase.{SlotPhase}
+use Rattle.manager_parts.specs.declared.slot_phase.SlotPhase.TheVariants as phase
+use Rattle.manager_serving.specs.declared.checkpointing.Checkpointing.{Checkpointing}
+use Rattle.manager_serving.specs.Serving.{fed_log}
 use Rattle.xfs_base.specs.declared.segment.LogId.{LogId}
 use Rattle.filed_tie.proofs.Leaving.{all_weaker}
 use Rattle.filed_tie.specs.Bounds.{Bounds, ReportBounded, SlotBounded, SlotsBounded, WorkBounded, DoneBounded, JobBounded, PhaseBounded}

@@ -2,14 +2,14 @@
 use Rattle.std.specs.Prelude.{◌≢◌, ◌<◌, ℕ, suc, List, [], ◌∷◌, Option, IfSome}
 use Rattle.std.specs.List.{AllByRecursion}
 use Rattle.checkpoint.specs.WriterState.{WorkState, WriterState}
-use Rattle.manager_node.specs.declared.checkpointing.Checkpointing.{Checkpointing}
 use Rattle.manager_node.specs.declared.manager.Manager.{Manager}
 use Rattle.manager_node.specs.declared.phase.Phase.{Phase}
 use Rattle.manager_node.specs.declared.phase.Phase.TheVariants.{Down, Waiting, Serving as Serves}
-use Rattle.manager_node.specs.declared.serving.Serving.{Serving}
-use Rattle.manager_node.specs.declared.slot_phase.SlotPhase.{SlotPhase}
-use Rattle.manager_node.specs.declared.slot_phase.SlotPhase.TheVariants as phase
-use Rattle.manager_node.specs.Serving.{fed_log}
+use Rattle.manager_parts.specs.declared.slot_phase.SlotPhase.{SlotPhase}
+use Rattle.manager_parts.specs.declared.slot_phase.SlotPhase.TheVariants as phase
+use Rattle.manager_serving.specs.declared.checkpointing.Checkpointing.{Checkpointing}
+use Rattle.manager_serving.specs.declared.serving.Serving.{Serving}
+use Rattle.manager_serving.specs.Serving.{fed_log}
 use Rattle.registry.specs.Checkpoints.{horizon_at}
 use Rattle.registry.specs.Slots.{entry_of}
 use Rattle.store_nodes.specs.declared.registry_node.RegistryNode.{RegistryNode}

@@ -1,7 +1,7 @@
 -- How far logs are filed, and what nodes tell of it. A reach is, of each log, the greatest number of a segment of it that was filed, and 0 where none was.
 use Rattle.std.specs.Prelude.{ℕ, suc, ◌≤◌, List, [], ◌∷◌, Option, Some, None}
 use Rattle.std.specs.List.{AllByRecursion}
-use Rattle.manager_node.specs.Serving.{fed_log}
+use Rattle.manager_serving.specs.Serving.{fed_log}
 use Rattle.version_model.specs.declared.act.Act.{Act}
 use Rattle.version_model.specs.declared.act.Act.TheVariants.{Filed}
 use Rattle.wire_msg.specs.declared.body.Body.{Body}

@@ -3,8 +3,8 @@ use Rattle.std.proofs.Common.{◌≡◌, ℕ, true, Some, None, sym, ap, subst, 
 use Rattle.delta_index.specs.Index.{entry_of, merged_all}
 use Rattle.index_tie.specs.Net as index
 use Rattle.index_tie.proofs.Slots.{rows-indexed_all}
-use Rattle.manager_node.specs.declared.slot_phase.SlotPhase.{SlotPhase}
-use Rattle.manager_node.specs.declared.slot_phase.SlotPhase.TheVariants as phase
+use Rattle.manager_parts.specs.declared.slot_phase.SlotPhase.{SlotPhase}
+use Rattle.manager_parts.specs.declared.slot_phase.SlotPhase.TheVariants as phase
 use Rattle.node_index_tie.specs.ManagerEvents as places
 use Rattle.node_index_tie.specs.Pages.{Desk}
 use Rattle.node_index_tie.specs.Sight.{Texts, DeltasKnown, held_in}

@@ -12,7 +12,7 @@ use Rattle.index_tie.proofs.Takeovers.{applied_in, of_log_in, by_log, nine}
 use Rattle.index_tie.proofs.Views.{Good}
 use Rattle.log_protocol.specs.Tables.{put}
 use Rattle.log_protocol.proofs.IndexInduction.{index_in_bounds_always}
-use Rattle.manager_node.specs.declared.slot_phase.Taking.{Taking}
+use Rattle.manager_parts.specs.declared.slot_phase.Taking.{Taking}
 use Rattle.node_index_tie.specs.ManagerEvents as places
 use Rattle.node_index_tie.specs.Pages.{Desk}
 use Rattle.node_index_tie.specs.Sight.{Texts, Questions, AreTexts, held_in}

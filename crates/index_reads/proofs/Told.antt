@@ -1,12 +1,12 @@
 -- Each event of a manager that both small worlds see is owed what the small world of tokens asks of it.
 use Rattle.std.proofs.Common.{◌≡◌, ℕ, true, Some, None, refl, sym, subst}
 use Rattle.index_tie.specs.Net as index
-use Rattle.manager_node.specs.Slots.{epoch_of, fetch_of}
-use Rattle.manager_node.specs.Takeovers.{report_input}
 use Rattle.manager_node.specs.declared.phase.Phase.{Phase}
 use Rattle.manager_node.specs.declared.phase.Phase.TheVariants.{Down, Waiting, Serving as Serves}
-use Rattle.manager_node.specs.declared.slot_phase.SlotPhase.{SlotPhase}
-use Rattle.manager_node.specs.declared.slot_phase.SlotPhase.TheVariants as phase
+use Rattle.manager_parts.specs.Slots.{epoch_of, fetch_of}
+use Rattle.manager_parts.specs.Takeovers.{report_input}
+use Rattle.manager_parts.specs.declared.slot_phase.SlotPhase.{SlotPhase}
+use Rattle.manager_parts.specs.declared.slot_phase.SlotPhase.TheVariants as phase
 use Rattle.node_index_tie.specs.ManagerEvents as places
 use Rattle.node_index_tie.specs.Pages.{desk_of}
 use Rattle.node_index_tie.specs.Sight.{Texts, Questions, AreTexts, ReportKnown, held_in}

@@ -2,7 +2,7 @@
 use Rattle.std.specs.Prelude.{ℕ, true}
 use Rattle.index_tie.specs.Net as index
 use Rattle.manager_node.specs.declared.phase.Phase.{Phase}
-use Rattle.manager_node.specs.declared.slot_phase.SlotPhase.{SlotPhase}
+use Rattle.manager_parts.specs.declared.slot_phase.SlotPhase.{SlotPhase}
 use Rattle.node_index_tie.specs.ManagerEvents as places
 use Rattle.node_index_tie.specs.Pages.{Desk}
 use Rattle.node_index_tie.specs.Sight.{Texts, Questions, AreTexts, held_in}

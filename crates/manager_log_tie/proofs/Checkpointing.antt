@@ -15,12 +15,12 @@ use Rattle.client_log.specs.declared.output.Out.TheVariants as log_out
 use Rattle.client_log.specs.Transition as log
 use Rattle.group_map.specs.GroupMapState.{GroupMapState}
 use Rattle.log_owner.specs.Sending.{name_of}
-use Rattle.manager_node.specs.Checkpoints.{Done, gives, stored, gives_parts, registers, asked, says, says_each, writer_takes, filed, on_settled, log_says, log_says_each, writes, writes_slot, begins_slot, next_from, next_for, next_slot, waits, on_checkpoint, awaits, counted, answered_by, on_ckpt_ack, done_again, told_again, tells_again}
-use Rattle.manager_node.specs.declared.checkpointing.Checkpointing.{Checkpointing}
-use Rattle.manager_node.specs.declared.serving.Serving.{Serving}
-use Rattle.manager_node.specs.Lasting.{log_of}
-use Rattle.manager_node.specs.Numbers.{slot_after}
-use Rattle.manager_node.specs.SlotTable.{next_active, begin_at, cleaned_at}
+use Rattle.manager_parts.specs.Lasting.{log_of}
+use Rattle.manager_parts.specs.Numbers.{slot_after}
+use Rattle.manager_parts.specs.SlotTable.{next_active, begin_at, cleaned_at}
+use Rattle.manager_serving.specs.Checkpoints.{Done, gives, stored, gives_parts, registers, asked, says, says_each, writer_takes, filed, on_settled, log_says, log_says_each, writes, writes_slot, begins_slot, next_from, next_for, next_slot, waits, on_checkpoint, awaits, counted, answered_by, on_ckpt_ack, done_again, told_again, tells_again}
+use Rattle.manager_serving.specs.declared.checkpointing.Checkpointing.{Checkpointing}
+use Rattle.manager_serving.specs.declared.serving.Serving.{Serving}
 use Rattle.segment_format.specs.declared.segment.Item.{Item}
 use Rattle.version_model.specs.declared.answer.Answer.TheVariants as answer
 use Rattle.wire_msg.specs.declared.registry.CkptAck.{CkptAck}

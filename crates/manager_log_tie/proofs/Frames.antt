@@ -1,8 +1,8 @@
 -- How a manager that serves goes on in the small world of its log: what of it stays, and how one thing that it does follows another.
 use Rattle.std.proofs.Common.{◌≡◌, ℕ, List, [], ◌∷◌, sym, subst}
 use Rattle.std.specs.List.{AllByRecursion}
-use Rattle.manager_node.specs.Checkpoints.{Done}
-use Rattle.manager_node.specs.declared.serving.Serving.{Serving}
+use Rattle.manager_serving.specs.Checkpoints.{Done}
+use Rattle.manager_serving.specs.declared.serving.Serving.{Serving}
 use Rattle.node_base.specs.declared.effects.Effect.{Effect}
 use Rattle.node_base.specs.declared.effects.Effect.TheVariants.{Send, Answer, Lose, Does}
 use Rattle.version_model.specs.declared.act.Act.{Act}

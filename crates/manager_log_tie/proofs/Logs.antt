@@ -6,7 +6,7 @@ use Rattle.xfs_base.specs.Steps.{still}
 use Rattle.client_log.specs.declared.input.In.{In as Input}
 use Rattle.client_log.specs.declared.input.In.TheVariants.{Acked}
 use Rattle.client_log.specs.Transition.{Done, transition}
-use Rattle.manager_node.specs.declared.serving.Serving.{Serving}
+use Rattle.manager_serving.specs.declared.serving.Serving.{Serving}
 use Rattle.log_protocol.specs.Tables.{In}
 use Rattle.log_tie.specs.Seen.{log_filed}
 use Rattle.log_tie.specs.Setting.{Setting}

@@ -3,10 +3,10 @@ use Rattle.std.proofs.Common.{ℕ, ◌==◌, refl, sym, ap, arith}
 use Rattle.client_log.specs.LogState.{started}
 use Rattle.group_map.specs.Groups as groups
 use Rattle.manager_map.specs.Slots.{start_entries, entry_at}
-use Rattle.manager_node.specs.declared.slot_phase.SlotPhase.TheVariants as phase
-use Rattle.manager_node.specs.Lasting.{log_of}
-use Rattle.manager_node.specs.Slots.{first_active}
-use Rattle.manager_node.specs.SlotTable.{first_phase, first_table}
+use Rattle.manager_parts.specs.declared.slot_phase.SlotPhase.TheVariants as phase
+use Rattle.manager_parts.specs.Lasting.{log_of}
+use Rattle.manager_parts.specs.Slots.{first_active}
+use Rattle.manager_parts.specs.SlotTable.{first_phase, first_table}
 use Rattle.xfs_base.proofs.Booleans.{by_test}
 use Rattle.xfs_base.specs.Blocks.{slot_of}
 use Rattle.xfs_base.specs.declared.segment.LogId.{LogId}

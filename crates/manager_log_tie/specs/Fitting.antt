@@ -14,9 +14,9 @@ use Rattle.client_log.specs.declared.input.In.{In as Input}
 use Rattle.client_log.specs.declared.input.In.TheVariants.{Put, Parts, Seal, Acked, Maps, Tick}
 use Rattle.client_log.specs.History.{state_after}
 use Rattle.client_log.specs.LogState.{LogState}
-use Rattle.manager_node.specs.declared.slot_phase.SlotPhase.{SlotPhase}
-use Rattle.manager_node.specs.declared.slot_phase.SlotPhase.TheVariants as phase
-use Rattle.manager_node.specs.SlotTable.{Table}
+use Rattle.manager_parts.specs.declared.slot_phase.SlotPhase.{SlotPhase}
+use Rattle.manager_parts.specs.declared.slot_phase.SlotPhase.TheVariants as phase
+use Rattle.manager_parts.specs.SlotTable.{Table}
 use Rattle.takeover.specs.declared.source.Present.{Present}
 use Rattle.takeover.specs.TakeState.{TakeState}
 use Rattle.wire_msg.specs.declared.body.Body.{Body}

@@ -1,10 +1,10 @@
 -- How a manager is seen as the owner of its log in the small world of that log. It opens no log: while it is down, or awaits the Welcome of its restart, the
 -- owner is down, and at that Welcome the log begins anew.
 use Rattle.std.specs.Prelude.{◌≡◌, ◌≤◌, ◌<◌, ◌^◌, ℕ}
-use Rattle.manager_node.specs.declared.lasting.Lasting.{Lasting as Kept}
 use Rattle.manager_node.specs.declared.phase.Phase.{Phase}
 use Rattle.manager_node.specs.declared.phase.Phase.TheVariants.{Down, Waiting, Serving as Serves}
-use Rattle.manager_node.specs.declared.serving.Serving.{Serving}
+use Rattle.manager_parts.specs.declared.lasting.Lasting.{Lasting as Kept}
+use Rattle.manager_serving.specs.declared.serving.Serving.{Serving}
 use Rattle.xfs_base.specs.declared.node.NodeId.TheVariants.{Manager}
 use Rattle.log_tie.specs.Setting.{Setting}
 use Rattle.log_law.specs.Net.{Owner as owner}

@@ -10,7 +10,7 @@ use Rattle.xfs_base.specs.declared.node.NodeId.TheVariants.{Manager}
 use Rattle.xfs_base.specs.declared.setup.Setup.{Setup}
 use Rattle.manager_node.specs.declared.manager.Manager as managers
 use Rattle.manager_node.specs.Events.{first_manager, manager_step}
-use Rattle.manager_node.specs.Lasting.{log_of}
+use Rattle.manager_parts.specs.Lasting.{log_of}
 use Rattle.log_tie.specs.Setting.{Setting}
 use Rattle.log_law.specs.Net.{opening}
 use Rattle.node_log_tie.specs.Sight.{AllSeen, PacketSeen}

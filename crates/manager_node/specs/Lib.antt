@@ -1,11 +1,3 @@
-pub mod Checkpoints
 pub mod Clocks
 pub mod Events
-pub mod Lasting
-pub mod Numbers
 pub mod Phases
-pub mod Serving
-pub mod SlotTable
-pub mod Slots
-pub mod Takeovers
-pub mod Tokens

@@ -1,6 +1,12 @@
 -- Where a manager stands, and what its next item makes of it.
 use Rattle.std.specs.Prelude.{ℕ, Bool, List, [], ◌∷◌, ◌++◌, Option, Some, None}
 use Rattle.log_owner.specs.Sending.{hello}
+use Rattle.manager_parts.specs.declared.lasting.Lasting.{Lasting as Kept}
+use Rattle.manager_parts.specs.Lasting.{kept_has_room, with_answer}
+use Rattle.manager_parts.specs.Numbers.{risen}
+use Rattle.manager_serving.specs.Checkpoints.{Done, on_checkpoint}
+use Rattle.manager_serving.specs.declared.serving.Serving.{Serving}
+use Rattle.manager_serving.specs.Serving.{serving_room}
 use Rattle.node_base.specs.Asking.{next_ask, drawn}
 use Rattle.node_base.specs.Beginning.{next_item, begun, work_at, answers_unanswered}
 use Rattle.node_base.specs.declared.effects.Effect.{Effect}
@@ -10,16 +16,10 @@ use Rattle.version_model.specs.declared.answer.Answer.TheVariants as answer
 use Rattle.version_model.specs.declared.work.Work.{Work}
 use Rattle.version_model.specs.declared.work.Work.TheVariants as work
 use Rattle.xfs_base.specs.Steps.{Stepped, still, after}
-use Rattle.manager_node.specs.Checkpoints.{Done, on_checkpoint}
 use Rattle.manager_node.specs.declared.beginning.Wish.{Wish}
 use Rattle.manager_node.specs.declared.beginning.Wish.TheVariants.{Crash, Restart, Checkpoint}
-use Rattle.manager_node.specs.declared.lasting.Lasting.{Lasting as Kept}
 use Rattle.manager_node.specs.declared.phase.Phase.{Phase}
 use Rattle.manager_node.specs.declared.phase.Phase.TheVariants.{Down, Waiting, Serving as Serves}
-use Rattle.manager_node.specs.declared.serving.Serving.{Serving}
-use Rattle.manager_node.specs.Lasting.{kept_has_room, with_answer}
-use Rattle.manager_node.specs.Numbers.{risen}
-use Rattle.manager_node.specs.Serving.{serving_room}
 
 -- the phase of a manager after an event, and what the event has it do
 abbrev pub Went_to : Type 0

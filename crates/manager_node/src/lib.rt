@@ -5,16 +5,7 @@
 
 mod actor;
 mod beginning;
-mod checkpointing;
-mod lasting;
 pub mod manager;
 mod phase;
-mod senders;
-mod serving;
-mod slot_phase;
-mod slot_table;
-mod slot_takeovers;
-mod takeovers;
-mod tokens;
 
 pub use manager::Manager;

@@ -14,11 +14,11 @@ use Rattle.index_tie.specs.Net.{Net, Happens, with_slot, IsOfTokens, answer_pack
 use Rattle.index_tie.specs.Net.Packet.{AnsweredLive, AnsweredDead}
 use Rattle.index_tie.specs.Net.Happens.{GetsDeltas, GetsOther, Answers}
 use Rattle.index_tie.proofs.Slots.{Same}
-use Rattle.manager_node.specs.Slots.{with_slot as holding}
-use Rattle.manager_node.specs.Tokens.{said, takes, want_input, gone, on_want, deltas_input, on_deltas, check_input, check_said, on_check, on_usage_ask}
-use Rattle.manager_node.specs.declared.slot_phase.Active.{Active}
-use Rattle.manager_node.specs.declared.slot_phase.SlotPhase.{SlotPhase}
-use Rattle.manager_node.specs.declared.slot_phase.SlotPhase.TheVariants as phase
+use Rattle.manager_parts.specs.Slots.{with_slot as holding}
+use Rattle.manager_parts.specs.Tokens.{said, takes, want_input, gone, on_want, deltas_input, on_deltas, check_input, check_said, on_check, on_usage_ask}
+use Rattle.manager_parts.specs.declared.slot_phase.Active.{Active}
+use Rattle.manager_parts.specs.declared.slot_phase.SlotPhase.{SlotPhase}
+use Rattle.manager_parts.specs.declared.slot_phase.SlotPhase.TheVariants as phase
 use Rattle.node_base.specs.declared.effects.Effect.{Effect}
 use Rattle.slot_beliefs.specs.Index.{Indexed, pages_of}
 use Rattle.slot_beliefs.specs.Recalls.{applied_of}

@@ -2,11 +2,11 @@
 use Rattle.std.proofs.Common.{◌≡◌, ℕ, Option, Some, None, refl, sym, subst, ◌∙◌}
 use Rattle.node_index_tie.specs.Pages.{Desk, desk_of}
 use Rattle.index_tie.specs.Net.{Net}
-use Rattle.manager_node.specs.declared.checkpointing.Checkpointing.{Checkpointing}
-use Rattle.manager_node.specs.declared.serving.Serving.{Serving}
-use Rattle.manager_node.specs.declared.slot_phase.Active.{Active}
-use Rattle.manager_node.specs.declared.slot_phase.SlotPhase.{SlotPhase}
-use Rattle.manager_node.specs.declared.slot_phase.SlotPhase.TheVariants as phase
+use Rattle.manager_parts.specs.declared.slot_phase.Active.{Active}
+use Rattle.manager_parts.specs.declared.slot_phase.SlotPhase.{SlotPhase}
+use Rattle.manager_parts.specs.declared.slot_phase.SlotPhase.TheVariants as phase
+use Rattle.manager_serving.specs.declared.checkpointing.Checkpointing.{Checkpointing}
+use Rattle.manager_serving.specs.declared.serving.Serving.{Serving}
 use Rattle.node_tie.specs.ManagerEvents.{phase_at, HeldAt}
 use Rattle.slot_beliefs.specs.Index.{pages_of}
 use Rattle.takeover.specs.TakeState.{TakeState}

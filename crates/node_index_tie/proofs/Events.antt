@@ -6,20 +6,20 @@ use Rattle.xfs_base.proofs.Booleans.{by_test, and_first}
 use Rattle.xfs_base.specs.Steps.{still}
 use Rattle.index_tie.specs.Net.{Net}
 use Rattle.index_tie.specs.Net.Runs.{Begun}
-use Rattle.manager_node.specs.Checkpoints.{Done, on_checkpoint}
 use Rattle.manager_node.specs.Events.{takes_welcome, on_welcome, on_waiting, on_packet, on_deliver, on_time, on_event, happens}
-use Rattle.manager_node.specs.Lasting.{log_of}
 use Rattle.manager_node.specs.Phases.{Went_to, lasting_of, phase_has_room, serves, crashes, restarts, wish_at, down_wish, waiting_wish, serving_wish, with_begun, down_item, waiting_item, serving_item, begin_down, begin_waiting, begin_serving, on_begin}
-use Rattle.manager_node.specs.Serving.{again, begun as serving_begun, no_end, on_news, hears, on_tick}
-use Rattle.manager_node.specs.SlotTable.{Table, unknown_table}
-use Rattle.manager_node.specs.Slots.{epoch_of}
+use Rattle.manager_parts.specs.Lasting.{log_of}
+use Rattle.manager_parts.specs.SlotTable.{Table, unknown_table}
+use Rattle.manager_parts.specs.Slots.{epoch_of}
+use Rattle.manager_serving.specs.Checkpoints.{Done, on_checkpoint}
+use Rattle.manager_serving.specs.Serving.{again, begun as serving_begun, no_end, on_news, hears, on_tick}
 use Rattle.checkpoint.specs.Transition.{started as writer_started}
 use Rattle.client_log.specs.LogState.{started as log_started}
-use Rattle.manager_node.specs.declared.lasting.Lasting.{Lasting as Kept}
 use Rattle.manager_node.specs.declared.phase.Phase.{Phase}
 use Rattle.manager_node.specs.declared.phase.Phase.TheVariants.{Down, Waiting, Serving as Serves}
-use Rattle.manager_node.specs.declared.serving.Serving.{Serving}
-use Rattle.manager_node.specs.declared.slot_phase.SlotPhase.TheVariants as phase
+use Rattle.manager_parts.specs.declared.lasting.Lasting.{Lasting as Kept}
+use Rattle.manager_parts.specs.declared.slot_phase.SlotPhase.TheVariants as phase
+use Rattle.manager_serving.specs.declared.serving.Serving.{Serving}
 use Rattle.group_map.specs.GroupMapState.{GroupMapState}
 use Rattle.node_base.specs.Beginning.{is_left, next_item, work_at, answers_unanswered, begun}
 use Rattle.node_base.specs.Maps.{fits, forgotten}

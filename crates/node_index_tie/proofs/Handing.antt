@@ -23,12 +23,12 @@ use Rattle.index_tie.specs.Net.Happens.{Activates}
 use Rattle.index_tie.specs.Takeovers.{of_log, IsEnd, Linked}
 use Rattle.index_tie.proofs.Takeovers.{applied_in, of_log_in, nine}
 use Rattle.log_protocol.specs.Tables.{In}
-use Rattle.manager_node.specs.Slots.{epoch_of, managed}
-use Rattle.manager_node.specs.SlotTable.{Hearer, hears_of}
-use Rattle.manager_node.specs.Takeovers.{Asker, asker, Done, says, says_each, heard, takes, report_input, on_report, phase_of}
-use Rattle.manager_node.specs.declared.slot_phase.SlotPhase.{SlotPhase}
-use Rattle.manager_node.specs.declared.slot_phase.SlotPhase.TheVariants as phase
-use Rattle.manager_node.specs.declared.slot_phase.Taking.{Taking}
+use Rattle.manager_parts.specs.Slots.{epoch_of, managed}
+use Rattle.manager_parts.specs.SlotTable.{Hearer, hears_of}
+use Rattle.manager_parts.specs.Takeovers.{Asker, asker, Done, says, says_each, heard, takes, report_input, on_report, phase_of}
+use Rattle.manager_parts.specs.declared.slot_phase.SlotPhase.{SlotPhase}
+use Rattle.manager_parts.specs.declared.slot_phase.SlotPhase.TheVariants as phase
+use Rattle.manager_parts.specs.declared.slot_phase.Taking.{Taking}
 use Rattle.node_base.specs.declared.questions.Questions.{Questions as Numbers}
 use Rattle.node_tie.specs.ManagerEvents.{HeldAt}
 use Rattle.node_tie.proofs.ManagerTakes.{Hands, Brings, took, all_heard, same_node_is}

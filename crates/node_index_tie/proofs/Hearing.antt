@@ -12,16 +12,16 @@ use Rattle.client_log.specs.declared.input.In.TheVariants as log_input
 use Rattle.group_map.specs.GroupMapState.{GroupMapState}
 use Rattle.index_tie.specs.Net.{Net}
 use Rattle.log_owner.specs.Sending.{server_in}
-use Rattle.manager_node.specs.Checkpoints as node
-use Rattle.manager_node.specs.Checkpoints.{Done, gives}
-use Rattle.manager_node.specs.Serving as serving
-use Rattle.manager_node.specs.Serving.{and_then, asker_of, with_slots, with_asker}
-use Rattle.manager_node.specs.SlotTable as table
-use Rattle.manager_node.specs.SlotTable.{Table, Asks}
-use Rattle.manager_node.specs.Slots.{epoch_of, fetch_of as fetch_in}
-use Rattle.manager_node.specs.declared.serving.Serving.{Serving}
-use Rattle.manager_node.specs.declared.slot_phase.SlotPhase.{SlotPhase}
-use Rattle.manager_node.specs.declared.slot_phase.SlotPhase.TheVariants as phase
+use Rattle.manager_parts.specs.SlotTable as table
+use Rattle.manager_parts.specs.SlotTable.{Table, Asks}
+use Rattle.manager_parts.specs.Slots.{epoch_of, fetch_of as fetch_in}
+use Rattle.manager_parts.specs.declared.slot_phase.SlotPhase.{SlotPhase}
+use Rattle.manager_parts.specs.declared.slot_phase.SlotPhase.TheVariants as phase
+use Rattle.manager_serving.specs.Checkpoints as node
+use Rattle.manager_serving.specs.Checkpoints.{Done, gives}
+use Rattle.manager_serving.specs.Serving as serving
+use Rattle.manager_serving.specs.Serving.{and_then, asker_of, with_slots, with_asker}
+use Rattle.manager_serving.specs.declared.serving.Serving.{Serving}
 use Rattle.node_base.specs.Known.{names_known}
 use Rattle.node_base.specs.Maps.{fits, is_older, taken}
 use Rattle.node_tie.specs.ManagerEvents.{phase_at, NamedBy}

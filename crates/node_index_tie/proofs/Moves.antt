@@ -10,9 +10,9 @@ use Rattle.index_tie.specs.Net.Runs.{Begun, On}
 use Rattle.index_tie.specs.Takeovers.{of_log, IsEnd, Linked}
 use Rattle.index_tie.proofs.Tables.{at_same, at_other, put_each}
 use Rattle.log_protocol.specs.Tables.{In, put}
-use Rattle.manager_node.specs.Slots.{epoch_of}
-use Rattle.manager_node.specs.declared.slot_phase.SlotPhase.{SlotPhase}
-use Rattle.manager_node.specs.declared.slot_phase.SlotPhase.TheVariants as phase
+use Rattle.manager_parts.specs.Slots.{epoch_of}
+use Rattle.manager_parts.specs.declared.slot_phase.SlotPhase.{SlotPhase}
+use Rattle.manager_parts.specs.declared.slot_phase.SlotPhase.TheVariants as phase
 use Rattle.node_base.specs.declared.effects.Effect.{Effect}
 use Rattle.node_base.specs.declared.effects.Effect.TheVariants.{Send, Answer, Lose, Does}
 use Rattle.node_tie.specs.ManagerEvents.{HeldAt}

@@ -21,15 +21,15 @@ use Rattle.index_tie.specs.Net.Packet.{CheckpointPlanned}
 use Rattle.index_tie.specs.Net.Happens.{Plans, Cleans}
 use Rattle.index_tie.specs.Net.Runs.{Begun, On}
 use Rattle.index_tie.proofs.Takeovers.{of_log_in}
-use Rattle.manager_node.specs.Checkpoints as node
-use Rattle.manager_node.specs.Checkpoints.{Done}
-use Rattle.manager_node.specs.Numbers.{risen}
-use Rattle.manager_node.specs.Slots.{epoch_of}
-use Rattle.manager_node.specs.SlotTable.{Table, next_of, all_logs, horizon_of, begin_with, begin_in, begin_one, begin_at, cleaned_phase, cleaned_at}
-use Rattle.manager_node.specs.declared.serving.Serving.{Serving}
-use Rattle.manager_node.specs.declared.slot_phase.Active.{Active}
-use Rattle.manager_node.specs.declared.slot_phase.SlotPhase.{SlotPhase}
-use Rattle.manager_node.specs.declared.slot_phase.SlotPhase.TheVariants as phase
+use Rattle.manager_parts.specs.Numbers.{risen}
+use Rattle.manager_parts.specs.Slots.{epoch_of}
+use Rattle.manager_parts.specs.SlotTable.{Table, next_of, all_logs, horizon_of, begin_with, begin_in, begin_one, begin_at, cleaned_phase, cleaned_at}
+use Rattle.manager_parts.specs.declared.slot_phase.Active.{Active}
+use Rattle.manager_parts.specs.declared.slot_phase.SlotPhase.{SlotPhase}
+use Rattle.manager_parts.specs.declared.slot_phase.SlotPhase.TheVariants as phase
+use Rattle.manager_serving.specs.Checkpoints as node
+use Rattle.manager_serving.specs.Checkpoints.{Done}
+use Rattle.manager_serving.specs.declared.serving.Serving.{Serving}
 use Rattle.node_tie.specs.ManagerEvents.{phase_at, HeldAt}
 use Rattle.slot_beliefs.specs.Index.{Indexed, pages_of, cleaned_index}
 use Rattle.slot_beliefs.specs.Recalls.{applied_of}

@@ -8,13 +8,13 @@ use Rattle.checkpoint.specs.declared.output.Out.TheVariants as out
 use Rattle.checkpoint.specs.Transition as writer
 use Rattle.checkpoint.specs.WriterState.{WriterState}
 use Rattle.index_tie.specs.Net.{Net}
-use Rattle.manager_node.specs.Checkpoints as node
-use Rattle.manager_node.specs.Checkpoints.{Done, gives}
-use Rattle.manager_node.specs.Numbers.{slot_after}
-use Rattle.manager_node.specs.SlotTable as table
-use Rattle.manager_node.specs.SlotTable.{Table, Asks}
-use Rattle.manager_node.specs.declared.checkpointing.Checkpointing.{Checkpointing}
-use Rattle.manager_node.specs.declared.serving.Serving.{Serving}
+use Rattle.manager_parts.specs.Numbers.{slot_after}
+use Rattle.manager_parts.specs.SlotTable as table
+use Rattle.manager_parts.specs.SlotTable.{Table, Asks}
+use Rattle.manager_serving.specs.Checkpoints as node
+use Rattle.manager_serving.specs.Checkpoints.{Done, gives}
+use Rattle.manager_serving.specs.declared.checkpointing.Checkpointing.{Checkpointing}
+use Rattle.manager_serving.specs.declared.serving.Serving.{Serving}
 use Rattle.node_base.specs.Beginning.{answers_unanswered}
 use Rattle.node_base.specs.declared.effects.Effect.TheVariants.{Answer as Answers}
 use Rattle.node_tie.specs.ManagerEvents.{phase_at}

@@ -19,9 +19,9 @@ use Rattle.client_log.specs.LogState.{FlightState, LogState}
 use Rattle.client_log.specs.Transition as log
 use Rattle.index_tie.specs.Net.{Net}
 use Rattle.index_tie.proofs.Checkpoints.{parts_tell}
-use Rattle.manager_node.specs.Checkpoints as node
-use Rattle.manager_node.specs.Checkpoints.{Done}
-use Rattle.manager_node.specs.declared.serving.Serving.{Serving}
+use Rattle.manager_serving.specs.Checkpoints as node
+use Rattle.manager_serving.specs.Checkpoints.{Done}
+use Rattle.manager_serving.specs.declared.serving.Serving.{Serving}
 use Rattle.node_tie.specs.ManagerEvents.{phase_at}
 use Rattle.takeover.specs.Rows.{told_of}
 use Rattle.node_index_tie.specs.ManagerEvents.{ServingAgrees}

@@ -6,10 +6,10 @@ use Rattle.xfs_base.specs.declared.setup.Setup.{Setup}
 use Rattle.index_tie.specs.Net.{opening}
 use Rattle.manager_map.specs.Slots.{start_entries, entry_at}
 use Rattle.manager_node.specs.Events.{first_manager, first_life}
-use Rattle.manager_node.specs.SlotTable.{all_slots, first_phase, first_table}
-use Rattle.manager_node.specs.Slots.{first_active}
-use Rattle.manager_node.specs.declared.slot_phase.SlotPhase.{SlotPhase}
-use Rattle.manager_node.specs.declared.slot_phase.SlotPhase.TheVariants as phase
+use Rattle.manager_parts.specs.SlotTable.{all_slots, first_phase, first_table}
+use Rattle.manager_parts.specs.Slots.{first_active}
+use Rattle.manager_parts.specs.declared.slot_phase.SlotPhase.{SlotPhase}
+use Rattle.manager_parts.specs.declared.slot_phase.SlotPhase.TheVariants as phase
 use Rattle.group_map.specs.Groups.{started as groups_started}
 use Rattle.node_base.specs.Maps.{at_start}
 use Rattle.node_tie.specs.ManagerEvents.{phase_at}

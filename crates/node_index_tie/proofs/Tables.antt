@@ -13,14 +13,14 @@ use Rattle.xfs_base.specs.declared.segment.LogId.{LogId}
 use Rattle.node_index_tie.specs.Pages.{Desk}
 use Rattle.group_map.specs.GroupMapState.{GroupMapState}
 use Rattle.index_tie.specs.Net.{Net}
-use Rattle.manager_node.specs.Slots.{epoch_of}
-use Rattle.manager_node.specs.SlotTable as table
-use Rattle.manager_node.specs.SlotTable.{Table, TableAsker, Asks, Hearer, all_slots}
-use Rattle.manager_node.specs.Takeovers as takeovers
-use Rattle.manager_node.specs.Takeovers.{Asker, asker}
-use Rattle.manager_node.specs.Tokens as tokens
-use Rattle.manager_node.specs.declared.slot_phase.SlotPhase.{SlotPhase}
-use Rattle.manager_node.specs.declared.slot_phase.SlotPhase.TheVariants as phase
+use Rattle.manager_parts.specs.Slots.{epoch_of}
+use Rattle.manager_parts.specs.SlotTable as table
+use Rattle.manager_parts.specs.SlotTable.{Table, TableAsker, Asks, Hearer, all_slots}
+use Rattle.manager_parts.specs.Takeovers as takeovers
+use Rattle.manager_parts.specs.Takeovers.{Asker, asker}
+use Rattle.manager_parts.specs.Tokens as tokens
+use Rattle.manager_parts.specs.declared.slot_phase.SlotPhase.{SlotPhase}
+use Rattle.manager_parts.specs.declared.slot_phase.SlotPhase.TheVariants as phase
 use Rattle.node_base.specs.declared.effects.Effect.{Effect}
 use Rattle.node_base.specs.declared.questions.Questions.{Questions as Numbers}
 use Rattle.node_tie.specs.ManagerEvents.{phase_at, HeldAt}

@@ -8,9 +8,9 @@ use Rattle.checkpoint.specs.Laws.{Event}
 use Rattle.checkpoint.specs.WriterState.{WorkState}
 use Rattle.index_pages.specs.Pages.{PagesState}
 use Rattle.index_tie.specs.Net.{Net}
-use Rattle.manager_node.specs.SlotTable.{Table, changed_in}
-use Rattle.manager_node.specs.declared.slot_phase.SlotPhase.{SlotPhase}
-use Rattle.manager_node.specs.declared.slot_phase.SlotPhase.TheVariants as phase
+use Rattle.manager_parts.specs.SlotTable.{Table, changed_in}
+use Rattle.manager_parts.specs.declared.slot_phase.SlotPhase.{SlotPhase}
+use Rattle.manager_parts.specs.declared.slot_phase.SlotPhase.TheVariants as phase
 use Rattle.node_tie.specs.ManagerEvents.{phase_at}
 use Rattle.node_index_tie.specs.ManagerEvents.{PhaseAgrees}
 use Rattle.node_index_tie.specs.Pages.{Desk, IsWork, Paged, WorkSeen}

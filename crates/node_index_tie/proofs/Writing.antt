@@ -22,14 +22,14 @@ use Rattle.index_pages.specs.Pages.{PagesState}
 use Rattle.index_tie.specs.Net.{Net}
 use Rattle.index_tie.specs.Net.Packet.{CheckpointDone}
 use Rattle.index_tie.specs.Net.Happens.{Checkpoints}
-use Rattle.manager_node.specs.Checkpoints as node
-use Rattle.manager_node.specs.Checkpoints.{Done}
-use Rattle.manager_node.specs.Slots.{epoch_of}
-use Rattle.manager_node.specs.SlotTable.{named_phase, named_at}
-use Rattle.manager_node.specs.declared.checkpointing.Checkpointing.{Checkpointing}
-use Rattle.manager_node.specs.declared.serving.Serving.{Serving}
-use Rattle.manager_node.specs.declared.slot_phase.SlotPhase.{SlotPhase}
-use Rattle.manager_node.specs.declared.slot_phase.SlotPhase.TheVariants as phase
+use Rattle.manager_parts.specs.Slots.{epoch_of}
+use Rattle.manager_parts.specs.SlotTable.{named_phase, named_at}
+use Rattle.manager_parts.specs.declared.slot_phase.SlotPhase.{SlotPhase}
+use Rattle.manager_parts.specs.declared.slot_phase.SlotPhase.TheVariants as phase
+use Rattle.manager_serving.specs.Checkpoints as node
+use Rattle.manager_serving.specs.Checkpoints.{Done}
+use Rattle.manager_serving.specs.declared.checkpointing.Checkpointing.{Checkpointing}
+use Rattle.manager_serving.specs.declared.serving.Serving.{Serving}
 use Rattle.node_base.specs.Asking.{next_ask}
 use Rattle.node_base.specs.declared.effects.Effect.{Effect}
 use Rattle.node_tie.specs.ManagerEvents.{phase_at, HeldAt}

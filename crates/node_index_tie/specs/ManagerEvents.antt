@@ -11,12 +11,12 @@ use Rattle.manager_node.specs.Phases.{Went_to, lasting_of}
 use Rattle.manager_node.specs.declared.manager.Manager.{Manager as AManager}
 use Rattle.manager_node.specs.declared.phase.Phase.{Phase}
 use Rattle.manager_node.specs.declared.phase.Phase.TheVariants.{Down, Waiting, Serving as Serves}
-use Rattle.manager_node.specs.declared.serving.Serving.{Serving}
-use Rattle.manager_node.specs.declared.slot_phase.Active.{Active}
-use Rattle.manager_node.specs.declared.slot_phase.SlotPhase.{SlotPhase}
-use Rattle.manager_node.specs.declared.slot_phase.SlotPhase.TheVariants as phase
-use Rattle.manager_node.specs.declared.slot_phase.Taking.{Taking}
-use Rattle.manager_node.specs.Slots.{fetch_of}
+use Rattle.manager_parts.specs.declared.slot_phase.Active.{Active}
+use Rattle.manager_parts.specs.declared.slot_phase.SlotPhase.{SlotPhase}
+use Rattle.manager_parts.specs.declared.slot_phase.SlotPhase.TheVariants as phase
+use Rattle.manager_parts.specs.declared.slot_phase.Taking.{Taking}
+use Rattle.manager_parts.specs.Slots.{fetch_of}
+use Rattle.manager_serving.specs.declared.serving.Serving.{Serving}
 use Rattle.node_tie.specs.ManagerEvents.{phase_at, HeldAt, Names, slot_in, epoch_in, is_serving}
 use Rattle.segment_format.specs.declared.segment.Segment.{Segment}
 use Rattle.segment_reading.specs.Reading.{ReadingState, on_answer}

@@ -11,8 +11,8 @@ use Rattle.log_protocol.specs.Tables.{In}
 use Rattle.wire_msg.specs.declared.registry.CkptDone.{CkptDone}
 use Rattle.xfs_base.specs.Limits.{u32_end}
 use Rattle.xfs_base.specs.declared.segment.SegRef.{SegRef}
-use Rattle.manager_node.specs.declared.checkpointing.Checkpointing.{Checkpointing}
-use Rattle.manager_node.specs.declared.serving.Serving.{Serving}
+use Rattle.manager_serving.specs.declared.checkpointing.Checkpointing.{Checkpointing}
+use Rattle.manager_serving.specs.declared.serving.Serving.{Serving}
 use Rattle.node_index_tie.specs.Sight.{Texts, held_in, RowsFit, CkptSeen}
 
 -- pages, once these rows are put

@@ -28,11 +28,11 @@ use Rattle.wire_msg.specs.declared.cleaning.UsageAsk.{UsageAsk}
 use Rattle.wire_msg.specs.declared.deltas.Deltas.{Deltas}
 use Rattle.wire_msg.specs.declared.tokens.Gave.{Gave}
 use Rattle.wire_msg.specs.declared.tokens.Want.{Want}
-use Rattle.manager_node.specs.declared.slot_phase.Active.{Active}
-use Rattle.manager_node.specs.declared.slot_phase.SlotPhase.{SlotPhase}
-use Rattle.manager_node.specs.declared.slot_phase.SlotPhase.TheVariants as phase
-use Rattle.manager_node.specs.Slots.{with_slot}
-use Rattle.manager_node.specs.Tokens.{said, takes, want_input, gone, on_want, gave_input, on_gave, deltas_input, on_deltas, check_input, check_said, on_check, on_usage_ask, on_tick}
+use Rattle.manager_parts.specs.declared.slot_phase.Active.{Active}
+use Rattle.manager_parts.specs.declared.slot_phase.SlotPhase.{SlotPhase}
+use Rattle.manager_parts.specs.declared.slot_phase.SlotPhase.TheVariants as phase
+use Rattle.manager_parts.specs.Slots.{with_slot}
+use Rattle.manager_parts.specs.Tokens.{said, takes, want_input, gone, on_want, gave_input, on_gave, deltas_input, on_deltas, check_input, check_said, on_check, on_usage_ask, on_tick}
 use Rattle.node_tie.specs.Sight.{WantSeen, GaveSeen}
 use Rattle.node_tie.specs.ManagerEvents.{PhaseAgrees, ActiveAgrees, OtherAgrees, DeltasJoin}
 use Rattle.node_tie.proofs.ManagerPages.{takes_alike_both, takes_stay}

@@ -26,11 +26,11 @@ use Rattle.version_model.specs.declared.answer.Answer.TheVariants as answer
 use Rattle.wire_msg.specs.declared.registry.CkptAck.{CkptAck}
 use Rattle.wire_msg.specs.declared.registry.CkptDone.{CkptDone}
 use Rattle.wire_msg.specs.declared.storage.Stored.{Stored}
-use Rattle.manager_node.specs.Checkpoints.{Done, gives, stored, gives_parts, registers, asked, says, says_each, writer_takes, filed, on_settled, log_says, log_says_each, writes, on_stored, no_more, writes_slot, begins_slot, next_from, next_for, next_slot, waits, on_checkpoint, awaits, counted, answered_by, on_ckpt_ack, done_again, told_again, tells_again}
-use Rattle.manager_node.specs.declared.checkpointing.Checkpointing.{Checkpointing}
-use Rattle.manager_node.specs.declared.serving.Serving.{Serving}
-use Rattle.manager_node.specs.Numbers.{slot_after}
-use Rattle.manager_node.specs.SlotTable.{Table, next_active, begin_at, cleaned_at}
+use Rattle.manager_parts.specs.Numbers.{slot_after}
+use Rattle.manager_parts.specs.SlotTable.{Table, next_active, begin_at, cleaned_at}
+use Rattle.manager_serving.specs.Checkpoints.{Done, gives, stored, gives_parts, registers, asked, says, says_each, writer_takes, filed, on_settled, log_says, log_says_each, writes, on_stored, no_more, writes_slot, begins_slot, next_from, next_for, next_slot, waits, on_checkpoint, awaits, counted, answered_by, on_ckpt_ack, done_again, told_again, tells_again}
+use Rattle.manager_serving.specs.declared.checkpointing.Checkpointing.{Checkpointing}
+use Rattle.manager_serving.specs.declared.serving.Serving.{Serving}
 use Rattle.node_tie.specs.ManagerEvents.{phase_at, TableAgrees}
 use Rattle.node_tie.proofs.ManagerMoves.{AllDone, Stays, stays_same, stays_then}
 use Rattle.node_tie.proofs.ManagerTables.{TableStays, table_cleans, table_names}

@@ -28,20 +28,20 @@ use Rattle.wire_msg.specs.declared.packet.Do.{Do}
 use Rattle.wire_msg.specs.declared.packet.Do.TheVariants.{Begin, Deliver, Tick}
 use Rattle.wire_msg.specs.declared.packet.Packet.{Packet as Sent}
 use Rattle.wire_msg.specs.declared.registry.Welcome.{Welcome}
-use Rattle.manager_node.specs.Checkpoints.{Done, on_checkpoint}
 use Rattle.manager_node.specs.Events.{takes_welcome, on_welcome, on_waiting, on_packet, on_deliver, on_time, on_event, happens}
-use Rattle.manager_node.specs.Lasting.{with_answer}
-use Rattle.manager_node.specs.Numbers.{risen}
 use Rattle.manager_node.specs.Phases.{lasting_of, phase_has_room, serves, crashes, restarts, wish_at, down_wish, waiting_wish, serving_wish, with_begun, down_item, waiting_item, serving_item, begin_down, begin_waiting, begin_serving, on_begin}
-use Rattle.manager_node.specs.Serving.{again, on_news, hears, on_tick}
-use Rattle.manager_node.specs.SlotTable.{unknown_table}
-use Rattle.manager_node.specs.Slots.{epoch_of}
-use Rattle.manager_node.specs.declared.lasting.Lasting.{Lasting as Kept}
 use Rattle.manager_node.specs.declared.phase.Phase.{Phase}
 use Rattle.manager_node.specs.declared.phase.Phase.TheVariants.{Down, Waiting, Serving as Serves}
-use Rattle.manager_node.specs.declared.serving.Serving.{Serving}
-use Rattle.manager_node.specs.declared.slot_phase.SlotPhase.{SlotPhase}
-use Rattle.manager_node.specs.declared.slot_phase.SlotPhase.TheVariants as phase
+use Rattle.manager_parts.specs.Lasting.{with_answer}
+use Rattle.manager_parts.specs.Numbers.{risen}
+use Rattle.manager_parts.specs.SlotTable.{unknown_table}
+use Rattle.manager_parts.specs.Slots.{epoch_of}
+use Rattle.manager_parts.specs.declared.lasting.Lasting.{Lasting as Kept}
+use Rattle.manager_parts.specs.declared.slot_phase.SlotPhase.{SlotPhase}
+use Rattle.manager_parts.specs.declared.slot_phase.SlotPhase.TheVariants as phase
+use Rattle.manager_serving.specs.Checkpoints.{Done, on_checkpoint}
+use Rattle.manager_serving.specs.Serving.{again, on_news, hears, on_tick}
+use Rattle.manager_serving.specs.declared.serving.Serving.{Serving}
 use Rattle.node_tie.specs.Sight.{ManagerDoes}
 use Rattle.node_tie.specs.ManagerEvents.{phase_at, TakingAt, HeldAt, PhaseAgrees, OtherAgrees, TableAgrees, ManagerAgrees, epoch_in, AllNewsGets, WaitingGets, EventGets, NamedBy, Names, is_waiting, ManagerGoes, ManagerEventGoes}
 use Rattle.node_tie.proofs.ManagerActive.{some_none}

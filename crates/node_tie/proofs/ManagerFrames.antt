@@ -8,8 +8,8 @@ use Rattle.xfs_base.specs.declared.token.Mode.{Mode}
 use Rattle.token_law.specs.Net.{Net}
 use Rattle.manager_node.specs.declared.phase.Phase.{Phase}
 use Rattle.manager_node.specs.declared.phase.Phase.TheVariants.{Down, Waiting, Serving as Serves}
-use Rattle.manager_node.specs.declared.slot_phase.SlotPhase.{SlotPhase}
-use Rattle.manager_node.specs.declared.slot_phase.SlotPhase.TheVariants as phase
+use Rattle.manager_parts.specs.declared.slot_phase.SlotPhase.{SlotPhase}
+use Rattle.manager_parts.specs.declared.slot_phase.SlotPhase.TheVariants as phase
 use Rattle.node_tie.specs.ManagerEvents.{HeldAt, ReportKnown, PhaseAgrees, ManagerAgrees, slot_in}
 use Rattle.node_tie.proofs.ManagerMoves.{Grows}
 

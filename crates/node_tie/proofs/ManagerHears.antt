@@ -15,12 +15,12 @@ use Rattle.wire_msg.specs.declared.body.Body.{Body}
 use Rattle.wire_msg.specs.declared.body.Body.TheVariants as body
 use Rattle.wire_msg.specs.declared.packet.Packet.{Packet as Sent}
 use Rattle.wire_msg.specs.declared.registry.News.{News}
-use Rattle.manager_node.specs.Checkpoints.{Done, writes, on_stored, on_ckpt_ack}
-use Rattle.manager_node.specs.declared.serving.Serving.{Serving}
-use Rattle.manager_node.specs.Serving.{asker_of, regroups, hearer_of, hears_with, hears_slots, on_newer, on_news, on_fitting_news, asks_for_maps, on_body, hears}
-use Rattle.manager_node.specs.SlotTable as table
-use Rattle.manager_node.specs.SlotTable.{Table}
-use Rattle.manager_node.specs.Slots.{epoch_of}
+use Rattle.manager_parts.specs.SlotTable as table
+use Rattle.manager_parts.specs.SlotTable.{Table}
+use Rattle.manager_parts.specs.Slots.{epoch_of}
+use Rattle.manager_serving.specs.Checkpoints.{Done, writes, on_stored, on_ckpt_ack}
+use Rattle.manager_serving.specs.declared.serving.Serving.{Serving}
+use Rattle.manager_serving.specs.Serving.{asker_of, regroups, hearer_of, hears_with, hears_slots, on_newer, on_news, on_fitting_news, asks_for_maps, on_body, hears}
 use Rattle.node_tie.specs.ManagerEvents.{phase_at, TableAgrees, AllNewsGets, ServingGets, NamedBy}
 use Rattle.node_tie.proofs.ManagerCheckpoints.{Quiet, quiet_writes, quiet_stored, quiet_ckpt_ack}
 use Rattle.node_tie.proofs.ManagerMoves.{held_is, Rises, Goes, stays_same, rises_of, goes_of, goes_moving, goes_rising, goes_staying}

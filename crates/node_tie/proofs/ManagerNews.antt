@@ -6,11 +6,11 @@ use Rattle.xfs_base.specs.Steps.{Stepped}
 use Rattle.node_base.specs.declared.effects.Effect.{Effect}
 use Rattle.token_law.specs.Net.{Net}
 use Rattle.token_protocol.specs.Basics.{In}
-use Rattle.manager_node.specs.declared.slot_phase.SlotPhase.{SlotPhase}
-use Rattle.manager_node.specs.Slots.{epoch_of}
-use Rattle.manager_node.specs.SlotTable as table
-use Rattle.manager_node.specs.SlotTable.{Table, TableAsker, Hearer}
-use Rattle.manager_node.specs.Takeovers.{Asker, asker}
+use Rattle.manager_parts.specs.declared.slot_phase.SlotPhase.{SlotPhase}
+use Rattle.manager_parts.specs.Slots.{epoch_of}
+use Rattle.manager_parts.specs.SlotTable as table
+use Rattle.manager_parts.specs.SlotTable.{Table, TableAsker, Hearer}
+use Rattle.manager_parts.specs.Takeovers.{Asker, asker}
 use Rattle.node_tie.specs.ManagerEvents.{phase_at, TableAgrees, NewsGets, AllNewsGets}
 use Rattle.node_tie.proofs.ManagerMoves.{Rises, stays_same, rises_of, rises_then}
 use Rattle.node_tie.proofs.ManagerTaking.{slot_hears_of, other_hears_of}

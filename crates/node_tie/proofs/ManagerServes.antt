@@ -18,12 +18,12 @@ use Rattle.wire_msg.specs.declared.storage.Found.{Found}
 use Rattle.wire_msg.specs.declared.storage.Missing.{Missing}
 use Rattle.wire_msg.specs.declared.tokens.Gave.{Gave}
 use Rattle.wire_msg.specs.declared.tokens.Want.{Want}
-use Rattle.manager_node.specs.Checkpoints.{Done, gives, writes, tells_again}
-use Rattle.manager_node.specs.declared.serving.Serving.{Serving}
-use Rattle.manager_node.specs.Serving.{and_then, asker_of, with_slots, with_asker, client_in, fed_log, on_want, on_gave, on_deltas, on_check, on_usage_ask, takes, on_report, answered_by, fetch_of, on_found, on_missing, recalls_again, asks_again, on_tick}
-use Rattle.manager_node.specs.SlotTable as table
-use Rattle.manager_node.specs.SlotTable.{Table, Asks}
-use Rattle.manager_node.specs.Slots.{epoch_of, fetch_of as fetch_in}
+use Rattle.manager_parts.specs.SlotTable as table
+use Rattle.manager_parts.specs.SlotTable.{Table, Asks}
+use Rattle.manager_parts.specs.Slots.{epoch_of, fetch_of as fetch_in}
+use Rattle.manager_serving.specs.Checkpoints.{Done, gives, writes, tells_again}
+use Rattle.manager_serving.specs.declared.serving.Serving.{Serving}
+use Rattle.manager_serving.specs.Serving.{and_then, asker_of, with_slots, with_asker, client_in, fed_log, on_want, on_gave, on_deltas, on_check, on_usage_ask, takes, on_report, answered_by, fetch_of, on_found, on_missing, recalls_again, asks_again, on_tick}
 use Rattle.node_tie.specs.ManagerEvents.{phase_at, TableAgrees, WantGets, GaveGets, ReportGets, DeltasGets, TakeoverGets, LastReportGets, AnswerGets, FoundGets, AbsentGets}
 use Rattle.node_tie.proofs.ManagerFetches.{fetch_is}
 use Rattle.node_tie.proofs.ManagerCheckpoints.{Quiet, quiet_writes, quiet_tells}

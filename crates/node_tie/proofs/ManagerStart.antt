@@ -10,10 +10,10 @@ use Rattle.slot_beliefs.specs.declared.job.Job.{Job}
 use Rattle.token_law.specs.Net.{opening}
 use Rattle.token_manager.specs.Transition.{started}
 use Rattle.version_model.specs.declared.work.Work.{Work}
-use Rattle.manager_node.specs.SlotTable.{all_slots, first_phase}
-use Rattle.manager_node.specs.Slots.{epoch_of, first_active}
-use Rattle.manager_node.specs.declared.slot_phase.SlotPhase.{SlotPhase}
-use Rattle.manager_node.specs.declared.slot_phase.SlotPhase.TheVariants as phase
+use Rattle.manager_parts.specs.SlotTable.{all_slots, first_phase}
+use Rattle.manager_parts.specs.Slots.{epoch_of, first_active}
+use Rattle.manager_parts.specs.declared.slot_phase.SlotPhase.{SlotPhase}
+use Rattle.manager_parts.specs.declared.slot_phase.SlotPhase.TheVariants as phase
 use Rattle.node_tie.specs.ManagerEvents.{phase_at, PhaseAgrees, OtherAgrees, FirstAgrees, FirstManagerAgrees}
 
 -- a table made slot by slot has in each slot what was made of its number

@@ -26,14 +26,14 @@ use Rattle.wire_msg.specs.declared.deltas.Deltas.{Deltas}
 use Rattle.wire_msg.specs.declared.deltas.Report.{Report}
 use Rattle.wire_msg.specs.declared.tokens.Gave.{Gave}
 use Rattle.wire_msg.specs.declared.tokens.Want.{Want}
-use Rattle.manager_node.specs.declared.slot_phase.SlotPhase.{SlotPhase}
-use Rattle.manager_node.specs.declared.slot_phase.SlotPhase.TheVariants as phase
-use Rattle.manager_node.specs.Slots.{epoch_of}
-use Rattle.manager_node.specs.SlotTable as table
-use Rattle.manager_node.specs.SlotTable.{Table, TableAsker, Asks, all_slots}
-use Rattle.manager_node.specs.Takeovers as takeovers
-use Rattle.manager_node.specs.Takeovers.{Asker, asker}
-use Rattle.manager_node.specs.Tokens as tokens
+use Rattle.manager_parts.specs.declared.slot_phase.SlotPhase.{SlotPhase}
+use Rattle.manager_parts.specs.declared.slot_phase.SlotPhase.TheVariants as phase
+use Rattle.manager_parts.specs.Slots.{epoch_of}
+use Rattle.manager_parts.specs.SlotTable as table
+use Rattle.manager_parts.specs.SlotTable.{Table, TableAsker, Asks, all_slots}
+use Rattle.manager_parts.specs.Takeovers as takeovers
+use Rattle.manager_parts.specs.Takeovers.{Asker, asker}
+use Rattle.manager_parts.specs.Tokens as tokens
 use Rattle.node_tie.specs.Sight.{WantSeen, GaveSeen}
 use Rattle.node_tie.specs.ManagerEvents.{phase_at, PhaseAgrees, OtherAgrees, TableAgrees, ReportGets, DeltasJoin, TakeoverGets, LastReportGets}
 use Rattle.node_tie.proofs.ManagerActive.{some_none, Event, event_same, event_staying, Other, slot_wants, slot_gaves, slot_deltas, slot_ticks, check_same, check_done, usage_done, other_takes, other_wants}

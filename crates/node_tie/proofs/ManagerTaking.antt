@@ -34,12 +34,12 @@ use Rattle.token_protocol.specs.Basics.{put, In}
 use Rattle.token_protocol.specs.Premises.{Premise}
 use Rattle.token_protocol.proofs.Refining.{put_each}
 use Rattle.wire_msg.specs.declared.deltas.Report.{Report}
-use Rattle.manager_node.specs.declared.slot_phase.SlotPhase.{SlotPhase}
-use Rattle.manager_node.specs.declared.slot_phase.SlotPhase.TheVariants as phase
-use Rattle.manager_node.specs.declared.slot_phase.Taking.{Taking}
-use Rattle.manager_node.specs.Slots.{epoch_of}
-use Rattle.manager_node.specs.SlotTable.{Hearer, hears_of}
-use Rattle.manager_node.specs.Takeovers.{Asker, asker, Done, fetches, says, says_each, heard, takes, is_wanted, asks_again, report_input, on_report, phase_of}
+use Rattle.manager_parts.specs.declared.slot_phase.SlotPhase.{SlotPhase}
+use Rattle.manager_parts.specs.declared.slot_phase.SlotPhase.TheVariants as phase
+use Rattle.manager_parts.specs.declared.slot_phase.Taking.{Taking}
+use Rattle.manager_parts.specs.Slots.{epoch_of}
+use Rattle.manager_parts.specs.SlotTable.{Hearer, hears_of}
+use Rattle.manager_parts.specs.Takeovers.{Asker, asker, Done, fetches, says, says_each, heard, takes, is_wanted, asks_again, report_input, on_report, phase_of}
 use Rattle.node_tie.specs.ManagerEvents.{HeldAt, ReportKnown, TakingAgrees, PhaseAgrees, OtherAgrees, ReportGets, NewsGets, HasGathered, Completes, TakeoverGets, LastReportGets}
 use Rattle.node_tie.proofs.SmallWorld.{premise, premise_by}
 use Rattle.node_tie.proofs.ManagerActive.{put_here, put_there, some_none, Event, event_staying, event_same, Other}

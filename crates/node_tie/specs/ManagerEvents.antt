@@ -4,20 +4,20 @@ use Rattle.std.specs.List.{All}
 use Rattle.manager_map.specs.Slots.{start_entries}
 use Rattle.manager_node.specs.Events.{first_manager, happens}
 use Rattle.manager_node.specs.Phases.{Went_to, lasting_of}
-use Rattle.manager_node.specs.SlotTable.{Table, first_phase}
 use Rattle.manager_node.specs.declared.manager.Manager.{Manager as AManager}
+use Rattle.manager_parts.specs.SlotTable.{Table, first_phase}
 use Rattle.version_model.specs.declared.work.Work.{Work}
 use Rattle.xfs_base.specs.declared.setup.Setup.{Setup}
-use Rattle.manager_node.specs.Slots.{epoch_of, fetch_of}
-use Rattle.manager_node.specs.Takeovers.{report_input}
-use Rattle.manager_node.specs.declared.lasting.Lasting.{Lasting as Kept}
 use Rattle.manager_node.specs.declared.phase.Phase.{Phase}
 use Rattle.manager_node.specs.declared.phase.Phase.TheVariants.{Down, Waiting, Serving as Serves}
-use Rattle.manager_node.specs.declared.serving.Serving.{Serving}
-use Rattle.manager_node.specs.declared.slot_phase.Active.{Active}
-use Rattle.manager_node.specs.declared.slot_phase.SlotPhase.{SlotPhase}
-use Rattle.manager_node.specs.declared.slot_phase.SlotPhase.TheVariants as phase
-use Rattle.manager_node.specs.declared.slot_phase.Taking.{Taking}
+use Rattle.manager_parts.specs.Slots.{epoch_of, fetch_of}
+use Rattle.manager_parts.specs.Takeovers.{report_input}
+use Rattle.manager_parts.specs.declared.lasting.Lasting.{Lasting as Kept}
+use Rattle.manager_parts.specs.declared.slot_phase.Active.{Active}
+use Rattle.manager_parts.specs.declared.slot_phase.SlotPhase.{SlotPhase}
+use Rattle.manager_parts.specs.declared.slot_phase.SlotPhase.TheVariants as phase
+use Rattle.manager_parts.specs.declared.slot_phase.Taking.{Taking}
+use Rattle.manager_serving.specs.declared.serving.Serving.{Serving}
 use Rattle.slot_beliefs.specs.declared.job.Job.{Job}
 use Rattle.slot_beliefs.specs.Recalls.{applied_of}
 use Rattle.takeover.specs.Reports.{applied_of as applied_by, end_from}

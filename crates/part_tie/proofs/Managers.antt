@@ -3,19 +3,19 @@ use Rattle.std.proofs.Common.{◌≡◌, ℕ, ◌==◌, List, [], ◌∷◌, ref
 use Rattle.std.specs.Prelude.{Option, Some, None, IfSome}
 use Rattle.checkpoint.specs.WriterState.{WorkState}
 use Rattle.manager_map.specs.Slots.{start_entries, entry_at}
-use Rattle.manager_node.specs.Checkpoints.{Done, on_checkpoint}
-use Rattle.manager_node.specs.declared.lasting.Lasting.{Lasting as Life}
 use Rattle.manager_node.specs.declared.manager.Manager.{Manager}
 use Rattle.manager_node.specs.declared.phase.Phase.{Phase}
 use Rattle.manager_node.specs.declared.phase.Phase.TheVariants.{Down, Waiting, Serving as Serves}
-use Rattle.manager_node.specs.declared.serving.Serving.{Serving}
-use Rattle.manager_node.specs.declared.slot_phase.SlotPhase.{SlotPhase}
-use Rattle.manager_node.specs.declared.slot_phase.SlotPhase.TheVariants as phase
 use Rattle.manager_node.specs.Events.{first_manager, manager_step, takes_welcome, on_welcome, on_waiting, on_packet, on_deliver, on_time, on_event, happens}
 use Rattle.manager_node.specs.Phases.{Went_to, lasting_of, phase_has_room, serves, crashes, restarts, wish_at, down_wish, waiting_wish, serving_wish, with_begun, down_item, waiting_item, serving_item, begin_down, begin_waiting, begin_serving, on_begin}
-use Rattle.manager_node.specs.Serving.{again, hears, on_news, on_tick}
-use Rattle.manager_node.specs.Slots.{first_active}
-use Rattle.manager_node.specs.SlotTable.{first_phase}
+use Rattle.manager_parts.specs.declared.lasting.Lasting.{Lasting as Life}
+use Rattle.manager_parts.specs.declared.slot_phase.SlotPhase.{SlotPhase}
+use Rattle.manager_parts.specs.declared.slot_phase.SlotPhase.TheVariants as phase
+use Rattle.manager_parts.specs.Slots.{first_active}
+use Rattle.manager_parts.specs.SlotTable.{first_phase}
+use Rattle.manager_serving.specs.Checkpoints.{Done, on_checkpoint}
+use Rattle.manager_serving.specs.declared.serving.Serving.{Serving}
+use Rattle.manager_serving.specs.Serving.{again, hears, on_news, on_tick}
 use Rattle.node_base.specs.Beginning.{next_item, work_at, answers_unanswered}
 use Rattle.node_base.specs.declared.effects.Effect.TheVariants.{Answer as Answers}
 use Rattle.node_base.specs.declared.peers.Peers.{Peers}
@@ -38,8 +38,8 @@ use Rattle.xfs_base.specs.Steps.{still}
 use Rattle.entry_tie.proofs.Frames.{all_weaker}
 use Rattle.part_tie.proofs.Leaving.{Leaves}
 use Rattle.filed_tie.proofs.Frames.{all_append}
-use Rattle.manager_node.specs.declared.checkpointing.Checkpointing.{Checkpointing}
-use Rattle.manager_node.specs.Lasting.{log_of}
+use Rattle.manager_parts.specs.Lasting.{log_of}
+use Rattle.manager_serving.specs.declared.checkpointing.Checkpointing.{Checkpointing}
 use Rattle.wire_msg.specs.declared.registry.CkptDone.{CkptDone}
 use Rattle.xfs_base.specs.declared.segment.LogId.{LogId}
 use Rattle.xfs_base.specs.declared.segment.SegRef.{SegRef}

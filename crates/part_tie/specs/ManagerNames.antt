@@ -6,14 +6,14 @@ use Rattle.checkpoint.specs.Transition.{part_at}
 use Rattle.checkpoint.specs.WriterState.{WorkState}
 use Rattle.client_log.specs.LogState.{FlightState, LogState}
 use Rattle.client_log.specs.Transition.{end_from}
-use Rattle.manager_node.specs.declared.checkpointing.Checkpointing.{Checkpointing}
 use Rattle.manager_node.specs.declared.manager.Manager.{Manager}
 use Rattle.manager_node.specs.declared.phase.Phase.{Phase}
 use Rattle.manager_node.specs.declared.phase.Phase.TheVariants.{Down, Waiting, Serving as Serves}
-use Rattle.manager_node.specs.declared.serving.Serving.{Serving}
-use Rattle.manager_node.specs.declared.slot_phase.SlotPhase.{SlotPhase}
-use Rattle.manager_node.specs.declared.slot_phase.SlotPhase.TheVariants as phase
 use Rattle.manager_node.specs.Events.{first_manager, manager_step}
+use Rattle.manager_parts.specs.declared.slot_phase.SlotPhase.{SlotPhase}
+use Rattle.manager_parts.specs.declared.slot_phase.SlotPhase.TheVariants as phase
+use Rattle.manager_serving.specs.declared.checkpointing.Checkpointing.{Checkpointing}
+use Rattle.manager_serving.specs.declared.serving.Serving.{Serving}
 use Rattle.version_model.specs.declared.work.Work.{Work}
 use Rattle.wire_msg.specs.declared.packet.Do.{Do}
 use Rattle.wire_msg.specs.declared.registry.CkptDone.{CkptDone}

@@ -14,13 +14,13 @@ use Rattle.client_log.specs.declared.output.Out.TheVariants as log_out
 use Rattle.client_log.specs.Transition as log
 use Rattle.group_map.specs.GroupMapState.{GroupMapState}
 use Rattle.log_owner.specs.Sending.{server_in}
-use Rattle.manager_node.specs.Checkpoints.{Done, gives, gives_parts, registers, asked, says, says_each, writer_takes, on_settled, log_says, log_says_each, writes, writes_slot, begins_slot, next_from, next_for, next_slot, waits, on_checkpoint, awaits, counted, answered_by, on_ckpt_ack, tells_again}
-use Rattle.manager_node.specs.declared.checkpointing.Checkpointing.{Checkpointing}
-use Rattle.manager_node.specs.declared.serving.Serving.{Serving}
-use Rattle.manager_node.specs.Numbers.{slot_after}
-use Rattle.manager_node.specs.Serving.{asker_of, client_in, fed_log, on_want, on_gave, on_deltas, on_check, on_usage_ask, takes, on_report, answered_by as answers_by, on_found, on_missing, regroups, hearer_of, hears_with, hears_slots, on_newer, on_news, on_fitting_news, asks_for_maps, on_body, hears, recalls_again, asks_again, on_tick}
-use Rattle.manager_node.specs.SlotTable as table
-use Rattle.manager_node.specs.SlotTable.{next_active, begin_at, cleaned_at}
+use Rattle.manager_parts.specs.Numbers.{slot_after}
+use Rattle.manager_parts.specs.SlotTable as table
+use Rattle.manager_parts.specs.SlotTable.{next_active, begin_at, cleaned_at}
+use Rattle.manager_serving.specs.Checkpoints.{Done, gives, gives_parts, registers, asked, says, says_each, writer_takes, on_settled, log_says, log_says_each, writes, writes_slot, begins_slot, next_from, next_for, next_slot, waits, on_checkpoint, awaits, counted, answered_by, on_ckpt_ack, tells_again}
+use Rattle.manager_serving.specs.declared.checkpointing.Checkpointing.{Checkpointing}
+use Rattle.manager_serving.specs.declared.serving.Serving.{Serving}
+use Rattle.manager_serving.specs.Serving.{asker_of, client_in, fed_log, on_want, on_gave, on_deltas, on_check, on_usage_ask, takes, on_report, answered_by as answers_by, on_found, on_missing, regroups, hearer_of, hears_with, hears_slots, on_newer, on_news, on_fitting_news, asks_for_maps, on_body, hears, recalls_again, asks_again, on_tick}
 use Rattle.node_base.specs.declared.effects.Effect.TheVariants.{Answer as Answers}
 use Rattle.node_base.specs.Known.{names_known}
 use Rattle.node_base.specs.Maps.{fits, is_older, taken}

@@ -2,18 +2,18 @@
 use Rattle.std.proofs.Common.{ℕ, ◌==◌}
 use Rattle.std.specs.Prelude.{Option, Some, None}
 use Rattle.manager_map.specs.Slots.{start_entries, entry_at}
-use Rattle.manager_node.specs.declared.lasting.Lasting.{Lasting as Life}
 use Rattle.manager_node.specs.declared.manager.Manager.{Manager}
 use Rattle.manager_node.specs.declared.phase.Phase.{Phase}
 use Rattle.manager_node.specs.declared.phase.Phase.TheVariants.{Down, Waiting, Serving as Serves}
-use Rattle.manager_node.specs.declared.serving.Serving.{Serving}
-use Rattle.manager_node.specs.declared.slot_phase.SlotPhase.{SlotPhase}
-use Rattle.manager_node.specs.declared.slot_phase.SlotPhase.TheVariants as phase
 use Rattle.manager_node.specs.Events.{manager_step, takes_welcome, on_welcome, on_waiting, on_packet, on_deliver, on_time, on_event, happens}
 use Rattle.manager_node.specs.Phases.{Went_to, phase_has_room, serves, crashes, restarts, wish_at, down_wish, waiting_wish, serving_wish, with_begun, down_item, waiting_item, serving_item, begin_down, begin_waiting, begin_serving, on_begin}
-use Rattle.manager_node.specs.Serving.{again, on_news}
-use Rattle.manager_node.specs.Slots.{first_active}
-use Rattle.manager_node.specs.SlotTable.{first_phase}
+use Rattle.manager_parts.specs.declared.lasting.Lasting.{Lasting as Life}
+use Rattle.manager_parts.specs.declared.slot_phase.SlotPhase.{SlotPhase}
+use Rattle.manager_parts.specs.declared.slot_phase.SlotPhase.TheVariants as phase
+use Rattle.manager_parts.specs.Slots.{first_active}
+use Rattle.manager_parts.specs.SlotTable.{first_phase}
+use Rattle.manager_serving.specs.declared.serving.Serving.{Serving}
+use Rattle.manager_serving.specs.Serving.{again, on_news}
 use Rattle.node_base.specs.Beginning.{next_item, work_at}
 use Rattle.node_base.specs.declared.peers.Peers.{Peers}
 use Rattle.node_base.specs.Maps.{forgotten}

@@ -3,13 +3,13 @@ use Rattle.std.proofs.Common.{ℕ, zero, suc, ◌==◌, Bool, List, [], ◌∷�
 use Rattle.std.specs.Prelude.{nat_lt, Option, Some, None, IfSome, slice_get, slice_set}
 use Rattle.std.specs.List.{AllByRecursion}
 use Rattle.group_map.specs.GroupMapState.{GroupMapState}
-use Rattle.manager_node.specs.declared.slot_phase.SlotPhase.{SlotPhase}
-use Rattle.manager_node.specs.declared.slot_phase.SlotPhase.TheVariants as phase
-use Rattle.manager_node.specs.Slots.{epoch_of}
-use Rattle.manager_node.specs.SlotTable.{Table, TableAsker, Hearer, all_slots, in_slot, at_slot, on_want, on_gave, on_deltas, on_check, recalls, recalls_all, in_taken, at_taken, takes, on_report, asks, asks_all, regroups, regroups_all, hears_of, hears, hears_all, cleaned_phase, named_phase, changed_in, cleaned_at, named_at}
-use Rattle.manager_node.specs.Takeovers as takeovers
-use Rattle.manager_node.specs.Takeovers.{Asker, asker, fetches, says, says_each, heard, is_wanted, asks_again, report_input, phase_of}
-use Rattle.manager_node.specs.Tokens as tokens
+use Rattle.manager_parts.specs.declared.slot_phase.SlotPhase.{SlotPhase}
+use Rattle.manager_parts.specs.declared.slot_phase.SlotPhase.TheVariants as phase
+use Rattle.manager_parts.specs.Slots.{epoch_of}
+use Rattle.manager_parts.specs.SlotTable.{Table, TableAsker, Hearer, all_slots, in_slot, at_slot, on_want, on_gave, on_deltas, on_check, recalls, recalls_all, in_taken, at_taken, takes, on_report, asks, asks_all, regroups, regroups_all, hears_of, hears, hears_all, cleaned_phase, named_phase, changed_in, cleaned_at, named_at}
+use Rattle.manager_parts.specs.Takeovers as takeovers
+use Rattle.manager_parts.specs.Takeovers.{Asker, asker, fetches, says, says_each, heard, is_wanted, asks_again, report_input, phase_of}
+use Rattle.manager_parts.specs.Tokens as tokens
 use Rattle.node_base.specs.declared.effects.Effect.{Effect}
 use Rattle.node_base.specs.declared.questions.Questions.{Questions}
 use Rattle.takeover.specs.declared.input.In.{In as TakeIn}

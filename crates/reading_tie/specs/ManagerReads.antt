@@ -6,10 +6,10 @@ use Rattle.group_map.specs.Groups.{started}
 use Rattle.manager_node.specs.declared.manager.Manager.{Manager}
 use Rattle.manager_node.specs.declared.phase.Phase.{Phase}
 use Rattle.manager_node.specs.declared.phase.Phase.TheVariants.{Down, Waiting, Serving as Serves}
-use Rattle.manager_node.specs.declared.serving.Serving.{Serving}
-use Rattle.manager_node.specs.declared.slot_phase.SlotPhase.{SlotPhase}
-use Rattle.manager_node.specs.declared.slot_phase.SlotPhase.TheVariants as phase
 use Rattle.manager_node.specs.Events.{first_manager, manager_step}
+use Rattle.manager_parts.specs.declared.slot_phase.SlotPhase.{SlotPhase}
+use Rattle.manager_parts.specs.declared.slot_phase.SlotPhase.TheVariants as phase
+use Rattle.manager_serving.specs.declared.serving.Serving.{Serving}
 use Rattle.version_model.specs.declared.work.Work.{Work}
 use Rattle.wire_msg.specs.declared.packet.Packet.{Packet}
 use Rattle.xfs_base.specs.declared.setup.Setup.{Setup}

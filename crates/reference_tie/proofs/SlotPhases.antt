@@ -2,13 +2,13 @@
 use Rattle.std.proofs.Common.{ℕ, ◌==◌, Bool, List, filter}
 use Rattle.std.specs.Prelude.{nat_lt}
 use Rattle.std.specs.List.{AllByRecursion}
-use Rattle.manager_node.specs.declared.slot_phase.SlotPhase.{SlotPhase}
-use Rattle.manager_node.specs.declared.slot_phase.SlotPhase.TheVariants as phase
-use Rattle.manager_node.specs.Slots.{epoch_of}
-use Rattle.manager_node.specs.SlotTable.{Hearer, hears_of, cleaned_phase, named_phase}
-use Rattle.manager_node.specs.Takeovers as takeovers
-use Rattle.manager_node.specs.Takeovers.{Asker, fetches, says, says_each, heard, is_wanted, asks_again, report_input, on_report, phase_of}
-use Rattle.manager_node.specs.Tokens.{said, takes, want_input, on_want, check_input, check_said, on_check, on_usage_ask}
+use Rattle.manager_parts.specs.declared.slot_phase.SlotPhase.{SlotPhase}
+use Rattle.manager_parts.specs.declared.slot_phase.SlotPhase.TheVariants as phase
+use Rattle.manager_parts.specs.Slots.{epoch_of}
+use Rattle.manager_parts.specs.SlotTable.{Hearer, hears_of, cleaned_phase, named_phase}
+use Rattle.manager_parts.specs.Takeovers as takeovers
+use Rattle.manager_parts.specs.Takeovers.{Asker, fetches, says, says_each, heard, is_wanted, asks_again, report_input, on_report, phase_of}
+use Rattle.manager_parts.specs.Tokens.{said, takes, want_input, on_want, check_input, check_said, on_check, on_usage_ask}
 use Rattle.node_base.specs.declared.effects.Effect.{Effect}
 use Rattle.node_base.specs.declared.questions.Questions.{Questions}
 use Rattle.takeover.specs.declared.input.In.{In as TakeIn}

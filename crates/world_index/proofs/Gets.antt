@@ -15,7 +15,7 @@ use Rattle.index_tie.specs.NetLaws.{CheckpointsHaveManagers, Moment}
 use Rattle.log_owner.specs.Promised.{epoch_of}
 use Rattle.manager_node.specs.declared.phase.Phase.{Phase as ManagerPhase}
 use Rattle.manager_node.specs.declared.phase.Phase.TheVariants as managing
-use Rattle.manager_node.specs.declared.slot_phase.SlotPhase.{SlotPhase}
+use Rattle.manager_parts.specs.declared.slot_phase.SlotPhase.{SlotPhase}
 use Rattle.node_base.specs.declared.questions.Questions.{Questions as Asker}
 use Rattle.node_index_tie.specs.ManagerEvents.{AllNewsGets, DeltasGets, EventGets, ReportGets, ServingGets, WaitingGets}
 use Rattle.node_index_tie.specs.RegistryEvents.{BodyGets as RegistryBodyGets, DoGets, RegistryOwed}

@@ -6,12 +6,12 @@ use Rattle.core_world.specs.declared.any_node.AnyNode.{AnyNode}
 use Rattle.core_world.specs.declared.any_node.AnyNode.TheVariants as any
 use Rattle.index_tie.proofs.Tables.{put_each}
 use Rattle.index_tie.specs.Net.{Net, opening}
-use Rattle.manager_node.specs.declared.lasting.Lasting.{Lasting as Kept}
 use Rattle.manager_node.specs.declared.manager.Manager.{Manager as ManagerNode}
 use Rattle.manager_node.specs.declared.phase.Phase.{Phase}
 use Rattle.manager_node.specs.declared.phase.Phase.TheVariants.{Down, Waiting, Serving as Serves}
 use Rattle.manager_node.specs.Phases.{lasting_of}
-use Rattle.manager_node.specs.declared.serving.Serving.{Serving}
+use Rattle.manager_parts.specs.declared.lasting.Lasting.{Lasting as Kept}
+use Rattle.manager_serving.specs.declared.serving.Serving.{Serving}
 use Rattle.node_index_tie.proofs.Moves.{some_none}
 use Rattle.node_tie.specs.ManagerEvents.{HeldAt, NamedBy, NamedIn, Names, epoch_in, is_serving, slot_in}
 use Rattle.node_tie.specs.RegistryEvents.{RegistrySound}

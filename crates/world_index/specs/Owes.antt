@@ -16,9 +16,9 @@ use Rattle.log_protocol.specs.Tables as tables
 use Rattle.manager_node.specs.declared.manager.Manager.{Manager as ManagerNode}
 use Rattle.manager_node.specs.declared.phase.Phase.{Phase as ManagerPhase}
 use Rattle.manager_node.specs.declared.phase.Phase.TheVariants as managing
-use Rattle.manager_node.specs.declared.slot_phase.SlotPhase.{SlotPhase}
 use Rattle.manager_node.specs.Events.{happens}
 use Rattle.manager_node.specs.Phases as managers
+use Rattle.manager_parts.specs.declared.slot_phase.SlotPhase.{SlotPhase}
 use Rattle.node_index_tie.specs.ManagerEvents.{FoundGets, AbsentGets, ManagedAt, rest}
 use Rattle.node_index_tie.specs.ManagerEvents as managed
 use Rattle.node_index_tie.specs.Sight.{Texts, Questions}

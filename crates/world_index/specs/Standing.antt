@@ -7,7 +7,7 @@ use Rattle.core_world.specs.declared.any_node.AnyNode.TheVariants as any
 use Rattle.index_tie.specs.Net.{Net, Runs, opening}
 use Rattle.log_protocol.specs.Tables as tables
 use Rattle.manager_node.specs.declared.manager.Manager.{Manager as ManagerNode}
-use Rattle.manager_node.specs.declared.slot_phase.SlotPhase.{SlotPhase}
+use Rattle.manager_parts.specs.declared.slot_phase.SlotPhase.{SlotPhase}
 use Rattle.node_index_tie.specs.ManagerEvents.{ManagerAgrees}
 use Rattle.node_index_tie.specs.RegistryEvents.{IsHorizon, RegistryAgrees}
 use Rattle.node_index_tie.specs.Sight.{Texts, Questions, held_in, AreTexts, CheckKnown, DeltasKnown, ManagerSends, ReportKnown}

@@ -1,13 +1,13 @@
 -- What a packet that was sent owes to the node that gets it.
 use Rattle.std.proofs.Common.{◌≡◌, ⊎_elim, ℕ, ◌≤◌, ◌<◌, Bool, true, false, List, None, Some, refl, subst, ◌∙◌, arith, get_or}
 use Rattle.std.specs.Prelude.{All}
-use Rattle.manager_node.specs.declared.lasting.Lasting.{Lasting as Kept}
 use Rattle.manager_node.specs.declared.phase.Phase.{Phase as ManagerPhase}
 use Rattle.manager_node.specs.declared.phase.Phase.TheVariants.{Down, Waiting, Serving as Serves}
-use Rattle.manager_node.specs.declared.serving.Serving.{Serving}
-use Rattle.manager_node.specs.declared.slot_phase.SlotPhase.{SlotPhase}
-use Rattle.manager_node.specs.declared.slot_phase.SlotPhase.TheVariants as phase
-use Rattle.manager_node.specs.Takeovers.{report_input}
+use Rattle.manager_parts.specs.declared.lasting.Lasting.{Lasting as Kept}
+use Rattle.manager_parts.specs.declared.slot_phase.SlotPhase.{SlotPhase}
+use Rattle.manager_parts.specs.declared.slot_phase.SlotPhase.TheVariants as phase
+use Rattle.manager_parts.specs.Takeovers.{report_input}
+use Rattle.manager_serving.specs.declared.serving.Serving.{Serving}
 use Rattle.node_tie.specs.CleanerEvents.{CleanerGets, NewsLow}
 use Rattle.node_tie.specs.ClientEvents.{ClientGets, GetsBody, NewsWithin, ReadsSo}
 use Rattle.node_tie.specs.ManagerEvents.{AbsentGets, AllNewsGets, DeltasGets, FoundGets, GaveGets, LastReportGets, ManagerGets, ReportGets, ServingGets, TakeoverGets, WaitingGets, WantGets, epoch_in, slot_in}

@@ -2,13 +2,13 @@
 use Rattle.std.proofs.Common.{◌≡◌, ◌⊎◌, ⊎_elim, ℕ, ◌+◌, ◌≤◌, ◌<◌, Bool, true, false, List, ◌++◌, Option, None, Some, map, slice_get, slice_set, inl, inr, refl, sym, ap, subst, ◌∙◌, arith}
 use Rattle.core_world.specs.declared.any_node.AnyNode.{AnyNode}
 use Rattle.core_world.specs.declared.any_node.AnyNode.TheVariants as any
-use Rattle.manager_node.specs.declared.lasting.Lasting.{Lasting as Kept}
 use Rattle.manager_node.specs.declared.manager.Manager.{Manager as ManagerNode}
 use Rattle.manager_node.specs.declared.phase.Phase.{Phase}
 use Rattle.manager_node.specs.declared.phase.Phase.TheVariants.{Down, Waiting, Serving as Serves}
-use Rattle.manager_node.specs.declared.slot_phase.SlotPhase.{SlotPhase}
-use Rattle.manager_node.specs.declared.slot_phase.SlotPhase.TheVariants as phase
 use Rattle.manager_node.specs.Phases.{Went_to, lasting_of}
+use Rattle.manager_parts.specs.declared.lasting.Lasting.{Lasting as Kept}
+use Rattle.manager_parts.specs.declared.slot_phase.SlotPhase.{SlotPhase}
+use Rattle.manager_parts.specs.declared.slot_phase.SlotPhase.TheVariants as phase
 use Rattle.node_base.specs.Effects.{acts_of, packets_of}
 use Rattle.node_tie.proofs.ManagerFrames.{manager_on}
 use Rattle.node_tie.proofs.SmallWorld.{any_promise, premise_by, promised_stays, with_promise}

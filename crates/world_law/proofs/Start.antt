@@ -10,8 +10,8 @@ use Rattle.client_node.specs.Starting.{first_client}
 use Rattle.core_world.specs.AnyNode.{any_start}
 use Rattle.manager_map.specs.Slots.{entry_at, start_entries}
 use Rattle.manager_node.specs.Events.{first_manager}
-use Rattle.manager_node.specs.declared.slot_phase.SlotPhase.TheVariants as phase
-use Rattle.manager_node.specs.Slots.{first_active}
+use Rattle.manager_parts.specs.declared.slot_phase.SlotPhase.TheVariants as phase
+use Rattle.manager_parts.specs.Slots.{first_active}
 use Rattle.node_tie.proofs.ClientStart.{client_starts}
 use Rattle.node_tie.proofs.SmallWorld.{premise}
 use Rattle.node_tie.specs.AskingEvents.{StartsAsking}

@@ -4,8 +4,8 @@ use Rattle.core_world.specs.AnyNode.{any_start, any_step}
 use Rattle.core_world.specs.declared.any_node.AnyNode.{AnyNode}
 use Rattle.core_world.specs.declared.any_node.AnyNode.TheVariants as any
 use Rattle.log_owner.specs.declared.promised.Promised.{Promised}
-use Rattle.manager_node.specs.declared.slot_phase.SlotPhase.{SlotPhase}
-use Rattle.manager_node.specs.declared.slot_phase.SlotPhase.TheVariants as phase
+use Rattle.manager_parts.specs.declared.slot_phase.SlotPhase.{SlotPhase}
+use Rattle.manager_parts.specs.declared.slot_phase.SlotPhase.TheVariants as phase
 use Rattle.node_base.specs.Setups.{IsSetup}
 use Rattle.node_tie.specs.ManagerEvents.{slot_in}
 use Rattle.registry.specs.Slots.{entry_of}

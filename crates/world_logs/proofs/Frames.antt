@@ -18,9 +18,9 @@ use Rattle.log_owner.specs.declared.opening.Stage.TheVariants as stage
 use Rattle.log_protocol.specs.Tables.{In}
 use Rattle.log_tie.specs.Setting.{Setting}
 use Rattle.manager_log_tie.specs.Owner as managing
-use Rattle.manager_node.specs.declared.lasting.Lasting as managers
 use Rattle.manager_node.specs.declared.phase.Phase.{Phase as ManagerPhase}
 use Rattle.manager_node.specs.declared.phase.Phase.TheVariants as managed
+use Rattle.manager_parts.specs.declared.lasting.Lasting as managers
 use Rattle.node_log_tie.proofs.Emptied.{emptying_later}
 use Rattle.node_log_tie.proofs.Lists.{if_some}
 use Rattle.node_log_tie.proofs.RebuildEvents.{rebuild_later}

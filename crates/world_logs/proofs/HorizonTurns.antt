@@ -20,7 +20,7 @@ use Rattle.filed_tie.specs.RegistryReach.{RegistryTellsNoMore}
 use Rattle.filed_tie.specs.ServerReach.{ServersTellNoMore}
 use Rattle.log_tie.proofs.Names.{itself}
 use Rattle.manager_node.specs.declared.manager.Manager.{Manager as ManagerNode}
-use Rattle.manager_node.specs.Serving.{fed_log}
+use Rattle.manager_serving.specs.Serving.{fed_log}
 use Rattle.node_base.specs.declared.effects.Effect.{Effect}
 use Rattle.node_base.specs.declared.effects.Effect.TheVariants.{Send, Answer, Lose, Does}
 use Rattle.node_base.specs.Effects.{packets_of}

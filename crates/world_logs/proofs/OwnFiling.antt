@@ -16,7 +16,7 @@ use Rattle.log_owner.specs.declared.opening.Opening.{Opening}
 use Rattle.log_owner.specs.declared.opening.Stage.{Stage}
 use Rattle.log_owner.specs.declared.opening.Stage.TheVariants as stage
 use Rattle.log_tie.proofs.Names.{equal, itself, unequal}
-use Rattle.manager_node.specs.Serving.{fed_log}
+use Rattle.manager_serving.specs.Serving.{fed_log}
 use Rattle.version_model.specs.declared.act.Act.{Act}
 use Rattle.version_model.specs.declared.act.Act.TheVariants.{Filed}
 use Rattle.wire_msg.specs.declared.body.Body.{Body}

@@ -6,7 +6,7 @@ use Rattle.core_world.specs.AnyNode.{any_start, any_step}
 use Rattle.core_world.specs.declared.any_node.AnyNode.{AnyNode}
 use Rattle.fragment_store.specs.ShelfState.{ShelfState, held_at}
 use Rattle.group_map.specs.declared.group.Group.{Group}
-use Rattle.manager_node.specs.Lasting.{log_of as managers_log}
+use Rattle.manager_parts.specs.Lasting.{log_of as managers_log}
 use Rattle.node_base.specs.Setups.{IsSetup}
 use Rattle.segment_format.specs.declared.segment.Segment.{Segment}
 use Rattle.token_protocol.specs.Basics.{In}

@@ -3,7 +3,7 @@ use Rattle.std.specs.Prelude.{◌≡◌, ◌≤◌, ◌<◌, ℕ, Bool, true, fa
 use Rattle.cleaner_parts.specs.Starting.{cleaner_log}
 use Rattle.client_log_tie.specs.Owner.{Scene}
 use Rattle.log_tie.specs.Setting.{Setting}
-use Rattle.manager_node.specs.Lasting.{log_of}
+use Rattle.manager_parts.specs.Lasting.{log_of}
 use Rattle.node_log_tie.specs.Sight.{Asker}
 use Rattle.xfs_base.specs.declared.node.NodeId.{NodeId}
 use Rattle.xfs_base.specs.declared.node.NodeId.TheVariants.{Client, Manager, Cleaner}

@@ -15,12 +15,12 @@ use Rattle.log_tie.specs.Setting.{Setting}
 use Rattle.manager_node.specs.declared.manager.Manager.{Manager as ManagerNode}
 use Rattle.manager_node.specs.declared.phase.Phase.{Phase}
 use Rattle.manager_node.specs.declared.phase.Phase.TheVariants as managing
-use Rattle.manager_node.specs.declared.serving.Serving.{Serving}
-use Rattle.manager_node.specs.declared.slot_phase.SlotPhase.{SlotPhase}
-use Rattle.manager_node.specs.declared.slot_phase.SlotPhase.TheVariants as phase
-use Rattle.manager_node.specs.declared.slot_phase.Taking.{Taking}
 use Rattle.manager_node.specs.Events.{manager_step}
-use Rattle.manager_node.specs.Slots.{fetch_of}
+use Rattle.manager_parts.specs.declared.slot_phase.SlotPhase.{SlotPhase}
+use Rattle.manager_parts.specs.declared.slot_phase.SlotPhase.TheVariants as phase
+use Rattle.manager_parts.specs.declared.slot_phase.Taking.{Taking}
+use Rattle.manager_parts.specs.Slots.{fetch_of}
+use Rattle.manager_serving.specs.declared.serving.Serving.{Serving}
 use Rattle.node_index_tie.specs.ManagerEvents.{AbsentGets, FoundGets, ManagerAgrees, PhaseAgrees, TakingAgrees, completes_at, completes_in}
 use Rattle.node_index_tie.specs.Pages.{Desk, desk_of}
 use Rattle.node_index_tie.specs.Sight.{AreTexts, IsRead, Questions}

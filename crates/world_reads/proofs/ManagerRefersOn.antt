@@ -32,7 +32,7 @@ use Rattle.manager_log_tie.specs.Owner as manager_log
 use Rattle.manager_node.specs.declared.manager.Manager.{Manager as ManagerNode}
 use Rattle.manager_node.specs.declared.phase.Phase as manager_phase
 use Rattle.manager_node.specs.declared.phase.Phase.TheVariants as managers
-use Rattle.manager_node.specs.declared.serving.Serving.{Serving}
+use Rattle.manager_serving.specs.declared.serving.Serving.{Serving}
 use Rattle.node_base.specs.declared.effects.Effect.{Effect}
 use Rattle.node_base.specs.declared.effects.Effect.TheVariants.{Send, Answer, Lose, Does}
 use Rattle.node_base.specs.Effects.{packets_of}

@@ -12,7 +12,7 @@ use Rattle.index_tie.specs.Filed.{Filed}
 use Rattle.index_tie.specs.Net.{Net}
 use Rattle.index_tie.specs.Takeovers.{IsEnd, of_log}
 use Rattle.log_tie.specs.Setting.{Setting}
-use Rattle.manager_node.specs.declared.slot_phase.Taking.{Taking}
+use Rattle.manager_parts.specs.declared.slot_phase.Taking.{Taking}
 use Rattle.node_index_tie.proofs.Reading.{end_from_is}
 use Rattle.node_index_tie.specs.ManagerEvents.{TakingAgrees}
 use Rattle.node_index_tie.specs.Sight.{EndKnown, ReportKnown}

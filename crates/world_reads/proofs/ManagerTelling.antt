@@ -11,13 +11,13 @@ use Rattle.log_tie.specs.Setting.{Setting}
 use Rattle.manager_node.specs.declared.manager.Manager.{Manager as ManagerNode}
 use Rattle.manager_node.specs.declared.phase.Phase.{Phase}
 use Rattle.manager_node.specs.declared.phase.Phase.TheVariants.{Down, Waiting, Serving as Serves}
-use Rattle.manager_node.specs.declared.serving.Serving.{Serving}
-use Rattle.manager_node.specs.declared.slot_phase.Active.{Active}
-use Rattle.manager_node.specs.declared.slot_phase.SlotPhase.{SlotPhase}
-use Rattle.manager_node.specs.declared.slot_phase.SlotPhase.TheVariants as phase
-use Rattle.manager_node.specs.declared.slot_phase.Taking.{Taking}
-use Rattle.manager_node.specs.Slots.{epoch_of, fetch_of}
-use Rattle.manager_node.specs.Takeovers.{report_input}
+use Rattle.manager_parts.specs.declared.slot_phase.Active.{Active}
+use Rattle.manager_parts.specs.declared.slot_phase.SlotPhase.{SlotPhase}
+use Rattle.manager_parts.specs.declared.slot_phase.SlotPhase.TheVariants as phase
+use Rattle.manager_parts.specs.declared.slot_phase.Taking.{Taking}
+use Rattle.manager_parts.specs.Slots.{epoch_of, fetch_of}
+use Rattle.manager_parts.specs.Takeovers.{report_input}
+use Rattle.manager_serving.specs.declared.serving.Serving.{Serving}
 use Rattle.node_index_tie.proofs.Handing.{Owes}
 use Rattle.node_index_tie.specs.ManagerEvents as places
 use Rattle.node_index_tie.specs.Pages.{Desk, desk_of}

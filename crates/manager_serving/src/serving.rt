@@ -1,0 +1,496 @@
+//! A manager that serves.
+ghost use Rattle.std.specs.Prelude.{◌≡◌, ◌++◌, ◌≤◌, IfOk, OnOk};
+ghost use Rattle.segment_format.specs.Format.{IsLog};
+ghost use Rattle.checkpoint.specs.Transition as writers;
+ghost use Rattle.client_log.specs.LogState as logs;
+ghost use Rattle.manager_parts.specs.SlotTable as tables;
+ghost use Rattle.manager_serving.specs.Serving.{no_end, begun, first, again, serving_room, on_want, on_gave, on_deltas, on_check, on_usage_ask, takes, on_report, fetch_of, on_found, on_missing, regroups, hears_with, hears_slots, on_newer, on_news, on_fitting_news, on_welcome, asks_for_maps, on_body, hears, recalls_again, asks_again, on_tick};
+
+use crate::checkpointing::Checkpointing;
+use crate::senders::{client_in, fed_log, server_in};
+use checkpoint::Writer;
+use client_log::Log;
+use group_map::GroupMap;
+use log_owner::log_has_room;
+use log_owner::sending::send_hello;
+use manager_parts::{Ears, Lasting, SlotTable};
+use node_base::{Effects, Maps, has_room, names_known_groups};
+use std::alloc::Global;
+use takeover::In;
+use wire_msg::{
+    Body, Check, Deltas, Found, Gave, Missing, News, Packet, Report, UsageAsk, Want, Welcome,
+};
+use xfs_base::{End, LogId, Mem, NodeId, Pass, SlotNews};
+
+/// What a manager has that serves: it lasts from the Welcome of its boot to its crash.
+#[derive(Drop)]
+pub struct Serving {
+    /// What outlives a crash.
+    pub lasting: Lasting,
+    /// The maps.
+    pub maps: Maps,
+    /// The slots 0 to 7.
+    pub slots: SlotTable,
+    /// The log to which checkpoints are written.
+    pub log: Log,
+    /// What writes them.
+    pub writer: Writer,
+    /// How many checkpoints of slots the registry was told of.
+    pub dones: u32,
+    /// The checkpoint that is under way.
+    pub checkpoint: Option<Checkpointing>,
+}
+
+/// The end of a log in which nothing is settled.
+const NO_END: End = End {
+    seq: 0,
+    pass: Pass { inc: 0, att: 0 },
+    group: 0,
+};
+
+impl Serving {
+    /// A manager at the start of a run: it manages its slots, in which nothing has happened.
+    pub fn start(alloc: Global, lasting: Lasting, managers: u8, groups: GroupMap) -> Mem<Serving>
+        requires { 1 ≤ managers }
+        ensures { IfOk result (λ serving. serving ≡ first lasting managers groups) }
+    {
+        match first_slots(alloc, lasting.number, managers, &groups) {
+            Ok((slots, copy)) => {
+                Serving::begin(alloc, lasting, Maps::start(copy), slots, groups)
+            }
+            Err(error) => {
+                drop(lasting);
+                drop(groups);
+                Err(error)
+            }
+        }
+    }
+
+    /// A manager that has started again and is about to take these groups: it knows nothing of any slot.
+    pub fn again(alloc: Global, lasting: Lasting, maps: Maps, groups: GroupMap) -> Mem<Serving>
+        ensures { IfOk result (λ serving. serving ≡ again lasting maps groups) }
+    {
+        match SlotTable::unknown(alloc) {
+            Ok(slots) => Serving::begin(alloc, lasting, maps, slots, groups),
+            Err(error) => {
+                drop(lasting);
+                drop(maps);
+                drop(groups);
+                Err(error)
+            }
+        }
+    }
+
+    // The log and the checkpoints begin.
+    fn begin(
+        alloc: Global,
+        lasting: Lasting,
+        maps: Maps,
+        slots: SlotTable,
+        groups: GroupMap,
+    ) -> Mem<Serving>
+        ensures { IfOk result (λ serving. serving ≡ begun lasting maps slots groups) }
+    {
+        match first_log(alloc, lasting.log(), lasting.inc, groups) {
+            Ok((log, writer)) => Ok(Serving {
+                lasting,
+                maps,
+                slots,
+                log,
+                writer,
+                dones: 0,
+                checkpoint: None,
+            }),
+            Err(error) => {
+                drop(lasting);
+                drop(maps);
+                drop(slots);
+                Err(error)
+            }
+        }
+    }
+
+    /// Whether no event can raise a counter past its end.
+    pub fn has_room(&self) -> bool
+        ensures { result ≡ serving_room self.now }
+    {
+        self.lasting.has_room()
+            && has_room(self.maps.version)
+            && has_room(self.dones)
+            && log_has_room(&self.log)
+            && self.slots.has_room()
+    }
+
+    /// A packet comes. One that names a group that isn't known is dropped, and the maps are asked for.
+    #[tactic(auto, unfolding(crate::specs::Serving::hears))]
+    pub fn hear(
+        &mut self,
+        alloc: Global,
+        effects: &mut Effects,
+        clients: u8,
+        packet: &Packet,
+    ) -> Mem<()>
+        ensures state { OnOk result (self.new ≡ (hears self.old clients packet.now).state) }
+        ensures effects { OnOk result (effects.new ≡ effects.old ++ (hears self.old clients packet.now).outs) }
+    {
+        if names_known_groups(&self.maps, &packet.body) {
+            self.on_body(alloc, effects, clients, packet.from, &packet.body)
+        } else {
+            self.ask_for_maps(effects)
+        }
+    }
+
+    #[tactic(auto, unfolding(crate::specs::Serving::asks_for_maps))]
+    fn ask_for_maps(&mut self, effects: &mut Effects) -> Mem<()>
+        ensures state { OnOk result (self.new ≡ (asks_for_maps self.old).state) }
+        ensures effects { OnOk result (effects.new ≡ effects.old ++ (asks_for_maps self.old).outs) }
+    {
+        let ask = self.lasting.questions.draw();
+        send_hello(effects, self.lasting.inc, ask)
+    }
+
+    fn on_body(
+        &mut self,
+        alloc: Global,
+        effects: &mut Effects,
+        clients: u8,
+        from: NodeId,
+        body: &Body,
+    ) -> Mem<()>
+        ensures state { OnOk result (self.new ≡ (on_body self.old clients from body.now).state) }
+        ensures effects { OnOk result (effects.new ≡ effects.old ++ (on_body self.old clients from body.now).outs) }
+    {
+        match body {
+            Body::MapNews(news) => self.on_fitting_news(alloc, effects, clients, news),
+            Body::Welcome(welcome) => self.on_welcome(alloc, effects, clients, welcome),
+            Body::Want(want) => self.on_want(alloc, effects, client_in(from), *want),
+            Body::Gave(gave) => self.on_gave(alloc, effects, client_in(from), *gave),
+            Body::Deltas(deltas) => self.on_deltas(alloc, effects, fed_log(from), deltas),
+            Body::Check(check) => self.on_check(alloc, effects, *check),
+            Body::UsageAsk(asked) => self.on_usage_ask(alloc, effects, *asked),
+            Body::Report(report) => self.on_report(alloc, effects, from, report),
+            Body::Fragment(found) => self.on_found(alloc, effects, server_in(from), found),
+            Body::Missing(missing) => self.on_missing(alloc, effects, server_in(from), *missing),
+            Body::Stored(stored) => self.on_stored(alloc, effects, *stored),
+            Body::CkptAck(ack) => self.on_ckpt_ack(alloc, effects, *ack),
+            _ => Ok(()),
+        }
+    }
+
+    // The registry answers a Hello of this incarnation.
+    fn on_welcome(
+        &mut self,
+        alloc: Global,
+        effects: &mut Effects,
+        clients: u8,
+        welcome: &Welcome,
+    ) -> Mem<()>
+        ensures state { OnOk result (self.new ≡ (on_welcome self.old clients welcome.now).state) }
+        ensures effects { OnOk result (effects.new ≡ effects.old ++ (on_welcome self.old clients welcome.now).outs) }
+    {
+        if welcome.inc != self.lasting.inc {
+            return Ok(());
+        }
+        self.on_fitting_news(alloc, effects, clients, &welcome.news)
+    }
+
+    // The maps come.
+    fn on_fitting_news(
+        &mut self,
+        alloc: Global,
+        effects: &mut Effects,
+        clients: u8,
+        news: &News,
+    ) -> Mem<()>
+        ensures state { OnOk result (self.new ≡ (on_fitting_news self.old clients news.now).state) }
+        ensures effects { OnOk result (effects.new ≡ effects.old ++ (on_fitting_news self.old clients news.now).outs) }
+    {
+        if !self.maps.fits(news) {
+            return Ok(());
+        }
+        self.on_news(alloc, effects, clients, news)
+    }
+
+    #[tactic(auto, unfolding(crate::specs::Serving::on_want))]
+    fn on_want(
+        &mut self,
+        alloc: Global,
+        effects: &mut Effects,
+        from: Option<u8>,
+        want: Want,
+    ) -> Mem<()>
+        ensures state { OnOk result (self.new ≡ (on_want self.old from want).state) }
+        ensures effects { OnOk result (effects.new ≡ effects.old ++ (on_want self.old from want).outs) }
+    {
+        let Some(client) = from else {
+            return Ok(());
+        };
+        self.slots.on_want(alloc, effects, client, want)
+    }
+
+    #[tactic(auto, unfolding(crate::specs::Serving::on_gave))]
+    fn on_gave(
+        &mut self,
+        alloc: Global,
+        effects: &mut Effects,
+        from: Option<u8>,
+        gave: Gave,
+    ) -> Mem<()>
+        ensures state { OnOk result (self.new ≡ (on_gave self.old from gave).state) }
+        ensures effects { OnOk result (effects.new ≡ effects.old ++ (on_gave self.old from gave).outs) }
+    {
+        let Some(client) = from else {
+            return Ok(());
+        };
+        self.slots.on_gave(alloc, effects, client, gave)
+    }
+
+    #[tactic(auto, unfolding(crate::specs::Serving::on_deltas))]
+    fn on_deltas(
+        &mut self,
+        alloc: Global,
+        effects: &mut Effects,
+        from: Option<LogId>,
+        deltas: &Deltas,
+    ) -> Mem<()>
+        ensures state { OnOk result (self.new ≡ (on_deltas self.old from deltas.now).state) }
+        ensures effects { OnOk result (effects.new ≡ effects.old ++ (on_deltas self.old from deltas.now).outs) }
+    {
+        let Some(log) = from else {
+            return Ok(());
+        };
+        self.slots.on_deltas(alloc, effects, log, deltas)
+    }
+
+    #[tactic(auto, unfolding(crate::specs::Serving::on_check))]
+    fn on_check(&mut self, alloc: Global, effects: &mut Effects, check: Check) -> Mem<()>
+        ensures state { OnOk result (self.new ≡ (on_check self.old check).state) }
+        ensures effects { OnOk result (effects.new ≡ effects.old ++ (on_check self.old check).outs) }
+    {
+        self.slots.on_check(alloc, effects, check)
+    }
+
+    #[tactic(auto, unfolding(crate::specs::Serving::on_usage_ask))]
+    fn on_usage_ask(&mut self, alloc: Global, effects: &mut Effects, asked: UsageAsk) -> Mem<()>
+        ensures state { OnOk result (self.new ≡ (on_usage_ask self.old asked).state) }
+        ensures effects { OnOk result (effects.new ≡ effects.old ++ (on_usage_ask self.old asked).outs) }
+    {
+        self.slots.on_usage_ask(alloc, effects, asked)
+    }
+
+    #[tactic(auto, unfolding(crate::specs::Serving::on_report))]
+    fn on_report(
+        &mut self,
+        alloc: Global,
+        effects: &mut Effects,
+        from: NodeId,
+        report: &Report,
+    ) -> Mem<()>
+        ensures state { OnOk result (self.new ≡ (on_report self.old from report.now).state) }
+        ensures effects { OnOk result (effects.new ≡ effects.old ++ (on_report self.old from report.now).outs) }
+    {
+        let questions = &mut self.lasting.questions;
+        self.slots
+            .on_report(alloc, effects, questions, from, report)
+    }
+
+    // A takeover is answered.
+    #[tactic(auto, unfolding(crate::specs::Serving::on_found))]
+    fn on_found(
+        &mut self,
+        alloc: Global,
+        effects: &mut Effects,
+        from: Option<u8>,
+        found: &Found,
+    ) -> Mem<()>
+        ensures state { OnOk result (self.new ≡ (on_found self.old from found.now).state) }
+        ensures effects { OnOk result (effects.new ≡ effects.old ++ (on_found self.old from found.now).outs) }
+    {
+        let Some(server) = from else {
+            return Ok(());
+        };
+        let Some((slot, ask)) = self.slots.fetch_of(found.ask) else {
+            return Ok(());
+        };
+        let input = In::Got {
+            ask,
+            server,
+            generation: found.generation,
+            fragment: found.fragment.copy(alloc)?,
+        };
+        self.take(alloc, effects, slot, input)
+    }
+
+    #[tactic(auto, unfolding(crate::specs::Serving::on_missing))]
+    fn on_missing(
+        &mut self,
+        alloc: Global,
+        effects: &mut Effects,
+        from: Option<u8>,
+        missing: Missing,
+    ) -> Mem<()>
+        ensures state { OnOk result (self.new ≡ (on_missing self.old from missing).state) }
+        ensures effects { OnOk result (effects.new ≡ effects.old ++ (on_missing self.old from missing).outs) }
+    {
+        let Some(server) = from else {
+            return Ok(());
+        };
+        let Some((slot, ask)) = self.slots.fetch_of(missing.ask) else {
+            return Ok(());
+        };
+        let input = In::Missing {
+            ask,
+            server,
+            generation: missing.generation,
+        };
+        self.take(alloc, effects, slot, input)
+    }
+
+    #[tactic(auto, unfolding(crate::specs::Serving::takes))]
+    fn take(&mut self, alloc: Global, effects: &mut Effects, slot: u8, input: In) -> Mem<()>
+        ensures state { OnOk result (self.new ≡ (takes self.old slot input).state) }
+        ensures effects { OnOk result (effects.new ≡ effects.old ++ (takes self.old slot input).outs) }
+    {
+        let questions = &mut self.lasting.questions;
+        self.slots.take(alloc, effects, questions, slot, input)
+    }
+
+    /// The maps come, and fit. Where they are newer, all that they say is taken, and else the slots alone.
+    #[tactic(auto, unfolding(crate::specs::Serving::on_news))]
+    pub fn on_news(
+        &mut self,
+        alloc: Global,
+        effects: &mut Effects,
+        clients: u8,
+        news: &News,
+    ) -> Mem<()>
+        ensures state { OnOk result (self.new ≡ (on_news self.old clients news.now).state) }
+        ensures effects { OnOk result (effects.new ≡ effects.old ++ (on_news self.old clients news.now).outs) }
+    {
+        if self.maps.take(alloc, news)? {
+            self.on_newer(alloc, effects, clients, news)
+        } else {
+            self.hear_slots(alloc, effects, clients, news.slots.as_slice())
+        }
+    }
+
+    // The groups first, then the slots with a greater epoch in order, then settling is looked at.
+    #[tactic(auto, unfolding(crate::specs::Serving::on_newer))]
+    fn on_newer(
+        &mut self,
+        alloc: Global,
+        effects: &mut Effects,
+        clients: u8,
+        news: &News,
+    ) -> Mem<()>
+        ensures state { OnOk result (self.new ≡ (on_newer self.old clients news.now).state) }
+        ensures effects { OnOk result (effects.new ≡ effects.old ++ (on_newer self.old clients news.now).outs) }
+    {
+        self.regroup(alloc, effects, &news.groups)?;
+        self.hear_slots(alloc, effects, clients, news.slots.as_slice())?;
+        let groups = news.groups.copy(alloc)?;
+        self.write(alloc, effects, client_log::In::Maps(groups))
+    }
+
+    #[tactic(auto, unfolding(crate::specs::Serving::regroups))]
+    fn regroup(&mut self, alloc: Global, effects: &mut Effects, groups: &GroupMap) -> Mem<()>
+        ensures state { OnOk result (self.new ≡ (regroups self.old groups.now).state) }
+        ensures effects { OnOk result (effects.new ≡ effects.old ++ (regroups self.old groups.now).outs) }
+    {
+        let questions = &mut self.lasting.questions;
+        self.slots.regroup(alloc, effects, questions, groups)
+    }
+
+    // Slots whose epoch is greater: where the maps give one to this manager it takes it over, and else it
+    // leaves it.
+    #[tactic(auto, unfolding(crate::specs::Serving::hears_slots))]
+    fn hear_slots(
+        &mut self,
+        alloc: Global,
+        effects: &mut Effects,
+        clients: u8,
+        slots: &[SlotNews],
+    ) -> Mem<()>
+        ensures state { OnOk result (self.new ≡ (hears_slots self.old clients slots.now).state) }
+        ensures effects { OnOk result (effects.new ≡ effects.old ++ (hears_slots self.old clients slots.now).outs) }
+    {
+        let Some(groups) = &self.maps.groups else {
+            return Ok(());
+        };
+        let ears = Ears {
+            number: self.lasting.number,
+            clients,
+        };
+        let questions = &mut self.lasting.questions;
+        self.slots
+            .hear_each(alloc, effects, questions, ears, groups, slots)
+    }
+
+    /// Time passes: what is unanswered is said again, one kind after the other.
+    #[tactic(auto, unfolding(crate::specs::Serving::on_tick))]
+    pub fn on_tick(&mut self, alloc: Global, effects: &mut Effects) -> Mem<()>
+        ensures state { OnOk result (self.new ≡ (on_tick self.old).state) }
+        ensures effects { OnOk result (effects.new ≡ effects.old ++ (on_tick self.old).outs) }
+    {
+        self.recall_again(alloc, effects)?;
+        self.ask_again(alloc, effects, true)?;
+        self.ask_again(alloc, effects, false)?;
+        self.write(alloc, effects, client_log::In::Tick)?;
+        self.tell_again(alloc, effects)
+    }
+
+    #[tactic(auto, unfolding(crate::specs::Serving::recalls_again))]
+    fn recall_again(&mut self, alloc: Global, effects: &mut Effects) -> Mem<()>
+        ensures state { OnOk result (self.new ≡ (recalls_again self.old).state) }
+        ensures effects { OnOk result (effects.new ≡ effects.old ++ (recalls_again self.old).outs) }
+    {
+        self.slots.recall_again(alloc, effects)
+    }
+
+    // The takeovers' polls are sent again, or what else they ask.
+    #[tactic(auto, unfolding(crate::specs::Serving::asks_again))]
+    fn ask_again(&mut self, alloc: Global, effects: &mut Effects, polls: bool) -> Mem<()>
+        ensures state { OnOk result (self.new ≡ (asks_again self.old polls).state) }
+        ensures effects { OnOk result (effects.new ≡ effects.old ++ (asks_again self.old polls).outs) }
+    {
+        let questions = &mut self.lasting.questions;
+        self.slots.ask_again(alloc, effects, questions, polls)
+    }
+}
+
+// The slots at the start of a run, and a copy of the groups.
+fn first_slots(
+    alloc: Global,
+    number: u8,
+    managers: u8,
+    groups: &GroupMap,
+) -> Mem<(SlotTable, GroupMap)>
+    requires { 1 ≤ managers }
+    ensures slots { IfOk result (λ made. made.0 ≡ tables.first_table number managers) }
+    ensures groups { IfOk result (λ made. made.1 ≡ groups.now) }
+{
+    let slots = SlotTable::first(alloc, number, managers)?;
+    match groups.copy(alloc) {
+        Ok(copy) => Ok((slots, copy)),
+        Err(error) => {
+            drop(slots);
+            Err(error)
+        }
+    }
+}
+
+// The empty log of an incarnation, and what writes checkpoints to it.
+fn first_log(alloc: Global, name: LogId, inc: u32, groups: GroupMap) -> Mem<(Log, Writer)>
+    requires { IsLog name.0 }
+    ensures log { IfOk result (λ made. made.0 ≡ logs.started name inc no_end groups) }
+    ensures writer { IfOk result (λ made. made.1 ≡ writers.started name) }
+{
+    let log = Log::start(alloc, name, inc, NO_END, groups)?;
+    match Writer::start(alloc, name) {
+        Ok(writer) => Ok((log, writer)),
+        Err(error) => {
+            drop(log);
+            Err(error)
+        }
+    }
+}
