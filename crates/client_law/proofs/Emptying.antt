@@ -1,19 +1,21 @@
 -- An opening that ends leaves a log in which nothing waits, and nothing is in flight: its first segment has no item and nothing waits behind it.
 use Rattle.std.proofs.Common.{◌≡◌, ℕ, ◌+◌, true, cond, if◌then◌else◌, ◌&&◌, nat_le, List, [], ◌∷◌, ◌++◌, length, Option, Some, None, is_some, refl, sym, ap, ◌∙◌, arith}
 use Rattle.std.specs.List.{AllByRecursion}
-use Rattle.client_log.specs.declared.flight.Fate.{Fate}
-use Rattle.client_log.specs.declared.flight.Fate.TheVariants.{Restripe, Settle, Wait}
 use Rattle.client_log.specs.declared.input.In.{In as LogIn}
 use Rattle.client_log.specs.declared.input.In.TheVariants as log_in
 use Rattle.client_log.specs.declared.output.Out.{Out as LogOut}
 use Rattle.client_log.specs.declared.output.Out.TheVariants as log_out
-use Rattle.client_log.specs.Fate.{fate_of}
-use Rattle.client_log.specs.LogState.{FlightState, LogState, is_noted}
-use Rattle.client_log.specs.Texts.{has_text}
+use Rattle.client_log.specs.LogState.{LogState}
 use Rattle.client_log.specs.Transition as log
-use Rattle.client_log.specs.Transition.{all_sends, can_follow, followed, has_next, if_full, is_full, is_idle, is_of, landed, launched, looked_at, next_attempt, next_name, noting, on_acked, on_maps, on_parts, on_tick as log_tick, prior_from, restriped, sealed, send_at, sends, settled}
+use Rattle.client_log.specs.Transition.{all_sends, can_follow, followed, has_next, if_full, is_full, is_idle, landed, launched, looked_at, next_attempt, next_name, on_acked, on_maps, on_parts, on_tick as log_tick, prior_from, restriped, sealed, send_at, sends, settled}
 use Rattle.group_map.specs.declared.group.Member.{Member}
 use Rattle.group_map.specs.GroupMapState.{GroupMapState}
+use Rattle.log_flight.specs.declared.flight.Fate.{Fate}
+use Rattle.log_flight.specs.declared.flight.Fate.TheVariants.{Restripe, Settle, Wait}
+use Rattle.log_flight.specs.Fate.{fate_of}
+use Rattle.log_flight.specs.Flights as flights
+use Rattle.log_flight.specs.Flights.{FlightState, is_noted, is_of, noting}
+use Rattle.log_flight.specs.Texts.{has_text}
 use Rattle.log_owner.specs.declared.known.Known.{Known}
 use Rattle.log_owner.specs.declared.opened.Progress.TheVariants as progress
 use Rattle.log_owner.specs.declared.opening.Opening.{Opening}
@@ -82,7 +84,7 @@ module _ (l : LogState) (empty : l.dirty ≡ []) where
   begun_empties : (items : List Item) → Empties (log.writes l items)
   unfolding launched all_sends
   begun_empties items =
-      let f : FlightState = log.flown (next_name l) (prior_from l.end) items (log.group_for l.groups l.log.0 (next_name l).seq) in
+      let f : FlightState = flights.flown (next_name l) (prior_from l.end) items (flights.group_for l.groups l.log.0 (next_name l).seq) in
       sent_empties (log.writes l items) empty (all_sent f f.group.members 0)
 
   module _ (f : FlightState) where
@@ -90,7 +92,7 @@ module _ (l : LogState) (empty : l.dirty ≡ []) where
     unfolding restriped launched all_sends
     restriped_empties =
         let g : FlightState =
-        log.flown (next_attempt f.segment.name) f.segment.prior f.segment.items (log.group_for l.groups l.log.0 (next_attempt f.segment.name).seq) in
+        flights.flown (next_attempt f.segment.name) f.segment.prior f.segment.items (flights.group_for l.groups l.log.0 (next_attempt f.segment.name).seq) in
         sent_empties (restriped l f) empty (all_sent g g.group.members 0)
 
     -- behind a segment that is settled nothing is sealed, since nothing waits

@@ -1,15 +1,16 @@
 -- Where each map of groups that is said is so, those of an opening are, and so is the one over which the log stripes that it opens.
 use Rattle.std.proofs.Common.{◌≡◌, ℕ, cond, if◌then◌else◌, ◌&&◌, List, [], ◌∷◌, Option, Some, None, refl, sym, subst, arith}
-use Rattle.client_log.specs.declared.flight.Fate.{Fate}
-use Rattle.client_log.specs.declared.flight.Fate.TheVariants.{Restripe, Settle, Wait}
 use Rattle.client_log.specs.declared.input.In.{In as LogIn}
 use Rattle.client_log.specs.declared.input.In.TheVariants as log_in
-use Rattle.client_log.specs.Fate.{fate_of}
-use Rattle.client_log.specs.LogState.{FlightState, LogState}
-use Rattle.client_log.specs.Texts.{has_text}
+use Rattle.client_log.specs.LogState.{LogState}
 use Rattle.client_log.specs.Transition as log
-use Rattle.client_log.specs.Transition.{all_sends, can_follow, followed, has_next, if_full, is_full, is_idle, is_of, landed, launched, looked_at, noting, on_acked, on_maps, on_parts, on_tick as log_tick, restriped, sealed, settled}
+use Rattle.client_log.specs.Transition.{all_sends, can_follow, followed, has_next, if_full, is_full, is_idle, landed, launched, looked_at, on_acked, on_maps, on_parts, on_tick as log_tick, restriped, sealed, settled}
 use Rattle.group_map.specs.GroupMapState.{GroupMapState}
+use Rattle.log_flight.specs.declared.flight.Fate.{Fate}
+use Rattle.log_flight.specs.declared.flight.Fate.TheVariants.{Restripe, Settle, Wait}
+use Rattle.log_flight.specs.Fate.{fate_of}
+use Rattle.log_flight.specs.Flights.{FlightState, is_of, noting}
+use Rattle.log_flight.specs.Texts.{has_text}
 use Rattle.log_owner.specs.declared.known.Known.{Known}
 use Rattle.log_owner.specs.declared.opened.Progress.TheVariants as progress
 use Rattle.log_owner.specs.declared.opening.Opening.{Opening}

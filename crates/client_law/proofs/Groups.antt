@@ -2,7 +2,6 @@
 use Rattle.std.proofs.Common.{◌≡◌, ℕ, ◌&&◌, not, nat_lt, length, List, [], ◌∷◌, Option, Some, None, refl, sym, subst}
 use Rattle.std.specs.Prelude.{fold}
 use Rattle.std.specs.List.{list_any}
-use Rattle.client_log.specs.declared.dirty.Change.{Change}
 use Rattle.client_log.specs.declared.input.In as log_in
 use Rattle.client_log.specs.declared.input.In.TheVariants as log_ins
 use Rattle.client_log.specs.declared.output.Out as log_out
@@ -22,6 +21,7 @@ use Rattle.coop_cache.specs.Transition.{cleaned}
 use Rattle.group_map.specs.GroupMapState.{GroupMapState}
 use Rattle.group_map.specs.WellFormed.{IsGroupMap}
 use Rattle.group_map.proofs.Presence.{is_present}
+use Rattle.log_flight.specs.declared.dirty.Change.{Change}
 use Rattle.log_owner.specs.declared.opened.Progress.{Progress}
 use Rattle.log_owner.specs.declared.opened.Progress.TheVariants as progress
 use Rattle.client_law.specs.Grouped.{HasSuchMaps, OpensBySuch}

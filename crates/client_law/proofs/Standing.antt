@@ -1,6 +1,5 @@
 -- The facts of a client together hold at the start, and each event keeps them.
 use Rattle.std.proofs.Common.{◌≡◌, ℕ, Option, Some, None, inl, replicate, refl, sym, ◌∙◌}
-use Rattle.client_log.specs.LogState.{FlightState}
 use Rattle.client_node.specs.declared.phase.Phase.TheVariants.{Down, Opening, Serving as Serves}
 use Rattle.client_node.specs.declared.phase.Phase.{Phase}
 use Rattle.client_node.specs.Phases.{takes}
@@ -9,6 +8,7 @@ use Rattle.client_serving.specs.declared.serving.Serving.{Serving}
 use Rattle.client_serving.specs.Starting.{first_serving}
 use Rattle.group_map.specs.Groups.{started}
 use Rattle.group_map.specs.WellFormed.{IsGroupMap}
+use Rattle.log_flight.specs.Flights.{FlightState}
 use Rattle.client_law.specs.Grouped.{HasSuchMaps}
 use Rattle.node_tie.specs.AskingEvents.{PhaseAsks}
 use Rattle.node_tie.proofs.AsksEvents.{first_asks, phase_asks}

@@ -3,17 +3,13 @@ use Rattle.std.proofs.Common.{◌≡◌, ℕ, ◌+◌, ◌<◌, Bool, true, fals
 use Rattle.std.specs.Prelude.{fold}
 use Rattle.std.specs.List.{AllByRecursion, list_any}
 use Rattle.std.proofs.lemmas.List.{drop-map, take-map}
-use Rattle.client_log.specs.declared.flight.Fate.{Fate}
-use Rattle.client_log.specs.declared.flight.Fate.TheVariants.{Restripe, Settle, Wait}
 use Rattle.client_log.specs.declared.input.In as log_in
 use Rattle.client_log.specs.declared.input.In.TheVariants as log_ins
 use Rattle.client_log.specs.declared.output.Out as log_out
 use Rattle.client_log.specs.declared.output.Out.TheVariants.{Send, Settled}
-use Rattle.client_log.specs.Fate.{fate_of}
-use Rattle.client_log.specs.Items.{items_of}
-use Rattle.client_log.specs.LogState.{FlightState, LogState}
+use Rattle.client_log.specs.LogState.{LogState}
 use Rattle.client_log.specs.Transition as log
-use Rattle.client_log.specs.Transition.{all_sends, can_follow, followed, has_next, if_full, is_full, is_idle, is_of, landed, launched, looked_at, next_attempt, noting, on_acked, on_maps, on_seal, on_tick, restriped, sealed, settled}
+use Rattle.client_log.specs.Transition.{all_sends, can_follow, followed, has_next, if_full, is_full, is_idle, landed, launched, looked_at, next_attempt, on_acked, on_maps, on_seal, on_tick, restriped, sealed, settled}
 use Rattle.client_parts.specs.Flights.{is_giving, is_settling}
 use Rattle.client_serving.specs.declared.serving.Serving.{Serving}
 use Rattle.client_serving.specs.Flights.{feeds, gives_if_clean, gives_up, held_at, keeps_clean, notes_settled, settled_rows, settles, writes, writes_one}
@@ -23,6 +19,12 @@ use Rattle.coop_cache.specs.declared.output.Out as cache_out
 use Rattle.coop_cache.specs.declared.output.Out.TheVariants.{Victim}
 use Rattle.coop_cache.specs.Transition.{cleaned}
 use Rattle.group_map.specs.GroupMapState.{GroupMapState}
+use Rattle.log_flight.specs.declared.flight.Fate.{Fate}
+use Rattle.log_flight.specs.declared.flight.Fate.TheVariants.{Restripe, Settle, Wait}
+use Rattle.log_flight.specs.Fate.{fate_of}
+use Rattle.log_flight.specs.Flights as flights
+use Rattle.log_flight.specs.Flights.{FlightState, is_of, noting}
+use Rattle.log_flight.specs.Items.{items_of}
 use Rattle.segment_format.specs.declared.segment.Item.{Item}
 use Rattle.segment_format.specs.declared.segment.Item.TheVariants.{Block, Delta, Part}
 use Rattle.segment_format.specs.declared.segment.Segment.{Segment}
@@ -65,7 +67,7 @@ idle_is (Some f) h = contrary h
 -- what waits first, in flight
 abbrev sealed_flight : LogState → FlightState
 sealed_flight l =
-    log.flown (log.next_name l) (log.prior_from l.end) (items_of 0 (take segment_blocks l.dirty)) (log.group_for l.groups l.log.0 (log.next_name l).seq)
+    flights.flown (log.next_name l) (log.prior_from l.end) (items_of 0 (take segment_blocks l.dirty)) (flights.group_for l.groups l.log.0 (log.next_name l).seq)
 
 -- what waits first is sealed
 sealed-writes : (t : TokensState) (l : LogState) → l.flight ≡ None → Writes t l → Writes t (sealed l).state
@@ -294,7 +296,7 @@ module _ (s : Serving) where
     less_room = (let room : l.end.seq + 1 < u32_end = p.room in omega arith)
 
     abbrev anew : FlightState
-    anew = log.flown (next_attempt f.segment.name) f.segment.prior f.segment.items (log.group_for l.groups l.log.0 (next_attempt f.segment.name).seq)
+    anew = flights.flown (next_attempt f.segment.name) f.segment.prior f.segment.items (flights.group_for l.groups l.log.0 (next_attempt f.segment.name).seq)
 
     restriped-so : WroteSo s (restriped l f)
     unfolding restriped launched all_sends

@@ -1,6 +1,5 @@
 -- The facts of a client as one invariant: it holds at the start, and each event keeps it.
 use Rattle.std.specs.Prelude.{◌≡◌, ◌+◌, ℕ, List, Option, Some, None}
-use Rattle.client_log.specs.LogState.{FlightState}
 use Rattle.client_node.specs.declared.client.Client.{Client}
 use Rattle.client_node.specs.declared.phase.Phase.TheVariants.{Down, Opening, Serving as Serves}
 use Rattle.client_node.specs.declared.phase.Phase.{Phase}
@@ -9,6 +8,7 @@ use Rattle.client_node.specs.Starting.{first_client}
 use Rattle.client_serving.specs.declared.serving.Serving.{Serving}
 use Rattle.group_map.specs.Groups.{started}
 use Rattle.group_map.specs.WellFormed.{IsGroupMap}
+use Rattle.log_flight.specs.Flights.{FlightState}
 use Rattle.log_owner.specs.declared.opening.Opening as openings
 use Rattle.client_law.specs.Empty.{WaitsForNothing}
 use Rattle.client_law.specs.Grouped.{HasSuchMaps}

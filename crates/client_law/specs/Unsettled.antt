@@ -1,9 +1,10 @@
 -- What of a client's blocks isn't settled: what waits to be written to its log, and what is in flight.
 use Rattle.std.specs.Prelude.{◌≡◌, ◌<◌, ◌≤◌, ◌⊎◌, ℕ, true, List, [], Option, Some, None, is_some, map}
 use Rattle.std.specs.Map.{keys_of, lookup}
-use Rattle.client_log.specs.LogState.{FlightState, LogState}
+use Rattle.client_log.specs.LogState.{LogState}
 use Rattle.client_serving.specs.declared.serving.Serving.{Serving}
 use Rattle.client_serving.specs.Flights.{held_at}
+use Rattle.log_flight.specs.Flights.{FlightState}
 use Rattle.segment_format.specs.Rows.{rows_of}
 use Rattle.token_client.specs.Held.{is_dirty}
 use Rattle.xfs_base.specs.Blocks.{same_block}

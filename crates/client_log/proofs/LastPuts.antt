@@ -14,16 +14,17 @@ use Rattle.xfs_base.specs.Steps.{still}
 use Rattle.xfs_base.proofs.BlockOrder.{same_block_exact, same_block_itself}
 use Rattle.segment_format.specs.declared.segment.Item.{Item}
 use Rattle.group_map.specs.GroupMapState.{GroupMapState}
-use Rattle.client_log.specs.declared.dirty.Change.{Change}
-use Rattle.client_log.specs.declared.flight.Fate.{Fate}
-use Rattle.client_log.specs.declared.flight.Fate.TheVariants.{Restripe, Settle, Wait}
+use Rattle.log_flight.specs.declared.dirty.Change.{Change}
+use Rattle.log_flight.specs.declared.flight.Fate.{Fate}
+use Rattle.log_flight.specs.declared.flight.Fate.TheVariants.{Restripe, Settle, Wait}
+use Rattle.log_flight.specs.Fate.{fate_of}
+use Rattle.log_flight.specs.Flights.{FlightState, is_of, noting}
+use Rattle.log_flight.specs.Items.{items_of}
+use Rattle.log_flight.specs.Texts.{has_text}
 use Rattle.client_log.specs.declared.input.In.{In}
 use Rattle.client_log.specs.declared.input.In.TheVariants.{Put, Parts, Seal, Acked, Maps, Tick}
-use Rattle.client_log.specs.Fate.{fate_of}
-use Rattle.client_log.specs.Items.{items_of}
-use Rattle.client_log.specs.LogState.{FlightState, LogState, started}
-use Rattle.client_log.specs.Texts.{has_text}
-use Rattle.client_log.specs.Transition.{Done, all_sends, launched, writes, has_next, is_idle, is_full, can_go_on, sealed, if_full, waits, on_put, on_seal, on_parts, restriped, landed, settled, can_follow, followed, looked_at, is_of, noting, on_acked, on_maps, on_tick, transition}
+use Rattle.client_log.specs.LogState.{LogState, started}
+use Rattle.client_log.specs.Transition.{Done, all_sends, launched, writes, has_next, is_idle, is_full, can_go_on, sealed, if_full, waits, on_put, on_seal, on_parts, restriped, landed, settled, can_follow, followed, looked_at, on_acked, on_maps, on_tick, transition}
 use Rattle.client_log.specs.History.{state_after, last_put, AreLastPuts, WereFlying, HoldsLastPuts}
 
 -- ---- lists of changes

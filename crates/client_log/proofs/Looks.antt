@@ -4,12 +4,13 @@ use Rattle.std.specs.Prelude.{is_some}
 use Rattle.xfs_base.specs.declared.segment.SegName.{SegName}
 use Rattle.xfs_base.specs.Steps.{still}
 use Rattle.group_map.specs.GroupMapState.{GroupMapState}
-use Rattle.client_log.specs.declared.flight.Fate.{Fate}
-use Rattle.client_log.specs.declared.flight.Fate.TheVariants.{Restripe, Settle, Wait}
-use Rattle.client_log.specs.Fate.{fate_of}
-use Rattle.client_log.specs.LogState.{FlightState, LogState}
+use Rattle.log_flight.specs.declared.flight.Fate.{Fate}
+use Rattle.log_flight.specs.declared.flight.Fate.TheVariants.{Restripe, Settle, Wait}
+use Rattle.log_flight.specs.Fate.{fate_of}
+use Rattle.log_flight.specs.Flights.{FlightState, is_of, noting}
+use Rattle.client_log.specs.LogState.{LogState}
 use Rattle.client_log.specs.Looks.{heard, looked, noted_at, flight_can_follow, flight_follows}
-use Rattle.client_log.specs.Transition.{Done, launched, restriped, settled, can_follow, followed, looked_at, is_of, noting, on_acked, on_maps}
+use Rattle.client_log.specs.Transition.{Done, launched, restriped, settled, can_follow, followed, looked_at, on_acked, on_maps}
 
 -- an input comes to this step, and no number is at its end that the fate raises
 pub record Comes (done : Done) (s : LogState) (fate : Fate) : Type 0 where

@@ -4,11 +4,12 @@ use Rattle.std.specs.Option.{option_map}
 use Rattle.xfs_base.specs.declared.segment.SegName.{SegName}
 use Rattle.xfs_base.specs.Steps.{still}
 use Rattle.group_map.specs.GroupMapState.{GroupMapState}
-use Rattle.client_log.specs.declared.flight.Fate.{Fate}
-use Rattle.client_log.specs.declared.flight.Fate.TheVariants.{Wait}
-use Rattle.client_log.specs.Fate.{fate_of}
-use Rattle.client_log.specs.LogState.{FlightState, LogState}
-use Rattle.client_log.specs.Transition.{Done, can_follow, followed, is_of, noting}
+use Rattle.log_flight.specs.declared.flight.Fate.{Fate}
+use Rattle.log_flight.specs.declared.flight.Fate.TheVariants.{Wait}
+use Rattle.log_flight.specs.Fate.{fate_of}
+use Rattle.log_flight.specs.Flights.{FlightState, is_of, noting}
+use Rattle.client_log.specs.LogState.{LogState}
+use Rattle.client_log.specs.Transition.{Done, can_follow, followed}
 
 -- the fate of a flight, where no number is at its end that it raises
 abbrev pub due : LogState → FlightState → Fate → Option Fate

@@ -1,5 +1,5 @@
 -- What a log does at each input: one definition for each, named for it (the 1996 paper, "Writes").
-use Rattle.std.specs.Prelude.{ℕ, ◌+◌, Bool, true, false, ◌==◌, ◌&&◌, ◌||◌, not, nat_lt, nat_le, List, [], ◌∷◌, ◌++◌, Some, None, is_none, unwrap_or, if◌then◌else◌, length, take, drop, slice_index_or, slice_set}
+use Rattle.std.specs.Prelude.{ℕ, ◌+◌, Bool, true, ◌&&◌, ◌||◌, not, nat_lt, nat_le, List, [], ◌∷◌, ◌++◌, Some, None, is_none, if◌then◌else◌, length, take, drop}
 use Rattle.indexmap.specs.IndexMap.{insert_entry}
 use Rattle.xfs_base.specs.declared.block.BlockId.{BlockId}
 use Rattle.xfs_base.specs.declared.segment.End.{End}
@@ -10,24 +10,22 @@ use Rattle.xfs_base.specs.Limits.{segment_blocks, u32_end}
 use Rattle.xfs_base.specs.Steps.{Stepped, still, after}
 use Rattle.segment_format.specs.declared.segment.Item.{Item}
 use Rattle.segment_format.specs.declared.segment.Segment.{Segment}
-use Rattle.stripe_code.specs.Fragments.{same_name}
-use Rattle.group_map.specs.declared.group.Group.{Group}
 use Rattle.group_map.specs.declared.group.Member.{Member}
 use Rattle.group_map.specs.GroupMapState.{GroupMapState}
-use Rattle.group_map.specs.Groups.{group_of, chosen}
-use Rattle.client_log.specs.declared.dirty.Change.{Change}
-use Rattle.client_log.specs.declared.flight.Fate.{Fate}
-use Rattle.client_log.specs.declared.flight.Fate.TheVariants.{Restripe, Settle, Wait}
+use Rattle.log_flight.specs.declared.dirty.Change.{Change}
+use Rattle.log_flight.specs.declared.flight.Fate.{Fate}
+use Rattle.log_flight.specs.declared.flight.Fate.TheVariants.{Restripe, Settle, Wait}
+use Rattle.log_flight.specs.Fate.{fate_of}
+use Rattle.log_flight.specs.Flights.{FlightState, is_noted, group_for, flown, is_of, noting}
+use Rattle.log_flight.specs.Fragments.{piece}
+use Rattle.log_flight.specs.Items.{items_of}
+use Rattle.log_flight.specs.Texts.{has_text}
 use Rattle.client_log.specs.declared.input.In.{In}
 use Rattle.client_log.specs.declared.input.In.TheVariants.{Put, Parts, Seal, Acked, Maps, Tick}
 use Rattle.client_log.specs.declared.output.Out.{Out}
 use Rattle.client_log.specs.declared.output.Out.TheVariants.{Send, Settled}
-use Rattle.client_log.specs.Fate.{fate_of}
-use Rattle.client_log.specs.Fragments.{piece}
-use Rattle.client_log.specs.Items.{items_of}
 use Rattle.segment_format.specs.Rows.{rows_of}
-use Rattle.client_log.specs.Texts.{has_text}
-use Rattle.client_log.specs.LogState.{FlightState, LogState, none_noted, is_noted}
+use Rattle.client_log.specs.LogState.{LogState}
 
 abbrev pub Done : Type 0
 Done = Stepped LogState Out
@@ -47,18 +45,6 @@ unfoldable pub all_sends : FlightState → List Out
 all_sends f = sends f f.group.members 0
 
 -- ---- beginning a segment
-
--- no group: no map is without a current one
-abbrev pub no_group : Group
-no_group = record { id = 0; members = []; parity = 1; current = false }
-
--- the group that the map chooses for a segment
-unfoldable pub group_for : GroupMapState → ℕ → ℕ → Group
-group_for groups log seq = unwrap_or (group_of groups (chosen groups.groups log seq)) no_group
-
--- a segment over the group, of which nothing is noted
-abbrev pub flown : SegName → Prior → List Item → Group → FlightState
-flown name prior items group = record { segment = record { name = name; prior = prior; group = group.id; items = items }; group = group; noted = none_noted }
 
 -- a segment of this name, with these items, is in flight, and each member is sent its fragment
 unfoldable pub launched : LogState → SegName → Prior → List Item → Done
@@ -155,20 +141,6 @@ followed s f Wait = still (record s { flight = Some f })
 -- Settling is looked at: what becomes of this flight in this state, or the state before where a number cannot rise.
 unfoldable pub looked_at : LogState → LogState → FlightState → Done
 looked_at before s f = if can_follow s f (fate_of s.groups f) then followed s f (fate_of s.groups f) else still before
-
-abbrev pub no_member : Member
-no_member = record { server = 0; generation = 0 }
-
--- whether there is a member at the place, and of this generation
-abbrev pub is_member : List Member → ℕ → ℕ → Bool
-is_member members index generation = nat_lt index (length members) && (generation == (slice_index_or members index no_member).generation)
-
--- whether a Stored is of the flight, by name, place and generation
-abbrev pub is_of : FlightState → SegName → ℕ → ℕ → Bool
-is_of f name index generation = same_name name f.segment.name && is_member f.group.members index generation
-
-abbrev pub noting : FlightState → ℕ → FlightState
-noting f index = record f { noted = slice_set f.noted index true }
 
 -- Acked: a Stored of the flight is noted, and settling is looked at.
 unfoldable pub on_acked : LogState → SegName → ℕ → ℕ → Done

@@ -4,18 +4,14 @@
 //! that was reopened is one too. This crate knows nothing of packets, tokens or managers' tables.
 #![tactic(auto)]
 
-pub mod dirty;
-pub mod flight;
-mod fragments;
 pub mod input;
-mod items;
 pub mod laws;
 pub mod log;
 pub mod output;
+mod sending;
 mod steps;
-mod texts;
 
-pub use dirty::Change;
 pub use input::In;
 pub use log::Log;
+pub use log_flight::Change;
 pub use output::Out;

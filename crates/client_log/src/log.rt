@@ -5,10 +5,9 @@ ghost use Rattle.segment_format.specs.Format.{IsLog};
 ghost use Rattle.client_log.specs.LogState.{started};
 ghost use Rattle.client_log.specs.Transition.{transition};
 
-use crate::dirty::Dirty;
-use crate::flight::Flight;
 use crate::{Change, In, Out};
 use group_map::GroupMap;
+use log_flight::{Dirty, Flight};
 use segment_format::Segment;
 use std::alloc::Global;
 use std::marker::Model;

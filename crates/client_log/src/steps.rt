@@ -1,24 +1,25 @@
 //! What a log does on each input.
-ghost use Rattle.std.specs.Prelude.{◌≡◌, ◌++◌, ◌∷◌, [], ◌<◌, OnOk, IfOk, IsTrue, length};
+ghost use Rattle.std.specs.Prelude.{◌≡◌, ◌++◌, ◌∷◌, [], ◌<◌, OnOk, IfOk, IsTrue};
 ghost use Rattle.xfs_base.specs.Limits.{u32_end};
 ghost use Rattle.segment_format.specs.Format.{IsLog};
 ghost use Rattle.segment_format.specs.Rows.{rows_of};
-ghost use Rattle.stripe_code.specs.Stripe.{IsCut};
+ghost use Rattle.log_flight.specs.Texts.{HasText};
 ghost use Rattle.client_log.specs.declared.output.Out.TheVariants.{Settled};
 ghost use Rattle.client_log.specs.Looks.{due, heard, heard_of, looked, noted_at, flight_can_follow, flight_follows};
-ghost use Rattle.client_log.specs.Texts.{HasText};
-ghost use Rattle.client_log.specs.Transition.{flown, group_for, launched, writes, sealed, if_full, can_go_on, is_full, waits, landed_at, can_follow, next_attempt, end_from, on_put, on_seal, on_parts, on_acked, on_maps, on_tick};
+ghost use Rattle.client_log.specs.Transition.{launched, writes, sealed, if_full, can_go_on, is_full, waits, landed_at, can_follow, next_attempt, end_from, on_put, on_seal, on_parts, on_acked, on_maps, on_tick};
 
-use crate::flight::{Fate, Flight};
-use crate::items::items_of;
-use crate::texts::has_text;
+use crate::sending::send;
 use crate::{Change, Log, Out};
-use group_map::{Group, GroupMap};
+use group_map::GroupMap;
+use log_flight::items::items_of;
+use log_flight::starting::flight_over;
+use log_flight::texts::has_text;
+use log_flight::{Fate, Flight};
 use segment_format::{Item, Segment, rows_of};
 use std::alloc::Global;
 use std::mem;
 use xfs_base::limits::SEGMENT_BLOCKS;
-use xfs_base::{BlockId, End, List, LogId, Mem, Pass, Prior, SegName};
+use xfs_base::{BlockId, End, List, Mem, Pass, Prior, SegName};
 
 impl Log {
     #[tactic(auto, unfolding(crate::specs::Transition::on_put))]
@@ -123,7 +124,7 @@ impl Log {
     {
         match &self.flight {
             None => Ok(()),
-            Some(flight) => flight.send(alloc, outs),
+            Some(flight) => send(alloc, outs, flight),
         }
     }
 
@@ -329,38 +330,6 @@ impl Log {
         drop(mem::replace(&mut self.flight, Some(flight)));
         self.on_tick(alloc, outs)
     }
-}
-
-// A segment of this name over the group that the map chooses for it.
-fn flight_over(
-    alloc: Global,
-    groups: &GroupMap,
-    log: LogId,
-    name: SegName,
-    prior: Prior,
-    items: List<Item>,
-) -> Mem<Flight>
-    requires log { IsLog name.log.0 }
-    requires text { HasText items }
-    ensures { IfOk result (λ flight. flight ≡ flown name prior items (group_for groups.now log.0 name.seq)) }
-{
-    let group = group_for(alloc, groups, log, name.seq)?;
-    let segment = Segment {
-        name,
-        prior,
-        group: group.id,
-        items,
-    };
-    Flight::launch(alloc, segment, group)
-}
-
-// The group that the map chooses for a segment.
-fn group_for(alloc: Global, groups: &GroupMap, log: LogId, seq: u32) -> Mem<Group>
-    ensures chosen { IfOk result (λ g. g ≡ group_for groups.now log.0 seq) }
-    ensures cut { IfOk result (λ g. IsCut (length g.members) g.parity) }
-{
-    let group = groups.lookup(groups.choose(log, seq)).unwrap();
-    group.copy(alloc)
 }
 
 fn next_attempt(name: SegName) -> SegName

@@ -1,9 +1,9 @@
 -- How the owner comes to serve in an event: by one thing that happens, or it served before, in the same boot; where it doesn't serve then, it served nowhere on
 -- the way; and where it has picked then where its log goes on, one thing happened at most.
 use Rattle.std.proofs.Common.{◌≡◌, true, false, List, Option, Some, None, refl, sym, ap, ◌∙◌}
-use Rattle.client_log.specs.LogState.{FlightState}
 use Rattle.client_log.specs.Transition as log
 use Rattle.group_map.specs.GroupMapState.{GroupMapState}
+use Rattle.log_flight.specs.Flights.{FlightState}
 use Rattle.log_scan.specs.ScanState.{ScanState}
 use Rattle.log_scan.specs.Transition as scan
 use Rattle.log_tie.specs.Setting.{Setting}

@@ -22,18 +22,19 @@ use Rattle.segment_format.specs.Ranges.{FitsName, FitsPrior, FitsItem}
 use Rattle.segment_format.specs.Text.{block_text, pass_text, name_text, prior_text, value_text, item_text, version_of, head_of, head_text, text_of, IsItem}
 use Rattle.group_map.specs.GroupMapState.{GroupMapState}
 use Rattle.stripe_code.specs.Stripe.{IsBytes}
-use Rattle.client_log.specs.declared.dirty.Change.{Change}
-use Rattle.client_log.specs.declared.flight.Fate.{Fate}
-use Rattle.client_log.specs.declared.flight.Fate.TheVariants.{Restripe, Settle, Wait}
+use Rattle.log_flight.specs.declared.dirty.Change.{Change}
+use Rattle.log_flight.specs.declared.flight.Fate.{Fate}
+use Rattle.log_flight.specs.declared.flight.Fate.TheVariants.{Restripe, Settle, Wait}
+use Rattle.log_flight.specs.Fate.{fate_of}
+use Rattle.log_flight.specs.Flights.{FlightState, is_of, noting}
+use Rattle.log_flight.specs.Items.{change_items, items_of}
+use Rattle.log_flight.specs.Texts.{HasText, has_text}
+use Rattle.log_flight.proofs.ItemTexts.{written_have_text}
 use Rattle.client_log.specs.declared.input.In.{In as Input}
 use Rattle.client_log.specs.declared.input.In.TheVariants.{Put, Parts, Seal, Acked, Maps, Tick}
-use Rattle.client_log.specs.Fate.{fate_of}
 use Rattle.client_log.specs.History.{state_after}
-use Rattle.client_log.specs.Items.{change_items, items_of}
-use Rattle.client_log.specs.LogState.{FlightState, LogState, started}
-use Rattle.client_log.specs.Texts.{HasText, has_text}
-use Rattle.client_log.specs.Transition.{Done, all_sends, launched, next_name, prior_from, writes, has_next, is_idle, is_full, can_go_on, sealed, if_full, waits, on_put, on_seal, on_parts, next_attempt, restriped, landed, settled, can_follow, followed, looked_at, is_of, noting, on_acked, on_maps, on_tick, transition}
-use Rattle.client_log.proofs.ItemTexts.{written_have_text}
+use Rattle.client_log.specs.LogState.{LogState, started}
+use Rattle.client_log.specs.Transition.{Done, all_sends, launched, next_name, prior_from, writes, has_next, is_idle, is_full, can_go_on, sealed, if_full, waits, on_put, on_seal, on_parts, next_attempt, restriped, landed, settled, can_follow, followed, looked_at, on_acked, on_maps, on_tick, transition}
 use Rattle.log_law.specs.Events.{IsWritten}
 use Rattle.log_law.specs.Openings.{EndFits}
 use Rattle.client_log_tie.specs.Texts.{PutFits, MapFits, InputFits, WhatFitsStaysWritten}

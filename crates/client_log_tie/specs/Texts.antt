@@ -9,11 +9,12 @@ use Rattle.segment_format.specs.Format.{second_version, IsLength, IsLog}
 use Rattle.segment_format.specs.Ranges.{FitsRow}
 use Rattle.group_map.specs.GroupMapState.{GroupMapState}
 use Rattle.stripe_code.specs.Stripe.{IsBytes}
+use Rattle.log_flight.specs.Flights.{group_for}
 use Rattle.client_log.specs.declared.input.In.{In as Input}
 use Rattle.client_log.specs.declared.input.In.TheVariants.{Put, Parts, Seal, Acked, Maps, Tick}
 use Rattle.client_log.specs.History.{state_after}
 use Rattle.client_log.specs.LogState.{LogState, started}
-use Rattle.client_log.specs.Transition.{group_for, has_next}
+use Rattle.client_log.specs.Transition.{has_next}
 use Rattle.log_scan.specs.Transition as scan
 use Rattle.log_tie.specs.Setting.{Setting}
 use Rattle.log_law.specs.Net.{Net, Told, chain_in}

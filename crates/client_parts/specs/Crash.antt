@@ -1,6 +1,6 @@
 -- What a crash makes of the blocks whose newest version isn't settled.
 use Rattle.std.specs.Prelude.{ℕ, if◌then◌else◌, List, [], ◌∷◌, Option, Some, None, unwrap_or}
-use Rattle.client_log.specs.LogState.{FlightState}
+use Rattle.log_flight.specs.Flights.{FlightState}
 use Rattle.segment_format.specs.declared.segment.Item.{Item}
 use Rattle.segment_format.specs.declared.segment.Item.TheVariants.{Block, Delta, Part}
 use Rattle.token_client.specs.State.{TokensState, held_of}

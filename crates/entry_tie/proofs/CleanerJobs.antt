@@ -9,12 +9,12 @@ use Rattle.xfs_base.specs.declared.segment.SegRef.{SegRef}
 use Rattle.xfs_base.specs.Steps.{still, steps}
 use Rattle.segment_format.specs.declared.segment.Segment.{Segment}
 use Rattle.group_map.specs.GroupMapState.{GroupMapState}
+use Rattle.log_flight.specs.declared.dirty.Change.{Change}
+use Rattle.log_flight.specs.Flights.{FlightState}
 use Rattle.client_log.specs.declared.input.In.{In as LogIn}
 use Rattle.client_log.specs.declared.input.In.TheVariants as log_in
 use Rattle.client_log.specs.declared.output.Out.{Out as LogOut}
 use Rattle.client_log.specs.declared.output.Out.TheVariants as log_out
-use Rattle.client_log.specs.declared.dirty.Change.{Change}
-use Rattle.client_log.specs.LogState.{FlightState}
 use Rattle.client_log.specs.Transition as log
 use Rattle.delta_feed.specs.FeedState.{FeedState}
 use Rattle.log_owner.specs.Opening.{stored}

@@ -7,7 +7,8 @@ use Rattle.xfs_base.specs.declared.node.NodeId.TheVariants.{Cleaner as TheCleane
 use Rattle.xfs_base.specs.Steps.{still}
 use Rattle.log_owner.specs.declared.opened.Progress.{Progress}
 use Rattle.log_owner.specs.declared.opened.Progress.TheVariants as progress
-use Rattle.client_log.specs.LogState.{FlightState, LogState}
+use Rattle.log_flight.specs.Flights.{FlightState}
+use Rattle.client_log.specs.LogState.{LogState}
 use Rattle.log_owner.specs.declared.opening.Opening as openings
 use Rattle.log_owner.specs.declared.opening.Stage.{Stage}
 use Rattle.log_owner.specs.declared.opening.Stage.TheVariants as stage

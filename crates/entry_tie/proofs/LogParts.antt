@@ -2,15 +2,16 @@
 use Rattle.std.proofs.Common.{◌≡◌, ℕ, ◌&&◌, cond, List, [], Option, Some, None, sym, ap, subst}
 use Rattle.std.specs.Prelude.{drop, take, IfSome}
 use Rattle.std.specs.List.{AllByRecursion}
-use Rattle.client_log.specs.declared.dirty.Change.{Change}
-use Rattle.client_log.specs.declared.flight.Fate.{Fate}
-use Rattle.client_log.specs.declared.flight.Fate.TheVariants.{Restripe, Settle, Wait}
-use Rattle.client_log.specs.Fate.{fate_of}
-use Rattle.client_log.specs.Items.{items_of}
-use Rattle.client_log.specs.LogState.{FlightState, LogState}
-use Rattle.client_log.specs.Texts.{has_text}
-use Rattle.client_log.specs.Transition.{Done, launched, next_name, prior_from, writes, has_next, is_idle, is_full, sealed, if_full, on_parts, next_attempt, restriped, landed, settled, can_follow, followed, looked_at, is_of, noting, on_acked, on_maps, on_tick, all_sends}
+use Rattle.client_log.specs.LogState.{LogState}
+use Rattle.client_log.specs.Transition.{Done, launched, next_name, prior_from, writes, has_next, is_idle, is_full, sealed, if_full, on_parts, next_attempt, restriped, landed, settled, can_follow, followed, looked_at, on_acked, on_maps, on_tick, all_sends}
 use Rattle.group_map.specs.GroupMapState.{GroupMapState}
+use Rattle.log_flight.specs.declared.dirty.Change.{Change}
+use Rattle.log_flight.specs.declared.flight.Fate.{Fate}
+use Rattle.log_flight.specs.declared.flight.Fate.TheVariants.{Restripe, Settle, Wait}
+use Rattle.log_flight.specs.Fate.{fate_of}
+use Rattle.log_flight.specs.Flights.{FlightState, is_of, noting}
+use Rattle.log_flight.specs.Items.{items_of}
+use Rattle.log_flight.specs.Texts.{has_text}
 use Rattle.segment_format.specs.declared.segment.Item.{Item}
 use Rattle.xfs_base.proofs.Booleans.{by_test}
 use Rattle.xfs_base.specs.declared.block.BlockId.{BlockId}

@@ -3,7 +3,7 @@ use Rattle.std.proofs.Common.{ℕ, ◌==◌, List, [], ◌∷◌, inr, refl}
 use Rattle.std.specs.Prelude.{Option, Some, None, IfSome}
 use Rattle.std.specs.List.{AllByRecursion}
 use Rattle.checkpoint.specs.WriterState.{WorkState}
-use Rattle.client_log.specs.LogState.{FlightState}
+use Rattle.log_flight.specs.Flights.{FlightState}
 use Rattle.manager_map.specs.Slots.{start_entries, entry_at}
 use Rattle.manager_node.specs.declared.manager.Manager.{Manager}
 use Rattle.manager_node.specs.declared.phase.Phase.{Phase}

@@ -6,7 +6,7 @@ use Rattle.std.specs.List.{AllByRecursion, list_any}
 use Rattle.client_log.specs.declared.input.In.{In as Input}
 use Rattle.client_log.specs.declared.output.Out.{Out}
 use Rattle.client_log.specs.declared.output.Out.TheVariants.{Send, Settled}
-use Rattle.client_log.specs.LogState.{FlightState, LogState}
+use Rattle.client_log.specs.LogState.{LogState}
 use Rattle.client_log.specs.Transition.{end_from}
 use Rattle.client_log.specs.Transition as log
 use Rattle.client_parts.specs.Flights.{is_settling, is_giving}
@@ -15,6 +15,7 @@ use Rattle.client_serving.specs.declared.serving.Serving.{Serving}
 use Rattle.client_serving.specs.Flights.{held_at, notes_settled, keeps_clean, gives_up, gives_if_clean, feeds, settled_rows, settles, writes_one, seals_again, writes}
 use Rattle.client_serving.specs.Follow.{notes_clean, seals}
 use Rattle.client_serving.specs.Sends.{Done, gives}
+use Rattle.log_flight.specs.Flights.{FlightState}
 use Rattle.log_owner.specs.Sending.{store, name_of, pushes_all}
 use Rattle.node_base.specs.declared.effects.Effect.TheVariants.{Does}
 use Rattle.segment_format.specs.Rows.{rows_of}

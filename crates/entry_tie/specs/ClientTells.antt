@@ -1,7 +1,7 @@
 -- What a client holds of where blocks lie.
 use Rattle.std.specs.Prelude.{◌≡◌, ℕ, List, Contains, Option, Some, None}
 use Rattle.std.specs.List.{AllByRecursion}
-use Rattle.client_log.specs.LogState.{FlightState, LogState}
+use Rattle.client_log.specs.LogState.{LogState}
 use Rattle.client_log.specs.Transition.{end_from}
 use Rattle.client_node.specs.declared.client.Client.{Client}
 use Rattle.client_node.specs.declared.phase.Phase.TheVariants.{Down, Opening, Serving as Serves}
@@ -14,6 +14,7 @@ use Rattle.client_serving.specs.declared.serving.Serving.{Serving}
 use Rattle.client_serving.specs.Flights.{held_at}
 use Rattle.delta_feed.specs.declared.feed.FiledDeltas.{FiledDeltas}
 use Rattle.delta_feed.specs.FeedState.{FeedState}
+use Rattle.log_flight.specs.Flights.{FlightState}
 use Rattle.log_owner.specs.declared.opening.Stage.{Stage}
 use Rattle.log_owner.specs.declared.opening.Stage.TheVariants as stage
 use Rattle.log_owner.specs.Sending.{name_of}

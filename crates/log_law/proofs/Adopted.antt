@@ -2,9 +2,10 @@
 use Rattle.std.proofs.Common.{◌≡◌, ℕ, true, false, List, [], ◌∷◌, ◌++◌, Some, refl, sym, ap, subst, ◌∙◌, inl, inr, arith}
 use Rattle.fragment_store.specs.ShelfState.{ShelfState, new_shelf}
 use Rattle.stripe_code.specs.Fragments.{meta_of}
+use Rattle.log_flight.specs.Flights.{none_noted}
+use Rattle.log_flight.specs.Fragments.{piece}
 use Rattle.client_log.specs.declared.input.In.TheVariants as log_in
-use Rattle.client_log.specs.Fragments.{piece}
-use Rattle.client_log.specs.LogState.{none_noted, started as new_log}
+use Rattle.client_log.specs.LogState.{started as new_log}
 use Rattle.client_log.specs.Transition as log
 use Rattle.log_scan.specs.declared.input.In as scan_ins
 use Rattle.log_scan.specs.declared.input.In.TheVariants as scan_in

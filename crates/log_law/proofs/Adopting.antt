@@ -4,7 +4,8 @@ use Rattle.std.proofs.Common.{◌≡◌, ℕ, zero, suc, ◌+◌, ◌-◌, ◌�
 use Rattle.std.proofs.lemmas.Bool.Decides.{nat_tests}
 use Rattle.xfs_base.specs.declared.segment.SegName.{SegName}
 use Rattle.segment_format.specs.declared.segment.Segment.{Segment}
-use Rattle.client_log.specs.LogState.{FlightState, LogState}
+use Rattle.log_flight.specs.Flights.{FlightState}
+use Rattle.client_log.specs.LogState.{LogState}
 use Rattle.log_protocol.specs.OpeningSteps.{ReadBack}
 use Rattle.log_protocol.specs.State.{State}
 use Rattle.log_protocol.specs.StateLaws.{EndIsHead}

@@ -5,7 +5,8 @@ use Rattle.std.proofs.Common.{◌≡◌, ℕ, Option, Some, None, refl, subst, L
 use Rattle.group_map.specs.declared.group.Group.{Group}
 use Rattle.group_map.specs.GroupMapState.{GroupMapState}
 use Rattle.segment_format.specs.declared.segment.Segment.{Segment}
-use Rattle.client_log.specs.LogState.{FlightState}
+use Rattle.log_flight.specs.Flights as flights
+use Rattle.log_flight.specs.Flights.{FlightState}
 use Rattle.client_log.specs.Transition as log
 use Rattle.log_scan.specs.declared.input.In as scan_ins
 use Rattle.log_scan.specs.declared.input.In.TheVariants as scan_in
@@ -33,7 +34,7 @@ module _ (g : Setting) where
 
   map_so : (registry : ℕ → ℕ) (m : GroupMapState) → WholeMap g registry m → WholeMap any registry m
   map_so registry m w = record {
-    seen = record { whole = λ l q. stripe_so m (log.group_for m l q) (w.seen.whole l q); past = w.seen.past };
+    seen = record { whole = λ l q. stripe_so m (flights.group_for m l q) (w.seen.whole l q); past = w.seen.past };
     size = w.size;
     named = w.named;
     some = w.some;

@@ -3,10 +3,11 @@ use Rattle.std.proofs.Common.{◌≡◌, ◌⊎◌, ⊎_elim, ℕ, suc, ◌+◌,
 use Rattle.std.specs.Prelude.{IfSome}
 use Rattle.segment_format.specs.declared.segment.Segment.{Segment}
 use Rattle.group_map.specs.GroupMapState.{GroupMapState}
+use Rattle.log_flight.specs.Flights.{FlightState}
 use Rattle.client_log.specs.declared.input.In.{In as Input}
 use Rattle.client_log.specs.declared.input.In.TheVariants as log_in
 use Rattle.client_log.specs.History.{IsNext, IsInLine, EndRisesByOne}
-use Rattle.client_log.specs.LogState.{FlightState, LogState, started}
+use Rattle.client_log.specs.LogState.{LogState, started}
 use Rattle.client_log.specs.Transition as log
 use Rattle.log_scan.specs.ScanState.{ScanState}
 use Rattle.log_scan.specs.Transition as scan

@@ -5,9 +5,10 @@ use Rattle.xfs_base.specs.declared.segment.End.{End}
 use Rattle.xfs_base.specs.declared.segment.SegName.{SegName}
 use Rattle.xfs_base.proofs.Booleans.{contrary}
 use Rattle.segment_format.specs.declared.segment.Segment.{Segment}
+use Rattle.log_flight.specs.Flights.{FlightState}
 use Rattle.client_log.specs.declared.input.In.{In as Input}
 use Rattle.client_log.specs.History.{settled_ends, EndRisesByOne}
-use Rattle.client_log.specs.LogState.{FlightState, LogState}
+use Rattle.client_log.specs.LogState.{LogState}
 use Rattle.client_log.specs.Transition as log
 use Rattle.log_scan.specs.Transition as scan
 use Rattle.log_protocol.specs.StateLaws.{EndIsHead}

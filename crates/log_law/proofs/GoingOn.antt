@@ -12,7 +12,7 @@ use Rattle.segment_format.specs.declared.segment.Segment.{Segment}
 use Rattle.group_map.specs.declared.group.Group.{Group}
 use Rattle.group_map.specs.GroupMapState.{GroupMapState}
 use Rattle.stripe_code.specs.Fragments.{meta_of}
-use Rattle.client_log.specs.LogState.{FlightState}
+use Rattle.log_flight.specs.Flights.{FlightState}
 use Rattle.client_log.specs.Transition as log
 use Rattle.client_log.specs.Transition.{has_next}
 use Rattle.log_scan.proofs.Picked.{picked_is}

@@ -1,7 +1,7 @@
 -- What the owner holds of its log was in flight: it is booked; and a booked name is one of the log, as is what is listed.
 use Rattle.std.proofs.Common.{◌≡◌, ℕ, List, [], ◌∷◌, Option, Some, None, inl, inr, sym, subst, ◌∙◌, ap}
 use Rattle.std.specs.Prelude.{IfSome}
-use Rattle.client_log.specs.LogState.{FlightState}
+use Rattle.log_flight.specs.Flights.{FlightState}
 use Rattle.log_protocol.specs.State.{State}
 use Rattle.log_protocol.specs.Tables.{In}
 use Rattle.log_tie.specs.Openings.{Chained}

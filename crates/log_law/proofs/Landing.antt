@@ -2,13 +2,15 @@
 use Rattle.std.proofs.Common.{◌≡◌, cond, [], Some, None, refl}
 use Rattle.xfs_base.specs.Steps.{still}
 use Rattle.xfs_base.proofs.Booleans.{by_test}
-use Rattle.client_log.specs.declared.flight.Fate.{Fate}
-use Rattle.client_log.specs.declared.flight.Fate.TheVariants.{Restripe, Settle, Wait}
+use Rattle.log_flight.specs.declared.flight.Fate.{Fate}
+use Rattle.log_flight.specs.declared.flight.Fate.TheVariants.{Restripe, Settle, Wait}
+use Rattle.log_flight.specs.Fate.{fate_of}
+use Rattle.log_flight.specs.Flights as flights
+use Rattle.log_flight.specs.Flights.{FlightState}
 use Rattle.client_log.specs.declared.input.In.{In as Input}
 use Rattle.client_log.specs.declared.input.In.TheVariants as log_in
-use Rattle.client_log.specs.Fate.{fate_of}
 use Rattle.client_log.specs.History.{settled_ends}
-use Rattle.client_log.specs.LogState.{FlightState, LogState}
+use Rattle.client_log.specs.LogState.{LogState}
 use Rattle.client_log.specs.Transition as log
 use Rattle.log_law.specs.Net.{Net}
 use Rattle.log_law.specs.Events.{CameToWriter}
@@ -40,10 +42,10 @@ module _ (s : LogState) (f : FlightState) (flies : s.flight ≡ Some f) where
   stays_or_settles n (log_in.Acked name index generation) came =
       elim s.flight as
       (λ o. s.flight ≡ o
-      → Vanishes (elim o [ None ↦ still s | Some z ↦ cond (log.is_of z name index generation) (log.looked_at s s (log.noting z index)) (still s) ]) → ⊥) [
+      → Vanishes (elim o [ None ↦ still s | Some z ↦ cond (flights.is_of z name index generation) (log.looked_at s s (flights.noting z index)) (still s) ]) → ⊥) [
         | None ↦ λ e. absurd cc
-        | Some z ↦ λ e. by_test (λ (d : log.Done). Vanishes d → ⊥) (log.is_of z name index generation) (log.looked_at s s (log.noting z index)) (still s)
-            (λ own. looks s (log.noting z index)) (λ other. stays)
+        | Some z ↦ λ e. by_test (λ (d : log.Done). Vanishes d → ⊥) (flights.is_of z name index generation) (log.looked_at s s (flights.noting z index)) (still s)
+            (λ own. looks s (flights.noting z index)) (λ other. stays)
       ] refl
   stays_or_settles n (log_in.Maps m) came =
       elim s.flight as

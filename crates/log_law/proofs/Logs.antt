@@ -11,11 +11,12 @@ use Rattle.segment_format.specs.Ranges.{Fits}
 use Rattle.segment_format.specs.Text.{text_of, IsText}
 use Rattle.stripe_code.specs.Stripe.{IsBytes}
 use Rattle.group_map.specs.GroupMapState.{GroupMapState}
+use Rattle.log_flight.specs.Flights.{FlightState}
 use Rattle.client_log.specs.declared.input.In.{In as Input}
 use Rattle.client_log.specs.declared.output.Out.{Out}
 use Rattle.client_log.specs.declared.output.Out.TheVariants.{Send, Settled}
 use Rattle.client_log.specs.History.{IsNext, IsInLine, settled_ends, EndRisesByOne, TellsWhatIsDue}
-use Rattle.client_log.specs.LogState.{FlightState, LogState, started}
+use Rattle.client_log.specs.LogState.{LogState, started}
 use Rattle.client_log.specs.Transition.{transition, end_from}
 use Rattle.log_scan.specs.Transition.{name_at, end_below}
 use Rattle.log_protocol.specs.LogLaws.{Reached}

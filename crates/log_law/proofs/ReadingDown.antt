@@ -4,8 +4,9 @@ use Rattle.std.proofs.lemmas.Bool.Decides.{nat_tests}
 use Rattle.std.specs.Prelude.{IfSome}
 use Rattle.client_log.specs.declared.input.In.{In as Input}
 use Rattle.client_log.specs.History.{settled_ends, EndRisesByOne}
-use Rattle.client_log.specs.LogState.{FlightState, LogState}
+use Rattle.client_log.specs.LogState.{LogState}
 use Rattle.client_log.specs.Transition as log
+use Rattle.log_flight.specs.Flights.{FlightState}
 use Rattle.log_protocol.specs.GrowthLaws.{PastStays}
 use Rattle.log_protocol.proofs.Induction.{always}
 use Rattle.log_protocol.proofs.Invariant.{Invariant}

@@ -13,7 +13,9 @@ use Rattle.stripe_code.specs.Fragments.{meta_of}
 use Rattle.stripe_code.specs.Joined.{joined}
 use Rattle.stripe_code.specs.Round as round
 use Rattle.stripe_code.specs.Stripe.{stripe_of}
-use Rattle.client_log.specs.Fragments.{piece}
+use Rattle.log_flight.specs.Flights as flights
+use Rattle.log_flight.specs.Flights.{FlightState, none_noted}
+use Rattle.log_flight.specs.Fragments.{piece}
 use Rattle.log_scan.specs.declared.input.In.TheVariants as scan_in
 use Rattle.log_scan.specs.declared.listing.Listing.{Listing}
 use Rattle.log_scan.specs.declared.opening.Opening.{Opening}
@@ -28,7 +30,7 @@ use Rattle.segment_format.specs.Rows.{rows_of}
 use Rattle.segment_format.specs.declared.segment.Segment.{Segment}
 use Rattle.xfs_base.specs.declared.segment.SegName.{SegName}
 use Rattle.client_log.specs.declared.input.In.TheVariants as log_in
-use Rattle.client_log.specs.LogState.{FlightState, LogState, started as new_log, none_noted}
+use Rattle.client_log.specs.LogState.{LogState, started as new_log}
 use Rattle.client_log.specs.Transition as log
 use Rattle.std.specs.Prelude.{Bool, slice_set, true, Ok, Result}
 use Rattle.std.proofs.Common.{arith}
@@ -165,7 +167,7 @@ opening_written = record {
 }
 
 pub opens_with : first_write setting 2 start the_map ≡ record { state = opening_log none_noted; outs = log.all_sends (opening_flight none_noted) }
-unfolding log.on_parts log.launched log.group_for
+unfolding log.on_parts log.launched flights.group_for
 opens_with = refl
 
 pub opening_sends : log_packets (log.all_sends (opening_flight none_noted)) ≡ StoreSent 1 (piece opening_segment group 0) 1 ∷ StoreSent 2

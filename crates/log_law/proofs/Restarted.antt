@@ -3,8 +3,9 @@ use Rattle.std.proofs.Common.{◌≡◌, ⊎_elim, ℕ, ◌⊎◌, false, List, 
 use Rattle.xfs_base.specs.declared.segment.SegName.{SegName}
 use Rattle.xfs_base.proofs.Booleans.{contrary}
 use Rattle.segment_format.specs.declared.segment.Segment.{Segment}
+use Rattle.log_flight.specs.Flights.{FlightState}
 use Rattle.client_log.specs.declared.input.In.{In as Input}
-use Rattle.client_log.specs.LogState.{FlightState, LogState}
+use Rattle.client_log.specs.LogState.{LogState}
 use Rattle.client_log.specs.Transition as log
 use Rattle.log_protocol.specs.State.{State}
 use Rattle.log_protocol.specs.Tables.{In}

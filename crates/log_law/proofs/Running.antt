@@ -1,5 +1,8 @@
 -- A run exists: the owner writes a segment, the three servers of its group keep its fragments, and it is filed.
 use Rattle.log_tie.specs.Seen.{log_filed}
+use Rattle.log_flight.specs.Flights as flights
+use Rattle.log_flight.specs.Flights.{FlightState, none_noted}
+use Rattle.log_flight.specs.Fragments.{piece}
 use Rattle.client_log.specs.declared.output.Out.TheVariants.{Settled}
 use Rattle.segment_format.specs.Rows.{rows_of}
 use Rattle.std.proofs.lemmas.Bool.Decides.{nat_tests}
@@ -14,8 +17,7 @@ use Rattle.segment_format.specs.Text.{text_of}
 use Rattle.stripe_code.specs.Stripe.{IsBytes}
 use Rattle.fragment_store.specs.ShelfState.{ShelfState, new_shelf}
 use Rattle.client_log.specs.declared.input.In.TheVariants as log_in
-use Rattle.client_log.specs.Fragments.{piece}
-use Rattle.client_log.specs.LogState.{FlightState, LogState, started, none_noted}
+use Rattle.client_log.specs.LogState.{LogState, started}
 use Rattle.client_log.specs.Transition as log
 use Rattle.log_protocol.specs.Tables.{put, In}
 use Rattle.log_tie.specs.Shelves.{shelf_after, Deed}
@@ -66,7 +68,7 @@ written = record {
 
 -- it writes the segment
 pub starts : log.transition first_log (log_in.Parts []) ≡ record { state = writing none_noted; outs = log.all_sends (flight none_noted) }
-unfolding log.on_parts log.launched log.group_for
+unfolding log.on_parts log.launched flights.group_for
 starts = refl
 
 abbrev noted_one : List Bool

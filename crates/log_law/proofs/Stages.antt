@@ -6,9 +6,11 @@ use Rattle.xfs_base.specs.declared.segment.SegName.{SegName}
 use Rattle.segment_format.specs.declared.segment.Segment.{Segment}
 use Rattle.group_map.specs.declared.group.Group.{Group}
 use Rattle.fragment_store.specs.ShelfState.{ShelfState}
+use Rattle.log_flight.specs.Flights as flights
+use Rattle.log_flight.specs.Flights.{FlightState, none_noted}
 use Rattle.client_log.specs.declared.input.In.{In as Input}
 use Rattle.client_log.specs.declared.input.In.TheVariants as log_in
-use Rattle.client_log.specs.LogState.{FlightState, LogState}
+use Rattle.client_log.specs.LogState.{LogState}
 use Rattle.client_log.specs.Transition as log
 use Rattle.log_scan.specs.declared.input.In as scan_ins
 use Rattle.log_scan.specs.ScanState.{ScanState, started}
@@ -27,7 +29,6 @@ use Rattle.log_law.specs.Events.Runs.{On}
 use Rattle.log_law.specs.Restarts.{IsSureRun, last_flight, flight_in}
 use Rattle.log_law.proofs.Reopening.{news}
 use Rattle.log_law.proofs.Running.{flight}
-use Rattle.client_log.specs.LogState.{none_noted}
 
 -- ---- the setting, for another log, with or without doubts
 
@@ -37,7 +38,7 @@ variant l doubts = record setting { log = l; doubts = doubts }
 pub variant_map : (l : LogId) (doubts : Bool) → WholeMap (variant l doubts) (λ v. 1) the_map
 variant_map l doubts =
     record {
-      seen = record { whole = λ a b. stripe (log.group_for the_map a b) (whole_map.seen.whole a b); past = whole_map.seen.past };
+      seen = record { whole = λ a b. stripe (flights.group_for the_map a b) (whole_map.seen.whole a b); past = whole_map.seen.past };
       size = refl;
       named = whole_map.named;
       some = whole_map.some;

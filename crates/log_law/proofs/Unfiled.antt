@@ -1,18 +1,19 @@
 -- While a log is opened nothing is filed: a segment settles there as the last thing, and then its owner serves.
 use Rattle.std.proofs.Common.{◌≡◌, ◌⊎◌, ℕ, suc, ◌+◌, ◌++◌, true, false, cond, List, [], ◌∷◌, Option, Some, None, nat_le, refl, sym, ap, subst, ◌∙◌, inl, inr, arith}
 use Rattle.std.specs.Prelude.{◌&&◌, length}
-use Rattle.client_log.specs.Fate.{fate_of}
-use Rattle.client_log.specs.Fragments.{piece}
-use Rattle.client_log.specs.LogState.{FlightState, LogState, is_noted, started}
-use Rattle.client_log.specs.Transition.{Done, all_sends, can_follow, end_from, flown, followed, group_for, has_next, if_full, is_idle, is_of, landed, launched, looked_at, next_attempt, next_name, noting, on_acked, on_maps, on_parts, on_tick, prior_from, restriped, sealed, sends, settled, transition, writes}
-use Rattle.client_log.specs.declared.flight.Fate.{Fate}
-use Rattle.client_log.specs.declared.flight.Fate.TheVariants.{Restripe, Settle, Wait}
+use Rattle.client_log.specs.LogState.{LogState, started}
+use Rattle.client_log.specs.Transition.{Done, all_sends, can_follow, end_from, followed, has_next, if_full, is_idle, landed, launched, looked_at, next_attempt, next_name, on_acked, on_maps, on_parts, on_tick, prior_from, restriped, sealed, sends, settled, transition, writes}
 use Rattle.client_log.specs.declared.input.In as log_ins
 use Rattle.client_log.specs.declared.input.In.TheVariants as log_in
 use Rattle.client_log.specs.declared.output.Out.{Out}
 use Rattle.client_log.specs.declared.output.Out.TheVariants.{Send, Settled}
 use Rattle.group_map.specs.GroupMapState.{GroupMapState}
 use Rattle.group_map.specs.declared.group.Member.{Member}
+use Rattle.log_flight.specs.declared.flight.Fate.{Fate}
+use Rattle.log_flight.specs.declared.flight.Fate.TheVariants.{Restripe, Settle, Wait}
+use Rattle.log_flight.specs.Fate.{fate_of}
+use Rattle.log_flight.specs.Flights.{FlightState, flown, group_for, is_noted, is_of, noting}
+use Rattle.log_flight.specs.Fragments.{piece}
 use Rattle.log_scan.specs.ScanState.{ScanState}
 use Rattle.log_scan.specs.Transition as scan
 use Rattle.log_tie.specs.Seen.{log_filed}

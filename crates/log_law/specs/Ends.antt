@@ -1,7 +1,8 @@
 -- The end of a log, what it has in flight, and what it files: what the law of tokens assumes of an owner that serves.
 use Rattle.std.specs.Prelude.{◌≡◌, ◌+◌, ◌<◌, ◌≤◌, ◌⊎◌, false, Some, IfSome}
 use Rattle.xfs_base.specs.declared.segment.SegName.{SegName}
-use Rattle.client_log.specs.LogState.{FlightState, LogState}
+use Rattle.log_flight.specs.Flights.{FlightState}
+use Rattle.client_log.specs.LogState.{LogState}
 use Rattle.log_protocol.specs.Tables.{In}
 use Rattle.log_tie.specs.Setting.{Setting}
 use Rattle.log_law.specs.Net.{Net}

@@ -1,7 +1,8 @@
 -- What the owner of a log holds of it, the segment that it has in flight and what it has read back, was in flight; what was in flight is of the log; and what is
 -- listed is of what was in flight.
 use Rattle.std.specs.Prelude.{◌≡◌, List, IfSome}
-use Rattle.client_log.specs.LogState.{FlightState, LogState}
+use Rattle.client_log.specs.LogState.{LogState}
+use Rattle.log_flight.specs.Flights.{FlightState}
 use Rattle.log_protocol.specs.Tables.{In}
 use Rattle.log_tie.specs.Setting.{Setting}
 use Rattle.segment_format.specs.declared.segment.Segment.{Segment}

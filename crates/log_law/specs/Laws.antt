@@ -1,6 +1,7 @@
 -- What holds of the small world at every moment of every run.
 use Rattle.log_law.specs.Net.Owner.{Writing, Serving}
-use Rattle.client_log.specs.LogState.{FlightState, LogState}
+use Rattle.client_log.specs.LogState.{LogState}
+use Rattle.log_flight.specs.Flights.{FlightState}
 use Rattle.log_law.specs.Restarts.{IsSureRun, last_flight}
 use Rattle.std.specs.Prelude.{◌≡◌, ℕ, ◌<◌, ◌⊎◌, length, Some, suc, false, ◌≤◌, List}
 use Rattle.xfs_base.specs.declared.fragment.Fragment.{Fragment}

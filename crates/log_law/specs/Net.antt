@@ -12,10 +12,11 @@ use Rattle.segment_format.specs.declared.segment.Segment.{Segment}
 use Rattle.group_map.specs.GroupMapState.{GroupMapState}
 use Rattle.fragment_store.specs.ShelfState.{ShelfState, new_shelf, held_at}
 use Rattle.fragment_store.specs.Calls.{on_list}
+use Rattle.log_flight.specs.Flights.{FlightState}
 use Rattle.client_log.specs.declared.input.In.TheVariants as log_in
 use Rattle.client_log.specs.declared.output.Out as log_outs
 use Rattle.client_log.specs.declared.output.Out.TheVariants as log_out
-use Rattle.client_log.specs.LogState.{FlightState, LogState, started}
+use Rattle.client_log.specs.LogState.{LogState, started}
 use Rattle.client_log.specs.Transition as log
 use Rattle.log_scan.specs.declared.output.Out as scan_outs
 use Rattle.log_scan.specs.declared.output.Out.TheVariants as scan_out

@@ -1,5 +1,5 @@
 -- Restarts of the owner: how long one takes, and when it is doubtful.
-use Rattle.client_log.specs.LogState.{FlightState}
+use Rattle.log_flight.specs.Flights.{FlightState}
 use Rattle.std.specs.Prelude.{◌≡◌, ℕ, ◌<◌, ◌≤◌, ◌⊎◌, Bool, true, false, length, None, Option}
 use Rattle.xfs_base.specs.declared.segment.SegName.{SegName}
 use Rattle.segment_format.specs.declared.segment.Segment.{Segment}

@@ -1,7 +1,8 @@
 -- Runs that exist: the laws on falls and restarts speak of something.
 use Rattle.std.specs.Prelude.{◌≡◌, ◌<◌, false, [], Some}
-use Rattle.client_log.specs.LogState.{FlightState, started}
+use Rattle.client_log.specs.LogState.{started}
 use Rattle.group_map.specs.GroupMapState.{GroupMapState}
+use Rattle.log_flight.specs.Flights.{FlightState}
 use Rattle.log_protocol.specs.Tables.{In}
 use Rattle.log_tie.specs.Setting.{Setting}
 use Rattle.log_law.specs.Net.{Net, no_end}

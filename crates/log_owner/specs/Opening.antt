@@ -6,9 +6,10 @@ use Rattle.client_log.specs.declared.input.In.TheVariants as log_in
 use Rattle.client_log.specs.declared.output.Out.{Out as LogOut}
 use Rattle.client_log.specs.declared.output.Out.TheVariants as log_out
 use Rattle.client_log.specs.LogState as log_state
-use Rattle.client_log.specs.LogState.{FlightState, LogState}
+use Rattle.client_log.specs.LogState.{LogState}
 use Rattle.client_log.specs.Transition as log
 use Rattle.group_map.specs.GroupMapState.{GroupMapState}
+use Rattle.log_flight.specs.Flights.{FlightState}
 use Rattle.log_owner.specs.declared.ended.Chain.{Chain}
 use Rattle.log_owner.specs.declared.ended.Ended.{Ended}
 use Rattle.log_owner.specs.declared.ended.Ended.TheVariants.{Found, Lost}

@@ -11,13 +11,15 @@ use Rattle.segment_format.specs.Rows.{rows_of}
 use Rattle.group_map.specs.declared.group.Group as groups
 use Rattle.group_map.specs.GroupMapState.{GroupMapState}
 use Rattle.stripe_code.specs.Fragments.{same_name}
-use Rattle.client_log.specs.declared.flight.Fate.{Fate}
-use Rattle.client_log.specs.declared.flight.Fate.TheVariants.{Restripe, Settle, Wait}
+use Rattle.log_flight.specs.declared.flight.Fate.{Fate}
+use Rattle.log_flight.specs.declared.flight.Fate.TheVariants.{Restripe, Settle, Wait}
+use Rattle.log_flight.specs.Fate.{fate_of, lost_count, all_done}
+use Rattle.log_flight.specs.Flights as flights
+use Rattle.log_flight.specs.Flights.{FlightState}
 use Rattle.client_log.specs.declared.input.In.TheVariants.{Put, Parts, Seal, Acked, Maps, Tick}
 use Rattle.client_log.specs.declared.output.Out.{Out}
 use Rattle.client_log.specs.declared.output.Out.TheVariants.{Settled}
-use Rattle.client_log.specs.Fate.{fate_of, lost_count, all_done}
-use Rattle.client_log.specs.LogState.{FlightState, LogState, started}
+use Rattle.client_log.specs.LogState.{LogState, started}
 use Rattle.client_log.specs.Transition as log
 use Rattle.client_log.specs.Transition.{end_from}
 use Rattle.log_protocol.specs.LogLaws.{Reached}
@@ -179,10 +181,10 @@ module _ (g : Setting) (w : State) (book : ℕ → Segment) (fixed : Fixed g w) 
       x = g.code (start.seq + 1) w.incarnation 1
 
       group : groups.Group
-      group = log.group_for m g.log.0 (start.seq + 1)
+      group = flights.group_for m g.log.0 (start.seq + 1)
 
       f : FlightState
-      f = log.flown (log.next_name s) (log.prior_from start) [] group
+      f = flights.flown (log.next_name s) (log.prior_from start) [] group
 
       is : IsStripe g m group
       is = shown.map g.log.0 (start.seq + 1)
@@ -451,14 +453,14 @@ module _ (g : Setting) (chain : List Segment) where
     unfolding log.on_acked
     acked_goes s name index generation h seen =
         subst (λ o. Owed w book
-        (elim o [ None ↦ still s | Some f ↦ if log.is_of f name index generation then log.looked_at s s (log.noting f index) else still s ])) (sym h.is_flight)
-        (by_test w book fixed paged reached (log.is_of h.flight name index generation) _ _ (λ t. noting t)
+        (elim o [ None ↦ still s | Some f ↦ if flights.is_of f name index generation then log.looked_at s s (flights.noting f index) else still s ])) (sym h.is_flight)
+        (by_test w book fixed paged reached (flights.is_of h.flight name index generation) _ _ (λ t. noting t)
         (λ t premise. nothing w book fixed paged reached s h))
       where
         v : State
         v = notes w (record { name = seen.number; index = index; generation = generation })
 
-        noting : log.is_of h.flight name index generation ≡ true → Owed w book (log.looked_at s s (log.noting h.flight index))
+        noting : flights.is_of h.flight name index generation ≡ true → Owed w book (log.looked_at s s (flights.noting h.flight index))
         noting t premise =
             let same : seen.number ≡ w.flight =
             one_number g seen.number w.flight (sym seen.named ∙ (one_name name h.flight.segment.name (and_first (same_name name h.flight.segment.name) _ t)
@@ -489,7 +491,7 @@ module _ (g : Setting) (chain : List Segment) where
             (λ x is. is) refl
             (looks_goes v book
             (record { servers = fixed.servers; seq_of = fixed.seq_of; incarnation_of = fixed.incarnation_of; attempt_of = fixed.attempt_of }) paged
-            (reached_by w v reached step refl) s s (log.noting h.flight index) there there
+            (reached_by w v reached step refl) s s (flights.noting h.flight index) there there
             (record {
               some = h.flying.some;
               is_booked = h.flying.is_booked;

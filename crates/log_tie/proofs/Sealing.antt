@@ -15,7 +15,9 @@ use Rattle.log_protocol.specs.Packets.{StorePacket}
 use Rattle.log_protocol.proofs.Induction.{always}
 use Rattle.log_protocol.proofs.NewNames.{new_seal}
 use Rattle.group_map.specs.declared.group.Group as groups
-use Rattle.client_log.specs.LogState.{FlightState, LogState, is_noted, none_noted}
+use Rattle.log_flight.specs.Flights as flights
+use Rattle.log_flight.specs.Flights.{FlightState, is_noted, none_noted}
+use Rattle.client_log.specs.LogState.{LogState}
 use Rattle.client_log.specs.Transition as log
 use Rattle.xfs_base.proofs.Booleans.{contrary}
 use Rattle.log_tie.specs.Setting.{Setting, stripe_of_group, server_of, point, IsStripe}
@@ -90,10 +92,10 @@ module _ (g : Setting) (w : State) (book : ℕ → Segment) (fixed : Fixed g w) 
         })
       where
         group : groups.Group
-        group = log.group_for s.groups s.log.0 (s.end.seq + 1)
+        group = flights.group_for s.groups s.log.0 (s.end.seq + 1)
 
         f : FlightState
-        f = log.flown fresh_name (log.prior_from s.end) items group
+        f = flights.flown fresh_name (log.prior_from s.end) items group
 
         is : IsStripe g s.groups group
         is = shown.writes.map s.log.0 (s.end.seq + 1)

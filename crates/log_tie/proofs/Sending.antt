@@ -8,8 +8,8 @@ use Rattle.log_protocol.specs.Step.Step.{Sends}
 use Rattle.log_protocol.specs.Step.Steps.{Done, More}
 use Rattle.segment_format.specs.declared.segment.Segment.{Segment}
 use Rattle.group_map.specs.declared.group.Member.{Member}
-use Rattle.client_log.specs.Fragments.{piece}
-use Rattle.client_log.specs.LogState.{FlightState, is_noted}
+use Rattle.log_flight.specs.Flights.{FlightState, is_noted}
+use Rattle.log_flight.specs.Fragments.{piece}
 use Rattle.client_log.specs.declared.output.Out.{Out}
 use Rattle.client_log.specs.declared.output.Out.TheVariants.{Send}
 use Rattle.client_log.specs.Transition.{sends, all_sends}

@@ -16,16 +16,18 @@ use Rattle.log_protocol.specs.LogLaws.{Reached}
 use Rattle.group_map.specs.GroupMapState.{GroupMapState}
 use Rattle.indexmap.specs.IndexMap.{insert_entry}
 use Rattle.stripe_code.specs.Fragments.{same_name}
-use Rattle.client_log.specs.declared.dirty.Change.{Change}
-use Rattle.client_log.specs.declared.flight.Fate.{Fate}
-use Rattle.client_log.specs.declared.flight.Fate.TheVariants.{Restripe, Settle, Wait}
+use Rattle.log_flight.specs.declared.dirty.Change.{Change}
+use Rattle.log_flight.specs.declared.flight.Fate.{Fate}
+use Rattle.log_flight.specs.declared.flight.Fate.TheVariants.{Restripe, Settle, Wait}
+use Rattle.log_flight.specs.Fate.{fate_of, lost_count, all_done}
+use Rattle.log_flight.specs.Flights as flights
+use Rattle.log_flight.specs.Flights.{FlightState, is_noted}
+use Rattle.log_flight.specs.Items.{items_of}
+use Rattle.log_flight.specs.Texts.{has_text}
 use Rattle.client_log.specs.declared.input.In.TheVariants.{Put, Parts, Seal, Acked, Maps, Tick}
 use Rattle.client_log.specs.declared.output.Out.{Out}
 use Rattle.client_log.specs.declared.output.Out.TheVariants.{Settled}
-use Rattle.client_log.specs.Fate.{fate_of, lost_count, all_done}
-use Rattle.client_log.specs.Items.{items_of}
-use Rattle.client_log.specs.LogState.{FlightState, LogState, is_noted}
-use Rattle.client_log.specs.Texts.{has_text}
+use Rattle.client_log.specs.LogState.{LogState}
 use Rattle.client_log.specs.Transition as log
 use Rattle.client_log.specs.Transition.{end_from}
 use Rattle.segment_format.specs.Rows.{rows_of}
@@ -255,12 +257,12 @@ module _ (g : Setting) where
     acked_goes s name index generation h seen = by s.flight refl h.flight
       where
         by : (o : Option FlightState) → s.flight ≡ o → FlightShown g book o s.inc s.end.seq (w.booked w.flight) w.flight w.noted
-            → To w book (elim o [ None ↦ still s | Some f ↦ if log.is_of f name index generation then log.looked_at s s (log.noting f index) else still s ])
+            → To w book (elim o [ None ↦ still s | Some f ↦ if flights.is_of f name index generation then log.looked_at s s (flights.noting f index) else still s ])
         by None e shown = nothing w book fixed paged reached s h
         by (Some f) e shown =
-            by_test w book fixed paged reached s (log.is_of f name index generation) _ _ (λ t. noting t) (λ t. nothing w book fixed paged reached s h)
+            by_test w book fixed paged reached s (flights.is_of f name index generation) _ _ (λ t. noting t) (λ t. nothing w book fixed paged reached s h)
           where
-            noting : log.is_of f name index generation ≡ true → To w book (log.looked_at s s (log.noting f index))
+            noting : flights.is_of f name index generation ≡ true → To w book (log.looked_at s s (flights.noting f index))
             noting t =
                 let same : seen.number ≡ w.flight =
                 one_number g seen.number w.flight (sym seen.named ∙ (one_name name f.segment.name (and_first (same_name name f.segment.name) _ t)
@@ -274,7 +276,7 @@ module _ (g : Setting) where
                 (λ x is. is) refl
                 (looks_goes v book
                 (record { servers = fixed.servers; seq_of = fixed.seq_of; incarnation_of = fixed.incarnation_of; attempt_of = fixed.attempt_of }) paged
-                (reached_by w v reached step refl) s (log.noting f index)
+                (reached_by w v reached step refl) s (flights.noting f index)
                 (record {
                   writes = record { log = h.writes.log; inc = h.writes.inc; some = h.writes.some; map = h.writes.map; known = h.writes.known };
                   phase = h.phase;

@@ -14,10 +14,12 @@ use Rattle.log_protocol.proofs.NewNames.{new_restripe}
 use Rattle.group_map.specs.declared.group.Group as groups
 use Rattle.group_map.specs.declared.group.Member.{Member}
 use Rattle.group_map.specs.GroupMapState.{GroupMapState}
+use Rattle.log_flight.specs.Fate.{has_server, is_lost, all_done, is_done}
+use Rattle.log_flight.specs.Flights as flights
+use Rattle.log_flight.specs.Flights.{FlightState, is_noted}
 use Rattle.client_log.specs.declared.output.Out.{Out}
 use Rattle.client_log.specs.declared.output.Out.TheVariants.{Settled as Out_Settled}
-use Rattle.client_log.specs.Fate.{has_server, is_lost, all_done, is_done}
-use Rattle.client_log.specs.LogState.{FlightState, LogState, is_noted}
+use Rattle.client_log.specs.LogState.{LogState}
 use Rattle.client_log.specs.Transition as log
 use Rattle.client_log.specs.Transition.{end_from}
 use Rattle.xfs_base.specs.declared.block.BlockId.{BlockId}
@@ -88,7 +90,7 @@ module _ (g : Setting) (w : State) (book : ℕ → Segment) (fixed : Fixed g w) 
   -- it is striped anew
   pub restriped_goes : (f : FlightState) → Writes g w s → FlyingHere f
       → Goes g w book
-      (Aloft s (log.flown (log.next_attempt f.segment.name) f.segment.prior f.segment.items (log.group_for s.groups s.log.0 f.segment.name.seq)))
+      (Aloft s (flights.flown (log.next_attempt f.segment.name) f.segment.prior f.segment.items (flights.group_for s.groups s.log.0 f.segment.name.seq)))
       (log.restriped s f).outs
   unfolding log.restriped log.launched
   restriped_goes f writes h =
@@ -114,10 +116,10 @@ module _ (g : Setting) (w : State) (book : ℕ → Segment) (fixed : Fixed g w) 
       x = g.code f.segment.name.seq f.segment.name.pass.inc (f.segment.name.pass.att + 1)
 
       group : groups.Group
-      group = log.group_for s.groups s.log.0 f.segment.name.seq
+      group = flights.group_for s.groups s.log.0 f.segment.name.seq
 
       f' : FlightState
-      f' = log.flown name f.segment.prior f.segment.items group
+      f' = flights.flown name f.segment.prior f.segment.items group
 
       is : IsStripe g s.groups group
       is = writes.map s.log.0 f.segment.name.seq

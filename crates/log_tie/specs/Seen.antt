@@ -6,9 +6,10 @@ use Rattle.xfs_base.specs.declared.segment.SegName.{SegName}
 use Rattle.segment_format.specs.declared.segment.Segment.{Segment}
 use Rattle.segment_format.specs.Text.{text_of}
 use Rattle.group_map.specs.declared.group.Member.{Member}
+use Rattle.log_flight.specs.Flights.{FlightState, is_noted}
 use Rattle.client_log.specs.declared.output.Out.{Out}
 use Rattle.client_log.specs.declared.output.Out.TheVariants.{Send, Settled}
-use Rattle.client_log.specs.LogState.{FlightState, LogState, is_noted}
+use Rattle.client_log.specs.LogState.{LogState}
 use Rattle.log_protocol.specs.Packets.{StorePacket, StoredPacket, FragmentPacket, FencedPacket}
 use Rattle.log_protocol.specs.State.{State}
 use Rattle.log_protocol.specs.Step.{Steps}

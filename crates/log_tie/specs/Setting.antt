@@ -11,8 +11,8 @@ use Rattle.group_map.specs.declared.group.Group.{Group}
 use Rattle.group_map.specs.declared.group.Member.{Member}
 use Rattle.group_map.specs.GroupMapState.{GroupMapState}
 use Rattle.group_map.specs.Groups.{generation_at}
-use Rattle.client_log.specs.Fate.{has_server}
-use Rattle.client_log.specs.Transition.{no_member, group_for}
+use Rattle.log_flight.specs.Fate.{has_server}
+use Rattle.log_flight.specs.Flights.{no_member, group_for}
 use Rattle.log_protocol.specs.State.{Names}
 
 -- over which members a segment is striped, and how many of its fragments are parity

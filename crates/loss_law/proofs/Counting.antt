@@ -6,7 +6,7 @@ use Rattle.std.proofs.lemmas.List.Recursion.{is_count_by}
 use Rattle.std.proofs.lemmas.Bool.Decides.{nat_tests}
 use Rattle.xfs_base.proofs.Booleans.{contrary, or_second}
 use Rattle.group_map.specs.declared.group.Member.{Member}
-use Rattle.client_log.specs.Transition.{no_member}
+use Rattle.log_flight.specs.Flights.{no_member}
 
 -- a pair of this server is among them
 abbrev pub is_in : ℕ → List (ℕ × ℕ) → Bool

@@ -9,7 +9,7 @@ use Rattle.xfs_base.proofs.Booleans.{contrary}
 use Rattle.segment_format.specs.declared.segment.Segment.{Segment}
 use Rattle.group_map.specs.declared.group.Member.{Member}
 use Rattle.fragment_store.specs.ShelfState.{held_at}
-use Rattle.client_log.specs.Transition.{no_member}
+use Rattle.log_flight.specs.Flights.{no_member}
 use Rattle.log_protocol.specs.Tables.{In}
 use Rattle.log_tie.specs.Setting.{Setting, fragment_of}
 use Rattle.log_tie.specs.Seen.{members_of}

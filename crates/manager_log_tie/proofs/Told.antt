@@ -12,7 +12,7 @@ use Rattle.stripe_code.proofs.Pieces.{pieces_bytes}
 use Rattle.stripe_code.specs.Fragments.{fragment_at}
 use Rattle.stripe_code.specs.Stripe.{IsBytes, part_of, zeros, pieces, plain, weighted, sum_onto, parities, stripe_of}
 use Rattle.parity_kernel.specs.Bytewise.{xor_of}
-use Rattle.client_log.specs.LogState.{FlightState}
+use Rattle.log_flight.specs.Flights.{FlightState}
 use Rattle.client_log.specs.Transition as log
 use Rattle.log_scan.specs.ScanState.{ScanState}
 use Rattle.log_scan.specs.Transition as scan

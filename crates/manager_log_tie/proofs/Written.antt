@@ -14,16 +14,17 @@ use Rattle.segment_format.specs.declared.segment.Item.TheVariants.{Block, Delta,
 use Rattle.segment_format.specs.Format.{IsLog}
 use Rattle.segment_format.specs.Ranges.{FitsName, FitsPrior, FitsItem}
 use Rattle.group_map.specs.GroupMapState.{GroupMapState}
-use Rattle.client_log.specs.declared.flight.Fate.{Fate}
-use Rattle.client_log.specs.declared.flight.Fate.TheVariants.{Restripe, Settle, Wait}
+use Rattle.log_flight.specs.declared.flight.Fate.{Fate}
+use Rattle.log_flight.specs.declared.flight.Fate.TheVariants.{Restripe, Settle, Wait}
+use Rattle.log_flight.specs.Fate.{fate_of}
+use Rattle.log_flight.specs.Flights.{FlightState, is_of, noting}
+use Rattle.log_flight.specs.Texts.{HasText, has_text}
+use Rattle.log_flight.proofs.ItemTexts.{tested_have_text}
 use Rattle.client_log.specs.declared.input.In.{In as Input}
 use Rattle.client_log.specs.declared.input.In.TheVariants.{Put, Parts, Seal, Acked, Maps, Tick}
-use Rattle.client_log.specs.Fate.{fate_of}
 use Rattle.client_log.specs.History.{state_after}
-use Rattle.client_log.specs.LogState.{FlightState, LogState, started}
-use Rattle.client_log.specs.Texts.{HasText, has_text}
-use Rattle.client_log.specs.Transition.{Done, all_sends, launched, next_name, prior_from, writes, has_next, is_idle, is_full, sealed, if_full, on_seal, on_parts, next_attempt, restriped, landed, settled, can_follow, followed, looked_at, is_of, noting, on_acked, on_maps, on_tick, transition}
-use Rattle.client_log.proofs.ItemTexts.{tested_have_text}
+use Rattle.client_log.specs.LogState.{LogState, started}
+use Rattle.client_log.specs.Transition.{Done, all_sends, launched, next_name, prior_from, writes, has_next, is_idle, is_full, sealed, if_full, on_seal, on_parts, next_attempt, restriped, landed, settled, can_follow, followed, looked_at, on_acked, on_maps, on_tick, transition}
 use Rattle.log_law.specs.Net.{no_end}
 use Rattle.log_law.specs.Events.{IsWritten, WritesText}
 use Rattle.client_log_tie.specs.Texts.{EndFits, MapFits}

@@ -13,16 +13,17 @@ use Rattle.group_map.specs.GroupMapState.{GroupMapState}
 use Rattle.group_map.specs.declared.group.Member.{Member}
 use Rattle.segment_format.specs.declared.segment.Item.{Item}
 use Rattle.segment_format.specs.declared.segment.Segment.{Segment}
-use Rattle.client_log.specs.declared.flight.Fate.{Fate}
-use Rattle.client_log.specs.declared.flight.Fate.TheVariants.{Restripe, Settle, Wait}
+use Rattle.log_flight.specs.declared.flight.Fate.{Fate}
+use Rattle.log_flight.specs.declared.flight.Fate.TheVariants.{Restripe, Settle, Wait}
+use Rattle.log_flight.specs.Fate.{fate_of}
+use Rattle.log_flight.specs.Flights.{FlightState, is_noted, is_of, noting}
+use Rattle.log_flight.specs.Texts.{has_text}
 use Rattle.client_log.specs.declared.input.In.{In}
 use Rattle.client_log.specs.declared.input.In.TheVariants.{Put, Parts, Seal, Acked, Maps, Tick}
 use Rattle.client_log.specs.declared.output.Out.{Out}
 use Rattle.client_log.specs.declared.output.Out.TheVariants.{Send, Settled}
-use Rattle.client_log.specs.Fate.{fate_of}
-use Rattle.client_log.specs.LogState.{FlightState, LogState, is_noted}
-use Rattle.client_log.specs.Transition.{Done, send_at, sends, all_sends, launched, writes, has_next, is_idle, is_full, sealed, if_full, on_parts, restriped, end_from, landed, settled, can_follow, followed, looked_at, is_of, noting, on_acked, on_maps, on_tick, transition}
-use Rattle.client_log.specs.Texts.{has_text}
+use Rattle.client_log.specs.LogState.{LogState}
+use Rattle.client_log.specs.Transition.{Done, send_at, sends, all_sends, launched, writes, has_next, is_idle, is_full, sealed, if_full, on_parts, restriped, end_from, landed, settled, can_follow, followed, looked_at, on_acked, on_maps, on_tick, transition}
 use Rattle.node_index_tie.proofs.Moves.{some_none, all_both}
 
 -- a fragment is sent

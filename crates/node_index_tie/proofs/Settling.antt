@@ -15,10 +15,11 @@ use Rattle.checkpoint.proofs.Holding.{rows_in-append}
 use Rattle.client_log.specs.declared.input.In.{In as LogIn}
 use Rattle.client_log.specs.declared.output.Out.{Out as LogOut}
 use Rattle.client_log.specs.declared.output.Out.TheVariants as log_out
-use Rattle.client_log.specs.LogState.{FlightState, LogState}
+use Rattle.client_log.specs.LogState.{LogState}
 use Rattle.client_log.specs.Transition as log
 use Rattle.index_tie.specs.Net.{Net}
 use Rattle.index_tie.proofs.Checkpoints.{parts_tell}
+use Rattle.log_flight.specs.Flights.{FlightState}
 use Rattle.manager_serving.specs.Checkpoints as node
 use Rattle.manager_serving.specs.Checkpoints.{Done}
 use Rattle.manager_serving.specs.declared.serving.Serving.{Serving}

@@ -3,10 +3,11 @@ use Rattle.std.specs.Prelude.{◌≡◌, ℕ, List, [], ◌∷◌, ◌++◌, Opt
 use Rattle.checkpoint.specs.Laws.{Event, rows_of, rows_in, Checkpointed, nothing_checkpointed, slot_after, AllMayCome}
 use Rattle.checkpoint.specs.Plan.{plan_of}
 use Rattle.checkpoint.specs.WriterState.{Rows, WorkState, WriterState, items_of}
-use Rattle.client_log.specs.LogState.{FlightState, LogState}
+use Rattle.client_log.specs.LogState.{LogState}
 use Rattle.index_pages.specs.Pages.{PagesState, put_newer, cleaned}
 use Rattle.index_tie.specs.Net.{Net}
 use Rattle.index_tie.specs.Net.Packet.{CheckpointPlanned}
+use Rattle.log_flight.specs.Flights.{FlightState}
 use Rattle.log_protocol.specs.Tables.{In}
 use Rattle.wire_msg.specs.declared.registry.CkptDone.{CkptDone}
 use Rattle.xfs_base.specs.Limits.{u32_end}

@@ -10,7 +10,7 @@ use Rattle.xfs_base.specs.Steps.{still}
 use Rattle.group_map.specs.GroupMapState.{GroupMapState}
 use Rattle.group_map.specs.Groups.{generation_at, generations_after}
 use Rattle.group_map.specs.WellFormed.{IsGroupMap}
-use Rattle.client_log.specs.Fate.{has_server}
+use Rattle.log_flight.specs.Fate.{has_server}
 use Rattle.registry.specs.Board.{Made, hears_manager, manager_restarted, manager_hello, hears_server, server_lost, server_hello, can_move, moved, reassign, is_kept, checkpointed, keep, done, transition}
 use Rattle.registry.specs.BoardState.{BoardState}
 use Rattle.registry.specs.Checkpoints.{covers_kept}

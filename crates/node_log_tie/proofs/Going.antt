@@ -11,7 +11,7 @@ use Rattle.segment_format.specs.declared.segment.Segment.{Segment}
 use Rattle.group_map.specs.GroupMapState.{GroupMapState}
 use Rattle.fragment_store.specs.Calls.{kept, on_fence}
 use Rattle.fragment_store.specs.ShelfState.{ShelfState, fence_of, is_held, is_marked}
-use Rattle.client_log.specs.LogState.{FlightState}
+use Rattle.log_flight.specs.Flights.{FlightState}
 use Rattle.client_log.specs.Transition as log
 use Rattle.log_scan.specs.ScanState.{ScanState}
 use Rattle.log_scan.specs.Transition as scan

@@ -11,19 +11,20 @@ use Rattle.xfs_base.proofs.Booleans.{by_test}
 use Rattle.segment_format.specs.declared.segment.Item.{Item}
 use Rattle.group_map.specs.declared.group.Member.{Member}
 use Rattle.group_map.specs.GroupMapState.{GroupMapState}
-use Rattle.client_log.specs.declared.dirty.Change.{Change}
-use Rattle.client_log.specs.declared.flight.Fate.{Fate}
-use Rattle.client_log.specs.declared.flight.Fate.TheVariants.{Restripe, Settle, Wait}
+use Rattle.log_flight.specs.declared.dirty.Change.{Change}
+use Rattle.log_flight.specs.declared.flight.Fate.{Fate}
+use Rattle.log_flight.specs.declared.flight.Fate.TheVariants.{Restripe, Settle, Wait}
+use Rattle.log_flight.specs.Fate.{fate_of}
+use Rattle.log_flight.specs.Flights.{FlightState, flown, group_for, is_noted, is_of, noting}
+use Rattle.log_flight.specs.Fragments.{piece}
+use Rattle.log_flight.specs.Items.{items_of}
+use Rattle.log_flight.specs.Texts.{has_text}
 use Rattle.client_log.specs.declared.input.In.{In as Input}
 use Rattle.client_log.specs.declared.input.In.TheVariants.{Put, Parts, Seal, Acked, Maps, Tick}
 use Rattle.client_log.specs.declared.output.Out.{Out}
 use Rattle.client_log.specs.declared.output.Out.TheVariants.{Send, Settled}
-use Rattle.client_log.specs.Fate.{fate_of}
-use Rattle.client_log.specs.Fragments.{piece}
-use Rattle.client_log.specs.Items.{items_of}
-use Rattle.client_log.specs.LogState.{FlightState, LogState, is_noted}
-use Rattle.client_log.specs.Texts.{has_text}
-use Rattle.client_log.specs.Transition.{Done, send_at, sends, all_sends, flown, group_for, launched, next_name, prior_from, writes, has_next, is_idle, is_full, can_go_on, sealed, if_full, waits, on_put, on_seal, on_parts, next_attempt, restriped, landed, settled, can_follow, followed, looked_at, is_of, noting, on_acked, on_maps, on_tick, transition}
+use Rattle.client_log.specs.LogState.{LogState}
+use Rattle.client_log.specs.Transition.{Done, send_at, sends, all_sends, launched, next_name, prior_from, writes, has_next, is_idle, is_full, can_go_on, sealed, if_full, waits, on_put, on_seal, on_parts, next_attempt, restriped, landed, settled, can_follow, followed, looked_at, on_acked, on_maps, on_tick, transition}
 use Rattle.node_log_tie.specs.CleanerEvents.{IsOfLog}
 use Rattle.node_log_tie.proofs.Lists.{all_append}
 

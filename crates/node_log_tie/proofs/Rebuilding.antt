@@ -24,7 +24,7 @@ use Rattle.stripe_code.specs.declared.round.Told.TheVariants.{Held, Missing}
 use Rattle.stripe_code.specs.Fragments.{fragment_at}
 use Rattle.stripe_code.specs.Round.{RoundSoFar, asks, has_answered, told_fits, taken, state_of}
 use Rattle.stripe_code.specs.Stripe.{IsCut, stripe_of}
-use Rattle.client_log.specs.Transition.{no_member}
+use Rattle.log_flight.specs.Flights.{no_member}
 use Rattle.group_rebuild.specs.declared.output.Out.{Out}
 use Rattle.group_rebuild.specs.declared.output.Out.TheVariants as out
 use Rattle.group_rebuild.specs.declared.reads.Present.{Present}

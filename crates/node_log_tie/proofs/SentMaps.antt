@@ -5,9 +5,9 @@ use Rattle.xfs_base.specs.declared.fragment.Fragment.{Fragment}
 use Rattle.segment_format.specs.declared.segment.Segment.{Segment}
 use Rattle.group_map.specs.GroupMapState.{GroupMapState}
 use Rattle.fragment_store.specs.ShelfState.{ShelfState, held_at}
+use Rattle.log_flight.specs.Flights.{FlightState}
 use Rattle.client_log.specs.declared.output.Out as log_outs
 use Rattle.client_log.specs.declared.output.Out.TheVariants as log_out
-use Rattle.client_log.specs.LogState.{FlightState}
 use Rattle.client_log.specs.Transition as log
 use Rattle.log_scan.specs.declared.output.Out as scan_outs
 use Rattle.log_scan.specs.declared.output.Out.TheVariants as scan_out

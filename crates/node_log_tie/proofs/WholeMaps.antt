@@ -17,8 +17,8 @@ use Rattle.group_map.proofs.AlwaysCurrent.{some_current}
 use Rattle.group_map.proofs.Numbers.{IsCurrent-chosen}
 use Rattle.group_map.proofs.Presence.{is_present}
 use Rattle.stripe_code.specs.Stripe.{IsCut}
-use Rattle.client_log.specs.Fate.{has_server}
-use Rattle.client_log.specs.Transition.{no_group, no_member, group_for}
+use Rattle.log_flight.specs.Fate.{has_server}
+use Rattle.log_flight.specs.Flights.{no_group, no_member, group_for}
 use Rattle.log_tie.specs.Setting.{Setting, server_of, present_at, IsStripe, IsMap}
 use Rattle.log_tie.specs.Scans.{WholeMap}
 use Rattle.log_tie.proofs.Names.{equal}

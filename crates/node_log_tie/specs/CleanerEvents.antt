@@ -7,7 +7,8 @@ use Rattle.xfs_base.specs.declared.segment.LogId.{LogId}
 use Rattle.xfs_base.specs.declared.segment.SegName.{SegName}
 use Rattle.xfs_base.specs.declared.segment.SegRef.{SegRef}
 use Rattle.xfs_base.specs.declared.setup.Setup.{Setup}
-use Rattle.client_log.specs.LogState.{FlightState, LogState}
+use Rattle.log_flight.specs.Flights.{FlightState}
+use Rattle.client_log.specs.LogState.{LogState}
 use Rattle.log_owner.specs.declared.opening.Opening as openings
 use Rattle.log_owner.specs.declared.opening.Stage.{Stage}
 use Rattle.log_owner.specs.declared.opening.Stage.TheVariants as stage

@@ -6,7 +6,7 @@ use Rattle.group_map.specs.declared.group.Group.{Group}
 use Rattle.group_map.specs.GroupMapState.{GroupMapState}
 use Rattle.group_map.specs.Groups.{group_of, generation_at}
 use Rattle.group_map.specs.WellFormed.{IsGroupMap}
-use Rattle.client_log.specs.Fate.{has_server}
+use Rattle.log_flight.specs.Fate.{has_server}
 use Rattle.registry.specs.Board.{all_news}
 use Rattle.registry.specs.BoardState.{BoardState}
 use Rattle.registry.specs.Checkpoints.{horizon_at}

@@ -1,15 +1,17 @@
 -- What the cleaner's log does is a run of the small world that changes the books of that log alone; what filed segments say stays.
 use Rattle.std.proofs.Common.{◌≡◌, ◌≤◌, ◌<◌, ◌⊎◌, ⊎_elim, ℕ, zero, suc, ◌&&◌, nat_lt, Bool, true, false, cond, List, [], ◌∷◌, length, map, take, drop, Option, Some, None, is_none, is_some, inl, inr, refl, sym, ap, subst, ◌∙◌, arith}
-use Rattle.client_log.specs.declared.dirty.Change.{Change}
-use Rattle.client_log.specs.declared.flight.Fate.{Fate}
-use Rattle.client_log.specs.declared.flight.Fate.TheVariants.{Restripe, Settle, Wait}
 use Rattle.client_log.specs.declared.input.In.{In as LogIn}
 use Rattle.client_log.specs.declared.input.In.TheVariants as log_in
-use Rattle.client_log.specs.Fate.{fate_of}
-use Rattle.client_log.specs.Items.{items_of}
-use Rattle.client_log.specs.LogState.{FlightState, LogState}
+use Rattle.client_log.specs.LogState.{LogState}
 use Rattle.client_log.specs.Transition as log
 use Rattle.indexmap.specs.IndexMap.{insert_entry}
+use Rattle.log_flight.specs.declared.dirty.Change.{Change}
+use Rattle.log_flight.specs.declared.flight.Fate.{Fate}
+use Rattle.log_flight.specs.declared.flight.Fate.TheVariants.{Restripe, Settle, Wait}
+use Rattle.log_flight.specs.Fate.{fate_of}
+use Rattle.log_flight.specs.Flights as flights
+use Rattle.log_flight.specs.Flights.{FlightState}
+use Rattle.log_flight.specs.Items.{items_of}
 use Rattle.xfs_base.proofs.BlockOrder.{same_block_exact}
 use Rattle.xfs_base.proofs.Booleans.{by_test, and_first, contrary}
 use Rattle.xfs_base.specs.Blocks.{same_block}
@@ -224,13 +226,13 @@ module _ (members part : ℕ) (few : members ≤ its_log) where
       (λ _. log_stays k s seen waits)
   log_goes k s (log_in.Acked name index generation) seen waits copy =
       flight_or k s (λ o. LogGone k (acked_in o).state) seen (log_stays k s seen waits)
-      (λ f flying flown. by_test (λ (d : log.Done). LogGone k d.state) (log.is_of f name index generation) (log.looked_at s s (log.noting f index)) (still s)
-      (λ _. looked_goes k s s (log.noting f index) flying seen.end flown seen waits waits) (λ _. log_stays k s seen waits))
+      (λ f flying flown. by_test (λ (d : log.Done). LogGone k d.state) (flights.is_of f name index generation) (log.looked_at s s (flights.noting f index)) (still s)
+      (λ _. looked_goes k s s (flights.noting f index) flying seen.end flown seen waits waits) (λ _. log_stays k s seen waits))
     where
       acked_in : Option FlightState → log.Done
       acked_in o = elim o [
         | None ↦ still s
-        | Some f ↦ cond (log.is_of f name index generation) (log.looked_at s s (log.noting f index)) (still s)
+        | Some f ↦ cond (flights.is_of f name index generation) (log.looked_at s s (flights.noting f index)) (still s)
       ]
   log_goes k s (log_in.Maps groups) seen waits copy =
       flight_or k s (λ o. LogGone k (mapped_in o).state) seen (log_stays k (record s { groups = groups }) again waits)

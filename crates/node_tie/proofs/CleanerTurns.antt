@@ -2,7 +2,8 @@
 use Rattle.std.proofs.Common.{◌≡◌, ◌≤◌, ℕ, suc, Bool, true, false, List, map, Option, Some, None, All, refl, sym, ap, subst, ◌∙◌}
 use Rattle.std.proofs.lemmas.List.Elements.{recursion_from_All}
 use Rattle.std.specs.Prelude.{IfSome}
-use Rattle.client_log.specs.LogState.{FlightState, LogState}
+use Rattle.client_log.specs.LogState.{LogState}
+use Rattle.log_flight.specs.Flights.{FlightState}
 use Rattle.log_owner.specs.declared.opened.Opened.{Opened}
 use Rattle.log_owner.specs.declared.opened.Progress.{Progress}
 use Rattle.log_owner.specs.declared.opened.Progress.TheVariants as progress

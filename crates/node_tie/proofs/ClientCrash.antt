@@ -9,11 +9,11 @@ use Rattle.std.specs.declared.cmp.Ordering.{Ordering}
 use Rattle.std.specs.declared.cmp.Ordering.TheVariants.{Less, Equal, Greater}
 use Rattle.std.proofs.lemmas.Cmp.{tied_itself}
 use Rattle.act_tie.specs.BlockActs as acts
-use Rattle.client_log.specs.LogState.{FlightState}
 use Rattle.client_parts.specs.Crash.{flight_of, flown_version, version_in}
 use Rattle.client_parts.specs.Reads.{value_in}
 use Rattle.client_serving.specs.Crash.{fall_of}
 use Rattle.client_serving.specs.declared.serving.Serving.{Serving}
+use Rattle.log_flight.specs.Flights.{FlightState}
 use Rattle.segment_format.specs.declared.segment.Item.{Item}
 use Rattle.segment_format.specs.declared.segment.Item.TheVariants.{Block, Delta, Part}
 use Rattle.token_client.specs.declared.held.Held.{Held}

@@ -1,8 +1,9 @@
 -- What is in flight of a client's log is filed, and its versions are settled. Where logs may lose what they held, the small world knows of no flight: there the
 -- segment is sealed and filed at once.
 use Rattle.std.proofs.Common.{◌≡◌, ℕ, suc, ◌+◌, ◌<◌, ◌≤◌, Bool, true, false, [], Some, refl, sym, ap, subst, ◌∙◌, arith}
-use Rattle.client_log.specs.LogState.{FlightState, LogState}
+use Rattle.client_log.specs.LogState.{LogState}
 use Rattle.client_log.specs.Transition as log
+use Rattle.log_flight.specs.Flights.{FlightState}
 use Rattle.token_client.specs.State.{TokensState, held_of}
 use Rattle.token_law.specs.Books.{Books, row_in, sealed, filed}
 use Rattle.token_law.specs.Net.{Net, all_settled}

@@ -2,7 +2,6 @@
 use Rattle.std.proofs.Common.{◌≡◌, ◌<◌, ℕ, ◌+◌, Bool, true, false, List, [], ◌∷◌, Option, Some, None, refl, sym, subst, ◌∙◌, arith, inl, inr}
 use Rattle.std.proofs.lemmas.Bool.Decides.{nat_tests}
 use Rattle.std.proofs.lemmas.List.Elements.{All-nil, All-cons}
-use Rattle.client_log.specs.LogState.{FlightState}
 use Rattle.client_parts.specs.Grants.{is_stamp}
 use Rattle.client_parts.specs.Reads.{block_read, Heard, heard, reading_in, value_at}
 use Rattle.client_serving.specs.declared.serving.Serving.{Serving}
@@ -12,6 +11,7 @@ use Rattle.client_serving.specs.Packets.{on_supply, supplied_by, on_forward, aga
 use Rattle.client_serving.specs.Reads.{loses, with_reading}
 use Rattle.client_serving.specs.Sends.{Done, gives, gave}
 use Rattle.delta_feed.specs.Transition.{acknowledged}
+use Rattle.log_flight.specs.Flights.{FlightState}
 use Rattle.log_owner.specs.Sending.{hello}
 use Rattle.node_base.specs.Asking.{next_ask, drawn}
 use Rattle.segment_reading.specs.declared.reading.Next.{Next}

@@ -9,7 +9,7 @@ use Rattle.std.proofs.lemmas.Cmp.{tied_itself}
 use Rattle.std.proofs.lemmas.List.{get_or-set_same}
 use Rattle.std.proofs.lemmas.List.Elements.{All-nil, All-cons, recursion_from_All}
 use Rattle.client_log.specs.declared.input.In.TheVariants as log_in
-use Rattle.client_log.specs.LogState.{FlightState, LogState}
+use Rattle.client_log.specs.LogState.{LogState}
 use Rattle.client_serving.specs.declared.serving.Serving.{Serving}
 use Rattle.client_serving.specs.Flights.{held_at, writes}
 use Rattle.client_serving.specs.Follow.{follows, follows_one}
@@ -17,6 +17,7 @@ use Rattle.client_serving.specs.Packets.{renews, promised_by, promises, reports,
 use Rattle.client_serving.specs.Sends.{Done, report}
 use Rattle.delta_feed.specs.Transition.{new_epoch}
 use Rattle.group_map.specs.GroupMapState.{GroupMapState}
+use Rattle.log_flight.specs.Flights.{FlightState}
 use Rattle.node_base.specs.Maps.{fits, is_older, taken}
 use Rattle.node_base.specs.Room.{has_room}
 use Rattle.token_client.specs.declared.held.Fetch.{Fetch}

@@ -1,8 +1,8 @@
 -- A block is written: the tokens take the write, and its new version waits in the log.
 use Rattle.std.proofs.Common.{◌≡◌, ℕ, ◌+◌, ◌<◌, ◌++◌, Bool, true, false, cond, List, [], ◌∷◌, Option, None, refl, sym, ap, subst, ◌∙◌, arith}
-use Rattle.client_log.specs.declared.dirty.Change.{Change}
 use Rattle.client_log.specs.LogState.{LogState}
 use Rattle.client_log.specs.Transition.{waits}
+use Rattle.log_flight.specs.declared.dirty.Change.{Change}
 use Rattle.token_client.specs.declared.held.Held.{Held}
 use Rattle.token_client.specs.declared.input.In.TheVariants as input
 use Rattle.token_client.specs.Held.{may_write, written}

@@ -1,8 +1,8 @@
 -- Rows of blocks, in which each block stands once: what they say of a block in a part of them, and once a row is put.
 use Rattle.std.proofs.Common.{◌≡◌, ◌⊎◌, inl, inr, ℕ, zero, suc, ◌<◌, Bool, true, false, cond, ◌||◌, List, [], ◌∷◌, map, take, drop, refl, sym, ap, subst, ◌∙◌}
 use Rattle.std.specs.List.{list_any}
-use Rattle.client_log.specs.declared.dirty.Change.{Change}
 use Rattle.indexmap.specs.IndexMap.{insert_entry}
+use Rattle.log_flight.specs.declared.dirty.Change.{Change}
 use Rattle.token_law.specs.Books.{Row, AreOnce, row_in, nothing_said}
 use Rattle.xfs_base.specs.Blocks.{same_block}
 use Rattle.xfs_base.specs.declared.block.BlockId.{BlockId}

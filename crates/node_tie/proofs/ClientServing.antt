@@ -4,7 +4,6 @@ use Rattle.std.specs.Prelude.{All}
 use Rattle.std.proofs.lemmas.Bool.Decides.{nat_tests}
 use Rattle.std.proofs.lemmas.List.Elements.{All-nil, All-cons}
 use Rattle.client_log.specs.declared.input.In.TheVariants as log_in
-use Rattle.client_log.specs.LogState.{FlightState}
 use Rattle.client_node.specs.declared.phase.Phase.TheVariants.{Serving as Serves}
 use Rattle.client_parts.specs.declared.call.Going.{Going}
 use Rattle.client_parts.specs.Reads.{fetches_again, reading_in}
@@ -15,6 +14,7 @@ use Rattle.client_serving.specs.Opens.{begins_call, call_at, opens}
 use Rattle.client_serving.specs.Packets.{on_body, on_packet, asks_for_maps, on_tick}
 use Rattle.client_serving.specs.Running.{goes_on, runs}
 use Rattle.client_serving.specs.Sends.{Done, gives}
+use Rattle.log_flight.specs.Flights.{FlightState}
 use Rattle.log_owner.specs.Sending.{pushes_all}
 use Rattle.node_base.specs.Beginning.{work_at, waiting}
 use Rattle.node_base.specs.declared.effects.Effect.{Effect}

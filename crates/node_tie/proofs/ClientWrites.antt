@@ -3,16 +3,11 @@ use Rattle.std.proofs.Common.{◌≡◌, ◌<◌, ◌≤◌, ℕ, ◌+◌, ◌&&
 use Rattle.std.specs.List.{AllByRecursion, list_any}
 use Rattle.std.proofs.lemmas.Bool.Decides.{nat_tests}
 use Rattle.std.proofs.lemmas.List.Elements.{All-nil, All-cons}
-use Rattle.client_log.specs.declared.dirty.Change.{Change}
-use Rattle.client_log.specs.declared.flight.Fate.{Fate}
-use Rattle.client_log.specs.declared.flight.Fate.TheVariants.{Restripe, Settle, Wait}
 use Rattle.client_log.specs.declared.input.In.{In}
 use Rattle.client_log.specs.declared.input.In.TheVariants as log_in
 use Rattle.client_log.specs.declared.output.Out.{Out}
 use Rattle.client_log.specs.declared.output.Out.TheVariants.{Send, Settled}
-use Rattle.client_log.specs.Fate.{fate_of}
-use Rattle.client_log.specs.Items.{items_of}
-use Rattle.client_log.specs.LogState.{FlightState, LogState, is_noted}
+use Rattle.client_log.specs.LogState.{LogState}
 use Rattle.client_log.specs.Transition as log
 use Rattle.client_parts.specs.Flights.{is_settling, is_giving}
 use Rattle.client_serving.specs.declared.serving.Serving.{Serving}
@@ -21,6 +16,13 @@ use Rattle.client_serving.specs.Follow.{seals}
 use Rattle.client_serving.specs.Sends.{Done}
 use Rattle.group_map.specs.declared.group.Member.{Member}
 use Rattle.group_map.specs.GroupMapState.{GroupMapState}
+use Rattle.log_flight.specs.declared.dirty.Change.{Change}
+use Rattle.log_flight.specs.declared.flight.Fate.{Fate}
+use Rattle.log_flight.specs.declared.flight.Fate.TheVariants.{Restripe, Settle, Wait}
+use Rattle.log_flight.specs.Fate.{fate_of}
+use Rattle.log_flight.specs.Flights as flights
+use Rattle.log_flight.specs.Flights.{FlightState, is_noted}
+use Rattle.log_flight.specs.Items.{items_of}
 use Rattle.log_owner.specs.Sending.{store}
 use Rattle.segment_format.specs.Rows.{rows_of}
 use Rattle.token_client.specs.State.{TokensState}
@@ -57,7 +59,7 @@ sealed-sends : (l : LogState) → AllByRecursion IsSend (log.sealed l).outs
 unfolding log.sealed log.launched log.all_sends
 sealed-sends l =
     let f : FlightState =
-    log.flown (log.next_name l) (log.prior_from l.end) (items_of 0 (take segment_blocks l.dirty)) (log.group_for l.groups l.log.0 (log.next_name l).seq) in
+    flights.flown (log.next_name l) (log.prior_from l.end) (items_of 0 (take segment_blocks l.dirty)) (flights.group_for l.groups l.log.0 (log.next_name l).seq) in
     all_sent f f.group.members 0
 
 if_full-sends : (l : LogState) → AllByRecursion IsSend (log.if_full l).outs
@@ -150,7 +152,7 @@ module _ (logs : Bool) (members part most c life room top : ℕ) (pos : 0 < c) (
     restriped_so : Wrote n s (log.restriped l f)
     unfolding log.restriped log.launched log.all_sends
     restriped_so =
-        let g : FlightState = log.flown (log.next_attempt f.segment.name) f.segment.prior f.segment.items (log.group_for l.groups l.log.0 f.segment.name.seq) in
+        let g : FlightState = flights.flown (log.next_attempt f.segment.name) f.segment.prior f.segment.items (flights.group_for l.groups l.log.0 f.segment.name.seq) in
         only_sends n s (log.restriped l f) (all_sent g g.group.members 0) (flies_so g refl refl)
 
     settled_so : Wrote n s (log.settled l f)
@@ -217,14 +219,14 @@ module _ (logs : Bool) (members part most c life room top : ℕ) (pos : 0 < c) (
 
       abbrev acked : SegName → ℕ → ℕ → Option FlightState → log.Done
       acked name index generation None = still s.log
-      acked name index generation (Some f) = if log.is_of f name index generation then log.looked_at s.log s.log (log.noting f index) else still s.log
+      acked name index generation (Some f) = if flights.is_of f name index generation then log.looked_at s.log s.log (flights.noting f index) else still s.log
 
       acked_so : (name : SegName) (index generation : ℕ) (o : Option FlightState) → s.log.flight ≡ o → Wrote n s (acked name index generation o)
       acked_so name index generation None is = still_logged
       acked_so name index generation (Some f) is =
-          by_test (λ (r : log.Done). Wrote n s r) (log.is_of f name index generation) (log.looked_at s.log s.log (log.noting f index)) (still s.log)
-          (λ t. looked_so n s s.log (log.noting f index)
-          (reflown logs members part most c life (room + 1) top n s.tokens s.log f (log.noting f index) s.lasting.number s.lasting.inc refl refl (flying f is))
+          by_test (λ (r : log.Done). Wrote n s r) (flights.is_of f name index generation) (log.looked_at s.log s.log (flights.noting f index)) (still s.log)
+          (λ t. looked_so n s s.log (flights.noting f index)
+          (reflown logs members part most c life (room + 1) top n s.tokens s.log f (flights.noting f index) s.lasting.number s.lasting.inc refl refl (flying f is))
           s.log here)
           (λ t. still_logged)
 

@@ -1,9 +1,10 @@
 -- What a log makes of its inputs, as the books have it: it stands, it is sealed, or its segment is filed.
 use Rattle.std.proofs.Common.{◌≡◌, ℕ, zero, suc, ◌+◌, Bool, true, false, [], take, Option, Some, None, is_some, sym, ap, subst, ◌∙◌, arith}
 use Rattle.std.specs.Prelude.{IfSome}
-use Rattle.client_log.specs.Items.{items_of}
-use Rattle.client_log.specs.LogState.{FlightState, LogState}
+use Rattle.client_log.specs.LogState.{LogState}
 use Rattle.client_log.specs.Transition as log
+use Rattle.log_flight.specs.Flights.{FlightState}
+use Rattle.log_flight.specs.Items.{items_of}
 use Rattle.xfs_base.specs.Limits.{segment_blocks}
 use Rattle.token_law.specs.Books.{Books, sealed, filed, reopened, with_empty}
 use Rattle.token_protocol.specs.Basics.{put}

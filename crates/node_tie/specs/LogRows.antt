@@ -1,9 +1,10 @@
 -- What the log of a client, or of the cleaner, says to the small world of tokens: of blocks that wait, of those in flight, and how far it is filed.
 use Rattle.std.specs.Prelude.{◌≡◌, ℕ, suc, List, [], Option, Some, None, is_some, map, IfSome}
 use Rattle.std.specs.List.{filter_map, slice_get}
-use Rattle.client_log.specs.declared.dirty.Change.{Change}
-use Rattle.client_log.specs.LogState.{FlightState, LogState}
+use Rattle.client_log.specs.LogState.{LogState}
 use Rattle.client_parts.specs.Reads.{value_in}
+use Rattle.log_flight.specs.declared.dirty.Change.{Change}
+use Rattle.log_flight.specs.Flights.{FlightState}
 use Rattle.segment_format.specs.declared.segment.Item.{Item}
 use Rattle.segment_format.specs.declared.segment.Item.TheVariants.{Block, Delta, Part}
 use Rattle.token_law.specs.Books.{Books, Row}

@@ -2,21 +2,22 @@
 use Rattle.std.proofs.Common.{◌≡◌, ◌<◌, ℕ, zero, suc, ◌+◌, ◌&&◌, Bool, true, false, cond, List, [], ◌∷◌, length, map, take, drop, Option, Some, None, nat_lt, refl, sym, subst, arith}
 use Rattle.std.specs.List.{AllByRecursion, filter_map}
 use Rattle.std.specs.Prelude.{fold, filter}
-use Rattle.client_log.specs.declared.dirty.Change.{Change}
-use Rattle.client_log.specs.declared.flight.Fate.{Fate}
-use Rattle.client_log.specs.declared.flight.Fate.TheVariants.{Restripe, Settle, Wait}
 use Rattle.client_log.specs.declared.input.In.{In as Input}
 use Rattle.client_log.specs.declared.input.In.TheVariants.{Put, Parts, Seal, Acked, Maps, Tick}
-use Rattle.client_log.specs.Fate.{fate_of}
-use Rattle.client_log.specs.Items.{change_items, items_of}
-use Rattle.client_log.specs.LogState.{FlightState, LogState}
-use Rattle.client_log.specs.Texts.{has_text}
-use Rattle.client_log.specs.Transition.{Done, all_sends, launched, next_name, prior_from, writes, has_next, is_idle, is_full, can_go_on, sealed, if_full, waits, on_put, on_seal, on_parts, next_attempt, restriped, landed, settled, can_follow, followed, looked_at, is_of, noting, on_acked, on_maps, on_tick, transition}
+use Rattle.client_log.specs.LogState.{LogState}
+use Rattle.client_log.specs.Transition.{Done, all_sends, launched, next_name, prior_from, writes, has_next, is_idle, is_full, can_go_on, sealed, if_full, waits, on_put, on_seal, on_parts, next_attempt, restriped, landed, settled, can_follow, followed, looked_at, on_acked, on_maps, on_tick, transition}
 use Rattle.delta_index.specs.Entries.{no_entry, first_greatest, is_newer}
 use Rattle.delta_index.specs.Join.{entries_of}
 use Rattle.group_map.specs.GroupMapState.{GroupMapState}
 use Rattle.index_tie.specs.Growth.{said_of}
 use Rattle.index_tie.specs.Net.{Packet, IsMove}
+use Rattle.log_flight.specs.declared.dirty.Change.{Change}
+use Rattle.log_flight.specs.declared.flight.Fate.{Fate}
+use Rattle.log_flight.specs.declared.flight.Fate.TheVariants.{Restripe, Settle, Wait}
+use Rattle.log_flight.specs.Fate.{fate_of}
+use Rattle.log_flight.specs.Flights.{FlightState, is_of, noting}
+use Rattle.log_flight.specs.Items.{change_items, items_of}
+use Rattle.log_flight.specs.Texts.{has_text}
 use Rattle.node_index_tie.specs.Pages.{FlightIsText}
 use Rattle.node_index_tie.specs.Sight.{Texts}
 use Rattle.indexmap.specs.IndexMap.{insert_entry}

@@ -10,8 +10,8 @@ use Rattle.cleaner_parts.specs.declared.lasting.Lasting.{Lasting}
 use Rattle.index_tie.specs.Net.{Packet}
 use Rattle.log_protocol.specs.Tables.{In}
 use Rattle.cleaner_parts.specs.declared.job.Job.{Job}
-use Rattle.client_log.specs.declared.dirty.Change.{Change}
 use Rattle.client_log.specs.LogState.{LogState}
+use Rattle.log_flight.specs.declared.dirty.Change.{Change}
 use Rattle.log_owner.specs.declared.opening.Stage.{Stage}
 use Rattle.log_owner.specs.declared.opening.Stage.TheVariants as stage
 use Rattle.segment_format.specs.declared.segment.Item.{Item}

@@ -1,9 +1,9 @@
 -- What a log sends of its flight are fragments.
 use Rattle.std.proofs.Common.{ℕ, ◌+◌, List, [], ◌∷◌}
 use Rattle.std.specs.List.{AllByRecursion}
-use Rattle.client_log.specs.LogState.{FlightState, is_noted}
 use Rattle.client_log.specs.Transition.{send_at, sends, all_sends}
 use Rattle.group_map.specs.declared.group.Member.{Member}
+use Rattle.log_flight.specs.Flights.{FlightState, is_noted}
 use Rattle.node_index_tie.proofs.Flights.{IsSend}
 use Rattle.node_index_tie.proofs.Moves.{all_both}
 use Rattle.xfs_base.proofs.Booleans.{by_test}

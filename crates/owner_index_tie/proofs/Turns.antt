@@ -3,19 +3,20 @@
 use Rattle.std.proofs.Common.{◌≡◌, ℕ, suc, ◌&&◌, ◌⊎◌, inl, inr, cond, List, ◌∷◌, Option, Some, None, refl, sym, ap, ◌∙◌, arith}
 use Rattle.std.specs.Prelude.{nat_lt, length, drop, take}
 use Rattle.std.specs.List.{AllByRecursion}
-use Rattle.client_log.specs.declared.dirty.Change.{Change}
-use Rattle.client_log.specs.declared.flight.Fate.{Fate}
-use Rattle.client_log.specs.declared.flight.Fate.TheVariants.{Restripe, Settle, Wait}
 use Rattle.client_log.specs.declared.input.In.{In}
 use Rattle.client_log.specs.declared.input.In.TheVariants.{Put, Parts, Seal, Acked, Maps, Tick}
 use Rattle.client_log.specs.declared.output.Out.{Out}
 use Rattle.client_log.specs.declared.output.Out.TheVariants.{Settled}
-use Rattle.client_log.specs.Fate.{fate_of}
-use Rattle.client_log.specs.Items.{items_of}
-use Rattle.client_log.specs.LogState.{FlightState, LogState}
-use Rattle.client_log.specs.Texts.{has_text}
-use Rattle.client_log.specs.Transition.{Done, flown, all_sends, group_for, launched, next_name, prior_from, writes, sealed, has_next, is_idle, is_full, can_go_on, if_full, waits, on_put, on_seal, on_parts, next_attempt, restriped, end_from, landed, settled, can_follow, followed, looked_at, is_of, noting, on_acked, on_maps, on_tick, transition}
+use Rattle.client_log.specs.LogState.{LogState}
+use Rattle.client_log.specs.Transition.{Done, all_sends, launched, next_name, prior_from, writes, sealed, has_next, is_idle, is_full, can_go_on, if_full, waits, on_put, on_seal, on_parts, next_attempt, restriped, end_from, landed, settled, can_follow, followed, looked_at, on_acked, on_maps, on_tick, transition}
 use Rattle.group_map.specs.GroupMapState.{GroupMapState}
+use Rattle.log_flight.specs.declared.dirty.Change.{Change}
+use Rattle.log_flight.specs.declared.flight.Fate.{Fate}
+use Rattle.log_flight.specs.declared.flight.Fate.TheVariants.{Restripe, Settle, Wait}
+use Rattle.log_flight.specs.Fate.{fate_of}
+use Rattle.log_flight.specs.Flights.{FlightState, flown, group_for, is_of, noting}
+use Rattle.log_flight.specs.Items.{items_of}
+use Rattle.log_flight.specs.Texts.{has_text}
 use Rattle.node_index_tie.proofs.Flights.{IsSend}
 use Rattle.node_index_tie.proofs.Moves.{some_none}
 use Rattle.segment_format.specs.declared.segment.Item.{Item}

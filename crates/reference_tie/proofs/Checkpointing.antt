@@ -14,8 +14,8 @@ use Rattle.client_log.specs.declared.input.In.TheVariants as log_input
 use Rattle.client_log.specs.declared.output.Out.{Out as LogOut}
 use Rattle.client_log.specs.declared.output.Out.TheVariants as log_out
 use Rattle.client_log.specs.History.{TellsWhatIsDue}
-use Rattle.client_log.specs.LogState.{FlightState}
 use Rattle.client_log.specs.Transition as log
+use Rattle.log_flight.specs.Flights.{FlightState}
 use Rattle.reference_tie.proofs.Leaving.{all_append}
 use Rattle.manager_parts.specs.Numbers.{slot_after}
 use Rattle.manager_parts.specs.SlotTable.{next_active, begin_at, cleaned_at}

@@ -2,8 +2,8 @@
 use Rattle.std.proofs.Common.{◌≡◌, ⊎_elim, ◌⊎◌, ◌≤◌, ◌+◌, ◌==◌, ◌&&◌, ◌||◌, ℕ, suc, Bool, true, false, List, [], ◌∷◌, ◌++◌, length, Some, refl, sym, ap, ◌∙◌, inl, inr, arith}
 use Rattle.std.proofs.lemmas.Bool.Decides.{nat_tests}
 use Rattle.std.specs.List.{AllByRecursion}
-use Rattle.client_log.specs.LogState.{FlightState}
 use Rattle.client_parts.specs.Crash.{flight_of}
+use Rattle.log_flight.specs.Flights.{FlightState}
 use Rattle.log_law.specs.Net.{names_of}
 use Rattle.log_law.specs.ReadBack.{EndsAt}
 use Rattle.log_owner.specs.Opened.{names_in}

@@ -5,11 +5,11 @@ use Rattle.client_law.proofs.Emptying.{packet_empty, tick_empty}
 use Rattle.client_law.specs.Empty.{OpensEmpty, WaitsForNothing}
 use Rattle.client_log.specs.declared.input.In.{In as LogIn}
 use Rattle.client_log.specs.declared.input.In.TheVariants as log_in
-use Rattle.client_log.specs.LogState.{FlightState}
 use Rattle.client_log.specs.Transition as log
 use Rattle.client_log_tie.specs.ClientEvents.{IsOnce, ServesStraight}
 use Rattle.client_log_tie.specs.Owner.{Scene, SeesLog, SeesStage}
 use Rattle.group_map.specs.GroupMapState.{GroupMapState}
+use Rattle.log_flight.specs.Flights.{FlightState}
 use Rattle.log_law.specs.Events.{Happens, Runs}
 use Rattle.log_law.specs.Events.Happens.{Acts, Writes, Opens, Crashes, Restarts, Renews, Serves, Bars, Lists, Hears, Raises, Publishes, Welcomes, Drops}
 use Rattle.log_law.specs.Events.Runs.{Begun, On}

@@ -1,9 +1,10 @@
 -- What is known of a log at the event that ends a restart: what is filed then, and what was in flight.
 use Rattle.std.proofs.Common.{◌≡◌, ◌≤◌, ◌<◌, ℕ, zero, suc, List, ◌++◌, Option, Some, refl, sym, ap, subst, arith}
 use Rattle.std.specs.Prelude.{IfSome}
-use Rattle.client_log.specs.LogState.{FlightState, LogState}
+use Rattle.client_log.specs.LogState.{LogState}
 use Rattle.client_log.specs.Transition as log
 use Rattle.index_tie.specs.Filed.{Filed}
+use Rattle.log_flight.specs.Flights.{FlightState}
 use Rattle.log_law.specs.Ends.{EndIsLast}
 use Rattle.log_law.specs.Events.Runs.{On}
 use Rattle.log_law.specs.Held.{ChainFlew, OwnerFlew}

@@ -1,6 +1,7 @@
 -- What the owner of a log had in flight when it served last, as the books of tokens have it: so it stays until its log is open again.
 use Rattle.std.specs.Prelude.{◌≡◌, ℕ, suc, false, Option, is_some, IfSome}
-use Rattle.client_log.specs.LogState.{FlightState, LogState}
+use Rattle.client_log.specs.LogState.{LogState}
+use Rattle.log_flight.specs.Flights.{FlightState}
 use Rattle.log_law.specs.Events.{Runs}
 use Rattle.log_law.specs.Net.Owner.{Serving}
 use Rattle.log_law.specs.Net.{Net}

@@ -1,11 +1,11 @@
 -- The event of a node that ends a restart, in the small world of its log: the opening segment is settled there by the one thing that happens.
 use Rattle.std.specs.Prelude.{◌≡◌, ℕ, false, List, [], Some}
-use Rattle.client_log.specs.LogState.{FlightState}
 use Rattle.client_node.specs.declared.client.Client.{Client as AClient}
 use Rattle.client_node.specs.declared.phase.Phase.TheVariants as phase
 use Rattle.client_node.specs.Phases.{takes}
 use Rattle.client_parts.specs.declared.lasting.Lasting.{Lasting}
 use Rattle.client_serving.specs.declared.serving.Serving.{Serving}
+use Rattle.log_flight.specs.Flights.{FlightState}
 use Rattle.client_log_tie.specs.ClientEvents.{ServesStraight}
 use Rattle.client_log_tie.specs.Owner.{Scene, SeesLog, SeesStage}
 use Rattle.log_law.specs.Events.{Happens, Runs}

@@ -2,10 +2,10 @@
 use Rattle.std.proofs.Common.{◌⊎◌, ⊎_elim, ℕ, ◌&&◌, List, [], ◌∷◌, ◌++◌, Option, Some, None, inl, inr}
 use Rattle.client_log.specs.declared.output.Out as log_outs
 use Rattle.client_log.specs.declared.output.Out.TheVariants as log_out
-use Rattle.client_log.specs.LogState.{FlightState}
 use Rattle.client_log.specs.Transition as log
 use Rattle.fragment_store.specs.ShelfState.{ShelfState, held_at}
 use Rattle.group_map.specs.GroupMapState.{GroupMapState}
+use Rattle.log_flight.specs.Flights.{FlightState}
 use Rattle.log_law.specs.Events.{Happens, Runs}
 use Rattle.log_law.specs.Events.Happens.{Acts, Bars, Crashes, Drops, Hears, Lists, Opens, Publishes, Raises, Renews, Restarts, Serves, Welcomes, Writes}
 use Rattle.log_law.specs.Events.Runs.{Begun, On}

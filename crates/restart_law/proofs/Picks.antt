@@ -2,12 +2,13 @@
 -- while the owner opens its log in one boot.
 use Rattle.std.proofs.Common.{◌≡◌, ◌⊎◌, ⊎_elim, ℕ, zero, suc, ◌+◌, ◌-◌, ◌≤◌, ◌&&◌, Bool, true, false, cond, List, [], Option, Some, None, length, slice_get, inl, inr, refl, sym, ap, ◌∙◌, arith}
 use Rattle.std.specs.Prelude.{IfSome}
-use Rattle.client_log.specs.LogState.{FlightState, LogState, started as new_log}
+use Rattle.client_log.specs.LogState.{LogState, started as new_log}
 use Rattle.client_log.specs.Transition as log
 use Rattle.client_log_tie.specs.ClientEvents.{IsOnce, has_picked}
 use Rattle.client_log_tie.specs.Owner.{Scene}
 use Rattle.core_world.specs.declared.any_node.AnyNode.{AnyNode}
 use Rattle.group_map.specs.GroupMapState.{GroupMapState}
+use Rattle.log_flight.specs.Flights.{FlightState}
 use Rattle.log_law.specs.Events.{Happens, Runs, StartsWith}
 use Rattle.log_law.specs.Events.Happens.{Acts, Bars, Crashes, Drops, Hears, Lists, Opens, Publishes, Raises, Renews, Restarts, Serves, Welcomes, Writes}
 use Rattle.log_law.specs.Events.Runs.{Begun, On}

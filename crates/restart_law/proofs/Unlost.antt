@@ -4,7 +4,6 @@ use Rattle.std.proofs.lemmas.Bool.Decides.{nat_tests}
 use Rattle.std.specs.List.{fold}
 use Rattle.std.specs.Prelude.{IfSome}
 use Rattle.client_log.specs.LogState.{LogState}
-use Rattle.client_log.specs.Transition.{no_member}
 use Rattle.core_world.specs.AnyNode.{any_start, any_step}
 use Rattle.core_world.specs.declared.any_node.AnyNode.{AnyNode}
 use Rattle.core_world.specs.declared.any_node.AnyNode.TheVariants as any
@@ -12,6 +11,7 @@ use Rattle.fragment_store.specs.ShelfState.{ShelfState, held_at}
 use Rattle.group_map.specs.declared.group.Group.{Group}
 use Rattle.group_map.specs.Sizes.{is_group_size}
 use Rattle.group_map.specs.WellFormed.{IsServer, IsStripe}
+use Rattle.log_flight.specs.Flights.{no_member}
 use Rattle.log_law.specs.Net.{Net, Owner}
 use Rattle.log_law.specs.Net.Owner.{Down, Opening, Serving, Writing}
 use Rattle.log_law.specs.Restarts.{IsSureRun}

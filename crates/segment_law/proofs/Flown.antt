@@ -5,11 +5,12 @@ use Rattle.std.specs.List.{AllByRecursion}
 use Rattle.client_log.specs.declared.input.In.{In as Input}
 use Rattle.client_log.specs.declared.input.In.TheVariants.{Put, Parts, Seal, Acked, Maps, Tick}
 use Rattle.client_log.specs.History.{state_after}
-use Rattle.client_log.specs.LogState.{FlightState, LogState, started}
+use Rattle.client_log.specs.LogState.{LogState, started}
 use Rattle.client_log.specs.Transition.{transition}
 use Rattle.client_log_tie.specs.ClientEvents.{IsOnce, NeverServes}
 use Rattle.client_log_tie.specs.Puts.{LogTook, PutsOwn, flown_after}
 use Rattle.group_map.specs.GroupMapState.{GroupMapState}
+use Rattle.log_flight.specs.Flights.{FlightState}
 use Rattle.log_law.specs.Events.{CameToWriter, Happens, Runs}
 use Rattle.log_law.specs.Events.Happens.{Acts, Bars, Crashes, Drops, Hears, Lists, Opens, Publishes, Raises, Renews, Restarts, Serves, Welcomes, Writes}
 use Rattle.log_law.specs.Events.Runs.{Begun, On}

@@ -7,15 +7,15 @@ use Rattle.cleaner_parts.specs.declared.hand.Hand.{Hand}
 use Rattle.cleaner_parts.specs.declared.job.Job.{Job}
 use Rattle.cleaner_parts.specs.Hands.{Heard}
 use Rattle.cleaner_parts.specs.Jobs.{hand_checks_in, job_checks, lists_of, usages_of, check_of, hand_of, is_out, job_read, hand_hears_in, job_hears, hand_confirmed_in, job_confirmed}
-use Rattle.client_log.specs.declared.dirty.Change.{Change}
 use Rattle.client_log.specs.declared.input.In.{In as LogIn}
 use Rattle.client_log.specs.declared.input.In.TheVariants as log_in
-use Rattle.client_log.specs.LogState.{FlightState}
 use Rattle.client_log.specs.Transition as log
 use Rattle.entry_tie.specs.CleanerTells.{MovedTold, JobTold}
 use Rattle.entry_tie.proofs.CleanerChecks.{InputTold, cleaning_so}
 use Rattle.entry_tie.proofs.CleanerMoves.{BlockMoved, OutMoved, cleaning_gives}
 use Rattle.group_map.specs.GroupMapState.{GroupMapState}
+use Rattle.log_flight.specs.declared.dirty.Change.{Change}
+use Rattle.log_flight.specs.Flights.{FlightState}
 use Rattle.node_base.specs.Asking.{drawn, next_ask}
 use Rattle.node_base.specs.declared.questions.Questions.{Questions}
 use Rattle.segment_format.specs.declared.segment.Segment.{Segment}

@@ -1,10 +1,10 @@
 -- The items that are written of changes tell of blocks once, each of a version that waited; and what a segment tells of blocks is said by its items alone.
 use Rattle.std.proofs.Common.{◌≡◌, ℕ, ◌+◌, ◌<◌, ◌≤◌, List, [], ◌∷◌, ◌++◌, length, map, Option, Some, None, refl, sym, subst, arith}
 use Rattle.std.specs.List.{AllByRecursion, filter_map}
-use Rattle.client_log.specs.declared.dirty.Change.{Change}
-use Rattle.client_log.specs.Items.{change_items, items_of}
 use Rattle.filed_tie.proofs.Frames.{all_append}
 use Rattle.index_tie.specs.Filed.{IsNoPart}
+use Rattle.log_flight.specs.declared.dirty.Change.{Change}
+use Rattle.log_flight.specs.Items.{change_items, items_of}
 use Rattle.node_tie.specs.LogRows.{told, rows_told}
 use Rattle.node_tie.proofs.LogRows.{rows_told_of}
 use Rattle.segment_format.specs.declared.segment.Item.{Item}

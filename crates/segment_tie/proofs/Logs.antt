@@ -3,15 +3,16 @@ use Rattle.std.proofs.Common.{List, ◌≡◌, ℕ, zero, suc, ◌≤◌, ◌&&�
 use Rattle.std.specs.Prelude.{drop, take, IfSome}
 use Rattle.std.proofs.lemmas.List.{drop-map, take-map}
 use Rattle.indexmap.specs.IndexMap.{insert_entry}
-use Rattle.client_log.specs.declared.dirty.Change.{Change}
-use Rattle.client_log.specs.declared.flight.Fate.{Fate}
-use Rattle.client_log.specs.declared.flight.Fate.TheVariants.{Restripe, Settle, Wait}
-use Rattle.client_log.specs.Fate.{fate_of}
-use Rattle.client_log.specs.Items.{items_of}
-use Rattle.client_log.specs.LogState.{FlightState, LogState}
-use Rattle.client_log.specs.Texts.{has_text}
-use Rattle.client_log.specs.Transition.{Done, launched, has_next, is_idle, is_full, can_go_on, sealed, if_full, waits, on_put, on_seal, restriped, landed, settled, can_follow, followed, looked_at, is_of, noting, on_acked, on_maps, on_tick, all_sends, on_parts, writes}
+use Rattle.client_log.specs.LogState.{LogState}
+use Rattle.client_log.specs.Transition.{Done, launched, has_next, is_idle, is_full, can_go_on, sealed, if_full, waits, on_put, on_seal, restriped, landed, settled, can_follow, followed, looked_at, on_acked, on_maps, on_tick, all_sends, on_parts, writes}
 use Rattle.group_map.specs.GroupMapState.{GroupMapState}
+use Rattle.log_flight.specs.declared.dirty.Change.{Change}
+use Rattle.log_flight.specs.declared.flight.Fate.{Fate}
+use Rattle.log_flight.specs.declared.flight.Fate.TheVariants.{Restripe, Settle, Wait}
+use Rattle.log_flight.specs.Fate.{fate_of}
+use Rattle.log_flight.specs.Flights.{FlightState, is_of, noting}
+use Rattle.log_flight.specs.Items.{items_of}
+use Rattle.log_flight.specs.Texts.{has_text}
 use Rattle.node_tie.specs.LogRows.{row_of, told}
 use Rattle.node_tie.proofs.ClientRows.{once_dropped, once_put, once_taken, rows_put}
 use Rattle.node_tie.proofs.LogRows.{take_within}

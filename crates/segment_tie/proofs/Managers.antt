@@ -3,11 +3,11 @@ use Rattle.std.proofs.Common.{ℕ, List, Option, Some, None, refl}
 use Rattle.std.specs.Prelude.{IfSome}
 use Rattle.std.specs.List.{AllByRecursion}
 use Rattle.checkpoint.specs.WriterState.{WorkState}
-use Rattle.client_log.specs.LogState.{FlightState}
 use Rattle.entry_tie.specs.ManagerTells.{AnswerOwed, BodyOwed, DoOwed, FlightHolds, PacketOwed, PartTold, PhaseHolds, SlotHolds, SlotOwed, WorkHolds}
 use Rattle.entry_tie.specs.Told.{Told, BodyTold, DoTold, RowsTold}
 use Rattle.entry_tie.proofs.Frames.{all_each, all_weaker}
 use Rattle.entry_tie.proofs.Managers.{any_manager_tells}
+use Rattle.log_flight.specs.Flights.{FlightState}
 use Rattle.log_owner.specs.Sending.{server_in}
 use Rattle.manager_node.specs.declared.phase.Phase.{Phase}
 use Rattle.manager_node.specs.declared.phase.Phase.TheVariants.{Down, Waiting, Serving as Serves}

@@ -1,20 +1,21 @@
 -- The log of an opening: nothing waits, and its opening segment has no items, until it is settled.
 use Rattle.std.proofs.Common.{◌≡◌, ℕ, ◌&&◌, cond, List, [], Option, Some, None, refl, sym, ap, subst}
 use Rattle.std.specs.Prelude.{drop, take, IfSome}
-use Rattle.client_log.specs.declared.dirty.Change.{Change}
-use Rattle.client_log.specs.declared.flight.Fate.{Fate}
-use Rattle.client_log.specs.declared.flight.Fate.TheVariants.{Restripe, Settle, Wait}
-use Rattle.client_log.specs.Fate.{fate_of}
-use Rattle.client_log.specs.Items.{items_of}
-use Rattle.client_log.specs.LogState.{FlightState, LogState}
-use Rattle.client_log.specs.Texts.{has_text}
-use Rattle.client_log.specs.Transition.{Done, launched, writes, has_next, is_idle, is_full, sealed, if_full, on_parts, restriped, landed, settled, can_follow, followed, looked_at, is_of, noting, on_acked, on_maps, on_tick, all_sends}
+use Rattle.client_log.specs.LogState.{LogState}
+use Rattle.client_log.specs.Transition.{Done, launched, writes, has_next, is_idle, is_full, sealed, if_full, on_parts, restriped, landed, settled, can_follow, followed, looked_at, on_acked, on_maps, on_tick, all_sends}
 use Rattle.entry_tie.specs.ClientTells as tells
 use Rattle.entry_tie.specs.Told.{Told, RowsTold}
 use Rattle.entry_tie.proofs.Frames as frames
 use Rattle.entry_tie.proofs.Frames.{all_each, contains_all}
 use Rattle.entry_tie.proofs.Openings as events
 use Rattle.group_map.specs.GroupMapState.{GroupMapState}
+use Rattle.log_flight.specs.declared.dirty.Change.{Change}
+use Rattle.log_flight.specs.declared.flight.Fate.{Fate}
+use Rattle.log_flight.specs.declared.flight.Fate.TheVariants.{Restripe, Settle, Wait}
+use Rattle.log_flight.specs.Fate.{fate_of}
+use Rattle.log_flight.specs.Flights.{FlightState, is_of, noting}
+use Rattle.log_flight.specs.Items.{items_of}
+use Rattle.log_flight.specs.Texts.{has_text}
 use Rattle.log_owner.specs.declared.opened.Progress.{Progress}
 use Rattle.log_owner.specs.declared.opened.Progress.TheVariants as progress
 use Rattle.log_owner.specs.declared.opening.Opening.{Opening}

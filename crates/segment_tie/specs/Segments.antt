@@ -1,11 +1,12 @@
 -- What the owners of logs write: a client what its calls wrote, at first hand; the cleaner what it moved; a manager the pages of its checkpoints.
 use Rattle.std.specs.Prelude.{◌≡◌, ◌<◌, ℕ, List, [], Option, None, IfSome, map}
 use Rattle.std.specs.List.{AllByRecursion}
-use Rattle.client_log.specs.declared.dirty.Change.{Change}
-use Rattle.client_log.specs.LogState.{FlightState, LogState}
+use Rattle.client_log.specs.LogState.{LogState}
 use Rattle.index_reads.specs.Clients.{AreFirstHand}
 use Rattle.index_reads.specs.Rows.{IsPlain, AreVersioned}
 use Rattle.index_tie.specs.Filed.{IsNoPart}
+use Rattle.log_flight.specs.declared.dirty.Change.{Change}
+use Rattle.log_flight.specs.Flights.{FlightState}
 use Rattle.node_tie.specs.LogRows.{told}
 use Rattle.segment_format.specs.declared.segment.Item.{Item}
 use Rattle.segment_format.specs.declared.segment.Item.TheVariants.{Block, Delta, Part}

@@ -1,9 +1,10 @@
 -- What other nodes do leaves a client seen as it was, where its log stands as it did.
 use Rattle.std.specs.Prelude.{IfSome}
 use Rattle.std.proofs.Common.{◌≡◌, ⊎_elim, ℕ, suc, Bool, ◌≤◌, ◌<◌, List, Option, None, Some, inl, inr, ap, sym, subst, ◌∙◌, arith}
-use Rattle.client_log.specs.LogState.{FlightState, LogState}
+use Rattle.client_log.specs.LogState.{LogState}
 use Rattle.client_node.specs.declared.phase.Phase.{Phase as ClientPhase}
 use Rattle.client_node.specs.declared.phase.Phase.TheVariants as clients
+use Rattle.log_flight.specs.Flights.{FlightState}
 use Rattle.node_tie.proofs.SmallWorld.{premise_by}
 use Rattle.node_tie.specs.ClientLogs.{LogAgrees, NothingBeyond}
 use Rattle.node_tie.specs.LogRows.{LogSeen, rows_told}

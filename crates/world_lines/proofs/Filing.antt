@@ -7,7 +7,7 @@ use Rattle.cleaner_node.specs.CleanerEvents as cleaners
 use Rattle.cleaner_node.specs.declared.cleaner.Phase as cleaner_phases
 use Rattle.cleaner_node.specs.declared.cleaner.Phase.TheVariants as cleaning
 use Rattle.client_log.specs.History.{TellsWhatIsDue}
-use Rattle.client_log.specs.LogState.{FlightState, LogState}
+use Rattle.client_log.specs.LogState.{LogState}
 use Rattle.client_log.specs.Transition as log
 use Rattle.client_log.specs.Transition.{has_next}
 use Rattle.client_log.specs.declared.input.In.{In as Input}
@@ -18,6 +18,7 @@ use Rattle.client_node.specs.declared.phase.Phase.TheVariants as client
 use Rattle.client_node.specs.declared.phase.Phase.{Phase}
 use Rattle.client_node.specs.Phases as clients
 use Rattle.client_serving.specs.declared.serving.Serving.{Serving as ServingClient}
+use Rattle.log_flight.specs.Flights.{FlightState}
 use Rattle.cleaner_emptying.specs.declared.emptying.Emptying.{Emptying}
 use Rattle.cleaner_log_tie.specs.Owner as cleaner_log
 use Rattle.node_base.specs.Room.{has_room}

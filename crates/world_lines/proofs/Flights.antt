@@ -3,9 +3,10 @@ use Rattle.std.proofs.Common.{◌≡◌, ℕ, Option, Some, None, subst}
 use Rattle.std.specs.Prelude.{IfSome}
 use Rattle.cleaner_log_tie.specs.Owner as cleaner
 use Rattle.cleaner_node.specs.declared.cleaner.Phase.TheVariants as cleaning
-use Rattle.client_log.specs.LogState.{FlightState, LogState}
+use Rattle.client_log.specs.LogState.{LogState}
 use Rattle.client_log_tie.specs.Owner.{Scene, SeesLog, SeesStage}
 use Rattle.client_node.specs.declared.phase.Phase.TheVariants as client
+use Rattle.log_flight.specs.Flights.{FlightState}
 use Rattle.log_law.specs.Held.{OwnerFlew, WhatIsHeldFlew}
 use Rattle.log_law.specs.Laws.{Moment}
 use Rattle.log_law.specs.Net.{Owner}

@@ -5,7 +5,7 @@ use Rattle.std.proofs.lemmas.Grind.{get_or_default_zero}
 use Rattle.std.proofs.lemmas.Option.{unwrap_or-slice_get}
 use Rattle.std.proofs.lemmas.Bool.{eqb-true}
 use Rattle.std.proofs.lemmas.Bool.Decides.{nat_tests}
-use Rattle.client_log.specs.LogState.{FlightState, LogState}
+use Rattle.client_log.specs.LogState.{LogState}
 use Rattle.client_node.specs.declared.phase.Phase.TheVariants as client
 use Rattle.index_tie.proofs.Tables.{second_of}
 use Rattle.index_tie.proofs.Takeovers.{of_log_in}
@@ -13,6 +13,7 @@ use Rattle.index_tie.specs.Filed.{Filed}
 use Rattle.index_tie.specs.Growth.{with_segment}
 use Rattle.index_tie.specs.Net.{Net}
 use Rattle.index_tie.specs.Takeovers.{of_log}
+use Rattle.log_flight.specs.Flights.{FlightState}
 use Rattle.log_law.specs.Ends.{IsFlight}
 use Rattle.log_law.specs.Laws.{Moment}
 use Rattle.log_law.specs.Net as log

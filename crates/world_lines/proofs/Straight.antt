@@ -1,9 +1,10 @@
 -- Where the owner serves nowhere on the way nothing is filed; and where it comes to serve by one thing that happens, all that is filed then flew before.
 use Rattle.std.proofs.Common.{◌≡◌, suc, Bool, true, false, cond, List, Option, Some, None, refl, sym, ap, subst, ◌∙◌}
-use Rattle.client_log.specs.LogState.{FlightState, LogState}
+use Rattle.client_log.specs.LogState.{LogState}
 use Rattle.client_log.specs.Transition as log
 use Rattle.client_log_tie.specs.ClientEvents.{IsOnce, NeverServes}
 use Rattle.group_map.specs.GroupMapState.{GroupMapState}
+use Rattle.log_flight.specs.Flights.{FlightState}
 use Rattle.log_law.specs.Events.{Happens, Runs}
 use Rattle.log_law.specs.Events.Happens.{Acts, Bars, Crashes, Drops, Hears, Lists, Opens, Publishes, Raises, Renews, Restarts, Serves, Welcomes, Writes}
 use Rattle.log_law.specs.Events.Runs.{Begun, On}

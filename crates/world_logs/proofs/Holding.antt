@@ -6,7 +6,7 @@ use Rattle.cleaner_log_tie.specs.Owner.{CleanerAgrees, its_number}
 use Rattle.cleaner_node.specs.declared.cleaner.Phase.{Phase as CleanerPhase}
 use Rattle.cleaner_node.specs.declared.cleaner.Phase.TheVariants as cleaners
 use Rattle.cleaner_parts.specs.Starting.{cleaner_log}
-use Rattle.client_log.specs.LogState.{FlightState, LogState}
+use Rattle.client_log.specs.LogState.{LogState}
 use Rattle.client_log_tie.specs.Owner.{ClientAgrees, Scene, SeesStage}
 use Rattle.client_node.specs.declared.phase.Phase.TheVariants as clients
 use Rattle.client_node.specs.declared.phase.Phase.{Phase}
@@ -14,6 +14,7 @@ use Rattle.client_parts.specs.Lasting.{log_of}
 use Rattle.entry_tie.specs.CleanerTells as cleaner_tells
 use Rattle.entry_tie.specs.ClientTells as client_tells
 use Rattle.entry_tie.specs.ClientTells.{FlightOwed, SegmentOwed, StageOwed}
+use Rattle.log_flight.specs.Flights.{FlightState}
 use Rattle.log_law.specs.Held.{OwnerFlew}
 use Rattle.log_law.specs.Net.{Net}
 use Rattle.log_law.specs.Net.Owner.{Serving, Writing}

@@ -1,12 +1,12 @@
 -- What a moment that stands to the small worlds says of logs: each segment that was told to be filed is whole, and each name has one text.
 use Rattle.std.proofs.Common.{◌≡◌, ◌⊎◌, ⊎_elim, ℕ, ◌==◌, ◌<◌, true, false, List, [], ◌∷◌, Option, None, Some, length, inl, inr, refl, sym, ap, subst, ◌∙◌}
-use Rattle.client_log.specs.Transition.{no_member}
 use Rattle.client_log_tie.specs.Owner.{Scene}
 use Rattle.core_world.specs.declared.any_node.AnyNode.{AnyNode}
 use Rattle.core_world.specs.declared.any_node.AnyNode.TheVariants as any
 use Rattle.fragment_store.specs.ShelfState.{ShelfState, held_at}
 use Rattle.group_map.specs.declared.group.Group.{Group}
 use Rattle.group_map.specs.WellFormed.{IsServer}
+use Rattle.log_flight.specs.Flights.{no_member}
 use Rattle.log_law.specs.Laws.{LogsStayWhole, LogsWhole, OneNameOneText, OneText}
 use Rattle.log_law.specs.Net.{Net}
 use Rattle.log_protocol.specs.Tables as tables

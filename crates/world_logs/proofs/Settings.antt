@@ -1,13 +1,13 @@
 -- The stripes that the groups of a run's maps name are those of its settings, and their ids fit.
 use Rattle.std.proofs.Common.{◌≡◌, ◌^◌, ℕ, ◌+◌, ◌==◌, ◌<◌, ◌≤◌, List, [], ◌∷◌, Option, None, Some, length, unwrap_or, refl, sym, ap, subst, ◌∙◌, arith}
 use Rattle.std.specs.Prelude.{find}
-use Rattle.client_log.specs.Transition.{group_for, no_group}
 use Rattle.client_log_tie.specs.Texts.{MapFits}
 use Rattle.core_world.specs.declared.any_node.AnyNode.{AnyNode}
 use Rattle.group_map.specs.declared.group.Group.{Group}
 use Rattle.group_map.specs.GroupMapState.{GroupMapState}
 use Rattle.group_map.specs.Groups.{chosen, group_of}
 use Rattle.group_map.specs.WellFormed.{IsGroupMap, IsNumbered}
+use Rattle.log_flight.specs.Flights.{group_for, no_group}
 use Rattle.log_tie.proofs.Names.{equal}
 use Rattle.log_tie.specs.Setting.{Setting, Stripe}
 use Rattle.node_log_tie.proofs.WholeMaps.{Chosen, the_chosen}

@@ -3,10 +3,10 @@ use Rattle.std.proofs.Common.{◌≡◌, ◌⊎◌, ◌≤◌, ◌<◌, ◌==◌
 use Rattle.std.proofs.lemmas.Bool.{eqb-true}
 use Rattle.std.proofs.lemmas.Bool.Decides.{nat_tests}
 use Rattle.std.specs.Prelude.{IfSome}
-use Rattle.client_log.specs.LogState.{FlightState}
 use Rattle.core_world.specs.declared.any_node.AnyNode.{AnyNode}
 use Rattle.index_reads.specs.Ties.{BooksAre}
 use Rattle.index_tie.specs.Filed.{Filed}
+use Rattle.log_flight.specs.Flights.{FlightState}
 use Rattle.log_law.specs.Restarts.{last_flight}
 use Rattle.log_law.specs.Tails.{then_on}
 use Rattle.log_tie.specs.Setting.{Setting}

@@ -9,12 +9,13 @@ use Rattle.cleaner_node.specs.declared.cleaner.Phase.{Phase}
 use Rattle.cleaner_node.specs.declared.cleaner.Phase.TheVariants.{Down, Opening, Serving as Serves}
 use Rattle.cleaner_node.specs.declared.cleaner.Wish.TheVariants.{Crash, Restart, Clean}
 use Rattle.cleaner_parts.specs.declared.lasting.Lasting.{Lasting}
-use Rattle.client_log.specs.LogState.{FlightState, LogState}
+use Rattle.client_log.specs.LogState.{LogState}
 use Rattle.client_log_tie.specs.ClientEvents.{ServesStraight}
 use Rattle.client_log_tie.specs.Owner.{Scene, SeesLog, SeesStage}
 use Rattle.client_parts.specs.Crash.{flight_of}
 use Rattle.index_tie.specs.Growth.{IsMore}
 use Rattle.index_tie.specs.Net as index
+use Rattle.log_flight.specs.Flights.{FlightState}
 use Rattle.log_law.specs.Ends.{IsFlight}
 use Rattle.log_law.specs.Events.{Runs}
 use Rattle.log_law.specs.Laws.{Moment}

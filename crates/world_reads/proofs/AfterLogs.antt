@@ -2,10 +2,11 @@
 use Rattle.std.proofs.Common.{◌≡◌, ◌≤◌, ◌<◌, ℕ, suc, Bool, true, false, List, Option, Some, None, is_some, nat_le, inl, inr, refl, sym, ap, subst, ◌∙◌, arith}
 use Rattle.std.proofs.lemmas.Bool.Decides.{nat_tests}
 use Rattle.std.specs.Prelude.{IfSome}
-use Rattle.client_log.specs.LogState.{FlightState, LogState}
+use Rattle.client_log.specs.LogState.{LogState}
 use Rattle.client_log_tie.specs.ClientEvents.{NeverServes}
 use Rattle.index_tie.specs.Filed.{Filed}
 use Rattle.index_tie.specs.Growth.{IsMore, with_segment}
+use Rattle.log_flight.specs.Flights.{FlightState}
 use Rattle.log_law.specs.Events.{Runs}
 use Rattle.log_law.specs.Events.Runs.{Begun, On}
 use Rattle.log_law.specs.Laws.{Moment}

@@ -1,10 +1,10 @@
 -- What the cleaner acts to be filed is owed to it: it flew, and is filed after the event; and what a reopening adopts was answered Live, and moved once.
 use Rattle.std.proofs.Common.{◌≡◌, ◌≤◌, ◌<◌, ◌==◌, ◌⊎◌, ℕ, suc, Bool, true, false, List, [], ◌∷◌, Some, if◌then◌else◌, inl, inr, refl, sym, ap, subst, ◌∙◌, arith}
 use Rattle.std.specs.List.{AllByRecursion}
-use Rattle.client_log.specs.LogState.{FlightState}
 use Rattle.index_tie.specs.Filed.{Filed}
 use Rattle.index_tie.specs.Growth.{with_segment}
 use Rattle.index_tie.specs.Net as index
+use Rattle.log_flight.specs.Flights.{FlightState}
 use Rattle.log_law.specs.Events.{Happens}
 use Rattle.log_law.specs.Events.Runs.{On}
 use Rattle.log_law.specs.Laws.{IsAttemptOf, Moment}

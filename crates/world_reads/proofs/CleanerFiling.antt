@@ -9,12 +9,12 @@ use Rattle.cleaner_node.specs.declared.cleaner.Cleaner.{Cleaner as CleanerNode}
 use Rattle.cleaner_node.specs.declared.cleaner.Phase as cleaning
 use Rattle.cleaner_node.specs.declared.cleaner.Phase.TheVariants.{Opening, Serving}
 use Rattle.cleaner_parts.specs.declared.lasting.Lasting.{Lasting}
-use Rattle.client_log.specs.LogState.{FlightState}
 use Rattle.client_log.specs.Transition.{has_next}
 use Rattle.client_log_tie.specs.ClientEvents.{ServesStraight}
 use Rattle.client_log_tie.specs.Owner.{Scene}
 use Rattle.core_world.specs.declared.any_node.AnyNode.{AnyNode}
 use Rattle.index_tie.specs.Filed.{Filed}
+use Rattle.log_flight.specs.Flights.{FlightState}
 use Rattle.log_law.specs.Events.Runs.{On}
 use Rattle.log_law.specs.Held.{OwnerFlew, WhatIsHeldFlew}
 use Rattle.log_law.specs.Net.Owner.{Serving as LogServes}

@@ -6,10 +6,11 @@ use Rattle.cleaner_log_tie.specs.Owner as cleaner_log
 use Rattle.cleaner_node.specs.declared.cleaner.Cleaner.{Cleaner as CleanerNode}
 use Rattle.cleaner_node.specs.declared.cleaner.Phase as cleaning
 use Rattle.cleaner_node.specs.declared.cleaner.Phase.TheVariants.{Down, Opening, Serving}
-use Rattle.client_log.specs.LogState.{FlightState, LogState}
+use Rattle.client_log.specs.LogState.{LogState}
 use Rattle.client_log_tie.specs.Owner.{SeesStage}
 use Rattle.core_world.specs.declared.any_node.AnyNode.{AnyNode}
 use Rattle.index_tie.specs.Net.{Net, Packet}
+use Rattle.log_flight.specs.Flights.{FlightState}
 use Rattle.log_law.specs.Events.{Runs}
 use Rattle.log_law.specs.Laws.{Moment}
 use Rattle.log_law.specs.Restarts.{is_serving, last_flight}

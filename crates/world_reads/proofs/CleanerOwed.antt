@@ -9,12 +9,12 @@ use Rattle.cleaner_node.specs.declared.cleaner.Phase as cleaning
 use Rattle.cleaner_node.specs.declared.cleaner.Phase.TheVariants.{Down, Opening, Serving}
 use Rattle.cleaner_parts.specs.declared.lasting.Lasting.{Lasting}
 use Rattle.cleaner_parts.specs.Lasting.{lasting_room}
-use Rattle.client_log.specs.LogState.{FlightState}
 use Rattle.client_log_tie.specs.ClientEvents.{ServesStraight}
 use Rattle.client_log_tie.specs.Owner.{Scene, SeesStage}
 use Rattle.core_world.specs.declared.any_node.AnyNode.{AnyNode}
 use Rattle.core_world.specs.declared.any_node.AnyNode.TheVariants as any
 use Rattle.index_tie.proofs.Tables.{second_of, within_is}
+use Rattle.log_flight.specs.Flights.{FlightState}
 use Rattle.log_law.specs.Openings.{NothingFiledOpening}
 use Rattle.log_law.specs.Restarts.{is_serving, is_writing}
 use Rattle.log_owner.specs.declared.opening.Opening as openings

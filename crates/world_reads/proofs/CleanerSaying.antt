@@ -1,8 +1,8 @@
 -- What the cleaner acts to be filed says of blocks: what it had in flight, what was filed of its log, and what a reopening adopts.
 use Rattle.std.proofs.Common.{◌≡◌, ◌≤◌, ◌<◌, ◌⊎◌, ℕ, false, List, [], ◌∷◌, Some, inl, inr, sym, ap, subst, ◌∙◌}
 use Rattle.std.specs.List.{AllByRecursion, filter_map}
-use Rattle.client_log.specs.LogState.{FlightState}
 use Rattle.index_tie.specs.Filed.{Filed, IsNoPart}
+use Rattle.log_flight.specs.Flights.{FlightState}
 use Rattle.log_law.specs.Events.{Happens}
 use Rattle.log_law.specs.Events.Runs.{On}
 use Rattle.log_law.specs.Laws.{IsAttemptOf, Moment}

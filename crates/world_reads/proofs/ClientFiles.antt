@@ -2,7 +2,7 @@
 use Rattle.std.proofs.Common.{◌≡◌, ◌⊎◌, ⊎_elim, ◌≤◌, ◌<◌, ◌==◌, ℕ, suc, Bool, true, false, List, [], ◌∷◌, Option, None, Some, inl, inr, refl, sym, ap, subst, ◌∙◌, arith}
 use Rattle.std.specs.List.{filter_map}
 use Rattle.std.specs.Prelude.{IfSome}
-use Rattle.client_log.specs.LogState.{FlightState, LogState}
+use Rattle.client_log.specs.LogState.{LogState}
 use Rattle.client_log_tie.specs.ClientEvents.{ServesStraight}
 use Rattle.client_log_tie.specs.Owner as client_log
 use Rattle.client_log_tie.specs.Owner.{Scene, SeesStage}
@@ -17,6 +17,7 @@ use Rattle.index_reads.specs.Clients.{NothingIsNews}
 use Rattle.index_reads.specs.Ties.{Tied}
 use Rattle.index_tie.specs.Filed.{Filed}
 use Rattle.index_tie.specs.Growth.{with_segment}
+use Rattle.log_flight.specs.Flights.{FlightState}
 use Rattle.log_law.specs.Events.{Runs}
 use Rattle.log_law.specs.Held.{OwnerFlew}
 use Rattle.log_law.specs.Laws.{Moment}

@@ -3,7 +3,7 @@
 use Rattle.std.proofs.Common.{◌≡◌, ◌≤◌, ◌<◌, ℕ, suc, true, List, [], ◌∷◌, Option, Some, slice_get, inl, inr, refl, sym, ap, subst, ◌∙◌, arith}
 use Rattle.std.specs.Prelude.{Contains, IfSome}
 use Rattle.std.specs.List.{AllByRecursion}
-use Rattle.client_log.specs.LogState.{FlightState, LogState}
+use Rattle.client_log.specs.LogState.{LogState}
 use Rattle.client_log.specs.Transition.{end_from}
 use Rattle.core_world.specs.AnyNode.{any_step}
 use Rattle.core_world.specs.declared.any_node.AnyNode.{AnyNode}
@@ -11,6 +11,7 @@ use Rattle.entry_tie.proofs.Frames.{all_weaker, contains_all}
 use Rattle.entry_tie.specs.ClientTells.{FlightOwed, SegmentOwed}
 use Rattle.entry_tie.specs.Told.{RowTold, RowsTold, told_by}
 use Rattle.index_tie.specs.Filed.{Filed, rows_at}
+use Rattle.log_flight.specs.Flights.{FlightState}
 use Rattle.log_law.specs.Held.{OwnerFlew, WhatFlewIsOfTheLog, WhatIsHeldFlew}
 use Rattle.log_law.specs.Net.{Net, Owner as owner}
 use Rattle.log_owner.specs.Sending.{name_of}

@@ -6,7 +6,6 @@ use Rattle.cleaner_node.specs.CleanerEvents.{cleaner_step}
 use Rattle.cleaner_node.specs.declared.cleaner.Cleaner.{Cleaner as CleanerNode}
 use Rattle.cleaner_node.specs.declared.cleaner.Phase as cleaners
 use Rattle.cleaner_node.specs.declared.cleaner.Phase.TheVariants as cleaning
-use Rattle.client_log.specs.LogState.{FlightState}
 use Rattle.client_log_tie.specs.Owner as client_log
 use Rattle.client_log_tie.specs.Owner.{Scene, SeesStage}
 use Rattle.client_node.specs.declared.client.Client.{Client as ClientNode}
@@ -25,6 +24,7 @@ use Rattle.entry_tie.specs.Told.{AreMore, Told, told_by}
 use Rattle.index_tie.proofs.Runs.{good_in}
 use Rattle.index_tie.specs.Filed.{Filed, rows_at}
 use Rattle.index_tie.specs.Growth.{IsMore}
+use Rattle.log_flight.specs.Flights.{FlightState}
 use Rattle.log_law.specs.Held.{OwnerFlew, WhatFlewIsOfTheLog, WhatIsHeldFlew}
 use Rattle.log_protocol.specs.Tables as tables
 use Rattle.log_owner.specs.declared.known.Known.{Known as KnownMaps}

@@ -9,7 +9,7 @@ use Rattle.cleaner_log_tie.specs.Owner as cleaner_log
 use Rattle.cleaner_node.specs.declared.cleaner.Cleaner.{Cleaner as CleanerNode}
 use Rattle.cleaner_node.specs.declared.cleaner.Phase as cleaning_phase
 use Rattle.cleaner_node.specs.declared.cleaner.Phase.TheVariants as cleaning
-use Rattle.client_log.specs.LogState.{FlightState, LogState}
+use Rattle.client_log.specs.LogState.{LogState}
 use Rattle.client_log.specs.Transition.{end_from}
 use Rattle.client_log_tie.specs.Owner as client_log
 use Rattle.client_log_tie.specs.Owner.{Scene, SeesLog}
@@ -21,6 +21,7 @@ use Rattle.client_serving.specs.declared.serving.Serving.{Serving as ServingClie
 use Rattle.core_world.specs.AnyNode.{any_step}
 use Rattle.core_world.specs.declared.any_node.AnyNode.{AnyNode}
 use Rattle.core_world.specs.declared.any_node.AnyNode.TheVariants as any
+use Rattle.log_flight.specs.Flights.{FlightState}
 use Rattle.log_law.specs.Groups.{EndsNameGroups}
 use Rattle.log_law.specs.Ends.{EndsAreLast}
 use Rattle.log_law.specs.Held.{OwnerFlew, WhatIsHeldFlew}

@@ -1,6 +1,5 @@
 -- An event that a client takes, in both small worlds of a slot and in that of its log: what is known of its log then, and what is known of its fall.
 use Rattle.std.proofs.Common.{◌≡◌, ℕ, suc, ◌++◌, true, List, Option, None, Some, IfSome, slice_get, refl, sym, ap, subst, ◌∙◌}
-use Rattle.client_log.specs.LogState.{FlightState}
 use Rattle.client_log_tie.specs.ClientEvents.{ServesStraight}
 use Rattle.client_log_tie.specs.Owner as log_tie
 use Rattle.client_log_tie.specs.Owner.{Scene}
@@ -12,6 +11,7 @@ use Rattle.core_world.specs.AnyNode.{any_step}
 use Rattle.core_world.specs.declared.any_node.AnyNode.{AnyNode}
 use Rattle.core_world.specs.declared.any_node.AnyNode.TheVariants as any
 use Rattle.index_tie.specs.Net as index
+use Rattle.log_flight.specs.Flights.{FlightState}
 use Rattle.log_law.specs.Ends.{IsFlight}
 use Rattle.log_law.specs.Events.{Runs}
 use Rattle.log_law.specs.Laws.{Moment}

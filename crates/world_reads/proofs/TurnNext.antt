@@ -3,12 +3,12 @@
 use Rattle.std.proofs.Common.{arith, ◌≡◌, ⊎_elim, ℕ, suc, ◌<◌, ◌≤◌, false, Option, Some, slice_get, refl, sym, subst, ◌∙◌}
 use Rattle.std.specs.List.{AllByRecursion}
 use Rattle.std.specs.Prelude.{IfSome}
-use Rattle.client_log.specs.LogState.{FlightState}
 use Rattle.core_world.specs.AnyNode.{any_start, any_step}
 use Rattle.core_world.specs.declared.any_node.AnyNode.{AnyNode}
 use Rattle.core_world.specs.declared.any_node.AnyNode.TheVariants as any
 use Rattle.index_tie.specs.Filed.{Filed, rows_at}
 use Rattle.index_tie.specs.Growth.{IsMore}
+use Rattle.log_flight.specs.Flights.{FlightState}
 use Rattle.log_tie.specs.Setting.{Setting}
 use Rattle.owner_index_tie.proofs.Frames.{more_itself}
 use Rattle.owner_index_tie.specs.CleanerMoves.{ItemMoves}

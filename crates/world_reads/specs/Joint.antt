@@ -1,10 +1,10 @@
 -- How a moment of a run stands to the small worlds of tokens and of the index of one slot, and to those of all logs, while no restart that ended was doubtful.
 use Rattle.std.specs.Prelude.{◌≡◌, ℕ, ◌≤◌, ◌<◌, Option, None, IfSome, true, false}
 use Rattle.std.specs.List.{AllByRecursion}
-use Rattle.client_log.specs.LogState.{FlightState}
 use Rattle.core_world.specs.declared.any_node.AnyNode.{AnyNode}
 use Rattle.index_reads.specs.Ties.{BooksAre}
 use Rattle.index_tie.specs.Filed.{rows_at}
+use Rattle.log_flight.specs.Flights.{FlightState}
 use Rattle.log_law.specs.Net.{Net as LogNet}
 use Rattle.log_law.specs.Restarts.{IsSureRun, last_flight}
 use Rattle.log_tie.specs.Setting.{Setting}

@@ -1,8 +1,8 @@
 use Rattle.std.proofs.Common.{◌≡◌, cond, None, ap, ◌∙◌}
-use Rattle.client_log.specs.Fate.{fate_of}
-use Rattle.client_log.specs.LogState.{FlightState, LogState}
+use Rattle.log_flight.specs.Fate.{fate_of}
+use Rattle.log_flight.specs.Flights.{FlightState, noting}
+use Rattle.client_log.specs.LogState.{LogState}
 use Rattle.client_log.specs.Looks.{due}
-use Rattle.client_log.specs.Transition.{noting}
 use Rattle.client_log.proofs.log.Log.hear_of.Goals as goal
 
 pub returns : goal.returns

@@ -1,6 +1,6 @@
 use Rattle.std.proofs.Common.{sym, ap, ◌∙◌}
-use Rattle.client_log.specs.Texts.{has_text}
-use Rattle.client_log.proofs.ItemTexts.{tested_have_text}
+use Rattle.log_flight.specs.Texts.{has_text}
+use Rattle.log_flight.proofs.ItemTexts.{tested_have_text}
 use Rattle.client_log.proofs.log.Log.on_parts.Goals as goal
 
 pub write-requires-clause-text : goal.write-requires-clause-text

@@ -2,10 +2,11 @@ use Rattle.std.proofs.Common.{◌≡◌, List, [], ◌∷◌, ◌++◌, Option, 
 use Rattle.xfs_base.specs.Steps.{still}
 use Rattle.segment_format.specs.declared.segment.Segment.{Segment}
 use Rattle.segment_format.specs.Rows.{rows_of}
-use Rattle.client_log.specs.declared.flight.Fate.TheVariants.{Settle}
+use Rattle.log_flight.specs.declared.flight.Fate.TheVariants.{Settle}
+use Rattle.log_flight.specs.Flights.{FlightState}
 use Rattle.client_log.specs.declared.output.Out.{Out}
 use Rattle.client_log.specs.declared.output.Out.TheVariants.{Settled}
-use Rattle.client_log.specs.LogState.{FlightState, LogState}
+use Rattle.client_log.specs.LogState.{LogState}
 use Rattle.client_log.specs.Looks.{flight_follows}
 use Rattle.client_log.specs.Transition.{Done, end_from, landed_at, if_full, followed, settled}
 use Rattle.client_log.proofs.log.Log.settle.Goals as goal

@@ -1,5 +1,0 @@
-use Rattle.client_log.proofs.ItemTexts.{BuildsItems}
-use Rattle.client_log.proofs.items.items_of.Given as goal
-
-abbrev pub invariant-loop-block : goal.invariant-loop-block
-invariant-loop-block l = BuildsItems l.items l.block-iterator l.initial.block-iterator

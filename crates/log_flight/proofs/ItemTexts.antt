@@ -1,0 +1,184 @@
+-- The items that are written of changes have a text, and so have those that pass the test.
+use Rattle.std.proofs.Common.{◌≡◌, ℕ, suc, ◌+◌, ◌*◌, ◌<◌, ◌≤◌, Bool, true, false, List, [], ◌∷◌, ◌++◌, length, Option, Some, None, refl, sym, ap, subst, ◌∙◌, arith, length-append, append_assoc}
+use Rattle.std.specs.Prelude.{◌==◌, ◌&&◌, nat_lt, nat_le}
+use Rattle.std.specs.List.{list_all, AllByRecursion}
+use Rattle.std.proofs.lemmas.Bool.{true≢false}
+use Rattle.std.proofs.lemmas.Bool.Decides.{nat_tests}
+use Rattle.xfs_base.specs.declared.block.BlockId.{BlockId}
+use Rattle.xfs_base.specs.declared.entry.Entry.{Entry}
+use Rattle.xfs_base.specs.declared.entry.Place.{Place}
+use Rattle.xfs_base.specs.Blocks.{same_block}
+use Rattle.xfs_base.specs.Limits.{segment_blocks}
+use Rattle.xfs_base.proofs.BlockOrder.{same_block_exact}
+use Rattle.segment_format.specs.declared.segment.Item.{Item}
+use Rattle.segment_format.specs.declared.segment.Item.TheVariants.{Block, Delta, Part}
+use Rattle.segment_format.specs.Format.{most_items, second_version, longest, is_within, IsWithin, is_row_count}
+use Rattle.segment_format.specs.Rule.{KeepsRule, no_item, deltas_in, others_in}
+use Rattle.segment_format.specs.Text.{IsItem, IsRow}
+use Rattle.log_flight.specs.declared.dirty.Change.{Change}
+use Rattle.log_flight.specs.Items.{change_items, items_of}
+use Rattle.log_flight.specs.Texts.{HasText, is_placed, is_item, keeps_rule, has_text}
+
+-- ---- items of changes
+
+-- the items so far and those of the changes to come are all; each may stand in a text; and there are few
+pub record BuildsItems (items : List Item) (rest all : List (BlockId × Change)) : Type 0 where
+  pub made : items ++ items_of (length items) rest ≡ items_of 0 all
+  pub each : AllByRecursion (IsItem second_version) items
+  pub few : length items + 2 * length rest ≤ 48
+
+all_append : (P : Item → Type 0) (xs ys : List Item) → AllByRecursion P xs → AllByRecursion P ys → AllByRecursion P (xs ++ ys)
+all_append P [] ys h k = k
+all_append P (x ∷ xs) ys h k = (h.0, all_append P xs ys h.1 k)
+
+two_at_most : (before : ℕ) (block : BlockId) (change : Change) → length (change_items before block change) ≤ 2
+two_at_most before block change =
+    elim change.value as (λ v. length (change_items before block (record { entry = change.entry; value = v })) ≤ 2)
+    [ None ↦ omega arith | Some bytes ↦ omega arith ]
+
+-- one change more
+pub builds_more : (items : List Item) (c : BlockId × Change) (rest all : List (BlockId × Change)) (more : List Item) → BuildsItems items (c ∷ rest) all
+    → more ≡ items ++ change_items (length items) c.0 c.1 → AllByRecursion (IsItem second_version) (change_items (length items) c.0 c.1)
+    → BuildsItems more rest all
+builds_more items c rest all more b e each =
+    let added : List Item = change_items (length items) c.0 c.1 in
+    let size : length more ≡ length items + length added = ap length e ∙ length-append items added in
+    record {
+      made = ap (λ m. m ++ items_of (length more) rest) e ∙ append_assoc items added (items_of (length more) rest)
+          ∙ ap (λ n. items ++ (added ++ items_of n rest)) size ∙ b.made;
+      each = subst (AllByRecursion (IsItem second_version)) (sym e) (all_append (IsItem second_version) items added b.each each);
+      few = omega (arith, two_at_most (length items) c.0 c.1, b.few);
+    }
+
+deltas : (n : ℕ) (cs : List (BlockId × Change)) → deltas_in (items_of n cs) ≡ length cs
+deltas n [] = refl
+deltas n (c ∷ cs) =
+    elim c.1.value as
+    (λ v. deltas_in
+    (change_items n c.0 (record { entry = c.1.entry; value = v }) ++ items_of (n + length (change_items n c.0 (record { entry = c.1.entry; value = v }))) cs)
+    ≡ suc (length cs)) [
+      | None ↦ omega (arith, deltas (n + 1) cs)
+      | Some bytes ↦ omega (arith, deltas (n + 2) cs)
+    ]
+
+others : (n : ℕ) (cs : List (BlockId × Change)) → others_in (items_of n cs) ≤ length cs
+others n [] = omega arith
+others n (c ∷ cs) =
+    elim c.1.value as
+    (λ v. others_in
+    (change_items n c.0 (record { entry = c.1.entry; value = v }) ++ items_of (n + length (change_items n c.0 (record { entry = c.1.entry; value = v }))) cs)
+    ≤ suc (length cs)) [
+      | None ↦ omega (arith, others (n + 1) cs)
+      | Some bytes ↦ omega (arith, others (n + 2) cs)
+    ]
+
+keeps : (n : ℕ) (cs : List (BlockId × Change)) → KeepsRule None n (items_of n cs)
+keeps n [] = tt
+keeps n (c ∷ cs) =
+    elim c.1.value as
+    (λ v. KeepsRule None n
+    (change_items n c.0 (record { entry = c.1.entry; value = v }) ++ items_of (n + length (change_items n c.0 (record { entry = c.1.entry; value = v }))) cs)) [
+      | None ↦ (refl, keeps (n + 1) cs)
+      | Some bytes ↦ let e : n + 2 ≡ (n + 1) + 1 = omega arith in (refl, refl, subst (λ m. KeepsRule None m (items_of (n + 2) cs)) e (keeps (n + 2) cs))
+    ]
+
+pub written_have_text : (items : List Item) (cs : List (BlockId × Change)) → length cs ≤ segment_blocks → items ≡ items_of 0 cs
+    → AllByRecursion (IsItem second_version) items → HasText items
+written_have_text items cs few e each =
+    subst HasText (sym e) (record {
+      each = subst (AllByRecursion (IsItem second_version)) e each;
+      others = omega (arith, others 0 cs);
+      deltas = omega (arith, deltas 0 cs);
+      rule = keeps 0 cs;
+    })
+
+-- ---- the test
+
+both_left : (a b : Bool) → (a && b) ≡ true → a ≡ true
+both_left true b h = refl
+both_left false b h = h
+
+both_right : (a b : Bool) → (a && b) ≡ true → b ≡ true
+both_right true b h = h
+both_right false b h = absurd (true≢false (sym h))
+
+false_is_not : {A : Type 0} → false ≡ true → A
+false_is_not h = absurd (true≢false (sym h))
+
+le_of : (m n : ℕ) → nat_le m n ≡ true → m ≤ n
+le_of m n h = grind (arith, nat_tests)
+
+lt_of : (m n : ℕ) → nat_lt m n ≡ true → m < n
+lt_of m n h = grind (arith, nat_tests)
+
+eq_of : (m n : ℕ) → (m == n) ≡ true → m ≡ n
+eq_of m n h = grind (arith, nat_tests)
+
+before_of : (m n : ℕ) → ((m + 1) == (n + 1)) ≡ true → m ≡ n
+before_of m n h = grind (arith, nat_tests)
+
+within_of : (lo hi n : ℕ) → is_within lo hi n ≡ true → IsWithin lo hi n
+within_of lo hi n h = (le_of lo n (both_left (nat_le lo n) (nat_le n hi) h), le_of n hi (both_right (nat_le lo n) (nat_le n hi) h))
+
+placed : (p : Option Place) (block : BlockId) (ver hop : ℕ) → is_placed p ≡ true → IsRow (block, record { ver = ver; hop = hop; place = p })
+placed None block ver hop h = tt
+placed (Some p) block ver hop h = within_of 1 13 p.seg.name.log.0 h
+
+all_placed : (rows : List (BlockId × Entry)) → list_all (λ r. is_placed r.1.place) rows ≡ true → AllByRecursion IsRow rows
+all_placed [] h = tt
+all_placed (r ∷ rs) h = (
+  placed r.1.place r.0 r.1.ver r.1.hop (both_left (is_placed r.1.place) (list_all (λ r. is_placed r.1.place) rs) h),
+  all_placed rs (both_right (is_placed r.1.place) (list_all (λ r. is_placed r.1.place) rs) h),
+)
+
+item_of_test : (i : Item) → is_item i ≡ true → IsItem second_version i
+item_of_test (Block block None) h = false_is_not h
+item_of_test (Block block (Some bytes)) h = within_of 1 (longest second_version) (length bytes) h
+item_of_test (Delta block ver hop item) h = tt
+item_of_test (Part slot rows) h =
+    let rest : (is_row_count (length rows) && list_all (λ r. is_placed r.1.place) rows) ≡ true =
+    both_right (nat_lt slot 8) (is_row_count (length rows) && list_all (λ r. is_placed r.1.place) rows) h in (
+      lt_of slot 8 (both_left (nat_lt slot 8) (is_row_count (length rows) && list_all (λ r. is_placed r.1.place) rows) h),
+      within_of 1 128 (length rows) (both_left (is_row_count (length rows)) (list_all (λ r. is_placed r.1.place) rows) rest),
+      all_placed rows (both_right (is_row_count (length rows)) (list_all (λ r. is_placed r.1.place) rows) rest),
+    )
+
+all_items : (is : List Item) → list_all is_item is ≡ true → AllByRecursion (IsItem second_version) is
+all_items [] h = tt
+all_items (i ∷ is) h = (item_of_test i (both_left (is_item i) (list_all is_item is) h), all_items is (both_right (is_item i) (list_all is_item is) h))
+
+-- of the items from a number on, where no Delta is awaited, and where that of the item before is
+rules : (is : List Item)
+    → ((n : ℕ) → keeps_rule None n is ≡ true → KeepsRule None n is)
+    × ((block : BlockId) (n : ℕ) → keeps_rule (Some block) (n + 1) is ≡ true → KeepsRule (Some (record { block = block; item = n })) (n + 1) is)
+rules [] = (λ n h. tt, λ block n h. false_is_not h)
+rules (Block b value ∷ is) = (λ n h. (rules is).1 b n h, λ block n h. false_is_not h)
+rules (Delta b ver hop item ∷ is) = (
+  λ n h. (
+    eq_of item no_item (both_left (item == no_item) (keeps_rule None (n + 1) is) h),
+    (rules is).0 (n + 1) (both_right (item == no_item) (keeps_rule None (n + 1) is) h),
+  ),
+  λ block n h.
+      let here : (same_block b block && ((item + 1) == (n + 1))) ≡ true =
+      both_left (same_block b block && ((item + 1) == (n + 1))) (keeps_rule None ((n + 1) + 1) is) h in (
+        sym (same_block_exact b block (both_left (same_block b block) ((item + 1) == (n + 1)) here)),
+        before_of item n (both_right (same_block b block) ((item + 1) == (n + 1)) here),
+        (rules is).0 ((n + 1) + 1) (both_right (same_block b block && ((item + 1) == (n + 1))) (keeps_rule None ((n + 1) + 1) is) h),
+      ),
+)
+rules (Part slot rows ∷ is) = (λ n h. (rules is).0 (n + 1) h, λ block n h. false_is_not h)
+
+pub tested_have_text : (is : List Item) → has_text is ≡ true → HasText is
+tested_have_text is h =
+    let all : Bool = list_all is_item is in
+    let others : Bool = nat_le (others_in is) most_items in
+    let deltas : Bool = nat_le (deltas_in is) most_items in
+    let rule : Bool = keeps_rule None 0 is in
+    let rest : (others && (deltas && rule)) ≡ true = both_right all (others && (deltas && rule)) h in
+    let few : (deltas && rule) ≡ true = both_right others (deltas && rule) rest in
+    record {
+      each = all_items is (both_left all (others && (deltas && rule)) h);
+      others = le_of (others_in is) most_items (both_left others (deltas && rule) rest);
+      deltas = le_of (deltas_in is) most_items (both_left deltas rule few);
+      rule = (rules is).0 0 (both_right deltas rule few);
+    }

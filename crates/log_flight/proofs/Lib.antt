@@ -1,0 +1,3 @@
+pub mod FragmentLists
+pub mod ItemTexts
+pub mod Lengths
