@@ -1,5 +1,5 @@
 //! A text cut into the fragments of a stripe.
-ghost use Rattle.std.specs.Prelude.{◌≡◌, ◌≤◌, ◌<◌, IfOk, All, length, take, drop};
+ghost use Rattle.std.specs.Prelude.{◌≡◌, ◌≤◌, ◌<◌, [], ◌∷◌, ◌++◌, IfOk, All, length, take, drop};
 ghost use Rattle.parity_kernel.specs.Bytewise.{xor_of, times};
 ghost use Rattle.stripe_code.specs.Stripe.{IsCut, part_of, padded, pieces, plain, weighted, sum_onto, zeros, parities, stripe_of};
 
@@ -17,16 +17,41 @@ pub fn cut(alloc: Global, segment: &[u8], n: usize, parity: u8) -> Mem<List<List
 {
     let count = n - usize::from(parity);
     let part = part_len(segment.len(), count);
-    let mut stripe = cut_pieces(alloc, segment, count, part)?;
-    let first = plain_sum(alloc, part, stripe.as_slice())?;
+    let stripe = cut_pieces(alloc, segment, count, part)?;
     if parity == 2 {
-        let second = weighted_sum(alloc, part, stripe.as_slice())?;
-        stripe.push(first)?;
-        stripe.push(second)?;
+        with_both(alloc, part, stripe)
     } else {
-        stripe.push(first)?;
+        with_plain(alloc, part, stripe)
     }
-    Ok(stripe)
+}
+
+/// Pieces, then the exclusive or of them.
+fn with_plain(alloc: Global, part: usize, stripe: List<List<u8>>) -> Mem<List<List<u8>>>
+    requires { All (λ f. length f ≡ part) stripe }
+    ensures { IfOk result (λ whole. whole ≡ stripe ++ sum_onto plain 0 (zeros part) stripe ∷ []) }
+{
+    let first = plain_sum(alloc, part, stripe.as_slice())?;
+    extended(stripe, first)
+}
+
+/// Pieces, then both their parity fragments.
+fn with_both(alloc: Global, part: usize, stripe: List<List<u8>>) -> Mem<List<List<u8>>>
+    requires few { length stripe ≤ 8 }
+    requires alike { All (λ f. length f ≡ part) stripe }
+    ensures { IfOk result (λ whole. whole ≡ stripe ++ sum_onto plain 0 (zeros part) stripe ∷ sum_onto weighted 0 (zeros part) stripe ∷ []) }
+{
+    let second = weighted_sum(alloc, part, stripe.as_slice())?;
+    let stripe = with_plain(alloc, part, stripe)?;
+    extended(stripe, second)
+}
+
+/// Fragments with one more behind them.
+pub(crate) fn extended(fragments: List<List<u8>>, fragment: List<u8>) -> Mem<List<List<u8>>>
+    ensures { IfOk result (λ more. more ≡ fragments ++ fragment ∷ []) }
+{
+    let mut fragments = fragments;
+    fragments.push(fragment)?;
+    Ok(fragments)
 }
 
 /// How long each fragment is of a text of `len` bytes that is cut into so many pieces.

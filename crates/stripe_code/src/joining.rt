@@ -1,12 +1,13 @@
 //! The text of a stripe, from those of its fragments that are there.
-ghost use Rattle.std.specs.Prelude.{◌≡◌, ◌⊎◌, ◌-◌, ◌≤◌, ◌<◌, ℕ, List as Seq, [], ◌∷◌, ◌++◌, Some, None, IfOk, IfErr, OnOk, IfSome, length, take};
+ghost use Rattle.std.specs.Prelude.{◌≡◌, ◌⊎◌, ◌-◌, ◌^◌, ◌≤◌, ◌<◌, ℕ, List as Seq, [], ◌∷◌, ◌++◌, Some, None, IfOk, IfErr, OnOk, IfSome, length, take};
 ghost use Rattle.std.specs.List.{concat};
 ghost use Rattle.parity_kernel.specs.Bytewise.{times};
+ghost use Rattle.parity_kernel.specs.Field.{inverse_of};
 ghost use Rattle.stripe_code.specs.declared.joining.JoinError.TheVariants.{Memory};
-ghost use Rattle.stripe_code.specs.Joined.{HasLengths, AreOf, AreRising, missing_from, excess, part_at, rest_onto, one_gone, lower_of, both_of, two_gone, recovered_at, filled, joined};
+ghost use Rattle.stripe_code.specs.Joined.{HasLengths, AreOf, AreRising, missing_from, excess, part_at, rest_onto, one_gone, lower_of, both_of, two_gone, recovered_at, recovered, filled, joined};
 ghost use Rattle.stripe_code.specs.Stripe.{IsCut, IsBytes, part_of, plain, weighted, stripe_of};
 
-use crate::cutting::{added, part_len, xored, zeros_of};
+use crate::cutting::{added, extended, part_len, xored, zeros_of};
 use parity_kernel::inverse;
 use std::alloc::{AllocError, Global};
 use thiserror::Error;
@@ -71,12 +72,26 @@ fn join_enough(alloc: Global, parts: &[Option<List<u8>>], parity: u8, len: usize
 {
     let count = parts.len() - usize::from(parity);
     let part = part_len(len, count);
+    let found = recovered(alloc, parts, count, part)?;
+    fill(alloc, &parts[..count], found.as_slice(), len)
+}
+
+/// The pieces that are missing, of so many, in order.
+fn recovered(
+    alloc: Global,
+    parts: &[Option<List<u8>>],
+    count: usize,
+    part: usize,
+) -> Mem<List<List<u8>>>
+    requires few { count ≤ 8 }
+    requires within { count ≤ length parts.now }
+    requires lengths { HasLengths part parts.now }
+    ensures { IfOk result (λ found. found ≡ recovered parts.now count) }
+{
     let none = None;
     let first = part_or(parts, count, &none);
     let second = part_or(parts, count + 1, &none);
-    let known = &parts[..count];
-    let found = recover(alloc, known, first, second, part)?;
-    fill(alloc, known, found.as_slice(), len)
+    recover(alloc, &parts[..count], first, second, part)
 }
 
 /// The places at which nothing is.
@@ -96,13 +111,33 @@ fn missing(alloc: Global, parts: &[Option<List<u8>>]) -> Mem<List<usize>>
 fn too_many(gone: &[usize], parity: u8) -> Option<JoinError>
     ensures { result ≡ excess parity gone.now }
 {
-    let (a, rest) = gone.split_first()?;
-    let (b, rest) = rest.split_first()?;
-    if parity == 1 {
-        return Some(JoinError::TwoGone(*a, *b));
+    match gone.split_first() {
+        Some((a, rest)) => too_many_behind(*a, rest, parity),
+        None => None,
     }
-    let (c, _) = rest.split_first()?;
-    Some(JoinError::ThreeGone(*a, *b, *c))
+}
+
+/// The same, where one is gone and these behind it.
+fn too_many_behind(a: usize, rest: &[usize], parity: u8) -> Option<JoinError>
+    ensures { result ≡ excess parity (a ∷ rest.now) }
+{
+    match rest.split_first() {
+        Some((b, rest)) => too_many_of(a, *b, rest, parity),
+        None => None,
+    }
+}
+
+/// The same, where two are gone and these behind them.
+fn too_many_of(a: usize, b: usize, rest: &[usize], parity: u8) -> Option<JoinError>
+    ensures { result ≡ excess parity (a ∷ b ∷ rest.now) }
+{
+    if parity == 1 {
+        return Some(JoinError::TwoGone(a, b));
+    }
+    match rest.split_first() {
+        Some((c, _)) => Some(JoinError::ThreeGone(a, b, *c)),
+        None => None,
+    }
 }
 
 /// The part at a place, or past the end of the list nothing.
@@ -154,18 +189,42 @@ fn recover_at(
     requires second { IfSome second.now (λ f. length f ≡ part) }
     ensures { IfOk result (λ found. found ≡ recovered_at gone.now known.now first.now second.now) }
 {
-    let Some((a, rest)) = gone.split_first() else {
-        return Ok(List::new(alloc));
-    };
-    let Some((b, rest)) = rest.split_first() else {
-        let mut found = List::new(alloc);
-        found.push(recover_one(alloc, known, *a, first, second, part)?)?;
-        return Ok(found);
-    };
-    if !rest.is_empty() {
-        return Ok(List::new(alloc));
+    match gone.split_first() {
+        Some((a, rest)) => recover_behind(alloc, *a, rest, known, first, second, part),
+        None => Ok(List::new(alloc)),
     }
-    recover_two(alloc, known, *a, *b, first, second, part)
+}
+
+/// The pieces at a place and at these behind it.
+fn recover_behind(
+    alloc: Global,
+    a: usize,
+    rest: &[usize],
+    known: &[Option<List<u8>>],
+    first: &Option<List<u8>>,
+    second: &Option<List<u8>>,
+    part: usize,
+) -> Mem<List<List<u8>>>
+    requires gone { AreRising 0 8 (a ∷ rest.now) }
+    requires few { length known.now ≤ 8 }
+    requires known { HasLengths part known.now }
+    requires first { IfSome first.now (λ f. length f ≡ part) }
+    requires second { IfSome second.now (λ f. length f ≡ part) }
+    ensures { IfOk result (λ found. found ≡ recovered_at (a ∷ rest.now) known.now first.now second.now) }
+{
+    match rest.split_first() {
+        Some((b, more)) => {
+            if more.is_empty() {
+                recover_two(alloc, known, a, *b, first, second, part)
+            } else {
+                Ok(List::new(alloc))
+            }
+        }
+        None => {
+            let piece = recover_one(alloc, known, a, first, second, part)?;
+            extended(List::new(alloc), piece)
+        }
+    }
 }
 
 /// The piece that alone is missing: from the first parity fragment, or else from the second.
@@ -187,13 +246,28 @@ fn recover_one(
     match first {
         Some(first) => plain_rest(alloc, first, known, part),
         None => match second {
-            Some(second) => {
-                let rest = weighted_rest(alloc, second, known, part)?;
-                multiple(alloc, part, inverse(1 << a), rest.as_slice())
-            }
+            Some(second) => recover_by_second(alloc, known, a, second, part),
             None => Ok(List::new(alloc)),
         },
     }
+}
+
+/// The same, from the second.
+fn recover_by_second(
+    alloc: Global,
+    known: &[Option<List<u8>>],
+    a: usize,
+    second: &List<u8>,
+    part: usize,
+) -> Mem<List<u8>>
+    requires place { a < 8 }
+    requires few { length known.now ≤ 8 }
+    requires known { HasLengths part known.now }
+    requires second { length second.now ≡ part }
+    ensures { IfOk result (λ found. found ≡ times (inverse_of (2 ^ a)) (rest_onto weighted 0 second.now known.now)) }
+{
+    let rest = weighted_rest(alloc, second, known, part)?;
+    multiple(alloc, part, inverse(1 << a), rest.as_slice())
 }
 
 /// The two pieces that are missing, from both parity fragments.
@@ -248,10 +322,8 @@ fn both_of(
 fn pair_of(alloc: Global, first: List<u8>, second: List<u8>) -> Mem<List<List<u8>>>
     ensures { IfOk result (λ pair. pair ≡ first ∷ second ∷ []) }
 {
-    let mut pair = List::new(alloc);
-    pair.push(first)?;
-    pair.push(second)?;
-    Ok(pair)
+    let one = extended(List::new(alloc), first)?;
+    extended(one, second)
 }
 
 /// Of the two pieces that are missing the lower, from what they add to both parity fragments.
