@@ -1,5 +1,5 @@
 pub mod Counting
-mod Pairs
+pub mod Pairs
 mod Shelves
 pub mod Growing
 mod Asking
@@ -7,7 +7,7 @@ pub mod Events
 pub mod Interval
 mod Torn
 pub mod Kept
-mod Answering
+pub mod Answering
 pub mod Readings
 pub mod Inputs
 mod Disks

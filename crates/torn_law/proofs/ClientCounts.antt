@@ -124,53 +124,63 @@ module _ (base : Setting) (e : Estate AnyNode) (lines : HasLines base e) (c : �
         at_clock t.clock (IsFrom (node_of event)) (IsFrom (node_of event)) (λ q h. h) (any_step t.node (what_of event)).packets
         (sends_as base e lines count (node_of event) t.place t.node (what_of event) placed stood) p late
 
+    stands_there : (names.Client c ≡ node_of event → ⊥) → Here (suc count) ≡ Here count
+    stands_there differs =
+        ap (λ ns. node_in ns (place_of k_of (names.Client c))) t.nodes_are
+        ∙ there k_of (moment e count).nodes (node_of event) t.place placed (any_step t.node (what_of event)).node (names.Client c) differs
+
     other_turn : (names.Client c ≡ node_of event → ⊥) → Good (suc count)
     other_turn differs =
-        aside count (map (sent_at t.clock) (any_step t.node (what_of event)).packets) t.sent_are
-        (ap (λ ns. node_in ns (place_of k_of (names.Client c))) t.nodes_are
-        ∙ there k_of (moment e count).nodes (node_of event) t.place placed (any_step t.node (what_of event)).node (names.Client c) differs)
+        aside count (map (sent_at t.clock) (any_step t.node (what_of event)).packets) t.sent_are (stands_there differs)
         (λ p late from. differs (sym from ∙ its_own p late)) good
 
-    own_turn : names.Client c ≡ node_of event → Good (suc count)
-    own_turn same = record {
-      serves = subst NodeUp (sym now) d.serves;
-      fetches = λ p m among from asks.
-          ⊎_elim (λ old. before p m old from asks) (λ late. fresh p m late asks)
-          (in_append (Sent count) (map (sent_at t.clock) (any_step t.node (what_of event)).packets) p (subst (In p) t.sent_are among));
-    }
-      where
-        was : Here count ≡ Some t.node
-        was = subst (λ n. node_in (moment e count).nodes (place_of k_of n) ≡ Some t.node) (sym same) stood
+    module _ (same : names.Client c ≡ node_of event) where
+      was : Here count ≡ Some t.node
+      was = subst (λ n. node_in (moment e count).nodes (place_of k_of n) ≡ Some t.node) (sym same) stood
 
-        now : Here (suc count) ≡ Some (any_step t.node (what_of event)).node
-        now =
-            ap (λ ns. node_in ns (place_of k_of (names.Client c))) t.nodes_are
-            ∙ subst (λ n. node_in (slice_set (moment e count).nodes t.place (any_step t.node (what_of event)).node) (place_of k_of n)
-            ≡ Some (any_step t.node (what_of event)).node) (sym same)
-            (here k_of (moment e count).nodes (node_of event) t.place placed (any_step t.node (what_of event)).node t.node t.is)
+      now : Here (suc count) ≡ Some (any_step t.node (what_of event)).node
+      now =
+          ap (λ ns. node_in ns (place_of k_of (names.Client c))) t.nodes_are
+          ∙ subst (λ n. node_in (slice_set (moment e count).nodes t.place (any_step t.node (what_of event)).node) (place_of k_of n)
+          ≡ Some (any_step t.node (what_of event)).node) (sym same)
+          (here k_of (moment e count).nodes (node_of event) t.place placed (any_step t.node (what_of event)).node t.node t.is)
 
-        d : Drew (setting base e (OfClient c)) ((lines (OfClient c) is_there).at count) c t.node (what_of event)
-        d =
-            drew (setting base e (OfClient c)) ((lines (OfClient c) is_there).at count) c t.node (what_of event)
-            (((lines (OfClient c) is_there).stands count).seen (names.Client c) t.node was) (subst NodeUp was good.serves)
+      d : Drew (setting base e (OfClient c)) ((lines (OfClient c) is_there).at count) c t.node (what_of event)
+      d =
+          drew (setting base e (OfClient c)) ((lines (OfClient c) is_there).at count) c t.node (what_of event)
+          (((lines (OfClient c) is_there).stands count).seen (names.Client c) t.node was) (subst NodeUp was good.serves)
 
-        before : (p : Packet) (m : Fetch) → In p (Sent count) → p.from ≡ names.Client c → p.body ≡ body.Fetch m → m.ask ≤ last_of (Here (suc count))
-        before p m old from asks =
-            let a = subst (λ o. m.ask ≤ last_of o) was (good.fetches p m old from asks) in
-            let b = d.up in
-            subst (λ o. m.ask ≤ last_of o) (sym now) (omega arith)
+      own_up : last_of (Here count) ≤ last_of (Here (suc count))
+      own_up =
+          let a = d.up in
+          subst (λ o. last_of (Here count) ≤ last_of o) (sym now)
+          (subst (λ o. last_of o ≤ last_of (Some (any_step t.node (what_of event)).node)) (sym was) (omega arith))
 
-        AsksSo : Packet → Type 0
-        AsksSo p = BodyUpTo (last_of (Some (any_step t.node (what_of event)).node)) p.body
+      own_turn : Good (suc count)
+      own_turn = record {
+        serves = subst NodeUp (sym now) d.serves;
+        fetches = λ p m among from asks.
+            ⊎_elim (λ old. before p m old from asks) (λ late. fresh p m late asks)
+            (in_append (Sent count) (map (sent_at t.clock) (any_step t.node (what_of event)).packets) p (subst (In p) t.sent_are among));
+      }
+        where
+          before : (p : Packet) (m : Fetch) → In p (Sent count) → p.from ≡ names.Client c → p.body ≡ body.Fetch m → m.ask ≤ last_of (Here (suc count))
+          before p m old from asks =
+              let a = subst (λ o. m.ask ≤ last_of o) was (good.fetches p m old from asks) in
+              let b = d.up in
+              subst (λ o. m.ask ≤ last_of o) (sym now) (omega arith)
 
-        fresh : (p : Packet) (m : Fetch) → In p (map (sent_at t.clock) (any_step t.node (what_of event)).packets) → p.body ≡ body.Fetch m
-            → m.ask ≤ last_of (Here (suc count))
-        fresh p m late asks =
-            let said = at_clock t.clock
-            (λ (q : Packet). BodyUpTo (last_of (Some (any_step t.node (what_of event)).node)) q.body)
-            (λ (q : Packet). BodyUpTo (last_of (Some (any_step t.node (what_of event)).node)) q.body) (λ q h. h)
-            (any_step t.node (what_of event)).packets d.does p late in
-            subst (λ o. m.ask ≤ last_of o) (sym now) (subst (BodyUpTo (last_of (Some (any_step t.node (what_of event)).node))) asks said)
+          AsksSo : Packet → Type 0
+          AsksSo p = BodyUpTo (last_of (Some (any_step t.node (what_of event)).node)) p.body
+
+          fresh : (p : Packet) (m : Fetch) → In p (map (sent_at t.clock) (any_step t.node (what_of event)).packets) → p.body ≡ body.Fetch m
+              → m.ask ≤ last_of (Here (suc count))
+          fresh p m late asks =
+              let said = at_clock t.clock
+              (λ (q : Packet). BodyUpTo (last_of (Some (any_step t.node (what_of event)).node)) q.body)
+              (λ (q : Packet). BodyUpTo (last_of (Some (any_step t.node (what_of event)).node)) q.body) (λ q h. h)
+              (any_step t.node (what_of event)).packets d.does p late in
+              subst (λ o. m.ask ≤ last_of o) (sym now) (subst (BodyUpTo (last_of (Some (any_step t.node (what_of event)).node))) asks said)
 
   became : (count : ℕ) (event : Event) → slice_get e.events count ≡ Some event
       → Still (moment e count) (moment e (suc count)).nodes (moment e (suc count)).sent (moment e (suc count)).acts
@@ -214,3 +224,24 @@ module _ (base : Setting) (e : Estate AnyNode) (lines : HasLines base e) (c : �
       let named : node_named (moment e count) (names.Client c) ≡ Here count =
       ap (λ k. node_in (moment e count).nodes (place_of k (names.Client c))) (cluster_at e count) in
       subst (λ o. m.ask ≤ last_of o) (sym named) ((all_good count).fetches p m among from asks)
+
+  still_up : (count : ℕ) → Here (suc count) ≡ Here count → last_of (Here count) ≤ last_of (Here (suc count))
+  still_up count same = subst (λ o. last_of (Here count) ≤ last_of o) (sym same) (omega arith)
+
+  -- the number of its last question never falls
+  pub last_rises : (count : ℕ) → last_of (node_named (moment e count) (names.Client c)) ≤ last_of (node_named (moment e (suc count)) (names.Client c))
+  last_rises count =
+      subst (λ k. last_of (node_in (moment e count).nodes (place_of k (names.Client c))) ≤ last_of (node_named (moment e (suc count)) (names.Client c)))
+      (sym (cluster_at e count))
+      (subst (λ k. last_of (Here count) ≤ last_of (node_in (moment e (suc count)).nodes (place_of k (names.Client c)))) (sym (cluster_at e (suc count)))
+      (by (slice_get e.events count) refl))
+    where
+      same_nodes : (moment e (suc count)).nodes ≡ (moment e count).nodes → last_of (Here count) ≤ last_of (Here (suc count))
+      same_nodes nodes = still_up count (ap (λ ns. node_in ns (place_of k_of (names.Client c))) nodes)
+
+      by : (o : Option Event) → slice_get e.events count ≡ o → last_of (Here count) ≤ last_of (Here (suc count))
+      by None is = same_nodes (ap (λ (v : World AnyNode). v.nodes) (moment_ended e count is))
+      by (Some event) is =
+          ⊎_elim (λ still. same_nodes still.nodes_are)
+          (λ t. ⊎_elim (own_up count (all_good count) event t) (λ differs. still_up count (stands_there count (all_good count) event t differs))
+          (same_or_other (names.Client c) (node_of event))) (became count event is)

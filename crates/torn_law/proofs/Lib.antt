@@ -1,6 +1,6 @@
-mod Drawn
+pub mod Drawn
 mod OneOpening
-mod ServerMisses
+pub mod ServerMisses
 mod ScanAsks
 mod OpeningTurns
 mod Numbers
@@ -9,18 +9,18 @@ mod ClientScans
 mod CleanerScans
 mod Coming
 mod Truths
-mod Counts
+pub mod Counts
 mod Owners
-mod Senders
-mod Events
-mod Turns
+pub mod Senders
+pub mod Events
+pub mod Turns
 mod Always
 mod Torn
 mod ClientFetches
 mod ClientNumbers
 mod OpeningNumbers
 mod ClientDraws
-mod ClientCounts
+pub mod ClientCounts
 mod CleanerNumbers
 mod CleanerDraws
 mod CleanerCounts
