@@ -1,0 +1,13 @@
+mod Wants
+mod Quiet
+mod Working
+mod Turning
+mod Granting
+mod Packets
+mod Phases
+mod Openings
+mod Maps
+mod Asked
+mod Truths
+mod Counts
+mod Fetchings

@@ -1,0 +1,33 @@
+//! What a client says is lost while it reads a block for its open call was torn, in every run of the nodes' world. It has no code of the product: the function
+//! below calls the laws that it stands on, and its contract is a law. `specs/Fetchings.antt` says it in words of the nodes.
+#![tactic(auto)]
+
+ghost use Rattle.fetching_law.specs.Fetchings.{FetchesLossesEarned};
+
+use group_map::laws::groups_stay_as_made;
+use log_tie::settings_exist;
+use missing_law::answers_tell_of_misses;
+use node_tie::{
+    client_events_are_seen, clients_ask_for_their_call, manager_events_are_seen,
+    other_events_are_seen,
+};
+use world_logs::runs_keep_logs;
+
+/// Whatever messages are lost, repeated or reordered, however disks are lost and rebuilt, and whichever nodes stop and start again: where a client that
+/// serves says that a segment is lost, either a manager told it so, which couldn't serve the block of its open want, in the epoch that it has promised; or
+/// its open call reads the segment, and a manager confirmed that the block lies there. Then there were two moments since which the call of the same item has
+/// read the segment, the first no later than the second, such that at the first more members of the segment's group than its parity makes good lacked their
+/// fragments, where no server had been told at the second to delete it; and what the manager sent to confirm the place was sent after the second (the 1996
+/// paper, on RAID). So it is in every run of a script of whose setup a run can be started.
+pub fn fetches_lose_what_is_torn()
+    ensures earned { FetchesLossesEarned }
+{
+    settings_exist();
+    runs_keep_logs();
+    answers_tell_of_misses();
+    groups_stay_as_made();
+    clients_ask_for_their_call();
+    client_events_are_seen();
+    manager_events_are_seen();
+    other_events_are_seen();
+}
