@@ -1,0 +1,8 @@
+mod Alone
+mod Slots
+mod Breaking
+mod Serving
+mod Events
+mod Counts
+mod Told
+mod Laws
