@@ -1,0 +1,13 @@
+pub mod Saying
+pub mod SlotSays
+pub mod Granted
+pub mod SlotGrants
+pub mod ManagerGrants
+pub mod Unlogged
+pub mod Onward
+pub mod Sending
+pub mod Blocks
+pub mod Staying
+pub mod Granting
+pub mod Holding
+pub mod Standing
