@@ -1,6 +1,8 @@
 //! The top call.
 ghost use Rattle.std.specs.Prelude.{◌≡◌, false, IfSome, map, string_bytes};
 ghost use Rattle.core_world.specs.AnyNode.{any_step, any_start};
+ghost use Rattle.lost_law.specs.Reads.{ReadLossesEarned};
+ghost use Rattle.taking_law.specs.Takings.{TakeoverLossesEarned};
 ghost use Rattle.top_call.specs.Claim.{writing, reading, Claim};
 ghost use Rattle.top_call.specs.Commands.{command_of, reads};
 ghost use Rattle.torn_law.specs.Torn.{ReopeningLossesEarned};
@@ -12,9 +14,11 @@ ghost use Rattle.world_logs.specs.Logs.{CleanersLogStands, LogsStand, ManagersLo
 ghost use Rattle.world_reads.specs.Legal.{LegalActs, LegalWithoutLosses};
 
 use core_world::AnyNode;
+use lost_law::reads_lose_what_is_torn;
 use std::alloc::Global;
 use std::sync::Wait;
 use std::thread::Threads;
+use taking_law::takeovers_lose_what_is_torn;
 use top_call::{Outcome, Sink, Source, answer};
 use torn_law::reopenings_lose_what_is_torn;
 use world_law::{every_run_has_one_manager, every_run_has_one_owner, what_fell_is_held_by_nobody};
@@ -34,7 +38,10 @@ use xfs_base::Gate;
 /// version of its block, and no fall went below a version that was synced or read elsewhere (`legal_acts`); in a run of
 /// a script that has no server lose its disk so it was throughout (`legal_without_losses`). What a
 /// client, or the cleaner, said was lost while it opened its log was torn at a moment since it began to
-/// (`reopening_losses_earned`).
+/// (`reopening_losses_earned`). What a manager said was lost while it took a slot over was torn while it read it, or
+/// had been deleted (`takeover_losses_earned`). And until a restart ended that was doubtful, what a client said was lost
+/// for its open call was torn while the call read it, or a manager told it so that had said so while it took the slot
+/// over (`read_losses_earned`).
 pub fn solo<S: Source, K: Sink>(
     alloc: Global,
     words: &[String],
@@ -54,6 +61,8 @@ pub fn solo<S: Source, K: Sink>(
     ensures legal_acts { IfSome result.estate LegalActs }
     ensures legal_without_losses { IfSome result.estate LegalWithoutLosses }
     ensures reopening_losses_earned { IfSome result.estate ReopeningLossesEarned }
+    ensures takeover_losses_earned { IfSome result.estate TakeoverLossesEarned }
+    ensures read_losses_earned { IfSome result.estate ReadLossesEarned }
 {
     every_run_has_one_owner();
     every_run_has_one_manager();
@@ -61,6 +70,8 @@ pub fn solo<S: Source, K: Sink>(
     runs_keep_logs();
     every_runs_acts_are_legal();
     reopenings_lose_what_is_torn();
+    takeovers_lose_what_is_torn();
+    reads_lose_what_is_torn();
     answer(alloc, words, source, sink)
 }
 
@@ -87,6 +98,8 @@ pub fn xfs<R: Threads + Wait + Sync, S: Source, K: Sink, G: Gate>(
     ensures legal_acts { IfSome result.estate LegalActs }
     ensures legal_without_losses { IfSome result.estate LegalWithoutLosses }
     ensures reopening_losses_earned { IfSome result.estate ReopeningLossesEarned }
+    ensures takeover_losses_earned { IfSome result.estate TakeoverLossesEarned }
+    ensures read_losses_earned { IfSome result.estate ReadLossesEarned }
 {
     solo(alloc, words, source, sink)
 }

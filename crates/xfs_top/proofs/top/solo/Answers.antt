@@ -1,3 +1,5 @@
+use Rattle.lost_law.specs.Reads.{ReadLossesEarned}
+use Rattle.taking_law.specs.Takings.{TakeoverLossesEarned}
 use Rattle.torn_law.specs.Torn.{ReopeningLossesEarned}
 use Rattle.world_law.specs.Fallen.{FallsApartThroughout, NobodyHoldsThroughout}
 use Rattle.world_law.specs.Managers.{OneManagerThroughout}
@@ -50,3 +52,10 @@ returns-clause-legal_without_losses g c =
 pub returns-clause-reopening_losses_earned : goal.returns-clause-reopening_losses_earned
 returns-clause-reopening_losses_earned g c =
     played_has ReopeningLossesEarned c.reopenings_lose_what_is_torn.ensures.torn c.answer.result.estate c.answer.ensures.claim.run
+
+pub returns-clause-takeover_losses_earned : goal.returns-clause-takeover_losses_earned
+returns-clause-takeover_losses_earned g c =
+    played_has TakeoverLossesEarned c.takeovers_lose_what_is_torn.ensures.torn c.answer.result.estate c.answer.ensures.claim.run
+
+pub returns-clause-read_losses_earned : goal.returns-clause-read_losses_earned
+returns-clause-read_losses_earned g c = played_has ReadLossesEarned c.reads_lose_what_is_torn.ensures.earned c.answer.result.estate c.answer.ensures.claim.run

@@ -38,3 +38,9 @@ returns-clause-legal_without_losses g c = c.solo.ensures.legal_without_losses
 
 pub returns-clause-reopening_losses_earned : goal.returns-clause-reopening_losses_earned
 returns-clause-reopening_losses_earned g c = c.solo.ensures.reopening_losses_earned
+
+pub returns-clause-takeover_losses_earned : goal.returns-clause-takeover_losses_earned
+returns-clause-takeover_losses_earned g c = c.solo.ensures.takeover_losses_earned
+
+pub returns-clause-read_losses_earned : goal.returns-clause-read_losses_earned
+returns-clause-read_losses_earned g c = c.solo.ensures.read_losses_earned
