@@ -14,11 +14,11 @@ use node_tie::{
 use world_logs::runs_keep_logs;
 
 /// Whatever messages are lost, repeated or reordered, however disks are lost and rebuilt, and whichever nodes stop and start again: where a client that
-/// serves says that a segment is lost, either a manager told it so, which couldn't serve the block of its open want, in the epoch that it has promised; or
-/// its open call reads the segment, and a manager confirmed that the block lies there. Then there were two moments since which the call of the same item has
-/// read the segment, the first no later than the second, such that at the first more members of the segment's group than its parity makes good lacked their
-/// fragments, where no server had been told at the second to delete it; and what the manager sent to confirm the place was sent after the second (the 1996
-/// paper, on RAID). So it is in every run of a script of whose setup a run can be started.
+/// serves says that a segment is lost, either a Gone came that names it, of the block of its open want and of the epoch that it has promised; or its open
+/// call reads the segment, and a Grant came that its tokens accept and that leads to that very place. Then there were two moments since which the call of the
+/// same item has read the segment, the first no later than the second, such that at the first more members of the segment's group than its parity makes good
+/// lacked their fragments, where no server had been told at the second to delete it; and the Grant was sent after the second (the 1996 paper, on RAID). So it
+/// is in every run of a script of whose setup a run can be started. From whom the Gone came, `gone_law` tells.
 pub fn fetches_lose_what_is_torn()
     ensures earned { FetchesLossesEarned }
 {
