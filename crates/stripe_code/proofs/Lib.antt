@@ -2,4 +2,3 @@ pub mod Given
 pub mod Pieces
 pub mod Recovery
 pub mod Rounds
-pub mod Xor

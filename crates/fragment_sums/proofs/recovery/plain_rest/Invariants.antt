@@ -1,7 +1,7 @@
 use Rattle.std.proofs.Common.{◌≡◌, length, drop}
-use Rattle.stripe_code.specs.Stripe.{plain}
-use Rattle.stripe_code.specs.Joined.{rest_onto}
-use Rattle.stripe_code.proofs.joining.plain_rest.Given as goal
+use Rattle.fragment_sums.specs.Sums.{plain}
+use Rattle.fragment_sums.specs.Recovered.{rest_onto}
+use Rattle.fragment_sums.proofs.recovery.plain_rest.Given as goal
 
 abbrev pub invariant-loop-fragment : goal.invariant-loop-fragment
 invariant-loop-fragment l = record {

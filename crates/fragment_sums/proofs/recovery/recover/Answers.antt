@@ -1,7 +1,7 @@
 use Rattle.std.proofs.Common.{ℕ, List, ◌∙◌, sym, subst, arith}
-use Rattle.stripe_code.specs.Joined.{AreRising}
-use Rattle.stripe_code.proofs.Recovery.{missing_rises}
-use Rattle.stripe_code.proofs.joining.recover.Goals as goal
+use Rattle.fragment_sums.specs.Recovered.{AreRising}
+use Rattle.fragment_sums.proofs.Gone.{missing_rises}
+use Rattle.fragment_sums.proofs.recovery.recover.Goals as goal
 
 pub recover_at-requires-clause-gone : goal.recover_at-requires-clause-gone
 recover_at-requires-clause-gone c =

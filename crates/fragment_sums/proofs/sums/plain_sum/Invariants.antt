@@ -1,6 +1,6 @@
 use Rattle.std.proofs.Common.{◌≡◌, length, drop}
-use Rattle.stripe_code.specs.Stripe.{plain, sum_onto}
-use Rattle.stripe_code.proofs.cutting.plain_sum.Given as goal
+use Rattle.fragment_sums.specs.Sums.{plain, sum_onto}
+use Rattle.fragment_sums.proofs.sums.plain_sum.Given as goal
 
 abbrev pub invariant-loop-fragment : goal.invariant-loop-fragment
 invariant-loop-fragment l = record {

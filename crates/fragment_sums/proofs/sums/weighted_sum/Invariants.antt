@@ -1,6 +1,6 @@
 use Rattle.std.proofs.Common.{◌≡◌, length, drop}
-use Rattle.stripe_code.specs.Stripe.{weighted, sum_onto}
-use Rattle.stripe_code.proofs.cutting.weighted_sum.Given as goal
+use Rattle.fragment_sums.specs.Sums.{weighted, sum_onto}
+use Rattle.fragment_sums.proofs.sums.weighted_sum.Given as goal
 
 abbrev pub invariant-loop-place : goal.invariant-loop-place
 invariant-loop-place l = record {

@@ -1,7 +1,7 @@
 use Rattle.std.proofs.Common.{ℕ, List, ◌∙◌, ap}
 use Rattle.parity_kernel.specs.Bytewise.{xor_of, times}
-use Rattle.stripe_code.proofs.Xor.{onto_zeros, length-times}
-use Rattle.stripe_code.proofs.joining.multiple.Goals as goal
+use Rattle.fragment_sums.proofs.Xor.{onto_zeros, length-times}
+use Rattle.fragment_sums.proofs.recovery.multiple.Goals as goal
 
 pub returns-clause-times : goal.returns-clause-times
 returns-clause-times c =

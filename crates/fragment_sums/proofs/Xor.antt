@@ -10,7 +10,7 @@ use Rattle.parity_kernel.specs.Field.{product, inverse_of}
 use Rattle.parity_kernel.proofs.Bytes.{xor_undone}
 use Rattle.parity_kernel.proofs.Chunks.{zip2_undone}
 use Rattle.parity_kernel.proofs.FieldLaws.{linear, additive, undone}
-use Rattle.stripe_code.specs.Stripe.{IsBytes, zeros}
+use Rattle.fragment_sums.specs.Sums.{IsBytes, zeros}
 
 pub comm : (xs ys : List ℕ) → xor_of xs ys ≡ xor_of ys xs
 comm [] [] = refl

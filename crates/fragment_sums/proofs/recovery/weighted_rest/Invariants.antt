@@ -1,7 +1,7 @@
 use Rattle.std.proofs.Common.{◌≡◌, length, drop}
-use Rattle.stripe_code.specs.Stripe.{weighted}
-use Rattle.stripe_code.specs.Joined.{rest_onto}
-use Rattle.stripe_code.proofs.joining.weighted_rest.Given as goal
+use Rattle.fragment_sums.specs.Sums.{weighted}
+use Rattle.fragment_sums.specs.Recovered.{rest_onto}
+use Rattle.fragment_sums.proofs.recovery.weighted_rest.Given as goal
 
 abbrev pub invariant-loop-place : goal.invariant-loop-place
 invariant-loop-place l = record {
