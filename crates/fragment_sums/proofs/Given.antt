@@ -153,7 +153,7 @@ one_there (None ∷ []) a are = (are.0, refl, refl)
 one_there (Some f ∷ []) a are = (are.0, refl, refl)
 one_there (p ∷ q ∷ ps) a are = elim are.1 [ ]
 
-module _ (part : ℕ) (ps : List (Option (List ℕ))) (ds : List (List ℕ)) (few : length ds ≤ 8) (long : All (λ f. length f ≡ part) ds) (bytes : All IsBytes ds) where
+module _ (part : ℕ) (ps : List (Option (List ℕ))) (ds : List (List ℕ)) (few : length ds ≤ 8) (long : All (λ f. length f ≡ part) ds) (fit : All IsBytes ds) where
   -- what is said of any parity: the pieces are found where enough is there
   whole : (qs : List (List ℕ)) → AreOf ps (ds ++ qs)
       → Suffices (length (missing_from 0 (take (length ds) ps))) (part_at ps (length ds)) (part_at ps (length ds + 1))
@@ -162,7 +162,7 @@ module _ (part : ℕ) (ps : List (Option (List ℕ))) (ds : List (List ℕ)) (fe
       → filled (take (length ds) ps) (recovered ps (length ds)) ≡ ds
   whole qs are enough first second =
       let within : length (take (length ds) ps) ≤ 8 = omega (arith, length-take (length ds) ps) in
-      found part (take (length ds) ps) ds (front_of ds qs ps are) long (part_at ps (length ds)) (part_at ps (length ds + 1)) within bytes enough first second
+      found part (take (length ds) ps) ds (front_of ds qs ps are) long (part_at ps (length ds)) (part_at ps (length ds + 1)) within fit enough first second
 
   at_first : part_at (drop (length ds) ps) 0 ≡ part_at ps (length ds)
   at_first = part_at-drop (length ds) 0 ps ∙ ap (part_at ps) (let e : length ds + 0 ≡ length ds = omega arith in e)
