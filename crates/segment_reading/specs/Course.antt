@@ -61,3 +61,14 @@ Decides Over next missed = next ≡ Wait
 abbrev pub IsLostExactly : Type 0
 IsLostExactly = (target : Target) (group : Group) (ask next : ℕ) (events : List Event) →
     let c = course_of target group ask events in Decides c.reading.stage (transition c.reading (Alike next)).next (MissedTwice group.parity c.ended)
+
+-- Nothing that a server tells loses the segment, whichever question it answers.
+abbrev pub AnswersLoseNothing : Type 0
+AnswersLoseNothing =
+    (r : ReadingState) (groups : GroupMapState) (ask server : ℕ) (told : Told) → (on_answer r groups ask server told).next ≡ Lost → ⊥
+
+-- What answers another question than that of the present round changes nothing.
+abbrev pub OtherAnswersChangeNothing : Type 0
+OtherAnswersChangeNothing =
+    (r : ReadingState) (groups : GroupMapState) (ask server : ℕ) (told : Told) → (ask ≡ r.ask → ⊥)
+    → on_answer r groups ask server told ≡ record { state = r; next = Wait }
