@@ -153,7 +153,7 @@ module _ (managed : CheckpointsHaveManagers) (promised : ActiveEpochsPromised) (
         plus : (a b : ℕ) → a + suc b ≡ suc (a + b)
         plus a b = omega arith
 
-    polled_low : most ≤ i.net.epoch → (l : ℕ) → 0 < l → l ≤ 9 → IsLow i most l
+    pub polled_low : most ≤ i.net.epoch → (l : ℕ) → 0 < l → l ≤ 9 → IsLow i most l
     polled_low within l some less =
         subst (λ (h : List ℕ). least_horizon l (all_news i.registry.board) ≤ of_log h l)
         (ap i.net.horizon (sym end) ∙ same_horizon (i.net.epoch - most) (omega arith))
@@ -164,7 +164,7 @@ module _ (managed : CheckpointsHaveManagers) (promised : ActiveEpochsPromised) (
 
   -- ---- who answers
 
-  of_client : (c : ℕ) (s : Serving) → 0 < c → c < owners.members k part → (t.client c).phase ≡ clients.Serving s → (e : ℕ) (z : SlotState)
+  pub of_client : (c : ℕ) (s : Serving) → 0 < c → c < owners.members k part → (t.client c).phase ≡ clients.Serving s → (e : ℕ) (z : SlotState)
       → t.net.slots e ≡ Some z
       → e ≤ epoch_of s.tokens.epochs part
   of_client c s some less is e z there =

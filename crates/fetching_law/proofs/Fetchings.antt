@@ -21,6 +21,7 @@ use Rattle.missing_law.proofs.Moments.{sent_on}
 use Rattle.node_base.specs.declared.effects.Effect.{Effect}
 use Rattle.node_base.specs.declared.effects.Effect.TheVariants.{Send, Answer, Lose, Does}
 use Rattle.node_base.specs.Effects.{acts_of}
+use Rattle.segment_reading.specs.declared.target.BlockAt.{BlockAt}
 use Rattle.segment_reading.specs.declared.target.Target.{Target}
 use Rattle.segment_reading.specs.Reading.{ReadingState}
 use Rattle.token_client.specs.declared.held.Wanted.{Wanted}
@@ -52,7 +53,7 @@ use Rattle.world_logs.specs.Roles.Role.{OfClient}
 use Rattle.xfs_base.specs.declared.node.NodeId.{NodeId}
 use Rattle.xfs_base.specs.declared.node.NodeId.TheVariants as nodes
 use Rattle.xfs_base.specs.declared.segment.SegName.{SegName}
-use Rattle.fetching_law.specs.Fetchings.{BringsGone, FetchesLossesEarned, WasTorn, serving_at, serving_in, what_is_read}
+use Rattle.fetching_law.specs.Fetchings.{BringsGone, CallsReadBlocks, FetchesLossesEarned, WasTorn, serving_at, serving_in, what_is_read}
 use Rattle.fetching_law.proofs.Counts.{AnswersTell, Good, GrantsAsked, Here, all_good, became, client_there, serving_is, was}
 use Rattle.fetching_law.proofs.Maps.{ServesWell, StandsWell}
 use Rattle.fetching_law.proofs.Phases.{After, event_serves}
@@ -115,6 +116,13 @@ module _ (base : Setting) (e : Estate AnyNode) (run : IsRun any_step any_start e
     (stay : GroupsStay) where
   abbrev reader : NodeId
   reader = nodes.Client c
+
+  -- what is read is read for a block
+  pub reads_block : (count : ℕ) (r : ReadingState) → what_is_read (serving_at e c count) ≡ Some r → (at : BlockAt) × (r.target.block ≡ Some at)
+  reads_block count r is =
+      let good : Good base e run lines c is_there answers asked count = all_good base e run lines c is_there answers asked stay count in
+      let h : Reads e c count r = good.reads r is in
+      (h.block, h.looks)
 
   -- ---- the client says that a segment is lost
 
@@ -220,3 +228,9 @@ fetches_lose below e ok run c some most count event is own s serves name among =
     lost_earned below.setting e run (below.lines below.setting e ok run) c (some, most)
     (λ drawn rises count v p m sent from to tells. below.answers e ok run (nodes.Client c) drawn rises count v p m sent from to tells)
     (λ count t there b p m. grants_are_asked below.nodes e ok run count b c t there p m) below.groups count event is own s serves name among
+
+pub calls_read_blocks : Below → CallsReadBlocks
+calls_read_blocks below e ok run c some most count r is =
+    reads_block below.setting e run (below.lines below.setting e ok run) c (some, most)
+    (λ drawn rises count v p m sent from to tells. below.answers e ok run (nodes.Client c) drawn rises count v p m sent from to tells)
+    (λ count t there b p m. grants_are_asked below.nodes e ok run count b c t there p m) below.groups count r is

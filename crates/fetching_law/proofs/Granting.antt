@@ -123,6 +123,8 @@ module _ (s : Serving) (fresh : s.lasting.questions.last < next_ask s.lasting.qu
             record { was = o.was; items = o.items };
         reading = λ r read. inr (inr (inr (record {
           target = target;
+          block = record { item = place.item; block = m.block };
+          looks = refl;
           group = group;
           known = ap (λ maps. group_in maps.groups target.seg.group) (sym rests.maps) ∙ known;
           fresh = fresh_then;

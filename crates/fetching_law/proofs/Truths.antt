@@ -118,6 +118,8 @@ module _ (e : Estate AnyNode) (c : ℕ) where
     pub item : ℕ
     pub begins : since ≤ count
     pub reads : (k : ℕ) → since ≤ k → k ≤ count → ReadsAt e c k item r.target.seg
+    pub block : BlockAt
+    pub looks : r.target.block ≡ Some block
     pub so : ReadingTrue e reader since count r.ask r
     pub out : IsOut e reader count r.ask r.target.seg.name
     pub doubt : r.stage ≡ Doubted → Doubt since count r.target
@@ -161,6 +163,8 @@ module _ (e : Estate AnyNode) (c : ℕ) where
           ⊎_elim (λ last. subst (λ n. ReadsAt e c n h.item r.target.seg) (sym last)
           (record { reading = r; is = is; of = refl; its_item = same h.item (h.reads count h.begins (omega arith)).its_item }))
           (λ before. subst (λ (x : Target). ReadsAt e c k h.item x.seg) (sym target) (h.reads k since before)) (last_or_before k count most);
+      block = h.block;
+      looks = ap (λ (x : Target). x.block) target ∙ h.looks;
       so = so;
       out = out;
       doubt = doubt;
@@ -315,6 +319,8 @@ module _ (e : Estate AnyNode) (c : ℕ) where
                   let same : suc count ≡ k = omega arith in
                   subst (λ n. ReadsAt e c n item r.target.seg) same
                   (record { reading = r; is = now_read; of = refl; its_item = ap open_item is_there ∙ now_open });
+              block = x.block;
+              looks = ap (λ (y : ReadingState). y.target.block) x.now ∙ x.looks;
               so = subst (λ n. ReadingTrue e reader (suc count) (suc count) n r) (sym ask)
                   (subst (ReadingTrue e reader (suc count) (suc count) last) (sym x.now) so);
               out = out_now x.fresh ask;

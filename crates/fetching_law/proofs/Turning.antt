@@ -68,9 +68,11 @@ module _ (s : Serving) (what : Do) where
     pub fresh : s.lasting.questions.last < last
     pub now : r ≡ (goes_on was last Between).state
 
-  -- the first round begins, by a question that is drawn now
+  -- the first round begins for a block, by a question that is drawn now
   pub record Begins (last : ℕ) (r : ReadingState) : Type 0 where
     pub target : Target
+    pub block : BlockAt
+    pub looks : target.block ≡ Some block
     pub group : Group
     pub known : group_in s.maps.groups target.seg.group ≡ Some group
     pub fresh : s.lasting.questions.last < last

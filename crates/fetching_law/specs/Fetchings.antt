@@ -9,6 +9,7 @@ use Rattle.core_world.specs.AnyNode.{any_start, any_step}
 use Rattle.core_world.specs.declared.any_node.AnyNode.{AnyNode}
 use Rattle.core_world.specs.declared.any_node.AnyNode.TheVariants as any
 use Rattle.node_base.specs.Setups.{IsSetup}
+use Rattle.segment_reading.specs.declared.target.BlockAt.{BlockAt}
 use Rattle.segment_reading.specs.Reading.{ReadingState}
 use Rattle.token_client.specs.Transition.{accepts}
 use Rattle.token_protocol.specs.Basics.{In}
@@ -124,3 +125,9 @@ abbrev pub FetchesLossesEarned : Type 0
 FetchesLossesEarned =
     (e : Estate AnyNode) → IsSetup e.script.setup → IsRun any_step any_start e.script e.events e.world
     → (c : ℕ) → 0 < c → c ≤ e.script.setup.clients → FetchesLoseWhatIsTorn e c
+
+-- What the open call of a client reads it reads for a block, at each moment of each such run.
+abbrev pub CallsReadBlocks : Type 0
+CallsReadBlocks =
+    (e : Estate AnyNode) → IsSetup e.script.setup → IsRun any_step any_start e.script e.events e.world → (c : ℕ) → 0 < c → c ≤ e.script.setup.clients
+    → (count : ℕ) (r : ReadingState) → what_is_read (serving_at e c count) ≡ Some r → (at : BlockAt) × (r.target.block ≡ Some at)

@@ -137,6 +137,7 @@ module _ (base : Setting) (e : Estate AnyNode) (run : IsRun any_step any_start e
     was = s.was;
     of_slot = s.of_slot;
     in_epoch = s.in_epoch;
+    broke = s.broke;
   }
 
   -- ---- nothing happens to the manager
@@ -198,9 +199,10 @@ module _ (base : Setting) (e : Estate AnyNode) (run : IsRun any_step any_start e
 
       -- the slot breaks in this event
       breaks : (slot epoch : ℕ) (name : SegName)
+          → slot_at e j slot (suc count) ≡ phase.Broken epoch name
           → Breaks (Unit {0}) (IsNamed e) (CameBy e j count) (slot_in slot u.node.phase) epoch name (happens u.node (what_of event)).outs
           → SaidLost e j (suc count) slot epoch name
-      breaks slot epoch name b =
+      breaks slot epoch name broke b =
           let l = b.lost tt in
           let w = earned base e run lines j is_there came count event (map (sent_at t.clock) (any_step t.node (what_of event)).packets)
           (any_step t.node (what_of event)).acts u name slot l in
@@ -216,6 +218,7 @@ module _ (base : Setting) (e : Estate AnyNode) (run : IsRun any_step any_start e
             was = w.0;
             of_slot = w.1;
             in_epoch = w.2 ∙ (ap (λ (x : Taking). x.epoch) (same_taking l.taking b.taking (sym l.is ∙ b.is)) ∙ b.in_epoch);
+            broke = broke;
           }
 
       its_node : t.node ≡ any.Manager u.node
@@ -234,7 +237,7 @@ module _ (base : Setting) (e : Estate AnyNode) (run : IsRun any_step any_start e
       own_turn = record {
         slots = λ slot epoch name at. ⊎_elim
             (λ was. later count slot epoch name (good.slots slot epoch name (slot_before slot ∙ was)))
-            (breaks slot epoch name)
+            (breaks slot epoch name at)
             (turn.broken slot epoch name (sym (slot_after slot) ∙ at));
         gones = λ p g among from tells. later count (slot_of_ino g.block.ino.0) g.epoch g.seg
             (⊎_elim (λ old. good.gones p g old from tells)

@@ -1,5 +1,5 @@
 -- What a manager says is gone it said was lost while it took the slot over, in the words of a run of the nodes.
-use Rattle.std.specs.Prelude.{◌≡◌, ◌<◌, ℕ, All, Option, Some, None, slice_get}
+use Rattle.std.specs.Prelude.{◌≡◌, ◌<◌, ℕ, suc, All, Option, Some, None, slice_get}
 use Rattle.client_serving.specs.declared.serving.Serving.{Serving}
 use Rattle.core_world.specs.AnyNode.{any_start, any_step}
 use Rattle.core_world.specs.declared.any_node.AnyNode.{AnyNode}
@@ -60,6 +60,8 @@ module _ (e : Estate AnyNode) (j : ℕ) where
     pub was : WasTornOrDeleted e j at name
     pub of_slot : was.slot ≡ slot
     pub in_epoch : was.epoch ≡ epoch
+    -- and with that the slot broke
+    pub broke : slot_at e j slot (suc at) ≡ phase.Broken epoch name
 
   -- so it did of each slot that is broken
   abbrev pub BrokenSlotsWereLost : Type 0

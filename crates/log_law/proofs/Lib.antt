@@ -32,6 +32,7 @@ mod Groups
 mod Held
 mod Written
 mod ReadingDown
+mod BeingRead
 mod Landing
 mod Tails
 mod Restarted

@@ -69,7 +69,7 @@ module _ (g : Setting) (w : State) (book : ℕ → Segment) where
         omega arith
 
     -- where it names no segment before it, it is short
-    short : (top : ℕ) (ts : List Segment) → w.opening_seq ≡ top + 1 → Chained g w book top 0 ts → top < w.read_low + length ts
+    pub short : (top : ℕ) (ts : List Segment) → w.opening_seq ≡ top + 1 → Chained g w book top 0 ts → top < w.read_low + length ts
     short top [] opens h =
         let p = i.shelf.priors.no_base (let z = reading in omega arith) (let z = reading in omega arith) (sym h) in
         let q = i.shelf.horizons.pick_before (let z = reading in omega arith) (let z = reading in omega arith) in

@@ -47,10 +47,11 @@ module _ (k : Below) (g : Setting) (n : Net) (h : View g n) where
 
   -- ---- whole
 
-  member_whole : (x : ℕ) → h.w.booked x ≡ 1 → h.w.filed x ≡ 1 → (In (h.book x).name n.dropped → ⊥) → (place : ℕ) → place < length (members_of g (h.book x))
-      → Holds g n (h.book x) place ⊎ IsLater g n (h.book x) place
-  member_whole x booked filed kept place member =
-      by (k.protocol.whole h.w h.reached x place filed (undropped x booked kept) (subst (λ c. place < c) (sym (page x booked).counted) member))
+  -- what a member holds, or its generation, is seen on its shelf
+  pub member_seen : (x : ℕ) → h.w.booked x ≡ 1 → (place : ℕ) → place < length (members_of g (h.book x))
+      → ((h.w.holds (h.w.member_server x place) x ≡ 1) × (h.w.kept_index (h.w.member_server x place) x ≡ place))
+      ⊎ (h.w.member_generation x place < h.w.generation (h.w.member_server x place)) → Holds g n (h.book x) place ⊎ IsLater g n (h.book x) place
+  member_seen x booked place member = by
     where
       there : h.w.member_server x place ≡ server_of (members_of g (h.book x)) place
       there = (page x booked).at_server place
@@ -64,6 +65,12 @@ module _ (k : Below) (g : Setting) (n : Net) (h : View g n) where
           let a = (page x booked).at_generation place member in
           let b = ap h.w.generation there ∙ (h.shelves (server_of (members_of g (h.book x)) place)).of in
           inr (omega arith)
+
+  member_whole : (x : ℕ) → h.w.booked x ≡ 1 → h.w.filed x ≡ 1 → (In (h.book x).name n.dropped → ⊥) → (place : ℕ) → place < length (members_of g (h.book x))
+      → Holds g n (h.book x) place ⊎ IsLater g n (h.book x) place
+  member_whole x booked filed kept place member =
+      member_seen x booked place member
+      (k.protocol.whole h.w h.reached x place filed (undropped x booked kept) (subst (λ c. place < c) (sym (page x booked).counted) member))
 
   pub logs_whole : LogsWhole g n
   logs_whole = record { flown = flown; striped = striped; whole = whole }

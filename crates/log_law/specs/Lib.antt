@@ -11,4 +11,5 @@ pub mod Runs
 pub mod Held
 pub mod Written
 pub mod ReadBack
+pub mod BeingRead
 pub mod Groups

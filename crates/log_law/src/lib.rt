@@ -4,6 +4,7 @@
 //! and one text of a name.
 #![tactic(auto)]
 
+ghost use Rattle.log_law.specs.BeingRead.{WhatIsReadIsWhole};
 ghost use Rattle.log_law.specs.Ends.{EndsAreLast, FilesItsFlight};
 ghost use Rattle.log_law.specs.Groups.{EndsNameGroups, PriorsNameGroups};
 ghost use Rattle.log_law.specs.Held.{WhatFlewIsOfTheLog, WhatIsHeldFlew, WhatIsListedFlew};
@@ -19,7 +20,7 @@ ghost use Rattle.log_law.specs.Written.{WhatFlewIsWritten, WhatFliesIsNext, What
 use client_log::laws::{end_rises_by_one, flight_is_next, settles_what_is_due};
 use log_protocol::{
     all_is_in_order, end_is_head, hurt_is_earned, lacks_between, logs_whole, names_are_new,
-    one_line, past_stays, runs_go_on, what_reopening_adopts,
+    one_line, past_stays, runs_go_on, what_is_read_back_is_whole, what_reopening_adopts,
 };
 use log_tie::{log_inputs, opening_inputs, scan_inputs, shelf_deeds};
 
@@ -147,6 +148,16 @@ pub fn a_reopening_reads_back()
     ensures behind { ReopensBehind }
 {
     below();
+}
+
+/// What is read is whole: at each moment of every run, after doubtful restarts too, the segment that an opening reads was in flight, over the group by which it
+/// is read; and unless it was dropped, each member of that holds its fragment, or its server is of a later generation than the group names, whether the segment
+/// was filed or not (the 1996 paper, on recovery).
+pub fn what_is_read_is_whole()
+    ensures whole { WhatIsReadIsWhole }
+{
+    below();
+    what_is_read_back_is_whole();
 }
 
 /// The feed is whole: while no restart that ended was doubtful, the feed of an owner that serves has each filed segment from the least horizon on: those that

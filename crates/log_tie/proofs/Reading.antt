@@ -274,7 +274,7 @@ module _ (g : Setting) (v : State) (book : ℕ → Segment) (hellos : List Asked
         asked_reading o (o.ask + 1) b h,
         more,
         (
-          ap (λ (l : LogId). name_at l b.next) f.log,
+          ap (λ (l : LogId). target_at l b.next) f.log,
           new_shown g book v.booked b.next (length group.members) group.parity (reading.servers_of group) (h.mapped.whole.cut b.next.group group known)
               (ap (λ (z : Stripe). length z.members) (sym named)) (ap (λ (z : Stripe). z.parity) (sym named)),
         ),
@@ -349,7 +349,7 @@ module _ (g : Setting) (v : State) (book : ℕ → Segment) (hellos : List Asked
             not_below n m e = grind (arith, nat_tests)
 
     goes_shown : (o : Opening) (b : Backward) (r : ReadingState) (n : Next) → Framed o → ReadingShown g v book o b → is_bottom o.low b.next ≡ false
-        → r.target.seg.name ≡ name_at g.log b.next → RoundShown g book v.booked b.next r.round → ReadsName r.target.seg.name n → AsksLater o.ask r.ask n
+        → r.target ≡ target_at g.log b.next → RoundShown g book v.booked b.next r.round → ReadsName r.target.seg.name n → AsksLater o.ask r.ask n
         → ((t : Segment) → n ≡ next.Read t → (y : ℕ) × (v.booked y ≡ 1) × (t ≡ book y)) → Sees (goes_on o b r n)
     unfolding goes_on
     goes_shown o b r next.Wait f h more looks shown name later owed = sees_still o (Reads b (Some r)) f (h, more, (looks, shown))
@@ -357,15 +357,15 @@ module _ (g : Setting) (v : State) (book : ℕ → Segment) (hellos : List Asked
         sees_fetches (record o { ask = r.ask }) b r (framed_drawn o r.ask later f) (asked_reading o r.ask b h, more, (looks, shown))
     goes_shown o b r next.Again f h more looks shown name later owed = sees_anew o (Reads b (Some r)) f (asked_reading o (o.ask + 1) b h, more, (looks, shown))
     goes_shown o b r (next.Read s) f h more looks shown name later owed = let y =
-        owed s refl in follows_shown o (with_segment b s) f (segment_read o b s y.0 h more (name ∙ looks) y.1 y.2)
+        owed s refl in follows_shown o (with_segment b s) f (segment_read o b s y.0 h more (name ∙ ap (λ (t : Target). t.seg.name) looks) y.1 y.2)
     goes_shown o b r next.Lost f h more looks shown name later owed = sees_quiet o Over (Lost r.target.seg.name ∷ []) f refl (tt, tt) h.phase
 
     -- a step of the reading, of which what is read is booked
     step_shown : (o : Opening) (b : Backward) (r : ReadingState) (step : Step) → StepFits r o.ask step → Framed o → ReadingShown g v book o b
-        → is_bottom o.low b.next ≡ false → r.target.seg.name ≡ name_at g.log b.next → RoundShown g book v.booked b.next step.state.round
+        → is_bottom o.low b.next ≡ false → r.target ≡ target_at g.log b.next → RoundShown g book v.booked b.next step.state.round
         → ((t : Segment) → step.next ≡ next.Read t → (y : ℕ) × (v.booked y ≡ 1) × (t ≡ book y)) → Sees (goes_on o b step.state step.next)
     step_shown o b r step fits f h more looks shown owed =
-        goes_shown o b step.state step.next f h more (ap (λ (t : Target). t.seg.name) fits.same ∙ looks) shown
+        goes_shown o b step.state step.next f h more (fits.same ∙ looks) shown
         (subst (λ (t : Target). ReadsName t.seg.name step.next) (sym fits.same) fits.name) fits.later owed
 
     -- a server answers
@@ -373,7 +373,7 @@ module _ (g : Setting) (v : State) (book : ℕ → Segment) (hellos : List Asked
         → ReadingShown g v book o b → is_bottom o.low b.next ≡ false → LooksFor g book v.booked b.next (Some r) → ToldSeen g v book paged spelled b.next t
         → Sees (goes_on o b (reading.on_answer r groups ask server t).state (reading.on_answer r groups ask server t).next)
     answer_seen o b r groups ask server t f h more looks seen =
-        let a = answered_shown g v book paged spelled b.next r groups ask server t looks.1 h.grouped looks.0 seen in
+        let a = answered_shown g v book paged spelled b.next r groups ask server t looks.1 h.grouped (ap (λ (t : Target). t.seg.name) looks.0) seen in
         step_shown o b r (reading.on_answer r groups ask server t) (answered_fits r groups o.ask ask server t) f h more looks.0 a.shown a.reads
 
     confirmed_round : (e : End) (r : ReadingState) (ask : ℕ) (stage : rounds.Stage) → RoundShown g book v.booked e r.round

@@ -22,7 +22,7 @@ use Rattle.log_scan.specs.declared.stage.Stage.{Stage}
 use Rattle.log_scan.specs.declared.stage.Stage.TheVariants.{Hails, Gathers, Asks, Reads, Over}
 use Rattle.log_scan.specs.Pick.{has_name, has_list}
 use Rattle.log_scan.specs.ScanState.{ScanState, started}
-use Rattle.log_scan.specs.Transition.{name_at, is_bottom, least_horizon, transition}
+use Rattle.log_scan.specs.Transition.{target_at, is_bottom, least_horizon, transition}
 use Rattle.log_protocol.specs.LogLaws.{Reached}
 use Rattle.log_protocol.specs.Packets.{FencedPacket}
 use Rattle.log_protocol.specs.State.{State}
@@ -124,10 +124,10 @@ pub record Asking (g : Setting) (w : State) (book : ℕ → Segment) (hellos : L
   pub begun : w.begin_low ≤ bound
   pub after : (a : Asked) → In a hellos → a.inc ≡ w.incarnation → a.ask ≡ o.ask → bound ≤ a.low
 
--- the reading, where there is one, looks for the segment that an end names
+-- the reading, where there is one, looks for the segment that an end names, over the group that the end names
 abbrev pub LooksFor : Setting → (ℕ → Segment) → (ℕ → ℕ) → End → Option ReadingState → Type 0
 LooksFor g book booked e None = Unit {0}
-LooksFor g book booked e (Some r) = (r.target.seg.name ≡ name_at g.log e) × RoundShown g book booked e r.round
+LooksFor g book booked e (Some r) = (r.target ≡ target_at g.log e) × RoundShown g book booked e r.round
 
 -- The chain is read as far as it is kept, from the number that the pick allowed, and the next segment is the one before it.
 pub record ReadingShown (g : Setting) (w : State) (book : ℕ → Segment) (o : Opening) (b : Backward) : Type 0 where

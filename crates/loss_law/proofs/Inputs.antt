@@ -27,7 +27,7 @@ use Rattle.log_law.specs.Net.Packet.{MapSent, WelcomeSent}
 use Rattle.log_law.specs.Net.Owner.{Opening}
 use Rattle.log_law.specs.Events.{CameToScan, Happens, Runs}
 use Rattle.log_law.specs.Events.Runs.{On}
-use Rattle.loss_law.specs.Losses.{is_opening, IsTorn, IsTrue}
+use Rattle.loss_law.specs.Losses.{IsRead, is_opening, IsTorn, IsTrue}
 use Rattle.loss_law.proofs.Pairs.{ToldSo}
 use Rattle.loss_law.proofs.Growing.{AreNamed, Base, Grows}
 use Rattle.loss_law.proofs.Interval.{Between}
@@ -39,7 +39,7 @@ at_least a b = omega arith
 
 module _ (g : Setting) (Was Now : SegRef → Type 0) (start n o : Net) (run : Runs g start n) (e : Happens g n o) (grows : Grows g n o) (boot : o.inc ≡ n.inc)
     (base : Base g n) (s : ScanState) (is : n.owner ≡ Opening s) (up : is_opening o.owner ≡ true → (seg : SegRef) → Was seg → Now seg)
-    (torn_now : (seg : SegRef) → IsTorn g seg n → Was seg) where
+    (torn_now : (seg : SegRef) → IsRead s.stage seg → IsTorn g seg n → Was seg) where
   abbrev To : Done → Type 0
   To d = Goes g Was Now start n o run e grows boot base s is up torn_now d
 

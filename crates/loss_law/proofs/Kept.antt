@@ -1,5 +1,5 @@
 -- What is known of an opening that reads a segment: of which moments its answers and the pairs that it keeps tell.
-use Rattle.std.proofs.Common.{◌≡◌, ℕ, ◌≤◌, ◌⊎◌, Bool, true, List, Option, Some, None, subst, inl, inr, arith}
+use Rattle.std.proofs.Common.{◌≡◌, ℕ, ◌≤◌, ◌⊎◌, Bool, true, List, [], Option, Some, None, subst, inl, inr, arith}
 use Rattle.xfs_base.specs.declared.news.SlotNews.{SlotNews}
 use Rattle.xfs_base.specs.declared.segment.SegName.{SegName}
 use Rattle.xfs_base.specs.declared.segment.SegRef.{SegRef}
@@ -19,13 +19,17 @@ use Rattle.log_law.specs.Net.Packet.{HelloSent, WelcomeSent}
 use Rattle.log_law.specs.Net.Owner.{Opening}
 use Rattle.log_law.specs.Events.{Happens, Runs}
 use Rattle.log_law.specs.Events.Runs.{Begun, On}
-use Rattle.loss_law.specs.Losses.{Once, is_opening, has_drawn, LacksIn, IsTorn, IsRead}
+use Rattle.loss_law.specs.Losses.{Once, has_drawn, LacksIn, IsTorn, IsRead}
 use Rattle.loss_law.proofs.Counting.{Each, servers_of}
 use Rattle.loss_law.proofs.Pairs.{Single, AllAsked, AllSo, so_on}
 use Rattle.loss_law.proofs.Growing.{Base, Grows, sent_then}
 use Rattle.loss_law.proofs.Interval.{Before, Between}
 
--- `Was` is what there is to show of a segment that was torn at a moment of this opening.
+-- at a moment the owner opens its log, and reads this segment
+abbrev pub IsReading : SegRef → Net → Type 0
+IsReading segment n = (s : ScanState) × (n.owner ≡ Opening s) × IsRead s.stage segment
+
+-- `Was` is what there is to show of a segment that was torn at a moment of this opening at which it was read.
 module _ (g : Setting) (Was : SegRef → Type 0) {start n : Net} (run : Runs g start n) where
   -- the moment at which the last round ended, and the pairs that were Missing in that round
   pub record Middle (seg : SegRef) (kept : List (ℕ × ℕ)) : Type 0 where
@@ -33,8 +37,8 @@ module _ (g : Setting) (Was : SegRef → Type 0) {start n : Net} (run : Runs g s
     pub base : Base g net
     pub later : Runs g net n
     pub pairs : Each (λ p. Before g seg.name net p.0 p.1) kept
-    -- it is of this opening
-    pub known : IsTorn g seg net → Was seg
+    -- it is of this opening, which read the segment then, unless no round of that has ended yet
+    pub known : (kept ≡ [] → ⊥) → IsTorn g seg net → Was seg
 
   -- a round is on: its question was drawn after that moment, and so what is told tells of a moment since
   pub record Asks_on (r : ReadingState) : Type 0 where
@@ -96,7 +100,7 @@ module _ (g : Setting) (Was Now : SegRef → Type 0) (start n o : Net) (run : Ru
   between_on name m v generation b = record { at = b.at; first = b.first; later = On b.later e; lacks = b.lacks }
 
   pub middle_on : (seg : SegRef) (kept : List (ℕ × ℕ)) → Middle g Was run seg kept → Middle g Now (On run e) seg kept
-  middle_on seg kept m = record { net = m.net; base = m.base; later = On m.later e; pairs = m.pairs; known = λ t. up seg (m.known t) }
+  middle_on seg kept m = record { net = m.net; base = m.base; later = On m.later e; pairs = m.pairs; known = λ some t. up seg (m.known some t) }
 
   asks_on : (r : ReadingState) → Asks_on g Was run r → Asks_on g Now (On run e) r
   unfolding middle_on

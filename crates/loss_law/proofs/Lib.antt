@@ -10,5 +10,5 @@ pub mod Kept
 pub mod Answering
 pub mod Readings
 pub mod Inputs
-mod Disks
+pub mod Disks
 pub mod Losing

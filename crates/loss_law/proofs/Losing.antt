@@ -1,4 +1,4 @@
--- In every run what is known of an opening stays so, and so what a reopening says is lost was torn.
+-- In every run what is known of an opening stays so, and so what a reopening says is lost was torn, and had been whole.
 use Rattle.std.proofs.Common.{◌≡◌, suc, List, [], ◌∷◌, refl, sym, ap, subst, inl, inr}
 use Rattle.xfs_base.specs.declared.segment.SegName.{SegName}
 use Rattle.xfs_base.specs.declared.segment.SegRef.{SegRef}
@@ -15,18 +15,18 @@ use Rattle.log_law.specs.Net.Owner.{Opening}
 use Rattle.log_law.specs.Events.{CameToScan, Happens, Runs}
 use Rattle.log_law.specs.Events.Happens.{Acts, Writes, Opens, Crashes, Restarts, Renews, Serves, Bars, Lists, Hears, Raises, Publishes, Welcomes, Drops}
 use Rattle.log_law.specs.Events.Runs.{Begun, On}
-use Rattle.log_law.specs.Laws.{LogsStayWhole}
-use Rattle.loss_law.specs.Losses.{Once, IsTorn, is_opening, Takes, IsTrue, MissingsTrue, AReopeningLosesWhatIsTorn}
+use Rattle.log_law.specs.BeingRead.{WhatIsReadIsWhole}
+use Rattle.loss_law.specs.Losses.{Once, IsRead, IsTorn, is_opening, Takes, IsTrue, MissingsTrue, AReopeningLosesWhatIsTorn}
 use Rattle.loss_law.proofs.Growing.{Base}
 use Rattle.loss_law.proofs.Events.{first_base, opened_to, same_boot, writes_none, grows, base_then}
-use Rattle.loss_law.proofs.Kept.{StageKept, Kept, WasTorn, once_now, stage_on}
+use Rattle.loss_law.proofs.Kept.{IsReading, StageKept, Kept, WasTorn, once_now, stage_on}
 use Rattle.loss_law.proofs.Readings.{Loses, Goes}
 use Rattle.loss_law.proofs.Inputs.{takes_goes}
 use Rattle.loss_law.proofs.Disks.{once_lost}
 
--- at some moment of this opening it was torn
+-- at some moment of this opening it was read, and torn
 abbrev TornIn : (g : Setting) {start n : Net} → Runs g start n → SegRef → Type 0
-TornIn g run seg = Once is_opening (IsTorn g seg) run
+TornIn g run seg = Once is_opening (λ n. IsReading seg n × IsTorn g seg n) run
 
 -- an event that leaves the owner alone
 module _ (g : Setting) (start n o : Net) (run : Runs g start n) (base : Base g n) (e : Happens g n o) (kept : Kept g (TornIn g run) run) where
@@ -38,8 +38,9 @@ module _ (g : Setting) (start n o : Net) (run : Runs g start n) (base : Base g n
       sym_owner : o.owner ≡ n.owner → o.owner ≡ Opening s → n.owner ≡ Opening s
       sym_owner a b = cc
 
-torn_now : (g : Setting) (start n : Net) (run : Runs g start n) (s : ScanState) → n.owner ≡ Opening s → (seg : SegRef) → IsTorn g seg n → TornIn g run seg
-torn_now g start n run s is seg t = once_now is_opening (IsTorn g seg) run (ap is_opening is) t
+torn_now : (g : Setting) (start n : Net) (run : Runs g start n) (s : ScanState) → n.owner ≡ Opening s → (seg : SegRef) → IsRead s.stage seg → IsTorn g seg n
+    → TornIn g run seg
+torn_now g start n run s is seg reads t = once_now is_opening (λ n. IsReading seg n × IsTorn g seg n) run (ap is_opening is) ((s, is, reads), t)
 
 goes_of : (g : Setting) (start n : Net) (run : Runs g start n) (base : Base g n) (s : ScanState) (i : Input) (is : n.owner ≡ Opening s)
     (came : CameToScan g n i) (e : Happens g n (after_scan g n s (scan.transition s i))) → IsTrue run s i → Kept g (TornIn g run) run
@@ -129,7 +130,7 @@ torn g start n o run k (Publishes m whole) truth t j takes name lost = absurd ta
 torn g start n o run k (Welcomes inc ask news m is low whole) truth t j takes name lost = absurd takes
 torn g start n o run k (Drops lists meta is among below) truth t j takes name lost = absurd takes
 
-pub a_reopening_loses_what_is_torn : LogsStayWhole → AReopeningLosesWhatIsTorn
+pub a_reopening_loses_what_is_torn : WhatIsReadIsWhole → AReopeningLosesWhatIsTorn
 a_reopening_loses_what_is_torn whole g n o m happens truth s i takes name lost =
     let t = torn g (opening g m.map) n o m.run
     (known g (opening g m.map) n m.run (first_base g m.map) (λ t at. absurd cc) truth.0) happens truth.1 s i takes name lost in

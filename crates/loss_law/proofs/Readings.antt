@@ -39,13 +39,13 @@ use Rattle.log_law.specs.Net.Packet.{HelloSent, WelcomeSent}
 use Rattle.log_law.specs.Net.Owner.{Opening}
 use Rattle.log_law.specs.Events.{Happens, Runs}
 use Rattle.log_law.specs.Events.Runs.{Begun, On}
-use Rattle.loss_law.specs.Losses.{Once, is_opening, has_drawn, LacksIn, IsTorn}
+use Rattle.loss_law.specs.Losses.{Once, is_opening, has_drawn, LacksIn, IsRead, IsTorn}
 use Rattle.loss_law.proofs.Counting.{Apart, Each, servers_of, Among}
 use Rattle.loss_law.proofs.Pairs.{ToldSo, AllSo, each_on, apart_missing, each_missing, among_missing}
 use Rattle.loss_law.proofs.Growing.{AskedBy, AreNamed, Base, Grows, sent_then}
 use Rattle.loss_law.proofs.Interval.{Before, Between, passed}
 use Rattle.loss_law.proofs.Torn.{is_torn}
-use Rattle.loss_law.proofs.Kept.{WasTorn, Middle, Asks_on, Doubts, RoundKept, ReadingKept, StageKept, once_keeps, once_now, middle_on, reading_on}
+use Rattle.loss_law.proofs.Kept.{WasTorn, Middle, Asks_on, Doubts, RoundKept, ReadingKept, StageKept, once_keeps, middle_on, reading_on}
 use Rattle.loss_law.proofs.Answering.{counted_parts, asks_still, RoundSo, taken_so, short_pairs}
 
 -- where a segment is said to be lost, this holds of its name
@@ -74,12 +74,21 @@ no_lower low seq e = grind (arith, nat_tests)
 more_than : (a b : ℕ) → nat_lt a b ≡ true → a < b
 more_than a b e = grind (arith, nat_tests)
 
+-- where no round has ended yet, nothing was missing twice
+none_twice : (now : List (ℕ × ℕ)) → length (missing_twice [] now) ≡ 0
+none_twice [] = refl
+none_twice (p ∷ ps) = none_twice ps
+
+kept_some : (parity : ℕ) (now before : List (ℕ × ℕ)) → parity < length (missing_twice before now) → before ≡ [] → ⊥
+kept_some parity now before many none =
+    let a = ap (λ ps. length (missing_twice ps now)) none in let b = none_twice now in let c = many in omega arith
+
 pub same_ask : (a b : ℕ) → (a == b) ≡ true → a ≡ b
 same_ask a b e = grind (arith, nat_tests)
 
 module _ (g : Setting) (Was Now : SegRef → Type 0) (start n o : Net) (run : Runs g start n) (e : Happens g n o) (grows : Grows g n o) (boot : o.inc ≡ n.inc)
     (base : Base g n) (s : ScanState) (is : n.owner ≡ Opening s) (up : is_opening o.owner ≡ true → (seg : SegRef) → Was seg → Now seg)
-    (torn_now : (seg : SegRef) → IsTorn g seg n → Was seg) where
+    (torn_now : (seg : SegRef) → IsRead s.stage seg → IsTorn g seg n → Was seg) where
   -- what is to be shown of what it does: what is known of it stays so while it is an opening, and what it says is lost is earned
   pub record Goes (d : Done) : Type 0 where
     pub kept : is_opening o.owner ≡ true → StageKept g Now (On run e) d.state.opening.ask d.state.stage
@@ -100,10 +109,10 @@ module _ (g : Setting) (Was Now : SegRef → Type 0) (start n o : Net) (run : Ru
       by (inr old) = absurd (not_drawn ask s.opening.ask less (subst (λ z. has_drawn ask z ≡ true) is (once_keeps (has_drawn ask) P run old)))
 
   -- this moment
-  now_middle : (seg : SegRef) (kept : List (ℕ × ℕ)) → Each (λ p. Before g seg.name n p.0 p.1) kept → is_opening o.owner ≡ true
-      → Middle g Now (On run e) seg kept
-  now_middle seg kept all opens =
-      record { net = n; base = base; later = On Begun e; pairs = all; known = λ t. up opens seg (torn_now seg t) }
+  now_middle : (seg : SegRef) (kept : List (ℕ × ℕ)) → Each (λ p. Before g seg.name n p.0 p.1) kept → ((kept ≡ [] → ⊥) → IsRead s.stage seg)
+      → is_opening o.owner ≡ true → Middle g Now (On run e) seg kept
+  now_middle seg kept all reads opens =
+      record { net = n; base = base; later = On Begun e; pairs = all; known = λ some t. up opens seg (torn_now seg (reads some) t) }
 
   -- a round begins
   first_asked : (r : ReadingState) → Middle g Now (On run e) r.target.seg r.kept → s.opening.ask < r.ask → r.round.answers ≡ [] → Asks_on g Now (On run e) r
@@ -127,7 +136,7 @@ module _ (g : Setting) (Was Now : SegRef → Type 0) (start n o : Net) (run : Ru
       parity = ap (λ (z : Stripe). z.parity) (sym named);
       single = tt;
       asked = tt;
-      stage = first_asked begun (now_middle begun.target.seg [] tt opens) (let a = like.ask in omega arith) refl;
+      stage = first_asked begun (now_middle begun.target.seg [] tt (λ some. absurd (some refl)) opens) (let a = like.ask in omega arith) refl;
     }
 
   begins_goes : (p : OpeningState) (b : Backward) (group : Option Group) → known_group p.groups b.next.group ≡ group → Like p → Goes (scan.begins_in p b group)
@@ -264,7 +273,7 @@ module _ (g : Setting) (Was Now : SegRef → Type 0) (start n o : Net) (run : Ru
         doubted t opens = record {
           bound = n.low;
           torn = λ above. up opens seg
-              (a.middle.known
+              (a.middle.known (kept_some now.parity pairs r.kept (more_than now.parity (length (missing_twice r.kept pairs)) t))
               (is_torn g seg k.of_log a.middle.net n a.middle.base a.middle.later
               (λ dropped. (let z = base.below seg.name dropped in let y = above in absurd (omega arith))) r.kept pairs now.servers now.parity
               (so.its_servers ∙ k.servers) (so.its_parity ∙ k.parity) a.middle.pairs each apart among
@@ -272,6 +281,10 @@ module _ (g : Setting) (Was Now : SegRef → Type 0) (start n o : Net) (run : Ru
           past = grows.low;
           heard = heard;
         }
+
+        -- the segment that is read
+        reads : IsRead s.stage seg
+        reads = (b, r, at, refl)
 
         round_ends : Goes (scan.goes_on s.opening b ended next.Again)
         unfolding scan.goes_on
@@ -286,7 +299,7 @@ module _ (g : Setting) (Was Now : SegRef → Type 0) (start n o : Net) (run : Ru
               single = so.single;
               asked = so.asked;
               stage = by_test (RoundKept g Now (On run e) (s.opening.ask + 1) ended) (are_gone now.parity r.kept pairs) stand.Doubted stand.Between
-                  (λ t. doubted t opens) (λ t. now_middle seg pairs (each_on _ _ before_now pairs each) opens);
+                  (λ t. doubted t opens) (λ t. now_middle seg pairs (each_on _ _ before_now pairs each) (λ some. reads) opens);
             }
 
       found : (found_segment : Option Segment) → Goes (scan.goes_on s.opening b (reading.read_as q found_segment).state (reading.read_as q found_segment).next)

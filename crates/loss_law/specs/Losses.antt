@@ -21,6 +21,7 @@ use Rattle.log_law.specs.Net.Owner.{Down, Opening, Writing, Serving}
 use Rattle.log_law.specs.Events.{Happens, Runs}
 use Rattle.log_law.specs.Events.Happens.{Opens}
 use Rattle.log_law.specs.Events.Runs.{Begun, On}
+use Rattle.log_law.specs.BeingRead.{IsWhole}
 use Rattle.log_law.specs.Laws.{Moment}
 
 -- ---- moments
@@ -87,10 +88,11 @@ ref_of s = record { name = s.name; group = s.group }
 abbrev pub disks_lost : Setting → Net → SegRef → ℕ
 disks_lost g n segment = count_by (λ m. nat_lt m.generation (n.shelves m.server).generation) (g.stripe segment.group).members
 
--- It was lost then: it is torn, and where it is a filed segment over its group, more members have lost their disk than the parity makes good.
+-- It was lost then: it is torn, and it is whole but for disks, whether it was filed or not; so more members have lost their disk than the parity makes good.
 pub record IsLost (g : Setting) (segment : SegRef) (n : Net) : Type 0 where
   pub torn : IsTorn g segment n
-  pub disks : (s : Segment) → In s n.flown → In s.name n.filed → ref_of s ≡ segment → (g.stripe segment.group).parity < disks_lost g n segment
+  pub whole : IsWhole g n segment
+  pub disks : (g.stripe segment.group).parity < disks_lost g n segment
 
 -- ---- when an opening says so
 

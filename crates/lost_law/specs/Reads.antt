@@ -4,9 +4,10 @@ use Rattle.client_serving.specs.declared.serving.Serving.{Serving}
 use Rattle.core_world.specs.AnyNode.{any_start, any_step}
 use Rattle.core_world.specs.declared.any_node.AnyNode.{AnyNode}
 use Rattle.fetching_law.specs.Fetchings.{ReadsAt, serving_at}
-use Rattle.gone_law.specs.Gones.{ToldLost}
 use Rattle.node_base.specs.Setups.{IsSetup}
 use Rattle.restart_law.specs.Restarts.{NoDoubtfulRestart}
+use Rattle.source_law.specs.Sources.{WasFiled}
+use Rattle.standing_law.specs.Gone.{ToldTorn}
 use Rattle.token_protocol.specs.Basics.{In}
 use Rattle.torn_law.specs.Torn.{IsTornAt}
 use Rattle.version_model.specs.declared.act.Act.TheVariants as act
@@ -21,7 +22,8 @@ use Rattle.xfs_base.specs.declared.segment.SegName.{SegName}
 use Rattle.xfs_base.specs.declared.segment.SegRef.{SegRef}
 
 module _ (e : Estate AnyNode) where
-  -- The name is that of a segment that the client's open call reads; since a moment the call of the same item has read it, and at that moment it was torn.
+  -- The name is that of a segment that the client's open call reads; since a moment the call of the same item has read it, and at that moment it had been
+  -- filed, and it was torn.
   pub record WasTornInRead (c count : ℕ) (name : SegName) : Type 0 where
     pub segment : SegRef
     pub named : name ≡ segment.name
@@ -29,16 +31,17 @@ module _ (e : Estate AnyNode) where
     pub at : ℕ
     pub before : at ≤ count
     pub reads : (k : ℕ) → at ≤ k → k ≤ count → ReadsAt e c k item segment
+    pub filed : WasFiled e at segment.name
     pub torn : IsTornAt e at segment
 
   -- what a client says is lost while it serves, at a moment up to which no restart that ended was doubtful: a manager told it so, in the epoch that the client has
-  -- promised, which had said that it was lost while it took the slot over in that epoch; or it was torn
+  -- promised, and it was torn when that manager read it, while it took the slot over in that epoch; or it was torn while the client's open call read it
   abbrev pub LosesWhatIsTorn : ℕ → Type 0
   LosesWhatIsTorn c =
       (count : ℕ) → NoDoubtfulRestart e count → (event : Event) → slice_get e.events count ≡ Some event → nodes.Client c ≡ node_of event
       → (s : Serving) → serving_at e c count ≡ Some s
       → (name : SegName) → In (act.Lost (nodes.Client c) name) (acts_in (moment e count) event)
-      → ToldLost e c s count (what_of event) name ⊎ WasTornInRead c count name
+      → ToldTorn e c s count (what_of event) name ⊎ WasTornInRead c count name
 
 -- so it is of each client of a run
 abbrev pub ReadLossesEarned : Estate AnyNode → Type 0

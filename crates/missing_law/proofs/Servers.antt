@@ -9,9 +9,10 @@ use Rattle.fragment_store.specs.ShelfState.{ShelfState, held_at, new_shelf}
 use Rattle.group_map.specs.declared.group.Group.{Group}
 use Rattle.group_map.specs.WellFormed.{IsServer}
 use Rattle.log_flight.specs.Flights.{no_member}
-use Rattle.log_law.specs.Laws.{LogsStayWhole, LogsWhole}
+use Rattle.log_law.specs.Laws.{Holds, IsLater, LogsStayWhole, LogsWhole}
 use Rattle.log_law.specs.Net.{Net}
 use Rattle.log_protocol.specs.Tables as tables
+use Rattle.log_tie.specs.Seen.{members_of}
 use Rattle.log_tie.specs.Setting.{Setting, Stripe, fragment_over, generation_of, server_of, stripe_of_group}
 use Rattle.loss_law.specs.Losses.{ref_of}
 use Rattle.node_log_tie.proofs.WholeMaps.{its_stripe}
@@ -36,6 +37,7 @@ use Rattle.world_logs.specs.Settings.{stripe_by}
 use Rattle.world_logs.specs.Shelves.{HoldsOrLost, IsKept, group_at, group_in, groups_of, piece, shelf_at, shelf_of}
 use Rattle.world_logs.specs.Standing.{RegistryThere, ServerThere}
 use Rattle.xfs_base.specs.declared.node.NodeId.TheVariants as names
+use Rattle.xfs_base.specs.declared.segment.SegName.{SegName}
 use Rattle.missing_law.proofs.Filed.{disks_of}
 use Rattle.missing_law.proofs.Moments.{ShelfAt, here_is, k_of, shelf_on}
 use Rattle.missing_law.specs.Stored.{disks_lost}
@@ -94,28 +96,25 @@ module _ (e : Estate AnyNode) (run : IsRun any_step any_start e.script e.events 
         by None seen at = absurd cc
         by (Some x) seen at = of_registry x (seen x refl) at
 
-    -- ---- what was filed
+    -- ---- what is whole
 
-    module _ (whole : LogsStayWhole) (r : Role) (is_there : IsThere e.script.setup.clients e.script.setup.managers r) (count : ℕ) (s : Segment)
-        (flew : tables.In s ((lines r is_there).at count).net.flown) (filed : tables.In s.name ((lines r is_there).at count).net.filed)
-        (undeleted : NotDeleted (moment e count) s.name) where
+    -- what no server was told to delete wasn't dropped
+    pub undropped : (r : Role) (is_there : IsThere e.script.setup.clients e.script.setup.managers r) (count : ℕ) (name : SegName)
+        → NotDeleted (moment e count) name → tables.In name ((lines r is_there).at count).net.dropped → ⊥
+    undropped r is_there count name undeleted d =
+        (let o = ((lines r is_there).stands count).deleted name d in
+        undeleted o.0 (record { name = name }) (in_was (moment e count).sent o.0 o.1) o.2 refl)
+
+    module _ (r : Role) (is_there : IsThere e.script.setup.clients e.script.setup.managers r) (count : ℕ) (s : Segment) where
       abbrev net : Net
       net = ((lines r is_there).at count).net
 
       -- its group is one of the registry's, and its members hold it or have lost their disk
-      pub record FlownStored : Type 0 where
+      pub record IsOnShelves : Type 0 where
         pub group : Group
         pub striped : group_at e.world s.group ≡ Some group
         pub kept : IsKept (moment e count) s group
         pub disks : IsTornAt e count (ref_of s) → group.parity < disks_lost (moment e count) group
-
-      all : LogsWhole (setting base e r) net
-      all = whole (setting base e r) net ((lines r is_there).stands count).moment
-
-      undropped : tables.In s.name net.dropped → ⊥
-      undropped d =
-          (let o = ((lines r is_there).stands count).deleted s.name d in
-          undeleted o.0 (record { name = s.name }) (in_was (moment e count).sent o.0 o.1) o.2 refl)
 
       -- the shelf of a server is the one that the small world has
       shelf_is : (v : ℕ) (shelf : ShelfState) → shelf_at (moment e count) v ≡ Some shelf → net.shelves v ≡ shelf
@@ -145,22 +144,42 @@ module _ (e : Estate AnyNode) (run : IsRun any_step any_start e.script e.events 
           (held_at (net.shelves (server_of t.members place)).held s.name ≡ Some (fragment_over s t place))
           ⊎ (generation_of t.members place < (net.shelves (server_of t.members place)).generation)
 
-      stored_over : (group : Group) → group_at e.world s.group ≡ Some group → FlownStored
-      stored_over group is = record { group = group; striped = is; kept = each; disks = disks_of e count s group each is }
-        where
-          members : (place : ℕ) → place < length group.members → HasOver (stripe_of_group group) place
-          members =
-              subst (λ (t : Stripe). (place : ℕ) → place < length t.members → HasOver t place) (ap stripe_by is) (all.whole s flew filed undropped)
+      -- each member of its group holds it, or has lost its disk, in the small world
+      module _ (some : 0 < length (members_of (setting base e r) s))
+          (all : (place : ℕ) → place < length (members_of (setting base e r) s) → Holds (setting base e r) net s place ⊎ IsLater (setting base e r) net s place) where
+        on_shelves_over : (group : Group) → group_at e.world s.group ≡ Some group → IsOnShelves
+        on_shelves_over group is = record { group = group; striped = is; kept = each; disks = disks_of e count s group each is }
+          where
+            members : (place : ℕ) → place < length group.members → HasOver (stripe_of_group group) place
+            members = subst (λ (t : Stripe). (place : ℕ) → place < length t.members → HasOver t place) (ap stripe_by is) all
 
-          each : IsKept (moment e count) s group
-          each place below =
-              let x = shelf_there count (server_of group.members place) (member_is_server s.group group is place below) in
-              let same : net.shelves (server_of group.members place) ≡ x.0 = shelf_is (server_of group.members place) x.0 x.1 in
-              subst (HoldsOrLost s group place) (sym x.1)
-              (subst (λ (z : ShelfState). (held_at z.held s.name ≡ Some (piece s group place)) ⊎ (generation_of group.members place < z.generation)) same
-              (members place below))
+            each : IsKept (moment e count) s group
+            each place below =
+                let x = shelf_there count (server_of group.members place) (member_is_server s.group group is place below) in
+                let same : net.shelves (server_of group.members place) ≡ x.0 = shelf_is (server_of group.members place) x.0 x.1 in
+                subst (HoldsOrLost s group place) (sym x.1)
+                (subst (λ (z : ShelfState). (held_at z.held s.name ≡ Some (piece s group place)) ⊎ (generation_of group.members place < z.generation)) same
+                (members place below))
+
+        pub is_on_shelves : IsOnShelves
+        is_on_shelves = let g = striped base e.world e.script.setup.servers (group_at e.world s.group) some in on_shelves_over g.0 g.1
+
+    -- ---- what was filed
+
+    module _ (whole : LogsStayWhole) (r : Role) (is_there : IsThere e.script.setup.clients e.script.setup.managers r) (count : ℕ) (s : Segment)
+        (flew : tables.In s ((lines r is_there).at count).net.flown) (filed : tables.In s.name ((lines r is_there).at count).net.filed)
+        (undeleted : NotDeleted (moment e count) s.name) where
+      -- its group is one of the registry's, and its members hold it or have lost their disk
+      pub record FlownStored : Type 0 where
+        pub group : Group
+        pub striped : group_at e.world s.group ≡ Some group
+        pub kept : IsKept (moment e count) s group
+        pub disks : IsTornAt e count (ref_of s) → group.parity < disks_lost (moment e count) group
+
+      all : LogsWhole (setting base e r) ((lines r is_there).at count).net
+      all = whole (setting base e r) ((lines r is_there).at count).net ((lines r is_there).stands count).moment
 
       pub flown_is_stored : FlownStored
       flown_is_stored =
-          let g = striped base e.world e.script.setup.servers (group_at e.world s.group) (all.striped s flew) in
-          stored_over g.0 g.1
+          let k = is_on_shelves r is_there count s (all.striped s flew) (all.whole s flew filed (undropped r is_there count s.name undeleted)) in
+          record { group = k.group; striped = k.striped; kept = k.kept; disks = k.disks }

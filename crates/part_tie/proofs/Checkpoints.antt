@@ -1,6 +1,6 @@
--- What a manager names in the checkpoints that it writes is known: the segments that it had in flight.
+-- What a manager names in the checkpoints that it writes is known: the segments that it had in flight, and acted to be filed.
 use Rattle.std.proofs.Common.{◌≡◌, ℕ, ◌+◌, ◌==◌, ◌||◌, not, List, [], ◌∷◌, ◌++◌, length, is_some, sym, subst}
-use Rattle.std.specs.Prelude.{Option, Some, None, IfSome, fold, nat_lt}
+use Rattle.std.specs.Prelude.{Option, Some, None, IfSome, Contains, fold, nat_lt}
 use Rattle.std.specs.List.{AllByRecursion}
 use Rattle.checkpoint.specs.declared.input.In.{In as WriterIn}
 use Rattle.checkpoint.specs.declared.input.In.TheVariants as writer_in
@@ -14,12 +14,16 @@ use Rattle.client_log.specs.declared.output.Out.{Out as LogOut}
 use Rattle.client_log.specs.declared.output.Out.TheVariants as log_out
 use Rattle.client_log.specs.Transition as log
 use Rattle.group_map.specs.GroupMapState.{GroupMapState}
+use Rattle.log_owner.specs.Sending.{name_of}
+use Rattle.manager_parts.specs.Lasting.{log_of}
 use Rattle.manager_parts.specs.Numbers.{slot_after}
 use Rattle.manager_parts.specs.SlotTable.{next_active, begin_at, cleaned_at}
 use Rattle.manager_serving.specs.Checkpoints.{Done, gives, stored, awaiting, gives_parts, registers, asked, says, says_each, writer_takes, filed, on_settled, log_says, log_says_each, writes, on_stored, no_more, writes_slot, begins_slot, next_from, next_for, next_slot, waits, on_checkpoint, awaits, counted, answered_by, on_ckpt_ack, done_again, told_again, tells_again}
 use Rattle.manager_serving.specs.declared.checkpointing.Checkpointing.{Checkpointing}
 use Rattle.manager_serving.specs.declared.serving.Serving.{Serving}
 use Rattle.node_base.specs.declared.effects.Effect.TheVariants.{Answer as Answers}
+use Rattle.version_model.specs.declared.act.Act.{Act}
+use Rattle.version_model.specs.declared.act.Act.TheVariants.{Filed}
 use Rattle.version_model.specs.declared.answer.Answer.TheVariants as answer
 use Rattle.wire_msg.specs.declared.registry.CkptAck.{CkptAck}
 use Rattle.wire_msg.specs.declared.registry.CkptDone.{CkptDone}
@@ -28,17 +32,17 @@ use Rattle.xfs_base.proofs.Booleans.{by_test}
 use Rattle.xfs_base.specs.declared.segment.End.{End}
 use Rattle.xfs_base.specs.Steps.{Stepped, still}
 use Rattle.client_log.specs.LogState.{LogState}
-use Rattle.part_tie.proofs.Leaving.{Leaves, all_flat_map, goes_after, leaves_each}
+use Rattle.part_tie.proofs.Leaving.{Leaves, LeavesIf, all_flat_map, goes_after, leaves_each, leaves_each-if}
 use Rattle.filed_tie.proofs.Frames.{all_append}
 use Rattle.segment_format.specs.declared.segment.Item.{Item}
 use Rattle.xfs_base.specs.declared.segment.LogId.{LogId}
 use Rattle.part_tie.specs.ManagerNames.{DoneNames, FlightNames, JobNames, SlotNames, WorkNames}
 use Rattle.part_tie.specs.Names.{AllKnown, Known}
-use Rattle.part_tie.proofs.Flights.{OutNames as LogOutNames, acked_names, maps_names, tick_names}
-use Rattle.part_tie.proofs.Saying.{AllSay, Says, answers_say}
+use Rattle.part_tie.proofs.Flights.{FiledKnown, OutNames as LogOutNames, acked_names, maps_names, tick_names}
+use Rattle.part_tie.proofs.Saying.{Acted, AllSay, Says, answers_say}
 use Rattle.part_tie.proofs.Tables.{BeginNames, begin_names, table_cleaned, table_named}
 
-module _ (known : Known) (log_id : LogId) where
+module _ (known : Known) (acts : List Act) (its_number : ℕ) (log_id : LogId) where
   -- ---- the writer of checkpoints
 
   -- one of this log
@@ -107,6 +111,7 @@ module _ (known : Known) (log_id : LogId) where
     pub slots : AllByRecursion (SlotNames known) s.slots
     pub work : IfSome s.writer.work (WorkNames known)
     pub own : s.writer.log ≡ log_id
+    pub its : s.lasting.number ≡ its_number
     pub done : IfSome s.checkpoint (JobNames known)
     pub more : More s.log
 
@@ -118,13 +123,17 @@ module _ (known : Known) (log_id : LogId) where
 
   -- what it has in flight is known, too
   abbrev pub Flies : Serving → Type 0
-  Flies s = Holds (FlightNames known log_id) s
+  Flies s = Holds (FlightNames known acts its_number log_id) s
 
   pub plainly : (s : Serving) → Flies s → Plain s
-  plainly s h = record { slots = h.slots; work = h.work; own = h.own; done = h.done; more = tt }
+  plainly s h = record { slots = h.slots; work = h.work; own = h.own; its = h.its; done = h.done; more = tt }
 
   abbrev pub Goes : Done → Type 0
   Goes d = Leaves Plain (Says known) d
+
+  -- so it is where all that it acts is among the acts
+  abbrev pub Tells : Done → Type 0
+  Tells d = LeavesIf (Acted acts) Plain (Says known) d
 
   one_stored : (o : LogOut) → AllSay known (stored o)
   unfolding stored
@@ -134,7 +143,7 @@ module _ (known : Known) (log_id : LogId) where
   parts_on : (s : Serving) (items : List Item) → Plain s → Goes (gives_parts s items)
   unfolding gives_parts
   parts_on s items h = record {
-    state = record { slots = h.slots; work = h.work; own = h.own; done = h.done; more = tt };
+    state = record { slots = h.slots; work = h.work; own = h.own; its = h.its; done = h.done; more = tt };
     outs = all_flat_map (Says known) stored one_stored (log.transition s.log (log_input.Parts items)).outs;
   }
 
@@ -149,6 +158,7 @@ module _ (known : Known) (log_id : LogId) where
       slots = table_named known s.slots m.slot m.epoch m.parts is h.slots;
       work = h.work;
       own = h.own;
+      its = h.its;
       done = awaits_done m is s.checkpoint;
       more = tt;
     };
@@ -159,7 +169,7 @@ module _ (known : Known) (log_id : LogId) where
   unfolding says
   says_on s (out.Parts items) h is = parts_on s items h
   says_on s (out.Done slot epoch parts horizon) h is =
-      registers_on (asked s) _ is (record { slots = h.slots; work = h.work; own = h.own; done = h.done; more = tt })
+      registers_on (asked s) _ is (record { slots = h.slots; work = h.work; own = h.own; its = h.its; done = h.done; more = tt })
   says_on s out.Kept h is = record { state = h; outs = tt }
   says_on s (out.Stale epoch) h is = record { state = h; outs = tt }
 
@@ -169,41 +179,47 @@ module _ (known : Known) (log_id : LogId) where
       let d = writer_goes s.writer given (record { work = h.work; own = h.own }) is in
       let after = d.state in
       leaves_each Plain (Says known) OutSo says says_on (record s { writer = (writer.transition s.writer given).state })
-      (writer.transition s.writer given).outs (record { slots = h.slots; work = after.work; own = after.own; done = h.done; more = tt }) d.outs
+      (writer.transition s.writer given).outs (record { slots = h.slots; work = after.work; own = after.own; its = h.its; done = h.done; more = tt }) d.outs
 
   -- ---- the log of checkpoints
 
-  settles_on : (s : Serving) (end : End) → Plain s → known (writer.part_at log_id end) → Goes (on_settled s end)
+  settles_on : (s : Serving) (end : End) → Plain s → FiledKnown known acts its_number log_id end → Tells (on_settled s end)
   unfolding on_settled
-  settles_on s end h is =
-      goes_after Plain (Says known) (filed s end) (writer_takes s (writer_in.Settled end)) (tt, tt) (writer_on s (writer_in.Settled end) h is)
+  settles_on s end h is acted =
+      let filed_so : Contains acts (Filed (name_of (log_of its_number) end)) =
+      subst (λ n. Contains acts (Filed (name_of (log_of n) end))) h.its acted.0 in
+      goes_after Plain (Says known) (filed s end) (writer_takes s (writer_in.Settled end)) (tt, tt)
+      (writer_on s (writer_in.Settled end) h (is filed_so))
 
-  log_says_on : (s : Serving) (o : LogOut) → Plain s → LogOutNames known log_id o → Goes (log_says s o)
+  log_says_on : (s : Serving) (o : LogOut) → Plain s → LogOutNames known acts its_number log_id o → Tells (log_says s o)
   unfolding log_says
-  log_says_on s (log_out.Send fragment member) h is = record { state = h; outs = (tt, tt) }
-  log_says_on s (log_out.Settled end rows) h is = settles_on s end h is
+  log_says_on s (log_out.Send fragment member) h is acted = record { state = h; outs = (tt, tt) }
+  log_says_on s (log_out.Settled end rows) h is acted = settles_on s end h is acted
 
-  writes_on : (s : Serving) (given : LogIn) → Plain s → AllByRecursion (LogOutNames known log_id) (log.transition s.log given).outs → Goes (writes s given)
+  writes_on : (s : Serving) (given : LogIn) → Plain s → AllByRecursion (LogOutNames known acts its_number log_id) (log.transition s.log given).outs
+      → Tells (writes s given)
   unfolding writes log_says_each
-  writes_on s given h names =
-      leaves_each Plain (Says known) (LogOutNames known log_id) log_says log_says_on (record s { log = (log.transition s.log given).state })
-      (log.transition s.log given).outs (record { slots = h.slots; work = h.work; own = h.own; done = h.done; more = tt }) names
+  writes_on s given h names acted =
+      leaves_each-if (Acted acts) Plain (Says known) (LogOutNames known acts its_number log_id) log_says log_says_on
+      (record s { log = (log.transition s.log given).state })
+      (log.transition s.log given).outs (record { slots = h.slots; work = h.work; own = h.own; its = h.its; done = h.done; more = tt }) names acted
 
-  pub maps_on : (s : Serving) (groups : GroupMapState) → Flies s → Goes (writes s (log_input.Maps groups))
-  maps_on s groups h = writes_on s (log_input.Maps groups) (plainly s h) (maps_names known log_id s.log groups h.more)
+  pub maps_on : (s : Serving) (groups : GroupMapState) → Flies s → Tells (writes s (log_input.Maps groups))
+  maps_on s groups h = writes_on s (log_input.Maps groups) (plainly s h) (maps_names known acts its_number log_id s.log groups h.more)
 
-  pub ticks_on : (s : Serving) → Flies s → Goes (writes s log_input.Tick)
-  ticks_on s h = writes_on s log_input.Tick (plainly s h) (tick_names known log_id s.log)
+  pub ticks_on : (s : Serving) → Flies s → Tells (writes s log_input.Tick)
+  ticks_on s h = writes_on s log_input.Tick (plainly s h) (tick_names known acts its_number log_id s.log)
 
-  pub stored_on : (s : Serving) (m : Stored) → Flies s → Goes (on_stored s m)
+  pub stored_on : (s : Serving) (m : Stored) → Flies s → Tells (on_stored s m)
   stored_on s m h =
-      writes_on s (log_input.Acked m.name m.index m.generation) (plainly s h) (acked_names known log_id s.log m.name m.index m.generation h.more)
+      writes_on s (log_input.Acked m.name m.index m.generation) (plainly s h)
+      (acked_names known acts its_number log_id s.log m.name m.index m.generation h.more)
 
   -- ---- one slot after the other
 
   no_more-on : (s : Serving) (job : Checkpointing) → Plain s → Goes (no_more s job)
   no_more-on s job h = record {
-    state = record { slots = h.slots; work = h.work; own = h.own; done = tt; more = tt };
+    state = record { slots = h.slots; work = h.work; own = h.own; its = h.its; done = tt; more = tt };
     outs = answers_say known s.lasting.items.unanswered (answer.Count job.count);
   }
 
@@ -217,7 +233,7 @@ module _ (known : Known) (log_id : LogId) where
   unfolding begins_slot
   begins_on s slot h =
       writes_slot-on (record s { slots = cleaned_at s.slots slot }) (begin_at s.slots slot)
-      (record { slots = table_cleaned known s.slots slot h.slots; work = h.work; own = h.own; done = h.done; more = tt })
+      (record { slots = table_cleaned known s.slots slot h.slots; work = h.work; own = h.own; its = h.its; done = h.done; more = tt })
       (begin_names known s.slots slot h.slots)
 
   next_on : (s : Serving) → Plain s → Goes (next_slot s)
@@ -228,7 +244,7 @@ module _ (known : Known) (log_id : LogId) where
       by_slot job is None = no_more-on s job h
       by_slot job is (Some slot) =
           begins_on (record s { checkpoint = Some (record job { next = slot_after slot }) }) slot
-          (record { slots = h.slots; work = h.work; own = h.own; done = is; more = tt })
+          (record { slots = h.slots; work = h.work; own = h.own; its = h.its; done = is; more = tt })
 
       by : (checkpoint : Option Checkpointing) → IfSome checkpoint (JobNames known) → Goes (next_for s checkpoint)
       by None is = record { state = h; outs = tt }
@@ -241,7 +257,7 @@ module _ (known : Known) (log_id : LogId) where
   checkpoint_on s number h =
       by_test Goes (is_some s.lasting.items.unanswered) (gives s (Answers number answer.Busy ∷ [])) (next_slot (waits s number))
       (λ _. record { state = h; outs = (tt, tt) })
-      (λ _. next_on (waits s number) (record { slots = h.slots; work = h.work; own = h.own; done = tt; more = tt }))
+      (λ _. next_on (waits s number) (record { slots = h.slots; work = h.work; own = h.own; its = h.its; done = tt; more = tt }))
 
   one_counted : (job : Option Checkpointing) (o : Out) → IfSome job (JobNames known) → IfSome (counted job o) (JobNames known)
   unfolding counted
@@ -260,9 +276,9 @@ module _ (known : Known) (log_id : LogId) where
   answered_on s r h left =
       by_test Goes (length r.outs == 0) (still (record s { writer = r.state }))
       (next_slot (record s { writer = r.state; checkpoint = fold counted s.checkpoint r.outs }))
-      (λ _. record { state = record { slots = h.slots; work = left.work; own = left.own; done = h.done; more = tt }; outs = tt })
+      (λ _. record { state = record { slots = h.slots; work = left.work; own = left.own; its = h.its; done = h.done; more = tt }; outs = tt })
       (λ _. next_on (record s { writer = r.state; checkpoint = fold counted s.checkpoint r.outs })
-      (record { slots = h.slots; work = left.work; own = left.own; done = all_counted s.checkpoint r.outs h.done; more = tt }))
+      (record { slots = h.slots; work = left.work; own = left.own; its = h.its; done = all_counted s.checkpoint r.outs h.done; more = tt }))
 
   pub acks_on : (s : Serving) (ack : CkptAck) → Plain s → Goes (on_ckpt_ack s ack)
   unfolding on_ckpt_ack

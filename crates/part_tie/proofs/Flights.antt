@@ -1,6 +1,6 @@
--- What a log settles was in flight in it.
+-- What a log settles was in flight in it, and is known where it is acted to be filed.
 use Rattle.std.proofs.Common.{◌≡◌, ℕ, ◌+◌, cond, List, [], ◌∷◌, refl}
-use Rattle.std.specs.Prelude.{Option, Some, None}
+use Rattle.std.specs.Prelude.{Option, Some, None, Contains}
 use Rattle.std.specs.List.{AllByRecursion}
 use Rattle.checkpoint.specs.Transition.{part_at}
 use Rattle.client_log.specs.declared.output.Out.{Out}
@@ -15,9 +15,14 @@ use Rattle.log_flight.specs.declared.flight.Fate.TheVariants.{Restripe, Settle, 
 use Rattle.log_flight.specs.Fate.{fate_of}
 use Rattle.log_flight.specs.Flights.{FlightState, flown, group_for, is_noted, is_of, noting}
 use Rattle.log_flight.specs.Fragments.{piece}
+use Rattle.log_owner.specs.Sending.{name_of}
+use Rattle.manager_parts.specs.Lasting.{log_of}
 use Rattle.segment_format.specs.declared.segment.Item.{Item}
 use Rattle.segment_format.specs.Rows.{rows_of}
+use Rattle.version_model.specs.declared.act.Act.{Act}
+use Rattle.version_model.specs.declared.act.Act.TheVariants.{Filed}
 use Rattle.xfs_base.proofs.Booleans.{by_test}
+use Rattle.xfs_base.specs.declared.segment.End.{End}
 use Rattle.xfs_base.specs.declared.segment.LogId.{LogId}
 use Rattle.xfs_base.specs.declared.segment.Prior.{Prior}
 use Rattle.xfs_base.specs.declared.segment.SegName.{SegName}
@@ -25,11 +30,18 @@ use Rattle.xfs_base.specs.Steps.{still}
 use Rattle.part_tie.specs.ManagerNames.{FlightNames}
 use Rattle.part_tie.specs.Names.{Known}
 
-module _ (known : Known) (log : LogId) where
-  -- what is settled is known
+module _ (known : Known) (acts : List Act) (its_number : ℕ) (log : LogId) where
+  -- the segment at this end of the log is known, where it is acted to be filed
+  abbrev pub FiledKnown : End → Type 0
+  FiledKnown end = Contains acts (Filed (name_of (log_of its_number) end)) → known (part_at log end)
+
+  -- what is settled is so
   abbrev pub OutNames : Out → Type 0
   OutNames (Send fragment member) = Unit {0}
-  OutNames (Settled end rows) = known (part_at log end)
+  OutNames (Settled end rows) = FiledKnown end
+
+  abbrev Flown : FlightState → Type 0
+  Flown f = FiledKnown (end_from f.segment)
 
   abbrev Gives : Done → Type 0
   Gives d = AllByRecursion OutNames d.outs
@@ -57,23 +69,23 @@ module _ (known : Known) (log : LogId) where
   unfolding if_full
   fills s = by_test Gives (is_full s) (sealed s) (still s) (λ _. seals s) (λ _. tt)
 
-  settles : (s : LogState) (f : FlightState) → known (part_at log (end_from f.segment)) → Gives (settled s f)
+  settles : (s : LogState) (f : FlightState) → Flown f → Gives (settled s f)
   unfolding settled
   settles s f is = all_append OutNames (Settled (end_from f.segment) (rows_of f.segment) ∷ []) (if_full (landed s f)).outs (is, tt) (fills (landed s f))
 
-  follows : (s : LogState) (f : FlightState) (fate : Fate) → known (part_at log (end_from f.segment)) → Gives (followed s f fate)
+  follows : (s : LogState) (f : FlightState) (fate : Fate) → Flown f → Gives (followed s f fate)
   unfolding restriped
   follows s f Restripe is = launches s _ _ _
   follows s f Settle is = settles s f is
   follows s f Wait is = tt
 
-  looks : (before s : LogState) (f : FlightState) → known (part_at log (end_from f.segment)) → Gives (looked_at before s f)
+  looks : (before s : LogState) (f : FlightState) → Flown f → Gives (looked_at before s f)
   unfolding looked_at
   looks before s f is =
       by_test Gives (can_follow s f (fate_of s.groups f)) (followed s f (fate_of s.groups f)) (still before)
       (λ _. follows s f (fate_of s.groups f) is) (λ _. tt)
 
-  pub acked_names : (s : LogState) (name : SegName) (index generation : ℕ) → FlightNames known log s → Gives (on_acked s name index generation)
+  pub acked_names : (s : LogState) (name : SegName) (index generation : ℕ) → FlightNames known acts its_number log s → Gives (on_acked s name index generation)
   unfolding on_acked
   acked_names s name index generation flies = by s.flight refl
     where
@@ -83,7 +95,7 @@ module _ (known : Known) (log : LogId) where
       by (Some f) is =
           by_test Gives (is_of f name index generation) (looked_at s s (noting f index)) (still s) (λ _. looks s s (noting f index) (flies f is)) (λ _. tt)
 
-  pub maps_names : (s : LogState) (groups : GroupMapState) → FlightNames known log s → Gives (on_maps s groups)
+  pub maps_names : (s : LogState) (groups : GroupMapState) → FlightNames known acts its_number log s → Gives (on_maps s groups)
   unfolding on_maps
   maps_names s groups flies = by s.flight refl
     where

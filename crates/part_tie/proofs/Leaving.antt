@@ -2,7 +2,7 @@
 use Rattle.std.proofs.Common.{List, [], ◌∷◌}
 use Rattle.std.specs.List.{AllByRecursion, flat_map}
 use Rattle.xfs_base.specs.Steps.{Stepped, still, after, steps}
-use Rattle.filed_tie.proofs.Frames.{all_append}
+use Rattle.filed_tie.proofs.Frames.{all_append, all_before, all_behind}
 
 pub all_flat_map : {X Y : Type 0} (P : Y → Type 0) (f : X → List Y) → ((x : X) → AllByRecursion P (f x)) → (xs : List X) → AllByRecursion P (flat_map f xs)
 all_flat_map P f each [] = tt
@@ -27,3 +27,17 @@ module _ {S O : Type 0} (Keeps : S → Type 0) (Gives : O → Type 0) where
   leaves_each Takes step each s (x ∷ xs) kept all =
       let first = each s x kept all.0 in
       goes_after (step s x).outs (steps step (step s x).state xs) first.outs (leaves_each Takes step each (step s x).state xs first.state all.1)
+
+module _ {S O : Type 0} (So : O → Type 0) (Keeps : S → Type 0) (Gives : O → Type 0) where
+  -- so it is where each thing that it gives is so
+  abbrev pub LeavesIf : Stepped S O → Type 0
+  LeavesIf d = AllByRecursion So d.outs → Leaves Keeps Gives d
+
+  pub leaves_each-if : {X : Type 0} (Takes : X → Type 0) (step : S → X → Stepped S O) → ((s : S) (x : X) → Keeps s → Takes x → LeavesIf (step s x))
+      → (s : S) (xs : List X) → Keeps s → AllByRecursion Takes xs → LeavesIf (steps step s xs)
+  leaves_each-if Takes step each s [] kept all so = stays Keeps Gives s kept
+  leaves_each-if Takes step each s (x ∷ xs) kept all so =
+      let rest : Stepped S O = steps step (step s x).state xs in
+      let first : Leaves Keeps Gives (step s x) = each s x kept all.0 (all_before So (step s x).outs rest.outs so) in
+      goes_after Keeps Gives (step s x).outs rest first.outs
+      (leaves_each-if Takes step each (step s x).state xs first.state all.1 (all_behind So (step s x).outs rest.outs so))

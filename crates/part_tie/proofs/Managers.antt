@@ -21,6 +21,7 @@ use Rattle.node_base.specs.declared.effects.Effect.TheVariants.{Answer as Answer
 use Rattle.node_base.specs.declared.peers.Peers.{Peers}
 use Rattle.node_base.specs.Maps.{forgotten}
 use Rattle.node_base.specs.Shape.{is_well_formed}
+use Rattle.version_model.specs.declared.act.Act.{Act}
 use Rattle.version_model.specs.declared.answer.Answer.TheVariants as answer
 use Rattle.version_model.specs.declared.work.Work.{Work}
 use Rattle.version_model.specs.declared.work.Work.TheVariants as work
@@ -32,11 +33,12 @@ use Rattle.wire_msg.specs.declared.packet.Packet.{Packet}
 use Rattle.wire_msg.specs.declared.registry.Welcome.{Welcome}
 use Rattle.xfs_base.proofs.Booleans.{by_test}
 use Rattle.xfs_base.specs.Blocks.{slot_of}
+use Rattle.xfs_base.specs.declared.node.NodeId.{NodeId}
 use Rattle.xfs_base.specs.declared.node.NodeId.TheVariants.{Manager as AManager}
 use Rattle.xfs_base.specs.declared.setup.Setup.{Setup}
 use Rattle.xfs_base.specs.Steps.{still}
-use Rattle.entry_tie.proofs.Frames.{all_weaker}
-use Rattle.part_tie.proofs.Leaving.{Leaves}
+use Rattle.entry_tie.proofs.Frames.{all_weaker, contains_all}
+use Rattle.part_tie.proofs.Leaving.{Leaves, LeavesIf}
 use Rattle.filed_tie.proofs.Frames.{all_append}
 use Rattle.manager_parts.specs.Lasting.{log_of}
 use Rattle.manager_serving.specs.declared.checkpointing.Checkpointing.{Checkpointing}
@@ -45,8 +47,8 @@ use Rattle.xfs_base.specs.declared.segment.LogId.{LogId}
 use Rattle.xfs_base.specs.declared.segment.SegRef.{SegRef}
 use Rattle.part_tie.specs.ManagerNames.{DoneNames, JobNames, ManagerNames, ManagerNamesRise, ManagersNameKnown, ManagersStartNaming, PhaseFlies, PhaseNames, ServingNames, SlotNames, WorkNames}
 use Rattle.part_tie.specs.Names.{AllKnown, BodyNames, DoNames, Known, NamesKnown, PacketNames, named_by}
-use Rattle.part_tie.proofs.Checkpoints.{Flies, Plain, checkpoint_on}
-use Rattle.part_tie.proofs.Saying.{Says, answers_say, packets_name}
+use Rattle.part_tie.proofs.Checkpoints.{Flies, Plain, Tells as ServingTells, checkpoint_on}
+use Rattle.part_tie.proofs.Saying.{Acted, Says, acts_acted, answers_say, packets_name}
 use Rattle.part_tie.proofs.Serving.{news_on, packet_on, tick_on}
 
 -- ---- the start
@@ -65,17 +67,24 @@ first_names known number setup works = record {
 
 -- ---- the events
 
-module _ (known : Known) where
+module _ (known : Known) (acts : List Act) where
   abbrev Goes : Went_to → Type 0
   Goes w = Leaves (PhaseNames known) (Says known) w
 
-  -- a manager that serves, with what its log has in flight
-  held : (s : Serving) → ServingNames known s → PhaseFlies known (Serves s) → Flies known s.writer.log s
-  held s h flies = record { slots = h.slots; work = h.work; own = refl; done = h.done; more = flies }
+  -- so it is where all that it acts is among the acts
+  abbrev Tells : Went_to → Type 0
+  Tells w = LeavesIf (Acted acts) (PhaseNames known) (Says known) w
 
-  serving : (d : Done) (l : LogId) → Leaves (Plain known l) (Says known) d → Goes (serves d)
-  serving d l one =
+  -- a manager that serves, with what its log has in flight
+  held : (s : Serving) → ServingNames known s → PhaseFlies known acts (Serves s) → Flies known acts s.lasting.number s.writer.log s
+  held s h flies = record { slots = h.slots; work = h.work; own = refl; its = refl; done = h.done; more = flies }
+
+  serving : (d : Done) (number : ℕ) (l : LogId) → Leaves (Plain known acts number l) (Says known) d → Goes (serves d)
+  serving d number l one =
       let h = one.state in record { state = record { slots = h.slots; work = h.work; done = h.done }; outs = one.outs }
+
+  serving-if : (d : Done) (number : ℕ) (l : LogId) → ServingTells known acts number l d → Tells (serves d)
+  serving-if d number l one acted = serving d number l (one acted)
 
   unmoved : (p : Phase) → PhaseNames known p → Goes (still p)
   unmoved p h = record { state = h; outs = tt }
@@ -129,9 +138,9 @@ module _ (known : Known) where
 
       checkpoint : (number : ℕ) → Goes (serves (on_checkpoint (record s { lasting = with_begun s.lasting }) number))
       checkpoint number =
-          serving (on_checkpoint (record s { lasting = with_begun s.lasting }) number) s.writer.log
-          (checkpoint_on known s.writer.log (record s { lasting = with_begun s.lasting }) number
-          (record { slots = h.slots; work = h.work; own = refl; done = h.done; more = tt }))
+          serving (on_checkpoint (record s { lasting = with_begun s.lasting }) number) s.lasting.number s.writer.log
+          (checkpoint_on known acts s.lasting.number s.writer.log (record s { lasting = with_begun s.lasting }) number
+          (record { slots = h.slots; work = h.work; own = refl; its = refl; done = h.done; more = tt }))
 
       by_wish : (number : ℕ) (asked : Option Work) → Goes (serving_wish (record s { lasting = with_begun s.lasting }) number (wish_at asked))
       by_wish number None = checkpoint number
@@ -152,71 +161,76 @@ module _ (known : Known) where
 
   -- after a restart it knows of no slot, and nothing is in flight
   again_names : (life : Life) (peers : Peers) (welcome : Welcome)
-      → Flies known (log_of life.number) (again life (forgotten peers.servers) welcome.news.groups)
+      → Flies known acts life.number (log_of life.number) (again life (forgotten peers.servers) welcome.news.groups)
   again_names life peers welcome = record {
     slots = (tt, (tt, (tt, (tt, (tt, (tt, (tt, (tt, tt))))))));
     work = tt;
     own = refl;
+    its = refl;
     done = tt;
-    more = λ f flies. absurd (let clash : None ≡ Some f = flies in cc);
+    more = λ f flies filed. absurd (let clash : None ≡ Some f = flies in cc);
   }
 
   welcome_on : (peers : Peers) (life : Life) (hello : ℕ) (welcome : Welcome) → BodyNames known (body.Welcome welcome)
-      → Goes (on_welcome peers life hello welcome)
+      → Tells (on_welcome peers life hello welcome)
   unfolding on_welcome
   welcome_on peers life hello welcome is =
-      by_test Goes (takes_welcome peers life hello welcome)
+      by_test Tells (takes_welcome peers life hello welcome)
       (serves (on_news (again life (forgotten peers.servers) welcome.news.groups) peers.clients welcome.news))
       (still (Waiting life hello))
-      (λ _. serving (on_news (again life (forgotten peers.servers) welcome.news.groups) peers.clients welcome.news) (log_of life.number)
-      (news_on known (log_of life.number) (again life (forgotten peers.servers) welcome.news.groups) peers.clients welcome.news is
+      (λ _. serving-if (on_news (again life (forgotten peers.servers) welcome.news.groups) peers.clients welcome.news) life.number (log_of life.number)
+      (news_on known acts life.number (log_of life.number) (again life (forgotten peers.servers) welcome.news.groups) peers.clients welcome.news is
       (again_names life peers welcome)))
-      (λ _. record { state = tt; outs = tt })
+      (λ _ acted. record { state = tt; outs = tt })
 
-  awaited_on : (peers : Peers) (life : Life) (hello : ℕ) (said : Body) → BodyNames known said → Goes (on_waiting peers life hello said)
+  awaited_on : (peers : Peers) (life : Life) (hello : ℕ) (said : Body) → BodyNames known said → Tells (on_waiting peers life hello said)
   awaited_on peers life hello (body.Welcome welcome) is = welcome_on peers life hello welcome is
-  awaited_on peers life hello _ is = record { state = tt; outs = tt }
+  awaited_on peers life hello _ is = λ acted. record { state = tt; outs = tt }
 
-  packet_goes : (peers : Peers) (p : Phase) (packet : Packet) → PhaseNames known p → PacketNames known packet → PhaseFlies known p
-      → Goes (on_packet peers p packet)
-  packet_goes peers (Down life) packet h is flies = record { state = tt; outs = tt }
+  packet_goes : (peers : Peers) (p : Phase) (packet : Packet) → PhaseNames known p → PacketNames known packet → PhaseFlies known acts p
+      → Tells (on_packet peers p packet)
+  packet_goes peers (Down life) packet h is flies = λ acted. record { state = tt; outs = tt }
   packet_goes peers (Waiting life hello) packet h is flies = awaited_on peers life hello packet.body is
   packet_goes peers (Serves s) packet h is flies =
-      serving (hears s peers.clients packet) s.writer.log (packet_on known s.writer.log s peers.clients packet (held s h flies) is)
+      serving-if (hears s peers.clients packet) s.lasting.number s.writer.log
+      (packet_on known acts s.lasting.number s.writer.log s peers.clients packet (held s h flies) is)
 
-  deliver_goes : (peers : Peers) (p : Phase) (packet : Packet) → PhaseNames known p → PacketNames known packet → PhaseFlies known p
-      → Goes (on_deliver peers p packet)
+  deliver_goes : (peers : Peers) (p : Phase) (packet : Packet) → PhaseNames known p → PacketNames known packet → PhaseFlies known acts p
+      → Tells (on_deliver peers p packet)
   unfolding on_deliver
   deliver_goes peers p packet h is flies =
-      by_test Goes (is_well_formed peers packet) (on_packet peers p packet) (still p) (λ _. packet_goes peers p packet h is flies) (λ _. unmoved p h)
+      by_test Tells (is_well_formed peers packet) (on_packet peers p packet) (still p) (λ _. packet_goes peers p packet h is flies) (λ _ acted. unmoved p h)
 
-  time_goes : (p : Phase) → PhaseNames known p → PhaseFlies known p → Goes (on_time p)
+  time_goes : (p : Phase) → PhaseNames known p → PhaseFlies known acts p → Tells (on_time p)
   unfolding on_time
-  time_goes (Down life) h flies = record { state = tt; outs = tt }
-  time_goes (Waiting life hello) h flies = record { state = tt; outs = (tt, tt) }
-  time_goes (Serves s) h flies = serving (on_tick s) s.writer.log (tick_on known s.writer.log s (held s h flies))
+  time_goes (Down life) h flies = λ acted. record { state = tt; outs = tt }
+  time_goes (Waiting life hello) h flies = λ acted. record { state = tt; outs = (tt, tt) }
+  time_goes (Serves s) h flies =
+      serving-if (on_tick s) s.lasting.number s.writer.log (tick_on known acts s.lasting.number s.writer.log s (held s h flies))
 
   -- ---- all events
 
-  event_goes : (peers : Peers) (p : Phase) (what : Do) → PhaseNames known p → DoNames known what → PhaseFlies known p → Goes (on_event peers p what)
-  event_goes peers p Begin h is flies = begins_on p h
+  event_goes : (peers : Peers) (p : Phase) (what : Do) → PhaseNames known p → DoNames known what → PhaseFlies known acts p → Tells (on_event peers p what)
+  event_goes peers p Begin h is flies = λ acted. begins_on p h
   event_goes peers p (Deliver packet) h is flies = deliver_goes peers p packet h is flies
   event_goes peers p Tick h is flies = time_goes p h flies
 
-  manager_goes : (m : Manager) (what : Do) → ManagerNames known m → DoNames known what → PhaseFlies known m.phase → Goes (happens m what)
+  manager_goes : (m : Manager) (what : Do) → ManagerNames known m → DoNames known what → PhaseFlies known acts m.phase → Tells (happens m what)
   unfolding happens
   manager_goes m what h is flies =
-      by_test Goes (phase_has_room m.phase) (on_event m.peers m.phase what) (still m.phase) (λ _. event_goes m.peers m.phase what h is flies)
-      (λ _. unmoved m.phase h)
+      by_test Tells (phase_has_room m.phase) (on_event m.peers m.phase what) (still m.phase) (λ _. event_goes m.peers m.phase what h is flies)
+      (λ _ acted. unmoved m.phase h)
 
 -- ---- the laws
 
 -- of any segments that are known
-pub any_manager_names : (known : Known) (m : Manager) (what : Do) → ManagerNames known m → DoNames known what → PhaseFlies known m.phase
-    → NamesKnown (ManagerNames known) known (manager_step m what)
+pub any_manager_names : (known : Known) (m : Manager) (what : Do) → ManagerNames known m → DoNames known what
+    → PhaseFlies known (manager_step m what).acts m.phase → NamesKnown (ManagerNames known) known (manager_step m what)
 any_manager_names known m what h is flies =
-    let d = manager_goes known m what h is flies in
-    record { node = d.state; packets = packets_name known (AManager (lasting_of m.phase).number) (happens m what).outs d.outs }
+    let name : NodeId = AManager (lasting_of m.phase).number in
+    let acts : List Act = (manager_step m what).acts in
+    let d = manager_goes known acts m what h is flies (acts_acted acts name (happens m what).outs (contains_all acts)) in
+    record { node = d.state; packets = packets_name known name (happens m what).outs d.outs }
 
 module _ (known later : Known) (more : (ref : SegRef) → known ref → later ref) where
   pub all_rise : (parts : List SegRef) → AllKnown known parts → AllKnown later parts

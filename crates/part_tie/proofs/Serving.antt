@@ -13,6 +13,7 @@ use Rattle.node_base.specs.Known.{names_known}
 use Rattle.node_base.specs.Maps.{fits, is_older, taken}
 use Rattle.takeover.specs.declared.input.In.{In as TakeIn}
 use Rattle.takeover.specs.declared.input.In.TheVariants as take_in
+use Rattle.version_model.specs.declared.act.Act.{Act}
 use Rattle.wire_msg.specs.declared.body.Body.{Body}
 use Rattle.wire_msg.specs.declared.body.Body.TheVariants as body
 use Rattle.wire_msg.specs.declared.cleaning.Check.{Check}
@@ -31,19 +32,20 @@ use Rattle.xfs_base.specs.declared.node.NodeId.{NodeId}
 use Rattle.xfs_base.specs.declared.segment.LogId.{LogId}
 use Rattle.xfs_base.specs.Steps.{still}
 use Rattle.client_log.specs.LogState.{LogState}
-use Rattle.part_tie.proofs.Leaving.{Leaves, goes_after}
+use Rattle.filed_tie.proofs.Frames.{all_before, all_behind}
+use Rattle.part_tie.proofs.Leaving.{Leaves, LeavesIf, goes_after}
 use Rattle.part_tie.specs.ManagerNames.{FlightNames}
 use Rattle.part_tie.specs.Names.{BodyNames, Known, NewsNames}
-use Rattle.part_tie.proofs.Checkpoints.{Flies, Goes, Holds, Plain, acks_on, maps_on, plainly, stored_on, tells_on, ticks_on}
-use Rattle.part_tie.proofs.Saying.{Says}
+use Rattle.part_tie.proofs.Checkpoints.{Flies, Holds, Plain, Tells, acks_on, maps_on, plainly, stored_on, tells_on, ticks_on}
+use Rattle.part_tie.proofs.Saying.{Acted, Says}
 use Rattle.part_tie.proofs.Tables.{TableAsks, TableGoes, table_asks, table_checks, table_deltas, table_gaves, table_hears, table_recalls, table_regroups, table_reports, table_takes, table_tells_usage, table_wants}
 
-module _ (known : Known) (log_id : LogId) where
+module _ (known : Known) (acts : List Act) (its_number : ℕ) (log_id : LogId) where
   -- ---- what leaves the log as it is
 
   module _ (More : LogState → Type 0) where
     abbrev At : Serving → Type 0
-    At s = Holds known log_id More s
+    At s = Holds known acts its_number log_id More s
 
     abbrev Does : Done → Type 0
     Does d = Leaves At (Says known) d
@@ -52,10 +54,10 @@ module _ (known : Known) (log_id : LogId) where
     unmoved s h = record { state = h; outs = tt }
 
     by_table : (s : Serving) (d : table.Done) → At s → TableGoes known d → Does (with_slots s d)
-    by_table s d h one = record { state = record { slots = one.state; work = h.work; own = h.own; done = h.done; more = h.more }; outs = one.outs }
+    by_table s d h one = record { state = record { slots = one.state; work = h.work; own = h.own; its = h.its; done = h.done; more = h.more }; outs = one.outs }
 
     by_asker : (s : Serving) (d : table.Asks) → At s → TableAsks known d → Does (with_asker s d)
-    by_asker s d h one = record { state = record { slots = one.state; work = h.work; own = h.own; done = h.done; more = h.more }; outs = one.outs }
+    by_asker s d h one = record { state = record { slots = one.state; work = h.work; own = h.own; its = h.its; done = h.done; more = h.more }; outs = one.outs }
 
     -- ---- clients and the cleaner
 
@@ -140,48 +142,59 @@ module _ (known : Known) (log_id : LogId) where
       → Leaves To (Says known) (and_then d f)
   then_goes From To d f one next = goes_after To (Says known) d.outs (f d.state) one.outs (next d.state one.state)
 
+  -- where all that both act is among the acts
+  then_goes-if : (From To : Serving → Type 0) (d : Done) (f : Serving → Done) → LeavesIf (Acted acts) From (Says known) d
+      → ((s : Serving) → From s → LeavesIf (Acted acts) To (Says known) (f s)) → LeavesIf (Acted acts) To (Says known) (and_then d f)
+  then_goes-if From To d f one next acted =
+      let first : Leaves From (Says known) d = one (all_before (Acted acts) d.outs (f d.state).outs acted) in
+      goes_after To (Says known) d.outs (f d.state) first.outs
+      (next d.state first.state (all_behind (Acted acts) d.outs (f d.state).outs acted))
+
   abbrev Before : Serving → Type 0
-  Before s = Flies known log_id s
+  Before s = Flies known acts its_number log_id s
 
   abbrev Then : Serving → Type 0
-  Then s = Plain known log_id s
+  Then s = Plain known acts its_number log_id s
 
   abbrev Flown : LogState → Type 0
-  Flown l = FlightNames known log_id l
+  Flown l = FlightNames known acts its_number log_id l
 
-  calmly : (d : Done) → Leaves Before (Says known) d → Goes known log_id d
-  calmly d one = record { state = plainly known log_id d.state one.state; outs = one.outs }
+  abbrev After : Done → Type 0
+  After d = Tells known acts its_number log_id d
 
-  newer_on : (s : Serving) (clients : ℕ) (news : News) → AllByRecursion (NewsNames known) news.slots → Before s → Goes known log_id (on_newer s clients news)
+  calmly : (d : Done) → Leaves Before (Says known) d → After d
+  calmly d one acted = record { state = plainly known acts its_number log_id d.state one.state; outs = one.outs }
+
+  newer_on : (s : Serving) (clients : ℕ) (news : News) → AllByRecursion (NewsNames known) news.slots → Before s → After (on_newer s clients news)
   unfolding on_newer
   newer_on s clients news names h =
-      then_goes Before Then (and_then (regroups s news.groups) (λ t. hears_slots t clients news.slots)) (λ t. writes t (log_input.Maps news.groups))
-      (then_goes Before Before (regroups s news.groups) (λ t. hears_slots t clients news.slots) (regroups_on Flown s news.groups h)
+      then_goes-if Before Then (and_then (regroups s news.groups) (λ t. hears_slots t clients news.slots)) (λ t. writes t (log_input.Maps news.groups))
+      (λ acted. then_goes Before Before (regroups s news.groups) (λ t. hears_slots t clients news.slots) (regroups_on Flown s news.groups h)
       (λ t k. slots_on Flown t clients news.slots names k))
-      (λ t k. maps_on known log_id t news.groups k)
+      (λ t k. maps_on known acts its_number log_id t news.groups k)
 
-  pub news_on : (s : Serving) (clients : ℕ) (news : News) → AllByRecursion (NewsNames known) news.slots → Before s → Goes known log_id (on_news s clients news)
+  pub news_on : (s : Serving) (clients : ℕ) (news : News) → AllByRecursion (NewsNames known) news.slots → Before s → After (on_news s clients news)
   unfolding on_news
   news_on s clients news names h =
-      by_test (Goes known log_id) (is_older s.maps news) (on_newer (record s { maps = taken s.maps news }) clients news) (hears_slots s clients news.slots)
+      by_test After (is_older s.maps news) (on_newer (record s { maps = taken s.maps news }) clients news) (hears_slots s clients news.slots)
       (λ _. newer_on (record s { maps = taken s.maps news }) clients news names
-      (record { slots = h.slots; work = h.work; own = h.own; done = h.done; more = h.more }))
+      (record { slots = h.slots; work = h.work; own = h.own; its = h.its; done = h.done; more = h.more }))
       (λ _. calmly (hears_slots s clients news.slots) (slots_on Flown s clients news.slots names h))
 
-  still_on : (s : Serving) → Before s → Goes known log_id (still s)
+  still_on : (s : Serving) → Before s → After (still s)
   still_on s h = calmly (still s) (unmoved Flown s h)
 
   fitting_on : (s : Serving) (clients : ℕ) (news : News) → AllByRecursion (NewsNames known) news.slots → Before s
-      → Goes known log_id (on_fitting_news s clients news)
+      → After (on_fitting_news s clients news)
   fitting_on s clients news names h =
-      by_test (Goes known log_id) (fits s.maps news) (on_news s clients news) (still s) (λ _. news_on s clients news names h) (λ _. still_on s h)
+      by_test After (fits s.maps news) (on_news s clients news) (still s) (λ _. news_on s clients news names h) (λ _. still_on s h)
 
   -- ---- all packets
 
-  body_on : (s : Serving) (clients : ℕ) (from : NodeId) (said : Body) → Before s → BodyNames known said → Goes known log_id (on_body s clients from said)
+  body_on : (s : Serving) (clients : ℕ) (from : NodeId) (said : Body) → Before s → BodyNames known said → After (on_body s clients from said)
   body_on s clients from (body.MapNews news) h is = fitting_on s clients news is h
   body_on s clients from (body.Welcome welcome) h is =
-      by_test (Goes known log_id) (welcome.inc == s.lasting.inc) (on_fitting_news s clients welcome.news) (still s)
+      by_test After (welcome.inc == s.lasting.inc) (on_fitting_news s clients welcome.news) (still s)
       (λ _. fitting_on s clients welcome.news is h) (λ _. still_on s h)
   body_on s clients from (body.Want want) h is = calmly (on_want s (client_in from) want) (want_on Flown s (client_in from) want h)
   body_on s clients from (body.Gave gave) h is = calmly (on_gave s (client_in from) gave) (gave_on Flown s (client_in from) gave h)
@@ -191,27 +204,28 @@ module _ (known : Known) (log_id : LogId) where
   body_on s clients from (body.Report report) h is = calmly (on_report s from report) (report_on Flown s from report h)
   body_on s clients from (body.Fragment found) h is = calmly (on_found s (server_in from) found) (found_on Flown s (server_in from) found h)
   body_on s clients from (body.Missing missing) h is = calmly (on_missing s (server_in from) missing) (missing_on Flown s (server_in from) missing h)
-  body_on s clients from (body.Stored stored) h is = stored_on known log_id s stored h
-  body_on s clients from (body.CkptAck ack) h is = acks_on known log_id s ack (plainly known log_id s h)
+  body_on s clients from (body.Stored stored) h is = stored_on known acts its_number log_id s stored h
+  body_on s clients from (body.CkptAck ack) h is = λ acted. acks_on known acts its_number log_id s ack (plainly known acts its_number log_id s h)
   body_on s clients from _ h is = still_on s h
 
-  pub packet_on : (s : Serving) (clients : ℕ) (packet : Packet) → Before s → BodyNames known packet.body → Goes known log_id (hears s clients packet)
+  pub packet_on : (s : Serving) (clients : ℕ) (packet : Packet) → Before s → BodyNames known packet.body → After (hears s clients packet)
   unfolding hears asks_for_maps
   packet_on s clients packet h is =
-      by_test (Goes known log_id) (names_known s.maps packet.body) (on_body s clients packet.from packet.body) (asks_for_maps s)
+      by_test After (names_known s.maps packet.body) (on_body s clients packet.from packet.body) (asks_for_maps s)
       (λ _. body_on s clients packet.from packet.body h is)
-      (λ _. record { state = record { slots = h.slots; work = h.work; own = h.own; done = h.done; more = tt }; outs = (tt, tt) })
+      (λ _ acted. record { state = record { slots = h.slots; work = h.work; own = h.own; its = h.its; done = h.done; more = tt }; outs = (tt, tt) })
 
   -- ---- time
 
-  pub tick_on : (s : Serving) → Before s → Goes known log_id (on_tick s)
+  pub tick_on : (s : Serving) → Before s → After (on_tick s)
   unfolding on_tick
   tick_on s h =
-      then_goes Then Then (and_then (and_then (and_then (recalls_again s) (λ t. asks_again t true)) (λ t. asks_again t false)) (λ t. writes t log_input.Tick))
+      then_goes-if Then Then
+      (and_then (and_then (and_then (recalls_again s) (λ t. asks_again t true)) (λ t. asks_again t false)) (λ t. writes t log_input.Tick))
       tells_again
-      (then_goes Before Then (and_then (and_then (recalls_again s) (λ t. asks_again t true)) (λ t. asks_again t false)) (λ t. writes t log_input.Tick)
-      (then_goes Before Before (and_then (recalls_again s) (λ t. asks_again t true)) (λ t. asks_again t false)
+      (then_goes-if Before Then (and_then (and_then (recalls_again s) (λ t. asks_again t true)) (λ t. asks_again t false)) (λ t. writes t log_input.Tick)
+      (λ acted. then_goes Before Before (and_then (recalls_again s) (λ t. asks_again t true)) (λ t. asks_again t false)
       (then_goes Before Before (recalls_again s) (λ t. asks_again t true) (recalls_on Flown s h) (λ t k. asks_on Flown t true k))
       (λ t k. asks_on Flown t false k))
-      (λ t k. ticks_on known log_id t k))
-      (λ t k. tells_on known log_id t k)
+      (λ t k. ticks_on known acts its_number log_id t k))
+      (λ t k acted. tells_on known acts its_number log_id t k)

@@ -1,20 +1,24 @@
 -- What a manager names of checkpoints: the parts of the last one of each slot that it manages, those that it has written of the present one, and those that
 -- news named of a slot that it takes over.
-use Rattle.std.specs.Prelude.{◌≡◌, ℕ, List, Some, IfSome}
+use Rattle.std.specs.Prelude.{◌≡◌, ℕ, List, Some, IfSome, Contains}
 use Rattle.std.specs.List.{AllByRecursion}
 use Rattle.checkpoint.specs.Transition.{part_at}
 use Rattle.checkpoint.specs.WriterState.{WorkState}
 use Rattle.client_log.specs.LogState.{LogState}
 use Rattle.client_log.specs.Transition.{end_from}
 use Rattle.log_flight.specs.Flights.{FlightState}
+use Rattle.log_owner.specs.Sending.{name_of}
 use Rattle.manager_node.specs.declared.manager.Manager.{Manager}
 use Rattle.manager_node.specs.declared.phase.Phase.{Phase}
 use Rattle.manager_node.specs.declared.phase.Phase.TheVariants.{Down, Waiting, Serving as Serves}
 use Rattle.manager_node.specs.Events.{first_manager, manager_step}
 use Rattle.manager_parts.specs.declared.slot_phase.SlotPhase.{SlotPhase}
 use Rattle.manager_parts.specs.declared.slot_phase.SlotPhase.TheVariants as phase
+use Rattle.manager_parts.specs.Lasting.{log_of}
 use Rattle.manager_serving.specs.declared.checkpointing.Checkpointing.{Checkpointing}
 use Rattle.manager_serving.specs.declared.serving.Serving.{Serving}
+use Rattle.version_model.specs.declared.act.Act.{Act}
+use Rattle.version_model.specs.declared.act.Act.TheVariants.{Filed}
 use Rattle.version_model.specs.declared.work.Work.{Work}
 use Rattle.wire_msg.specs.declared.packet.Do.{Do}
 use Rattle.wire_msg.specs.declared.registry.CkptDone.{CkptDone}
@@ -54,14 +58,15 @@ PhaseNames known (Serves s) = ServingNames known s
 abbrev pub ManagerNames : Known → Manager → Type 0
 ManagerNames known manager = PhaseNames known manager.phase
 
--- what its log has in flight, which the writer names once it is settled
-abbrev pub FlightNames : Known → LogId → LogState → Type 0
-FlightNames known log s = (f : FlightState) → s.flight ≡ Some f → known (part_at log (end_from f.segment))
+-- What its log has in flight, which the writer names once it is settled: where it is among the acts of an event, to be filed.
+abbrev pub FlightNames : Known → List Act → ℕ → LogId → LogState → Type 0
+FlightNames known acts number log s =
+    (f : FlightState) → s.flight ≡ Some f → Contains acts (Filed (name_of (log_of number) (end_from f.segment))) → known (part_at log (end_from f.segment))
 
-abbrev pub PhaseFlies : Known → Phase → Type 0
-PhaseFlies known (Down kept) = Unit {0}
-PhaseFlies known (Waiting kept hello) = Unit {0}
-PhaseFlies known (Serves s) = FlightNames known s.writer.log s.log
+abbrev pub PhaseFlies : Known → List Act → Phase → Type 0
+PhaseFlies known acts (Down kept) = Unit {0}
+PhaseFlies known acts (Waiting kept hello) = Unit {0}
+PhaseFlies known acts (Serves s) = FlightNames known acts s.lasting.number s.writer.log s.log
 
 -- ---- the laws
 
@@ -77,9 +82,9 @@ ManagerNamesRise =
     → ManagerNames (named_by later) manager
 
 -- Whatever happens to a manager: where the parts that it names, and those that the packet that comes names, are among these, and so is the segment that its log
--- has in flight, then so are all that it names after the event, and all that it sends.
+-- has in flight, if that is acted to be filed in the event, then so are all that it names after the event, and all that it sends.
 abbrev pub ManagersNameKnown : Type 0
 ManagersNameKnown =
     (refs : List SegRef) (manager : Manager) (what : Do) → ManagerNames (named_by refs) manager → DoNames (named_by refs) what
-    → PhaseFlies (named_by refs) manager.phase
+    → PhaseFlies (named_by refs) (manager_step manager what).acts manager.phase
     → NamesKnown (ManagerNames (named_by refs)) (named_by refs) (manager_step manager what)

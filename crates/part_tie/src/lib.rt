@@ -1,5 +1,6 @@
 //! The parts of checkpoints, as nodes name them: each part that a manager or the registry names, and each that a packet does, is a segment that a manager had
-//! in flight in its log, or one that is given from outside. It has no code: each function below has an empty body, and its contract is a law.
+//! in flight in its log and acted to be filed, or one that is given from outside. It has no code: each function below has an empty body, and its contract is a
+//! law.
 //! `specs/Names.antt` says what of a packet names parts.
 #![tactic(auto)]
 
@@ -10,8 +11,8 @@ ghost use Rattle.part_tie.specs.RegistryNames.{RegistryNamesKnown, RegistryNames
 ///
 /// - `start`: a manager at its start names nothing.
 /// - `rises`: where more may be named, it names none but that still.
-/// - `events`: where the parts that it names, and those that the packet that comes names, are known, and so is the segment that its log has in flight, then so
-///   are all that it names after the event, and all that it sends.
+/// - `events`: where the parts that it names, and those that the packet that comes names, are known, and so is the segment that its log has in flight, if that
+///   is acted to be filed in the event, then so are all that it names after the event, and all that it sends.
 pub fn managers_name_what_flew()
     ensures start { ManagersStartNaming }
     ensures rises { ManagerNamesRise }

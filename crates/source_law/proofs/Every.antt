@@ -1,10 +1,24 @@
--- What a takeover reads is stored, or is a part of the checkpoint that its news name, at each moment of every run up to which no restart was doubtful.
+-- What a takeover reads had been filed, and is stored, at each moment of every run up to which no restart was doubtful; so what it says is lost had been filed.
+use Rattle.std.proofs.Common.{ℕ, ◌<◌, arith}
+use Rattle.core_world.specs.AnyNode.{any_start, any_step}
+use Rattle.core_world.specs.declared.any_node.AnyNode.{AnyNode}
+use Rattle.log_tie.specs.Setting.{Setting}
+use Rattle.node_base.specs.Setups.{IsSetup}
 use Rattle.reading_law.specs.Readings.{RunsReadWhatCame}
+use Rattle.restart_law.specs.Restarts.{NoDoubtfulRestart}
 use Rattle.segment_tie.specs.Settings.{TellingSetting}
-use Rattle.source_law.proofs.Lying.{Laws, reads_stored}
-use Rattle.source_law.specs.Sources.{TakeoversReadWhatIsStored}
-use Rattle.world_logs.specs.Lines.{LinesHaveTexts, RunsHaveLines}
-use Rattle.world_reads.specs.Moments.{EveryMomentStands, first_of}
+use Rattle.source_law.proofs.Lying.{Laws, reads_filed, reads_stored, slot_of_map}
+use Rattle.source_law.specs.Sources.{IsStoredAs, TakeoversLoseWhatWasFiled, TakeoversReadWhatIsStored, TakeoversReadWhatWasFiled, WasFiled}
+use Rattle.taking_law.specs.Takings.{Reads, TakeoversLoseWhatIsTorn, WasTornOrDeleted, slot_at}
+use Rattle.world_base.specs.declared.estate.Estate.{Estate}
+use Rattle.world_base.specs.Runs.{IsRun}
+use Rattle.world_law.specs.Owners.{moment}
+use Rattle.world_logs.specs.Lines.{HasLines, LinesHaveTexts, RunsHaveLines, Texts}
+use Rattle.world_logs.specs.Logs.{NotDeleted}
+use Rattle.world_logs.specs.Roles.{IsThere}
+use Rattle.world_logs.specs.Roles.Role.{OfManager}
+use Rattle.world_reads.specs.Moments.{EveryMomentStands, MomentStands, first_of}
+use Rattle.xfs_base.specs.declared.segment.SegRef.{SegRef}
 
 pub record Below : Type 0 where
   pub setting : TellingSetting
@@ -14,11 +28,52 @@ pub record Below : Type 0 where
   pub came : RunsReadWhatCame
   pub laws : Laws
 
+module _ (below : Below) (e : Estate AnyNode) (ok : IsSetup e.script.setup) (run : IsRun any_step any_start e.script e.events e.world) (count : ℕ)
+    (none : NoDoubtfulRestart e count) (j : ℕ) (there : IsThere e.script.setup.clients e.script.setup.managers (OfManager j)) (slot epoch : ℕ) (ref : SegRef)
+    (r : Reads (slot_at e j slot count) epoch ref) where
+  abbrev base : Setting
+  base = below.setting.0
+
+  abbrev lines : HasLines base e
+  lines = below.lines base e ok run
+
+  abbrev texts : Texts base e lines
+  texts = below.texts base e ok lines
+
+  moment_stands : MomentStands base e lines texts count
+  moment_stands = below.moments base below.setting.1 e ok run lines texts count none
+
+  less : slot < 8
+  less =
+      slot_of_map base e lines texts 0 (first_of base e lines texts) count (moment_stands.joints 0 (omega arith)) j there slot r.taking r.takes
+
+  was_filed : WasFiled e count ref.name
+  was_filed =
+      reads_filed below.laws base e run lines texts slot (first_of base e lines texts) count (moment_stands.joints slot less)
+      (moment_stands.references slot less)
+      (below.came e ok run count) (moment_stands.named slot less) j there epoch ref r
+
+  is_stored : NotDeleted (moment e count) ref.name → IsStoredAs e count ref
+  is_stored =
+      reads_stored below.laws base e run lines texts slot (first_of base e lines texts) count (moment_stands.joints slot less)
+      (moment_stands.references slot less)
+      (below.came e ok run count) (moment_stands.named slot less) j there epoch ref r
+
+pub takeovers_read_what_was_filed : Below → TakeoversReadWhatWasFiled
+takeovers_read_what_was_filed below e ok run count none j there slot epoch ref r = was_filed below e ok run count none j there slot epoch ref r
+
 pub takeovers_read_what_is_stored : Below → TakeoversReadWhatIsStored
-takeovers_read_what_is_stored below e ok run count none j there slot less epoch ref r kept =
-    let base = below.setting.0 in
-    let lines = below.lines base e ok run in
-    let texts = below.texts base e ok lines in
-    let moment = below.moments base below.setting.1 e ok run lines texts count none in
-    reads_stored below.laws base e run lines texts slot (first_of base e lines texts) count (moment.joints slot less) (moment.references slot less)
-    (below.came e ok run count) j there epoch ref r kept
+takeovers_read_what_is_stored below e ok run count none j there slot epoch ref r kept = is_stored below e ok run count none j there slot epoch ref r kept
+
+-- it read the segment at the moment at which that was torn
+pub takeovers_lose_what_was_filed : TakeoversReadWhatWasFiled → TakeoversReadWhatIsStored → TakeoversLoseWhatIsTorn → TakeoversLoseWhatWasFiled
+takeovers_lose_what_was_filed filed stored losses e ok run count none event is j there own name among =
+    let l : WasTornOrDeleted e j count name = losses e ok run j there count event is own name among in
+    let before = l.before in
+    let undoubted : NoDoubtfulRestart e l.at = λ r n less. none r n (omega arith) in
+    let reads : Reads (slot_at e j l.slot l.at) l.epoch l.segment = l.reads l.at (omega arith) before in
+    record {
+      lost = l;
+      filed = filed e ok run l.at undoubted j there l.slot l.epoch l.segment reads;
+      stored = λ kept. stored e ok run l.at undoubted j there l.slot l.epoch l.segment reads kept;
+    }

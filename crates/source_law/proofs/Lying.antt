@@ -1,5 +1,5 @@
--- What a takeover reads at a moment that stands to the small worlds is a part of the checkpoint that its news name, or it is stored, unless it was deleted.
-use Rattle.std.proofs.Common.{◌≡◌, ◌⊎◌, ⊎_elim, ℕ, zero, suc, ◌+◌, ◌==◌, ◌<◌, ◌≤◌, Bool, true, false, cond, List, [], ◌∷◌, Option, Some, None, inl, inr, refl, sym, ap, subst, ◌∙◌, arith}
+-- What a takeover reads at a moment that stands to the small worlds had been filed, and is stored, unless it was deleted.
+use Rattle.std.proofs.Common.{◌≡◌, ⊎_elim, ℕ, zero, suc, ◌+◌, ◌==◌, ◌<◌, ◌≤◌, Bool, true, false, cond, length, List, [], ◌∷◌, Option, Some, None, inl, inr, refl, sym, ap, subst, ◌∙◌, arith}
 use Rattle.std.specs.List.{AllByRecursion}
 use Rattle.std.specs.Prelude.{Contains}
 use Rattle.std.proofs.lemmas.Bool.{eqb-true}
@@ -7,7 +7,7 @@ use native.Mathlib.Bridge.{le_prop}
 use Rattle.core_world.specs.AnyNode.{any_start, any_step}
 use Rattle.core_world.specs.declared.any_node.AnyNode.{AnyNode}
 use Rattle.core_world.specs.declared.any_node.AnyNode.TheVariants as any
-use Rattle.index_tie.specs.Filed.{Filed}
+use Rattle.index_tie.specs.Filed.{Filed, rows_at}
 use Rattle.log_law.specs.Groups.{PriorsNameGroups}
 use Rattle.log_law.specs.Laws.{LogsStayWhole, OneNameOneText}
 use Rattle.log_law.specs.Places.{APlaceNamesOneContent}
@@ -25,6 +25,8 @@ use Rattle.missing_law.proofs.Servers.{FlownStored, flown_is_stored}
 use Rattle.node_index_tie.specs.ManagerEvents as places
 use Rattle.node_index_tie.specs.Pages.{desk_of}
 use Rattle.node_tie.specs.ManagerEvents.{phase_at, slot_in}
+use Rattle.part_tie.specs.ManagerNames.{PhaseNames, SlotNames}
+use Rattle.part_tie.specs.Names.{AllKnown}
 use Rattle.reading_law.specs.Readings.{ReadingsCame, cuts_at}
 use Rattle.reading_tie.specs.Arrivals.{answered_in, cut_by}
 use Rattle.reading_tie.specs.Came.{Came, Striped}
@@ -33,7 +35,7 @@ use Rattle.reading_tie.specs.TakeoverReads.{PresentHolds, StandsBy, TakeHolds}
 use Rattle.reference_tie.specs.Managers.{PhaseRefers, ReportRefers, SlotRefers, TakeRefers}
 use Rattle.reference_tie.specs.References.{References}
 use Rattle.segment_format.specs.declared.segment.Segment.{Segment}
-use Rattle.source_law.specs.Sources.{IsStoredAs}
+use Rattle.source_law.specs.Sources.{IsStoredAs, WasFiled}
 use Rattle.takeover.specs.declared.report.Report.{Report as Heard}
 use Rattle.takeover.specs.declared.source.Source.{Source}
 use Rattle.takeover.specs.Reports.{writer_of}
@@ -41,6 +43,7 @@ use Rattle.takeover.specs.Sources.{sources_of}
 use Rattle.taking_law.specs.Takings.{Reads, slot_at, slot_of}
 use Rattle.token_protocol.specs.Basics.{In}
 use Rattle.torn_law.specs.Torn.{IsTornAt}
+use Rattle.version_model.specs.declared.act.Act.TheVariants as act
 use Rattle.world_base.specs.Cluster.{cluster_of, place_of}
 use Rattle.world_base.specs.declared.estate.Estate.{Estate}
 use Rattle.world_base.specs.Runs.{IsRun}
@@ -48,6 +51,7 @@ use Rattle.world_law.proofs.Laws.{one_node}
 use Rattle.world_law.proofs.Sent.{in_list}
 use Rattle.world_law.specs.Owners.{moment, node_in, node_named}
 use Rattle.world_logs.proofs.Roles.{high_log}
+use Rattle.world_logs.specs.Doings.{did}
 use Rattle.world_logs.specs.Lines.{HasLines, Texts}
 use Rattle.world_logs.specs.Logs.{NotDeleted}
 use Rattle.world_logs.specs.Roles.{IsThere, Role, log_by, renews}
@@ -57,6 +61,7 @@ use Rattle.world_reads.proofs.KnownLogs.{HasLog, filed_known, filed_log}
 use Rattle.world_reads.proofs.ManagerChains.{Refers, refers_down}
 use Rattle.world_reads.proofs.ManagerSources.{sources_flew}
 use Rattle.world_reads.proofs.TurnRun.{moment_cluster}
+use Rattle.world_reads.specs.Entries.{PartKnown, PartsNamed}
 use Rattle.world_reads.specs.Joint.{Joint}
 use Rattle.world_reads.specs.References.{EndFlew, Flew, ReferencesStand, ReportFlew, its}
 use Rattle.xfs_base.proofs.Members.{contains_cases, contains_nothing}
@@ -156,7 +161,8 @@ pub record Laws : Type 0 where
 
 module _ (laws : Laws) (base : Setting) (e : Estate AnyNode) (run : IsRun any_step any_start e.script e.events e.world) (lines : HasLines base e)
     (texts : Texts base e lines) (slot : ℕ) (first : ℕ → ℕ → Segment) (count : ℕ) (joint : Joint base e lines texts slot first count)
-    (stand : ReferencesStand base e lines texts slot first count) (came : ReadingsCame e.world (moment e count)) (j : ℕ)
+    (stand : ReferencesStand base e lines texts slot first count) (came : ReadingsCame e.world (moment e count))
+    (named : PartsNamed (PartKnown base e lines count (rows_at joint.idx.net.filed)) (moment e count).nodes (moment e count).sent) (j : ℕ)
     (there : IsThere e.script.setup.clients e.script.setup.managers (OfManager j)) where
   abbrev r : References
   r = its base e lines texts slot first count
@@ -254,9 +260,28 @@ module _ (laws : Laws) (base : Setting) (e : Estate AnyNode) (run : IsRun any_st
         refers_down base e lines texts slot first count (Manager j) laws.one laws.place laws.priors (sources_of t.take.news t.take.reports) flew source
         stands.leads
 
-    -- ---- what was filed is stored
+    -- ---- what flew and was filed is stored
 
-    module _ (f : ReadsFiled (joint.idx.net.filed) source) (kept : NotDeleted (moment e count) source.seg.name) where
+    module _ (role : Role) (its_there : IsThere e.script.setup.clients e.script.setup.managers role) (s : Segment)
+        (flown : tables.In s ((lines role its_there).at count).net.flown) (filed_so : tables.In s.name ((lines role its_there).at count).net.filed)
+        (same : ref_of s ≡ source.seg) (kept : NotDeleted (moment e count) source.seg.name) where
+      stored_so : IsStoredAs e count source.seg
+      stored_so =
+          let kept_so : NotDeleted (moment e count) s.name = subst (λ (x : SegRef). NotDeleted (moment e count) x.name) (sym same) kept in
+          let k : FlownStored e run base lines laws.whole role its_there count s flown filed_so kept_so =
+          flown_is_stored e run base lines laws.whole role its_there count s flown filed_so kept_so in
+          record {
+            segment = s;
+            is = same;
+            group = k.group;
+            striped = k.striped;
+            kept = k.kept;
+            disks = λ torn. k.disks (subst (IsTornAt e count) (sym same) torn);
+          }
+
+    -- ---- a segment of a log
+
+    module _ (f : ReadsFiled (joint.idx.net.filed) source) where
       h : HasLog base e lines texts slot first f.log
       h = filed_log base e lines texts slot first count joint f.log f.seq f.some f.most
 
@@ -276,6 +301,11 @@ module _ (laws : Laws) (base : Setting) (e : Estate AnyNode) (run : IsRun any_st
           subst (λ x. tables.In (joint.idx.net.filed.segment x f.seq).name ((lines h.role h.there).at count).net.filed) h.is
           ((joint.lined h.role h.there h.keeps).lined.filed f.seq f.some most_there)
 
+      acted_there : In (act.Filed (joint.idx.net.filed.segment f.log f.seq).name) (did e (log_by h.role) count)
+      acted_there =
+          subst (λ x. In (act.Filed (joint.idx.net.filed.segment x f.seq).name) (did e (log_by h.role) count)) h.is
+          (joint.acted h.role h.there h.keeps f.seq f.some most_there)
+
       its_log : (joint.idx.net.filed.segment f.log f.seq).name.log.0 ≡ f.log
       its_log = ((filed_known base e lines texts slot first count joint).filed.each f.log f.seq f.some f.most).log
 
@@ -293,28 +323,87 @@ module _ (laws : Laws) (base : Setting) (e : Estate AnyNode) (run : IsRun any_st
           (λ a x. tables.In (joint.idx.net.filed.segment f.log f.seq) ((lines a x).at count).net.flown) h.role refers.of.role (sym one_owner) h.there
           refers.of.there flown_there) (sym f.named)
 
-      pub stored : IsStoredAs e count source.seg
-      stored =
-          let k : FlownStored e run base lines laws.whole h.role h.there count s flown_there filed_there
-          (subst (NotDeleted (moment e count)) f.named kept) =
-          flown_is_stored e run base lines laws.whole h.role h.there count s flown_there filed_there (subst (NotDeleted (moment e count)) f.named kept) in
-          let same : ref_of s ≡ source.seg = λ i. record { name = sym f.named i; group = grouped i } in
-          record {
-            segment = s;
-            is = same;
-            group = k.group;
-            striped = k.striped;
-            kept = k.kept;
-            disks = λ torn. k.disks (subst (IsTornAt e count) (sym same) torn);
-          }
+      log_filed : WasFiled e count source.seg.name
+      log_filed = record {
+        owner = h.role;
+        there = h.there;
+        acted = subst (λ n. In (act.Filed n) (did e (log_by h.role) count)) (sym f.named) acted_there;
+      }
 
-    pub part_or_stored : NotDeleted (moment e count) source.seg.name → In source.seg t.take.news.parts ⊎ IsStoredAs e count source.seg
-    part_or_stored kept =
-        ⊎_elim (λ (p : ReadsPart t.take.news.parts source). inl (subst (λ (x : SegRef). In x t.take.news.parts) (ap (λ (x : Source). x.seg) (sym p.is)) p.among))
-        (λ f. inr (stored f kept)) lies.lies
+      log_stored : NotDeleted (moment e count) source.seg.name → IsStoredAs e count source.seg
+      log_stored kept = stored_so h.role h.there s flown_there filed_there (λ i. record { name = sym f.named i; group = grouped i }) kept
 
-  pub reads_stored : (epoch : ℕ) (ref : SegRef) (x : Reads (slot_at e j slot count) epoch ref) → NotDeleted (moment e count) ref.name
-      → In ref x.taking.take.news.parts ⊎ IsStoredAs e count ref
+    -- ---- a part of a checkpoint
+
+    abbrev PartOf : SegRef → Type 0
+    PartOf = PartKnown base e lines count (rows_at joint.idx.net.filed)
+
+    -- what its news name
+    parts_known : AllKnown PartOf t.take.news.parts
+    parts_known =
+        at_slot (SlotNames PartOf) serving.serving.slots slot t
+        (subst (PhaseNames PartOf) serving.serves (named.holds (any.Manager its_node.node) in_nodes)).slots serving.takes
+
+    module _ (p : ReadsPart t.take.news.parts source) where
+      it : PartOf source.seg
+      it = subst PartOf (ap (λ (x : Source). x.seg) (sym p.is)) (one_among PartOf t.take.news.parts p.ref parts_known p.among)
+
+      part_filed : WasFiled e count source.seg.name
+      part_filed = record { owner = OfManager it.manager; there = it.there; acted = it.acted }
+
+      part_stored : NotDeleted (moment e count) source.seg.name → IsStoredAs e count source.seg
+      part_stored kept =
+          stored_so (OfManager it.manager) it.there it.segment it.flew
+          (subst (λ n. tables.In n ((lines (OfManager it.manager) it.there).at count).net.filed) (sym it.named)
+          (((lines (OfManager it.manager) it.there).stands count).filed source.seg.name it.acted))
+          (λ i. record { name = it.named i; group = it.group i }) kept
+
+    -- ---- either
+
+    pub was_filed : WasFiled e count source.seg.name
+    was_filed = ⊎_elim part_filed log_filed lies.lies
+
+    pub is_stored : NotDeleted (moment e count) source.seg.name → IsStoredAs e count source.seg
+    is_stored kept = ⊎_elim (λ p. part_stored p kept) (λ f. log_stored f kept) lies.lies
+
+  pub reads_filed : (epoch : ℕ) (ref : SegRef) → Reads (slot_at e j slot count) epoch ref → WasFiled e count ref.name
+  reads_filed epoch ref x =
+      subst (λ (z : SegRef). WasFiled e count z.name) x.is (was_filed x.taking x.takes x.source x.reading x.present)
+
+  pub reads_stored : (epoch : ℕ) (ref : SegRef) → Reads (slot_at e j slot count) epoch ref → NotDeleted (moment e count) ref.name → IsStoredAs e count ref
   reads_stored epoch ref x kept =
-      subst (λ (z : SegRef). In z x.taking.take.news.parts ⊎ IsStoredAs e count z) x.is
-      (part_or_stored x.taking x.takes x.source x.reading x.present (subst (λ (z : SegRef). NotDeleted (moment e count) z.name) (sym x.is) kept))
+      subst (IsStoredAs e count) x.is
+      (is_stored x.taking x.takes x.source x.reading x.present (subst (λ (z : SegRef). NotDeleted (moment e count) z.name) (sym x.is) kept))
+
+-- ---- the slot is one of eight
+
+within : (table : List SlotPhase) (slot : ℕ) (t : Taking) → phase_at table slot ≡ phase.Taking t → slot < length table
+within [] slot t is = absurd (never t is)
+  where
+    never : (x : Taking) → phase.Away 0 ≡ phase.Taking x → ⊥
+    never x e = cc
+within (p ∷ table) zero t is = omega arith
+within (p ∷ table) (suc slot) t is = (let less = within table slot t is in omega arith)
+
+module _ (base : Setting) (e : Estate AnyNode) (lines : HasLines base e) (texts : Texts base e lines) (part : ℕ) (first : ℕ → ℕ → Segment) (count : ℕ)
+    (joint : Joint base e lines texts part first count) (j : ℕ) (there : IsThere e.script.setup.clients e.script.setup.managers (OfManager j)) (slot : ℕ)
+    (t : Taking) (is : slot_at e j slot count ≡ phase.Taking t) where
+  it_takes : IsTaking slot (node_named (moment e count) (Manager j)) t
+  it_takes = is_taking slot (node_named (moment e count) (Manager j)) t is
+
+  it_serves : IsServing slot it_takes.node.phase t
+  it_serves = is_serving slot it_takes.node.phase t it_takes.takes
+
+  it_named : node_in (moment e count).nodes (place_of (cluster_of e.script.setup) (Manager j)) ≡ Some (any.Manager it_takes.node)
+  it_named = subst (λ k. node_in (moment e count).nodes (place_of k (Manager j)) ≡ Some (any.Manager it_takes.node)) (moment_cluster e count) it_takes.is
+
+  it_agrees : places.ManagerAgrees part texts.text joint.idx.net it_takes.node.phase
+  it_agrees =
+      subst (λ (m : ManagerNode). places.ManagerAgrees part texts.text joint.idx.net m.phase)
+      (same_manager _ it_takes.node (one_node _ (any.Manager it_takes.node) (sym (joint.index_stands.placed.managers j there.0 there.1) ∙ it_named)))
+      (joint.index_stands.managers j there.0 there.1)
+
+  pub slot_of_map : slot < 8
+  slot_of_map =
+      subst (λ n. slot < n) (subst (places.ManagerAgrees part texts.text joint.idx.net) it_serves.serves it_agrees).0.eight
+      (within it_serves.serving.slots slot t it_serves.takes)

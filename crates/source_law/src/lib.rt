@@ -1,19 +1,25 @@
-//! What a manager reads while it takes a slot over is stored, or is a part of the checkpoint that its news name, in every run of the nodes' world. It has no code
-//! of the product: the function below calls the laws that it stands on, and its contract is a law. `specs/Sources.antt` says it in words of the nodes.
+//! What a manager reads while it takes a slot over had been filed and is stored, so what it says is lost had been filed, in every run of the nodes' world. It
+//! has no code of the product: the functions below call the laws that they stand on, and their contracts are laws. `specs/Sources.antt` says them in words of
+//! the nodes.
 #![tactic(auto)]
 
-ghost use Rattle.source_law.specs.Sources.{TakeoversReadWhatIsStored};
+ghost use Rattle.source_law.specs.Sources.{TakeoversLoseWhatWasFiled, TakeoversReadWhatIsStored, TakeoversReadWhatWasFiled};
 
 use log_law::{a_place_names_one_content, logs_stay_whole, names_bear_groups, one_name_one_text};
 use reading_law::readers_hold_what_came;
 use segment_tie::items_say_all;
+use taking_law::takeovers_lose_what_is_torn;
 use world_logs::runs_keep_logs;
 use world_reads::every_runs_acts_are_legal;
 
-/// At each moment of every run up to which no restart of a client or of the cleaner was doubtful: what a manager reads then while it takes a slot over is a part
-/// of the checkpoint that its news name, or, unless a server was told to delete it, each member of its group holds its fragment or has lost its disk since the
-/// group was made; so where it is torn more have lost their disk than the parity makes good (the 1996 paper, on RAID).
-pub fn takeovers_read_what_is_stored()
+/// At each moment of every run up to which no restart of a client or of the cleaner was doubtful, of what a manager reads then while it takes a slot over, a
+/// part of the checkpoint that its news name or a segment of a log (the 1996 paper, on recovery of managers):
+///
+/// - `filed`: it had been filed: a client, the cleaner or a manager told so by then.
+/// - `stored`: unless a server was told to delete it, each member of its group holds its fragment or has lost its disk since the group was made; so where it is
+///   torn more have lost their disk than the parity makes good (on RAID).
+pub fn takeovers_read_what_was_filed()
+    ensures filed { TakeoversReadWhatWasFiled }
     ensures stored { TakeoversReadWhatIsStored }
 {
     items_say_all();
@@ -24,4 +30,15 @@ pub fn takeovers_read_what_is_stored()
     a_place_names_one_content();
     names_bear_groups();
     logs_stay_whole();
+}
+
+/// Where a manager says that a segment is lost, in an event up to which no restart of a client or of the cleaner was doubtful, it takes a slot over in an epoch
+/// and has read that segment for it since a moment at which the segment had been filed, and at which more members of its group than the parity makes good
+/// lacked their fragments, or servers have been told to delete it; where it was torn and none had been told so by that moment, more members had lost their disk
+/// than the parity makes good (the 1996 paper, on RAID).
+pub fn takeovers_lose_what_was_filed()
+    ensures losses { TakeoversLoseWhatWasFiled }
+{
+    takeovers_read_what_was_filed();
+    takeovers_lose_what_is_torn();
 }

@@ -13,6 +13,7 @@ use Rattle.log_tie.specs.Setting.{Setting}
 use Rattle.loss_law.proofs.Events.{first_base}
 use Rattle.loss_law.proofs.Growing.{Base}
 use Rattle.loss_law.proofs.Interval.{passed}
+use Rattle.loss_law.proofs.Kept.{IsReading}
 use Rattle.loss_law.specs.Losses.{IsTorn, is_opening}
 use Rattle.token_protocol.specs.Basics.{In}
 use Rattle.wire_msg.specs.declared.body.Body.TheVariants as body
@@ -90,18 +91,21 @@ module _ (base : Setting) (e : Estate AnyNode) (lines : HasLines base e) (r : Ro
 
   -- ---- what was torn
 
-  -- at a moment of this opening, up to this one
+  -- at a moment of this opening, up to this one, at which it was read
   pub record TornBy (count : ℕ) (segment : SegRef) : Type 0 where
     pub at : ℕ
     pub before : at ≤ count
     pub opens : (k : ℕ) → at ≤ k → k ≤ count → is_some (scan_at e r k) ≡ true
+    pub reads : IsReading segment (net at)
     pub torn : IsTorn (setting base e r) segment (net at)
 
-  pub torn_now : (count : ℕ) → is_some (scan_at e r count) ≡ true → (segment : SegRef) → IsTorn (setting base e r) segment (net count) → TornBy count segment
-  torn_now count opens segment torn = record {
+  pub torn_now : (count : ℕ) → is_some (scan_at e r count) ≡ true → (segment : SegRef) → IsReading segment (net count)
+      → IsTorn (setting base e r) segment (net count) → TornBy count segment
+  torn_now count opens segment reads torn = record {
     at = count;
     before = omega arith;
     opens = λ k since most. subst (λ j. is_some (scan_at e r j) ≡ true) (omega arith) opens;
+    reads = reads;
     torn = torn;
   }
 
@@ -111,6 +115,7 @@ module _ (base : Setting) (e : Estate AnyNode) (lines : HasLines base e) (r : Ro
     before = (let a = t.before in omega arith);
     opens = λ k since most.
         ⊎_elim (λ same. subst (λ j. is_some (scan_at e r j) ≡ true) (sym same) opens) (λ below. t.opens k since below) (last_or_before k count most);
+    reads = t.reads;
     torn = t.torn;
   }
 

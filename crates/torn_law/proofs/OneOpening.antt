@@ -21,9 +21,9 @@ use Rattle.loss_law.proofs.Events.{grows, writes_none}
 use Rattle.loss_law.proofs.Growing.{AskedBy, Base, BootOn}
 use Rattle.loss_law.proofs.Inputs.{takes_goes}
 use Rattle.loss_law.proofs.Interval.{passed}
-use Rattle.loss_law.proofs.Kept.{Asks_on, Doubts, Middle, ReadingKept, ReadKept, RoundKept, StageKept, WasTorn, once_keeps, stage_on}
+use Rattle.loss_law.proofs.Kept.{Asks_on, Doubts, IsReading, Middle, ReadingKept, ReadKept, RoundKept, StageKept, WasTorn, once_keeps, stage_on}
 use Rattle.loss_law.proofs.Losing.{lost_in}
-use Rattle.loss_law.specs.Losses.{IsTorn, IsTrue, Once, has_drawn, is_opening}
+use Rattle.loss_law.specs.Losses.{IsRead, IsTorn, IsTrue, Once, has_drawn, is_opening}
 use Rattle.segment_reading.specs.declared.reading.Stage as rounds
 use Rattle.segment_reading.specs.declared.reading.Stage.TheVariants as stand
 use Rattle.segment_reading.specs.Reading.{ReadingState}
@@ -119,7 +119,7 @@ module _ (g : Setting) where
   module _ (Was Now : SegRef → Type 0) (up : (seg : SegRef) → Was seg → Now seg) where
     module _ (start n : Net) (run : Runs g start n) where
       weaker_middle : (seg : SegRef) (kept : List (ℕ × ℕ)) → Middle g Was run seg kept → Middle g Now run seg kept
-      weaker_middle seg kept m = record { net = m.net; base = m.base; later = m.later; pairs = m.pairs; known = λ t. up seg (m.known t) }
+      weaker_middle seg kept m = record { net = m.net; base = m.base; later = m.later; pairs = m.pairs; known = λ some t. up seg (m.known some t) }
 
       weaker_asks : (r : ReadingState) → Asks_on g Was run r → Asks_on g Now run r
       unfolding weaker_middle
@@ -166,12 +166,15 @@ module _ (g : Setting) where
 
     -- ---- it takes an input
 
-    module _ (start n : Net) (run : Runs g start n) (base : Base g n) (torn_now : (seg : SegRef) → IsTorn g seg n → Was seg) (s : ScanState)
-        (is : n.owner ≡ Opening s) (i : Input) (came : CameToScan g n i) (truth : IsTrue run s i) (k : StageKept g Was run s.opening.ask s.stage) where
+    module _ (start n : Net) (run : Runs g start n) (base : Base g n) (torn_now : (seg : SegRef) → IsReading seg n → IsTorn g seg n → Was seg)
+        (s : ScanState) (is : n.owner ≡ Opening s) (i : Input) (came : CameToScan g n i) (truth : IsTrue run s i) (k : StageKept g Was run s.opening.ask s.stage) where
+      read_now : (seg : SegRef) → IsRead s.stage seg → IsTorn g seg n → Was seg
+      read_now seg reads = torn_now seg (s, is, reads)
+
       some : (m o : Net) (more : Runs g n m) (e : Happens g m o) → AllOpen (On more e)
           → StageKept g Now (then_on run (On more e)) (transition s i).state.opening.ask (transition s i).state.stage
       some m o Begun e all =
-          (takes_goes g Was Now start n o run e (grows g n o base e) all.1.1 base s is (λ opens. up) torn_now i came truth k).kept all.1.0
+          (takes_goes g Was Now start n o run e (grows g n o base e) all.1.1 base s is (λ opens. up) read_now i came truth k).kept all.1.0
       some m o (On {m = first} more before) e all =
           stage_on g Now Now start m o (then_on run (On more before)) e (grows g m o (passed g n m base (On more before)).base e) all.1.1 (λ seg same. same)
           (transition s i).state.opening.ask (transition s i).state.stage (some first m more before all.0)
@@ -198,4 +201,4 @@ module _ (g : Setting) where
       pub lost_so : (name : SegName) → In (Lost name) (transition s i).outs → WasTorn Was s name
       lost_so name lost =
           lost_in (WasTorn Was s) (transition s i).outs
-          (takes_goes g Was Now start n fallen run Crashes (grows g n fallen base Crashes) refl base s is (λ opens. up) torn_now i came truth k).lost name lost
+          (takes_goes g Was Now start n fallen run Crashes (grows g n fallen base Crashes) refl base s is (λ opens. up) read_now i came truth k).lost name lost

@@ -15,17 +15,19 @@ use Rattle.fragment_store.specs.ShelfState.{ShelfState, held_at}
 use Rattle.group_map.specs.declared.group.Group.{Group}
 use Rattle.log_law.specs.Events.{CameToScan}
 use Rattle.log_law.specs.Net.{Net, opening}
+use Rattle.log_law.specs.Net.Owner.{Opening}
 use Rattle.log_law.specs.Net.Packet.{DeleteSent}
 use Rattle.log_owner.specs.declared.known.Known.{Known}
 use Rattle.log_owner.specs.declared.opening.Scanning.{Scanning}
 use Rattle.log_protocol.specs.Tables as tables
 use Rattle.log_scan.specs.declared.input.In.{In as Input}
 use Rattle.log_scan.specs.declared.stage.Stage.{Stage}
+use Rattle.log_scan.specs.ScanState.{ScanState}
 use Rattle.log_tie.proofs.Names.{itself}
 use Rattle.log_tie.specs.Setting.{Setting}
 use Rattle.log_tie.specs.Shelves.{is_of_log}
 use Rattle.loss_law.proofs.Counting.{counted_places}
-use Rattle.loss_law.proofs.Kept.{StageKept, WasTorn as TornOf}
+use Rattle.loss_law.proofs.Kept.{IsReading, StageKept, WasTorn as TornOf}
 use Rattle.loss_law.specs.Losses.{IsRead, IsTorn}
 use Rattle.node_base.specs.declared.effects.Effect.{Effect}
 use Rattle.node_base.specs.declared.effects.Effect.TheVariants.{Send, Answer, Lose, Does}
@@ -57,14 +59,14 @@ use Rattle.torn_law.proofs.CleanerCounts.{cleaner_drawn}
 use Rattle.torn_law.proofs.ClientCounts.{fetches_drawn}
 use Rattle.torn_law.proofs.Coming.{comes_so}
 use Rattle.torn_law.proofs.Counts.{Still, TurnAt, cluster_at, may_happen, moment_next}
-use Rattle.torn_law.proofs.Events.{Good, TornBy, at_count, base_at, named_is, net, owns_at, torn_now}
+use Rattle.torn_law.proofs.Events.{Good, TornBy, at_count, base_at, named_is, net, node_at, owns_at, torn_now}
 use Rattle.torn_law.proofs.OneOpening.{lost_so}
 use Rattle.torn_law.proofs.OpeningSays.{Comes, DoesSo, Losing, NotLost}
 use Rattle.torn_law.proofs.Owners.{Scans, boot_in, outs_of}
 use Rattle.torn_law.proofs.Truths.{Truths, truth_of}
 use Rattle.torn_law.proofs.Turns.{brought}
 use Rattle.torn_law.proofs.Drawn.{FetchesDrawn, last_of}
-use Rattle.torn_law.specs.Torn.{IsTornAt, LosesWhatIsTorn, ReopeningsLoseWhatIsTorn, WasTorn, lacks, scan_at, scan_of}
+use Rattle.torn_law.specs.Torn.{IsReadAt, IsTornAt, LosesWhatIsTorn, ReopeningsLoseWhatIsTorn, WasTorn, lacks, scan_at, scan_of}
 
 -- ---- what is done in an event
 
@@ -164,6 +166,22 @@ module _ (base : Setting) (e : Estate AnyNode) (run : IsRun any_step any_start e
         at kept in
         subst (λ (z : SegRef). z.name.log ≡ (setting base e r).log) same k.of_log
 
+    -- at a moment at which the small world reads it, the owner does
+    read_there : (at : ℕ) (segment : SegRef) → is_some (scan_at e r at) ≡ true → IsReading segment (small at) → IsReadAt e r at segment
+    read_there at segment some (t, owner, reads) = by (scan_at e r at) refl
+      where
+        one_scan : (a b : ScanState) → Opening a ≡ Opening b → a ≡ b
+        one_scan a b is = cc
+
+        by : (o : Option Scanning) → scan_at e r at ≡ o → IsReadAt e r at segment
+        by None is = contrary (sym (ap is_some is) ∙ some)
+        by (Some x) is = record {
+          scan = x;
+          scans = is;
+          is_read = subst (λ (z : ScanState). IsRead z.stage segment)
+              (one_scan t x.scan (sym owner ∙ (node_at base e lines r is_there keeps at x is).scans.sees.owner)) reads;
+        }
+
     earned : (name : SegName) → TornOf (TornBy base e lines r is_there keeps count) s.scan name → WasTorn e r count name
     earned name t = record {
       scan = s;
@@ -174,6 +192,7 @@ module _ (base : Setting) (e : Estate AnyNode) (run : IsRun any_step any_start e
       at = t.once.at;
       before = t.once.before;
       opens = t.once.opens;
+      read = read_there t.once.at t.segment (t.once.opens t.once.at (omega arith) t.once.before) t.once.reads;
       torn = torn_there t.once.at t.segment (of_log s.scan.stage t.segment truths.kept t.is_read) t.once.torn;
     }
 

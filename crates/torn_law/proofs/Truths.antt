@@ -20,7 +20,7 @@ use Rattle.log_scan.specs.ScanState.{ScanState}
 use Rattle.log_scan.specs.Transition.{transition}
 use Rattle.log_tie.specs.Setting.{Setting}
 use Rattle.loss_law.proofs.Growing.{Base}
-use Rattle.loss_law.proofs.Kept.{StageKept, once_now}
+use Rattle.loss_law.proofs.Kept.{IsReading, StageKept, once_now}
 use Rattle.loss_law.specs.Losses.{IsTorn, IsTrue, LacksIn, Once, has_drawn}
 use Rattle.node_base.specs.declared.questions.Asked.{Asked}
 use Rattle.segment_reading.specs.declared.target.Target.{Target}
@@ -147,7 +147,7 @@ module _ (g : Setting) (Was Now : SegRef → Type 0) (up : (seg : SegRef) → Wa
 
   -- ---- the owner has its turn
 
-  module _ (torn_now : (seg : SegRef) → IsTorn g seg w.net → Was seg) (what : Do) (drawn : Drawn sent owner last)
+  module _ (torn_now : (seg : SegRef) → IsReading seg w.net → IsTorn g seg w.net → Was seg) (what : Do) (drawn : Drawn sent owner last)
       (no_server : (v : ℕ) → owner ≡ Server v → ⊥) (came : (i : Input) → Comes k s what i → CameToScan g w.net i)
       (truth : (i : Input) → Comes k s what i → IsTrue run s.scan i) (its : (p : Packet) → In p new → p.from ≡ owner) where
     same_stage : (later : Scanning) → later ≡ s → Truths g Now (then_on run more) (sent ++ new) owner s

@@ -63,6 +63,12 @@ module _ (e : Estate AnyNode) where
   abbrev pub scan_at : Role → ℕ → Option Scanning
   scan_at r count = scan_of (node_named (moment e count) (owner_by r))
 
+  -- at a moment the owner opens its log, and reads this segment
+  pub record IsReadAt (r : Role) (count : ℕ) (segment : SegRef) : Type 0 where
+    pub scan : Scanning
+    pub scans : scan_at r count ≡ Some scan
+    pub is_read : IsRead scan.scan.stage segment
+
   -- More members of a segment's group lack their fragment than its parity makes good, and no server was told to delete it.
   pub record IsTornAt (count : ℕ) (segment : SegRef) : Type 0 where
     pub group : Group
@@ -70,7 +76,7 @@ module _ (e : Estate AnyNode) where
     pub torn : group.parity < count_by (λ m. lacks (shelf_at (moment e count) m.server) segment.name) group.members
     pub kept : NotDeleted (moment e count) segment.name
 
-  -- The name is that of the segment that the owner reads at a moment; and at a moment since it began to open its log that segment was torn.
+  -- The name is that of the segment that the owner reads at a moment; and at a moment since it began to open its log it read that segment, and that was torn.
   pub record WasTorn (r : Role) (count : ℕ) (name : SegName) : Type 0 where
     pub scan : Scanning
     pub scans : scan_at r count ≡ Some scan
@@ -80,6 +86,7 @@ module _ (e : Estate AnyNode) where
     pub at : ℕ
     pub before : at ≤ count
     pub opens : (k : ℕ) → at ≤ k → k ≤ count → is_some (scan_at r k) ≡ true
+    pub read : IsReadAt r at segment
     pub torn : IsTornAt at segment
 
   -- what a client, or the cleaner, says is lost while it opens its log

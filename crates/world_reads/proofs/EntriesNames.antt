@@ -1,4 +1,4 @@
--- What is named as a part of a checkpoint is a segment that was in flight in a manager's log, over every event.
+-- What is named as a part of a checkpoint is a segment that was in flight in a manager's log, and was acted to be filed, over every event.
 use Rattle.std.proofs.Common.{◌≡◌, ⊎_elim, ℕ, zero, suc, List, [], ◌∷◌, ◌++◌, Some, map, slice_get, slice_set, inl, inr, refl, sym, ap, subst}
 use Rattle.std.specs.List.{AllByRecursion}
 use Rattle.cleaner_node.specs.CleanerEvents.{takes as cleaner_takes}
@@ -98,16 +98,16 @@ module _ (known : Known) where
 
   -- ---- one node
 
-  -- what a manager has in flight is known
-  abbrev pub AnyFlies : AnyNode → Type 0
-  AnyFlies (any.Manager node) = PhaseFlies known node.phase
-  AnyFlies _ = Unit {0}
+  -- what a manager has in flight is known, where it acts that to be filed
+  abbrev pub AnyFlies : AnyNode → Do → Type 0
+  AnyFlies (any.Manager node) what = PhaseFlies known (any_step (any.Manager node) what).acts node.phase
+  AnyFlies _ what = Unit {0}
 
   pub record NamesThen (x : AnyNode) (what : Do) : Type 0 where
     pub node : AnyNames known (any_step x what).node
     pub packets : AllByRecursion (PacketNames known) (any_step x what).packets
 
-  names_then : (x : AnyNode) (what : Do) → AnyNames known x → DoNames known what → AnyFlies x
+  names_then : (x : AnyNode) (what : Do) → AnyNames known x → DoNames known what → AnyFlies x what
       → ((p : Packet) → In p (any_step x what).packets → IsKind p) → NamesThen x what
   names_then (any.Client node) what names comes flies kinds = record {
     node = tt;
@@ -147,7 +147,8 @@ module _ (known : Known) where
   in_behind (z ∷ xs) ys x among = inr (in_behind xs ys x among)
 
   module _ (w : World AnyNode) (event : Event) (stand : PartsNamed known w.nodes w.sent) (came : (p : Packet) → what_of event ≡ Deliver p → In p w.sent)
-      (flies : (node : AnyNode) → Took w event node → AnyFlies node) (kinds : (p : Packet) → In p (next_world any_step w event).sent → IsKind p) where
+      (flies : (node : AnyNode) → Took w event node → AnyFlies node (what_of event))
+      (kinds : (p : Packet) → In p (next_world any_step w event).sent → IsKind p) where
     abbrev next : World AnyNode
     next = next_world any_step w event
 

@@ -1,6 +1,7 @@
--- What is known of a part of a checkpoint is known later: the segment flew, and its rows are told where more is filed.
-use Rattle.std.proofs.Common.{◌≡◌, ℕ, suc, List, None, Option, Some, arith}
+-- What is known of a part of a checkpoint is known later: the segment flew, it was acted to be filed, and its rows are told where more is filed.
+use Rattle.std.proofs.Common.{◌≡◌, ⊎_elim, ℕ, suc, List, [], ◌∷◌, None, Option, Some, inl, inr, sym, arith}
 use Rattle.std.specs.List.{AllByRecursion}
+use Rattle.std.specs.Prelude.{Contains}
 use Rattle.core_world.specs.declared.any_node.AnyNode.{AnyNode}
 use Rattle.entry_tie.proofs.Frames.{all_weaker}
 use Rattle.entry_tie.proofs.Rising.{rows_rise, told_more}
@@ -10,19 +11,28 @@ use Rattle.log_tie.specs.Setting.{Setting}
 use Rattle.segment_format.specs.declared.segment.Item.{Item}
 use Rattle.segment_format.specs.declared.segment.Item.TheVariants.{Block, Delta, Part}
 use Rattle.token_protocol.specs.Basics.{In}
+use Rattle.version_model.specs.declared.act.Act.TheVariants as act
 use Rattle.world_base.specs.declared.estate.Estate.{Estate}
 use Rattle.world_law.specs.Owners.{node_in}
 use Rattle.world_logs.proofs.Line.{grows}
 use Rattle.world_logs.specs.Lines.{HasLines}
+use Rattle.world_logs.specs.Roles.{log_by}
 use Rattle.world_logs.specs.Roles.Role.{OfManager}
 use Rattle.world_reads.proofs.EntriesStay.{at_place}
+use Rattle.world_reads.proofs.Taking.{did_before}
 use Rattle.world_reads.specs.Entries.{PartKnown}
+use Rattle.xfs_base.proofs.Members.{contains_cases, contains_nothing}
 use Rattle.xfs_base.specs.declared.segment.SegRef.{SegRef}
 
 -- a node of a name is one of the nodes
 pub among_nodes : (nodes : List AnyNode) (o : Option ℕ) (node : AnyNode) → node_in nodes o ≡ Some node → In node nodes
 among_nodes nodes None node is = absurd (let clash : None ≡ Some node = is in cc)
 among_nodes nodes (Some place) node is = at_place nodes place node is
+
+-- what a list contains is in it
+pub in_contained : {X : Type 0} (xs : List X) (x : X) → Contains xs x → In x xs
+in_contained [] x is = absurd (contains_nothing x is)
+in_contained (y ∷ xs) x is = ⊎_elim (λ same. inl (sym same)) (λ later. inr (in_contained xs x later)) (contains_cases y x xs is)
 
 module _ (rows later : FiledRows) (more : AreMore rows later) where
   part_rises : (i : Item) → PartTold (told_by rows) i → PartTold (told_by later) i
@@ -43,6 +53,7 @@ module _ (rows later : FiledRows) (more : AreMore rows later) where
       flew = known.flew;
       named = known.named;
       group = known.group;
+      acted = known.acted;
       told = parts_rise known.segment.items known.told;
     }
 
@@ -56,5 +67,6 @@ module _ (rows later : FiledRows) (more : AreMore rows later) where
           known.flew;
       named = known.named;
       group = known.group;
+      acted = did_before e (log_by (OfManager known.manager)) count (act.Filed ref.name) known.acted;
       told = parts_rise known.segment.items known.told;
     }

@@ -1,6 +1,6 @@
 -- What is told of where blocks lie stays told over an event of a run: each node that takes one files and reads what is told.
 use Rattle.std.proofs.Common.{◌≡◌, ◌<◌, ◌+◌, ℕ, suc, true, false, List, Option, Some, slice_get, refl, sym, ap, subst, ◌∙◌, arith}
-use Rattle.std.specs.Prelude.{IfSome}
+use Rattle.std.specs.Prelude.{Contains, IfSome}
 use Rattle.cleaner_log_tie.specs.Owner as cleaner_log
 use Rattle.cleaner_node.specs.CleanerEvents.{cleaner_step}
 use Rattle.cleaner_node.specs.declared.cleaner.Cleaner.{Cleaner as CleanerNode}
@@ -15,6 +15,7 @@ use Rattle.client_node.specs.Phases.{client_step}
 use Rattle.core_world.specs.AnyNode.{any_start, any_step}
 use Rattle.core_world.specs.declared.any_node.AnyNode.{AnyNode}
 use Rattle.core_world.specs.declared.any_node.AnyNode.TheVariants as any
+use Rattle.client_log.specs.Transition.{end_from}
 use Rattle.entry_tie.specs.CleanerTells as cleaner_entries
 use Rattle.entry_tie.specs.CleanerTells.{CleanerOwed}
 use Rattle.entry_tie.specs.ClientTells as client_entries
@@ -30,6 +31,7 @@ use Rattle.log_protocol.specs.Tables as tables
 use Rattle.log_owner.specs.declared.known.Known.{Known as KnownMaps}
 use Rattle.log_owner.specs.declared.opening.Stage.{Stage}
 use Rattle.log_owner.specs.declared.opening.Stage.TheVariants as stage
+use Rattle.log_owner.specs.Sending.{name_of}
 use Rattle.log_tie.proofs.Names.{itself}
 use Rattle.log_tie.specs.Setting.{Setting}
 use Rattle.manager_log_tie.specs.Owner as manager_log
@@ -37,12 +39,14 @@ use Rattle.manager_node.specs.declared.manager.Manager.{Manager as ManagerNode}
 use Rattle.manager_node.specs.declared.phase.Phase as managers
 use Rattle.manager_node.specs.declared.phase.Phase.TheVariants as managing
 use Rattle.manager_node.specs.Events.{manager_step}
+use Rattle.manager_parts.specs.Lasting.{log_of}
 use Rattle.node_index_tie.specs.ManagerEvents.{ManagerAgrees}
 use Rattle.node_index_tie.specs.Sight.{held_in}
 use Rattle.part_tie.specs.ManagerNames.{PhaseFlies}
 use Rattle.segment_format.specs.declared.segment.Segment.{Segment}
 use Rattle.token_protocol.specs.Basics.{In}
 use Rattle.version_model.specs.declared.act.Act.{Act}
+use Rattle.version_model.specs.declared.act.Act.TheVariants as act
 use Rattle.wire_msg.specs.declared.packet.Do.{Do}
 use Rattle.wire_msg.specs.declared.packet.Do.TheVariants.{Deliver}
 use Rattle.wire_msg.specs.declared.packet.Packet.{Packet}
@@ -63,7 +67,7 @@ use Rattle.world_law.proofs.Turns.{one_node}
 use Rattle.world_law.specs.Owners.{moment, node_in}
 use Rattle.world_lines.specs.Lines.{IsLine, LinesGive}
 use Rattle.world_logs.proofs.Line.{grows}
-use Rattle.world_logs.specs.Doings.{owns}
+use Rattle.world_logs.specs.Doings.{did, owns}
 use Rattle.world_logs.specs.Lines.{HasLines, Line, Texts, setting}
 use Rattle.world_logs.specs.Roles.{Role, log_by, renews}
 use Rattle.world_logs.specs.Roles.Role.{OfClient, OfCleaner, OfManager}
@@ -72,16 +76,17 @@ use Rattle.world_reads.proofs.CleanerMoment.{upto_before}
 use Rattle.world_reads.proofs.EntriesManagers.{SlotKnown, manager_owed}
 use Rattle.world_reads.proofs.EntriesNames.{AnyFlies, names_rise, names_stay, taken_known}
 use Rattle.world_reads.proofs.EntriesOwners.{OwnsEvent, chain_told, flight_told}
-use Rattle.world_reads.proofs.EntriesParts.{among_nodes, part_later, part_more}
+use Rattle.world_reads.proofs.EntriesParts.{among_nodes, in_contained, part_later, part_more}
 use Rattle.world_reads.proofs.EntriesRise.{EntryKinds, entries_rise, rows_more}
 use Rattle.world_reads.proofs.EntriesSame.{same_rows, sure_log}
 use Rattle.world_reads.proofs.EntriesStay.{AnyOwed, entries_stay}
-use Rattle.world_reads.proofs.Taking.{Took, moment_next}
+use Rattle.world_reads.proofs.Taking.{Took, did_then, moment_next}
 use Rattle.world_reads.specs.Entries.{EntriesStand, PartKnown, PartsNamed}
 use Rattle.world_reads.specs.Joint.{IsSureUpto, Joint, There, log_at}
 use Rattle.xfs_base.specs.declared.node.NodeId.{NodeId}
 use Rattle.xfs_base.specs.declared.node.NodeId.TheVariants.{Client, Manager, Server, Cleaner, Registry}
 use Rattle.xfs_base.specs.declared.segment.LogId.{LogId}
+use Rattle.xfs_base.specs.declared.segment.SegName.{SegName}
 
 -- the laws of the crates below on which it stands
 pub record EntryLaws : Type 0 where
@@ -284,10 +289,12 @@ module _ (base : Setting) (e : Estate AnyNode) (lines : HasLines base e) (texts 
 
       -- ---- what it has in flight
 
-      manager_flies : (j : ℕ) → node_of event ≡ Manager j → AnyFlies (PartKnown base e lines (suc count) (rows_at h)) node
-      manager_flies j own =
-          subst (AnyFlies (PartKnown base e lines (suc count) (rows_at h)))
-          (is_named (Manager j) own (any.Manager it) here) (by it.phase refl)
+      -- so it is of a node that takes the event
+      abbrev Flies : AnyNode → Type 0
+      Flies y = AnyFlies (PartKnown base e lines (suc count) (rows_at h)) y what
+
+      manager_flies : (j : ℕ) → node_of event ≡ Manager j → Flies node
+      manager_flies j own = subst Flies same (by it.phase refl)
         where
           b : Behind k.clients k.managers j took.place
           b = behind k.clients k.managers j took.place (at_place (Manager j) own)
@@ -298,13 +305,25 @@ module _ (base : Setting) (e : Estate AnyNode) (lines : HasLines base e) (texts 
           here : node_in w.nodes (place_of k (Manager j)) ≡ Some (any.Manager it)
           here = joint.index_stands.placed.managers j b.some b.within
 
+          same : any.Manager it ≡ node
+          same = is_named (Manager j) own (any.Manager it) here
+
           line : Line base e (OfManager j)
           line = lines (OfManager j) (b.some, b.within)
 
-          by : (p : managers.Phase) → it.phase ≡ p → PhaseFlies (PartKnown base e lines (suc count) (rows_at h)) p
+          acts : List Act
+          acts = (any_step (any.Manager it) what).acts
+
+          -- what it acts it did up to the next count
+          done : (name : SegName) → Contains acts (act.Filed name) → In (act.Filed name) (did e (log_by (OfManager j)) (suc count))
+          done name is =
+              did_then e (log_by (OfManager j)) count event (any.Manager it) x.is (ap (owns (log_by (OfManager j))) own ∙ itself (log_by (OfManager j)))
+              (subst (Took w event) (sym same) took) (act.Filed name) (in_contained acts (act.Filed name) is)
+
+          by : (p : managers.Phase) → it.phase ≡ p → PhaseFlies (PartKnown base e lines (suc count) (rows_at h)) acts p
           by (managing.Down kept) is = tt
           by (managing.Waiting kept hello) is = tt
-          by (managing.Serving s) is = λ flight flies. (
+          by (managing.Serving s) is = λ flight flies acted. (
               let its = subst (manager_log.ManagerAgrees (setting base e (OfManager j)) j (line.at count)) is
               ((line.stands count).seen (Manager j) (any.Manager it) here refl) in
               let writes = (subst (ManagerAgrees part texts.text joint.idx.net) is (joint.index_stands.managers j b.some b.within)).0.writer in
@@ -322,27 +341,32 @@ module _ (base : Setting) (e : Estate AnyNode) (lines : HasLines base e) (texts 
                 named = ap (λ (l : LogId). record { log = l; seq = flight.segment.name.seq; pass = flight.segment.name.pass })
                     (writes.named flight flies ∙ writes.same_log);
                 group = refl;
+                acted =
+                    let its_log : log_of s.lasting.number ≡ s.writer.log =
+                    ap log_of its.lasts.number ∙ (sym its.log.own.log ∙ writes.same_log) in
+                    subst (λ (l : LogId). In (act.Filed (record { log = l; seq = flight.segment.name.seq; pass = flight.segment.name.pass }))
+                    (did e (log_by (OfManager j)) (suc count))) its_log (done (name_of (log_of s.lasting.number) (end_from flight.segment)) acted);
               })
 
-      any_flies : AnyFlies (PartKnown base e lines (suc count) (rows_at h)) node
+      any_flies : Flies node
       any_flies = by (node_of event) refl
         where
-          by : (name : NodeId) → node_of event ≡ name → AnyFlies (PartKnown base e lines (suc count) (rows_at h)) node
+          by : (name : NodeId) → node_of event ≡ name → Flies node
           by (Client c) own =
               (let b = behind 0 k.clients c took.place (at_place (Client c) own) in
-              subst (AnyFlies (PartKnown base e lines (suc count) (rows_at h)))
+              subst Flies
               (is_named (Client c) own (any.Client (joint.idx.client c))
               (joint.index_stands.placed.clients c b.some (let most = b.within in omega arith))) tt)
           by (Manager j) own = manager_flies j own
           by (Server v) own =
               (let b = behind (k.clients + k.managers) k.servers v took.place (at_place (Server v) own) in
               let there = joint.index_stands.placed.servers v b.some b.within in
-              subst (AnyFlies (PartKnown base e lines (suc count) (rows_at h))) (is_named (Server v) own (any.Server there.0) there.1) tt)
+              subst Flies (is_named (Server v) own (any.Server there.0) there.1) tt)
           by Cleaner own =
-              subst (AnyFlies (PartKnown base e lines (suc count) (rows_at h)))
+              subst Flies
               (is_named Cleaner own (any.Cleaner joint.idx.cleaner) joint.index_stands.placed.cleaner) tt
           by Registry own =
-              subst (AnyFlies (PartKnown base e lines (suc count) (rows_at h)))
+              subst Flies
               (is_named Registry own (any.Registry joint.idx.registry) joint.index_stands.placed.registry) tt
 
       -- ---- what it is owed

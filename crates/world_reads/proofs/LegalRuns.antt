@@ -34,7 +34,7 @@ module _ (below : Below) where
     stands =
         let w = whole_at (whole_below below) base e lines texts (first_of base e lines texts) apart setup run count
         (λ r there keeps. below.lines.undoubted_runs_are_sure base e lines count none r there keeps) in
-        record { joints = w.joints; references = w.references }
+        record { joints = w.joints; references = w.references; named = w.named; comes = w.comes }
 
     legal : AreLegal (moment e count).acts
     legal =

@@ -53,6 +53,8 @@ pub mod TurnLinks
 pub mod TurnOwed
 pub mod TurnClientOwed
 pub mod TurnCleanerOwed
+pub mod TurnActed
+pub mod TurnFollows
 pub mod TurnNext
 pub mod TurnRun
 pub mod TurnLives

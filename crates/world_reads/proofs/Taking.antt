@@ -107,3 +107,21 @@ did_then e l count event node is owner took act among =
     let its : acts_of l w event ≡ acts = ap (λ (t : Bool). if t then acts_in w event else []) owner ∙ added in
     subst (In act) (sym (acts_next l e.events count event (start_world any_start e.script) is))
     (in_after (did e l count) (acts_of l w event) act (subst (In act) (sym its) among))
+
+in_rest : {X : Type 0} (xs ys zs : List X) (x : X) → (In x ys → In x zs) → In x (xs ++ ys) → In x (xs ++ zs)
+in_rest [] ys zs x more is = more is
+in_rest (y ∷ xs) ys zs x more (inl is) = inl is
+in_rest (y ∷ xs) ys zs x more (inr later) = inr (in_rest xs ys zs x more later)
+
+acts_before : (l : ℕ) (act : Act) (events : List Event) (count : ℕ) (w : World AnyNode) → In act (acts_by l w (take count events))
+    → In act (acts_by l w (take (suc count) events))
+acts_before l act [] zero w is = is
+acts_before l act [] (suc count) w is = is
+acts_before l act (x ∷ events) zero w is = absurd is
+acts_before l act (x ∷ events) (suc count) w is =
+    in_rest (acts_of l w x) (acts_by l (next_world any_step w x) (take count events)) (acts_by l (next_world any_step w x) (take (suc count) events)) act
+    (acts_before l act events count (next_world any_step w x)) is
+
+-- and what it did before
+pub did_before : (e : Estate AnyNode) (l count : ℕ) (act : Act) → In act (did e l count) → In act (did e l (suc count))
+did_before e l count act is = acts_before l act e.events count (start_world any_start e.script) is

@@ -78,7 +78,7 @@ module _ (laws : StepsBelow) (base : Setting) (e : Estate AnyNode) (lines : HasL
 
     -- so the moment after it stands, too
     pub next_all : (count : ℕ) (joints : Joints count) (sure : IsSure (suc count)) → Steps count joints sure → (part : ℕ) (of_eight : part < 8)
-        → Grows base e lines texts part first (suc count) (joints part of_eight).idx.net.filed
+        → Grows base e lines texts part first count (joints part of_eight)
     next_all count joints sure steps part of_eight =
         joint_then laws base e lines texts part first of_eight apart run count (joints part of_eight) sure (steps part of_eight)
         (lives_tell (suc count) (λ part of_eight.

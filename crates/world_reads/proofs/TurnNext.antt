@@ -6,7 +6,7 @@ use Rattle.std.specs.Prelude.{IfSome}
 use Rattle.core_world.specs.AnyNode.{any_start, any_step}
 use Rattle.core_world.specs.declared.any_node.AnyNode.{AnyNode}
 use Rattle.core_world.specs.declared.any_node.AnyNode.TheVariants as any
-use Rattle.index_tie.specs.Filed.{Filed, rows_at}
+use Rattle.index_tie.specs.Filed.{rows_at}
 use Rattle.index_tie.specs.Growth.{IsMore}
 use Rattle.log_flight.specs.Flights.{FlightState}
 use Rattle.log_tie.specs.Setting.{Setting}
@@ -32,25 +32,29 @@ use Rattle.world_reads.proofs.After.{OfLogs, of_logs}
 use Rattle.world_reads.proofs.AfterWrites.{cleaner_writes_then, clients_write_then}
 use Rattle.world_reads.proofs.CleanerMoving.{moved_then}
 use Rattle.world_reads.proofs.Taking.{Took, took_it}
+use Rattle.world_reads.proofs.TurnActed.{acted_still, acted_then}
 use Rattle.world_reads.proofs.TurnBooks.{promised_left}
 use Rattle.world_reads.proofs.TurnBoth.{Both, IsOwed, Turned, both_of}
 use Rattle.world_reads.proofs.TurnCleaner.{promised_after}
 use Rattle.world_reads.proofs.TurnFalls.{FallsKnown, fell_then}
+use Rattle.world_reads.proofs.TurnFollows.{follows_itself, follows_turn}
 use Rattle.world_reads.proofs.TurnLaws.{StepsBelow}
 use Rattle.world_reads.proofs.TurnLinks.{cleaner_linked, clients_linked}
 use Rattle.world_reads.proofs.TurnLogs.{LogsKnown, cleaner_or_not, known_then, logs_known}
 use Rattle.world_reads.proofs.TurnMoment as now
 use Rattle.world_reads.proofs.TurnStill.{IsStill, Rests, flew_still, known_still, rested}
+use Rattle.world_reads.specs.Chains.{Follows}
 use Rattle.world_reads.specs.Entries.{EntriesStand}
-use Rattle.world_reads.specs.Joint.{IsSureUpto, Joint, There, flew_at, k}
+use Rattle.world_reads.specs.Joint.{IsSureUpto, Joint, LinesActed, There, flew_at, k}
 use Rattle.xfs_base.specs.declared.node.NodeId.TheVariants.{Cleaner}
 
--- A moment that stands to all small worlds, by which no less is filed than was.
+-- The moment after one that stands to all small worlds: it stands so and follows that one, and no less is filed than was.
 pub record Grows (base : Setting) (e : Estate AnyNode) (lines : HasLines base e) (texts : Texts base e lines) (part : ℕ) (first : ℕ → ℕ → Segment)
     (count : ℕ)
-    (before : Filed) : Type 0 where
-  pub joint : Joint base e lines texts part first count
-  pub more : IsMore before joint.idx.net.filed
+    (before : Joint base e lines texts part first count) : Type 0 where
+  pub joint : Joint base e lines texts part first (suc count)
+  pub more : IsMore before.idx.net.filed joint.idx.net.filed
+  pub follows : Follows (k base e lines texts part first) part before.tok before.idx.net joint.tok joint.idx.net
 
 module _ (laws : StepsBelow) (base : Setting) (e : Estate AnyNode) (lines : HasLines base e) (texts : Texts base e lines) (part : ℕ)
     (first : ℕ → ℕ → Segment) (of_eight : part < 8) (apart : TellsApart base) (run : IsRun any_step any_start e.script e.events e.world)
@@ -78,6 +82,7 @@ module _ (laws : StepsBelow) (base : Setting) (e : Estate AnyNode) (lines : HasL
     pub falls : FallsKnown base e lines texts part first count b
     pub moved : FlightMoves count b
     pub promised : b.idx.net.promised ≤ b.tok.net.promised
+    pub acted : LinesActed base e lines texts part first count b.idx.net.filed
     pub entries : TellsEntries count b
 
   clients_write : (count : ℕ) (b : Both base e lines texts part first count) (c : ℕ) → 0 < c → c ≤ e.script.setup.clients
@@ -92,11 +97,11 @@ module _ (laws : StepsBelow) (base : Setting) (e : Estate AnyNode) (lines : HasL
       (now.cleaner_here base e lines texts part first count b)
 
   pub joint_of : (count : ℕ) (b : Both base e lines texts part first count) → IsSureUpto base e lines texts part first count → LivesTell count
-      → IsKnown count b → (before : Filed) → IsMore before b.idx.net.filed → Grows base e lines texts part first count before
-  joint_of count b sure lives known before more =
+      → IsKnown count b → Joint base e lines texts part first count
+  joint_of count b sure lives known =
       let logs : OfLogs base e lines texts part first count b.tok.net.books b.idx.net.filed =
       of_logs base e lines texts part first count b.tok.net.books b.idx.net.filed known.logs.all known.logs.none in
-      let joint : Joint base e lines texts part first count = record {
+      record {
         tok = b.tok;
         tokens_stand = b.tokens_stand;
         idx = b.idx;
@@ -107,6 +112,7 @@ module _ (laws : StepsBelow) (base : Setting) (e : Estate AnyNode) (lines : HasL
         lined = logs.lined;
         alone = logs.alone;
         tells = logs.tells;
+        acted = known.acted;
         flew = logs.flew;
         kind = logs.kind;
         fell = known.falls;
@@ -117,8 +123,7 @@ module _ (laws : StepsBelow) (base : Setting) (e : Estate AnyNode) (lines : HasL
         clients_linked = clients_linked laws base e lines texts part first of_eight count b sure known.logs;
         cleaner_linked = cleaner_linked laws base e lines texts part first of_eight count b sure known.logs;
         entries = known.entries;
-      } in
-      record { joint = joint; more = more }
+      }
 
   pub known_of : (count : ℕ) (joint : Joint base e lines texts part first count) → IsKnown count (both_of base e lines texts part first count joint)
   known_of count joint = record {
@@ -126,6 +131,7 @@ module _ (laws : StepsBelow) (base : Setting) (e : Estate AnyNode) (lines : HasL
     falls = joint.fell;
     moved = joint.moved;
     promised = joint.promised;
+    acted = joint.acted;
     entries = joint.entries;
   }
 
@@ -137,18 +143,24 @@ module _ (laws : StepsBelow) (base : Setting) (e : Estate AnyNode) (lines : HasL
 
     pub stays : LivesTell (suc count) → Rests base e lines texts part first count
         → ((r : Role) (there : There base e lines texts part first r) → renews r ≡ false → IsStill base e lines texts part first count r there)
-        → Grows base e lines texts part first (suc count) joint.idx.net.filed
-    stays lives rests still = joint_of (suc count) (rested base e lines texts part first count rests b) sure lives (record {
-      logs = known_still base e lines texts part first count rests b laws still sure known.logs;
-      falls = λ c there. subst (λ acts. FallKnown acts c (flew_at base e lines texts part first (OfClient c) there (suc count)) (b.tok.client c).phase)
-          (sym rests.acts)
-          (subst (λ flight. FallKnown (moment e count).acts c flight (b.tok.client c).phase) (sym (flew (OfClient c) there refl)) (known.falls c there));
-      moved = subst (λ (o : Option FlightState). IfSome o (λ f. AllByRecursion (ItemMoves part b.idx.net.sent) f.segment.items))
-          (sym (flew OfCleaner tt refl)) known.moved;
-      promised = known.promised;
-      entries = subst (λ nodes. EntriesStand (rows_at b.idx.net.filed) nodes (moment e (suc count)).sent) (sym rests.nodes)
-          (subst (λ sent. EntriesStand (rows_at b.idx.net.filed) (moment e count).nodes sent) (sym rests.sent) known.entries);
-    }) joint.idx.net.filed (more_itself joint.idx.net.filed)
+        → Grows base e lines texts part first count joint
+    unfolding joint_of
+    stays lives rests still = record {
+      joint = joint_of (suc count) (rested base e lines texts part first count rests b) sure lives (record {
+        logs = known_still base e lines texts part first count rests b laws still sure known.logs;
+        falls = λ c there. subst (λ acts. FallKnown acts c (flew_at base e lines texts part first (OfClient c) there (suc count)) (b.tok.client c).phase)
+            (sym rests.acts)
+            (subst (λ flight. FallKnown (moment e count).acts c flight (b.tok.client c).phase) (sym (flew (OfClient c) there refl)) (known.falls c there));
+        moved = subst (λ (o : Option FlightState). IfSome o (λ f. AllByRecursion (ItemMoves part b.idx.net.sent) f.segment.items))
+            (sym (flew OfCleaner tt refl)) known.moved;
+        promised = known.promised;
+        acted = acted_still base e lines texts part first count joint.idx.net.filed known.acted;
+        entries = subst (λ nodes. EntriesStand (rows_at b.idx.net.filed) nodes (moment e (suc count)).sent) (sym rests.nodes)
+            (subst (λ sent. EntriesStand (rows_at b.idx.net.filed) (moment e count).nodes sent) (sym rests.sent) known.entries);
+      });
+      more = more_itself joint.idx.net.filed;
+      follows = follows_itself cl part texts.text first (moment e count).nodes (moment e count).sent joint.tok joint.idx joint.index_stands;
+    }
       where
         known : IsKnown count b
         known = known_of count joint
@@ -197,12 +209,19 @@ module _ (laws : StepsBelow) (base : Setting) (e : Estate AnyNode) (lines : HasL
 
       -- the moment after it, where what is told of where blocks lie is so
       pub taken : LivesTell (suc count) → (LogsKnown base e lines texts part first (suc count) d → TellsEntries (suc count) d)
-          → Grows base e lines texts part first (suc count) joint.idx.net.filed
-      taken lives entries = joint_of (suc count) d sure lives (record {
-        logs = logs lives;
-        falls = fell_then base e lines texts part first laws of_eight apart count event at (clusters count) may b sure node took owed turned known.logs
-            known.falls (clients_write (suc count) d);
-        moved = moved;
-        promised = ⊎_elim (λ own. own_promised own node took owed turned) promised_left_so (cleaner_or_not (node_of event));
-        entries = entries (logs lives);
-      }) joint.idx.net.filed turned.grown.filed
+          → Grows base e lines texts part first count joint
+      unfolding joint_of
+      taken lives entries = record {
+        joint = joint_of (suc count) d sure lives (record {
+          logs = logs lives;
+          falls = fell_then base e lines texts part first laws of_eight apart count event at (clusters count) may b sure node took owed turned known.logs
+              known.falls (clients_write (suc count) d);
+          moved = moved;
+          promised = ⊎_elim (λ own. own_promised own node took owed turned) promised_left_so (cleaner_or_not (node_of event));
+          acted = acted_then base e lines texts part first count event at b.idx.asked b.idx.net d.idx.net (node_of event) refl node took owed.index turned.makes
+              known.acted;
+          entries = entries (logs lives);
+        });
+        more = turned.grown.filed;
+        follows = follows_turn base e lines texts part first count event at (clusters count) b node took owed turned;
+      }

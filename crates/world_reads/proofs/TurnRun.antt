@@ -140,7 +140,7 @@ module _ (laws : StepsBelow) (base : Setting) (e : Estate AnyNode) (lines : HasL
         both_by (inr (node, took, turned)) = turned.then
 
         joint_by : LivesTell laws base e lines texts part first of_eight apart run clusters (suc count) → Which
-            → Grows base e lines texts part first (suc count) joint.idx.net.filed
+            → Grows base e lines texts part first count joint
         joint_by lives (inl is) = stays laws base e lines texts part first of_eight apart run clusters count joint sure lives (nothing is) still
         joint_by lives (inr (node, took, turned)) =
             taken laws base e lines texts part first of_eight apart run clusters count joint sure event at (may_be event at) node took
@@ -159,10 +159,10 @@ module _ (laws : StepsBelow) (base : Setting) (e : Estate AnyNode) (lines : HasL
 
       -- and to all, where managers told versions of blocks that live
       pub joint_then : LivesTell laws base e lines texts part first of_eight apart run clusters (suc count)
-          → Grows base e lines texts part first (suc count) joint.idx.net.filed
+          → Grows base e lines texts part first count joint
       joint_then lives = by (slice_get e.events count) refl
         where
-          by : (o : Option Event) → slice_get e.events count ≡ o → Grows base e lines texts part first (suc count) joint.idx.net.filed
+          by : (o : Option Event) → slice_get e.events count ≡ o → Grows base e lines texts part first count joint
           by None none = stays laws base e lines texts part first of_eight apart run clusters count joint sure lives (ended none)
               (λ r there keeps. inl (left none r there))
           by (Some event) at = joint_by event at (step event at (may_be event at)) lives (which event at (step event at (may_be event at)))

@@ -5,7 +5,6 @@ use Rattle.std.specs.Prelude.{IfSome}
 use Rattle.core_world.specs.AnyNode.{any_start, any_step}
 use Rattle.core_world.specs.declared.any_node.AnyNode.{AnyNode}
 use Rattle.index_tie.specs.Filed.{rows_at}
-use Rattle.index_tie.specs.Growth.{IsMore}
 use Rattle.index_tie.specs.Net as index
 use Rattle.log_flight.specs.Flights.{FlightState}
 use Rattle.log_law.specs.Events.{Runs}
@@ -16,7 +15,6 @@ use Rattle.log_law.specs.Restarts.{IsSureRun, flight_in, last_flight}
 use Rattle.log_tie.specs.Setting.{Setting}
 use Rattle.node_base.specs.Setups.{IsSetup}
 use Rattle.node_tie.specs.RegistryEvents.{RegistrySound}
-use Rattle.owner_index_tie.proofs.Frames.{more_itself}
 use Rattle.owner_index_tie.specs.CleanerMoves.{ItemMoves}
 use Rattle.reopening_law.specs.Flights.{LastFlew}
 use Rattle.reopening_law.specs.Reopens.{TellsApart}
@@ -38,6 +36,7 @@ use Rattle.world_logs.specs.Lines.{HasLines, IsBegun, Texts, setting}
 use Rattle.world_logs.specs.Roles.{log_by}
 use Rattle.world_logs.specs.Roles.Role.{OfCleaner}
 use Rattle.world_reads.proofs.AfterClients.{OwnAfter}
+use Rattle.world_reads.proofs.TurnActed.{nothing_filed}
 use Rattle.world_reads.proofs.TurnBoth.{Both}
 use Rattle.world_reads.proofs.TurnFalls.{FallsKnown, fell_serving}
 use Rattle.world_reads.proofs.TurnLaws.{StepsBelow}
@@ -132,6 +131,7 @@ module _ (laws : StepsBelow) (base : Setting) (e : Estate AnyNode) (lines : HasL
       falls = start_falls;
       moved = subst (λ (o : Option FlightState). IfSome o (λ f. AllByRecursion (ItemMoves part start_both.idx.net.sent) f.segment.items)) (sym start_flight) tt;
       promised = omega arith;
+      acted = λ r there keeps q some most. absurd (nothing_filed first (log_by r) q some most);
       entries = entries;
     }
 
@@ -139,10 +139,5 @@ module _ (laws : StepsBelow) (base : Setting) (e : Estate AnyNode) (lines : HasL
     unfolding start_world
     nothing_sent = tt
 
-    start_more : IsMore (index.opening first).filed start_both.idx.net.filed
-    unfolding start_both
-    start_more = more_itself (index.opening first).filed
-
     pub start_joint : Joint base e lines texts part first 0
-    start_joint = (joint_of laws base e lines texts part first of_eight apart run (moment_cluster e) 0 start_both start_sure nothing_sent start_known
-        (index.opening first).filed start_more).joint
+    start_joint = joint_of laws base e lines texts part first of_eight apart run (moment_cluster e) 0 start_both start_sure nothing_sent start_known

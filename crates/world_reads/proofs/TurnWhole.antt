@@ -54,6 +54,7 @@ use Rattle.world_reads.proofs.TurnNext.{Grows}
 use Rattle.world_reads.proofs.TurnOwed.{AllOwed, IndexOwed, TokensOwed, is_owed}
 use Rattle.world_reads.proofs.TurnRun.{StepIsOwed, may_at, moment_cluster, past_end}
 use Rattle.world_reads.proofs.TurnStart.{start_joint}
+use Rattle.world_reads.specs.Chains.{Comes}
 use Rattle.world_reads.specs.Entries.{EntriesStand, PartKnown, PartsNamed}
 use Rattle.world_reads.specs.Joint.{Joint, There, k, log_at}
 use Rattle.world_reads.specs.References.{ReferencesStand}
@@ -87,6 +88,7 @@ module _ (laws : WholeBelow) (base : Setting) (e : Estate AnyNode) (lines : HasL
     pub joints : All count
     pub references : (part : ℕ) → part < 8 → ReferencesStand base e lines texts part first count
     pub named : (part : ℕ) (of_eight : part < 8) → Named count (joints part of_eight).idx.net.filed
+    pub comes : (part : ℕ) (of_eight : part < 8) → Comes base e lines texts part first count (joints part of_eight)
 
   -- ---- an event
 
@@ -171,7 +173,7 @@ module _ (laws : WholeBelow) (base : Setting) (e : Estate AnyNode) (lines : HasL
     step part of_eight = record { owed = owed part of_eight; tells = tells part of_eight }
 
     -- what is named then, and what is referred to
-    named_so : (part : ℕ) (of_eight : part < 8) (next : Grows base e lines texts part first (suc count) (joint part of_eight).idx.net.filed)
+    named_so : (part : ℕ) (of_eight : part < 8) (next : Grows base e lines texts part first count (joint part of_eight))
         → Named (suc count) next.joint.idx.net.filed
     named_so part of_eight next =
         named_then base e lines texts part first count laws.entries event next.joint.idx.net.filed
@@ -189,7 +191,7 @@ module _ (laws : WholeBelow) (base : Setting) (e : Estate AnyNode) (lines : HasL
     steps : Steps laws.steps base e lines texts first apart run count whole.joints sure
     steps part of_eight event at may = step count whole sure event at may part of_eight
 
-    next : (part : ℕ) (of_eight : part < 8) → Grows base e lines texts part first (suc count) (whole.joints part of_eight).idx.net.filed
+    next : (part : ℕ) (of_eight : part < 8) → Grows base e lines texts part first count (whole.joints part of_eight)
     next = next_all laws.steps base e lines texts first apart run count whole.joints sure steps
 
     same_end : slice_get e.events count ≡ None → moment e (suc count) ≡ moment e count
@@ -224,7 +226,12 @@ module _ (laws : WholeBelow) (base : Setting) (e : Estate AnyNode) (lines : HasL
             references_so count whole sure event at (may_at e.events count event (start_world any_start e.script) e.world run at) part of_eight
 
     whole_next : Whole (suc count)
-    whole_next = record { joints = λ part of_eight. (next part of_eight).joint; references = references_next; named = named_next }
+    whole_next = record {
+      joints = λ part of_eight. (next part of_eight).joint;
+      references = references_next;
+      named = named_next;
+      comes = λ part of_eight. (whole.joints part of_eight, whole.comes part of_eight, (next part of_eight).follows);
+    }
 
   -- ---- each moment
 
@@ -234,6 +241,7 @@ module _ (laws : WholeBelow) (base : Setting) (e : Estate AnyNode) (lines : HasL
         (entries_begin laws.entries.kinds (rows_at (index.opening first).filed) e);
     references = λ part of_eight. references_begin base e lines texts part first;
     named = λ part of_eight. names_begin _ e;
+    comes = λ part of_eight. tt;
   }
 
   -- up to which no restart that ended was doubtful

@@ -15,10 +15,12 @@ use Rattle.part_tie.specs.Names.{Known, PacketNames}
 use Rattle.part_tie.specs.RegistryNames.{RegistryNames}
 use Rattle.segment_format.specs.declared.segment.Segment.{Segment}
 use Rattle.token_protocol.specs.Basics.{In}
+use Rattle.version_model.specs.declared.act.Act.TheVariants as act
 use Rattle.wire_msg.specs.declared.packet.Packet.{Packet}
 use Rattle.world_base.specs.declared.estate.Estate.{Estate}
+use Rattle.world_logs.specs.Doings.{did}
 use Rattle.world_logs.specs.Lines.{HasLines}
-use Rattle.world_logs.specs.Roles.{IsThere}
+use Rattle.world_logs.specs.Roles.{IsThere, log_by}
 use Rattle.world_logs.specs.Roles.Role.{OfManager}
 use Rattle.xfs_base.specs.declared.segment.SegRef.{SegRef}
 
@@ -49,8 +51,8 @@ pub record PartsNamed (known : Known) (nodes : List AnyNode) (sent : List Packet
   pub packets : (p : Packet) → In p sent → PacketNames known p
 
 module _ (base : Setting) (e : Estate AnyNode) (lines : HasLines base e) where
-  -- A part that a checkpoint names: a segment that was in flight in a manager's log up to this count, under that name, over that group. It has Parts alone,
-  -- whose rows are what these filed segments say.
+  -- A part that a checkpoint names: a segment that was in flight in a manager's log up to this count, under that name, over that group, and that the manager
+  -- acted to be filed. It has Parts alone, whose rows are what these filed segments say.
   pub record PartKnown (count : ℕ) (rows : FiledRows) (ref : SegRef) : Type 0 where
     pub manager : ℕ
     pub there : IsThere e.script.setup.clients e.script.setup.managers (OfManager manager)
@@ -58,4 +60,5 @@ module _ (base : Setting) (e : Estate AnyNode) (lines : HasLines base e) where
     pub flew : tables.In segment ((lines (OfManager manager) there).at count).net.flown
     pub named : segment.name ≡ ref.name
     pub group : segment.group ≡ ref.group
+    pub acted : In (act.Filed ref.name) (did e (log_by (OfManager manager)) count)
     pub told : AllByRecursion (PartTold (told_by rows)) segment.items

@@ -3,7 +3,7 @@ use Rattle.std.specs.Prelude.{◌≡◌, ℕ, ◌≤◌, ◌<◌, Option, None, 
 use Rattle.std.specs.List.{AllByRecursion}
 use Rattle.core_world.specs.declared.any_node.AnyNode.{AnyNode}
 use Rattle.index_reads.specs.Ties.{BooksAre}
-use Rattle.index_tie.specs.Filed.{rows_at}
+use Rattle.index_tie.specs.Filed.{Filed, rows_at}
 use Rattle.log_flight.specs.Flights.{FlightState}
 use Rattle.log_law.specs.Net.{Net as LogNet}
 use Rattle.log_law.specs.Restarts.{IsSureRun, last_flight}
@@ -16,6 +16,8 @@ use Rattle.segment_format.specs.declared.segment.Segment.{Segment}
 use Rattle.segment_tie.specs.Cleaners.{CleanerWrites}
 use Rattle.segment_tie.specs.Clients.{ClientWrites}
 use Rattle.segment_tie.specs.Segments.{IsCopies, IsOriginal, TellsOnce}
+use Rattle.token_protocol.specs.Basics.{In}
+use Rattle.version_model.specs.declared.act.Act.TheVariants as act
 use Rattle.world_base.specs.declared.cluster.Cluster.{Cluster}
 use Rattle.world_base.specs.declared.estate.Estate.{Estate}
 use Rattle.world_index.proofs.Tokens.{Entered}
@@ -24,6 +26,7 @@ use Rattle.world_law.proofs.Standing as tokens
 use Rattle.world_law.specs.Owners.{moment}
 use Rattle.world_lines.specs.Lines.{IsLine}
 use Rattle.world_lines.specs.Polls.{ClientLinked, CleanerLinked}
+use Rattle.world_logs.specs.Doings.{did}
 use Rattle.world_logs.specs.Lines.{HasLines, Texts, cluster}
 use Rattle.world_logs.specs.Roles.{IsThere, Role, log_by, renews}
 use Rattle.world_logs.specs.Roles.Role.{OfClient, OfCleaner, OfManager}
@@ -55,6 +58,12 @@ module _ (base : Setting) (e : Estate AnyNode) (lines : HasLines base e) (texts 
   abbrev pub IsSureUpto : ℕ → Type 0
   IsSureUpto count = (r : Role) (there : There r) → renews r ≡ false → IsSureRun ((lines r there).stands count).moment.run
 
+  -- each segment of the line of a log was acted to be filed by the log's owner, a client or the cleaner, up to this count
+  abbrev pub LinesActed : ℕ → Filed → Type 0
+  LinesActed count f =
+      (r : Role) → There r → renews r ≡ false → (q : ℕ) → 0 < q → q ≤ f.head (log_by r)
+      → In (act.Filed (f.segment (log_by r) q).name) (did e (log_by r) count)
+
   pub record Joint (count : ℕ) : Type 0 where
     -- the small world of tokens
     pub tok : tokens.Scene
@@ -71,6 +80,7 @@ module _ (base : Setting) (e : Estate AnyNode) (lines : HasLines base e) (texts 
     pub lined : (r : Role) (there : There r) → renews r ≡ false → IsLine (log_by r) (log_at r there count) idx.net.filed
     pub alone : (l : ℕ) → ((r : Role) → There r → renews r ≡ false → log_by r ≡ l → ⊥) → idx.net.filed.head l ≡ 0
     pub tells : (l q : ℕ) → 0 < q → q ≤ idx.net.filed.head l → TellsOnce (idx.net.filed.segment l q)
+    pub acted : LinesActed count idx.net.filed
     -- what owners had in flight when they served last
     pub flew : (r : Role) (there : There r) → renews r ≡ false → LastFlew tok.net.books (log_by r) (flew_at r there count)
     pub kind : (r : Role) (there : There r) → renews r ≡ false → IfSome (flew_at r there count) (λ f. WritesKind r f.segment)

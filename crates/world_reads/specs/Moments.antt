@@ -1,8 +1,9 @@
--- How a moment of a run, up to which no restart that ended was doubtful, stands to all small worlds: those of each slot, and those of all logs; and what nodes
--- refer to then.
+-- How a moment of a run, up to which no restart that ended was doubtful, stands to all small worlds: those of each slot, and those of all logs; what nodes
+-- refer to and name then, and how it came about.
 use Rattle.std.specs.Prelude.{◌<◌, ℕ}
 use Rattle.core_world.specs.AnyNode.{any_start, any_step}
 use Rattle.core_world.specs.declared.any_node.AnyNode.{AnyNode}
+use Rattle.index_tie.specs.Filed.{rows_at}
 use Rattle.log_tie.specs.Setting.{Setting}
 use Rattle.node_base.specs.Setups.{IsSetup}
 use Rattle.reopening_law.specs.Reopens.{TellsApart}
@@ -10,7 +11,10 @@ use Rattle.restart_law.specs.Restarts.{NoDoubtfulRestart}
 use Rattle.segment_format.specs.declared.segment.Segment.{Segment}
 use Rattle.world_base.specs.declared.estate.Estate.{Estate}
 use Rattle.world_base.specs.Runs.{IsRun}
+use Rattle.world_law.specs.Owners.{moment}
 use Rattle.world_logs.specs.Lines.{HasLines, Texts}
+use Rattle.world_reads.specs.Chains.{Comes}
+use Rattle.world_reads.specs.Entries.{PartKnown, PartsNamed}
 use Rattle.world_reads.specs.Joint.{Joint}
 use Rattle.world_reads.specs.References.{ReferencesStand}
 
@@ -21,6 +25,11 @@ first_of base e lines texts l q = texts.text (record { log = record { 0 = l }; s
 pub record MomentStands (base : Setting) (e : Estate AnyNode) (lines : HasLines base e) (texts : Texts base e lines) (count : ℕ) : Type 0 where
   pub joints : (part : ℕ) → part < 8 → Joint base e lines texts part (first_of base e lines texts) count
   pub references : (part : ℕ) → part < 8 → ReferencesStand base e lines texts part (first_of base e lines texts) count
+  -- what is named as a part of a checkpoint is a segment of a manager's log, which the manager acted to be filed
+  pub named : (part : ℕ) (of_eight : part < 8)
+      → PartsNamed (PartKnown base e lines count (rows_at (joints part of_eight).idx.net.filed)) (moment e count).nodes (moment e count).sent
+  -- and the moment comes of the start
+  pub comes : (part : ℕ) (of_eight : part < 8) → Comes base e lines texts part (first_of base e lines texts) count (joints part of_eight)
 
 -- So each moment does, for any lines of the run's logs and the one text that each name has there.
 abbrev pub EveryMomentStands : Type 0

@@ -5,11 +5,8 @@ use Rattle.core_world.specs.AnyNode.{any_start, any_step}
 use Rattle.core_world.specs.declared.any_node.AnyNode.{AnyNode}
 use Rattle.top_call.specs.Claim.{IsPlayed}
 use Rattle.world_base.specs.declared.estate.Estate.{Estate}
-use Rattle.node_base.specs.Setups.{IsSetup}
-use Rattle.world_base.specs.Runs.{IsRun}
 
-module _ (Law : Estate AnyNode → Type 0)
-    (law : (e : Estate AnyNode) → IsSetup e.script.setup → IsRun any_step any_start e.script e.events e.world → Law e) where
+module _ (Law : Estate AnyNode → Type 0) (law : (e : Estate AnyNode) → IsPlayed any_step any_start e → Law e) where
   pub played_has : (o : Option (Estate AnyNode)) → IfSome o (IsPlayed any_step any_start) → IfSome o Law
   played_has None played = tt
-  played_has (Some e) played = law e played.setup played.one_run
+  played_has (Some e) played = law e played

@@ -1,0 +1,15 @@
+mod Telling
+mod Items
+mod Plans
+mod Following
+mod Arriving
+mod Calling
+mod Openings
+mod Clients
+mod Emptying
+mod Cleaners
+mod Slots
+mod Managers
+mod Stores
+mod Begins
+mod Runs

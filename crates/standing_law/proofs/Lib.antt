@@ -1,0 +1,5 @@
+mod Lowest
+mod Deleting
+mod Lapsing
+mod Holding
+mod Standing

@@ -1,0 +1,52 @@
+-- What is claimed of the run that a call of the program played: the headline, in one record. Its premises are three. The registry does not fail: no line of a
+-- script stops it. What speaks of versions and of what reads lose ends with the first restart that is doubtful. Want of memory ends the call, and then there is
+-- no run.
+use Rattle.answer_law.specs.Runs.{LostAnswersEarned}
+use Rattle.core_world.specs.AnyNode.{any_start, any_step}
+use Rattle.core_world.specs.declared.any_node.AnyNode.{AnyNode}
+use Rattle.lost_law.specs.Reads.{ReadLossesEarned}
+use Rattle.source_law.specs.Sources.{TakeoverLossesFiled}
+use Rattle.taking_law.specs.Takings.{TakeoverLossesEarned}
+use Rattle.top_call.specs.Claim.{IsPlayed}
+use Rattle.whole_law.specs.Whole.{ReopeningLossesWereWhole}
+use Rattle.world_base.specs.declared.estate.Estate.{Estate}
+use Rattle.world_law.specs.Fallen.{FallsApartThroughout, NobodyHoldsThroughout}
+use Rattle.world_law.specs.Managers.{OneManagerThroughout}
+use Rattle.world_law.specs.Owners.{OneOwnerThroughout}
+use Rattle.world_logs.specs.Horizons.{HorizonsReached}
+use Rattle.world_logs.specs.Logs.{CleanersLogStands, LogsStand, ManagersLogsStand}
+use Rattle.world_reads.specs.Legal.{LegalActs, LegalWithoutLosses}
+
+-- Only what is gone is refused as lost.
+pub record LossesEarned (e : Estate AnyNode) : Type 0 where
+  -- what a client, or the cleaner, says is lost while it opens its log was torn at a moment since it began to, and whole there but for lost disks
+  pub reopenings : ReopeningLossesWereWhole e
+  -- what a manager says is lost while it takes a slot over was torn at a moment from which on it read it there, or had been deleted, and it had been filed
+  pub takeovers : TakeoverLossesEarned e
+  pub takeovers_filed : TakeoverLossesFiled e
+  -- what a client that serves says is lost had been filed, and was torn: at a moment from which on its open call read it, or the manager that told it so
+  pub reads : ReadLossesEarned e
+  -- and no item is answered that a segment is lost but where its node says so, in the same event
+  pub answers : LostAnswersEarned e
+
+-- Whatever messages are lost, repeated or reordered and whichever nodes stop:
+pub record Headline (e : Estate AnyNode) : Type 0 where
+  -- the journal is one run of the xFS nodes, of the script that was read or drawn, each item begun in order
+  pub played : IsPlayed any_step any_start e
+  -- at no moment has a block two owners, nor another holder beside an owner
+  pub one_owner : OneOwnerThroughout e
+  -- nor has a slot two managers at one epoch
+  pub one_manager : OneManagerThroughout e
+  -- nobody holds what a client fell with until it is back, and no client falls again before
+  pub nobody_holds : NobodyHoldsThroughout e
+  pub falls_apart : FallsApartThroughout e
+  -- what was filed, and was not deleted, stands on the servers' shelves but for lost disks, and one name has one text
+  pub logs_stand : LogsStand e
+  pub cleaners_log_stands : CleanersLogStands e
+  pub managers_logs_stand : ManagersLogsStand e
+  pub horizons_filed : HorizonsReached e
+  -- each read answers its block's newest version, with its value, and no fall goes below a version that was synced or read elsewhere
+  pub legal_acts : LegalActs e
+  pub legal_without_losses : LegalWithoutLosses e
+  -- and only what is gone is refused as lost
+  pub losses_earned : LossesEarned e
