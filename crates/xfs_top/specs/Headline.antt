@@ -1,21 +1,21 @@
 -- What is claimed of the run that a call of the program played: the headline, in one record. Its premises are three. The registry does not fail: no line of a
 -- script stops it. What speaks of versions and of what reads lose ends with the first restart that is doubtful. Want of memory ends the call, and then there is
 -- no run.
-use Rattle.answer_law.specs.Runs.{LostAnswersEarned}
+use Rattle.earned_losses.specs.answer_law.Runs.{LostAnswersEarned}
 use Rattle.core_world.specs.AnyNode.{any_start, any_step}
 use Rattle.core_world.specs.declared.any_node.AnyNode.{AnyNode}
-use Rattle.lost_law.specs.Reads.{ReadLossesEarned}
-use Rattle.source_law.specs.Sources.{TakeoverLossesFiled}
-use Rattle.taking_law.specs.Takings.{TakeoverLossesEarned}
+use Rattle.earned_losses.specs.lost_law.Reads.{ReadLossesEarned}
+use Rattle.earned_losses.specs.source_law.Sources.{TakeoverLossesFiled}
+use Rattle.earned_losses.specs.taking_law.Takings.{TakeoverLossesEarned}
 use Rattle.top_call.specs.Claim.{IsPlayed}
-use Rattle.whole_law.specs.Whole.{ReopeningLossesWereWhole}
+use Rattle.earned_losses.specs.whole_law.Whole.{ReopeningLossesWereWhole}
 use Rattle.world_base.specs.declared.estate.Estate.{Estate}
-use Rattle.world_law.specs.Fallen.{FallsApartThroughout, NobodyHoldsThroughout}
-use Rattle.world_law.specs.Managers.{OneManagerThroughout}
-use Rattle.world_law.specs.Owners.{OneOwnerThroughout}
-use Rattle.world_logs.specs.Horizons.{HorizonsReached}
-use Rattle.world_logs.specs.Logs.{CleanersLogStands, LogsStand, ManagersLogsStand}
-use Rattle.world_reads.specs.Legal.{LegalActs, LegalWithoutLosses}
+use Rattle.run_laws.specs.world_law.Fallen.{FallsApartThroughout, NobodyHoldsThroughout}
+use Rattle.run_laws.specs.world_law.Managers.{OneManagerThroughout}
+use Rattle.run_laws.specs.world_law.Owners.{OneOwnerThroughout}
+use Rattle.run_laws.specs.world_logs.Horizons.{HorizonsReached}
+use Rattle.run_laws.specs.world_logs.Logs.{CleanersLogStands, LogsStand, ManagersLogsStand}
+use Rattle.run_laws.specs.world_reads.Legal.{LegalActs, LegalWithoutLosses}
 
 -- Only what is gone is refused as lost.
 pub record LossesEarned (e : Estate AnyNode) : Type 0 where

@@ -5,19 +5,21 @@ ghost use Rattle.top_call.specs.Claim.{writing, reading, Claim};
 ghost use Rattle.top_call.specs.Commands.{command_of, reads};
 ghost use Rattle.xfs_top.specs.Headline.{Headline};
 
-use answer_law::lost_answers_are_said;
 use core_world::AnyNode;
-use lost_law::reads_lose_what_is_torn;
-use source_law::takeovers_lose_what_was_filed;
+use earned_losses::answer_law::lost_answers_are_said;
+use earned_losses::lost_law::reads_lose_what_is_torn;
+use earned_losses::source_law::takeovers_lose_what_was_filed;
+use earned_losses::taking_law::takeovers_lose_what_is_torn;
+use earned_losses::whole_law::reopenings_lose_what_was_whole;
+use run_laws::world_law::{
+    every_run_has_one_manager, every_run_has_one_owner, what_fell_is_held_by_nobody,
+};
+use run_laws::world_logs::runs_keep_logs;
+use run_laws::world_reads::every_runs_acts_are_legal;
 use std::alloc::Global;
 use std::sync::Wait;
 use std::thread::Threads;
-use taking_law::takeovers_lose_what_is_torn;
 use top_call::{Outcome, Sink, Source, answer};
-use whole_law::reopenings_lose_what_was_whole;
-use world_law::{every_run_has_one_manager, every_run_has_one_owner, what_fell_is_held_by_nobody};
-use world_logs::runs_keep_logs;
-use world_reads::every_runs_acts_are_legal;
 use xfs_base::Gate;
 
 /// The program for all words but those that start threads. `README.md` lists the statuses, and

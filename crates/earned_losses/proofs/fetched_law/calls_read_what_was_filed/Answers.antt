@@ -1,0 +1,14 @@
+use Rattle.earned_losses.proofs.fetched_law.Every.{Below, calls_read_what_is_stored, calls_read_what_was_filed}
+use Rattle.earned_losses.proofs.fetched_law.calls_read_what_was_filed.Goals as goal
+
+pub returns : goal.returns
+returns c =
+    let below : Below = record {
+      setting = c.items_say_all.ensures.setting;
+      lines = c.runs_keep_logs.ensures.lines;
+      texts = c.runs_keep_logs.ensures.texts;
+      moments = c.every_runs_acts_are_legal.ensures.moments;
+      blocks = c.fetches_lose_what_is_torn.ensures.blocks;
+      whole = c.logs_stay_whole.ensures.whole;
+    } in
+    record { filed = calls_read_what_was_filed below; stored = calls_read_what_is_stored below }

@@ -1,0 +1,83 @@
+-- What is filed at a moment of a run is filed at each later one, up to which no restart that ended was doubtful, under the same number and the same name.
+use Rattle.std.proofs.Common.{◌≡◌, ℕ, zero, suc, ◌+◌, ◌-◌, ◌<◌, ◌≤◌, false, sym, ap, subst, ◌∙◌, arith}
+use Rattle.core_world.specs.declared.any_node.AnyNode.{AnyNode}
+use Rattle.index_tie.specs.Filed.{Filed}
+use Rattle.log_law.proofs.Filing.{Grown, grown}
+use Rattle.log_law.specs.Net.{Net}
+use Rattle.log_tie.specs.Setting.{Setting}
+use Rattle.segment_format.specs.declared.segment.Segment.{Segment}
+use Rattle.world_base.specs.declared.estate.Estate.{Estate}
+use Rattle.run_laws.specs.world_lines.Lines.{LinesGive}
+use Rattle.run_laws.specs.world_logs.Lines.{HasLines, Texts, setting}
+use Rattle.run_laws.specs.world_logs.Roles.{Role, log_by, renews}
+use Rattle.run_laws.proofs.world_reads.EntriesSame.{sure_log}
+use Rattle.run_laws.specs.world_reads.Joint.{IsSureUpto, Joint, There, log_at}
+use Rattle.run_laws.proofs.world_reads.KnownLogs.{HasLog, filed_log}
+use Rattle.xfs_base.specs.declared.segment.SegName.{SegName}
+
+module _ (base : Setting) (e : Estate AnyNode) (lines : HasLines base e) (texts : Texts base e lines) (part : ℕ) (first : ℕ → ℕ → Segment) where
+  -- ---- one log
+
+  module _ (r : Role) (there : There base e lines texts part first r) where
+    abbrev at_count : ℕ → Net
+    at_count count = log_at base e lines texts part first r there count
+
+    more_grown : (more count : ℕ) → Grown (at_count count) (at_count (more + count))
+    more_grown zero count =
+        let same : count ≡ zero + count = omega arith in
+        subst (λ n. Grown (at_count count) (at_count n)) same (record { filed = λ name is. is; flown = λ s is. is; dropped = λ name is. is })
+    more_grown (suc more) count =
+        let same : suc (more + count) ≡ suc more + count = omega arith in
+        let a = more_grown more count in
+        let b : Grown (at_count (more + count)) (at_count (suc (more + count))) =
+        grown (setting base e r) (at_count (more + count)) (at_count (suc (more + count))) ((lines r there).goes (more + count)) in
+        subst (λ n. Grown (at_count count) (at_count n)) same (record {
+          filed = λ name is. b.filed name (a.filed name is);
+          flown = λ s is. b.flown s (a.flown s is);
+          dropped = λ name is. b.dropped name (a.dropped name is);
+        })
+
+    log_grown : (count later : ℕ) → count ≤ later → Grown (at_count count) (at_count later)
+    log_grown count later low =
+        let same : (later - count) + count ≡ later = omega arith in
+        subst (λ n. Grown (at_count count) (at_count n)) same (more_grown (later - count) count)
+
+  -- ---- all logs
+
+  module _ (give : LinesGive) (count later : ℕ) (low : count ≤ later) (sure : IsSureUpto base e lines texts part first later)
+      (then : Joint base e lines texts part first count) (now : Joint base e lines texts part first later) where
+    abbrev f : Filed
+    f = then.idx.net.filed
+
+    abbrev h : Filed
+    h = now.idx.net.filed
+
+    pub record IsStill (l q : ℕ) : Type 0 where
+      pub most : q ≤ h.head l
+      pub same : h.segment l q ≡ f.segment l q
+
+    of_log : (r : Role) (there : There base e lines texts part first r) → renews r ≡ false → (q : ℕ) → 0 < q → q ≤ f.head (log_by r) → IsStill (log_by r) q
+    of_log r there keeps q some most =
+        let l = log_by r in
+        let its = then.lined r there keeps in
+        let other = now.lined r there keeps in
+        let on = log_grown r there count later low in
+        let name : SegName = (f.segment l q).name in
+        let filed = on.filed name (its.lined.filed q some most) in
+        let number : name.seq ≡ q = its.lined.seq q some most in
+        let within : q ≤ h.head l = (let place = (other.all name filed).1 in omega arith) in
+        let one : name ≡ (h.segment l q).name =
+        subst (λ x. name ≡ (h.segment l x).name) number
+        ((give texts.text l (setting base e r) (at_count r there later) h (sure_log base e lines texts part first give later sure r there keeps) other).one
+        name filed)
+        in
+        record {
+          most = within;
+          same = sym (texts.flown r there later (h.segment l q) (other.lined.flown q some within))
+              ∙ (ap texts.text (sym one) ∙ texts.flown r there count (f.segment l q) (its.lined.flown q some most));
+        }
+
+    pub filed_still : (l q : ℕ) → 0 < q → q ≤ f.head l → IsStill l q
+    filed_still l q some most =
+        let has : HasLog base e lines texts part first l = filed_log base e lines texts part first count then l q some most in
+        subst (λ x. q ≤ f.head x → IsStill x q) has.is (λ within. of_log has.role has.there has.keeps q some within) most

@@ -1,0 +1,12 @@
+pub mod torn_law
+pub mod whole_law
+pub mod missing_law
+pub mod taking_law
+pub mod fetching_law
+pub mod gone_law
+pub mod keeping_law
+pub mod source_law
+pub mod standing_law
+pub mod fetched_law
+pub mod lost_law
+pub mod answer_law

@@ -1,0 +1,16 @@
+//! Only what is gone is refused as lost, in every run of the nodes: what reopenings, takeovers and reads say is lost was torn. It has no code of the product: its
+//! functions call the laws that they stand on, and their contracts are laws.
+#![tactic(auto)]
+
+pub mod answer_law;
+pub mod fetched_law;
+pub mod fetching_law;
+pub mod gone_law;
+pub mod keeping_law;
+pub mod lost_law;
+pub mod missing_law;
+pub mod source_law;
+pub mod standing_law;
+pub mod taking_law;
+pub mod torn_law;
+pub mod whole_law;

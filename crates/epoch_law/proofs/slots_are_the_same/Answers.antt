@@ -1,5 +1,0 @@
-use Rattle.epoch_law.proofs.Slots.{slots_start_same, slots_stay_same}
-use Rattle.epoch_law.proofs.slots_are_the_same.Goals as goal
-
-pub returns : goal.returns
-returns c = record { start = slots_start_same; stay = slots_stay_same }

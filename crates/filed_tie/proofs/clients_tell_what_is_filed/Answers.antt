@@ -1,9 +1,0 @@
-use Rattle.filed_tie.proofs.ClientPhases.{client_rises, client_starts, clients_tell}
-use Rattle.filed_tie.proofs.clients_tell_what_is_filed.Goals as goal
-
-pub returns : goal.returns
-returns c = record {
-  start = client_starts;
-  rises = client_rises;
-  events = clients_tell;
-}

@@ -1,0 +1,60 @@
+-- What a log took on the way: nothing, one input, or what it took in one part and then in another.
+use Rattle.std.proofs.Common.{◌≡◌, List, [], ◌∷◌, ◌++◌, refl, sym, ap, ◌∙◌}
+use Rattle.std.specs.List.{AllByRecursion}
+use Rattle.client_log.specs.declared.input.In.{In as Input}
+use Rattle.client_log.specs.History.{state_after}
+use Rattle.client_log.specs.LogState.{LogState}
+use Rattle.client_log.specs.Transition.{transition}
+use Rattle.log_law.specs.Net.{Net, Owner, flown_with}
+use Rattle.log_law.specs.Net.Owner.{Down, Opening, Writing, Serving}
+use Rattle.segment_format.specs.declared.segment.Segment.{Segment}
+use Rattle.log_ties.specs.client_log_tie.Puts.{LogTook, flown_after}
+
+-- ---- lists of inputs
+
+after_both : (s : LogState) (later earlier : List Input) → state_after s (later ++ earlier) ≡ state_after (state_after s earlier) later
+after_both s [] earlier = refl
+after_both s (i ∷ later) earlier = ap (λ (t : LogState). (transition t i).state) (after_both s later earlier)
+
+flown_both : (s : LogState) (later earlier : List Input) (before : List Segment)
+    → flown_after s (later ++ earlier) before ≡ flown_after (state_after s earlier) later (flown_after s earlier before)
+flown_both s [] earlier before = refl
+flown_both s (i ∷ later) earlier before =
+    ap (λ (t : LogState). flown_with (transition t i).state.flight (flown_after s (later ++ earlier) before)) (after_both s later earlier)
+    ∙ ap (λ rest. flown_with (transition (state_after (state_after s earlier) later) i).state.flight rest) (flown_both s later earlier before)
+
+all_both : (Puts : Input → Type 0) (later earlier : List Input) → AllByRecursion Puts later → AllByRecursion Puts earlier
+    → AllByRecursion Puts (later ++ earlier)
+all_both Puts [] earlier a b = b
+all_both Puts (i ∷ later) earlier a b = (a.0, all_both Puts later earlier a.1 b)
+
+all_such : (P Q : Input → Type 0) → ((i : Input) → P i → Q i) → (inputs : List Input) → AllByRecursion P inputs → AllByRecursion Q inputs
+all_such P Q weaker [] all = tt
+all_such P Q weaker (i ∷ inputs) all = (weaker i all.0, all_such P Q weaker inputs all.1)
+
+-- ---- what was taken
+
+served_or : LogState → Owner → LogState
+served_or s Down = s
+served_or s (Opening scan) = s
+served_or s (Writing chain log) = s
+served_or s (Serving log) = log
+
+-- an owner has one log
+pub one_log : (s t : LogState) (n : Net) → n.owner ≡ Serving s → n.owner ≡ Serving t → s ≡ t
+unfolding served_or
+one_log s t n is also = ap (served_or s) (sym is ∙ also)
+
+pub took_nothing : (Puts : Input → Type 0) (n : Net) (s : LogState) → n.owner ≡ Serving s → LogTook Puts n n s
+took_nothing Puts n s is = record { inputs = []; all = tt; serves = is; flown = refl }
+
+pub took_both : (Puts : Input → Type 0) (n m o : Net) (s : LogState) (a : LogTook Puts n m s) → LogTook Puts m o (state_after s a.inputs) → LogTook Puts n o s
+took_both Puts n m o s a b = record {
+  inputs = b.inputs ++ a.inputs;
+  all = all_both Puts b.inputs a.inputs b.all a.all;
+  serves = b.serves ∙ ap (λ t. Serving t) (sym (after_both s b.inputs a.inputs));
+  flown = b.flown ∙ ap (flown_after (state_after s a.inputs) b.inputs) a.flown ∙ sym (flown_both s b.inputs a.inputs n.flown);
+}
+
+pub took_such : (P Q : Input → Type 0) → ((i : Input) → P i → Q i) → (n o : Net) (s : LogState) → LogTook P n o s → LogTook Q n o s
+took_such P Q weaker n o s a = record { inputs = a.inputs; all = all_such P Q weaker a.inputs a.all; serves = a.serves; flown = a.flown }

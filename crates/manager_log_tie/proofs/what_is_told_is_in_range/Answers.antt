@@ -1,5 +1,0 @@
-use Rattle.manager_log_tie.proofs.Told.{told_in_range}
-use Rattle.manager_log_tie.proofs.what_is_told_is_in_range.Goals as goal
-
-pub returns : goal.returns
-returns c = told_in_range c.one_name_one_text.ensures.one_text

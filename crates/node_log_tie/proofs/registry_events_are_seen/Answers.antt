@@ -1,9 +1,0 @@
-use Rattle.node_log_tie.proofs.Registries.{registry_begins, registry_goes, registry_goes_above}
-use Rattle.node_log_tie.proofs.registry_events_are_seen.Goals as goal
-
-pub returns : goal.returns
-returns c = record {
-  start = registry_begins;
-  events = registry_goes;
-  above = registry_goes_above;
-}

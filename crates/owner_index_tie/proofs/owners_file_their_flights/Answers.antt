@@ -1,5 +1,0 @@
-use Rattle.owner_index_tie.proofs.Acting.{cleaner_files_flights, clients_file_flights}
-use Rattle.owner_index_tie.proofs.owners_file_their_flights.Goals as goal
-
-pub returns : goal.returns
-returns c = record { client = clients_file_flights; cleaner = cleaner_files_flights }

@@ -1,9 +1,0 @@
-use Rattle.part_tie.proofs.Registries.{registry_names, registry_names_rise, registry_starts}
-use Rattle.part_tie.proofs.registry_names_what_it_heard.Goals as goal
-
-pub returns : goal.returns
-returns c = record {
-  start = registry_starts;
-  rises = registry_names_rise;
-  events = registry_names;
-}

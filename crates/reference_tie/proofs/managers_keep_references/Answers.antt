@@ -1,9 +1,0 @@
-use Rattle.reference_tie.proofs.Managers.{managers_keep, managers_start}
-use Rattle.reference_tie.proofs.managers_keep_references.Goals as goal
-use Rattle.reference_tie.specs.References.{listed}
-
-pub returns : goal.returns
-returns c = record {
-  start = λ parts ends number setup works. managers_start (listed parts ends) number setup works;
-  events = λ parts ends m what h flies told. managers_keep (listed parts ends) m what h flies told;
-}

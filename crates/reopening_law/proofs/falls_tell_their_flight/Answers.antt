@@ -1,5 +1,0 @@
-use Rattle.reopening_law.proofs.Falling.{falls_go_on, falls_stay}
-use Rattle.reopening_law.proofs.falls_tell_their_flight.Goals as goal
-
-pub returns : goal.returns
-returns c = record { stays = falls_stay; events = falls_go_on }

@@ -1,5 +1,0 @@
-use Rattle.reopening_law.proofs.Flights.{flights_of_owners, flights_stay, others_leave_flights}
-use Rattle.reopening_law.proofs.flights_are_in_the_books.Goals as goal
-
-pub returns : goal.returns
-returns c = record { serving = flights_of_owners; away = flights_stay; others = others_leave_flights }

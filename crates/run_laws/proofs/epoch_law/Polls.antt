@@ -1,0 +1,193 @@
+-- A Poll that the owner of a log answers is of an epoch above which nobody is active, so that its horizon is the registry's.
+use Rattle.std.proofs.Common.{◌≡◌, ℕ, zero, suc, ◌+◌, ◌-◌, ◌≤◌, ◌<◌, ◌==◌, Bool, min, true, List, [], ◌∷◌, inl, inr, slice_get, unwrap_or, Option, None, Some, refl, sym, ap, subst, ◌∙◌, mod-eq_of_lt, arith}
+use Rattle.std.proofs.lemmas.Bool.Decides.{nat_tests}
+use Rattle.std.proofs.lemmas.Option.{unwrap_or-slice_get}
+use Rattle.cleaner_emptying.specs.declared.emptying.Emptying.{Emptying}
+use Rattle.client_node.specs.declared.phase.Phase.TheVariants as clients
+use Rattle.client_serving.specs.declared.serving.Serving.{Serving}
+use Rattle.cleaner_node.specs.declared.cleaner.Phase.TheVariants as cleaning
+use Rattle.core_world.specs.declared.any_node.AnyNode.{AnyNode}
+use Rattle.index_tie.proofs.Takeovers.{of_log_in}
+use Rattle.index_tie.specs.Net as index
+use Rattle.index_tie.specs.NetLaws.{CheckpointsHaveManagers}
+use Rattle.index_tie.specs.Takeovers.{of_log}
+use Rattle.log_scan.specs.Transition.{horizon_of, least_horizon}
+use Rattle.node_ties.specs.node_index_tie.RegistryEvents.{RegistryAgrees}
+use Rattle.node_ties.specs.node_index_tie.Sight.{Texts, held_in}
+use Rattle.node_ties.proofs.node_tie.SmallWorld.{with_promise}
+use Rattle.node_ties.specs.node_tie.CleanerEvents.{CleanerStands}
+use Rattle.node_ties.specs.node_tie.ClientEvents.{ClientAgrees}
+use Rattle.node_ties.specs.node_tie.Sight.{PollSeen}
+use Rattle.registry.specs.Board.{all_news, slot_news}
+use Rattle.registry.specs.BoardState.{BoardState}
+use Rattle.segment_format.specs.declared.segment.Segment.{Segment}
+use Rattle.store_nodes.specs.declared.registry_node.RegistryNode.{RegistryNode}
+use Rattle.token_client.specs.State.{TokensState, epoch_of, is_in_slot}
+use Rattle.token_law.specs.Laws.{ActiveEpochsPromised}
+use Rattle.token_manager.specs.SlotState.{SlotState}
+use Rattle.token_protocol.specs.Basics.{In}
+use Rattle.version_model.specs.declared.act.Act.{Act}
+use Rattle.wire_msg.specs.declared.body.Body.{Body}
+use Rattle.wire_msg.specs.declared.body.Body.TheVariants as body
+use Rattle.wire_msg.specs.declared.deltas.Poll.{Poll}
+use Rattle.wire_msg.specs.declared.packet.Packet.{Packet}
+use Rattle.world_base.specs.declared.cluster.Cluster.{Cluster}
+use Rattle.run_laws.specs.world_index.Standing as places
+use Rattle.run_laws.specs.world_law.Standing as owners
+use Rattle.xfs_base.specs.declared.block.BlockId.{BlockId}
+use Rattle.xfs_base.specs.declared.news.SlotNews.{SlotNews}
+use Rattle.xfs_base.specs.declared.node.NodeId.{NodeId}
+use Rattle.xfs_base.specs.declared.node.NodeId.TheVariants.{Client, Manager, Server, Cleaner, Registry}
+use Rattle.run_laws.proofs.epoch_law.Horizons.{horizons_stay}
+use Rattle.run_laws.proofs.epoch_law.Nodes.{one_registry}
+use Rattle.run_laws.specs.epoch_law.Polls.{CleanerPollsAreLow, ClientPollsAreLow, IsLow, PollSent}
+use Rattle.run_laws.specs.epoch_law.Slots.{BothStand}
+
+-- ---- the least horizon is none above each
+
+min_first : (a b : ℕ) → min a b ≤ a
+min_first a b = grind (arith, nat_tests)
+
+min_rest : (a b c : ℕ) → b ≤ c → min a b ≤ c
+min_rest a b c h = grind (arith, nat_tests)
+
+least_below : (l : ℕ) (slots : List SlotNews) (x : SlotNews) → In x slots → least_horizon l slots ≤ horizon_of l x
+least_below l [] x among = absurd among
+least_below l (y ∷ slots) x (inl same) = subst (λ z. least_horizon l (y ∷ slots) ≤ horizon_of l z) (sym same)
+    (min_first (horizon_of l y) (least_horizon l slots))
+least_below l (y ∷ slots) x (inr among) = min_rest (horizon_of l y) (least_horizon l slots) (horizon_of l x) (least_below l slots x among)
+
+-- where the horizon has a number of the log, that is its horizon
+horizon_is : (x : SlotNews) (l : ℕ) → 0 < l → l ≤ 9 → 0 < of_log x.horizon l → horizon_of l x ≤ of_log x.horizon l
+horizon_is x l some most from_one =
+    subst (λ a. horizon_of l x ≤ a) (sym read) (by (slice_get x.horizon (l - 1)) (subst (λ a. 0 < a) read from_one))
+  where
+    read : of_log x.horizon l ≡ unwrap_or (slice_get x.horizon (l - 1)) 0
+    read = of_log_in x.horizon l some most ∙ sym (unwrap_or-slice_get x.horizon (l - 1) 0)
+
+    by : (o : Option ℕ) → 0 < unwrap_or o 0 → unwrap_or o 1 ≤ unwrap_or o 0
+    by None less = absurd (omega arith)
+    by (Some a) less = omega arith
+
+-- ---- the registry's news of the slot
+
+news_among : (b : BoardState) (part : ℕ) → part < 8 → In (slot_news b part) (all_news b)
+news_among b zero less = inl refl
+news_among b (suc zero) less = inr (inl refl)
+news_among b (suc (suc zero)) less = inr (inr (inl refl))
+news_among b (suc (suc (suc zero))) less = inr (inr (inr (inl refl)))
+news_among b (suc (suc (suc (suc zero)))) less = inr (inr (inr (inr (inl refl))))
+news_among b (suc (suc (suc (suc (suc zero))))) less = inr (inr (inr (inr (inr (inl refl)))))
+news_among b (suc (suc (suc (suc (suc (suc zero)))))) less = inr (inr (inr (inr (inr (inr (inl refl))))))
+news_among b (suc (suc (suc (suc (suc (suc (suc zero))))))) less = inr (inr (inr (inr (inr (inr (inr (inl refl)))))))
+news_among b (suc (suc (suc (suc (suc (suc (suc (suc n)))))))) less = absurd (omega arith)
+
+up_to : (a b c : ℕ) → a ≤ b → b ≤ c → a ≤ c
+up_to a b c h g = omega arith
+
+-- the registry's horizon of a log is at or above the least one
+least_kept : (part : ℕ) (n : index.Net) (r : RegistryNode) → part < 8 → RegistryAgrees part n r → (l : ℕ) → 0 < l → l ≤ 9
+    → least_horizon l (all_news r.board) ≤ of_log (n.horizon n.epoch) l
+least_kept part n r of_eight agreed l some most =
+    let x = slot_news r.board part in
+    subst (λ (h : List ℕ). least_horizon l (all_news r.board) ≤ of_log h l) agreed.horizon
+    (up_to (least_horizon l (all_news r.board)) (horizon_of l x) (of_log x.horizon l) (least_below l (all_news r.board) x (news_among r.board part of_eight))
+    (horizon_is x l some most (subst (λ (h : List ℕ). 0 < of_log h l) (sym agreed.horizon) (agreed.is.from_one l some most))))
+
+-- ---- a moment
+
+-- who may have sent a Poll
+poll_within : (k : Cluster) (part : ℕ) (t : owners.Scene) (from to : NodeId) (m : Poll) → owners.SentBy k part t from to (body.Poll m)
+    → PollSeen part t.net.sent (owners.epoch_now k part t) m
+poll_within k part t (Client c) to m h = absurd h.2
+poll_within k part t (Manager j) to m h = h.2
+poll_within k part t (Server n) to m h = absurd h
+poll_within k part t Cleaner to m h = absurd h
+poll_within k part t Registry to m h = absurd h
+
+module _ (managed : CheckpointsHaveManagers) (promised : ActiveEpochsPromised) (logs : Bool) (k : Cluster) (part : ℕ) (texts : Texts) (first : ℕ → ℕ → Segment)
+    (nodes : List AnyNode) (sent : List Packet) (acts : List Act) (t : owners.Scene) (i : places.Scene) (of_eight : part < 8)
+    (both : BothStand logs k part texts first nodes sent acts t i) where
+  -- a block of the slot
+  abbrev some_block : BlockId
+  some_block = record { ino = record { 0 = part }; blk = 0 }
+
+  of_slot : is_in_slot part some_block ≡ true
+  of_slot = ap (λ n. n == part) (mod-eq_of_lt of_eight) ∙ itself part
+    where
+      itself : (n : ℕ) → (n == n) ≡ true
+      itself n = grind (arith, nat_tests)
+
+  -- the epoch of the registry
+  epoch : owners.epoch_now k part t ≡ i.net.epoch
+  epoch = ap (λ (r : RegistryNode). owners.epoch_now k part (record t { registry = r }))
+      (one_registry t.registry i.registry _ both.tokens.placed.registry both.index.placed.registry)
+      ∙ both.index.registry.epoch
+
+  poll_begun : (m : Poll) → PollSent part sent m → m.epoch ≤ i.net.epoch
+  poll_begun m poll =
+      subst (λ x. m.epoch ≤ x) epoch
+      (poll_within k part t poll.packet.from poll.packet.to m
+      (subst (λ (b : Body). owners.SentBy k part t poll.packet.from poll.packet.to b) poll.is (both.tokens.facts poll.packet poll.among)) poll.of)
+
+  -- nobody is active above an epoch above which nobody is in the small world of tokens
+  module _ (most : ℕ) (bound : (e : ℕ) (z : SlotState) → t.net.slots e ≡ Some z → e ≤ most) where
+    nobody : (e : ℕ) → most < e → i.net.slots e ≡ None
+    nobody e above = both.same e (by (t.net.slots e) refl)
+      where
+        by : (o : Option SlotState) → t.net.slots e ≡ o → t.net.slots e ≡ None
+        by None is = is
+        by (Some z) is = let low = bound e z is in absurd (omega arith)
+
+    same_horizon : (more : ℕ) → most + more ≤ i.net.epoch → i.net.horizon (most + more) ≡ i.net.horizon most
+    same_horizon zero within = ap i.net.horizon (plus most)
+      where
+        plus : (a : ℕ) → a + 0 ≡ a
+        plus a = omega arith
+    same_horizon (suc more) within =
+        ap i.net.horizon (plus most more)
+        ∙ (horizons_stay managed part (held_in part texts) first i.net of_eight both.index.runs (most + more) (omega arith)
+        (nobody (suc (most + more)) (omega arith))
+        ∙ same_horizon more (omega arith))
+      where
+        plus : (a b : ℕ) → a + suc b ≡ suc (a + b)
+        plus a b = omega arith
+
+    pub polled_low : most ≤ i.net.epoch → (l : ℕ) → 0 < l → l ≤ 9 → IsLow i most l
+    polled_low within l some less =
+        subst (λ (h : List ℕ). least_horizon l (all_news i.registry.board) ≤ of_log h l)
+        (ap i.net.horizon (sym end) ∙ same_horizon (i.net.epoch - most) (omega arith))
+        (least_kept part i.net i.registry of_eight both.index.registry l some less)
+      where
+        end : most + (i.net.epoch - most) ≡ i.net.epoch
+        end = omega arith
+
+  -- ---- who answers
+
+  pub of_client : (c : ℕ) (s : Serving) → 0 < c → c < owners.members k part → (t.client c).phase ≡ clients.Serving s → (e : ℕ) (z : SlotState)
+      → t.net.slots e ≡ Some z
+      → e ≤ epoch_of s.tokens.epochs part
+  of_client c s some less is e z there =
+      let agreed = subst (ClientAgrees logs part c t.net) is (both.tokens.clients c some less).0 in
+      subst (λ (x : TokensState). e ≤ epoch_of x.epochs part) agreed.tokens
+      (promised logs (owners.members k part) part (with_promise 1 t.net) some_block (record { run = both.tokens.runs; inside = of_slot }) e z there c
+      (record { some = some; within = less }))
+
+  of_cleaner : (v : Emptying) → t.cleaner.phase ≡ cleaning.Serving v → (e : ℕ) (z : SlotState) → t.net.slots e ≡ Some z → e ≤ epoch_of v.promised.epochs part
+  of_cleaner v is e z there =
+      let stands = subst (CleanerStands part t.net.promised (owners.epoch_now k part t)) is both.tokens.cleaner.1 in
+      subst (λ x. e ≤ x) (sym stands.is) (both.tokens.entered e z there).4
+
+pub client_polls_low : CheckpointsHaveManagers → ActiveEpochsPromised → ClientPollsAreLow
+client_polls_low managed promised logs k part texts first nodes sent acts t i c s m of_eight both some less is poll low =
+    polled_low managed promised logs k part texts first nodes sent acts t i of_eight both m.epoch
+    (λ e z there. up_to e (epoch_of s.tokens.epochs part) m.epoch
+    (of_client managed promised logs k part texts first nodes sent acts t i of_eight both c s some less is e z there) low)
+    (poll_begun managed promised logs k part texts first nodes sent acts t i of_eight both m poll)
+
+pub cleaner_polls_low : CheckpointsHaveManagers → ActiveEpochsPromised → CleanerPollsAreLow
+cleaner_polls_low managed promised logs k part texts first nodes sent acts t i v m of_eight both is poll low =
+    polled_low managed promised logs k part texts first nodes sent acts t i of_eight both m.epoch
+    (λ e z there. up_to e (epoch_of v.promised.epochs part) m.epoch
+    (of_cleaner managed promised logs k part texts first nodes sent acts t i of_eight both v is e z there) low)
+    (poll_begun managed promised logs k part texts first nodes sent acts t i of_eight both m poll)

@@ -1,0 +1,219 @@
+-- The span of a restart along the line of a log: from the last count at which its owner served on nothing is filed, and what a server lacked there it lacked
+-- between two events, or it lost its disk in one.
+use Rattle.std.proofs.Common.{◌≡◌, ◌⊎◌, ⊎_elim, ℕ, zero, suc, ◌<◌, ◌≤◌, Bool, true, false, is_some, Option, Some, None, slice_get, inl, inr, refl, sym, ap, subst, ◌∙◌, arith}
+use Rattle.log_ties.specs.client_log_tie.ClientEvents.{ServesStraight}
+use Rattle.log_ties.specs.client_log_tie.Owner.{Scene}
+use Rattle.core_world.specs.declared.any_node.AnyNode.{AnyNode}
+use Rattle.fragment_store.specs.ShelfState.{held_at, is_held}
+use Rattle.group_map.specs.GroupMapState.{GroupMapState}
+use Rattle.log_law.proofs.Filing.{grown}
+use Rattle.log_law.specs.Events.{Runs}
+use Rattle.log_law.specs.Events.Runs.{Begun, On}
+use Rattle.log_law.specs.Laws.{Moment}
+use Rattle.log_law.specs.Net.{Net, opening}
+use Rattle.log_law.specs.Restarts.{IsSureRun, LackedInSpan, Lacks, in_span, is_serving}
+use Rattle.log_law.specs.Tails.{then_on}
+use Rattle.log_protocol.specs.Tables.{In}
+use Rattle.log_tie.specs.Setting.{Setting}
+use Rattle.log_ties.proofs.node_log_tie.Going.{run_later}
+use Rattle.log_ties.proofs.node_log_tie.Others.{same_or_other}
+use Rattle.world_base.specs.declared.estate.Estate.{Estate}
+use Rattle.world_base.specs.declared.event.Event.{Event}
+use Rattle.world_base.specs.Events.{node_of}
+use Rattle.run_laws.proofs.world_logs.Line.{last_or_before}
+use Rattle.run_laws.specs.world_logs.Lines.{IsBegun, Line, StraightBy, setting}
+use Rattle.run_laws.specs.world_logs.Roles.{Role, owner_by, renews}
+use Rattle.run_laws.specs.world_logs.Roles.Role.{OfClient, OfCleaner, OfManager}
+use Rattle.xfs_base.proofs.Booleans.{contrary}
+use Rattle.xfs_base.specs.declared.fragment.Fragment.{Fragment}
+use Rattle.xfs_base.specs.declared.segment.SegName.{SegName}
+use Rattle.run_laws.specs.restart_law.Below.{Below}
+use Rattle.run_laws.proofs.restart_law.Ranks.{boot_rises, no_span, span_rises, sure_before}
+
+-- ---- one event
+
+-- the server lacked its fragment at some moment of a run, in the span of a restart
+record LackedOn {g : Setting} {a n : Net} (run : Runs g a n) (o : Net) (name : SegName) (v : ℕ) : Type 0 where
+  at : Net
+  first : Runs g n at
+  later : Runs g at o
+  spanning : in_span (then_on run first) ≡ true
+  lacks : Lacks at name v
+
+lacked_on : (g : Setting) (a n o : Net) (run : Runs g a n) (more : Runs g n o) (name : SegName) (v : ℕ) → LackedInSpan (then_on run more) name v
+    → LackedInSpan run name v ⊎ LackedOn run o name v
+lacked_on g a n o run Begun name v h = inl h
+lacked_on g a n o run (On {m = m} more happens) name v h =
+    ⊎_elim (λ lacks. inr (record { at = o; first = On more happens; later = Begun; spanning = h.0; lacks = lacks }))
+    (λ before. on (lacked_on g a n m run more name v before)) h.1
+  where
+    on : LackedInSpan run name v ⊎ LackedOn run m name v → LackedInSpan run name v ⊎ LackedOn run o name v
+    on (inl before) = inl before
+    on (inr l) = inr (record { at = l.at; first = l.first; later = On l.later happens; spanning = l.spanning; lacks = l.lacks })
+
+none_held : (o : Option Fragment) → is_some o ≡ false → o ≡ None
+none_held None e = refl
+none_held (Some f) e = contrary (sym e)
+
+-- then it lacked it before, or it lost its disk
+abbrev pub LacksOrLoses : Net → Net → SegName → ℕ → Type 0
+LacksOrLoses n o name v = (held_at (n.shelves v).held name ≡ None) ⊎ ((n.shelves v).generation < (o.shelves v).generation)
+
+module _ (b : Below) (g : Setting) (n o : Net) (moment : Moment g n) (name : SegName) (v : ℕ) (own : name.log ≡ g.log) (l : LackedOn moment.run o name v) where
+  lacks_or_loses : LacksOrLoses n o name v
+  lacks_or_loses = by (is_held (n.shelves v) name) refl
+    where
+      by : (t : Bool) → is_held (n.shelves v) name ≡ t → LacksOrLoses n o name v
+      by true held =
+          let gone = b.gone g n l.at moment l.first v name own held l.lacks.0 l.lacks.1 in
+          let up = (run_later g l.at o l.later).reached v in
+          inr (omega arith)
+      by false none = inl (none_held (held_at (n.shelves v).held name) none)
+
+-- one that serves is in no span
+in_no_span : (g : Setting) (a n : Net) (run : Runs g a n) (name : SegName) (v : ℕ) → is_serving n.owner ≡ true → LackedInSpan run name v → ⊥
+in_no_span g a n Begun name v serves h = h
+in_no_span g a n (On run happens) name v serves h = no_span g a n (On run happens) serves h.0
+
+then_then : {g : Setting} {n m o p : Net} (a : Runs g n m) (b : Runs g m o) (c : Runs g o p) → then_on (then_on a b) c ≡ then_on a (then_on b c)
+then_then a b Begun = refl
+then_then a b (On c happens) = ap (λ run. On run happens) (then_then a b c)
+
+-- ---- at the start an owner serves
+
+begun_serves : (g : Setting) (map : GroupMapState) (n : Net) (run : Runs g (opening g map) n) → IsBegun run → is_serving n.owner ≡ true
+begun_serves g map n Begun begun = refl
+begun_serves g map n (On run happens) begun = absurd begun
+
+-- a client, or the cleaner
+pub serves_straight : {g : Setting} {n next : Net} (r : Role) (runs : Runs g n next) → renews r ≡ false → StraightBy r runs → ServesStraight runs
+serves_straight (OfClient c) runs keeps straight = straight
+serves_straight OfCleaner runs keeps straight = straight
+serves_straight (OfManager j) runs keeps straight = contrary (sym keeps)
+
+-- ---- along the line
+
+module _ (b : Below) (base : Setting) (e : Estate AnyNode) (r : Role) (keeps : renews r ≡ false) (line : Line base e r) where
+  abbrev pub net : ℕ → Net
+  net count = (line.at count).net
+
+  abbrev pub at_count : (count : ℕ) → Moment (setting base e r) (net count)
+  at_count count = (line.stands count).moment
+
+  abbrev pub serves_at : ℕ → Bool
+  serves_at count = is_serving (net count).owner
+
+  abbrev pub IsSureAt : ℕ → Type 0
+  IsSureAt count = IsSureRun (at_count count).run
+
+  pub first_serves : serves_at 0 ≡ true
+  first_serves = begun_serves (setting base e r) (at_count 0).map (net 0) (at_count 0).run line.begins
+
+  -- nothing is filed in an event after which the owner doesn't serve
+  filed_still : (count : ℕ) → serves_at (suc count) ≡ false → (net (suc count)).filed ≡ (net count).filed
+  filed_still count none = by (slice_get e.events count) refl
+    where
+      by : (o : Option Event) → slice_get e.events count ≡ o → (net (suc count)).filed ≡ (net count).filed
+      by None is = ap (λ (w : Scene). w.net.filed) (line.ended count is)
+      by (Some event) is =
+          ⊎_elim
+          (λ own. b.straight (setting base e r) (net count) (net (suc count)) (at_count count) (line.goes count)
+          (serves_straight r (line.goes count) keeps (line.straight count event is own)) none)
+          (λ away. (line.others count event is away).filed) (same_or_other (owner_by r) (node_of event))
+
+  -- what is sure of a count was sure at the one before
+  sure_back : (count : ℕ) → IsSureAt (suc count) → IsSureAt count
+  sure_back count sure =
+      sure_before (at_count count).run (line.goes count)
+      (subst (λ (m : Moment (setting base e r) (net (suc count))). IsSureRun m.run) (line.joined count) sure)
+
+  -- From one count on and before another, in an event before which the segment wasn't dropped, a server lacked its fragment, or lost its disk.
+  pub record Lacked (from to : ℕ) (name : SegName) (v : ℕ) : Type 0 where
+    pub at : ℕ
+    pub since : from ≤ at
+    pub before : at < to
+    pub begun : (net from).inc < (net (suc at)).inc
+    pub kept : In name (net at).dropped → ⊥
+    pub lacked : LacksOrLoses (net at) (net (suc at)) name v
+
+  -- The owner served last at one count, up to this one.
+  pub record Span (count : ℕ) : Type 0 where
+    pub last : ℕ
+    pub before : last ≤ count
+    pub serves : serves_at last ≡ true
+    pub away : (k : ℕ) → last < k → k ≤ count → serves_at k ≡ false
+    pub filed : (net count).filed ≡ (net last).filed
+    pub sure : IsSureAt count → IsSureAt last
+    pub rises : (p : Net) (more : Runs (setting base e r) (net count) p) → in_span (then_on (at_count count).run more) ≡ true → (net last).inc < p.inc
+    pub lacked : (name : SegName) (v : ℕ) → name.log ≡ (setting base e r).log → LackedInSpan (at_count count).run name v → Lacked last count name v
+
+  -- it serves now
+  span_here : (count : ℕ) → serves_at count ≡ true → Span count
+  span_here count serves = record {
+    last = count;
+    before = omega arith;
+    serves = serves;
+    away = λ k after before. absurd (omega (arith, after, before));
+    filed = refl;
+    sure = λ sure. sure;
+    rises = λ p more spanning.
+        span_rises (setting base e r) (opening (setting base e r) (at_count count).map) (net count) p (at_count count).run more serves spanning;
+    lacked = λ name v own h.
+        absurd (in_no_span (setting base e r) (opening (setting base e r) (at_count count).map) (net count) (at_count count).run name v serves h);
+  }
+
+  -- it served last at a count before
+  module _ (count : ℕ) (none : serves_at (suc count) ≡ false) (s : Span count) where
+    still_away : (k : ℕ) → s.last < k → k ≤ suc count → serves_at k ≡ false
+    still_away k after before =
+        ⊎_elim (λ same. subst (λ n. serves_at n ≡ false) (sym same) none) (λ most. s.away k after most) (last_or_before k count before)
+
+    later_lacked : (name : SegName) (v : ℕ) → Lacked s.last count name v → Lacked s.last (suc count) name v
+    later_lacked name v l =
+        record { at = l.at; since = l.since; before = (let a = l.before in omega arith); begun = l.begun; kept = l.kept; lacked = l.lacked }
+
+    now_lacked : (name : SegName) (v : ℕ) → name.log ≡ (setting base e r).log → LackedOn (at_count count).run (net (suc count)) name v
+        → Lacked s.last (suc count) name v
+    now_lacked name v own l = record {
+      at = count;
+      since = s.before;
+      before = omega arith;
+      begun = (let a = s.rises l.at l.first l.spanning in let c = boot_rises (setting base e r) l.at (net (suc count)) l.later in omega arith);
+      kept = λ dropped. l.lacks.1 ((grown (setting base e r) (net count) l.at l.first).dropped name dropped);
+      lacked = lacks_or_loses b (setting base e r) (net count) (net (suc count)) (at_count count) name v own l;
+    }
+
+    then_lacked : (name : SegName) (v : ℕ) → name.log ≡ (setting base e r).log → LackedInSpan (at_count (suc count)).run name v
+        → Lacked s.last (suc count) name v
+    then_lacked name v own h =
+        ⊎_elim (λ before. later_lacked name v (s.lacked name v own before)) (now_lacked name v own)
+        (lacked_on (setting base e r) (opening (setting base e r) (at_count count).map) (net count) (net (suc count)) (at_count count).run (line.goes count)
+        name v
+        (subst (λ (m : Moment (setting base e r) (net (suc count))). LackedInSpan m.run name v) (line.joined count) h))
+
+    still_rises : (p : Net) (more : Runs (setting base e r) (net (suc count)) p) → in_span (then_on (at_count (suc count)).run more) ≡ true
+        → (net s.last).inc < p.inc
+    still_rises p more spanning =
+        s.rises p (then_on (line.goes count) more)
+        (subst (λ run. in_span run ≡ true) (then_then (at_count count).run (line.goes count) more)
+        (subst (λ (m : Moment (setting base e r) (net (suc count))). in_span (then_on m.run more) ≡ true) (line.joined count) spanning))
+
+    span_on : Span (suc count)
+    span_on = record {
+      last = s.last;
+      before = (let a = s.before in omega arith);
+      serves = s.serves;
+      away = still_away;
+      filed = filed_still count none ∙ s.filed;
+      sure = λ sure. s.sure (sure_back count sure);
+      rises = still_rises;
+      lacked = then_lacked;
+    }
+
+  pub span : (count : ℕ) → Span count
+  span zero = span_here 0 first_serves
+  span (suc count) = by (serves_at (suc count)) refl (span count)
+    where
+      by : (t : Bool) → serves_at (suc count) ≡ t → Span count → Span (suc count)
+      by true serves s = span_here (suc count) serves
+      by false none s = span_on count none s

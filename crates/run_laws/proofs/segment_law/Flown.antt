@@ -1,0 +1,156 @@
+-- What is in flight in a client's log, at first hand, over each thing that happens in the small world of the log, and so over a run.
+use Rattle.std.proofs.Common.{◌≡◌, ◌⊎◌, true, false, List, [], ◌∷◌, Option, Some, None, refl, sym, ap, subst, ◌∙◌, inl, inr}
+use Rattle.std.specs.Prelude.{IfSome}
+use Rattle.std.specs.List.{AllByRecursion}
+use Rattle.client_log.specs.declared.input.In.{In as Input}
+use Rattle.client_log.specs.declared.input.In.TheVariants.{Put, Parts, Seal, Acked, Maps, Tick}
+use Rattle.client_log.specs.History.{state_after}
+use Rattle.client_log.specs.LogState.{LogState, started}
+use Rattle.client_log.specs.Transition.{transition}
+use Rattle.log_ties.specs.client_log_tie.ClientEvents.{IsOnce, NeverServes}
+use Rattle.log_ties.specs.client_log_tie.Puts.{LogTook, PutsOwn, flown_after}
+use Rattle.group_map.specs.GroupMapState.{GroupMapState}
+use Rattle.log_flight.specs.Flights.{FlightState}
+use Rattle.log_law.specs.Events.{CameToWriter, Happens, Runs}
+use Rattle.log_law.specs.Events.Happens.{Acts, Bars, Crashes, Drops, Hears, Lists, Opens, Publishes, Raises, Renews, Restarts, Serves, Welcomes, Writes}
+use Rattle.log_law.specs.Events.Runs.{Begun, On}
+use Rattle.log_law.specs.Net.{Net, Owner, Told, after_flight, after_told, chain_in, first_write, flown_with}
+use Rattle.log_law.specs.Net.Owner.{Down, Opening, Serving, Writing}
+use Rattle.log_law.specs.Restarts.{is_serving}
+use Rattle.log_protocol.specs.Tables.{In}
+use Rattle.log_scan.specs.ScanState.{ScanState}
+use Rattle.log_scan.specs.Transition as scan
+use Rattle.log_tie.specs.Setting.{Setting}
+use Rattle.segment_format.specs.declared.segment.Segment.{Segment}
+use Rattle.xfs_base.proofs.Booleans.{contrary}
+use Rattle.run_laws.specs.segment_tie.Segments.{IsFirstHand, IsOriginal, WritesNothing, WritesOriginals}
+use Rattle.run_laws.proofs.segment_tie.Items.{nothing_is}
+use Rattle.run_laws.proofs.segment_tie.Logs as logs
+use Rattle.run_laws.proofs.segment_tie.Logs.{originals}
+use Rattle.run_laws.proofs.segment_tie.Openings as openings
+use Rattle.run_laws.specs.segment_law.Flown.{IsOriginalLog, LogsGoOnOriginal, OwnerWrites}
+
+-- ---- a log that serves
+
+-- it goes on so whatever of its own it takes
+own_so : (s : LogState) (i : Input) → PutsOwn i → WritesOriginals s → WritesOriginals (transition s i).state
+own_so s (Put block entry value) own h =
+    logs.put_so IsFirstHand IsOriginal originals s block (record { entry = entry; value = value }) (record { version = own.0; hop = own.1 }) h
+own_so s (Parts items) own h = logs.parts_so IsFirstHand IsOriginal originals s items (λ t is. (nothing_is t (is ∙ own)).original) h
+own_so s Seal own h = logs.seal_so IsFirstHand IsOriginal originals s h
+own_so s (Acked name index generation) own h = logs.acked_so IsFirstHand IsOriginal originals s name index generation h
+own_so s (Maps groups) own h = logs.maps_so IsFirstHand IsOriginal originals s groups h
+own_so s Tick own h = logs.tick_so IsFirstHand IsOriginal originals s h
+
+all_so : (s : LogState) (inputs : List Input) → AllByRecursion PutsOwn inputs → WritesOriginals s → WritesOriginals (state_after s inputs)
+all_so s [] own h = h
+all_so s (i ∷ earlier) own h = own_so (state_after s earlier) i own.0 (all_so s earlier own.1 h)
+
+abbrev AllFlew : List Segment → Type 0
+AllFlew flown = (s : Segment) → In s flown → IsOriginal s
+
+-- with what is in flight now
+flies_so : (o : Option FlightState) (before : List Segment) → IfSome o (λ f. IsOriginal f.segment) → AllFlew before → AllFlew (flown_with o before)
+flies_so None before is all s among = all s among
+flies_so (Some f) before is all s (inl e) = subst IsOriginal (sym e) is
+flies_so (Some f) before is all s (inr among) = all s among
+
+flew_so : (s : LogState) (inputs : List Input) (before : List Segment) → AllByRecursion PutsOwn inputs → WritesOriginals s → AllFlew before
+    → AllFlew (flown_after s inputs before)
+flew_so s [] before own h all = all
+flew_so s (i ∷ earlier) before own h all =
+    let now : WritesOriginals (state_after s (i ∷ earlier)) = all_so s (i ∷ earlier) own h in
+    flies_so (state_after s (i ∷ earlier)).flight (flown_after s earlier before) now.flies (flew_so s earlier before own.1 h all)
+
+took_so : (n o : Net) (s : LogState) → n.owner ≡ Serving s → LogTook PutsOwn n o s → IsOriginalLog n → IsOriginalLog o
+took_so n o s is took h =
+    let now : WritesOriginals s = subst OwnerWrites is h.owner in
+    record {
+      owner = subst OwnerWrites (sym took.serves) (all_so s took.inputs took.all now);
+      flew = subst AllFlew (sym took.flown) (flew_so s took.inputs n.flown took.all now h.flew);
+    }
+
+-- ---- a log that is opened
+
+empty_flies : (o : Option FlightState) → IfSome o (λ f. f.segment.items ≡ []) → IfSome o (λ f. IsOriginal f.segment)
+empty_flies None h = tt
+empty_flies (Some f) h = (nothing_is f.segment h).original
+
+module _ (g : Setting) (n : Net) (h : IsOriginalLog n) where
+  -- the opening segment goes on, or is settled
+  flight_so : (chain : List Segment) (s : LogState) (i : Input) → WritesNothing (transition s i).state → (o : Option FlightState)
+      → (transition s i).state.flight ≡ o
+      → IsOriginalLog (after_flight g n chain (transition s i) o)
+  flight_so chain s i now None is = record { owner = openings.opens_originals (transition s i).state now; flew = h.flew }
+  flight_so chain s i now (Some f) is = record {
+    owner = now;
+    flew = flies_so (Some f) n.flown (nothing_is f.segment (subst (λ o. IfSome o (λ f. f.segment.items ≡ [])) is now.flies)).original h.flew;
+  }
+
+  writes_so : (chain : List Segment) (s : LogState) (i : Input) → CameToWriter n i → WritesNothing s
+      → IsOriginalLog (after_flight g n chain (transition s i) (transition s i).state.flight)
+  writes_so chain s (Put block entry value) came now = absurd came
+  writes_so chain s (Parts items) came now = absurd came
+  writes_so chain s Seal came now = absurd came
+  writes_so chain s (Acked name index generation) came now =
+      flight_so chain s (Acked name index generation) (openings.acked_so s name index generation now) _ refl
+  writes_so chain s (Maps m) came now = flight_so chain s (Maps m) (openings.maps_so s m now) _ refl
+  writes_so chain s Tick came now = flight_so chain s Tick (openings.tick_so s now) _ refl
+
+  -- the log starts behind what was read back, with a segment without items
+  told_so : (s : ScanState) (d : scan.Done) (t : Option Told) (groups : Option GroupMapState) → IsOriginalLog (after_told g n s d t groups)
+  told_so s d None groups = record { owner = tt; flew = h.flew }
+  told_so s d (Some t) None = record { owner = tt; flew = h.flew }
+  told_so s d (Some t) (Some m) =
+      let first : WritesNothing (first_write g n.inc t.end m).state =
+      openings.begun_so (started g.log n.inc t.end m) (record { clear = refl; flies = tt }) in
+      record {
+        owner = first;
+        flew = flies_so (first_write g n.inc t.end m).state.flight n.flown (empty_flies (first_write g n.inc t.end m).state.flight first.flies) h.flew;
+      }
+
+  -- the owner and what flew are the same
+  pub same_so : (o : Net) → o.owner ≡ n.owner → o.flown ≡ n.flown → IsOriginalLog o
+  same_so o owner flown = record { owner = subst OwnerWrites (sym owner) h.owner; flew = subst AllFlew (sym flown) h.flew }
+
+  -- ---- what happens, but for what the log of an owner that serves takes
+
+  happens_so : (o : Net) → is_serving n.owner ≡ false ⊎ (is_serving o.owner ≡ false) → Happens g n o → IsOriginalLog o
+  happens_so o (inl away) (Acts s i is came texts) = contrary (sym away ∙ ap is_serving is)
+  happens_so o (inr away) (Acts s i is came texts) = contrary (sym away)
+  happens_so o away (Writes chain s i is came texts) = writes_so chain s i came (subst OwnerWrites is h.owner)
+  happens_so o away (Opens s i is came can) =
+      told_so s (scan.transition s i) (chain_in (scan.transition s i).outs) (scan.transition s i).state.opening.groups
+  happens_so o away Crashes = record { owner = tt; flew = h.flew }
+  happens_so o away (Restarts down) = record { owner = tt; flew = h.flew }
+  happens_so o away (Renews map high doubts down came) = record { owner = record { once = tt; each = tt; flies = tt }; flew = h.flew }
+  happens_so o away (Serves v deed some came) = record { owner = h.owner; flew = h.flew }
+  happens_so o away (Bars v log pass) = record { owner = h.owner; flew = h.flew }
+  happens_so o away (Lists v) = record { owner = h.owner; flew = h.flew }
+  happens_so o away (Hears v generation up reached) = record { owner = h.owner; flew = h.flew }
+  happens_so o away (Raises low name up is below) = record { owner = h.owner; flew = h.flew }
+  happens_so o away (Publishes map whole) = record { owner = h.owner; flew = h.flew }
+  happens_so o away (Welcomes inc ask news map hello low whole) = record { owner = h.owner; flew = h.flew }
+  happens_so o away (Drops lists meta listed within below) = record { owner = h.owner; flew = h.flew }
+
+-- ---- an event of the owner
+
+-- it serves nowhere on the way
+never_so : (g : Setting) (n o : Net) (runs : Runs g n o) → NeverServes runs → IsOriginalLog n → IsOriginalLog o
+never_so g n o Begun never h = h
+never_so g n o (On {m = m} run happens) never h = happens_so g m (never_so g n m run never.1 h) o (inr never.0) happens
+
+once_so : (g : Setting) (n o : Net) (runs : Runs g n o) → IsOnce runs → is_serving n.owner ≡ false → IsOriginalLog n → IsOriginalLog o
+once_so g n o Begun once away h = h
+once_so g n o (On Begun happens) once away h = happens_so g n h o (inl away) happens
+once_so g n o (On (On run before) happens) once away h = absurd once
+
+pub logs_go_on : LogsGoOnOriginal
+logs_go_on g n o runs straight puts h = by (is_serving o.owner) refl n.owner refl
+  where
+    by : (t : _) → is_serving o.owner ≡ t → (x : Owner) → n.owner ≡ x → IsOriginalLog o
+    by false away x is = never_so g n o runs (straight.never away) h
+    by true serves (Serving s) is = took_so n o s is (puts s is serves) h
+    by true serves Down is = once_so g n o runs (straight.once (ap is_serving is) serves) (ap is_serving is) h
+    by true serves (Opening scan) is = once_so g n o runs (straight.once (ap is_serving is) serves) (ap is_serving is) h
+    by true serves (Writing chain s) is = once_so g n o runs (straight.once (ap is_serving is) serves) (ap is_serving is) h

@@ -1,0 +1,183 @@
+-- The log of an opening: nothing waits, and its opening segment has no items, until it is settled.
+use Rattle.std.proofs.Common.{◌≡◌, ℕ, ◌&&◌, cond, List, [], Option, Some, None, refl, sym, ap, subst}
+use Rattle.std.specs.Prelude.{drop, take, IfSome}
+use Rattle.client_log.specs.LogState.{LogState}
+use Rattle.client_log.specs.Transition.{Done, launched, writes, has_next, is_idle, is_full, sealed, if_full, on_parts, restriped, landed, settled, can_follow, followed, looked_at, on_acked, on_maps, on_tick, all_sends}
+use Rattle.telling_ties.specs.entry_tie.ClientTells as tells
+use Rattle.telling_ties.specs.entry_tie.Told.{Told, RowsTold}
+use Rattle.telling_ties.proofs.entry_tie.Frames as frames
+use Rattle.telling_ties.proofs.entry_tie.Frames.{all_each, contains_all}
+use Rattle.telling_ties.proofs.entry_tie.Openings as events
+use Rattle.group_map.specs.GroupMapState.{GroupMapState}
+use Rattle.log_flight.specs.declared.dirty.Change.{Change}
+use Rattle.log_flight.specs.declared.flight.Fate.{Fate}
+use Rattle.log_flight.specs.declared.flight.Fate.TheVariants.{Restripe, Settle, Wait}
+use Rattle.log_flight.specs.Fate.{fate_of}
+use Rattle.log_flight.specs.Flights.{FlightState, is_of, noting}
+use Rattle.log_flight.specs.Items.{items_of}
+use Rattle.log_flight.specs.Texts.{has_text}
+use Rattle.log_owner.specs.declared.opened.Progress.{Progress}
+use Rattle.log_owner.specs.declared.opened.Progress.TheVariants as progress
+use Rattle.log_owner.specs.declared.opening.Opening.{Opening}
+use Rattle.log_owner.specs.declared.opening.Stage.{Stage}
+use Rattle.log_owner.specs.declared.opening.Stage.TheVariants as stage
+use Rattle.log_owner.specs.Opening.{Went, on_packet, on_tick as opening_tick}
+use Rattle.node_base.specs.declared.effects.Effect.{Effect}
+use Rattle.node_base.specs.declared.questions.Questions.{Questions}
+use Rattle.node_base.specs.Effects.{acts_of}
+use Rattle.segment_format.specs.declared.segment.Segment.{Segment}
+use Rattle.segment_format.specs.Rows.{rows_of}
+use Rattle.version_model.specs.declared.act.Act.{Act}
+use Rattle.wire_msg.specs.declared.packet.Packet.{Packet}
+use Rattle.xfs_base.proofs.Booleans.{by_test}
+use Rattle.xfs_base.specs.declared.block.BlockId.{BlockId}
+use Rattle.xfs_base.specs.declared.entry.Entry.{Entry}
+use Rattle.xfs_base.specs.declared.node.NodeId.TheVariants.{Cleaner}
+use Rattle.xfs_base.specs.declared.segment.SegName.{SegName}
+use Rattle.xfs_base.specs.Limits.{segment_blocks}
+use Rattle.xfs_base.specs.Steps.{still}
+use Rattle.run_laws.specs.segment_tie.Clients.{StageWrites}
+use Rattle.run_laws.specs.segment_tie.Segments.{IsOriginal, IsCopies, IsFirstHand, IsMoved, WritesSo, WritesOnly, WritesNothing, WritesOriginals, WritesCopies}
+use Rattle.run_laws.proofs.segment_tie.Items.{nothing_is}
+
+abbrev pub Empty : Segment → Type 0
+Empty s = s.items ≡ []
+
+abbrev pub Keeps : Done → Type 0
+Keeps d = WritesNothing d.state
+
+-- ---- the log
+
+sealed_so : (s : LogState) → s.dirty ≡ [] → Keeps (sealed s)
+unfolding sealed launched
+sealed_so s clear = record {
+  clear = ap (λ (d : List (BlockId × Change)). drop segment_blocks d) clear;
+  flies = ap (λ (d : List (BlockId × Change)). items_of 0 (take segment_blocks d)) clear;
+}
+
+if_full_so : (s : LogState) → WritesNothing s → Keeps (if_full s)
+unfolding if_full
+if_full_so s h = by_test Keeps (is_full s) (sealed s) (still s) (λ t. sealed_so s h.clear) (λ t. h)
+
+pub begun_so : (s : LogState) → WritesNothing s → Keeps (on_parts s [])
+unfolding on_parts launched
+begun_so s h =
+    by_test Keeps (is_idle s && has_next s.end.seq && has_text []) (writes s []) (still s) (λ t. record { clear = h.clear; flies = refl }) (λ t. h)
+
+follows_so : (s : LogState) (f : FlightState) (fate : Fate) → s.dirty ≡ [] → Empty f.segment → Keeps (followed s f fate)
+unfolding restriped launched settled
+follows_so s f Restripe clear is = record { clear = clear; flies = is }
+follows_so s f Settle clear is = if_full_so (landed s f) (record { clear = clear; flies = tt })
+follows_so s f Wait clear is = record { clear = clear; flies = is }
+
+looks_so : (before s : LogState) (f : FlightState) → WritesNothing before → s.dirty ≡ [] → Empty f.segment → Keeps (looked_at before s f)
+unfolding looked_at
+looks_so before s f was clear is =
+    by_test Keeps (can_follow s f (fate_of s.groups f)) (followed s f (fate_of s.groups f)) (still before)
+    (λ t. follows_so s f (fate_of s.groups f) clear is) (λ t. was)
+
+pub acked_so : (s : LogState) (name : SegName) (index generation : ℕ) → WritesNothing s → Keeps (on_acked s name index generation)
+unfolding on_acked
+acked_so s name index generation h = by s.flight h.flies
+  where
+    by : (o : Option FlightState) → IfSome o (λ f. Empty f.segment)
+        → Keeps (elim o [ None ↦ still s | Some f ↦ cond (is_of f name index generation) (looked_at s s (noting f index)) (still s) ])
+    by None is = h
+    by (Some f) is =
+        by_test Keeps (is_of f name index generation) (looked_at s s (noting f index)) (still s) (λ t. looks_so s s (noting f index) h h.clear is) (λ t. h)
+
+pub maps_so : (s : LogState) (groups : GroupMapState) → WritesNothing s → Keeps (on_maps s groups)
+unfolding on_maps
+maps_so s groups h = by s.flight h.flies
+  where
+    by : (o : Option FlightState) → IfSome o (λ f. Empty f.segment)
+        → Keeps (elim o [ None ↦ still (record s { groups = groups }) | Some f ↦ looked_at s (record s { groups = groups }) f ])
+    by None is = record { clear = h.clear; flies = h.flies }
+    by (Some f) is = looks_so s (record s { groups = groups }) f h h.clear is
+
+pub tick_so : (s : LogState) → WritesNothing s → Keeps (on_tick s)
+unfolding on_tick
+tick_so s h = by s.flight
+  where
+    by : (o : Option FlightState) → Keeps (elim o [ None ↦ still s | Some f ↦ record { state = s; outs = all_sends f } ])
+    by None = h
+    by (Some f) = h
+
+opening_log : events.KeepsLog WritesNothing
+opening_log = record {
+  first = λ log inc end groups. record { clear = refl; flies = tt };
+  begins = begun_so;
+  acked = acked_so;
+  maps = maps_so;
+  ticks = tick_so;
+}
+
+-- ---- the opening
+
+-- nothing is claimed of where blocks lie
+any_told : Told
+any_told block entry = Unit {0}
+
+-- where it still opens its log nothing is written, nor where the log is open
+abbrev pub ProgressWrites : Progress → Type 0
+ProgressWrites (progress.Opening o) = StageWrites o.stage
+ProgressWrites (progress.Opened o) = WritesNothing o.log
+ProgressWrites (progress.Lost seg) = Unit {0}
+
+module _ (done : List Act) where
+  any_rows : (rows : List (BlockId × Entry)) → RowsTold any_told rows
+  unfolding any_told
+  any_rows rows = all_each (λ row. Unit {0}) (λ row. tt) rows
+
+  any_owed : (at : Stage) → tells.StageOwed any_told done at
+  any_owed (stage.Scanning s) = tt
+  any_owed (stage.Settling s) = all_each (tells.SegmentOwed any_told done) (λ segment acts. any_rows (rows_of segment)) s.chain
+
+  kept : (at : Stage) → StageWrites at → events.StageKeeps any_told done WritesNothing opening_log at
+  kept (stage.Scanning s) h = tt
+  kept (stage.Settling s) h = h
+
+  held : (at : Stage) → events.StageKeeps any_told done WritesNothing opening_log at → StageWrites at
+  held (stage.Scanning s) h = tt
+  held (stage.Settling s) h = h
+
+  progressed : (p : Progress) → events.ProgressHolds any_told done WritesNothing opening_log p → ProgressWrites p
+  progressed (progress.Opening o) h = held o.stage h
+  progressed (progress.Opened o) h = h.keeps
+  progressed (progress.Lost seg) h = tt
+
+-- its own acts are among themselves
+acted : (es : List Effect) → frames.AllActed any_told (acts_of Cleaner es) es
+acted es = frames.acts_acted any_told (acts_of Cleaner es) Cleaner es (contains_all (acts_of Cleaner es))
+
+pub packet_writes : (o : Opening) (q : Questions) (p : Packet) → StageWrites o.stage → ProgressWrites (on_packet o q p).progress
+packet_writes o q p h =
+    let w : Went = on_packet o q p in
+    let done : List Act = acts_of Cleaner w.effects in
+    progressed done w.progress
+    (events.packet_goes any_told done WritesNothing opening_log o q p (any_owed done o.stage) (kept done o.stage h) (acted w.effects)).0
+
+pub tick_writes : (o : Opening) (q : Questions) → StageWrites o.stage → ProgressWrites (opening_tick o q).progress
+tick_writes o q h =
+    let w : Went = opening_tick o q in
+    let done : List Act = acts_of Cleaner w.effects in
+    progressed done w.progress
+    (events.tick_goes any_told done WritesNothing opening_log o q (any_owed done o.stage) (kept done o.stage h) (acted w.effects)).0
+
+-- ---- the log that is open then
+
+module _ (Moved : ℕ → Type 0) (Flies : Segment → Type 0) (empty : (s : Segment) → s.items ≡ [] → Flies s) where
+  opened_flies : (o : Option FlightState) → IfSome o (λ f. Empty f.segment) → IfSome o (λ f. Flies f.segment)
+  opened_flies None h = tt
+  opened_flies (Some f) h = empty f.segment h
+
+  opened_so : (waits : List (BlockId × Change)) (flight : Option FlightState) → WritesOnly Empty waits flight → WritesSo Moved Flies waits flight
+  opened_so waits flight h =
+      subst (λ (w : List (BlockId × Change)). WritesSo Moved Flies w flight) (sym h.clear)
+      (record { once = tt; each = tt; flies = opened_flies flight h.flies })
+
+pub opens_originals : (s : LogState) → WritesNothing s → WritesOriginals s
+opens_originals s h = opened_so IsFirstHand IsOriginal (λ t none. (nothing_is t none).original) s.dirty s.flight h
+
+pub opens_copies : (s : LogState) → WritesNothing s → WritesCopies s
+opens_copies s h = opened_so IsMoved IsCopies (λ t none. (nothing_is t none).copies) s.dirty s.flight h

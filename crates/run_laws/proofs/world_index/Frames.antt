@@ -1,0 +1,90 @@
+-- What the small world leaves as it is leaves the registry and logs seen.
+use Rattle.std.proofs.Common.{◌≡◌, ◌⊎◌, ℕ, ◌≤◌, ◌<◌, List, inl, inr, refl, sym, ap, subst, ◌∙◌, arith}
+use Rattle.client_node.specs.declared.phase.Phase.{Phase as ClientPhase}
+use Rattle.client_node.specs.declared.phase.Phase.TheVariants as clients
+use Rattle.client_node.specs.Phases.{lasting_of}
+use Rattle.cleaner_node.specs.declared.cleaner.Phase.{Phase as CleanerPhase}
+use Rattle.cleaner_node.specs.declared.cleaner.Phase.TheVariants as cleaners
+use Rattle.core_world.specs.declared.any_node.AnyNode.{AnyNode}
+use Rattle.index_tie.specs.Net.{Net}
+use Rattle.index_tie.specs.Takeovers.{of_log}
+use Rattle.node_ties.specs.node_index_tie.RegistryEvents.{RegistryAgrees}
+use Rattle.node_ties.specs.node_index_tie.Sight.{Texts}
+use Rattle.node_ties.proofs.owner_index_tie.Frames.{more_itself}
+use Rattle.node_ties.specs.owner_index_tie.CleanerEvents.{PhaseAgrees}
+use Rattle.node_ties.specs.owner_index_tie.ClientEvents.{ClientAgrees}
+use Rattle.node_ties.specs.owner_index_tie.Filing.{IsSameLog}
+use Rattle.segment_format.specs.declared.segment.Segment.{Segment}
+use Rattle.store_nodes.specs.declared.registry_node.RegistryNode.{RegistryNode}
+use Rattle.wire_msg.specs.declared.packet.Packet.{Packet}
+use Rattle.world_base.specs.declared.cluster.Cluster.{Cluster}
+use Rattle.run_laws.proofs.world_index.Facts.{Grown}
+use Rattle.run_laws.proofs.world_index.Horizons.{steady_always}
+use Rattle.run_laws.specs.world_index.Standing.{Scene, Stands}
+use Rattle.run_laws.proofs.world_law.OtherTurns.{equal_or_not}
+use Rattle.xfs_base.specs.Limits.{u32_end}
+use Rattle.xfs_base.specs.declared.segment.SegRef.{SegRef}
+
+-- the registry is seen as before, where its epoch, horizons and parts are as they were
+module _ (part : ℕ) (n m : Net) (epoch : m.epoch ≡ n.epoch) (horizon : m.horizon ≡ n.horizon) (parts : m.parts ≡ n.parts) where
+  horizon_now : m.horizon m.epoch ≡ n.horizon n.epoch
+  horizon_now = ap m.horizon epoch ∙ ap (λ (h : ℕ → List ℕ). h n.epoch) horizon
+
+  parts_now : m.parts m.epoch ≡ n.parts n.epoch
+  parts_now = ap m.parts epoch ∙ ap (λ (h : ℕ → List SegRef). h n.epoch) parts
+
+  pub registry_frame : (r : RegistryNode) → RegistryAgrees part n r → RegistryAgrees part m r
+  registry_frame r k = record {
+    epoch = k.epoch ∙ sym epoch;
+    horizon = k.horizon ∙ sym horizon_now;
+    parts = k.parts ∙ sym parts_now;
+    eight = k.eight;
+    later_horizon = λ e low. ap (λ (h : ℕ → List ℕ). h e) horizon ∙ (k.later_horizon e (subst (λ x. x ≤ e) epoch low) ∙ sym horizon_now);
+    later_parts = λ e low. ap (λ (h : ℕ → List SegRef). h e) parts ∙ (k.later_parts e (subst (λ x. x ≤ e) epoch low) ∙ sym parts_now);
+    is = record {
+      from_one = λ l some most. subst (λ (h : List ℕ). 0 < of_log h l) (sym horizon_now) (k.is.from_one l some most);
+      short = λ l. subst (λ (h : List ℕ). of_log h l ≤ u32_end) (sym horizon_now) (k.is.short l);
+    };
+  }
+
+-- ---- logs
+
+-- a client's number, and how far its log is filed
+pub client_number : (part : ℕ) (texts : Texts) (n : Net) (c : ℕ) (p : ClientPhase) → ClientAgrees part texts n c p → (lasting_of p).number ≡ c
+client_number part texts n c (clients.Down l) h = h.number_is
+client_number part texts n c (clients.Opening l o) h = h.0.number_is
+client_number part texts n c (clients.Serving s) h = h.0.number_is
+
+pub client_head : (part : ℕ) (texts : Texts) (n : Net) (c : ℕ) (p : ClientPhase) → ClientAgrees part texts n c p → n.filed.head c < u32_end
+client_head part texts n c (clients.Down l) h = h.fits.short
+client_head part texts n c (clients.Opening l o) h = h.0.fits.short
+client_head part texts n c (clients.Serving s) h = h.0.feed.short
+
+pub cleaner_head : (part : ℕ) (texts : Texts) (n : Net) (p : CleanerPhase) → PhaseAgrees part n texts p → n.filed.head 9 < u32_end
+cleaner_head part texts n (cleaners.Down l) h = h.fits.short
+cleaner_head part texts n (cleaners.Opening l o) h = h.0.fits.short
+cleaner_head part texts n (cleaners.Serving e) h = h.0.owner.feed.short
+
+-- where one log files, no log is at its last number, if that one isn't
+pub heads_stay : (n m : Net) (l : ℕ) → ((d : ℕ) → (d ≡ l → ⊥) → IsSameLog d n.filed m.filed) → m.filed.head l < u32_end
+    → ((d : ℕ) → n.filed.head d < u32_end) → (d : ℕ) → m.filed.head d < u32_end
+heads_stay n m l others own heads d = by (equal_or_not d l)
+  where
+    by : (d ≡ l) ⊎ (d ≡ l → ⊥) → m.filed.head d < u32_end
+    by (inl same) = subst (λ x. m.filed.head x < u32_end) (sym same) own
+    by (inr other) = subst (λ x. x < u32_end) (sym (others d other).head) (heads d)
+
+-- a small world is one that may follow itself
+pub grown_itself : (k : Cluster) (part : ℕ) (texts : Texts) (first : ℕ → ℕ → Segment) (nodes : List AnyNode) (sent : List Packet)
+    (RegistrySound : RegistryNode → Type 0) (s : Scene) → Stands k part texts first nodes sent RegistrySound s → Grown s.net s.net
+grown_itself k part texts first nodes sent RegistrySound s st = record {
+  filed = more_itself s.net.filed;
+  stay = λ e none. none;
+  sent = λ x is. is;
+  deleted = λ name is. is;
+  epoch = let e = s.net.epoch in omega arith;
+  from_one = (steady_always part _ first s.net st.runs).from_one;
+  rises = λ e l some most. omega arith;
+  horizon = λ e none low. refl;
+  parts = λ e none low. refl;
+}

@@ -1,0 +1,62 @@
+-- While a client that fell with a block isn't back, no client holds the block: so it is in the small world, in which its tokens have the block dirty. And falls
+-- are apart, since its acts are those of the run.
+use Rattle.std.proofs.Common.{◌≡◌, ℕ, ◌<◌, ◌==◌, true, false, Some, subst, arith}
+use Rattle.std.proofs.lemmas.Bool.Decides.{nat_tests}
+use Rattle.act_tie.specs.Shown.{FallsApart}
+use Rattle.node_ties.specs.node_tie.RegistryEvents.{RegistrySound}
+use Rattle.token_client.specs.State.{TokensState, held_of}
+use Rattle.node_ties.proofs.node_tie.SmallWorld.{with_promise}
+use Rattle.token_law.specs.Laws.{FallsAreApart, NobodyHoldsAfterFall}
+use Rattle.world_base.specs.Cluster.{cluster_of, place_of}
+use Rattle.world_base.specs.declared.cluster.Cluster.{Cluster}
+use Rattle.world_base.specs.declared.world.World.{World}
+use Rattle.run_laws.proofs.world_law.Falls.{WaitsDirty}
+use Rattle.run_laws.proofs.world_law.Laws.{GoodWorld, NodeLaws, ServesThere, front, serves_there}
+use Rattle.run_laws.proofs.world_law.RegistryTurns.{slot_below}
+use Rattle.run_laws.specs.world_law.Standing.{Scene, Stands, members}
+use Rattle.run_laws.specs.world_law.Fallen.{EveryRunHasFallsApart, NobodyHolds, NobodyHoldsWhatFell}
+use Rattle.run_laws.specs.world_law.Owners.{moment, node_in, tokens_of}
+use Rattle.core_world.specs.declared.any_node.AnyNode.{AnyNode}
+use Rattle.xfs_base.specs.Blocks.{slot_of}
+use Rattle.xfs_base.specs.declared.node.NodeId.TheVariants.{Client}
+use Rattle.xfs_base.specs.Modes.{is_held}
+
+module _ (laws : NodeLaws) (small : NobodyHoldsAfterFall) where
+  nobody_now : (w : World AnyNode) (k : Cluster) → w.cluster ≡ k → ((part : ℕ) (of_eight : part < 8) → GoodWorld laws k part of_eight w) → NobodyHolds w
+  nobody_now w k cluster good b c d t fallen at_d =
+      subst (λ (x : TokensState). is_held (held_of x.blocks b).mode ≡ false) y.tokens
+      (small false (members k part) part (with_promise 1 now.net) b (record { run = st.runs; inside = itself part }) c d
+      (record { some = waits.some; within = waits.within }) y.client waits.down waits.dirty y.up)
+    where
+      part : ℕ
+      part = slot_of b.ino.0
+
+      of_eight : part < 8
+      of_eight = slot_below b.ino.0
+
+      now : Scene
+      now = (good part of_eight).0
+
+      st : Stands false k part w.nodes w.sent w.acts RegistrySound now
+      st = (good part of_eight).1
+
+      waits : WaitsDirty (members k part) now.net b c
+      waits = (good part of_eight).2 b c fallen
+
+      itself : (n : ℕ) → (n == n) ≡ true
+      itself n = grind (arith, nat_tests)
+
+      y : ServesThere laws k part of_eight now d t
+      y = serves_there laws k part of_eight w.nodes w.sent w.acts now st d t
+          (subst (λ cl. tokens_of (node_in w.nodes (place_of cl (Client d))) ≡ Some t) cluster at_d)
+
+  pub nobody_holds : NobodyHoldsWhatFell
+  nobody_holds e setup run count =
+      nobody_now (moment e count) (cluster_of e.script.setup) (front laws e setup run count 0 (omega arith)).0
+      (λ part of_eight. (front laws e setup run count part of_eight).1)
+
+-- the acts of a run are those of the small world, in which falls are apart
+pub falls_apart : NodeLaws → FallsAreApart → EveryRunHasFallsApart
+falls_apart laws small e setup run count =
+    (let good = (front laws e setup run count 0 (omega arith)).1 in
+    subst FallsApart good.1.acts (small false (members (cluster_of e.script.setup) 0) 0 (with_promise 1 good.0.net) good.1.runs))

@@ -1,0 +1,14 @@
+use Rattle.run_laws.proofs.world_lines.Owners as owners
+use Rattle.run_laws.proofs.world_lines.Straight as straight
+use Rattle.run_laws.proofs.world_lines.owners_lines_go_on.Goals as goal
+
+pub returns : goal.returns
+returns c = record {
+  acts = owners.acts_are_done;
+  clients_short = owners.clients_file_short;
+  cleaner_short = owners.cleaner_files_short;
+  in_boot = owners.in_boot_files_still c.openings_go_on.ensures.unfiled;
+  straight = straight.straight_files_still c.openings_go_on.ensures.unfiled;
+  clients = owners.clients_lines_go_on c.logs_stay_whole.ensures.whole c.ends_are_last.ensures.last;
+  cleaner = owners.cleaners_line_goes_on c.logs_stay_whole.ensures.whole c.ends_are_last.ensures.last;
+}

@@ -1,0 +1,195 @@
+-- One text of each name for the whole run: what is in flight in some log at the end of the run has all that ever was.
+use Rattle.std.proofs.Common.{◌≡◌, ◌⊎◌, ⊎_elim, ℕ, zero, suc, ◌≤◌, ◌<◌, List, [], ◌∷◌, ◌++◌, length, inl, inr, refl, sym, ap, subst, ◌∙◌, arith}
+use native.Mathlib.Bridge.{le_prop}
+use Rattle.core_world.specs.declared.any_node.AnyNode.{AnyNode}
+use Rattle.log_law.specs.Held.{WhatFlewIsOfTheLog}
+use Rattle.log_law.specs.Laws.{OneNameOneText}
+use Rattle.log_protocol.specs.Tables.{In}
+use Rattle.log_tie.specs.Setting.{Setting}
+use Rattle.node_base.specs.Setups.{IsSetup}
+use Rattle.segment_format.specs.declared.segment.Segment.{Segment}
+use Rattle.world_base.specs.declared.estate.Estate.{Estate}
+use Rattle.run_laws.proofs.world_logs.Line.{flown_by_end, last_or_before, one_text}
+use Rattle.run_laws.proofs.world_logs.Reading.{look}
+use Rattle.run_laws.proofs.world_logs.Roles.{high_log, managers_log}
+use Rattle.run_laws.specs.world_logs.Lines.{HasLines, Texts, setting}
+use Rattle.run_laws.specs.world_logs.Roles.{IsThere, Role, log_by}
+use Rattle.run_laws.specs.world_logs.Roles.Role.{OfClient, OfCleaner, OfManager}
+use Rattle.xfs_base.specs.declared.segment.LogId.{LogId}
+use Rattle.xfs_base.specs.declared.segment.SegName.{SegName}
+
+-- ---- lists
+
+in_left : {X : Type 0} (xs ys : List X) (x : X) → In x xs → In x (xs ++ ys)
+in_left [] ys x is = absurd is
+in_left (y ∷ xs) ys x (inl e) = inl e
+in_left (y ∷ xs) ys x (inr is) = inr (in_left xs ys x is)
+
+in_right : {X : Type 0} (xs ys : List X) (x : X) → In x ys → In x (xs ++ ys)
+in_right [] ys x is = is
+in_right (y ∷ xs) ys x is = inr (in_right xs ys x is)
+
+in_either : {X : Type 0} (xs ys : List X) (x : X) → In x (xs ++ ys) → In x xs ⊎ In x ys
+in_either [] ys x is = inr is
+in_either (y ∷ xs) ys x (inl e) = inl (inl e)
+in_either (y ∷ xs) ys x (inr is) = ⊎_elim (λ here. inl (inr here)) (λ there. inr there) (in_either xs ys x is)
+
+-- ---- counts
+
+counted : (c most : ℕ) → suc c ≤ most → (0 < suc c) × (suc c ≤ most)
+counted c most h = (omega arith, h)
+
+one_less : (c most : ℕ) → suc c ≤ most → c ≤ most
+one_less c most h = omega arith
+
+all_of : (n : ℕ) → n ≤ n
+all_of n = omega arith
+
+-- ---- the segments of all logs
+
+module _ (law : OneNameOneText) (own : WhatFlewIsOfTheLog) (base : Setting) (e : Estate AnyNode) (ok : IsSetup e.script.setup) (lines : HasLines base e) where
+  abbrev clients : ℕ
+  clients = e.script.setup.clients
+
+  abbrev managers : ℕ
+  managers = e.script.setup.managers
+
+  abbrev There : Role → Type 0
+  There r = IsThere clients managers r
+
+  abbrev flown_in : (r : Role) → There r → List Segment
+  flown_in r there = ((lines r there).at (length e.events)).net.flown
+
+  -- of the first so many clients, and managers
+  of_clients : (c : ℕ) → c ≤ clients → List Segment
+  of_clients zero most = []
+  of_clients (suc c) most = flown_in (OfClient (suc c)) (counted c clients most) ++ of_clients c (one_less c clients most)
+
+  of_managers : (j : ℕ) → j ≤ managers → List Segment
+  of_managers zero most = []
+  of_managers (suc j) most = flown_in (OfManager (suc j)) (counted j managers most) ++ of_managers j (one_less j managers most)
+
+  all_flown : List Segment
+  all_flown = of_clients clients (all_of clients) ++ (flown_in OfCleaner tt ++ of_managers managers (all_of managers))
+
+  -- a segment that was in flight in some log
+  record Flew (s : Segment) : Type 0 where
+    role : Role
+    there : There role
+    here : In s (flown_in role there)
+
+  from_clients : (c : ℕ) (most : c ≤ clients) (s : Segment) → In s (of_clients c most) → Flew s
+  unfolding of_clients
+  from_clients zero most s is = absurd is
+  from_clients (suc c) most s is =
+      ⊎_elim (λ here. record { role = OfClient (suc c); there = counted c clients most; here = here }) (λ more. from_clients c (one_less c clients most) s more)
+      (in_either (flown_in (OfClient (suc c)) (counted c clients most)) (of_clients c (one_less c clients most)) s is)
+
+  from_managers : (j : ℕ) (most : j ≤ managers) (s : Segment) → In s (of_managers j most) → Flew s
+  unfolding of_managers
+  from_managers zero most s is = absurd is
+  from_managers (suc j) most s is =
+      ⊎_elim (λ here. record { role = OfManager (suc j); there = counted j managers most; here = here })
+      (λ more. from_managers j (one_less j managers most) s more)
+      (in_either (flown_in (OfManager (suc j)) (counted j managers most)) (of_managers j (one_less j managers most)) s is)
+
+  flew : (s : Segment) → In s all_flown → Flew s
+  unfolding all_flown
+  flew s is = ⊎_elim (λ here. from_clients clients (all_of clients) s here)
+      (λ rest. ⊎_elim (λ here. record { role = OfCleaner; there = tt; here = here }) (λ more. from_managers managers (all_of managers) s more)
+      (in_either (flown_in OfCleaner tt) (of_managers managers (all_of managers)) s rest))
+      (in_either (of_clients clients (all_of clients)) (flown_in OfCleaner tt ++ of_managers managers (all_of managers)) s is)
+
+  -- it is among them, whichever way its log is known to be there
+  there_prop : (r : Role) (a b : There r) → a ≡ b
+  there_prop (OfClient c) a b = λ i. (le_prop a.0 b.0 i, le_prop a.1 b.1 i)
+  there_prop OfCleaner a b = refl
+  there_prop (OfManager j) a b = λ i. (le_prop a.0 b.0 i, le_prop a.1 b.1 i)
+
+  moved : (s : Segment) (r q : Role) → r ≡ q → (h : There r) (m : There q) → In s (flown_in r h) → In s (flown_in q m)
+  moved s r q same h m is =
+      subst (λ x. (n : There x) → In s (flown_in x n)) same (λ n. subst (λ z. In s (flown_in r z)) (there_prop r h n) is) m
+
+  in_clients : (s : Segment) (c : ℕ) (most : c ≤ clients) (d : ℕ) (h : There (OfClient d)) → d ≤ c → In s (flown_in (OfClient d) h)
+      → In s (of_clients c most)
+  unfolding of_clients
+  in_clients s zero most d h less is = absurd (let some = h.0 in omega arith)
+  in_clients s (suc c) most d h less is = ⊎_elim
+      (λ same. in_left (flown_in (OfClient (suc c)) (counted c clients most)) (of_clients c (one_less c clients most)) s
+      (moved s (OfClient d) (OfClient (suc c)) (ap OfClient same) h (counted c clients most) is))
+      (λ before. in_right (flown_in (OfClient (suc c)) (counted c clients most)) (of_clients c (one_less c clients most)) s
+      (in_clients s c (one_less c clients most) d h before is))
+      (last_or_before d c less)
+
+  in_managers : (s : Segment) (j : ℕ) (most : j ≤ managers) (d : ℕ) (h : There (OfManager d)) → d ≤ j → In s (flown_in (OfManager d) h)
+      → In s (of_managers j most)
+  unfolding of_managers
+  in_managers s zero most d h less is = absurd (let some = h.0 in omega arith)
+  in_managers s (suc j) most d h less is = ⊎_elim
+      (λ same. in_left (flown_in (OfManager (suc j)) (counted j managers most)) (of_managers j (one_less j managers most)) s
+      (moved s (OfManager d) (OfManager (suc j)) (ap OfManager same) h (counted j managers most) is))
+      (λ before. in_right (flown_in (OfManager (suc j)) (counted j managers most)) (of_managers j (one_less j managers most)) s
+      (in_managers s j (one_less j managers most) d h before is))
+      (last_or_before d j less)
+
+  among_all : (s : Segment) (r : Role) (h : There r) → In s (flown_in r h) → In s all_flown
+  unfolding all_flown
+  among_all s (OfClient c) h is =
+      in_left (of_clients clients (all_of clients)) (flown_in OfCleaner tt ++ of_managers managers (all_of managers)) s
+      (in_clients s clients (all_of clients) c h h.1 is)
+  among_all s OfCleaner h is =
+      in_right (of_clients clients (all_of clients)) (flown_in OfCleaner tt ++ of_managers managers (all_of managers)) s
+      (in_left (flown_in OfCleaner tt) (of_managers managers (all_of managers)) s is)
+  among_all s (OfManager j) h is =
+      in_right (of_clients clients (all_of clients)) (flown_in OfCleaner tt ++ of_managers managers (all_of managers)) s
+      (in_right (flown_in OfCleaner tt) (of_managers managers (all_of managers)) s (in_managers s managers (all_of managers) j h h.1 is))
+
+  -- ---- no two logs have one number
+
+  one_role : (r q : Role) → There r → There q → log_by r ≡ log_by q → r ≡ q
+  one_role (OfClient c) (OfClient d) h m same = ap OfClient same
+  one_role (OfClient c) OfCleaner h m same = absurd (let a = h.1 in let b = ok.clients.1 in omega (arith, same))
+  one_role (OfClient c) (OfManager j) h m same = absurd (let a = h.1 in let b = ok.clients.1 in let high = high_log j m.0 in omega (arith, same))
+  one_role OfCleaner (OfClient d) h m same = absurd (let a = m.1 in let b = ok.clients.1 in omega (arith, same))
+  one_role OfCleaner OfCleaner h m same = refl
+  one_role OfCleaner (OfManager j) h m same = absurd (let high = high_log j m.0 in omega (arith, same))
+  one_role (OfManager i) (OfClient d) h m same = absurd (let a = m.1 in let b = ok.clients.1 in let high = high_log i h.0 in omega (arith, same))
+  one_role (OfManager i) OfCleaner h m same = absurd (let high = high_log i h.0 in omega (arith, same))
+  one_role (OfManager i) (OfManager j) h m same =
+      ap OfManager (let a = managers_log clients managers i ok.managers.1 h in let b = managers_log clients managers j ok.managers.1 m in omega (arith, same))
+
+  -- ---- the text of a name
+
+  abbrev Found : SegName → Type 0
+  Found name = (s : Segment) × In s all_flown × (s.name ≡ name)
+
+  any : SegName → Segment
+  any name = record { name = name; prior = record { pass = record { inc = 0; att = 0 }; group = 0 }; group = 0; items = [] }
+
+  its_log : (r : Role) (h : There r) (s : Segment) → In s (flown_in r h) → s.name.log ≡ (setting base e r).log
+  its_log r h s is = own (setting base e r) ((lines r h).at (length e.events)).net ((lines r h).stands (length e.events)).moment s is
+
+  -- the one that is found is that of any log
+  found_is : (r : Role) (h : There r) (s : Segment) → In s (flown_in r h) → (f : Found s.name) → f.0 ≡ s
+  found_is r h s is f =
+      let w : Flew f.0 = flew f.0 f.1 in
+      let log : log_by w.role ≡ log_by r =
+      ap (λ (l : LogId). l.0) (sym (its_log w.role w.there f.0 w.here) ∙ (ap (λ (name : SegName). name.log) f.2 ∙ its_log r h s is)) in
+      one_text base e r (lines r h) law (length e.events) (length e.events) f.0 s
+      (moved f.0 w.role r (one_role w.role r w.there h log) w.there h w.here) is f.2
+
+  abbrev chosen : (name : SegName) → Found name ⊎ ((s : Segment) → In s all_flown → s.name ≡ name → ⊥) → Segment
+  chosen name (inl f) = f.0
+  chosen name (inr none) = any name
+
+  chosen_is : (r : Role) (h : There r) (s : Segment) → In s (flown_in r h)
+      → (o : Found s.name ⊎ ((t : Segment) → In t all_flown → t.name ≡ s.name → ⊥)) → chosen s.name o ≡ s
+  chosen_is r h s is (inl f) = found_is r h s is f
+  chosen_is r h s is (inr none) = absurd (none s (among_all s r h is) refl)
+
+  pub texts_of : Texts base e lines
+  texts_of = record {
+    text = λ name. chosen name (look name all_flown);
+    flown = λ r there count s here.
+        chosen_is r there s (flown_by_end base e r (lines r there) count s here) (look s.name all_flown);
+  }

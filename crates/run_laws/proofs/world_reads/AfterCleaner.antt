@@ -1,0 +1,327 @@
+-- The cleaner's own event: the small worlds know the same of its log then as they did, and what is filed of it tells of each block once.
+use Rattle.std.proofs.Common.{◌≡◌, ◌⊎◌, ⊎_elim, ℕ, Bool, true, false, List, Option, Some, None, inl, inr, refl, sym, ap, subst, ◌∙◌}
+use Rattle.std.specs.Prelude.{IfSome}
+use Rattle.cleaner_emptying.specs.declared.emptying.Emptying.{Emptying}
+use Rattle.log_ties.specs.cleaner_log_tie.Owner as log_tie
+use Rattle.cleaner_node.specs.CleanerEvents.{Went_to, after_opening, begun_life, crashes, happens, hears, on_begin, on_deliver, on_time, opening_at, opening_wishes, phase_room, takes, wish_at}
+use Rattle.cleaner_node.specs.declared.cleaner.Cleaner.{Cleaner as CleanerNode}
+use Rattle.cleaner_node.specs.declared.cleaner.Phase.{Phase}
+use Rattle.cleaner_node.specs.declared.cleaner.Phase.TheVariants.{Down, Opening, Serving as Serves}
+use Rattle.cleaner_node.specs.declared.cleaner.Wish.TheVariants.{Crash, Restart, Clean}
+use Rattle.cleaner_parts.specs.declared.lasting.Lasting.{Lasting}
+use Rattle.client_log.specs.LogState.{LogState}
+use Rattle.log_ties.specs.client_log_tie.ClientEvents.{ServesStraight}
+use Rattle.log_ties.specs.client_log_tie.Owner.{Scene, SeesLog, SeesStage}
+use Rattle.client_parts.specs.Crash.{flight_of}
+use Rattle.index_tie.specs.Growth.{IsMore}
+use Rattle.index_tie.specs.Net as index
+use Rattle.log_flight.specs.Flights.{FlightState}
+use Rattle.log_law.specs.Ends.{IsFlight}
+use Rattle.log_law.specs.Events.{Runs}
+use Rattle.log_law.specs.Laws.{Moment}
+use Rattle.log_law.specs.Net.{Net}
+use Rattle.log_law.specs.Net.Owner.{Serving, Writing}
+use Rattle.log_law.specs.Restarts.{IsSureRun, is_serving, last_flight}
+use Rattle.log_law.specs.Tails.{then_on}
+use Rattle.log_owner.specs.declared.opened.Opened.{Opened}
+use Rattle.log_owner.specs.declared.opened.Progress.{Progress}
+use Rattle.log_owner.specs.declared.opened.Progress.TheVariants as progress
+use Rattle.log_owner.specs.declared.opening.Opening as openings
+use Rattle.log_owner.specs.declared.opening.Stage as stages
+use Rattle.log_owner.specs.declared.opening.Stage.TheVariants as stage
+use Rattle.log_owner.specs.Opened.{names_in}
+use Rattle.log_owner.specs.Opening as opening
+use Rattle.log_protocol.specs.Tables.{In}
+use Rattle.log_tie.specs.Setting.{Setting}
+use Rattle.node_base.specs.Beginning.{next_item}
+use Rattle.node_base.specs.declared.effects.Effect.{Effect}
+use Rattle.node_base.specs.Shape.{is_well_formed}
+use Rattle.node_ties.specs.node_index_tie.Sight.{Texts}
+use Rattle.node_ties.specs.node_tie.CleanerLogs.{CleanerCopies, OwnGoes, its_log}
+use Rattle.node_ties.specs.node_tie.LogRows.{LogSeen}
+use Rattle.node_ties.specs.node_tie.Sight.{SameLog}
+use Rattle.node_ties.specs.owner_index_tie.CleanerEvents as owner
+use Rattle.node_ties.specs.owner_index_tie.Filing.{filed_after}
+use Rattle.run_laws.specs.reopening_law.Openings.{EndsByOne, EndsSo}
+use Rattle.run_laws.specs.reopening_law.Reopens.{Reopens, TellsApart, has_flight}
+use Rattle.segment_format.specs.declared.segment.Segment.{Segment}
+use Rattle.run_laws.specs.segment_tie.Cleaners.{CleanerWrites}
+use Rattle.run_laws.specs.segment_tie.Segments.{IsCopies, TellsOnce}
+use Rattle.token_law.specs.Books.{Books, reopened, with_empty}
+use Rattle.token_law.specs.Net as token
+use Rattle.version_model.specs.Effects.{holds_flight}
+use Rattle.wire_msg.specs.declared.packet.Do.{Do}
+use Rattle.wire_msg.specs.declared.packet.Do.TheVariants.{Begin, Deliver, Tick}
+use Rattle.wire_msg.specs.declared.packet.Packet as wire
+use Rattle.run_laws.specs.world_lines.Lines.{IsLine, IsSure}
+use Rattle.run_laws.specs.world_lines.Polls.{GoesOnByFlight}
+use Rattle.run_laws.specs.world_lines.Turns.{AllSo}
+use Rattle.run_laws.specs.world_logs.Lines.{moment_then}
+use Rattle.xfs_base.proofs.Booleans.{by_test}
+use Rattle.xfs_base.specs.Steps.{after, still}
+use Rattle.run_laws.proofs.world_reads.AfterClients.{OwnAfter}
+use Rattle.run_laws.proofs.world_reads.AfterLaws.{AfterLaws}
+use Rattle.run_laws.proofs.world_reads.AfterLogs.{KnownLog, flight_stays, reopens_known, served_last, serves_known, stays_known}
+use Rattle.run_laws.proofs.world_reads.AfterOwners.{line_goes_on, never_files, same_filed}
+use Rattle.run_laws.proofs.world_reads.AfterTells.{AllTell, tells_reopened, tells_same, tells_serving}
+
+-- ---- an opening that ends
+
+-- The opening ended, by a packet or by time: the cleaner serves the log that it came to.
+pub record CleanerBack (l : Lasting) (o : openings.Opening) (t : Emptying) : Type 0 where
+  pub opened : Opened
+  pub comes : ((packet : wire.Packet) × ((opening.on_packet o l.questions packet).progress ≡ progress.Opened opened))
+      ⊎ ((opening.on_tick o l.questions).progress ≡ progress.Opened opened)
+  pub log : t.log ≡ opened.log
+
+module _ (l : Lasting) (o : openings.Opening) where
+  abbrev Comes : Went_to → Type 0
+  Comes w = (t : Emptying) → w.state ≡ Serves t → CleanerBack l o t
+
+  abbrev From : Opened → Type 0
+  From r = ((packet : wire.Packet) × ((opening.on_packet o l.questions packet).progress ≡ progress.Opened r))
+      ⊎ ((opening.on_tick o l.questions).progress ≡ progress.Opened r)
+
+  same_emptying : (s t : Emptying) → Serves s ≡ Serves t → s ≡ t
+  same_emptying s t is = cc
+
+  progress_comes : (k : Lasting) (effects : List Effect) (p : Progress) → ((r : Opened) → p ≡ progress.Opened r → From r)
+      → Comes (after effects (after_opening k p))
+  unfolding after_opening
+  progress_comes k effects (progress.Opening x) from = λ t is. absurd cc
+  progress_comes k effects (progress.Lost seg) from = λ t is. absurd cc
+  progress_comes k effects (progress.Opened r) from =
+      λ t is. record { opened = r; comes = from r refl; log = ap (λ (s : Emptying). s.log) (sym (same_emptying _ t is)) }
+
+  wish_comes : (number : ℕ) (wish : _) → Comes (opening_wishes (begun_life l) o number wish)
+  unfolding crashes
+  wish_comes number Crash t is = absurd cc
+  wish_comes number Restart t is = absurd cc
+  wish_comes number (Clean count) t is = absurd cc
+
+  item_comes : (item : Option ℕ) → Comes (opening_at (begun_life l) o item)
+  item_comes None = λ t is. absurd cc
+  item_comes (Some number) = wish_comes number (wish_at (begun_life l).items number)
+
+  begin_comes : (servers : ℕ) → Comes (on_begin servers (Opening l o))
+  unfolding on_begin
+  begin_comes servers = item_comes (next_item l.items)
+
+  hears_comes : (packet : wire.Packet) → Comes (hears (Opening l o) packet)
+  unfolding hears
+  hears_comes packet =
+      let x = opening.on_packet o l.questions packet in
+      progress_comes (record l { questions = x.questions }) x.effects x.progress (λ r is. inl (packet, is))
+
+  time_comes : Comes (on_time (Opening l o))
+  unfolding on_time
+  time_comes =
+      (let x = opening.on_tick o l.questions in progress_comes (record l { questions = x.questions }) x.effects x.progress (λ r is. inr is))
+
+  stays_open : Comes (still (Opening l o))
+  stays_open t is = absurd cc
+
+  deliver_comes : (node : CleanerNode) (packet : wire.Packet) → Comes (on_deliver node.peers (Opening l o) packet)
+  unfolding on_deliver
+  deliver_comes node packet =
+      by_test Comes (is_well_formed node.peers packet) (hears (Opening l o) packet) (still (Opening l o)) (λ _. hears_comes packet) (λ _. stays_open)
+
+  happens_comes : (node : CleanerNode) (what : Do) → Comes (happens node.peers (Opening l o) what)
+  happens_comes node Begin = begin_comes node.peers.servers
+  happens_comes node (Deliver packet) = deliver_comes node packet
+  happens_comes node Tick = time_comes
+
+  takes_comes : (node : CleanerNode) (what : Do) → Comes (takes node.peers (Opening l o) what)
+  takes_comes node what = by_test Comes (phase_room (Opening l o)) (happens node.peers (Opening l o) what) (still (Opening l o))
+      (λ _. happens_comes node what) (λ _. stays_open)
+
+pub cleaner_back : (node : CleanerNode) (what : Do) (l : Lasting) (o : openings.Opening) (t : Emptying) → node.phase ≡ Opening l o
+    → (takes node.peers node.phase what).state ≡ Serves t → CleanerBack l o t
+cleaner_back node what l o t is then_is =
+    takes_comes l o node what t (ap (λ (p : Phase). (takes node.peers p what).state) (sym is) ∙ then_is)
+
+-- ---- the end of the log
+
+module _ (part : ℕ) (texts : Texts) (g : Setting) (v : Scene) (n : index.Net) where
+  abbrev IsAway : Phase → Type 0
+  IsAway (Down l) = Unit {0}
+  IsAway (Opening l o) = Unit {0}
+  IsAway (Serves e) = ⊥
+
+  not_up : (k : _) (last : ℕ) (at : stages.Stage) → SeesStage g its_log v k last at → is_serving v.net.owner ≡ false
+  not_up k last (stage.Scanning x) sees = ap is_serving sees.owner
+  not_up k last (stage.Settling x) sees = ap is_serving sees.owner
+
+  pub cleaner_away : (p : Phase) → log_tie.CleanerAgrees g v p → IsAway p → is_serving v.net.owner ≡ false
+  cleaner_away (Down l) sees away = ap is_serving sees.1
+  cleaner_away (Opening l o) sees away = not_up o.known l.questions.last o.stage sees.sees
+  cleaner_away (Serves s) sees away = absurd away
+
+  one_log : (s t : LogState) → Serving s ≡ Serving t → s ≡ t
+  one_log s t is = cc
+
+  none_serves : (s : LogState) → is_serving v.net.owner ≡ false → v.net.owner ≡ Serving s → ⊥
+  none_serves s none is = (let e : true ≡ false = sym (ap is_serving is) ∙ none in absurd cc)
+
+  pub cleaner_end : (p : Phase) → log_tie.CleanerAgrees g v p → owner.PhaseAgrees part n texts p → (s : LogState) → v.net.owner ≡ Serving s
+      → s.end.seq ≡ n.filed.head its_log
+  cleaner_end (Down l) sees agrees s is = absurd (none_serves s (cleaner_away (Down l) sees tt) is)
+  cleaner_end (Opening l o) sees agrees s is = absurd (none_serves s (cleaner_away (Opening l o) sees tt) is)
+  cleaner_end (Serves t) sees agrees s is = ap (λ (x : LogState). x.end.seq) (one_log s t.log (sym is ∙ sees.log.owner)) ∙ agrees.0.owner.end.seq
+
+-- ---- the event
+
+-- Where the log is opened again with what was in flight just where the chain that was read back has that.
+abbrev pub AdoptsWhatFlew : {g : Setting} {n : Net} → Moment g n → Bool → Type 0
+AdoptsWhatFlew {n = n} at adopted = (chain : List Segment) (s : LogState) → n.owner ≡ Writing chain s
+    → adopted ≡ holds_flight (names_in chain) (flight_of (last_flight at.run))
+
+module _ (laws : AfterLaws) (part : ℕ) (texts : Texts) (g : Setting) (trusted : g.doubts ≡ false) (apart : TellsApart g) (w v : Scene)
+    (at : Moment g w.net) (goes : Runs g w.net v.net)
+    (straight : ServesStraight goes) (sure : IsSure texts its_log g v.net) (calm : IsSureRun (then_on at.run goes))
+    (node : CleanerNode) (what : Do)
+    (sees : log_tie.CleanerAgrees g w node.phase) (then_sees : log_tie.CleanerAgrees g v (takes node.peers node.phase what).state)
+    (t u : token.Net) (held : CleanerCopies t.books node.phase) (then_held : CleanerCopies u.books (takes node.peers node.phase what).state)
+    (adopted : Bool) (log : OwnGoes t.books u.books adopted node.phase (takes node.peers node.phase what).state)
+    (adopts : (l : Lasting) (o : openings.Opening) (e : Emptying) → node.phase ≡ Opening l o → (takes node.peers node.phase what).state ≡ Serves e
+    → AdoptsWhatFlew at adopted)
+    (i j : index.Net) (agrees : owner.CleanerAgrees part i texts node.phase)
+    (then_agrees : owner.CleanerAgrees part j texts (takes node.peers node.phase what).state)
+    (filed : j.filed ≡ filed_after texts its_log i.filed (takes node.peers node.phase what).outs) (more : IsMore i.filed j.filed)
+    (acts : AllSo (λ name. In name v.net.filed) (takes node.peers node.phase what).outs)
+    (flights : (e : Emptying) → node.phase ≡ Serves e → AllSo (IsFlight e.log) (takes node.peers node.phase what).outs)
+    (writes : CleanerWrites (takes node.peers node.phase what).state)
+    (known : KnownLog its_log at t.books i.filed) (tells : AllTell its_log i.filed) (kind : IfSome (last_flight at.run) (λ x. IsCopies x.segment)) where
+  abbrev x : Went_to
+  x = takes node.peers node.phase what
+
+  abbrev later : Moment g v.net
+  later = moment_then at goes
+
+  abbrev After : Type 0
+  After = OwnAfter IsCopies its_log later u.books j.filed
+
+  goes_as : (p q : Phase) → node.phase ≡ p → x.state ≡ q → OwnGoes t.books u.books adopted p q
+  goes_as p q before after =
+      subst (λ y. OwnGoes t.books u.books adopted p y) after (subst (λ y. OwnGoes t.books u.books adopted y x.state) before log)
+
+  line : IsLine its_log v.net j.filed
+  line = line_goes_on laws.on laws.unfiled texts its_log g w.net v.net i.filed j.filed x.outs at goes straight.never sure acts filed
+      (cleaner_end part texts g v j x.state then_sees then_agrees.phase) known.line
+
+  once : (s : Option FlightState) → IfSome s (λ x. IsCopies x.segment) → IfSome s (λ x. TellsOnce x.segment)
+  once None h = tt
+  once (Some f) h = h.tells
+
+  -- it doesn't serve then
+  away : is_serving v.net.owner ≡ false → u.books ≡ t.books → After
+  away none same =
+      let never = straight.never none in
+      let flight : last_flight (then_on at.run goes) ≡ last_flight at.run = flight_stays g _ w.net v.net at.run goes never in
+      let of = same_filed its_log w.net v.net i.filed j.filed (never_files laws.unfiled g w.net v.net at goes never) more known.line line in
+      let books : SameLog t.books u.books its_log = record {
+        end = ap (λ (k : Books). k.end its_log) same;
+        flying = ap (λ (k : Books). k.flying its_log) same;
+        rows = ap (λ (k : Books). k.rows its_log) same;
+      } in
+      record {
+        known = stays_known g its_log w.net v.net at goes t.books u.books i.filed j.filed known line flight books of;
+        tells = tells_same its_log i.filed j.filed of tells;
+        kind = subst (λ (y : Option FlightState). IfSome y (λ x. IsCopies x.segment)) (sym flight) kind;
+      }
+
+  writes_kind : (e : Emptying) → x.state ≡ Serves e → v.net.owner ≡ Serving e.log
+      → IfSome (last_flight (then_on at.run goes)) (λ y. IsCopies y.segment)
+  writes_kind e after up =
+      subst (λ (y : Option FlightState). IfSome y (λ x. IsCopies x.segment)) (sym (served_last g _ v.net (then_on at.run goes) e.log up))
+      (subst CleanerWrites after writes).log.flies
+
+  -- it serves on
+  serves : (r s : Emptying) → node.phase ≡ Serves r → x.state ≡ Serves s → After
+  serves r s before after =
+      let kept = goes_as (Serves r) (Serves s) before after in
+      let was = (subst (log_tie.CleanerAgrees g w) before sees).log.owner in
+      let up = (subst (log_tie.CleanerAgrees g v) after then_sees).log.owner in
+      let seen = (subst (CleanerCopies t.books) before held).seen in
+      let then_seen = (subst (CleanerCopies u.books) after then_held).seen in
+      let own = (subst (owner.CleanerAgrees part i texts) before agrees).phase in
+      let then_own = (subst (owner.CleanerAgrees part j texts) after then_agrees).phase in
+      let on = subst (GoesOnByFlight its_log r.log i.filed) (sym filed)
+      (laws.by_flight part texts its_log g w.net i r.log x.outs at was own.0.owner.end own.1 (flights r before)) in
+      record {
+        known = serves_known g its_log w.net v.net at goes t.books u.books i.filed j.filed known line laws.owners r.log s.log was up seen then_seen
+            then_own.0.owner.end.seq kept.filed (λ flies low. kept.flown (seen.flying ∙ flies)) more on;
+        tells = tells_serving its_log r.log i.filed j.filed more on
+            (once r.log.flight (subst (λ (y : Option FlightState). IfSome y (λ x. IsCopies x.segment)) (served_last g _ w.net at.run r.log was) kind)) tells;
+        kind = writes_kind s after up;
+      }
+
+  -- it serves again
+  reopens : (l : Lasting) (o : openings.Opening) (s : Emptying) → node.phase ≡ Opening l o → x.state ≡ Serves s → After
+  reopens l o s before after = record {
+    known = reopens_known laws.owners laws.follow g its_log w.net v.net ends.settling.chain ends.settling.log r.log e later t.books u.books i.filed j.filed
+        known line books.0 books.1 (subst (LogSeen u.books its_log) back.log (subst (CleanerCopies u.books) after then_held).seen);
+    tells = tells_reopened laws.text laws.tail IsCopies (λ s t same. (laws.alike s t same).copies) (λ s is. is.tells)
+        (λ s none. (laws.nothing s none).copies.tells)
+        g its_log w.net v.net ends.settling.chain ends.settling.log r.log e i.filed j.filed more known.line line kind
+        tells;
+    kind = writes_kind s after then_log.owner;
+  }
+    where
+      back : CleanerBack l o s
+      back = cleaner_back node what l o s before after
+
+      r : Opened
+      r = back.opened
+
+      ends_so : EndsSo g its_log o (progress.Opened r)
+      ends_so = ⊎_elim (λ k. subst (EndsSo g its_log o) k.1 ((laws.ends g its_log o l.questions).0 k.0))
+          (λ is. subst (EndsSo g its_log o) is (laws.ends g its_log o l.questions).1)
+          back.comes
+
+      then_log : SeesLog g its_log v s.log
+      then_log = (subst (log_tie.CleanerAgrees g v) after then_sees).log
+
+      ends : EndsByOne g w v goes o r
+      ends = ends_so w v l.questions.last goes (subst (log_tie.CleanerAgrees g w) before sees).sees (subst (SeesLog g its_log v) back.log then_log) straight
+
+      e : Reopens g w.net v.net ends.settling.chain ends.settling.log r.log
+      e = record {
+        sure = trusted;
+        apart = apart;
+        moment = at;
+        happens = ends.happens;
+        calm = subst (λ run. IsSureRun (then_on at.run run)) ends.one calm;
+        writes = ends.writes;
+        serves = ends.serves;
+        own = ends.own;
+        empty = ends.empty;
+      }
+
+      books : (count : ℕ) × (u.books ≡ with_empty count (reopened t.books its_log (has_flight e)) its_log)
+      books =
+          let b = goes_as (Opening l o) (Serves s) before after in (
+            b.0,
+            b.1 ∙ ap (λ (x : Bool). with_empty b.0 (reopened t.books its_log x) its_log)
+                (adopts l o s before after ends.settling.chain ends.settling.log ends.writes),
+          )
+
+  -- ---- its phases
+
+  not_then : (q : Phase) → x.state ≡ q → IsAway part texts g v j q → is_serving v.net.owner ≡ false
+  not_then q after gone = cleaner_away part texts g v j q (subst (log_tie.CleanerAgrees g v) after then_sees) gone
+
+  by_phases : (p q : Phase) → node.phase ≡ p → x.state ≡ q → After
+  by_phases (Down k) (Down l) before after = away (not_then (Down l) after tt) (goes_as (Down k) (Down l) before after)
+  by_phases (Opening k o) (Down l) before after = away (not_then (Down l) after tt) (goes_as (Opening k o) (Down l) before after)
+  by_phases (Serves r) (Down l) before after = away (not_then (Down l) after tt) (goes_as (Serves r) (Down l) before after)
+  by_phases (Down k) (Opening l o) before after = away (not_then (Opening l o) after tt) (goes_as (Down k) (Opening l o) before after)
+  by_phases (Opening k a) (Opening l o) before after = away (not_then (Opening l o) after tt) (goes_as (Opening k a) (Opening l o) before after)
+  by_phases (Serves r) (Opening l o) before after = away (not_then (Opening l o) after tt) (goes_as (Serves r) (Opening l o) before after)
+  by_phases (Down k) (Serves s) before after = absurd (goes_as (Down k) (Serves s) before after)
+  by_phases (Opening l o) (Serves s) before after = reopens l o s before after
+  by_phases (Serves r) (Serves s) before after = serves r s before after
+
+  -- the cleaner's log after its event
+  pub cleaner_after : After
+  cleaner_after = by_phases node.phase x.state refl refl

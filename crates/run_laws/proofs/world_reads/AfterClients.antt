@@ -1,0 +1,263 @@
+-- A client's own event: the small worlds know the same of its log then as they did, what is filed of it tells of each block once, and its fall is told.
+use Rattle.std.proofs.Common.{◌≡◌, ⊎_elim, ◌++◌, ℕ, suc, true, false, List, Option, Some, None, refl, sym, ap, subst, ◌∙◌, arith}
+use Rattle.std.specs.Prelude.{IfSome}
+use Rattle.act_tie.specs.BlockActs.{is_adopted}
+use Rattle.client_log.specs.LogState.{LogState}
+use Rattle.log_ties.specs.client_log_tie.ClientEvents.{ServesStraight}
+use Rattle.log_ties.specs.client_log_tie.Owner as log_tie
+use Rattle.log_ties.specs.client_log_tie.Owner.{Scene}
+use Rattle.client_node.specs.declared.client.Client.{Client as ClientNode}
+use Rattle.client_node.specs.declared.phase.Phase.TheVariants.{Down, Opening, Serving as Serves}
+use Rattle.client_node.specs.declared.phase.Phase.{Phase}
+use Rattle.client_node.specs.Phases.{Went_to, lasting_of, takes}
+use Rattle.client_parts.specs.declared.lasting.Lasting.{Lasting}
+use Rattle.client_serving.specs.declared.serving.Serving as serving
+use Rattle.index_tie.specs.Filed.{Filed}
+use Rattle.index_tie.specs.Growth.{IsMore}
+use Rattle.index_tie.specs.Net as index
+use Rattle.log_flight.specs.Flights.{FlightState}
+use Rattle.log_law.specs.Ends.{IsFlight}
+use Rattle.log_law.specs.Events.{Runs}
+use Rattle.log_law.specs.Laws.{Moment}
+use Rattle.log_law.specs.Net.{Net}
+use Rattle.log_law.specs.Net.Owner.{Serving}
+use Rattle.log_law.specs.Restarts.{IsSureRun, is_serving, last_flight}
+use Rattle.log_law.specs.Tails.{then_on}
+use Rattle.log_owner.specs.declared.opened.Opened.{Opened}
+use Rattle.log_owner.specs.declared.opened.Progress.TheVariants as progress
+use Rattle.log_owner.specs.declared.opening.Opening as openings
+use Rattle.log_owner.specs.declared.opening.Stage as stages
+use Rattle.log_owner.specs.declared.opening.Stage.TheVariants as stage
+use Rattle.log_owner.specs.Opened.{names_in}
+use Rattle.log_protocol.specs.Tables.{In}
+use Rattle.log_tie.specs.Setting.{Setting}
+use Rattle.node_base.specs.declared.effects.Effect.TheVariants.{Does}
+use Rattle.node_base.specs.Effects.{acts_of}
+use Rattle.node_ties.specs.node_index_tie.Sight.{Texts}
+use Rattle.node_ties.specs.node_tie.ClientEvents as tokens
+use Rattle.node_ties.specs.node_tie.LogRows.{LogSeen}
+use Rattle.node_ties.specs.node_tie.Sight.{SameLog}
+use Rattle.node_ties.specs.owner_index_tie.ClientEvents as owner
+use Rattle.node_ties.specs.owner_index_tie.Filing.{filed_after}
+use Rattle.run_laws.specs.reopening_law.Falls.{FallKnown, FallTells, FellWith}
+use Rattle.run_laws.specs.reopening_law.Openings.{EndsByOne, EndsSo}
+use Rattle.run_laws.specs.reopening_law.Reopens.{Reopens, TellsApart, has_flight}
+use Rattle.segment_format.specs.declared.segment.Segment.{Segment}
+use Rattle.run_laws.specs.segment_tie.Clients.{ClientWrites}
+use Rattle.run_laws.specs.segment_tie.Segments.{IsOriginal, TellsOnce}
+use Rattle.token_law.specs.Books.{Books, reopened, with_empty}
+use Rattle.token_law.specs.Net as token
+use Rattle.token_law.specs.Owed.{adopts}
+use Rattle.token_protocol.specs.Basics as basics
+use Rattle.version_model.specs.declared.act.Act.{Act}
+use Rattle.version_model.specs.declared.act.Act.TheVariants as act
+use Rattle.version_model.specs.Effects.{holds_flight}
+use Rattle.wire_msg.specs.declared.packet.Do.{Do}
+use Rattle.run_laws.specs.world_lines.Lines.{IsLine, IsSure}
+use Rattle.run_laws.specs.world_lines.Polls.{GoesOnByFlight}
+use Rattle.run_laws.specs.world_lines.Turns.{AllSo}
+use Rattle.run_laws.specs.world_logs.Lines.{moment_then}
+use Rattle.xfs_base.specs.declared.node.NodeId.TheVariants.{Client}
+use Rattle.xfs_base.specs.declared.segment.SegName.{SegName}
+use Rattle.run_laws.proofs.world_reads.AfterBack.{CameBack, came_back}
+use Rattle.run_laws.proofs.world_reads.AfterLaws.{AfterLaws}
+use Rattle.run_laws.proofs.world_reads.AfterLogs.{KnownLog, flight_stays, reopens_known, served_last, serves_known, stays_known}
+use Rattle.run_laws.proofs.world_reads.AfterOwners.{line_goes_on, never_files, same_filed}
+use Rattle.run_laws.proofs.world_reads.AfterTells.{AllTell, tells_reopened, tells_same, tells_serving}
+
+-- what is known of the log then, and what it tells
+pub record OwnAfter (Kind : Segment → Type 0) (l : ℕ) {g : Setting} {n : Net} (at : Moment g n) (k : Books) (f : Filed) : Type 0 where
+  pub known : KnownLog l at k f
+  pub tells : AllTell l f
+  pub kind : IfSome (last_flight at.run) (λ x. Kind x.segment)
+
+-- ---- the end of the log
+
+module _ (part : ℕ) (texts : Texts) (g : Setting) (c : ℕ) (v : Scene) (n : index.Net) where
+  not_up : (k : _) (last : ℕ) (at : stages.Stage) → log_tie.SeesStage g c v k last at → is_serving v.net.owner ≡ false
+  not_up k last (stage.Scanning x) sees = ap is_serving sees.owner
+  not_up k last (stage.Settling x) sees = ap is_serving sees.owner
+
+  pub client_away : (p : Phase) → log_tie.ClientAgrees g c v p → tokens.IsAway p → is_serving v.net.owner ≡ false
+  client_away (Down l) sees away = ap is_serving sees.1
+  client_away (Opening l o) sees away = not_up o.known l.questions.last o.stage sees.1
+  client_away (Serves s) sees away = absurd away
+
+  one_log : (s t : LogState) → Serving s ≡ Serving t → s ≡ t
+  one_log s t is = cc
+
+  none_serves : (s : LogState) → is_serving v.net.owner ≡ false → v.net.owner ≡ Serving s → ⊥
+  none_serves s none is = (let e : true ≡ false = sym (ap is_serving is) ∙ none in absurd cc)
+
+  pub client_end : (p : Phase) → log_tie.ClientAgrees g c v p → owner.ClientAgrees part texts n c p → (s : LogState) → v.net.owner ≡ Serving s
+      → s.end.seq ≡ n.filed.head c
+  client_end (Down l) sees agrees s is = absurd (none_serves s (client_away (Down l) sees tt) is)
+  client_end (Opening l o) sees agrees s is = absurd (none_serves s (client_away (Opening l o) sees tt) is)
+  client_end (Serves t) sees agrees s is = ap (λ (x : LogState). x.end.seq) (one_log s t.log (sym is ∙ sees.1.owner)) ∙ agrees.0.end.seq
+
+-- ---- the event
+
+module _ (laws : AfterLaws) (part : ℕ) (texts : Texts) (c : ℕ) (g : Setting) (trusted : g.doubts ≡ false) (apart : TellsApart g) (w v : Scene)
+    (at : Moment g w.net) (goes : Runs g w.net v.net)
+    (straight : ServesStraight goes) (sure : IsSure texts c g v.net) (calm : IsSureRun (then_on at.run goes))
+    (node : ClientNode) (what : Do)
+    (sees : log_tie.ClientAgrees g c w node.phase) (then_sees : log_tie.ClientAgrees g c v (takes node what).state)
+    (t u : token.Net) (held : tokens.ClientAgrees true part c t node.phase) (then_held : tokens.ClientAgrees true part c u (takes node what).state)
+    (log : tokens.LogGoes t u.books c (takes node what).outs node.phase (takes node what).state)
+    (i j : index.Net) (agrees : owner.ClientAgrees part texts i c node.phase) (then_agrees : owner.ClientAgrees part texts j c (takes node what).state)
+    (filed : j.filed ≡ filed_after texts c i.filed (takes node what).outs) (more : IsMore i.filed j.filed)
+    (acts : AllSo (λ name. In name v.net.filed) (takes node what).outs)
+    (flights : (s : serving.Serving) → node.phase ≡ Serves s → AllSo (IsFlight s.log) (takes node what).outs)
+    (writes : ClientWrites (takes node what).state)
+    (known : KnownLog c at t.books i.filed) (tells : AllTell c i.filed) (kind : IfSome (last_flight at.run) (λ x. IsOriginal x.segment))
+    (fell : FallKnown t.acts c (last_flight at.run) node.phase) where
+  abbrev x : Went_to
+  x = takes node what
+
+  abbrev later : Moment g v.net
+  later = moment_then at goes
+
+  abbrev After : Type 0
+  After = OwnAfter IsOriginal c later u.books j.filed
+
+  line : IsLine c v.net j.filed
+  line = line_goes_on laws.on laws.unfiled texts c g w.net v.net i.filed j.filed x.outs at goes straight.never sure acts filed
+      (client_end part texts g c v j x.state then_sees then_agrees) known.line
+
+  once : (s : Option FlightState) → IfSome s (λ x. IsOriginal x.segment) → IfSome s (λ x. TellsOnce x.segment)
+  once None h = tt
+  once (Some f) h = h.tells
+
+  -- it doesn't serve then
+  away : is_serving v.net.owner ≡ false → u.books ≡ t.books → After
+  away none same =
+      let never = straight.never none in
+      let flight : last_flight (then_on at.run goes) ≡ last_flight at.run = flight_stays g _ w.net v.net at.run goes never in
+      let of = same_filed c w.net v.net i.filed j.filed (never_files laws.unfiled g w.net v.net at goes never) more known.line line in
+      let books : SameLog t.books u.books c =
+      record { end = ap (λ (k : Books). k.end c) same; flying = ap (λ (k : Books). k.flying c) same; rows = ap (λ (k : Books). k.rows c) same } in
+      record {
+        known = stays_known g c w.net v.net at goes t.books u.books i.filed j.filed known line flight books of;
+        tells = tells_same c i.filed j.filed of tells;
+        kind = subst (λ (y : Option FlightState). IfSome y (λ x. IsOriginal x.segment)) (sym flight) kind;
+      }
+
+  writes_kind : (s : serving.Serving) → x.state ≡ Serves s → v.net.owner ≡ Serving s.log
+      → IfSome (last_flight (then_on at.run goes)) (λ y. IsOriginal y.segment)
+  writes_kind s after up =
+      subst (λ (y : Option FlightState). IfSome y (λ x. IsOriginal x.segment)) (sym (served_last g _ v.net (then_on at.run goes) s.log up))
+      (subst ClientWrites after writes).flies
+
+  -- it serves on
+  serves : (r s : serving.Serving) → node.phase ≡ Serves r → x.state ≡ Serves s → After
+  serves r s before after =
+      let kept = subst (λ q. tokens.LogGoes t u.books c x.outs (Serves r) q) after (subst (λ p. tokens.LogGoes t u.books c x.outs p x.state) before log) in
+      let was = (subst (log_tie.ClientAgrees g c w) before sees).1.owner in
+      let up = (subst (log_tie.ClientAgrees g c v) after then_sees).1.owner in
+      let seen = (subst (tokens.ClientAgrees true part c t) before held).logged.seen in
+      let then_seen = (subst (tokens.ClientAgrees true part c u) after then_held).logged.seen in
+      let own = subst (owner.ClientAgrees part texts i c) before agrees in
+      let then_own = subst (owner.ClientAgrees part texts j c) after then_agrees in
+      let on = subst (GoesOnByFlight c r.log i.filed) (sym filed)
+      (laws.by_flight part texts c g w.net i r.log x.outs at was own.0.end own.1 (flights r before)) in
+      record {
+        known = serves_known g c w.net v.net at goes t.books u.books i.filed j.filed known line laws.owners r.log s.log was up seen then_seen then_own.0.end.seq
+            (λ q low. kept.rows q (let a = kept.rises in omega arith)) (λ flies low. kept.rows (suc (t.books.end c)) low) more on;
+        tells = tells_serving c r.log i.filed j.filed more on
+            (once r.log.flight (subst (λ (y : Option FlightState). IfSome y (λ x. IsOriginal x.segment)) (served_last g _ w.net at.run r.log was) kind)) tells;
+        kind = writes_kind s after up;
+      }
+
+  -- it serves again
+  reopens : (l : Lasting) (o : openings.Opening) (s : serving.Serving) → node.phase ≡ Opening l o → x.state ≡ Serves s → After
+  reopens l o s before after = record {
+    known = reopens_known laws.owners laws.follow g c w.net v.net ends.settling.chain ends.settling.log r.log e later t.books u.books i.filed j.filed known line
+        books.1 (books.3 ∙ ap (λ b. with_empty books.1 (reopened t.books c b) c) adopted)
+        (subst (LogSeen u.books c) back.log (subst (tokens.ClientAgrees true part c u) after then_held).logged.seen);
+    tells = tells_reopened laws.text laws.tail IsOriginal (λ s t same. (laws.alike s t same).original) (λ s is. is.tells)
+        (λ s none. (laws.nothing s none).original.tells)
+        g c w.net v.net ends.settling.chain ends.settling.log r.log e i.filed j.filed more known.line line kind tells;
+    kind = writes_kind s after then_log.owner;
+  }
+    where
+      back : CameBack l o x s
+      back = came_back node what l o s before after
+
+      r : Opened
+      r = back.opened
+
+      ends_so : EndsSo g c o (progress.Opened r)
+      ends_so = ⊎_elim (λ k. subst (EndsSo g c o) k.1 ((laws.ends g c o l.questions).0 k.0)) (λ is. subst (EndsSo g c o) is (laws.ends g c o l.questions).1)
+          back.comes
+
+      then_log : log_tie.SeesLog g c v s.log
+      then_log = (subst (log_tie.ClientAgrees g c v) after then_sees).1
+
+      ends : EndsByOne g w v goes o r
+      ends = ends_so w v l.questions.last goes (subst (log_tie.ClientAgrees g c w) before sees).1 (subst (log_tie.SeesLog g c v) back.log then_log) straight
+
+      e : Reopens g w.net v.net ends.settling.chain ends.settling.log r.log
+      e = record {
+        sure = trusted;
+        apart = apart;
+        moment = at;
+        happens = ends.happens;
+        calm = subst (λ run. IsSureRun (then_on at.run run)) ends.one calm;
+        writes = ends.writes;
+        serves = ends.serves;
+        own = ends.own;
+        empty = ends.empty;
+      }
+
+      books : (chain : List SegName) × (count : ℕ) × basics.In (Does (act.Back c chain)) x.outs
+          × (u.books ≡ with_empty count (reopened t.books c (adopts t.acts c chain)) c)
+      books = subst (λ q. tokens.LogGoes t u.books c x.outs (Opening l o) q) after (subst (λ p. tokens.LogGoes t u.books c x.outs p x.state) before log)
+
+      with_it : FellWith t.acts c (last_flight at.run)
+      with_it = subst (FallKnown t.acts c (last_flight at.run)) before fell
+
+      adopted : adopts t.acts c books.0 ≡ has_flight e
+      adopted = ap (adopts t.acts c) (back.says c books.0 books.2)
+          ∙ (ap (is_adopted r.chain) with_it.waits
+          ∙ (ap (λ names. holds_flight names with_it.fall.flight) ends.opened.chain_is
+          ∙ ap (holds_flight (names_in ends.settling.chain)) with_it.is))
+
+  -- ---- its phases
+
+  goes_as : (p q : Phase) → node.phase ≡ p → x.state ≡ q → tokens.LogGoes t u.books c x.outs p q
+  goes_as p q before after =
+      subst (λ y. tokens.LogGoes t u.books c x.outs p y) after (subst (λ y. tokens.LogGoes t u.books c x.outs y x.state) before log)
+
+  not_then : (q : Phase) → x.state ≡ q → tokens.IsAway q → is_serving v.net.owner ≡ false
+  not_then q after gone = client_away part texts g c v j q (subst (log_tie.ClientAgrees g c v) after then_sees) gone
+
+  by_phases : (p q : Phase) → node.phase ≡ p → x.state ≡ q → After
+  by_phases (Down k) (Down l) before after = away (not_then (Down l) after tt) (goes_as (Down k) (Down l) before after)
+  by_phases (Opening k o) (Down l) before after = away (not_then (Down l) after tt) (goes_as (Opening k o) (Down l) before after)
+  by_phases (Serves r) (Down l) before after = away (not_then (Down l) after tt) (goes_as (Serves r) (Down l) before after)
+  by_phases (Down k) (Opening l o) before after = away (not_then (Opening l o) after tt) (goes_as (Down k) (Opening l o) before after)
+  by_phases (Opening k a) (Opening l o) before after = away (not_then (Opening l o) after tt) (goes_as (Opening k a) (Opening l o) before after)
+  by_phases (Serves r) (Opening l o) before after = away (not_then (Opening l o) after tt) (goes_as (Serves r) (Opening l o) before after)
+  by_phases (Down k) (Serves s) before after = absurd (goes_as (Down k) (Serves s) before after)
+  by_phases (Opening l o) (Serves s) before after = reopens l o s before after
+  by_phases (Serves r) (Serves s) before after = serves r s before after
+
+  -- the client's log after its event
+  pub client_after : After
+  client_after = by_phases node.phase x.state refl refl
+
+  -- and its fall
+  pub fell_after : (lasting_of node.phase).number ≡ c → tokens.IsAway x.state
+      → FallKnown (t.acts ++ acts_of (Client c) x.outs) c (last_flight (then_on at.run goes)) x.state
+  fell_after its gone = by x.state refl (laws.falls t.acts c (last_flight at.run) node what its fell)
+    where
+      same : is_serving v.net.owner ≡ false → last_flight at.run ≡ last_flight (then_on at.run goes)
+      same none = sym (flight_stays g _ w.net v.net at.run goes (straight.never none))
+
+      acts_now : List Act
+      acts_now = t.acts ++ acts_of (Client c) x.outs
+
+      by : (q : Phase) → x.state ≡ q → FallTells acts_now c (last_flight at.run) q → FallKnown acts_now c (last_flight (then_on at.run goes)) q
+      by (Down l) after fall = subst (λ y. FellWith acts_now c y) (same (not_then (Down l) after tt)) fall
+      by (Opening l o) after fall = subst (λ y. FellWith acts_now c y) (same (not_then (Opening l o) after tt)) fall
+      by (Serves s) after fall = absurd (subst tokens.IsAway after gone)

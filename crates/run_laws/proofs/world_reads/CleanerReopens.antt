@@ -1,0 +1,79 @@
+-- Where the cleaner's log is open again: what it read back is what was filed, and the log is open as the books of tokens are.
+use Rattle.std.proofs.Common.{◌≡◌, ℕ, Bool, true, false, Option, None, Some, if◌then◌else◌, refl, sym, ap}
+use Rattle.cleaner_emptying.specs.declared.emptying.Emptying.{Emptying}
+use Rattle.cleaner_node.specs.CleanerEvents.{Went_to, after_opening, happens, hears, on_begin, on_deliver, on_time, opening_at, opening_begins, opening_wishes, phase_room, takes}
+use Rattle.cleaner_node.specs.CleanerEvents as events
+use Rattle.cleaner_node.specs.declared.cleaner.Phase.TheVariants.{Opening, Serving}
+use Rattle.cleaner_node.specs.declared.cleaner.Wish.{Wish}
+use Rattle.cleaner_node.specs.declared.cleaner.Wish.TheVariants.{Crash, Restart, Clean}
+use Rattle.cleaner_parts.specs.declared.lasting.Lasting.{Lasting}
+use Rattle.log_owner.specs.declared.opened.Opened.{Opened}
+use Rattle.log_owner.specs.declared.opened.Progress.{Progress}
+use Rattle.log_owner.specs.declared.opened.Progress.TheVariants as progress
+use Rattle.log_owner.specs.declared.opening.Opening as openings
+use Rattle.log_owner.specs.Opening as opening
+use Rattle.log_owner.specs.Opening.{Went}
+use Rattle.node_base.specs.Beginning.{next_item}
+use Rattle.node_base.specs.declared.peers.Peers.{Peers}
+use Rattle.node_base.specs.Shape.{is_well_formed}
+use Rattle.run_laws.specs.reopening_law.Openings.{comes_to}
+use Rattle.wire_msg.specs.declared.packet.Do.{Do}
+use Rattle.wire_msg.specs.declared.packet.Do.TheVariants.{Begin, Deliver, Tick}
+use Rattle.wire_msg.specs.declared.packet.Packet.{Packet}
+use Rattle.xfs_base.specs.Steps.{still}
+
+-- ---- the node
+
+-- the cleaner that serves then has the log that was opened, and has promised what the opening did
+pub record ComesBack (p : Progress) (v : Emptying) : Type 0 where
+  pub opened : Opened
+  pub comes : p ≡ progress.Opened opened
+  pub log : v.log ≡ opened.log
+  pub promised : v.promised ≡ opened.promised
+
+module _ (v : Emptying) where
+  served : (a : Emptying) → Serving a ≡ Serving v → a ≡ v
+  served a is = cc
+
+  by_progress : (l : Lasting) (p : Progress) → (after_opening l p).state ≡ Serving v → ComesBack p v
+  unfolding after_opening
+  by_progress l (progress.Opening o) is = absurd cc
+  by_progress l (progress.Opened o) is = record {
+    opened = o;
+    comes = refl;
+    log = ap (λ (a : Emptying). a.log) (sym (served _ is));
+    promised = ap (λ (a : Emptying). a.promised) (sym (served _ is));
+  }
+  by_progress l (progress.Lost seg) is = absurd cc
+
+  module _ (l : Lasting) (o : openings.Opening) where
+    wishes_not : (m : Lasting) (number : ℕ) (w : Wish) → (opening_wishes m o number w).state ≡ Serving v → ⊥
+    unfolding events.crashes
+    wishes_not m number Crash is = absurd cc
+    wishes_not m number Restart is = absurd cc
+    wishes_not m number (Clean count) is = absurd cc
+
+    begins_not : (m : Lasting) (item : Option ℕ) → (opening_at m o item).state ≡ Serving v → ⊥
+    begins_not m None is = absurd cc
+    begins_not m (Some number) is = wishes_not m number (events.wish_at m.items number) is
+
+    by_form : (peers : Peers) (packet : Packet) (t : Bool) → (if t then hears (Opening l o) packet else still (Opening l o)).state ≡ Serving v
+        → ComesBack (opening.on_packet o l.questions packet).progress v
+    unfolding hears
+    by_form peers packet true is = by_progress _ (opening.on_packet o l.questions packet).progress is
+    by_form peers packet false is = absurd cc
+
+    by_do : (peers : Peers) (what : Do) → (happens peers (Opening l o) what).state ≡ Serving v → ComesBack (comes_to o l.questions what) v
+    unfolding on_begin on_deliver on_time
+    by_do peers Begin is = absurd (begins_not (events.begun_life l) (next_item l.items) is)
+    by_do peers (Deliver packet) is = by_form peers packet (is_well_formed peers packet) is
+    by_do peers Tick is = by_progress _ (opening.on_tick o l.questions).progress is
+
+    by_room : (peers : Peers) (what : Do) (t : Bool) → (if t then happens peers (Opening l o) what else still (Opening l o)).state ≡ Serving v
+        → ComesBack (comes_to o l.questions what) v
+    by_room peers what true is = by_do peers what is
+    by_room peers what false is = absurd cc
+
+  pub comes_back : (l : Lasting) (o : openings.Opening) (peers : Peers) (what : Do) → (takes peers (Opening l o) what).state ≡ Serving v
+      → ComesBack (comes_to o l.questions what) v
+  comes_back l o peers what is = by_room l o peers what (phase_room (Opening l o)) is

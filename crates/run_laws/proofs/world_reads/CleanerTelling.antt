@@ -1,0 +1,120 @@
+-- What the small world of tokens is owed of the cleaner: where its log is opened again it is so as the books are, and what is answered Live is a copy.
+use Rattle.std.proofs.Common.{◌≡◌, ◌<◌, ℕ, suc, Bool, true, List, if◌then◌else◌, refl, sym, ap, subst, ◌∙◌, arith}
+use Rattle.cleaner_emptying.specs.declared.emptying.Emptying.{Emptying}
+use Rattle.cleaner_emptying.specs.EmptyingEvents.{served}
+use Rattle.cleaner_node.specs.CleanerEvents.{after_opening, happens, hears, on_deliver, on_time, phase_room, says_back, takes}
+use Rattle.cleaner_node.specs.declared.cleaner.Cleaner.{Cleaner as CleanerNode}
+use Rattle.cleaner_node.specs.declared.cleaner.Phase as cleaning
+use Rattle.cleaner_node.specs.declared.cleaner.Phase.TheVariants.{Opening, Serving}
+use Rattle.cleaner_parts.specs.declared.lasting.Lasting.{Lasting}
+use Rattle.log_ties.specs.client_log_tie.ClientEvents.{ServesStraight}
+use Rattle.core_world.specs.declared.any_node.AnyNode.{AnyNode}
+use Rattle.telling_ties.specs.entry_tie.Told as entries
+use Rattle.index_tie.specs.Filed.{rows_at}
+use Rattle.log_owner.specs.declared.opened.Opened.{Opened}
+use Rattle.log_owner.specs.declared.opened.Progress.{Progress}
+use Rattle.log_owner.specs.declared.opened.Progress.TheVariants as progress
+use Rattle.log_owner.specs.declared.opening.Opening as openings
+use Rattle.log_owner.specs.Opening as opening
+use Rattle.log_tie.specs.Setting.{Setting}
+use Rattle.node_base.specs.declared.peers.Peers.{Peers}
+use Rattle.node_base.specs.Shape.{is_well_formed}
+use Rattle.node_ties.specs.node_index_tie.Sight.{held_in}
+use Rattle.node_ties.proofs.node_tie.SmallWorld.{with_promise}
+use Rattle.node_ties.specs.node_tie.CleanerLogs.{LiveTold, ReopensAt}
+use Rattle.run_laws.specs.place_law.Copies.{AreExact, AsksOfHand, HasJob, LivesAnswer, LivesTellCopies}
+use Rattle.run_laws.specs.index_reads.Ties.{Tied}
+use Rattle.run_laws.specs.reopening_law.Openings.{comes_to}
+use Rattle.run_laws.specs.reopening_law.Reopens.{TellsApart}
+use Rattle.segment_format.specs.declared.segment.Segment.{Segment}
+use Rattle.token_protocol.specs.Basics.{In}
+use Rattle.wire_msg.specs.declared.body.Body.TheVariants as body
+use Rattle.wire_msg.specs.declared.cleaning.Live.{Live}
+use Rattle.wire_msg.specs.declared.packet.Do.{Do}
+use Rattle.wire_msg.specs.declared.packet.Do.TheVariants.{Begin, Deliver, Tick}
+use Rattle.wire_msg.specs.declared.packet.Packet.{Packet}
+use Rattle.world_base.specs.declared.estate.Estate.{Estate}
+use Rattle.run_laws.specs.world_law.Standing as owners
+use Rattle.run_laws.specs.world_law.Owners.{moment}
+use Rattle.run_laws.specs.world_logs.Lines.{HasLines, Texts, cluster}
+use Rattle.run_laws.proofs.world_reads.CleanerMoment.{Steps, its_line, its_setting}
+use Rattle.run_laws.proofs.world_reads.CleanerReopening.{ReopensBelow, came, reopens_at}
+use Rattle.run_laws.specs.world_reads.Joint.{IsSureUpto, Joint}
+use Rattle.xfs_base.specs.Steps.{still}
+
+-- ---- the node
+
+-- no counter is near its end, and a packet that comes is well formed
+pub record IsTaken (peers : Peers) (p : cleaning.Phase) (what : Do) : Type 0 where
+  pub room : phase_room p ≡ true
+  pub formed : (q : Packet) → what ≡ Deliver q → is_well_formed peers q ≡ true
+
+-- the cleaner serves then
+abbrev pub ServesThen : Peers → cleaning.Phase → Do → Type 0
+ServesThen peers p what = (v : Emptying) × ((takes peers p what).state ≡ Serving v)
+
+by_progress : (l : Lasting) (p : Progress) (r : Opened) → p ≡ progress.Opened r → (after_opening l p).state ≡ Serving (says_back (served l r)).state
+unfolding after_opening
+by_progress l p r is = ap (λ (x : Progress). (after_opening l x).state) is
+
+module _ (l : Lasting) (o : openings.Opening) (peers : Peers) (r : Opened) where
+  by_do : (what : Do) → ((q : Packet) → what ≡ Deliver q → is_well_formed peers q ≡ true) → comes_to o l.questions what ≡ progress.Opened r
+      → (v : Emptying) × ((happens peers (Opening l o) what).state ≡ Serving v)
+  unfolding on_deliver on_time hears
+  by_do Begin formed is = absurd cc
+  by_do (Deliver q) formed is = (
+    _,
+    ap (λ (t : Bool). (if t then hears (Opening l o) q else still (Opening l o)).state) (formed q refl)
+        ∙ by_progress _ (opening.on_packet o l.questions q).progress r is,
+  )
+  by_do Tick formed is = (_, by_progress _ (opening.on_tick o l.questions).progress r is)
+
+  pub serves_then : (what : Do) → IsTaken peers (Opening l o) what → comes_to o l.questions what ≡ progress.Opened r → ServesThen peers (Opening l o) what
+  serves_then what taken is =
+      (let d = by_do what taken.formed is in
+      (d.0, ap (λ (t : Bool). (if t then happens peers (Opening l o) what else still (Opening l o)).state) taken.room ∙ d.1))
+
+-- ---- beside one run
+
+module _ (below : ReopensBelow) (copies : LivesTellCopies) (base : Setting) (e : Estate AnyNode) (lines : HasLines base e) (texts : Texts base e lines)
+    (part : ℕ) (first : ℕ → ℕ → Segment) (count : ℕ) (joint : Joint base e lines texts part first count) (node : CleanerNode) (what : Do) where
+  abbrev sent : List Packet
+  sent = (moment e count).sent
+
+  module _ (steps : Steps base e lines texts part first count node what) (straight : ServesStraight ((its_line base e lines texts part first).goes count))
+      (apart : TellsApart (its_setting base e lines texts part first)) (sure : IsSureUpto base e lines texts part first (suc count))
+      (taken : IsTaken node.peers node.phase what) (l : Lasting) (o : openings.Opening)
+      (opens : node.phase ≡ Opening l o) where
+    one_opened : (a b : Opened) → progress.Opened a ≡ progress.Opened b → a ≡ b
+    one_opened a b is = cc
+
+    -- the log is open then as the books are
+    pub at_end : (r : Opened) → comes_to o l.questions what ≡ progress.Opened r → (adopted : Bool) × ReopensAt joint.tok.net.books adopted r
+    at_end r is =
+        let s = serves_then l o node.peers r what (subst (λ (p : cleaning.Phase). IsTaken node.peers p what) opens taken) is in
+        let serves : (takes node.peers node.phase what).state ≡ Serving s.0 =
+        subst (λ (p : cleaning.Phase). (takes node.peers p what).state ≡ Serving s.0) (sym opens) s.1 in
+        let c = came below base e lines texts part first count joint node what steps straight apart sure l o s.0 opens serves in
+        let at = reopens_at below base e lines texts part first count joint node what steps straight apart sure l o s.0 opens serves in
+        (_, subst (ReopensAt joint.tok.net.books _) (one_opened c.opened r (sym c.comes ∙ is)) at)
+
+  -- ---- a Live
+
+  module _ (of_eight : part < 8) (exact : AreExact joint.idx.net.filed) (answers : LivesAnswer sent) (v : Emptying) (has : HasJob joint.idx.net v)
+      (asks : AsksOfHand sent v) where
+    tied : Tied (owners.members (cluster base e) part) part (held_in part texts.text) (with_promise 1 joint.tok.net) joint.idx.net
+    tied = record {
+      some = omega arith;
+      few = joint.tokens_stand.few;
+      of_map = of_eight;
+      tokens_run = joint.tokens_stand.runs;
+      any = first;
+      index_run = joint.index_stands.runs;
+      books = joint.books;
+      plain = λ l q low high some most. (joint.tells l q some most).plain;
+    }
+
+    pub live_told : (p : Packet) (m : Live) → In p sent → p.body ≡ body.Live m → LiveTold joint.tok.net.books v m
+    live_told p m among is =
+        copies (owners.members (cluster base e) part) part (held_in part texts.text) (with_promise 1 joint.tok.net) joint.idx.net sent v p m tied exact has
+        answers asks among is (subst (entries.BodyTold (entries.told_by (rows_at joint.idx.net.filed))) is (joint.entries.packets p among))

@@ -1,0 +1,115 @@
+-- Where more is filed all that filed segments said they say still: so what is told of where blocks lie stays told. And at the start of a run nothing is told.
+use Rattle.std.proofs.Common.{◌≡◌, ◌≤◌, ◌<◌, ◌&&◌, ℕ, nat_le, nat_lt, List, [], ◌∷◌, map, inl, inr, sym, subst, arith}
+use Rattle.std.proofs.lemmas.Bool.Decides.{nat_tests}
+use Rattle.std.specs.Prelude.{Contains}
+use Rattle.core_world.specs.AnyNode.{any_start}
+use Rattle.core_world.specs.declared.any_node.AnyNode.{AnyNode}
+use Rattle.core_world.specs.declared.any_node.AnyNode.TheVariants as any
+use Rattle.telling_ties.proofs.entry_tie.Rising.{rows_rise, told_more}
+use Rattle.telling_ties.specs.entry_tie.CleanerTells.{CleanerHoldsRise, CleanerStartsTold, CleanerTellsTold}
+use Rattle.telling_ties.specs.entry_tie.ClientTells.{ClientHoldsRise, ClientStartsTold, ClientsTellTold}
+use Rattle.telling_ties.specs.entry_tie.ManagerTells.{ManagerHoldsRise, ManagerStartsTold, ManagersTellTold}
+use Rattle.telling_ties.specs.entry_tie.OtherTells.{RegistryTellsNone, ServersTellNone}
+use Rattle.telling_ties.specs.entry_tie.Told.{AreMore, BodyTold, FiledRows, told_by}
+use Rattle.index_tie.proofs.Rows.{by_filed}
+use Rattle.index_tie.proofs.Tables.{first_of}
+use Rattle.index_tie.specs.Filed.{Filed, rows_at}
+use Rattle.index_tie.specs.Growth.{IsMore}
+use Rattle.script_text.specs.declared.script.Script.{Script}
+use Rattle.segment_format.specs.declared.segment.Segment.{Segment}
+use Rattle.segment_format.specs.Rows.{rows_of}
+use Rattle.token_protocol.specs.Basics.{In}
+use Rattle.version_model.specs.declared.work.Work.{Work}
+use Rattle.wire_msg.specs.declared.body.Body.{Body}
+use Rattle.wire_msg.specs.declared.body.Body.TheVariants as body
+use Rattle.wire_msg.specs.declared.packet.Packet.{Packet}
+use Rattle.world_base.specs.Cluster.{cluster_of, nodes_of}
+use Rattle.world_base.specs.declared.estate.Estate.{Estate}
+use Rattle.world_base.specs.Items.{items_of}
+use Rattle.world_base.specs.NextWorld.{first_node, start_world}
+use Rattle.run_laws.specs.world_law.Owners.{moment}
+use Rattle.run_laws.specs.world_reads.Entries.{AnyTold, EntriesStand}
+use Rattle.xfs_base.proofs.Members.{contains_nothing}
+use Rattle.xfs_base.specs.declared.block.BlockId.{BlockId}
+use Rattle.xfs_base.specs.declared.entry.Entry.{Entry}
+use Rattle.xfs_base.specs.declared.node.NodeId.{NodeId}
+use Rattle.xfs_base.specs.declared.node.NodeId.TheVariants as nodes
+use Rattle.xfs_base.specs.declared.setup.Setup.{Setup}
+
+-- the laws of nodes, each of its kind
+pub record EntryKinds : Type 0 where
+  pub client_starts : ClientStartsTold
+  pub client_rises : ClientHoldsRise
+  pub client : ClientsTellTold
+  pub manager_starts : ManagerStartsTold
+  pub manager_rises : ManagerHoldsRise
+  pub manager : ManagersTellTold
+  pub cleaner_starts : CleanerStartsTold
+  pub cleaner_rises : CleanerHoldsRise
+  pub cleaner : CleanerTellsTold
+  pub server : ServersTellNone
+  pub registry : RegistryTellsNone
+
+-- ---- more is filed
+
+-- what a log filed at a number that it reached
+pub rows_filed : (f : Filed) (l q : ℕ) → 0 < q → q ≤ f.head l → rows_at f l q ≡ rows_of (f.segment l q)
+rows_filed f l q some most = first_of (nat_lt 0 q && nat_le q (f.head l)) (rows_of (f.segment l q)) [] (grind (arith, nat_tests))
+
+module _ (f h : Filed) (more : IsMore f h) where
+  says_more : (row : BlockId × Entry) (l q : ℕ) → Contains (rows_at f l q) row → Contains (rows_at h l q) row
+  says_more row l q =
+      by_filed (λ rows. Contains rows row → Contains (rows_at h l q) row) f l q
+      (λ some most is. (let rises = more.head l in
+      subst (λ rows. Contains rows row) (sym (rows_filed h l q some (omega arith)))
+      (subst (λ (s : Segment). Contains (rows_of s) row) (sym (more.segment l q some most)) is)))
+      (λ is. absurd (contains_nothing row is))
+
+  pub rows_more : AreMore (rows_at f) (rows_at h)
+  rows_more block entry is = record { log = is.log; seq = is.seq; says = says_more (block, entry) is.log is.seq is.says }
+
+-- what a packet tells it tells still
+module _ (rows later : FiledRows) (more : AreMore rows later) where
+  body_rises : (m : Body) → BodyTold (told_by rows) m → BodyTold (told_by later) m
+  body_rises (body.Grant m) is = told_more rows later more m.block m.entry is
+  body_rises (body.Deltas m) is = rows_rise (told_by rows) (told_by later) (told_more rows later more) m.rows is
+  body_rises (body.Live m) is = told_more rows later more m.block m.entry is
+  body_rises _ is = tt
+
+  module _ (kinds : EntryKinds) where
+    any_rises : (node : AnyNode) → AnyTold rows node → AnyTold later node
+    any_rises (any.Client node) is = kinds.client_rises rows later node more is
+    any_rises (any.Manager node) is = kinds.manager_rises rows later node more is
+    any_rises (any.Server node) is = tt
+    any_rises (any.Cleaner node) is = kinds.cleaner_rises rows later node more is
+    any_rises (any.Registry node) is = tt
+
+    -- so does all that is told at a moment
+    pub entries_rise : (nodes : List AnyNode) (sent : List Packet) → EntriesStand rows nodes sent → EntriesStand later nodes sent
+    entries_rise nodes sent is = record {
+      holds = λ node among. any_rises node (is.holds node among);
+      packets = λ p among. body_rises p.body (is.packets p among);
+    }
+
+-- ---- the start
+
+module _ (kinds : EntryKinds) (rows : FiledRows) where
+  any_begins : (name : NodeId) (setup : Setup) (items : List Work) → AnyTold rows (any_start name setup items)
+  any_begins (nodes.Client number) setup items = kinds.client_starts rows number setup items
+  any_begins (nodes.Manager number) setup items = kinds.manager_starts rows number setup items
+  any_begins (nodes.Server number) setup items = tt
+  any_begins nodes.Cleaner setup items = kinds.cleaner_starts rows setup items
+  any_begins nodes.Registry setup items = tt
+
+  first_ones : (script : Script) (names : List NodeId) (node : AnyNode) → In node (map (first_node any_start script) names) → AnyTold rows node
+  first_ones script [] node among = absurd among
+  first_ones script (name ∷ names) node (inl is) = subst (AnyTold rows) (sym is) (any_begins name script.setup (items_of script.lines name))
+  first_ones script (name ∷ names) node (inr later) = first_ones script names node later
+
+  -- before the first event nothing is told, whatever was filed
+  pub entries_begin : (e : Estate AnyNode) → EntriesStand rows (moment e 0).nodes (moment e 0).sent
+  unfolding start_world
+  entries_begin e = record {
+    holds = first_ones e.script (nodes_of (cluster_of e.script.setup));
+    packets = λ p among. absurd among;
+  }

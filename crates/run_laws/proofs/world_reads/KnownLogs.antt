@@ -1,0 +1,135 @@
+-- What is filed at a moment of a run is known: each log that filed something is a client's or the cleaner's, whose small world knows all that was sent of it;
+-- and a segment that a server listed flew there.
+use Rattle.std.proofs.Common.{◌≡◌, ◌≤◌, ◌<◌, ◌==◌, ◌⊎◌, ◌&&◌, ℕ, nat_le, nat_lt, Bool, true, false, List, Option, None, Some, filter, length, inl, inr, refl, sym, ap, subst, ◌∙◌, arith}
+use Rattle.std.proofs.lemmas.Bool.{eqb-true}
+use Rattle.std.proofs.lemmas.Bool.Decides.{nat_tests}
+use Rattle.core_world.specs.declared.any_node.AnyNode.{AnyNode}
+use Rattle.group_map.specs.declared.group.Group.{Group}
+use Rattle.index_tie.proofs.Runs.{good_in}
+use Rattle.log_law.specs.Held.{WhatIsListedFlew}
+use Rattle.log_protocol.specs.Tables.{In}
+use Rattle.log_tie.specs.Setting.{Setting}
+use Rattle.log_tie.specs.Shelves.{is_of_log}
+use Rattle.node_ties.specs.node_index_tie.Sight.{held_in}
+use Rattle.log_ties.proofs.node_log_tie.Lists.{in_filter}
+use Rattle.log_ties.specs.node_log_tie.Sight.{BodySeen}
+use Rattle.run_laws.specs.place_law.Reads.{FiledKnown, LogKnown}
+use Rattle.run_laws.specs.reading_law.Readings.{cut_of, cuts_at}
+use Rattle.segment_format.specs.declared.segment.Segment.{Segment}
+use Rattle.wire_msg.specs.declared.body.Body.{Body}
+use Rattle.wire_msg.specs.declared.body.Body.TheVariants as body
+use Rattle.wire_msg.specs.declared.packet.Packet.{Packet}
+use Rattle.wire_msg.specs.declared.storage.Listed.{Listed}
+use Rattle.world_base.specs.declared.estate.Estate.{Estate}
+use Rattle.run_laws.specs.world_law.Owners.{moment}
+use Rattle.run_laws.specs.world_logs.Lines.{HasLines, Texts, setting}
+use Rattle.run_laws.specs.world_logs.Roles.{Role, asker_by, log_by, renews}
+use Rattle.run_laws.specs.world_logs.Roles.Role.{OfClient, OfCleaner, OfManager}
+use Rattle.run_laws.specs.world_logs.Settings.{stripe_by}
+use Rattle.run_laws.specs.world_logs.Shelves.{group_at}
+use Rattle.run_laws.specs.world_reads.Joint.{Joint, There, log_at}
+use Rattle.xfs_base.specs.declared.fragment.FragMeta.{FragMeta}
+use Rattle.xfs_base.specs.declared.segment.LogId.{LogId}
+use Rattle.xfs_base.specs.declared.segment.SegName.{SegName}
+
+-- ---- groups
+
+members_alike : (o : Option Group) → (cut_of o).members ≡ length (stripe_by o).members
+members_alike None = refl
+members_alike (Some group) = refl
+
+parity_alike : (o : Option Group) → (cut_of o).parity ≡ (stripe_by o).parity
+parity_alike None = refl
+parity_alike (Some group) = refl
+
+module _ (base : Setting) (e : Estate AnyNode) (lines : HasLines base e) (texts : Texts base e lines) (part : ℕ) (first : ℕ → ℕ → Segment) where
+  -- the log of this number is a client's or the cleaner's
+  pub record HasLog (l : ℕ) : Type 0 where
+    pub role : Role
+    pub there : There base e lines texts part first role
+    pub keeps : renews role ≡ false
+    pub is : log_by role ≡ l
+
+  abbrev Nobody : ℕ → Type 0
+  Nobody l = (r : Role) → There base e lines texts part first r → renews r ≡ false → log_by r ≡ l → ⊥
+
+  abbrev clients : ℕ
+  clients = e.script.setup.clients
+
+  somebody : (l : ℕ) → HasLog l ⊎ Nobody l
+  somebody l = by (l == 9) refl (nat_lt 0 l && nat_le l clients) refl
+    where
+      none : (r : Role) → (l == 9) ≡ false → (nat_lt 0 l && nat_le l clients) ≡ false → There base e lines texts part first r → renews r ≡ false
+          → log_by r ≡ l → ⊥
+      none (OfClient c) other out there keeps is =
+          (let some = there.0 in let most = there.1 in let same : c ≡ l = is in
+          let inside : (nat_lt 0 l && nat_le l clients) ≡ true = grind (arith, nat_tests, some, most, same) in absurd cc)
+      none OfCleaner other out there keeps is = (let same : (l == 9) ≡ true = grind (arith, nat_tests, is) in absurd cc)
+      none (OfManager j) other out there keeps is = absurd cc
+
+      by : (t : Bool) → (l == 9) ≡ t → (u : Bool) → (nat_lt 0 l && nat_le l clients) ≡ u → HasLog l ⊎ Nobody l
+      by true is u at = inl (record { role = OfCleaner; there = tt; keeps = refl; is = sym (eqb-true l 9 is) })
+      by false is true at =
+          inl (record { role = OfClient l; there = (grind (arith, nat_tests, at), grind (arith, nat_tests, at)); keeps = refl; is = refl })
+      by false is false at = inr (λ r there keeps same. none r is at there keeps same)
+
+  module _ (count : ℕ) where
+    abbrev sent : List Packet
+    sent = (moment e count).sent
+
+    -- ---- one log
+
+    module _ (r : Role) (there : There base e lines texts part first r) where
+      abbrev g : Setting
+      g = setting base e r
+
+      body_seen : (p : Packet) (m : Body) → In p sent → p.body ≡ m
+          → BodySeen g (asker_by r ((lines r there).at count)) (log_at base e lines texts part first r there count) p.from p.to m
+      body_seen p m among is =
+          subst (BodySeen g (asker_by r ((lines r there).at count)) (log_at base e lines texts part first r there count) p.from p.to) is
+          (((lines r there).stands count).facts p among)
+
+      pub log_known : LogKnown texts.text sent (cuts_at e.world) (record { 0 = log_by r })
+      log_known = record {
+        setting = g;
+        net = log_at base e lines texts part first r there count;
+        own = refl;
+        moment = ((lines r there).stands count).moment;
+        texts_of = texts.flown r there count;
+        told = λ p m among is of. body_seen p (body.Fragment m) among is of;
+        members = λ id. members_alike (group_at e.world id);
+        parity = λ id. parity_alike (group_at e.world id);
+      }
+
+      pub of_its_log : (name : SegName) → name.log ≡ record { 0 = log_by r } → is_of_log g name ≡ true
+      of_its_log name own = ap (λ (x : LogId). x.0 == log_by r) own ∙ itself (log_by r)
+        where
+          itself : (n : ℕ) → (n == n) ≡ true
+          itself n = grind (arith, nat_tests)
+
+      -- what a server listed of it flew
+      pub listed_flew : WhatIsListedFlew → (p : Packet) (m : Listed) → In p sent → p.body ≡ body.Listed m → (meta : FragMeta) → In meta m.held
+          → meta.name.log ≡ record { 0 = log_by r }
+          → (s : Segment) × In s (log_at base e lines texts part first r there count).flown × (meta.name ≡ s.name) × (meta.group ≡ s.group)
+      listed_flew flew p m among is meta held own =
+          flew g (log_at base e lines texts part first r there count) ((lines r there).stands count).moment
+          (filter (λ (x : FragMeta). is_of_log g x.name) m.held) (body_seen p (body.Listed m) among is) meta
+          (in_filter (λ (x : FragMeta). is_of_log g x.name) meta m.held held (of_its_log meta.name own))
+
+    -- ---- all logs
+
+    module _ (joint : Joint base e lines texts part first count) where
+      pub filed_log : (l q : ℕ) → 0 < q → q ≤ joint.idx.net.filed.head l → HasLog l
+      filed_log l q some most = by (somebody l)
+        where
+          by : HasLog l ⊎ Nobody l → HasLog l
+          by (inl has) = has
+          by (inr none) = (let zero = joint.alone l none in absurd (omega arith))
+
+      pub filed_known : FiledKnown texts.text sent (cuts_at e.world) joint.idx.net.filed
+      filed_known = record {
+        filed = (good_in part (held_in part texts.text) first joint.idx.net joint.index_stands.runs).filed;
+        texts_of = joint.index_stands.texts_of;
+        logs = λ l q some most. (let h = filed_log l q some most in
+            subst (λ x. LogKnown texts.text sent (cuts_at e.world) (record { 0 = x })) h.is (log_known h.role h.there));
+      }

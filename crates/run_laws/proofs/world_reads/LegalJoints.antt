@@ -1,0 +1,39 @@
+-- The acts of a run up to a moment that stands to the small world of tokens of each slot are legal: those of each block are, in the small world of its slot.
+use Rattle.std.proofs.Common.{ℕ, ◌<◌, subst}
+use Rattle.act_tie.specs.BlockActs.{acts_of}
+use Rattle.act_tie.specs.Shown.{FallsApart}
+use Rattle.core_world.specs.declared.any_node.AnyNode.{AnyNode}
+use Rattle.log_tie.proofs.Names.{itself}
+use Rattle.log_tie.specs.Setting.{Setting}
+use Rattle.node_ties.proofs.node_tie.SmallWorld.{with_promise}
+use Rattle.segment_format.specs.declared.segment.Segment.{Segment}
+use Rattle.token_law.specs.Laws.{ActsAreLegal}
+use Rattle.token_protocol.specs.Acts.{LegalActs}
+use Rattle.version_model.specs.Legal.{AreLegal}
+use Rattle.world_base.specs.declared.estate.Estate.{Estate}
+use Rattle.run_laws.proofs.world_law.RegistryTurns.{slot_below}
+use Rattle.run_laws.specs.world_law.Standing.{members}
+use Rattle.run_laws.specs.world_law.Owners.{moment}
+use Rattle.run_laws.specs.world_logs.Lines.{HasLines, Texts}
+use Rattle.run_laws.specs.world_reads.Below.{BlocksMakeLegal}
+use Rattle.run_laws.specs.world_reads.Joint.{Joint, k}
+use Rattle.xfs_base.specs.Blocks.{slot_of}
+use Rattle.xfs_base.specs.declared.block.BlockId.{BlockId}
+
+module _ (law : ActsAreLegal) (blocks : BlocksMakeLegal) (base : Setting) (e : Estate AnyNode) (lines : HasLines base e) (texts : Texts base e lines)
+    (first : ℕ → ℕ → Segment) (count : ℕ) (apart : FallsApart (moment e count).acts)
+    (joints : (part : ℕ) → part < 8 → Joint base e lines texts part first count) where
+  of_block : (b : BlockId) → LegalActs (acts_of b (moment e count).acts)
+  of_block b =
+      subst (λ acts. LegalActs (acts_of b acts)) joint.tokens_stand.acts
+      (law (members (k base e lines texts part first) part) part (with_promise 1 joint.tok.net) b
+      (record { run = joint.tokens_stand.runs; inside = itself part }))
+    where
+      part : ℕ
+      part = slot_of b.ino.0
+
+      joint : Joint base e lines texts part first count
+      joint = joints part (slot_below b.ino.0)
+
+  pub acts_are_legal : AreLegal (moment e count).acts
+  acts_are_legal = blocks (moment e count).acts apart of_block

@@ -1,0 +1,64 @@
+-- Each moment of a run up to which no restart that ended was doubtful stands to the small worlds of each slot: so the acts up to it are legal, and the indexes of
+-- slots are kept.
+use Rattle.std.proofs.Common.{ℕ, ◌<◌}
+use Rattle.core_world.specs.AnyNode.{any_start, any_step}
+use Rattle.core_world.specs.declared.any_node.AnyNode.{AnyNode}
+use Rattle.log_tie.specs.Setting.{Setting}
+use Rattle.node_base.specs.Setups.{IsSetup}
+use Rattle.run_laws.specs.reopening_law.Reopens.{TellsApart}
+use Rattle.run_laws.specs.restart_law.Restarts.{NoDoubtfulRestart}
+use Rattle.run_laws.specs.restart_law.Unlost.{ScriptsWithoutLossesAreUndoubted}
+use Rattle.version_model.specs.Legal.{AreLegal}
+use Rattle.world_base.specs.Cluster.{cluster_of}
+use Rattle.world_base.specs.declared.estate.Estate.{Estate}
+use Rattle.world_base.specs.Runs.{IsRun}
+use Rattle.run_laws.proofs.world_index.Laws.{keeps}
+use Rattle.run_laws.specs.world_index.Laws.{KeepsIndexes}
+use Rattle.run_laws.specs.world_law.Owners.{moment}
+use Rattle.run_laws.specs.world_logs.Lines.{HasLines, Texts}
+use Rattle.run_laws.proofs.world_reads.LegalJoints.{acts_are_legal}
+use Rattle.run_laws.proofs.world_reads.TurnRun.{moment_cluster}
+use Rattle.run_laws.proofs.world_reads.TurnWhole.{whole_at}
+use Rattle.run_laws.proofs.world_reads.WholeLaws.{index_nodes, token_nodes, whole_below}
+use Rattle.run_laws.specs.world_reads.Below.{Below}
+use Rattle.run_laws.specs.world_reads.Indexes.{EveryRunKeepsItsIndexes}
+use Rattle.run_laws.specs.world_reads.Joint.{Joint}
+use Rattle.run_laws.specs.world_reads.Legal.{EveryRunWithoutLossesIsLegal, EveryRunsActsAreLegal}
+use Rattle.run_laws.specs.world_reads.Moments.{EveryMomentStands, MomentStands, first_of}
+
+module _ (below : Below) where
+  module _ (base : Setting) (apart : TellsApart base) (e : Estate AnyNode) (setup : IsSetup e.script.setup)
+      (run : IsRun any_step any_start e.script e.events e.world) (lines : HasLines base e) (texts : Texts base e lines) (count : ℕ)
+      (none : NoDoubtfulRestart e count) where
+    stands : MomentStands base e lines texts count
+    stands =
+        let w = whole_at (whole_below below) base e lines texts (first_of base e lines texts) apart setup run count
+        (λ r there keeps. below.lines.undoubted_runs_are_sure base e lines count none r there keeps) in
+        record { joints = w.joints; references = w.references; named = w.named; comes = w.comes }
+
+    legal : AreLegal (moment e count).acts
+    legal =
+        acts_are_legal below.tokens.acts_are_legal below.tokens.blocks_make_legal base e lines texts (first_of base e lines texts) count
+        (below.tokens.every_run_has_falls_apart e setup run count) stands.joints
+
+    kept : (part : ℕ) → part < 8 → KeepsIndexes (moment e count) part texts.text
+    kept part of_eight =
+        let joint : Joint base e lines texts part (first_of base e lines texts) count = stands.joints part of_eight in
+        keeps (index_nodes below) (token_nodes below) (cluster_of e.script.setup) part of_eight texts.text (first_of base e lines texts)
+        below.index.each_index_is_the_join below.index.newest_is_never_deleted (moment e count) (moment_cluster e count) joint.idx joint.index_stands
+
+  pub every_moment_stands : EveryMomentStands
+  every_moment_stands base apart e setup run lines texts count none = stands base apart e setup run lines texts count none
+
+  pub every_run_keeps_its_indexes : EveryRunKeepsItsIndexes
+  every_run_keeps_its_indexes base apart e setup run lines texts count none = kept base apart e setup run lines texts count none
+
+  pub every_runs_acts_are_legal : EveryRunsActsAreLegal
+  every_runs_acts_are_legal e setup run count none =
+      let lines = below.logs.runs_have_lines below.lines.telling_setting.0 e setup run in
+      legal below.lines.telling_setting.0 below.lines.telling_setting.1 e setup run lines
+      (below.logs.lines_have_texts below.lines.telling_setting.0 e setup lines) count none
+
+-- where the script has no server lose its disk, up to each moment
+pub every_run_without_losses_is_legal : EveryRunsActsAreLegal → ScriptsWithoutLossesAreUndoubted → EveryRunWithoutLossesIsLegal
+every_run_without_losses_is_legal legal undoubted e setup run none count = legal e setup run count ((undoubted e setup run none).1 count)

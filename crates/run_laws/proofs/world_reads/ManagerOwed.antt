@@ -1,0 +1,158 @@
+-- What an event of a manager is owed to both small worlds of the slot, where what nodes refer to stands: the sources of its takeover flew in logs of the run.
+use Rattle.std.proofs.Common.{◌≡◌, ◌<◌, ◌==◌, inl, inr, ⊎_elim, ℕ, true, false, Bool, cond, List, [], ◌∷◌, refl, sym, ap, subst, ◌∙◌, arith, Some, slice_get}
+use Rattle.std.specs.Prelude.{Contains}
+use Rattle.std.specs.List.{AllByRecursion}
+use Rattle.std.proofs.lemmas.Bool.{eqb-true}
+use Rattle.core_world.specs.declared.any_node.AnyNode.{AnyNode}
+use Rattle.core_world.specs.declared.any_node.AnyNode.TheVariants as any
+use Rattle.log_tie.specs.Setting.{Setting}
+use Rattle.manager_node.specs.declared.manager.Manager.{Manager as ManagerNode}
+use Rattle.manager_node.specs.declared.phase.Phase.{Phase}
+use Rattle.manager_node.specs.declared.phase.Phase.TheVariants.{Down, Waiting, Serving as Serves}
+use Rattle.manager_parts.specs.declared.slot_phase.SlotPhase.TheVariants as phase
+use Rattle.manager_parts.specs.declared.slot_phase.Taking.{Taking}
+use Rattle.node_ties.specs.node_index_tie.ManagerEvents as places
+use Rattle.node_ties.specs.node_index_tie.Pages.{desk_of}
+use Rattle.node_ties.specs.node_tie.ManagerEvents.{slot_in}
+use Rattle.run_laws.specs.reading_law.Readings.{ReadingsCame}
+use Rattle.telling_ties.specs.reference_tie.Managers.{PhaseRefers, ReportRefers, SlotRefers, TakeRefers}
+use Rattle.telling_ties.specs.reference_tie.References.{References}
+use Rattle.segment_format.specs.declared.segment.Segment.{Segment}
+use Rattle.takeover.specs.declared.report.Report.{Report as Heard}
+use Rattle.takeover.specs.Reports.{writer_of}
+use Rattle.token_protocol.specs.Basics.{In}
+use Rattle.world_base.specs.Cluster.{place_of}
+use Rattle.world_base.specs.declared.cluster.Cluster.{Cluster}
+use Rattle.world_base.specs.declared.estate.Estate.{Estate}
+use Rattle.world_base.specs.declared.event.Event.{Event}
+use Rattle.world_base.specs.Events.{node_of, what_of}
+use Rattle.run_laws.specs.world_index.Owes.{IndexOwes, TokensGive}
+use Rattle.run_laws.specs.world_index.Standing as places_of
+use Rattle.run_laws.proofs.world_law.Places.{Behind, behind}
+use Rattle.run_laws.proofs.world_law.Sent.{in_list}
+use Rattle.run_laws.specs.world_law.Standing as tokens
+use Rattle.run_laws.specs.world_law.Owes.{TurnOwes}
+use Rattle.run_laws.specs.world_law.Owners.{moment}
+use Rattle.run_laws.specs.world_logs.Lines.{HasLines, Texts, cluster}
+use Rattle.run_laws.specs.world_logs.Roles.Role.{OfManager}
+use Rattle.run_laws.proofs.world_reads.ManagerMoment as manager
+use Rattle.run_laws.proofs.world_reads.ManagerMoment.{Coming, ManagerEvent}
+use Rattle.run_laws.proofs.world_reads.ManagerReading as reading
+use Rattle.run_laws.proofs.world_reads.ManagerReading.{ManagerLaws, SourcesFlew, at_slot}
+use Rattle.run_laws.proofs.world_reads.ManagerSources.{sources_flew}
+use Rattle.run_laws.proofs.world_reads.ManagerTelling as telling
+use Rattle.run_laws.proofs.world_reads.ManagerTelling.{TellingLaws}
+use Rattle.run_laws.proofs.world_reads.Taking.{Took, took_it}
+use Rattle.run_laws.specs.world_reads.Joint.{There}
+use Rattle.run_laws.specs.world_reads.References.{EndFlew, Flew, ReferencesStand, ReportFlew, its}
+use Rattle.xfs_base.proofs.Members.{contains_cases, contains_nothing}
+use Rattle.xfs_base.specs.declared.node.NodeId.TheVariants.{Client, Manager, Cleaner}
+use Rattle.xfs_base.specs.declared.segment.End.{End}
+use Rattle.xfs_base.specs.declared.segment.SegRef.{SegRef}
+
+one_contained : {X : Type 0} (P : X → Type 0) (xs : List X) (x : X) → AllByRecursion P xs → Contains xs x → P x
+one_contained P [] x all is = absurd (contains_nothing x is)
+one_contained P (y ∷ xs) x all is = ⊎_elim (λ same. subst P same all.0) (λ later. one_contained P xs x all.1 later) (contains_cases y x xs is)
+
+one_among : {X : Type 0} (P : X → Type 0) (xs : List X) (x : X) → AllByRecursion P xs → In x xs → P x
+one_among P [] x all is = absurd is
+one_among P (y ∷ xs) x all (inl is) = subst P (sym is) all.0
+one_among P (y ∷ xs) x all (inr later) = one_among P xs x all.1 later
+
+module _ (base : Setting) (e : Estate AnyNode) (lines : HasLines base e) (texts : Texts base e lines) (part : ℕ) (first : ℕ → ℕ → Segment) (count : ℕ) where
+  abbrev r : References
+  r = its base e lines texts part first count
+
+  -- what the owner of log l reported
+  of_writer : (l : ℕ) (end : End) → ReportFlew base e lines texts part first count (writer_of l) end → EndFlew base e lines texts part first count l end
+  of_writer l end h = by (l == 9) refl h
+    where
+      by : (t : Bool) → (l == 9) ≡ t → ReportFlew base e lines texts part first count (cond t Cleaner (Client l)) end
+          → EndFlew base e lines texts part first count l end
+      by true is k = subst (λ x. EndFlew base e lines texts part first count x end) (sym (eqb-true l 9 is)) k
+      by false is k = k
+
+  module _ (t : Taking) (refers : TakeRefers r t.take) where
+    parts_flew : (ref : SegRef) → Contains t.take.news.parts ref → Flew base e lines texts part first count ref
+    parts_flew ref is = one_contained (Flew base e lines texts part first count) t.take.news.parts ref refers.parts_refer is
+
+    -- the text of the name of an end that flew is of the group that it bears
+    its_group : (l : ℕ) (end : End) → 0 < end.seq → EndFlew base e lines texts part first count l end
+        → end.group ≡ (texts.text (record { log = record { 0 = l }; seq = end.seq; pass = end.pass })).group
+    its_group l end some (inl none) = absurd (omega arith)
+    its_group l end some (inr f) =
+        f.grouped ∙ ap (λ (s : Segment). s.group) (sym (ap texts.text f.named ∙ texts.flown f.of.role f.of.there count f.segment f.among))
+
+    ends_bear : (l : ℕ) (x : Heard) → In x t.take.reports → x.from ≡ writer_of l → 0 < x.end.seq
+        → x.end.group ≡ (texts.text (record { log = record { 0 = l }; seq = x.end.seq; pass = x.end.pass })).group
+    ends_bear l x among from some =
+        its_group l x.end some (of_writer l x.end (subst (λ node. ReportFlew base e lines texts part first count node x.end) from
+        (one_among (ReportRefers r) t.take.reports x refers.reported among)))
+
+  module _ (j : ℕ) (there : There base e lines texts part first (OfManager j)) (event : Event) (node : ManagerNode)
+      (x : ManagerEvent base e lines texts part first count j there event node) (stands : ReferencesStand base e lines texts part first count) where
+    refers : PhaseRefers r node.phase
+    refers = stands.each_node (any.Manager node) (in_list (moment e count).nodes x.took.place (any.Manager node) x.took.is)
+
+    -- the sources of the slot's takeover flew
+    pub flew : SourcesFlew base e lines texts part first count j there (slot_in part node.phase)
+    flew = by node.phase refl
+      where
+        never : (epoch : ℕ) (t : Taking) → phase.Away epoch ≡ phase.Taking t → ⊥
+        never epoch t h = absurd cc
+
+        by : (p : Phase) → node.phase ≡ p → SourcesFlew base e lines texts part first count j there (slot_in part p)
+        by (Serves s) serves t is =
+            let placed = (subst (places.ManagerAgrees part texts.text x.coming.joint.idx.net) serves
+            (manager.index_sees base e lines texts part first count j there event node x)).0 in
+            let agrees : places.PhaseAgrees part texts.text x.coming.joint.idx.net (desk_of s placed.given) (phase.Taking t) =
+            subst (places.PhaseAgrees part texts.text x.coming.joint.idx.net (desk_of s placed.given)) is placed.here in
+            let held : TakeRefers r t.take =
+            subst (SlotRefers r) is (at_slot (SlotRefers r) s.slots part (subst (PhaseRefers r) serves refers).slots tt) in
+            sources_flew base e lines texts part first count x.coming.joint t agrees (parts_flew t held)
+            (λ l some most y among from more. ends_bear t held l y among from more)
+        by (Waiting kept hello) serves t is = absurd (never 0 t is)
+        by (Down kept) serves t is = absurd (never 0 t is)
+
+    pub index_owed : ManagerLaws → IndexOwes part texts.text x.coming.joint.idx.asked x.coming.joint.idx.net (node_of event) (any.Manager node) (what_of event)
+    index_owed laws = reading.manager_owed base e lines texts part first count j there laws event node x flew
+
+    pub turn_owed : ManagerLaws → TellingLaws → (adopted : Bool) (most : ℕ)
+        → TurnOwes true adopted (tokens.members (cluster base e) part) part most x.coming.joint.tok.net (node_of event) (any.Manager node) (what_of event)
+    turn_owed laws more adopted most = telling.turn_owed base e lines texts part first count j there more event node x laws flew adopted most
+
+-- ---- all of it, of an event that a manager takes
+
+module _ (base : Setting) (e : Estate AnyNode) (lines : HasLines base e) (texts : Texts base e lines) (part : ℕ) (first : ℕ → ℕ → Segment) (count : ℕ)
+    (laws : ManagerLaws) (more : TellingLaws) (few : part < 8) (event : Event) (is : slice_get e.events count ≡ Some event)
+    (coming : Coming base e lines texts part first count event) (came : ReadingsCame e.world (moment e count))
+    (stands : ReferencesStand base e lines texts part first count) where
+  abbrev k : Cluster
+  k = cluster base e
+
+  -- the run has this manager
+  is_there : (j : ℕ) (node : AnyNode) → node_of event ≡ Manager j → Took (moment e count) event node → There base e lines texts part first (OfManager j)
+  is_there j node own took =
+      let at : place_of k (node_of event) ≡ Some took.place = subst (λ (c : Cluster). place_of c (node_of event) ≡ Some took.place) coming.cluster took.at in
+      let b : Behind k.clients k.managers j took.place =
+      behind k.clients k.managers j took.place (subst (λ name. place_of k name ≡ Some took.place) own at) in
+      (b.some, b.within)
+
+  -- what it is owed in both small worlds, and what tokens give it
+  pub record ManagerOwes (node : ManagerNode) : Type 0 where
+    pub index : IndexOwes part texts.text coming.joint.idx.asked coming.joint.idx.net (node_of event) (any.Manager node) (what_of event)
+    pub turn : (adopted : Bool) (most : ℕ)
+        → TurnOwes true adopted (tokens.members k part) part most coming.joint.tok.net (node_of event) (any.Manager node) (what_of event)
+    pub given : TokensGive part k.managers (places_of.holder part coming.joint.idx) coming.joint.idx.net (node_of event) (any.Manager node) (what_of event)
+
+  pub manager_owes : (j : ℕ) (node : ManagerNode) → node_of event ≡ Manager j → Took (moment e count) event (any.Manager node) → ManagerOwes node
+  manager_owes j node own took =
+      let there : There base e lines texts part first (OfManager j) = is_there j (any.Manager node) own took in
+      let x : ManagerEvent base e lines texts part first count j there event node =
+      record { few = few; is = is; coming = coming; own = own; took = took; came = came } in
+      record {
+        index = index_owed base e lines texts part first count j there event node x stands laws;
+        turn = λ adopted most. turn_owed base e lines texts part first count j there event node x stands laws more adopted most;
+        given = manager.tokens_given base e lines texts part first count event coming more.given (any.Manager node)
+            (took_it k (moment e count) coming.cluster event (any.Manager node) took);
+      }

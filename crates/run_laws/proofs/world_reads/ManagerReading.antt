@@ -1,0 +1,198 @@
+-- What an event of a manager is owed to the small world of the index: what an answer to a question of the slot's takeover completes is the text of its name,
+-- and so is what the manager writes.
+use Rattle.std.proofs.Common.{◌≡◌, ℕ, zero, suc, List, [], ◌∷◌, Option, None, Some, refl, sym, ap, subst}
+use Rattle.std.specs.Prelude.{Contains}
+use Rattle.std.specs.List.{AllByRecursion}
+use Rattle.core_world.specs.declared.any_node.AnyNode.{AnyNode}
+use Rattle.core_world.specs.declared.any_node.AnyNode.TheVariants as any
+use Rattle.log_law.specs.Groups.{PriorsNameGroups}
+use Rattle.log_law.specs.Laws.{OneNameOneText}
+use Rattle.log_law.specs.Places.{APlaceNamesOneContent}
+use Rattle.log_owner.specs.Sending.{server_in}
+use Rattle.log_tie.specs.Setting.{Setting}
+use Rattle.manager_node.specs.declared.manager.Manager.{Manager as ManagerNode}
+use Rattle.manager_node.specs.declared.phase.Phase.{Phase}
+use Rattle.manager_node.specs.declared.phase.Phase.TheVariants.{Down, Waiting, Serving as Serves}
+use Rattle.manager_node.specs.Events.{happens}
+use Rattle.manager_parts.specs.declared.slot_phase.SlotPhase.{SlotPhase}
+use Rattle.manager_parts.specs.declared.slot_phase.SlotPhase.TheVariants as phase
+use Rattle.manager_parts.specs.declared.slot_phase.Taking.{Taking}
+use Rattle.manager_serving.specs.declared.serving.Serving.{Serving}
+use Rattle.node_ties.specs.node_index_tie.ManagerEvents.{AbsentGets, FoundGets, completes_at, completes_in}
+use Rattle.node_ties.specs.node_index_tie.Sight.{IsRead}
+use Rattle.node_ties.specs.node_tie.ManagerEvents.{phase_at, slot_in}
+use Rattle.run_laws.specs.place_law.Reads.{TakeoversReadTexts}
+use Rattle.run_laws.specs.reading_law.Readings.{cuts_at}
+use Rattle.telling_ties.specs.reading_tie.Arrivals.{AnsweredIn, Tells, answered_in, cut_by}
+use Rattle.telling_ties.specs.reading_tie.Came.{ReadsJoined}
+use Rattle.telling_ties.specs.reading_tie.ManagerReads.{PhaseHolds, SlotHolds}
+use Rattle.telling_ties.specs.reading_tie.TakeoverReads.{PresentHolds, StandsBy, TakeHolds, TakeoversReadWhatCame, to_any}
+use Rattle.segment_format.specs.declared.segment.Segment.{Segment}
+use Rattle.segment_reading.specs.Reading.{ReadingState}
+use Rattle.stripe_code.specs.declared.round.Told.{Told}
+use Rattle.stripe_code.specs.declared.round.Told.TheVariants.{Held, Missing}
+use Rattle.takeover.specs.declared.source.Present.{Present}
+use Rattle.takeover.specs.declared.source.Source.{Source}
+use Rattle.takeover.specs.Sources.{sources_of}
+use Rattle.token_protocol.specs.Basics.{In}
+use Rattle.wire_msg.specs.declared.body.Body.{Body}
+use Rattle.wire_msg.specs.declared.body.Body.TheVariants as body
+use Rattle.wire_msg.specs.declared.packet.Do.{Do}
+use Rattle.wire_msg.specs.declared.packet.Do.TheVariants.{Begin, Deliver, Tick}
+use Rattle.wire_msg.specs.declared.packet.Packet.{Packet}
+use Rattle.wire_msg.specs.declared.storage.Found.{Found}
+use Rattle.wire_msg.specs.declared.storage.Missing.{Missing as Absent}
+use Rattle.world_base.specs.declared.estate.Estate.{Estate}
+use Rattle.world_base.specs.declared.event.Event.{Event}
+use Rattle.world_base.specs.Events.{node_of, what_of}
+use Rattle.run_laws.specs.world_index.Owes.{BodyReads, DoReads, IndexOwes, ManagerTold, PacketReads}
+use Rattle.run_laws.specs.world_law.Owners.{moment}
+use Rattle.run_laws.specs.world_lines.Flights.{ManagersWriteTexts}
+use Rattle.run_laws.specs.world_logs.Lines.{HasLines, Texts}
+use Rattle.run_laws.specs.world_logs.Roles.Role.{OfManager}
+use Rattle.run_laws.proofs.world_reads.ManagerChains.{Refers, known, names_its_group, refers_down}
+use Rattle.run_laws.proofs.world_reads.ManagerMoment as manager
+use Rattle.run_laws.proofs.world_reads.ManagerMoment.{ManagerEvent}
+use Rattle.run_laws.specs.world_reads.Joint.{There}
+use Rattle.run_laws.specs.world_reads.References.{Flew}
+use Rattle.xfs_base.specs.declared.node.NodeId.{NodeId}
+use Rattle.xfs_base.specs.declared.node.NodeId.TheVariants.{Client, Manager, Server, Cleaner, Registry}
+
+-- the laws of the crates below on which it stands; of those `priors` is to be one of log_law
+pub record ManagerLaws : Type 0 where
+  pub one : OneNameOneText
+  pub place : APlaceNamesOneContent
+  pub priors : PriorsNameGroups
+  pub came : TakeoversReadWhatCame
+  pub reads : TakeoversReadTexts
+  pub writes : ManagersWriteTexts
+
+-- what holds of each phase of a table, and of one that is away, holds of the slot of this number
+pub at_slot : (P : SlotPhase → Type 0) (table : List SlotPhase) (slot : ℕ) → AllByRecursion P table → P (phase.Away 0) → P (phase_at table slot)
+at_slot P [] slot all away = away
+at_slot P (p ∷ table) zero all away = all.0
+at_slot P (p ∷ table) (suc slot) all away = at_slot P table slot all.1 away
+
+module _ (base : Setting) (e : Estate AnyNode) (lines : HasLines base e) (texts : Texts base e lines) (part : ℕ) (first : ℕ → ℕ → Segment) (count j : ℕ)
+    (there : There base e lines texts part first (OfManager j)) where
+  abbrev sent : List Packet
+  sent = (moment e count).sent
+
+  -- Each source of a takeover, a part of a checkpoint or the reported end of a log, flew in a log of the run, over the group with which it is referred to.
+  abbrev pub SourcesFlew : SlotPhase → Type 0
+  SourcesFlew p = (t : Taking) → p ≡ phase.Taking t → (source : Source) → Contains (sources_of t.take.news t.take.reports) source
+      → Flew base e lines texts part first count source.seg
+
+  module _ (laws : ManagerLaws) where
+    -- what an answer completes that came to the manager's takeover
+    module _ (t : Taking) (holds : TakeHolds (answered_in sent (Manager j)) (cut_by (cuts_at e.world)) t.take)
+        (flew : (source : Source) → Contains (sources_of t.take.news t.take.reports) source → Flew base e lines texts part first count source.seg)
+        (ask own server : ℕ) (answer : Told) (answered : AnsweredIn sent (Manager j) ask server answer) (s : Segment) where
+      of_present : (p : Present) → t.take.present ≡ Some p → PresentHolds (answered_in sent (Manager j)) (cut_by (cuts_at e.world)) t.take p
+          → completes_at t.take t.take.present own server answer ≡ Some s → IsRead part texts.text s
+      of_present p at stands done = by p.reading refl (subst (λ o. completes_at t.take o own server answer ≡ Some s) at done)
+        where
+          refers : Refers base e lines texts part first count (Manager j) p.source.seg
+          refers = refers_down base e lines texts part first count (Manager j) laws.one laws.place laws.priors (sources_of t.take.news t.take.reports) flew
+              p.source stands.leads
+
+          by : (o : Option ReadingState) → p.reading ≡ o → completes_in t.take o own server answer ≡ Some s → IsRead part texts.text s
+          by None is h = absurd cc
+          by (Some r) is h =
+              let reads : ReadsJoined (to_any (answered_in sent (Manager j))) (cut_by (cuts_at e.world)) p.source.seg s =
+              laws.came sent (Manager j) (cuts_at e.world) t.take p r ask own server answer s holds at is answered h in
+              laws.reads part texts.text sent (Manager j) (cuts_at e.world) t.take p ask own server answer s holds at answered
+              (known base e lines texts part first count (Manager j) p.source.seg.name refers.of)
+              (names_its_group base e lines texts part first count (Manager j) laws.one laws.place p.source.seg refers s reads) done
+
+      pub is_read : completes_at t.take t.take.present own server answer ≡ Some s → IsRead part texts.text s
+      is_read done = by t.take.present refl holds.stands
+        where
+          by : (o : Option Present) → t.take.present ≡ o → StandsBy (answered_in sent (Manager j)) (cut_by (cuts_at e.world)) t.take o
+              → IsRead part texts.text s
+          by None at stands =
+              (let none : completes_at t.take None own server answer ≡ Some s = subst (λ o. completes_at t.take o own server answer ≡ Some s) at done in
+              absurd (no_segment s none))
+            where
+              no_segment : (x : Segment) → None ≡ Some x → ⊥
+              no_segment x h = absurd cc
+          by (Some p) at stands = of_present p at stands done
+
+    -- ---- an event
+
+    module _ (event : Event) (node : ManagerNode) (x : ManagerEvent base e lines texts part first count j there event node) where
+      abbrev what : Do
+      what = what_of event
+
+      module _ (s : Serving) (serves : node.phase ≡ Serves s) (flew : SourcesFlew (slot_in part node.phase)) (q : Packet) (among : In q sent)
+          (mine : q.to ≡ Manager j) where
+        abbrev p : SlotPhase
+        p = phase_at s.slots part
+
+        holds_so : PhaseHolds (answered_in sent (Manager j)) (cut_by (cuts_at e.world)) (Serves s)
+        holds_so = subst (PhaseHolds (answered_in sent (Manager j)) (cut_by (cuts_at e.world))) serves
+            (manager.holds base e lines texts part first count j there event node x)
+
+        slot_holds : SlotHolds (answered_in sent (Manager j)) (cut_by (cuts_at e.world)) p
+        slot_holds = at_slot (SlotHolds (answered_in sent (Manager j)) (cut_by (cuts_at e.world))) s.slots part holds_so.slots tt
+
+        flew_there : SourcesFlew p
+        flew_there = subst (λ (y : Phase). SourcesFlew (slot_in part y)) serves flew
+
+        one_read : (ask v : ℕ) (told : Told) → q.from ≡ Server v → Tells ask told q.body → (t : Taking) (own : ℕ) (z : Segment) → p ≡ phase.Taking t
+            → completes_at t.take t.take.present own v told ≡ Some z
+            → IsRead part texts.text z
+        one_read ask v told from tells t own z is done =
+            is_read t (subst (SlotHolds (answered_in sent (Manager j)) (cut_by (cuts_at e.world))) is slot_holds) (flew_there t is) ask own v told
+            (record { packet = q; among = among; reader = mine; from = ap server_in from; tells = tells }) z done
+
+        found : (from : NodeId) (m : Found) → q.from ≡ from → q.body ≡ body.Fragment m
+            → FoundGets part texts.text x.coming.joint.idx.asked j x.coming.joint.idx.net p from m
+        found (Server v) m from is =
+            λ t own z at fetched done. one_read m.ask v (Held m.fragment) from (subst (Tells m.ask (Held m.fragment)) (sym is) (refl, refl)) t own z at done
+        found (Client c) m from is = tt
+        found (Manager c) m from is = tt
+        found Cleaner m from is = tt
+        found Registry m from is = tt
+
+        absent : (from : NodeId) (m : Absent) → q.from ≡ from → q.body ≡ body.Missing m
+            → AbsentGets part texts.text x.coming.joint.idx.asked j x.coming.joint.idx.net p from m
+        absent (Server v) m from is =
+            λ t own z at fetched done. one_read m.ask v (Missing m.generation) from
+            (subst (Tells m.ask (Missing m.generation)) (sym is) (refl, refl)) t own z at done
+        absent (Client c) m from is = tt
+        absent (Manager c) m from is = tt
+        absent Cleaner m from is = tt
+        absent Registry m from is = tt
+
+        pub body_reads : (b : Body) → q.body ≡ b → BodyReads part texts.text x.coming.joint.idx.asked j x.coming.joint.idx.net p q.from b
+        body_reads (body.Fragment m) is = found q.from m refl is
+        body_reads (body.Missing m) is = absent q.from m refl is
+        body_reads _ is = tt
+
+      packet_reads : SourcesFlew (slot_in part node.phase) → (q : Packet) → what ≡ Deliver q → (p : Phase) → node.phase ≡ p
+          → PacketReads part texts.text x.coming.joint.idx.asked j x.coming.joint.idx.net p q
+      packet_reads flew q is (Serves s) serves =
+          let b = manager.brought base e lines texts part first count j there event node x q is in
+          body_reads s serves flew q b.0 b.1 q.body refl
+      packet_reads flew q is (Waiting kept hello) serves = tt
+      packet_reads flew q is (Down kept) serves = tt
+
+      pub reads : SourcesFlew (slot_in part node.phase) → DoReads part texts.text x.coming.joint.idx.asked j x.coming.joint.idx.net node.phase what
+      reads flew = by what refl
+        where
+          by : (d : Do) → what ≡ d → DoReads part texts.text x.coming.joint.idx.asked j x.coming.joint.idx.net node.phase d
+          by Begin is = tt
+          by (Deliver q) is = packet_reads flew q is node.phase refl
+          by Tick is = tt
+
+      -- ---- all of it
+
+      pub manager_told : SourcesFlew (slot_in part node.phase)
+          → ManagerTold part texts.text x.coming.joint.idx.asked j x.coming.joint.idx.net node.phase what (happens node what).state
+      manager_told flew = record { reads = reads flew; writes = manager.writes base e lines texts part first count j there event node x laws.writes }
+
+      pub manager_owed : SourcesFlew (slot_in part node.phase)
+          → IndexOwes part texts.text x.coming.joint.idx.asked x.coming.joint.idx.net (node_of event) (any.Manager node) what
+      manager_owed flew = subst (λ name. IndexOwes part texts.text x.coming.joint.idx.asked x.coming.joint.idx.net name (any.Manager node) what) (sym x.own)
+          (manager_told flew)

@@ -1,0 +1,420 @@
+-- Whatever happens in a run, what nodes refer to flew in its logs, over the groups with which it is referred to: a part of a checkpoint was in flight in the
+-- log of its manager, and an end that is reported is that of the log of who reports it.
+use Rattle.std.proofs.Common.{◌≡◌, ◌⊎◌, ◌+◌, inl, inr, ⊎_elim, ℕ, zero, suc, All, List, [], ◌∷◌, map, Option, None, Some, slice_get, slice_set, refl, sym, ap, subst, ◌∙◌, arith}
+use Rattle.std.specs.Prelude.{IfSome}
+use Rattle.std.specs.List.{AllByRecursion}
+use Rattle.checkpoint.specs.Transition.{part_at}
+use Rattle.cleaner_emptying.specs.declared.emptying.Emptying.{Emptying}
+use Rattle.log_ties.specs.cleaner_log_tie.Owner as cleaner_log
+use Rattle.cleaner_node.specs.declared.cleaner.Cleaner.{Cleaner as CleanerNode}
+use Rattle.cleaner_node.specs.declared.cleaner.Phase as cleaning_phase
+use Rattle.cleaner_node.specs.declared.cleaner.Phase.TheVariants as cleaning
+use Rattle.client_log.specs.LogState.{LogState}
+use Rattle.client_log.specs.Transition.{end_from}
+use Rattle.log_ties.specs.client_log_tie.Owner as client_log
+use Rattle.log_ties.specs.client_log_tie.Owner.{Scene, SeesLog}
+use Rattle.client_node.specs.declared.client.Client.{Client as ClientNode}
+use Rattle.client_node.specs.declared.phase.Phase as client_phase
+use Rattle.client_node.specs.declared.phase.Phase.TheVariants as clients
+use Rattle.client_node.specs.Phases.{lasting_of}
+use Rattle.client_serving.specs.declared.serving.Serving.{Serving as ServingClient}
+use Rattle.core_world.specs.AnyNode.{any_step}
+use Rattle.core_world.specs.declared.any_node.AnyNode.{AnyNode}
+use Rattle.core_world.specs.declared.any_node.AnyNode.TheVariants as any
+use Rattle.log_flight.specs.Flights.{FlightState}
+use Rattle.log_law.specs.Groups.{EndsNameGroups}
+use Rattle.log_law.specs.Ends.{EndsAreLast}
+use Rattle.log_law.specs.Held.{OwnerFlew, WhatIsHeldFlew}
+use Rattle.log_law.specs.Laws.{LogsStayWhole}
+use Rattle.log_law.specs.Net.{no_end}
+use Rattle.log_protocol.specs.Tables as tables
+use Rattle.log_tie.specs.Setting.{Setting}
+use Rattle.log_ties.specs.manager_log_tie.Owner as manager_log
+use Rattle.manager_node.specs.declared.manager.Manager.{Manager as ManagerNode}
+use Rattle.manager_node.specs.declared.phase.Phase as manager_phase
+use Rattle.manager_node.specs.declared.phase.Phase.TheVariants as managers
+use Rattle.manager_serving.specs.declared.serving.Serving.{Serving}
+use Rattle.node_base.specs.declared.effects.Effect.{Effect}
+use Rattle.node_base.specs.declared.effects.Effect.TheVariants.{Send, Answer, Lose, Does}
+use Rattle.node_base.specs.Effects.{packets_of}
+use Rattle.node_ties.specs.node_index_tie.ManagerEvents as places
+use Rattle.node_ties.specs.owner_index_tie.ServerEvents.{DoesNothing, SaysNothing, ServerEventGoes}
+use Rattle.telling_ties.proofs.reference_tie.Cleaners.{cleaner_reports}
+use Rattle.telling_ties.proofs.reference_tie.Clients.{clients_report}
+use Rattle.telling_ties.proofs.reference_tie.Managers.{managers_keep}
+use Rattle.telling_ties.proofs.reference_tie.Registries.{registry_keeps}
+use Rattle.telling_ties.specs.reference_tie.Managers.{FlightRefers, PhaseFlies}
+use Rattle.telling_ties.specs.reference_tie.Owners.{ReportsEnd, ReportsOf}
+use Rattle.telling_ties.specs.reference_tie.References.{BodyRefers, DoRefers, PacketRefers, References}
+use Rattle.segment_format.specs.declared.segment.Segment.{Segment}
+use Rattle.store_nodes.specs.ServerEvents.{takes}
+use Rattle.token_protocol.specs.Basics.{In}
+use Rattle.wire_msg.specs.declared.body.Body.{Body}
+use Rattle.wire_msg.specs.declared.body.Body.TheVariants as body
+use Rattle.wire_msg.specs.declared.packet.Do.{Do}
+use Rattle.wire_msg.specs.declared.packet.Do.TheVariants.{Begin, Deliver, Tick}
+use Rattle.wire_msg.specs.declared.packet.Packet.{Packet}
+use Rattle.world_base.specs.Cluster.{place_of}
+use Rattle.world_base.specs.declared.cluster.Cluster.{Cluster}
+use Rattle.world_base.specs.declared.estate.Estate.{Estate}
+use Rattle.world_base.specs.declared.event.Event.{Event}
+use Rattle.world_base.specs.declared.world.World.{World}
+use Rattle.world_base.specs.Events.{node_of, what_of}
+use Rattle.world_base.specs.NextWorld.{next_world, sent_at}
+use Rattle.run_laws.proofs.world_law.Places.{Behind, behind}
+use Rattle.run_laws.proofs.world_law.Sent.{in_append, in_list}
+use Rattle.run_laws.proofs.world_law.Turning.{next_keeps}
+use Rattle.run_laws.proofs.world_law.Turns.{one_node}
+use Rattle.run_laws.specs.world_law.Owners.{moment, node_in}
+use Rattle.run_laws.specs.world_logs.Lines.{HasLines, Texts, cluster, setting}
+use Rattle.run_laws.specs.world_logs.Roles.Role.{OfClient, OfCleaner, OfManager}
+use Rattle.run_laws.proofs.world_reads.ManagerMoment.{Coming, brought_by}
+use Rattle.run_laws.proofs.world_reads.ManagerReferences.{all_rise, weaker_then}
+use Rattle.run_laws.proofs.world_reads.Taking.{moment_next}
+use Rattle.run_laws.specs.world_reads.Joint.{IsSureUpto, Joint, There}
+use Rattle.run_laws.specs.world_reads.References.{AllRefer, AnyRefers, EndFlew, Flew, ReferencesStand, its}
+use Rattle.xfs_base.specs.declared.node.NodeId.{NodeId}
+use Rattle.xfs_base.specs.declared.node.NodeId.TheVariants.{Client, Manager, Server, Cleaner, Registry}
+use Rattle.xfs_base.specs.declared.segment.End.{End}
+use Rattle.xfs_base.specs.declared.segment.LogId.{LogId}
+
+-- the laws of the crates below on which it stands; of those `ends` is to be one of log_law
+pub record ReferenceLaws : Type 0 where
+  pub ends : EndsNameGroups
+  pub last : EndsAreLast
+  pub whole : LogsStayWhole
+  pub held : WhatIsHeldFlew
+  pub servers : ServerEventGoes
+
+-- ---- lists
+
+in_set : {X : Type 0} (xs : List X) (place : ℕ) (x y : X) → In y (slice_set xs place x) → In y xs ⊎ (y ≡ x)
+in_set [] place x y is = absurd is
+in_set (z ∷ xs) zero x y (inl is) = inr is
+in_set (z ∷ xs) zero x y (inr later) = inl (inr later)
+in_set (z ∷ xs) (suc place) x y (inl is) = inl (inl is)
+in_set (z ∷ xs) (suc place) x y (inr later) = ⊎_elim (λ h. inl (inr h)) (λ h. inr h) (in_set xs place x y later)
+
+-- packets refer so with whichever clock they are sent
+clocked : (r : References) (clock : ℕ) (packets : List Packet) → AllByRecursion (PacketRefers r) packets → (p : Packet) → In p (map (sent_at clock) packets)
+    → PacketRefers r p
+clocked r clock [] all p is = absurd is
+clocked r clock (q ∷ packets) all p (inl is) = subst (PacketRefers r) (sym is) all.0
+clocked r clock (q ∷ packets) all p (inr later) = clocked r clock packets all.1 p later
+
+-- ---- what owners of logs report
+
+module _ (r : References) (node : NodeId) (end : End) (refers : r.end node end) where
+  body_refers : (from : NodeId) (b : Body) → from ≡ node → ReportsEnd end b → BodyRefers r from b
+  body_refers from (body.Report m) own is = subst (λ x. r.end x m.end) (sym own) (subst (r.end node) (sym is) refers)
+  body_refers from (body.CkptDone m) own is = absurd is
+  body_refers from (body.MapNews m) own is = absurd is
+  body_refers from (body.Welcome m) own is = absurd is
+  body_refers from _ own is = tt
+
+  pub reports_refer : (packets : List Packet) → AllByRecursion (ReportsOf node end) packets → AllByRecursion (PacketRefers r) packets
+  reports_refer [] all = tt
+  reports_refer (p ∷ packets) all = (body_refers p.from p.body all.0.0 all.0.1, reports_refer packets all.1)
+
+-- ---- servers
+
+module _ (r : References) (v : ℕ) where
+  nothing_refers : (b : Body) → SaysNothing b → BodyRefers r (Server v) b
+  nothing_refers (body.Report m) h = absurd h
+  nothing_refers (body.CkptDone m) h = absurd h
+  nothing_refers (body.MapNews m) h = absurd h
+  nothing_refers (body.Welcome m) h = absurd h
+  nothing_refers _ h = tt
+
+  pub server_refers : (outs : List Effect) → All DoesNothing outs → AllByRecursion (PacketRefers r) (packets_of (Server v) outs)
+  server_refers [] all = tt
+  server_refers (Send to b ∷ outs) all =
+      (nothing_refers b (all 0 (Send to b) (omega arith)), server_refers outs (λ i d less. all (suc i) d (omega arith)))
+  server_refers (Answer item answer ∷ outs) all = server_refers outs (λ i d less. all (suc i) d (omega arith))
+  server_refers (Lose seg ∷ outs) all = server_refers outs (λ i d less. all (suc i) d (omega arith))
+  server_refers (Does act ∷ outs) all = server_refers outs (λ i d less. all (suc i) d (omega arith))
+
+module _ (base : Setting) (e : Estate AnyNode) (lines : HasLines base e) (texts : Texts base e lines) (part : ℕ) (first : ℕ → ℕ → Segment) (count : ℕ)
+    (laws : ReferenceLaws) (joint : Joint base e lines texts part first count) (sure : IsSureUpto base e lines texts part first count) where
+  abbrev k : Cluster
+  k = cluster base e
+
+  abbrev r : References
+  r = its base e lines texts part first count
+
+  -- ---- the end of a log that is served
+
+  -- it is none, or flew
+  client_end : (c : ℕ) (there : There base e lines texts part first (OfClient c)) (s : LogState)
+      → SeesLog (setting base e (OfClient c)) c ((lines (OfClient c) there).at count) s → EndFlew base e lines texts part first count c s.end
+  client_end c there s sees = by s.end.seq refl
+    where
+      g : Setting
+      g = setting base e (OfClient c)
+
+      by : (q : ℕ) → s.end.seq ≡ q → EndFlew base e lines texts part first count c s.end
+      by zero is = inl is
+      by (suc q) is =
+          let at = ((lines (OfClient c) there).stands count).moment in
+          let net = ((lines (OfClient c) there).at count).net in
+          let last = laws.last (setting base e (OfClient c)) net refl at (sure (OfClient c) there refl) s sees.owner in
+          let f = (laws.whole (setting base e (OfClient c)) net at).flown (record { log = s.log; seq = s.end.seq; pass = s.end.pass })
+          (last.filed (omega arith)) in
+          let named : f.0.name ≡ record { log = record { 0 = c }; seq = s.end.seq; pass = s.end.pass } =
+          f.2 ∙ ap (λ (l : LogId). record { log = l; seq = s.end.seq; pass = s.end.pass }) sees.own.log in
+          inr (record {
+            of = record { role = OfClient c; there = there; own = refl };
+            segment = f.0;
+            among = f.1;
+            named = sym named;
+            grouped = sym (laws.ends (setting base e (OfClient c)) net at s sees.owner f.0 f.1 named);
+          })
+
+  cleaner_end : (s : LogState) → SeesLog (setting base e OfCleaner) 9 ((lines OfCleaner tt).at count) s → EndFlew base e lines texts part first count 9 s.end
+  cleaner_end s sees = by s.end.seq refl
+    where
+      by : (q : ℕ) → s.end.seq ≡ q → EndFlew base e lines texts part first count 9 s.end
+      by zero is = inl is
+      by (suc q) is =
+          let at = ((lines OfCleaner tt).stands count).moment in
+          let net = ((lines OfCleaner tt).at count).net in
+          let last = laws.last (setting base e OfCleaner) net refl at (sure OfCleaner tt refl) s sees.owner in
+          let f = (laws.whole (setting base e OfCleaner) net at).flown (record { log = s.log; seq = s.end.seq; pass = s.end.pass })
+          (last.filed (omega arith)) in
+          let named : f.0.name ≡ record { log = record { 0 = 9 }; seq = s.end.seq; pass = s.end.pass } =
+          f.2 ∙ ap (λ (l : LogId). record { log = l; seq = s.end.seq; pass = s.end.pass }) sees.own.log in
+          inr (record {
+            of = record { role = OfCleaner; there = tt; own = refl };
+            segment = f.0;
+            among = f.1;
+            named = sym named;
+            grouped = sym (laws.ends (setting base e OfCleaner) net at s sees.owner f.0 f.1 named);
+          })
+
+  -- ---- one node takes its step
+
+  -- what the node, and each packet that it sends, refers to then
+  pub record StepRefers (node : AnyNode) (what : Do) : Type 0 where
+    pub node_refers : AnyRefers r (any_step node what).node
+    pub packets : AllByRecursion (PacketRefers r) (any_step node what).packets
+
+  module _ (c : ℕ) (there : There base e lines texts part first (OfClient c)) (node : ClientNode) (what : Do)
+      (here : node_in (moment e count).nodes (place_of k (Client c)) ≡ Some (any.Client node)) where
+    abbrev g : Setting
+    g = setting base e (OfClient c)
+
+    abbrev w : Scene
+    w = (lines (OfClient c) there).at count
+
+    agrees : client_log.ClientAgrees g c w node.phase
+    agrees = (((lines (OfClient c) there).stands count).seen (Client c) (any.Client node) here refl).agrees
+
+    number : (lasting_of node.phase).number ≡ c
+    number = by node.phase agrees
+      where
+        by : (p : client_phase.Phase) → client_log.ClientAgrees g c w p → (lasting_of p).number ≡ c
+        by (clients.Down l) h = h.0.number
+        by (clients.Opening l o) h = h.0.number
+        by (clients.Serving s) h = h.0.number
+
+    -- an end that whichever Report bears
+    record Reported : Type 0 where
+      end : End
+      is : (s : ServingClient) → node.phase ≡ clients.Serving s → s.log.end ≡ end
+      flew : EndFlew base e lines texts part first count c end
+
+    reported : Reported
+    reported = by node.phase refl
+      where
+        one : (a b : ServingClient) → clients.Serving a ≡ clients.Serving b → a ≡ b
+        one a b h = cc
+
+        none : (p : client_phase.Phase) → node.phase ≡ p → ((s : ServingClient) → p ≡ clients.Serving s → ⊥) → Reported
+        none p is never = record { end = no_end; is = λ s serves. absurd (never s (sym is ∙ serves)); flew = inl refl }
+
+        by : (p : client_phase.Phase) → node.phase ≡ p → Reported
+        by (clients.Down l) is = none (clients.Down l) is (λ s h. absurd cc)
+        by (clients.Opening l o) is = none (clients.Opening l o) is (λ s h. absurd cc)
+        by (clients.Serving s) is = record {
+          end = s.log.end;
+          is = λ t serves. ap (λ (x : ServingClient). x.log.end) (one t s (sym serves ∙ is));
+          flew = client_end c there s.log (subst (client_log.ClientAgrees g c w) is agrees).1;
+        }
+
+    pub client_step_refers : StepRefers (any.Client node) what
+    client_step_refers = record {
+      node_refers = tt;
+      packets = reports_refer r (Client c) reported.end reported.flew (any_step (any.Client node) what).packets
+          (subst (λ n. AllByRecursion (ReportsOf (Client n) reported.end) (any_step (any.Client node) what).packets) number
+          (clients_report reported.end node what reported.is));
+    }
+
+  module _ (node : CleanerNode) (what : Do) (here : node_in (moment e count).nodes (place_of k Cleaner) ≡ Some (any.Cleaner node)) where
+    cleaner_agrees : cleaner_log.CleanerAgrees (setting base e OfCleaner) ((lines OfCleaner tt).at count) node.phase
+    cleaner_agrees = (((lines OfCleaner tt).stands count).seen Cleaner (any.Cleaner node) here).agrees
+
+    record CleanerReported : Type 0 where
+      end : End
+      is : (s : Emptying) → node.phase ≡ cleaning.Serving s → s.log.end ≡ end
+      flew : EndFlew base e lines texts part first count 9 end
+
+    cleaner_reported : CleanerReported
+    cleaner_reported = by node.phase refl
+      where
+        one : (a b : Emptying) → cleaning.Serving a ≡ cleaning.Serving b → a ≡ b
+        one a b h = cc
+
+        none : (p : cleaning_phase.Phase) → node.phase ≡ p → ((s : Emptying) → p ≡ cleaning.Serving s → ⊥) → CleanerReported
+        none p is never = record { end = no_end; is = λ s serves. absurd (never s (sym is ∙ serves)); flew = inl refl }
+
+        by : (p : cleaning_phase.Phase) → node.phase ≡ p → CleanerReported
+        by (cleaning.Down l) is = none (cleaning.Down l) is (λ s h. absurd cc)
+        by (cleaning.Opening l o) is = none (cleaning.Opening l o) is (λ s h. absurd cc)
+        by (cleaning.Serving s) is = record {
+          end = s.log.end;
+          is = λ t serves. ap (λ (x : Emptying). x.log.end) (one t s (sym serves ∙ is));
+          flew = cleaner_end s.log (subst (cleaner_log.CleanerAgrees (setting base e OfCleaner) ((lines OfCleaner tt).at count)) is cleaner_agrees).log;
+        }
+
+    pub cleaner_step_refers : StepRefers (any.Cleaner node) what
+    cleaner_step_refers = record {
+      node_refers = tt;
+      packets = reports_refer r Cleaner cleaner_reported.end cleaner_reported.flew (any_step (any.Cleaner node) what).packets
+          (cleaner_reports cleaner_reported.end node what cleaner_reported.is);
+    }
+
+  module _ (j : ℕ) (there : There base e lines texts part first (OfManager j)) (node : ManagerNode) (what : Do)
+      (here : node_in (moment e count).nodes (place_of k (Manager j)) ≡ Some (any.Manager node)) where
+    abbrev gm : Setting
+    gm = setting base e (OfManager j)
+
+    abbrev wm : Scene
+    wm = (lines (OfManager j) there).at count
+
+    manager_agrees : manager_log.ManagerAgrees gm j wm node.phase
+    manager_agrees = ((lines (OfManager j) there).stands count).seen (Manager j) (any.Manager node) here refl
+
+    one_manager : (a b : ManagerNode) → Some (any.Manager a) ≡ Some (any.Manager b) → a ≡ b
+    one_manager a b is = cc
+
+    placed : places.ManagerAgrees part texts.text joint.idx.net node.phase
+    placed = subst (λ (m : ManagerNode). places.ManagerAgrees part texts.text joint.idx.net m.phase)
+        (one_manager (joint.idx.manager j) node (sym (joint.index_stands.placed.managers j there.0 there.1) ∙ here))
+        (joint.index_stands.managers j there.0 there.1)
+
+    -- the segment in flight flew
+    flies_by : (s : Serving) → manager_log.Stands gm j wm s → places.ServingAgrees part texts.text joint.idx.net s → FlightRefers r s
+    flies_by s sees at = by s.log.flight refl sees.log.own.flight held
+      where
+        held : IfSome s.log.flight (λ (f : FlightState). tables.In f.segment wm.net.flown)
+        held = subst (OwnerFlew wm.net.flown) sees.log.owner (laws.held gm wm.net ((lines (OfManager j) there).stands count).moment)
+
+        same : s.writer.log ≡ gm.log
+        same = sym at.writer.same_log ∙ sees.log.own.log
+
+        by : (o : Option FlightState) → s.log.flight ≡ o → IfSome o (λ f. f.segment.name.log ≡ gm.log)
+            → IfSome o (λ (f : FlightState). tables.In f.segment wm.net.flown)
+            → IfSome o (λ (f : FlightState). Flew base e lines texts part first count (part_at s.writer.log (end_from f.segment)))
+        by None is own flew = tt
+        by (Some f) is own flew = record {
+          of = record { role = OfManager j; there = there; own = same };
+          segment = f.segment;
+          among = flew;
+          named = ap (λ (l : LogId). record { log = l; seq = f.segment.name.seq; pass = f.segment.name.pass }) (same ∙ sym own);
+          grouped = refl;
+        }
+
+    flies : PhaseFlies r node.phase
+    flies = by node.phase manager_agrees placed
+      where
+        by : (p : manager_phase.Phase) → manager_log.ManagerAgrees gm j wm p → places.ManagerAgrees part texts.text joint.idx.net p → PhaseFlies r p
+        by (managers.Down kept) h at = tt
+        by (managers.Waiting kept hello) h at = tt
+        by (managers.Serving s) h at = flies_by s h at.0
+
+    pub manager_step_refers : AnyRefers r (any.Manager node) → DoRefers r what → StepRefers (any.Manager node) what
+    manager_step_refers before told = (let t = managers_keep r node what before flies told in record { node_refers = t.node; packets = t.packets })
+
+  -- ---- whichever node it is
+
+  module _ (place : ℕ) (node : AnyNode) (is : slice_get (moment e count).nodes place ≡ Some node) (what : Do) (before : AnyRefers r node)
+      (told : DoRefers r what)
+    where
+      here : (name : NodeId) → place_of k name ≡ Some place → node_in (moment e count).nodes (place_of k name) ≡ Some node
+      here name at = ap (node_in (moment e count).nodes) at ∙ is
+
+      is_that : (name : NodeId) → place_of k name ≡ Some place → (x : AnyNode) → node_in (moment e count).nodes (place_of k name) ≡ Some x → x ≡ node
+      is_that name at x there = one_node x node (sym there ∙ here name at)
+
+      pub steps_refer : (name : NodeId) → place_of k name ≡ Some place → StepRefers node what
+      steps_refer (Client c) at =
+          let b : Behind 0 k.clients c place = behind 0 k.clients c place at in
+          let there = joint.tokens_stand.placed.clients c b.some (let most = b.within in omega arith) in
+          subst (λ x. StepRefers x what) (is_that (Client c) at (any.Client (joint.tok.client c)) there)
+          (client_step_refers c (b.some, b.within) (joint.tok.client c) what there)
+      steps_refer (Manager j) at =
+          let b : Behind k.clients k.managers j place = behind k.clients k.managers j place at in
+          let there = joint.tokens_stand.placed.managers j b.some b.within in
+          let same = is_that (Manager j) at (any.Manager (joint.tok.manager j)) there in
+          subst (λ x. StepRefers x what) same
+          (manager_step_refers j (b.some, b.within) (joint.tok.manager j) what there (subst (AnyRefers r) (sym same) before) told)
+      steps_refer (Server v) at =
+          let b : Behind (k.clients + k.managers) k.servers v place = behind (k.clients + k.managers) k.servers v place at in
+          let server = joint.tokens_stand.placed.servers v b.some b.within in
+          subst (λ x. StepRefers x what) (is_that (Server v) at (any.Server server.0) server.1) (record {
+            node_refers = tt;
+            packets = server_refers r server.0.number (takes server.0 what).outs (laws.servers server.0 what);
+          })
+      steps_refer Cleaner at =
+          let there = joint.tokens_stand.placed.cleaner in
+          subst (λ x. StepRefers x what) (is_that Cleaner at (any.Cleaner joint.tok.cleaner) there) (cleaner_step_refers joint.tok.cleaner what there)
+      steps_refer Registry at =
+          let there = joint.tokens_stand.placed.registry in
+          let same = is_that Registry at (any.Registry joint.tok.registry) there in
+          subst (λ x. StepRefers x what) same
+          (let t = registry_keeps r joint.tok.registry what (subst (AnyRefers r) (sym same) before) told in
+          record { node_refers = t.node; packets = t.packets })
+
+  -- ---- an event
+
+  told_so : (event : Event) → Coming base e lines texts part first count event → ReferencesStand base e lines texts part first count
+      → DoRefers r (what_of event)
+  told_so event x all = by (what_of event) refl
+    where
+      by : (d : Do) → what_of event ≡ d → DoRefers r d
+      by Begin is = tt
+      by (Deliver q) is = all.each_packet q (brought_by (moment e count) event x.may q is).0
+      by Tick is = tt
+
+  next_refers : (event : Event) → Coming base e lines texts part first count event → ReferencesStand base e lines texts part first count
+      → AllRefer r (next_world any_step (moment e count) event).nodes (next_world any_step (moment e count) event).sent
+  next_refers event x all =
+      next_keeps any_step (λ nodes sent acts. AllRefer r nodes sent) (moment e count) event all
+      (λ place node clock at is.
+      let t = steps_refer place node is (what_of event) (all.each_node node (in_list (moment e count).nodes place node is)) (told_so event x all)
+      (node_of event)
+      (subst (λ c. place_of c (node_of event) ≡ Some place) x.cluster at) in
+      record {
+        each_node = λ y among. ⊎_elim (λ old. all.each_node y old) (λ new. subst (AnyRefers r) (sym new) t.node_refers)
+            (in_set (moment e count).nodes place (any_step node (what_of event)).node y among);
+        each_packet = λ p among. ⊎_elim (λ old. all.each_packet p old)
+            (λ new. clocked r clock (any_step node (what_of event)).packets t.packets p new)
+            (in_append (moment e count).sent (map (sent_at clock) (any_step node (what_of event)).packets) p among);
+      })
+
+  -- What Joint carries goes on.
+  pub references_go_on : (event : Event) → slice_get e.events count ≡ Some event → Coming base e lines texts part first count event
+      → ReferencesStand base e lines texts part first count
+      → ReferencesStand base e lines texts part first (suc count)
+  references_go_on event is x all =
+      all_rise r (its base e lines texts part first (suc count)) (weaker_then base e lines texts part first count) (moment e (suc count)).nodes
+      (moment e (suc count)).sent
+      (subst (λ (w : World AnyNode). AllRefer r w.nodes w.sent) (sym (moment_next e count event is)) (next_refers event x all))
+
+  -- so it does where nothing happens any more
+  pub references_stay : moment e (suc count) ≡ moment e count → ReferencesStand base e lines texts part first count
+      → ReferencesStand base e lines texts part first (suc count)
+  references_stay same all =
+      all_rise r (its base e lines texts part first (suc count)) (weaker_then base e lines texts part first count) (moment e (suc count)).nodes
+      (moment e (suc count)).sent
+      (subst (λ (w : World AnyNode). AllRefer r w.nodes w.sent) (sym same) all)

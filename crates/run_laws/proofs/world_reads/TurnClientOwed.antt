@@ -1,0 +1,175 @@
+-- What an event of a client is owed, of both small worlds of a slot, at a moment that stands to all of them.
+use Rattle.std.proofs.Common.{◌≡◌, ℕ, suc, ◌<◌, Bool, true, Some, if◌then◌else◌, slice_get, refl, sym, ap, subst, ◌∙◌, arith}
+use Rattle.client_node.specs.declared.client.Client.{Client as ClientNode}
+use Rattle.client_node.specs.declared.phase.Phase.TheVariants as clients
+use Rattle.client_node.specs.declared.phase.Phase.{Phase}
+use Rattle.client_node.specs.Phases.{after_opening, happens, on_deliver, on_time, takes}
+use Rattle.client_parts.specs.declared.lasting.Lasting.{Lasting}
+use Rattle.client_serving.specs.declared.serving.Serving.{Serving}
+use Rattle.core_world.specs.AnyNode.{any_start, any_step}
+use Rattle.core_world.specs.declared.any_node.AnyNode.{AnyNode}
+use Rattle.core_world.specs.declared.any_node.AnyNode.TheVariants as any
+use Rattle.run_laws.specs.epoch_law.Polls.{ClientPollsAreLow}
+use Rattle.log_owner.specs.declared.opened.Opened.{Opened}
+use Rattle.log_owner.specs.declared.opened.Progress.{Progress}
+use Rattle.log_owner.specs.declared.opened.Progress.TheVariants as progress
+use Rattle.log_owner.specs.declared.opening.Opening.{Opening}
+use Rattle.log_owner.specs.Opening as opening
+use Rattle.log_tie.specs.Setting.{Setting}
+use Rattle.node_base.specs.Setups.{IsSetup}
+use Rattle.node_ties.specs.node_tie.ClientEvents.{IsTaken}
+use Rattle.run_laws.specs.place_law.Fetches.{RunsReadTheirFetches}
+use Rattle.run_laws.specs.reading_law.Readings.{RunsReadWhatCame}
+use Rattle.run_laws.specs.reopening_law.Openings.{comes_to}
+use Rattle.run_laws.specs.reopening_law.Reopens.{TellsApart}
+use Rattle.segment_format.specs.declared.segment.Segment.{Segment}
+use Rattle.wire_msg.specs.declared.packet.Do.{Do}
+use Rattle.wire_msg.specs.declared.packet.Do.TheVariants.{Begin, Deliver, Tick}
+use Rattle.wire_msg.specs.declared.packet.Packet.{Packet}
+use Rattle.world_base.specs.Cluster.{place_of}
+use Rattle.world_base.specs.declared.cluster.Cluster.{Cluster}
+use Rattle.world_base.specs.declared.estate.Estate.{Estate}
+use Rattle.world_base.specs.declared.event.Event.{Event}
+use Rattle.world_base.specs.Events.{node_of, what_of}
+use Rattle.world_base.specs.Runs.{IsRun, MayHappen}
+use Rattle.run_laws.proofs.world_law.Places.{behind}
+use Rattle.run_laws.proofs.world_law.Sent.{in_list}
+use Rattle.run_laws.specs.world_law.Standing.{epoch_now}
+use Rattle.run_laws.specs.world_law.Owners.{moment, node_in, node_named}
+use Rattle.run_laws.specs.world_logs.Lines.{HasLines, Texts}
+use Rattle.run_laws.specs.world_logs.Roles.Role.{OfClient}
+use Rattle.run_laws.proofs.world_reads.ClientLog.{ClientEvent, ClientLaws}
+use Rattle.run_laws.proofs.world_reads.ClientOwed as owed
+use Rattle.run_laws.proofs.world_reads.ClientTold as told
+use Rattle.run_laws.proofs.world_reads.ClientTold.{TokenLaws}
+use Rattle.run_laws.proofs.world_reads.KnownLogs.{filed_known}
+use Rattle.run_laws.proofs.world_reads.Taking.{Took, took_it}
+use Rattle.run_laws.proofs.world_reads.TurnBoth.{both_of, delivered_to, sent_before}
+use Rattle.run_laws.proofs.world_reads.TurnMoment as now
+use Rattle.run_laws.proofs.world_reads.TurnMoment.{same_client}
+use Rattle.run_laws.proofs.world_reads.TurnOwed.{IndexOwed, TokensOwed}
+use Rattle.run_laws.proofs.world_reads.TurnRun.{moment_cluster}
+use Rattle.run_laws.specs.world_reads.Joint.{IsSureUpto, Joint, There, k}
+use Rattle.xfs_base.specs.declared.node.NodeId.TheVariants.{Client}
+use Rattle.xfs_base.specs.Steps.{still}
+
+-- the laws of the crates below on which it stands
+pub record ClientsBelow : Type 0 where
+  pub log : ClientLaws
+  pub told : TokenLaws
+  pub polls : ClientPollsAreLow
+  pub came : RunsReadWhatCame
+  pub fetches : RunsReadTheirFetches
+
+-- ---- where the opening of its log ends the client serves then
+
+abbrev ServesThen : ClientNode → Do → Type 0
+ServesThen node what = (s : Serving) × ((takes node what).state ≡ clients.Serving s)
+
+by_progress : (l : Lasting) (capacity : ℕ) (p : Progress) (r : Opened) → p ≡ progress.Opened r
+    → (s : Serving) × ((after_opening l capacity p).state ≡ clients.Serving s)
+by_progress l capacity p r is = (_, ap (λ (x : Progress). (after_opening l capacity x).state) is)
+
+module _ (node : ClientNode) (l : Lasting) (o : Opening) (opens : node.phase ≡ clients.Opening l o) (r : Opened) where
+  delivered : (q : Packet) → comes_to o l.questions (Deliver q) ≡ progress.Opened r
+      → (s : Serving) × ((on_deliver node.cache node.phase q).state ≡ clients.Serving s)
+  unfolding on_deliver
+  delivered q is =
+      let x = opening.on_packet o l.questions q in
+      let s = by_progress (record l { questions = x.questions }) node.cache x.progress r is in
+      (s.0, ap (λ (p : Phase). (on_deliver node.cache p q).state) opens ∙ s.1)
+
+  timed : comes_to o l.questions Tick ≡ progress.Opened r → (s : Serving) × ((on_time node.cache node.phase).state ≡ clients.Serving s)
+  unfolding on_time
+  timed is =
+      let x = opening.on_tick o l.questions in
+      let s = by_progress (record l { questions = x.questions }) node.cache x.progress r is in
+      (s.0, ap (λ (p : Phase). (on_time node.cache p).state) opens ∙ s.1)
+
+  by_do : (what : Do) → IsTaken node what → comes_to o l.questions what ≡ progress.Opened r
+      → (s : Serving) × ((happens node what).state ≡ clients.Serving s)
+  by_do Begin taken is = absurd (cc)
+  by_do (Deliver q) taken is =
+      let s = delivered q is in
+      (s.0, ap (λ (t : Bool). (if t then on_deliver node.cache node.phase q else still node.phase).state) (taken.formed q refl) ∙ s.1)
+  by_do Tick taken is = timed is
+
+  pub serves_then : (what : Do) → IsTaken node what → comes_to o l.questions what ≡ progress.Opened r → ServesThen node what
+  serves_then what taken is =
+      let s = by_do what taken is in
+      (s.0, ap (λ (t : Bool). (if t then happens node what else still node.phase).state) taken.room ∙ s.1)
+
+-- ---- beside one run
+
+module _ (below : ClientsBelow) (base : Setting) (e : Estate AnyNode) (lines : HasLines base e) (texts : Texts base e lines) (part : ℕ)
+    (first : ℕ → ℕ → Segment) (of_eight : part < 8) (apart : TellsApart base) (setup : IsSetup e.script.setup)
+    (run : IsRun any_step any_start e.script e.events e.world) (count : ℕ) (joint : Joint base e lines texts part first count)
+    (sure : IsSureUpto base e lines texts part first (suc count)) (event : Event) (at : slice_get e.events count ≡ Some event)
+    (may : MayHappen (moment e count) event) (c : ℕ) (node : ClientNode) (own : node_of event ≡ Client c)
+    (took : Took (moment e count) event (any.Client node)) where
+  abbrev cl : Cluster
+  cl = k base e lines texts part first
+
+  there : There base e lines texts part first (OfClient c)
+  there =
+      let place : place_of cl (Client c) ≡ Some took.place = subst (λ name. place_of cl name ≡ Some took.place) own
+      (subst (λ x. place_of x (node_of event) ≡ Some took.place) (moment_cluster e count) took.at) in
+      let i = behind 0 cl.clients c took.place place in
+      (i.some, i.within)
+
+  abbrev x : ClientEvent base e lines texts part first count c there event node
+  x = record {
+    few = of_eight;
+    apart = apart;
+    is = at;
+    cluster = moment_cluster e count;
+    own = own;
+    took = took;
+    joint = joint;
+    sure = sure;
+  }
+
+  here : node_in (moment e count).nodes (place_of cl (Client c)) ≡ Some (any.Client node)
+  here = subst (λ name. node_in (moment e count).nodes (place_of cl name) ≡ Some (any.Client node)) own
+      (took_it cl (moment e count) (moment_cluster e count) event (any.Client node) took)
+
+  is_node : joint.tok.client c ≡ node
+  is_node = same_client (joint.tok.client c) node
+      (sym (now.client_here base e lines texts part first count (both_of base e lines texts part first count joint) c there) ∙ here)
+
+  named : node_named (moment e count) (Client c) ≡ Some (any.Client node)
+  named = subst (λ cluster. node_in (moment e count).nodes (place_of cluster (Client c)) ≡ Some (any.Client node)) (sym (moment_cluster e count)) here
+
+  -- ---- Polls
+
+  low : owed.PollsAreLow base e lines texts part first count c there below.log event node x
+  low packet m s is bears inside serves late =
+      below.polls true cl part texts.text first (moment e count).nodes (moment e count).sent (moment e count).acts joint.tok joint.idx c s m of_eight
+      (record { tokens = joint.tokens_stand; index = joint.index_stands; same = joint.slots }) there.0
+      (now.member base e lines texts part first count (both_of base e lines texts part first count joint) c there)
+      (ap (λ (a : ClientNode). a.phase) is_node ∙ serves)
+      (record { packet = packet; among = sent_before (moment e count) event may packet is; is = bears; of = inside }) late c there.0
+      (let less = now.below base e lines texts part first count (both_of base e lines texts part first count joint) c there in omega arith)
+
+  -- what the small world of the index is owed
+  pub client_owed : IndexOwed base e lines texts part first count event (both_of base e lines texts part first count joint) (Client c) (any.Client node)
+  client_owed = owed.client_owed base e lines texts part first count c there below.log event node x low
+
+  -- ---- what it reads
+
+  reading : told.Reading base e lines texts part first count c there below.log event node x below.told
+  reading = record {
+    known = filed_known base e lines texts part first count joint;
+    told = joint.entries.holds (any.Client node) (in_list (moment e count).nodes took.place (any.Client node) took.is);
+    came = (below.came e setup run count).nodes (Client c) (any.Client node) named;
+    its = below.fetches e count c node named;
+    brought = λ p is. (sent_before (moment e count) event may p is, delivered_to event p is ∙ own);
+  }
+
+  -- and what that of tokens is
+  pub client_told : (adopted : Bool)
+      → TokensOwed base e lines texts part first count event (both_of base e lines texts part first count joint) adopted (Client c)
+      (any.Client node)
+  client_told adopted taken =
+      told.client_told base e lines texts part first count c there below.log event node x below.told
+      (λ l o r opens ends. serves_then node l o opens r (what_of event) taken ends) reading (epoch_now cl part joint.tok)

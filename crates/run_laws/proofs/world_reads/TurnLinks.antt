@@ -1,0 +1,151 @@
+-- At a moment that stands to both small worlds of a slot the log of an owner that serves is linked from the epoch on that it has promised: above that nobody
+-- is active, so that horizons are the registry's.
+use Rattle.std.proofs.Common.{◌≡◌, ◌==◌, ℕ, zero, suc, ◌+◌, ◌-◌, ◌≤◌, ◌<◌, Bool, true, false, nat_le, List, Option, None, Some, mod-eq_of_lt, refl, sym, ap, subst, ◌∙◌, arith}
+use Rattle.std.proofs.lemmas.Bool.Decides.{nat_tests}
+use Rattle.std.proofs.lemmas.Option.{unwrap_or-slice_get}
+use Rattle.cleaner_emptying.specs.declared.emptying.Emptying.{Emptying}
+use Rattle.cleaner_node.specs.declared.cleaner.Phase as cleaning
+use Rattle.cleaner_node.specs.declared.cleaner.Phase.TheVariants as cleaners
+use Rattle.client_node.specs.declared.phase.Phase.TheVariants as clients
+use Rattle.client_node.specs.declared.phase.Phase.{Phase}
+use Rattle.client_serving.specs.declared.serving.Serving.{Serving}
+use Rattle.core_world.specs.declared.any_node.AnyNode.{AnyNode}
+use Rattle.index_tie.specs.Net as index
+use Rattle.index_tie.specs.Takeovers.{Linked, of_log}
+use Rattle.log_law.specs.Net as log
+use Rattle.log_owner.specs.Promised as owner
+use Rattle.log_tie.specs.Setting.{Setting}
+use Rattle.node_ties.specs.node_index_tie.Sight.{held_in}
+use Rattle.log_ties.specs.node_log_tie.RegistryEvents.{RegistrySeen}
+use Rattle.node_ties.proofs.node_tie.SmallWorld.{with_promise}
+use Rattle.node_ties.specs.node_tie.CleanerEvents.{CleanerStands}
+use Rattle.node_ties.specs.node_tie.ClientEvents.{ClientAgrees}
+use Rattle.segment_format.specs.declared.segment.Segment.{Segment}
+use Rattle.token_client.specs.State.{TokensState, epoch_of, is_in_slot}
+use Rattle.token_manager.specs.SlotState.{SlotState}
+use Rattle.world_base.specs.declared.cluster.Cluster.{Cluster}
+use Rattle.world_base.specs.declared.estate.Estate.{Estate}
+use Rattle.run_laws.specs.world_law.Standing.{epoch_now, members}
+use Rattle.run_laws.specs.world_lines.Lines.{IsLine, IsSure}
+use Rattle.run_laws.specs.world_lines.Polls.{ClientLinked, CleanerLinked, LinkedSince}
+use Rattle.run_laws.specs.world_logs.Lines.{HasLines, Texts, setting}
+use Rattle.run_laws.specs.world_logs.Roles.Role.{OfClient, OfCleaner}
+use Rattle.run_laws.proofs.world_reads.CleanerMoment.{sure_at}
+use Rattle.run_laws.proofs.world_reads.TurnBoth.{Both}
+use Rattle.run_laws.proofs.world_reads.TurnLaws.{StepsBelow}
+use Rattle.run_laws.proofs.world_reads.TurnLogs.{LogsKnown}
+use Rattle.run_laws.proofs.world_reads.TurnMoment as now
+use Rattle.run_laws.specs.world_reads.Joint.{IsSureUpto, There, k}
+use Rattle.xfs_base.specs.declared.block.BlockId.{BlockId}
+
+most_of : (a b : ℕ) → nat_le a b ≡ true → a ≤ b
+most_of a b is = grind (arith, nat_tests, is)
+
+less_of : (a b : ℕ) → nat_le a b ≡ false → b < a
+less_of a b is = grind (arith, nat_tests, is)
+
+difference : (a b : ℕ) → a < b → a + (b - a) ≡ b
+difference a b less = omega arith
+
+module _ (laws : StepsBelow) (base : Setting) (e : Estate AnyNode) (lines : HasLines base e) (texts : Texts base e lines) (part : ℕ)
+    (first : ℕ → ℕ → Segment) (of_eight : part < 8) (count : ℕ) (b : Both base e lines texts part first count) where
+  abbrev cl : Cluster
+  cl = k base e lines texts part first
+
+  abbrev n : index.Net
+  n = b.idx.net
+
+  -- ---- horizons above an epoch above which nobody is active
+
+  module _ (from : ℕ) (bound : (x : ℕ) (z : SlotState) → b.tok.net.slots x ≡ Some z → x ≤ from) where
+    nobody : (x : ℕ) → from < x → n.slots x ≡ None
+    nobody x above = b.slots x (by (b.tok.net.slots x) refl)
+      where
+        by : (o : Option SlotState) → b.tok.net.slots x ≡ o → b.tok.net.slots x ≡ None
+        by None is = is
+        by (Some z) is = let low = bound x z is in absurd (omega arith)
+
+    same_horizon : (x more : ℕ) → from ≤ x → x + more ≤ n.epoch → n.horizon (x + more) ≡ n.horizon x
+    same_horizon x zero above within = ap n.horizon (plus x)
+      where
+        plus : (a : ℕ) → a + 0 ≡ a
+        plus a = omega arith
+    same_horizon x (suc more) above within =
+        ap n.horizon (plus x more)
+        ∙ (laws.horizons part (held_in part texts.text) first n of_eight b.index_stands.runs (x + more) (omega arith) (nobody (suc (x + more)) (omega arith))
+        ∙ same_horizon x more above (omega arith))
+      where
+        plus : (a b : ℕ) → a + suc b ≡ suc (a + b)
+        plus a b = omega arith
+
+    linked_from : (l : ℕ) (g : Setting) (m : log.Net) → 0 < l → l ≤ 9 → IsSure texts.text l g m → IsLine l m n.filed → RegistrySeen g m b.idx.registry.board
+        → LinkedSince l from n.horizon n.filed
+    linked_from l g m pos most sure line seen x above some = by (nat_le n.epoch x) refl
+      where
+        present : LinkedSince l n.epoch n.horizon n.filed
+        present = laws.present part texts.text l g m n b.idx.registry of_eight pos most sure line seen b.index_stands.registry
+
+        by : (t : Bool) → nat_le n.epoch x ≡ t → Linked n.filed l (of_log (n.horizon x) l) (n.filed.head l)
+        by true is = present x (most_of n.epoch x is) some
+        by false is =
+            let end : x + (n.epoch - x) ≡ n.epoch = difference x n.epoch (less_of n.epoch x is) in
+            let same : n.horizon n.epoch ≡ n.horizon x = ap n.horizon (sym end)
+            ∙ same_horizon x (n.epoch - x) above (let upto = end in omega arith) in
+            subst (λ (h : List ℕ). Linked n.filed l (of_log h l) (n.filed.head l)) same
+            (present n.epoch (omega arith) (subst (λ (h : List ℕ). 0 < of_log h l) (sym same) some))
+
+  -- ---- who promised
+
+  abbrev some_block : BlockId
+  some_block = record { ino = record { 0 = part }; blk = 0 }
+
+  of_slot : is_in_slot part some_block ≡ true
+  of_slot = ap (λ n. n == part) (mod-eq_of_lt of_eight) ∙ itself part
+    where
+      itself : (n : ℕ) → (n == n) ≡ true
+      itself n = grind (arith, nat_tests)
+
+  of_client : (c : ℕ) (there : There base e lines texts part first (OfClient c)) (s : Serving) → (b.tok.client c).phase ≡ clients.Serving s → (x : ℕ)
+      (z : SlotState) → b.tok.net.slots x ≡ Some z
+      → x ≤ epoch_of s.tokens.epochs part
+  of_client c there s is x z at =
+      let agreed = subst (ClientAgrees true part c b.tok.net) is (now.client_held base e lines texts part first count b c there) in
+      subst (λ (y : TokensState). x ≤ epoch_of y.epochs part) agreed.tokens
+      (laws.promised true (members cl part) part (with_promise 1 b.tok.net) some_block (record { run = b.tokens_stand.runs; inside = of_slot }) x z at c
+      (record { some = there.0; within = now.member base e lines texts part first count b c there }))
+
+  of_cleaner : (v : Emptying) → b.tok.cleaner.phase ≡ cleaners.Serving v → (x : ℕ) (z : SlotState) → b.tok.net.slots x ≡ Some z
+      → x ≤ owner.epoch_of v.promised part
+  of_cleaner v is x z at =
+      let stands = subst (CleanerStands part b.tok.net.promised (epoch_now cl part b.tok)) is b.tokens_stand.cleaner.1 in
+      let promised = stands.is in
+      let low = (b.tokens_stand.entered x z at).4 in
+      let same = unwrap_or-slice_get v.promised.epochs part 0 in
+      omega arith
+
+  -- ---- owners
+
+  module _ (sure : IsSureUpto base e lines texts part first count)
+      (known : LogsKnown base e lines texts part first count b) where
+    pub clients_linked : (c : ℕ) (there : There base e lines texts part first (OfClient c)) → ClientLinked part n c (b.tok.client c).phase
+    clients_linked c there = by (b.tok.client c).phase refl
+      where
+        by : (p : Phase) → (b.tok.client c).phase ≡ p → ClientLinked part n c p
+        by (clients.Serving s) is =
+            linked_from (epoch_of s.tokens.epochs part) (of_client c there s is) c (setting base e (OfClient c)) ((lines (OfClient c) there).at count).net
+            there.0 (let less = now.below base e lines texts part first count b c there in omega arith)
+            (now.client_sure base e lines texts part first count b c there sure) (known.all (OfClient c) there refl).known.line
+            (now.registry_seen base e lines texts part first count b (OfClient c) there)
+        by (clients.Opening l o) is = tt
+        by (clients.Down l) is = tt
+
+    pub cleaner_linked : CleanerLinked part n b.tok.cleaner.phase
+    cleaner_linked = by b.tok.cleaner.phase refl
+      where
+        by : (p : cleaning.Phase) → b.tok.cleaner.phase ≡ p → CleanerLinked part n p
+        by (cleaners.Serving v) is =
+            linked_from (owner.epoch_of v.promised part) (of_cleaner v is) 9 (setting base e OfCleaner) ((lines OfCleaner tt).at count).net (omega arith)
+            (omega arith) (sure_at base e lines texts part first count sure) (known.all OfCleaner tt refl).known.line
+            (now.registry_seen base e lines texts part first count b OfCleaner tt)
+        by (cleaners.Opening l o) is = tt
+        by (cleaners.Down l) is = tt

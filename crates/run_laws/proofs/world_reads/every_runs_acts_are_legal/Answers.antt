@@ -1,0 +1,21 @@
+use Rattle.run_laws.proofs.world_reads.LegalRuns.{every_moment_stands, every_run_keeps_its_indexes, every_run_without_losses_is_legal, every_runs_acts_are_legal}
+use Rattle.run_laws.proofs.world_reads.every_runs_acts_are_legal.Goals as goal
+use Rattle.run_laws.specs.world_reads.Below.{Below}
+use Rattle.run_laws.specs.world_reads.Legal.{EveryRunsActsAreLegal}
+
+pub returns : goal.returns
+returns c =
+    let below : Below = record {
+      tokens = c.tokens_below.ensures;
+      index = c.index_below.ensures;
+      reads = c.reads_below.ensures;
+      logs = c.logs_below.ensures;
+      lines = c.lines_below.ensures;
+    } in
+    let legal : EveryRunsActsAreLegal = every_runs_acts_are_legal below in
+    record {
+      legal = legal;
+      unlost = every_run_without_losses_is_legal legal c.without_losses_no_restart_is_doubtful.ensures.scripts;
+      indexes = every_run_keeps_its_indexes below;
+      moments = every_moment_stands below;
+    }

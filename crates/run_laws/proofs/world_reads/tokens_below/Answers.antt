@@ -1,0 +1,25 @@
+use Rattle.run_laws.proofs.world_reads.tokens_below.Goals as goal
+
+pub returns : goal.returns
+returns c = record {
+  cleaner_takes = c.other_events_are_seen.ensures.cleaner;
+  starts_asking = c.clients_ask_for_their_call.ensures.start;
+  events_keep_asking = c.clients_ask_for_their_call.ensures.events;
+  client_takes = c.client_events_are_seen.ensures.events;
+  first_manager_agrees = c.manager_events_are_seen.ensures.start;
+  manager_event_goes = c.manager_events_are_seen.ensures.events;
+  registry_starts = c.other_events_are_seen.ensures.start;
+  registry_event_goes = c.other_events_are_seen.ensures.events;
+  servers_say = c.other_events_are_seen.ensures.servers;
+  cleaner_starts = c.other_events_are_seen.ensures.cleaner_start;
+  active_epochs_promised = c.tokens_keep_their_word.ensures.promised;
+  acts_are_legal = c.acts_are_legal.ensures.legal;
+  horizons_stay = c.polls_are_low.ensures.horizons;
+  slots_start_same = c.slots_are_the_same.ensures.start;
+  client_polls_are_low = c.polls_are_low.ensures.clients;
+  tokens_are_given = c.tokens_are_given.ensures.given;
+  cleaner_polls_are_low = c.polls_are_low.ensures.cleaner;
+  slots_stay_same = c.slots_are_the_same.ensures.stay;
+  every_run_has_falls_apart = c.what_fell_is_held_by_nobody.ensures.apart;
+  blocks_make_legal = c.blocks-2.ensures.legal;
+}

@@ -1,0 +1,14 @@
+pub mod world_law
+pub mod filed_law
+pub mod world_logs
+pub mod index_reads
+pub mod reading_law
+pub mod world_lines
+pub mod world_index
+pub mod place_law
+pub mod segment_tie
+pub mod segment_law
+pub mod reopening_law
+pub mod restart_law
+pub mod epoch_law
+pub mod world_reads

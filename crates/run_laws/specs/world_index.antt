@@ -1,0 +1,5 @@
+pub mod Asking
+pub mod Standing
+pub mod Growth
+pub mod Owes
+pub mod Laws

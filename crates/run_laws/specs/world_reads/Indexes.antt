@@ -1,0 +1,22 @@
+-- In every run the index of each slot stays what logs say, up to each moment up to which no restart was doubtful: the index of each manager that manages the
+-- slot, deposed or not, is the join of what it has applied, and the newest row of a block is in no segment that a server was told to delete (the 1996 paper, on
+-- the imap and on cleaning).
+use Rattle.std.specs.Prelude.{◌<◌, ℕ}
+use Rattle.core_world.specs.AnyNode.{any_start, any_step}
+use Rattle.core_world.specs.declared.any_node.AnyNode.{AnyNode}
+use Rattle.log_tie.specs.Setting.{Setting}
+use Rattle.node_base.specs.Setups.{IsSetup}
+use Rattle.run_laws.specs.reopening_law.Reopens.{TellsApart}
+use Rattle.run_laws.specs.restart_law.Restarts.{NoDoubtfulRestart}
+use Rattle.world_base.specs.declared.estate.Estate.{Estate}
+use Rattle.world_base.specs.Runs.{IsRun}
+use Rattle.run_laws.specs.world_index.Laws.{KeepsIndexes}
+use Rattle.run_laws.specs.world_law.Owners.{moment}
+use Rattle.run_laws.specs.world_logs.Lines.{HasLines, Texts}
+
+-- So it is of each slot, for any lines of the run's logs and the one text that each name has there.
+abbrev pub EveryRunKeepsItsIndexes : Type 0
+EveryRunKeepsItsIndexes =
+    (base : Setting) → TellsApart base → (e : Estate AnyNode) → IsSetup e.script.setup → IsRun any_step any_start e.script e.events e.world
+    → (lines : HasLines base e) (texts : Texts base e lines) (count : ℕ) → NoDoubtfulRestart e count
+    → (part : ℕ) → part < 8 → KeepsIndexes (moment e count) part texts.text

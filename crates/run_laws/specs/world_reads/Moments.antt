@@ -1,0 +1,38 @@
+-- How a moment of a run, up to which no restart that ended was doubtful, stands to all small worlds: those of each slot, and those of all logs; what nodes
+-- refer to and name then, and how it came about.
+use Rattle.std.specs.Prelude.{◌<◌, ℕ}
+use Rattle.core_world.specs.AnyNode.{any_start, any_step}
+use Rattle.core_world.specs.declared.any_node.AnyNode.{AnyNode}
+use Rattle.index_tie.specs.Filed.{rows_at}
+use Rattle.log_tie.specs.Setting.{Setting}
+use Rattle.node_base.specs.Setups.{IsSetup}
+use Rattle.run_laws.specs.reopening_law.Reopens.{TellsApart}
+use Rattle.run_laws.specs.restart_law.Restarts.{NoDoubtfulRestart}
+use Rattle.segment_format.specs.declared.segment.Segment.{Segment}
+use Rattle.world_base.specs.declared.estate.Estate.{Estate}
+use Rattle.world_base.specs.Runs.{IsRun}
+use Rattle.run_laws.specs.world_law.Owners.{moment}
+use Rattle.run_laws.specs.world_logs.Lines.{HasLines, Texts}
+use Rattle.run_laws.specs.world_reads.Chains.{Comes}
+use Rattle.run_laws.specs.world_reads.Entries.{PartKnown, PartsNamed}
+use Rattle.run_laws.specs.world_reads.Joint.{Joint}
+use Rattle.run_laws.specs.world_reads.References.{ReferencesStand}
+
+-- what the index begins with under each name is the text of that
+abbrev pub first_of : (base : Setting) (e : Estate AnyNode) (lines : HasLines base e) → Texts base e lines → ℕ → ℕ → Segment
+first_of base e lines texts l q = texts.text (record { log = record { 0 = l }; seq = q; pass = record { inc = 0; att = 0 } })
+
+pub record MomentStands (base : Setting) (e : Estate AnyNode) (lines : HasLines base e) (texts : Texts base e lines) (count : ℕ) : Type 0 where
+  pub joints : (part : ℕ) → part < 8 → Joint base e lines texts part (first_of base e lines texts) count
+  pub references : (part : ℕ) → part < 8 → ReferencesStand base e lines texts part (first_of base e lines texts) count
+  -- what is named as a part of a checkpoint is a segment of a manager's log, which the manager acted to be filed
+  pub named : (part : ℕ) (of_eight : part < 8)
+      → PartsNamed (PartKnown base e lines count (rows_at (joints part of_eight).idx.net.filed)) (moment e count).nodes (moment e count).sent
+  -- and the moment comes of the start
+  pub comes : (part : ℕ) (of_eight : part < 8) → Comes base e lines texts part (first_of base e lines texts) count (joints part of_eight)
+
+-- So each moment does, for any lines of the run's logs and the one text that each name has there.
+abbrev pub EveryMomentStands : Type 0
+EveryMomentStands =
+    (base : Setting) → TellsApart base → (e : Estate AnyNode) → IsSetup e.script.setup → IsRun any_step any_start e.script e.events e.world
+    → (lines : HasLines base e) (texts : Texts base e lines) (count : ℕ) → NoDoubtfulRestart e count → MomentStands base e lines texts count

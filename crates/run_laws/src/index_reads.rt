@@ -1,0 +1,42 @@
+//! What the two small worlds of one slot of the map give each other at a moment of both: that of tokens, which knows who may hold and write a block, and that
+//! of the index, which knows where its versions lie. `specs/Ties.antt` says how they tell of the same logs. It has no code: each function below has an empty
+//! body, and its contract is a law.
+
+ghost use Rattle.run_laws.specs.index_reads.Clients.{FlightsAreNews, NothingIsNews};
+ghost use Rattle.run_laws.specs.index_reads.Managers.{DeltasAreCovered, FoundGather, ManagersAreTold, MissingGather, ReportsGather};
+ghost use Rattle.run_laws.specs.index_reads.Places.{PlacesAreKept};
+ghost use Rattle.run_laws.specs.index_reads.Rows.{DeltasAreSaid, RowsAreEntries};
+
+/// What a segment says of a block to the one small world, a version and its value, it says to the other, a version and where it lies.
+///
+/// - `entries`: of each block both are of one version, and where it lies in the segment there is its value.
+/// - `deltas`: each Delta of the segment is what it says of the Delta's block.
+/// - `places`: where a filed segment says that a version lies at a place, the books have that version there, with the value of the item.
+pub fn rows_are_entries()
+    ensures entries { RowsAreEntries }
+    ensures deltas { DeltasAreSaid }
+    ensures places { PlacesAreKept }
+{}
+
+/// What tokens give the index.
+///
+/// - `news`: what a client has in flight, or had when it fell, is newer than all that is filed of each block of the slot that it names, and at first hand.
+/// - `nothing`: a segment that says nothing of blocks is news of each.
+pub fn flights_are_news()
+    ensures news { FlightsAreNews }
+    ensures nothing { NothingIsNews }
+{}
+
+/// What the index gives tokens.
+///
+/// - `deltas`: Deltas that tell what their log filed cover the index of the slot that they join on to.
+/// - `reports`, `found`, `missing`: what a takeover gathered that a report, or an answer of a server, ends, is what was filed: each log up to its reported end
+///   at least, no further than it is filed, and of each block the newest version of that.
+/// - `events`: so each event of a manager that both small worlds see is owed what the small world of tokens asks of it.
+pub fn managers_are_told()
+    ensures deltas { DeltasAreCovered }
+    ensures reports { ReportsGather }
+    ensures found { FoundGather }
+    ensures missing { MissingGather }
+    ensures events { ManagersAreTold }
+{}

@@ -1,0 +1,80 @@
+//! The laws of every run of the nodes' world about the logs of clients, of the cleaner and of managers: what was told to be filed is whole, and one name has one
+//! text. It has no code of the product: each function below calls the laws that it stands on, and its contract is a law. The proof carries, for each of these
+//! owners, a run of the small world of its log (`log_law`) beside the run of the nodes; `specs/Standing.antt` says how the two stand to each other.
+
+ghost use Rattle.run_laws.specs.world_logs.Horizons.{RunsReachHorizons};
+ghost use Rattle.run_laws.specs.world_logs.Lines.{LinesHaveTexts, RunsHaveLines};
+ghost use Rattle.run_laws.specs.world_logs.Listing.{RunsListTheirLogs};
+ghost use Rattle.run_laws.specs.world_logs.Logs.{RunsKeepLogs, RunsKeepManagersLogs, RunsKeepTheCleanersLog};
+
+use group_map::laws::groups_stay_as_made;
+use log_law::{
+    a_reopening_reads_back, logs_stay_whole, one_name_one_text, openings_go_on, what_is_held_flew,
+};
+use log_tie::settings_exist;
+use log_ties::cleaner_log_tie::cleaner_log_events_are_seen;
+use log_ties::client_log_tie::client_log_events_are_seen;
+use log_ties::manager_log_tie::{
+    manager_log_events_are_seen, servers_list_what_was_stored, what_is_told_is_in_range,
+    what_servers_tell_is_bytes,
+};
+use log_ties::node_log_tie::{
+    cleaner_events_are_seen, registry_events_are_seen, server_events_are_seen,
+};
+use node_ties::node_tie::{
+    client_events_are_seen, clients_ask_for_their_call, manager_events_are_seen,
+    other_events_are_seen,
+};
+use telling_ties::filed_tie::{
+    cleaner_tells_what_is_filed, clients_tell_what_is_filed, managers_tell_what_is_filed,
+    registry_tells_what_is_filed, servers_tell_what_is_filed,
+};
+
+/// Whatever messages are lost, repeated or reordered, and whichever nodes stop and start again, logs are whole at each moment of a run (the 1996 paper, on RAID):
+/// of each segment that the owner of a log told to be filed, and of which no Delete was sent, each member of its group holds its fragment, or its server has lost its disk
+/// since the group was made; and whatever is held, stored or sent under a name of the log is a fragment of one segment, the same for all of that name.
+///
+/// - `horizons`: in every run of a script of whose setup a run can be started, the least horizon that the registry keeps of a client's log, or of the cleaner's,
+///   is 1 at most, or no more than one beyond a segment that this owner itself told to be filed.
+/// - `keeps`: the logs of clients are whole, and one name has one text, in every such run, however clients fall and open their logs again.
+/// - `cleaners`: so is the cleaner's log.
+/// - `managers`: so is the log of each manager, which begins anew wherever the manager restarts.
+/// - `lines`: each of these logs has a line in such a run: its small world at each count of the events, each of which runs on to the next, by its owner alone
+///   at an event of its owner.
+/// - `lists`: what a server lists in such a run is of a log of the run's clients, of its cleaner or of its managers.
+/// - `texts`: lines have one text of each name: that of each segment of the name that was in flight in any log, at any count.
+pub fn runs_keep_logs()
+    ensures horizons { RunsReachHorizons }
+    ensures keeps { RunsKeepLogs }
+    ensures cleaners { RunsKeepTheCleanersLog }
+    ensures managers { RunsKeepManagersLogs }
+    ensures lines { RunsHaveLines }
+    ensures lists { RunsListTheirLogs }
+    ensures texts { LinesHaveTexts }
+{
+    clients_ask_for_their_call();
+    client_events_are_seen();
+    manager_events_are_seen();
+    other_events_are_seen();
+    clients_tell_what_is_filed();
+    cleaner_tells_what_is_filed();
+    servers_tell_what_is_filed();
+    managers_tell_what_is_filed();
+    registry_tells_what_is_filed();
+    client_log_events_are_seen();
+    server_events_are_seen();
+    registry_events_are_seen();
+    cleaner_events_are_seen();
+    cleaner_log_events_are_seen();
+    manager_log_events_are_seen();
+    what_servers_tell_is_bytes();
+    servers_list_what_was_stored();
+    what_is_told_is_in_range();
+    what_is_held_flew();
+    groups_stay_as_made();
+    settings_exist();
+    logs_stay_whole();
+    one_name_one_text();
+    openings_go_on();
+    a_reopening_reads_back();
+}

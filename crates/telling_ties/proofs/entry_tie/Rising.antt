@@ -1,0 +1,19 @@
+-- What is told stays so where more is told; and what filed segments said they say later too.
+use Rattle.std.proofs.Common.{◌≡◌, ◌⊎◌, inl, inr, List}
+use Rattle.delta_index.specs.Entries.{no_entry}
+use Rattle.xfs_base.specs.declared.block.BlockId.{BlockId}
+use Rattle.xfs_base.specs.declared.entry.Entry.{Entry}
+use Rattle.telling_ties.specs.entry_tie.Told.{Told, RowTold, RowsTold, FiledRows, IsFiled, told_by, AreMore}
+use Rattle.telling_ties.proofs.entry_tie.Frames.{all_weaker}
+
+module _ (rows later : FiledRows) (more : AreMore rows later) where
+  by_case : (block : BlockId) (entry : Entry) → IsFiled rows block entry ⊎ (entry ≡ no_entry) → IsFiled later block entry ⊎ (entry ≡ no_entry)
+  by_case block entry (inl is) = inl (more block entry is)
+  by_case block entry (inr nothing) = inr nothing
+
+  pub told_more : (block : BlockId) (entry : Entry) → told_by rows block entry → told_by later block entry
+  told_more block entry is = by_case block entry is
+
+module _ (told later : Told) (more : (block : BlockId) (entry : Entry) → told block entry → later block entry) where
+  pub rows_rise : (rows : List (BlockId × Entry)) → RowsTold told rows → RowsTold later rows
+  rows_rise rows h = all_weaker (RowTold told) (RowTold later) (λ row. more row.0 row.1) rows h

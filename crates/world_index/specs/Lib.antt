@@ -1,4 +1,0 @@
-pub mod Asking
-pub mod Standing
-pub mod Owes
-pub mod Laws

@@ -1,4 +1,0 @@
-pub mod Owners
-pub mod Managers
-pub mod Fallen
-pub mod Owes

@@ -1,9 +1,0 @@
-use Rattle.world_lines.proofs.Turns as turns
-use Rattle.world_lines.proofs.lines_go_on.Goals as goal
-
-pub returns : goal.returns
-returns c = record {
-  begin = turns.lines_begin;
-  stay = turns.lines_stay;
-  go_on = turns.lines_go_on c.logs_stay_whole.ensures.whole c.ends_are_last.ensures.last;
-}

@@ -1,9 +1,0 @@
-use Rattle.world_lines.proofs.Flights as flights
-use Rattle.world_lines.proofs.what_flies_is_its_text.Goals as goal
-
-pub returns : goal.returns
-returns c = record {
-  client = flights.clients_write_texts c.what_is_held_flew.ensures.held;
-  cleaner = flights.cleaner_writes_texts c.what_is_held_flew.ensures.held;
-  manager = flights.managers_write_texts c.what_is_held_flew.ensures.held;
-}
