@@ -1,5 +1,8 @@
 //! Only what is gone is refused as lost, in every run of the nodes: what reopenings, takeovers and reads say is lost was torn. It has no code of the product: its
 //! functions call the laws that they stand on, and their contracts are laws.
+//!
+//! Each module is a law of its own: its definitions stand in `specs/`, its lemmas in `proofs/`, below the module's name, and where a module speaks of
+//! `specs/` or `proofs/` it means what stands there.
 #![tactic(auto)]
 
 pub mod answer_law;
