@@ -2,9 +2,8 @@
 //! call of it does nothing.
 ghost use Rattle.segment_reading.specs.Course.{AnswersLoseNothing, IsLostExactly, OtherAnswersChangeNothing};
 
-/// A segment is lost exactly where, in the last two rounds, more of the same pairs of a server and its
-/// generation were Missing than the parity makes good, and the reader's question after them was answered
-/// alike.
+/// Where the reader's own question is answered alike, the segment is lost exactly where, in the last two rounds,
+/// more of the same pairs of a server and its generation were Missing than the parity makes good.
 pub fn lost_after_two_rounds()
     ensures { IsLostExactly }
 {}
