@@ -12,6 +12,7 @@ use Rattle.xfs_base.specs.declared.segment.SegName.{SegName}
 use Rattle.xfs_base.specs.declared.segment.SegRef.{SegRef}
 use Rattle.node_base.specs.declared.peers.Peers.{Peers}
 use Rattle.node_base.specs.Nodes.{has_node}
+use Rattle.node_base.specs.Room.{has_long_room}
 
 abbrev pub is_log : ℕ → Bool
 is_log log = nat_le 1 log && nat_le log 13
@@ -121,6 +122,11 @@ has_slot (body.Hello hello) = true
 has_slot (body.Welcome welcome) = true
 has_slot (body.MapNews news) = true
 
+-- no version that rows of a log tell is near its end
+abbrev pub has_versions : Body → Bool
+has_versions (body.Deltas deltas) = list_all (λ row. has_long_room row.1.ver) deltas.rows
+has_versions other = true
+
 -- whether a node looks at a packet: its sender is a node, and its numbers are in range
 abbrev pub is_well_formed : Peers → Packet → Bool
-is_well_formed peers packet = has_node peers packet.from && (has_logs packet.body && has_slot packet.body)
+is_well_formed peers packet = has_node peers packet.from && (has_logs packet.body && (has_slot packet.body && has_versions packet.body))

@@ -1,18 +1,21 @@
 //! Packets that no node looks at.
 ghost use Rattle.std.specs.Prelude.{◌≡◌, ◌&&◌};
 ghost use Rattle.std.specs.List.{list_all};
-ghost use Rattle.node_base.specs.Shape.{is_well_formed, has_logs, has_slot, is_log, is_slot, is_name, is_meta, is_place, is_part, is_horizon, is_from_one, is_news, are_from, is_slot_news};
+ghost use Rattle.node_base.specs.Room.{has_long_room};
+ghost use Rattle.node_base.specs.Shape.{is_well_formed, has_logs, has_slot, has_versions, is_log, is_slot, is_name, is_meta, is_place, is_part, is_horizon, is_from_one, is_news, are_from, is_slot_news};
 
-use crate::Peers;
+use crate::{Peers, has_long_room};
 use wire_msg::{Body, CkptDone, Deltas, News, Packet, Usage};
 use xfs_base::{BlockId, Entry, FragMeta, LogId, Place, SegName, SegRef, SlotNews};
 
 /// Whether a packet is one that a node looks at: its sender is a node, its logs are 1 to 13, its slots 0
-/// to 7, those of maps in order, and each horizon has nine numbers from 1 on.
+/// to 7, those of maps in order, each horizon has nine numbers from 1 on, and no version that rows of a log
+/// tell is near its end.
 pub fn is_well_formed(peers: Peers, packet: &Packet) -> bool
     ensures { result ≡ is_well_formed peers packet.now }
 {
-    peers.has(packet.from) && has_logs(&packet.body) && has_slot(&packet.body)
+    let body = &packet.body;
+    peers.has(packet.from) && has_logs(body) && has_slot(body) && has_versions(body)
 }
 
 fn has_logs(body: &Body) -> bool
@@ -54,6 +57,15 @@ fn has_slot(body: &Body) -> bool
         Body::Usage(usage) => is_slot(usage.slot),
         Body::CkptDone(done) => is_slot(done.slot),
         Body::CkptAck(ack) => is_slot(ack.slot),
+        _ => true,
+    }
+}
+
+fn has_versions(body: &Body) -> bool
+    ensures { result ≡ has_versions body.now }
+{
+    match body {
+        Body::Deltas(deltas) => has_room_each(deltas),
         _ => true,
     }
 }
@@ -107,6 +119,13 @@ fn has_rows(deltas: &Deltas) -> bool
     ensures { result ≡ list_all (λ row. is_place row.1.place) deltas.now.rows }
 {
     deltas.rows.as_slice().iter().all(|row| is_row(*row))
+}
+
+fn has_room_each(deltas: &Deltas) -> bool
+    ensures { result ≡ list_all (λ row. has_long_room row.1.ver) deltas.now.rows }
+{
+    let rows = deltas.rows.as_slice();
+    rows.iter().all(|row| has_long_room(row.1.ver))
 }
 
 fn has_metas(metas: &[FragMeta]) -> bool

@@ -11,3 +11,6 @@ mod threads;
 pub use cutting::cut;
 pub use joining::{JoinError, join};
 pub use round::{Answer, Round, RoundState, Told};
+
+#[cfg(test)]
+mod tests;

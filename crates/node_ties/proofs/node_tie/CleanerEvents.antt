@@ -23,7 +23,7 @@ use Rattle.node_base.specs.declared.questions.Questions.{Questions}
 use Rattle.node_base.specs.Maps.{fits}
 use Rattle.node_base.specs.Nodes.{has_node}
 use Rattle.node_base.specs.Room.{has_room}
-use Rattle.node_base.specs.Shape.{are_from, has_logs, has_slot, is_slot_news, is_well_formed}
+use Rattle.node_base.specs.Shape.{are_from, has_logs, is_slot_news, is_well_formed}
 use Rattle.cleaner_emptying.specs.declared.emptying.Emptying.{Emptying}
 use Rattle.cleaner_emptying.specs.EmptyingEvents.{on_clean, on_packet, on_tick}
 use Rattle.cleaner_emptying.specs.Jobs.{Done}
@@ -327,7 +327,7 @@ module _ (part promised most : ℕ) (small : part < 8) (low : promised ≤ most)
   delivered peers p packet stands gets =
       by_test (Goes p) (is_well_formed peers packet) (hears p packet) (still p)
       (λ t. heard p packet stands gets
-      (and_first (has_logs packet.body) (has_slot packet.body) (and_second (has_node peers packet.from) (has_logs packet.body && has_slot packet.body) t)))
+      (and_first (has_logs packet.body) _ (and_second (has_node peers packet.from) _ t)))
       (λ t. goes_still p stands)
 
   ticked : (p : Phase) → CleanerStands part promised most p → Goes p (on_time p)

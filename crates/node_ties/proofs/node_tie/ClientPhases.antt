@@ -21,7 +21,7 @@ use Rattle.node_base.specs.declared.peers.Peers.{Peers}
 use Rattle.node_base.specs.Effects.{acts_of}
 use Rattle.node_base.specs.Nodes.{has_node}
 use Rattle.node_base.specs.Room.{has_room}
-use Rattle.node_base.specs.Shape.{is_well_formed, has_logs, has_slot}
+use Rattle.node_base.specs.Shape.{is_well_formed, has_logs}
 use Rattle.token_client.specs.Held.{is_dirty}
 use Rattle.token_client.specs.State.{TokensState, dirty_in, held_of}
 use Rattle.token_law.specs.Net.{Net, acted}
@@ -230,7 +230,7 @@ module _ (logs : Bool) (members part most c : ℕ) (small : part < 8) (pos : 0 <
   delivers_so peers capacity p packet sees h gets room =
       by_test (λ (w : Went_to). Goes p w) (is_well_formed peers packet) (on_deliver capacity p packet) (still p)
       (λ t. on_deliver_so capacity p packet sees h (gets t)
-      (and_first (has_logs packet.body) (has_slot packet.body) (and_second (has_node peers packet.from) (has_logs packet.body && has_slot packet.body) t))
+      (and_first (has_logs packet.body) _ (and_second (has_node peers packet.from) _ t))
       room)
       (λ t. still_so p sees h)
 

@@ -14,7 +14,7 @@ use Rattle.node_base.specs.declared.effects.Effect.{Effect}
 use Rattle.node_base.specs.declared.effects.Effect.TheVariants.{Answer as Answers}
 use Rattle.node_base.specs.declared.peers.Peers.{Peers}
 use Rattle.node_base.specs.Nodes.{has_node}
-use Rattle.node_base.specs.Shape.{is_well_formed, has_logs, has_slot}
+use Rattle.node_base.specs.Shape.{is_well_formed, has_logs}
 use Rattle.version_model.specs.declared.answer.Answer.{Answer}
 use Rattle.version_model.specs.declared.answer.Answer.TheVariants as answer
 use Rattle.wire_msg.specs.declared.packet.Do.{Do}
@@ -142,7 +142,7 @@ module _ (reach : Reach) where
   unfolding on_deliver
   delivered peers p packet tells h =
       by_test (λ (x : Went_to). Goes x) (is_well_formed peers packet) (hears p packet) (still p)
-      (λ t. heard p packet (and_first (has_logs packet.body) (has_slot packet.body) (and_second (has_node peers packet.from) _ t)) tells h) (λ t. stays p h)
+      (λ t. heard p packet (and_first (has_logs packet.body) _ (and_second (has_node peers packet.from) _ t)) tells h) (λ t. stays p h)
 
   passed : (p : Phase) → PhaseSo p → Goes (on_time p)
   unfolding on_time

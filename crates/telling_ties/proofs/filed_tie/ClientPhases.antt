@@ -24,7 +24,7 @@ use Rattle.node_base.specs.Beginning.{next_item, begun, work_at, waiting, answer
 use Rattle.node_base.specs.declared.effects.Effect.TheVariants.{Answer as Answers}
 use Rattle.node_base.specs.declared.peers.Peers.{Peers}
 use Rattle.node_base.specs.Nodes.{has_node}
-use Rattle.node_base.specs.Shape.{is_well_formed, has_logs, has_slot}
+use Rattle.node_base.specs.Shape.{is_well_formed, has_logs}
 use Rattle.version_model.specs.declared.answer.Answer.{Answer}
 use Rattle.version_model.specs.declared.answer.Answer.TheVariants as answer
 use Rattle.version_model.specs.declared.work.Work.{Work}
@@ -167,7 +167,7 @@ module _ (reach : Reach) (c : ℕ) where
       → Goes (delivers peers capacity p packet)
   delivers_so peers capacity p packet tells h =
       by_test (λ (x : Went_to). Goes x) (is_well_formed peers packet) (on_deliver capacity p packet) (still p)
-      (λ t. on_deliver_so capacity p packet (and_first (has_logs packet.body) (has_slot packet.body) (and_second (has_node peers packet.from) _ t)) tells h)
+      (λ t. on_deliver_so capacity p packet (and_first (has_logs packet.body) _ (and_second (has_node peers packet.from) _ t)) tells h)
       (λ t. still_so p h)
 
   on_time_so : (capacity : ℕ) (p : Phase) → PhaseSo p → Goes (on_time capacity p)
