@@ -1,6 +1,6 @@
 //! Where a node answers an item that a segment is lost, it has said so before, in the same event. It has no code of the product: the function below stands for
-//! the law that its contract states. `specs/Answers.antt` says it of the acts of one event, `specs/Calls.antt` of clients, and `specs/Runs.antt` of the other
-//! nodes and of runs.
+//! the law that its contract states. `specs/answer_law/Answers.antt` says it of the acts of one event, `specs/answer_law/Calls.antt` of clients, and
+//! `specs/answer_law/Runs.antt` of the other nodes and of runs.
 
 ghost use Rattle.earned_losses.specs.answer_law.Calls.{ClientsSay, ClientsStartWell};
 ghost use Rattle.earned_losses.specs.answer_law.Runs.{LostAnswersAreSaid, OthersSayNone, TheCleanerSays};

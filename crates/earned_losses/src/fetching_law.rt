@@ -1,5 +1,5 @@
 //! What a client says is lost while it reads a block for its open call was torn, in every run of the nodes' world. It has no code of the product: the function
-//! below calls the laws that it stands on, and its contract is a law. `specs/Fetchings.antt` says it in words of the nodes.
+//! below calls the laws that it stands on, and its contract is a law. `specs/fetching_law/Fetchings.antt` says it in words of the nodes.
 
 ghost use Rattle.earned_losses.specs.fetching_law.Fetchings.{CallsReadBlocks, FetchesLossesEarned};
 

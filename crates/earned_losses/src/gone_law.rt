@@ -1,6 +1,6 @@
-//! What a client says is lost because a manager answered that it is gone, that manager had said was lost while it took the slot over, in every run of the nodes'
-//! world. It has no code of the product: the function below calls the laws that it stands on, and its contract is a law. `specs/Gones.antt` says it in words of
-//! the nodes.
+//! What a client says is lost because a manager answered that it is gone, that manager had said was lost while it took the slot over, in every run of the
+//! nodes' world. It has no code of the product: the function below calls the laws that it stands on, and its contract is a law. `specs/gone_law/Gones.antt`
+//! says it in words of the nodes.
 
 ghost use Rattle.earned_losses.specs.gone_law.Gones.{ClientsAreToldWhatWasLost, GonesAreOfBroken, ManagersSayGoneWhatTheyLost};
 

@@ -1,5 +1,6 @@
-//! A Grant that a client would still accept leads to what stands, in every run of the nodes' world. It has no code of the product: the function below calls
-//! the laws that it stands on, and its contract is a law. `specs/Keeping.antt` says it in words of the nodes, `specs/Grants.antt` what a manager tells in a Grant.
+//! A Grant that a client would still accept leads to what stands, in every run of the nodes' world. It has no code of the product: the function below calls the
+//! laws that it stands on, and its contract is a law. `specs/keeping_law/Keeping.antt` says it in words of the nodes, `specs/keeping_law/Grants.antt` what a
+//! manager tells in a Grant.
 
 ghost use Rattle.earned_losses.specs.keeping_law.Grants.{ManagersGrantWhatTheyHold};
 ghost use Rattle.earned_losses.specs.keeping_law.Keeping.{GrantsLeadToWhatStands};

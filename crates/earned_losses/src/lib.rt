@@ -1,8 +1,8 @@
-//! Only what is gone is refused as lost, in every run of the nodes: what reopenings, takeovers and reads say is lost was torn. It has no code of the product: its
-//! functions call the laws that they stand on, and their contracts are laws.
+//! Only what is gone is refused as lost, in every run of the nodes: what reopenings say is lost was torn; so was what takeovers say is lost, or it had been
+//! deleted by then; and so was what reads say is lost, while no restart was doubtful. It has no code of the product: its functions call the laws that they
+//! stand on, and their contracts are laws.
 //!
-//! Each module is a law of its own: its definitions stand in `specs/`, its lemmas in `proofs/`, below the module's name, and where a module speaks of
-//! `specs/` or `proofs/` it means what stands there.
+//! Each module is a law of its own: its definitions stand in `specs/`, its lemmas in `proofs/`, below the module's name.
 #![tactic(auto)]
 
 pub mod answer_law;

@@ -1,5 +1,5 @@
 //! What a client says is lost while it reads a block was torn then, in every run of the nodes' world up to the first doubtful restart. It has no code of the
-//! product: the function below calls the laws that it stands on, and its contract is a law. `specs/Reads.antt` says it in words of the nodes.
+//! product: the function below calls the laws that it stands on, and its contract is a law. `specs/lost_law/Reads.antt` says it in words of the nodes.
 
 ghost use Rattle.earned_losses.specs.lost_law.Reads.{ReadsLoseWhatIsTorn};
 

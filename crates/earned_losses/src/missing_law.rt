@@ -1,5 +1,6 @@
 //! What servers tell a reader that they miss, over the counts of a run of the nodes, and what it proves. It has no code of the product: each function below
-//! calls the laws that it stands on, and its contract is a law. `specs/Missed.antt` and `specs/Stored.antt` say them in words of the nodes.
+//! calls the laws that it stands on, and its contract is a law. `specs/missing_law/Missed.antt` and `specs/missing_law/Stored.antt` say them in words of the
+//! nodes.
 
 ghost use Rattle.earned_losses.specs.missing_law.Missed.{AnswersTellOfMisses, WhatIsMissingTwiceWasTorn};
 ghost use Rattle.earned_losses.specs.missing_law.Stored.{WhatIsFiledIsStored};

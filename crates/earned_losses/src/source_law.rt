@@ -1,6 +1,6 @@
 //! What a manager reads while it takes a slot over had been filed and is stored, so what it says is lost had been filed, in every run of the nodes' world. It
-//! has no code of the product: the functions below call the laws that they stand on, and their contracts are laws. `specs/Sources.antt` says them in words of
-//! the nodes.
+//! has no code of the product: the functions below call the laws that they stand on, and their contracts are laws. `specs/source_law/Sources.antt` says them in
+//! words of the nodes.
 
 ghost use Rattle.earned_losses.specs.source_law.Sources.{TakeoversLoseWhatWasFiled, TakeoversReadWhatIsStored, TakeoversReadWhatWasFiled};
 

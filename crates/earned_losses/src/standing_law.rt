@@ -1,5 +1,5 @@
 //! What a client is told is gone had not been deleted, in every run of the nodes' world up to the first doubtful restart. It has no code of the product: the
-//! function below calls the laws that it stands on, and its contract is a law. `specs/Gone.antt` says it in words of the nodes.
+//! function below calls the laws that it stands on, and its contract is a law. `specs/standing_law/Gone.antt` says it in words of the nodes.
 
 ghost use Rattle.earned_losses.specs.standing_law.Gone.{GonesAreOfWhatStands};
 

@@ -1,5 +1,5 @@
 //! What a manager says is lost while it takes a slot over was torn, or was deleted, in every run of the nodes' world. It has no code of the product: the
-//! function below calls the laws that it stands on, and its contract is a law. `specs/Takings.antt` says it in words of the nodes.
+//! function below calls the laws that it stands on, and its contract is a law. `specs/taking_law/Takings.antt` says it in words of the nodes.
 
 ghost use Rattle.earned_losses.specs.taking_law.Takings.{TakeoversLoseWhatIsTorn};
 

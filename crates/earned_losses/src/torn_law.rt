@@ -1,5 +1,5 @@
-//! What a reopening says is lost was torn, in every run of the nodes' world. It has no code of the product: the function below calls the laws that it stands on,
-//! and its contract is a law. `specs/Torn.antt` says it in words of the nodes.
+//! What a reopening says is lost was torn, in every run of the nodes' world. It has no code of the product: the function below calls the laws that it stands
+//! on, and its contract is a law. `specs/torn_law/Torn.antt` says it in words of the nodes.
 
 ghost use Rattle.earned_losses.specs.torn_law.Torn.{ReopeningsLoseWhatIsTorn};
 

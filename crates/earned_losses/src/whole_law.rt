@@ -1,5 +1,5 @@
 //! What a reopening says is lost had been whole, in every run of the nodes' world. It has no code of the product: the function below calls the laws that it
-//! stands on, and its contract is a law. `specs/Whole.antt` says it in words of the nodes.
+//! stands on, and its contract is a law. `specs/whole_law/Whole.antt` says it in words of the nodes.
 
 ghost use Rattle.earned_losses.specs.whole_law.Whole.{ReopeningsLoseWhatWasWhole, WhatReopeningsReadIsWhole};
 

@@ -1,7 +1,7 @@
 //! The law of logs where machines, generations and packets meet: a small world of the shelves of all servers, the owner of one log through its falls and
 //! reopenings, the registry and the cleaner, over a network that loses, repeats and reorders. It has no code: each function below calls the laws that it
-//! stands on, and its contract is a law. A manager's log (10 to 13) isn't reopened: it begins anew at each restart, and of it are claimed that it is whole,
-//! and one text of a name.
+//! stands on, and its contract is a law. A manager's log (10 to 13) isn't reopened: it begins anew at each restart, and of it is claimed that it is whole,
+//! and that one name has one text.
 #![tactic(auto)]
 
 ghost use Rattle.log_law.specs.BeingRead.{WhatIsReadIsWhole};

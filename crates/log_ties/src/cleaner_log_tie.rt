@@ -1,5 +1,6 @@
 //! What the cleaner does in one event, as what the owner of its own log does in the small world of that log (`log_law`), as `client_log_tie` says it of a
-//! client. It has no code: the function below has an empty body, and its contract is a law. `specs/Owner.antt` says how the cleaner is seen there.
+//! client. It has no code: the function below has an empty body, and its contract is a law. `specs/cleaner_log_tie/Owner.antt` says how the cleaner is seen
+//! there.
 
 ghost use Rattle.log_ties.specs.cleaner_log_tie.OwnerEvents.{OwnerStarts, OwnerTakes};
 

@@ -1,5 +1,5 @@
 //! What a client does in one event, as what the owner of its log does in the small world of that log (`log_law`). It has no code: each function below has an
-//! empty body, and its contract is a law. `specs/Owner.antt` says how a client is seen there.
+//! empty body, and its contract is a law. `specs/client_log_tie/Owner.antt` says how a client is seen there.
 
 ghost use Rattle.log_ties.specs.client_log_tie.ClientEvents.{ClientStarts, ClientTakes};
 ghost use Rattle.log_ties.specs.client_log_tie.Texts.{WhatFitsStaysWritten};

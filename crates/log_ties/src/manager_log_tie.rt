@@ -1,5 +1,6 @@
 //! What a manager does in one event, as what the owner of its log does in the small world of that log (`log_law`), as `client_log_tie` says it of a client. It
-//! has no code: each function below calls the laws that it stands on, and its contract is a law. `specs/Owner.antt` says how a manager is seen there.
+//! has no code: each function below calls the laws that it stands on, and its contract is a law. `specs/manager_log_tie/Owner.antt` says how a manager is seen
+//! there.
 
 ghost use Rattle.log_ties.specs.manager_log_tie.Listing.{ServersListWhatWasStored, ServersStartBare};
 ghost use Rattle.log_ties.specs.manager_log_tie.OwnerEvents.{ManagerStarts, ManagerTakes};

@@ -1,5 +1,5 @@
 //! What a node does in one event, as what happens in the small world of one log (`log_law`): the tie of the nodes to it. It has no code: each function below
-//! has an empty body, and its contract is a law. `specs/Sight.antt` says how what nodes send is seen there.
+//! has an empty body, and its contract is a law. `specs/node_log_tie/Sight.antt` says how what nodes send is seen there.
 
 ghost use Rattle.log_ties.specs.node_log_tie.CleanerEvents.{CleanerEventGoes, CleanerStarts};
 ghost use Rattle.log_ties.specs.node_log_tie.CleanerStores.{CleanerStoresItsOwn};

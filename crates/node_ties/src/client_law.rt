@@ -1,9 +1,9 @@
 //! Facts of a client by itself, whatever packets come in whatever order, however time passes, and whichever
 //! items it has. It has no code: each function below has an empty body, and its contract is a law.
 //!
-//! `specs/Events.antt` says what holds after any events. `proofs/Keeping.antt` says what a fact of a client's
-//! tokens, log and cache has to show to be kept; `Arriving`, `Packets`, `Calls` and `Happening` walk through
-//! all events once, and take any such fact along. Each fact has a file of its own: `Asking`, `Fetching`,
+//! `specs/client_law/Events.antt` says what holds after any events. `proofs/client_law/Keeping.antt` says what a fact
+//! of a client's tokens, log and cache has to show to be kept; `Arriving`, `Packets`, `Calls` and `Happening` walk
+//! through all events once, and take any such fact along. Each fact has a file of its own: `Asking`, `Fetching`,
 //! `Caching`, `Unsettled`, `Giving`, `Groups`, and `Unserving` for a client that doesn't serve.
 
 ghost use Rattle.node_ties.specs.client_law.Asking.{AsksForOneBlockAlways};

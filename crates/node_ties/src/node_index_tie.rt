@@ -1,6 +1,6 @@
 //! What a node does in one event, as inputs of the machines that know where blocks lie: the tie of the nodes to the small world
 //! of `index_tie`, for one slot of the map. It has no code: each function below has an empty body, and its contract is a law.
-//! `specs/Sight.antt` says how what nodes send is seen in the small world.
+//! `specs/node_index_tie/Sight.antt` says how what nodes send is seen in the small world.
 //!
 //! Of texts each name has one, which is given from outside: that what is filed, what a takeover reads and what a manager has in flight are
 //! the texts of their names is owed, as is that Deltas, reports, news, checks and checkpoints that come tell what is so, and that no log is

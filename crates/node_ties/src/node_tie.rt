@@ -1,7 +1,7 @@
 //! What a node does in one event, as inputs of its token machines: the tie of the nodes to the small world
 //! of tokens (`token_law`), for one slot of the map. It has no code: each function below has an empty body,
 //! and its contract is a law, for a world whose logs keep their word and for one whose logs may lose what they
-//! held. `specs/Sight.antt` says how what nodes send is seen in the small world.
+//! held. `specs/node_tie/Sight.antt` says how what nodes send is seen in the small world.
 
 ghost use Rattle.node_ties.specs.node_tie.AskingEvents.{StartsAsking, EventsKeepAsking};
 ghost use Rattle.node_ties.specs.node_tie.CleanerEvents.{CleanerStarts, CleanerTakes};

@@ -1,6 +1,7 @@
-//! What the owner of a log, a client or the cleaner, does in one event, as inputs of the machines that know where blocks lie: the tie of
-//! the nodes to the small world of `index_tie`, for one slot of the map. It has no code: each function below has an empty body, and its
-//! contract is a law. `specs/Owners.antt` says how an owner is seen in the small world, `specs/Filing.antt` what it files there.
+//! What the owner of a log, a client or the cleaner, does in one event, as inputs of the machines that know where blocks lie: the tie of the
+//! nodes to the small world of `index_tie`, for one slot of the map. It has no code: each function below has an empty body, and its contract is a
+//! law. `specs/owner_index_tie/Owners.antt` says how an owner is seen in the small world, `specs/owner_index_tie/Filing.antt` what it files
+//! there.
 //!
 //! Of texts each name has one, which is given from outside: that what is in flight is the text of its name, and that what a reopening read
 //! back is what was filed and adopted, is owed.

@@ -1,6 +1,6 @@
 //! What the two small worlds of one slot of the map give each other at a moment of both: that of tokens, which knows who may hold and write a block, and that
-//! of the index, which knows where its versions lie. `specs/Ties.antt` says how they tell of the same logs. It has no code: each function below has an empty
-//! body, and its contract is a law.
+//! of the index, which knows where its versions lie. `specs/index_reads/Ties.antt` says how they tell of the same logs. It has no code: each function below
+//! has an empty body, and its contract is a law.
 
 ghost use Rattle.run_laws.specs.index_reads.Clients.{FlightsAreNews, NothingIsNews};
 ghost use Rattle.run_laws.specs.index_reads.Managers.{DeltasAreCovered, FoundGather, ManagersAreTold, MissingGather, ReportsGather};

@@ -1,5 +1,5 @@
-//! What is read of a place is what the segment there says. It has no code: the functions below call the laws on which theirs rest, and their contracts are laws.
-//! `specs/Reads.antt` says what is known of a log, and that what is read under a name is its text.
+//! What is read of a place is what the segment there says. It has no code: the functions below call the laws on which theirs rest, and their contracts are
+//! laws. `specs/place_law/Reads.antt` says what is known of a log, and that what is read under a name is its text.
 
 ghost use Rattle.run_laws.specs.place_law.Answers.{ManagersAnswer, RunsAnswer};
 ghost use Rattle.run_laws.specs.place_law.Copies.{ChecksAreOfRows, JobsChecksLie, LivesTellCopies};

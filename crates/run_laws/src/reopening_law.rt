@@ -1,6 +1,7 @@
 //! What the end of a restart makes of a log, in the small world of that log: what the small worlds of tokens and of the index are owed of it. It has no code:
-//! each function below calls the laws that it stands on, and its contract is a law. `specs/Reopens.antt` says what the event is there, `specs/Openings.antt` what
-//! it is of a node, and `specs/Flights.antt` and `specs/Falls.antt` what is known of the segment that the owner had in flight when it served last.
+//! each function below calls the laws that it stands on, and its contract is a law. `specs/reopening_law/Reopens.antt` says what the event is there,
+//! `specs/reopening_law/Openings.antt` what it is of a node, and `specs/reopening_law/Flights.antt` and `specs/reopening_law/Falls.antt` what is known of the
+//! segment that the owner had in flight when it served last.
 
 ghost use Rattle.run_laws.specs.reopening_law.Below.{Below};
 ghost use Rattle.run_laws.specs.reopening_law.Falls.{FallsGoOn, FallsStay};

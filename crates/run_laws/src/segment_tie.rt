@@ -1,6 +1,6 @@
 //! What the owners of logs write. A client that serves writes what its calls wrote, at first hand; the cleaner what it moved; a manager the pages of its
 //! checkpoints; and an owner that opens its log again a segment without items. It has no code: each function below has an empty body, and its contract is a
-//! law. `specs/Segments.antt` says what each kind of segment is.
+//! law. `specs/segment_tie/Segments.antt` says what each kind of segment is.
 
 ghost use Rattle.run_laws.specs.segment_tie.Cleaners.{CleanerStartsWriting, CleanerWritesCopies};
 ghost use Rattle.run_laws.specs.segment_tie.Clients.{ClientsStartWriting, ClientsWriteOriginals};

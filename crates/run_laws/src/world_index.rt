@@ -1,9 +1,9 @@
-//! The law of every run of the nodes' world about where blocks lie: the index of each slot is the join of what it has applied, and cleaning
-//! loses nothing. It has no code of the product: its function calls the laws that it stands on, and its contract is a law. The proof
-//! carries, for each slot of the map, a run of the small world of the slot's index (`index_tie`) beside the run of the nodes and that of the
-//! small world of tokens (`world_law`); `specs/Standing.antt` says how the two stand to each other. Each event keeps them so
-//! (`proofs/Turns.antt`), where it is given what `specs/Owes.antt` says that it is owed, which is not shown here; what that file says that
-//! tokens give is shown (`proofs/Tokens.antt`).
+//! The law of every run of the nodes' world about where blocks lie: the index of each slot is the join of what it has applied, and cleaning loses nothing. It
+//! has no code of the product: its function calls the laws that it stands on, and its contract is a law. The proof carries, for each slot of the map, a run of
+//! the small world of the slot's index (`index_tie`) beside the run of the nodes and that of the small world of tokens (`world_law`);
+//! `specs/world_index/Standing.antt` says how the two stand to each other. Each event keeps them so (`proofs/world_index/Turns.antt`), where it is given what
+//! `specs/world_index/Owes.antt` says that it is owed, which is not shown here; what that file says that tokens give is shown
+//! (`proofs/world_index/Tokens.antt`).
 
 ghost use Rattle.run_laws.specs.world_index.Laws.{EveryRunKeepsIndexes};
 

@@ -1,9 +1,9 @@
 //! The laws of every run of the nodes' world: no block has two owners, no slot two managers at one epoch,
 //! nobody holds what a client fell with that isn't back, and falls are apart. It has no code of the product: each function below
 //! calls the laws that it stands on, and its contract is a law. The proof carries, for each slot of the map, a
-//! run of the small world of tokens (`token_law`) beside the run of the nodes; `specs/Standing.antt` says how the
-//! two stand to each other. Each event keeps them so (`proofs/Turns.antt`), also in a world whose logs keep their
-//! word, where these give the event what `specs/Owes.antt` says.
+//! run of the small world of tokens (`token_law`) beside the run of the nodes; `specs/world_law/Standing.antt` says how the
+//! two stand to each other. Each event keeps them so (`proofs/world_law/Turns.antt`), also in a world whose logs keep their
+//! word, where these give the event what `specs/world_law/Owes.antt` says.
 
 ghost use Rattle.run_laws.specs.world_law.Fallen.{EveryRunHasFallsApart, NobodyHoldsWhatFell};
 ghost use Rattle.run_laws.specs.world_law.Managers.{EveryRunHasOneManager};

@@ -1,6 +1,6 @@
 //! What the logs of clients and of the cleaner filed is one line a log, and what their owners write and tell of it is so: what the small world of one slot's
 //! index is owed of logs by themselves. It has no code: each function below calls the laws that it stands on, and its contract is a law.
-//! `specs/Lines.antt` says what a line is, `specs/Turns.antt` what an event makes of it.
+//! `specs/world_lines/Lines.antt` says what a line is, `specs/world_lines/Turns.antt` what an event makes of it.
 
 ghost use Rattle.run_laws.specs.world_lines.Filing.{CleanerFilesItsFlights, CleanersActsFile, ClientsActsFile, ClientsFileTheirFlights, OpeningsFileWhatFlew, RestartsFileWhatFlew, WhatIsFiledFlew};
 ghost use Rattle.run_laws.specs.world_lines.Flights.{CleanerWritesTexts, ClientsWriteTexts, ManagersWriteTexts};

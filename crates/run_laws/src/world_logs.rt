@@ -1,6 +1,7 @@
-//! The laws of every run of the nodes' world about the logs of clients, of the cleaner and of managers: what was told to be filed is whole, and one name has one
-//! text. It has no code of the product: each function below calls the laws that it stands on, and its contract is a law. The proof carries, for each of these
-//! owners, a run of the small world of its log (`log_law`) beside the run of the nodes; `specs/Standing.antt` says how the two stand to each other.
+//! The laws of every run of the nodes' world about the logs of clients, of the cleaner and of managers: what was told to be filed is whole, and one name has
+//! one text. It has no code of the product: each function below calls the laws that it stands on, and its contract is a law. The proof carries, for each of
+//! these owners, a run of the small world of its log (`log_law`) beside the run of the nodes; `specs/world_logs/Standing.antt` says how the two stand to each
+//! other.
 
 ghost use Rattle.run_laws.specs.world_logs.Horizons.{RunsReachHorizons};
 ghost use Rattle.run_laws.specs.world_logs.Lines.{LinesHaveTexts, RunsHaveLines};

@@ -1,7 +1,7 @@
 //! The law of every run of the nodes' world about what its acts say: each read is of the newest version, while no restart was doubtful. It has no code of the
 //! product: its functions call the laws that they stand on, and their contracts are laws. The proof carries, beside one run of the nodes, both small worlds of
-//! each slot of the map, that of tokens and that of the index, and those of all logs: each gives the others what they are owed. `specs/Joint.antt` says how a
-//! moment of the run stands to all of them.
+//! each slot of the map, that of tokens and that of the index, and those of all logs: each gives the others what they are owed. `specs/world_reads/Joint.antt`
+//! says how a moment of the run stands to all of them.
 
 ghost use Rattle.run_laws.specs.world_reads.Below.{IndexBelow, LinesBelow, LogsBelow, ReadsBelow, TokensBelow};
 ghost use Rattle.run_laws.specs.world_reads.Indexes.{EveryRunKeepsItsIndexes};

@@ -125,7 +125,7 @@ asker-held_by bs h =
           ap share is in omega arith)
     ]
 
--- the asker has no more than it wanted_share, or than it had
+-- the asker has no more than it wanted, or than it had
 pub asker : (bs : List (Holder × Bool)) (want : Wanted) → let h =
     holder want.block want.client in
     (share (belief (want_met bs want) h) ≤ wanted_share want.mode) ⊎ (share (belief (want_met bs want) h) ≤ share (belief bs h))

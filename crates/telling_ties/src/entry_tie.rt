@@ -1,8 +1,8 @@
 //! Where blocks lie, as nodes hear and tell it: each entry that a node holds, or that a packet bears, came from a segment that was filed. It has no code: each
-//! function below has an empty body, and its contract is a law. `specs/Told.antt` says what of a packet tells where a block lies.
+//! function below has an empty body, and its contract is a law. `specs/entry_tie/Told.antt` says what of a packet tells where a block lies.
 //!
-//! The laws are stated of the rows that filed segments say; they are proved of any entries that are told, in `proofs/ClientPhases.antt`,
-//! `proofs/Managers.antt`, `proofs/CleanerPhases.antt`, `proofs/Servers.antt` and `proofs/Registries.antt`.
+//! The laws are stated of the rows that filed segments say; they are proved of any entries that are told, in `proofs/entry_tie/ClientPhases.antt`,
+//! `proofs/entry_tie/Managers.antt`, `proofs/entry_tie/CleanerPhases.antt`, `proofs/entry_tie/Servers.antt` and `proofs/entry_tie/Registries.antt`.
 
 ghost use Rattle.telling_ties.specs.entry_tie.CleanerTells.{CleanerHoldsRise, CleanerStartsTold, CleanerTellsTold};
 ghost use Rattle.telling_ties.specs.entry_tie.ClientTells.{ClientHoldsRise, ClientStartsTold, ClientsTellTold};

@@ -1,9 +1,9 @@
 //! What nodes tell of logs was filed: no node holds, nor says, that more of a log is settled than what was acted to be filed. It has no code: each function
-//! below has an empty body, and its contract is a law. `specs/Reach.antt` says what of a packet tells of it.
+//! below has an empty body, and its contract is a law. `specs/filed_tie/Reach.antt` says what of a packet tells of it.
 //!
-//! `specs/Bounds.antt` says where managers and the registry have numbers of logs: they keep to bounds of any kind to which `proofs/Bounding.antt` applies. Two are
-//! stated: that nothing is held and told but what was filed (`specs/ManagerReach.antt`, `specs/RegistryReach.antt`), and that nothing falls below the horizons
-//! with which epochs begin (`specs/Floor.antt`).
+//! `specs/filed_tie/Bounds.antt` says where managers and the registry have numbers of logs: they keep to bounds of any kind to which
+//! `proofs/filed_tie/Bounding.antt` applies. Two are stated: that nothing is held and told but what was filed (`specs/filed_tie/ManagerReach.antt`,
+//! `specs/filed_tie/RegistryReach.antt`), and that nothing falls below the horizons with which epochs begin (`specs/filed_tie/Floor.antt`).
 
 ghost use Rattle.telling_ties.specs.filed_tie.CleanerReach.{CleanerReachRises, CleanerStartsReaching, CleanerTellsFiled};
 ghost use Rattle.telling_ties.specs.filed_tie.ClientReach.{ClientReachRises, ClientStartsReaching, ClientsTellFiled};

@@ -1,7 +1,7 @@
 //! The parts of checkpoints, as nodes name them: each part that a manager or the registry names, and each that a packet does, is a segment that a manager had
 //! in flight in its log and acted to be filed, or one that is given from outside. It has no code: each function below has an empty body, and its contract is a
 //! law.
-//! `specs/Names.antt` says what of a packet names parts.
+//! `specs/part_tie/Names.antt` says what of a packet names parts.
 
 ghost use Rattle.telling_ties.specs.part_tie.ManagerNames.{ManagerNamesRise, ManagersNameKnown, ManagersStartNaming};
 ghost use Rattle.telling_ties.specs.part_tie.RegistryNames.{RegistryNamesKnown, RegistryNamesRise, RegistryStartsNaming};

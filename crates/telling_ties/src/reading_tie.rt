@@ -1,9 +1,9 @@
 //! What a reader of segments holds came, and what it reads is joined of what came: a client's call that reads a block from a log, a manager's takeover, and the
-//! cleaner with a segment in its hand. It has no code: each function below has an empty body, and its contract is a law. `specs/Came.antt` says when the
-//! answers of a reading came, and `specs/Arrivals.antt` what a packet brings.
+//! cleaner with a segment in its hand. It has no code: each function below has an empty body, and its contract is a law. `specs/reading_tie/Came.antt` says
+//! when the answers of a reading came, and `specs/reading_tie/Arrivals.antt` what a packet brings.
 //!
-//! The laws are stated of the packets that were sent to a node; they are proved of whatever came, in `proofs/Clients.antt`, `proofs/Managers.antt` and
-//! `proofs/Cleaners.antt`. The reading of an opening is told of by the law of logs.
+//! The laws are stated of the packets that were sent to a node; they are proved of whatever came, in `proofs/reading_tie/Clients.antt`,
+//! `proofs/reading_tie/Managers.antt` and `proofs/reading_tie/Cleaners.antt`. The reading of an opening is told of by the law of logs.
 
 ghost use Rattle.telling_ties.specs.reading_tie.CleanerMeets.{CleanerEventsMeet, CleanerMeetsRise, CleanerStartsMet};
 ghost use Rattle.telling_ties.specs.reading_tie.CleanerReads.{CleanerEventsKeep, CleanerHoldsRise, CleanerReadsWhatCame, CleanerStarts};

@@ -175,6 +175,6 @@ module _ {N : Type 0} (step : N → Do → NodeStep N) (first : NodeId → Setup
     pub ends : Ends command r s o
     -- what was played is one run of its script
     pub run : IfSome o.estate IsPlayed
-    -- the source is read no further than needed, and no count of faults falls
+    -- at most 1,048,577 bytes are read, and no count of faults falls
     pub bounded : ReadsAtMost r limit
     pub later : (r.faults ≤ r.faults_after) × (s.faults ≤ s.faults_after)

@@ -285,8 +285,8 @@ fn carry_out<N: Member, S: Source, K: Sink>(
     }
 }
 
-/// What the program answers to all words but those that start threads, over nodes of any kind. `README.md`
-/// lists the statuses, and `docs/PROMISES.md` says what the claim promises.
+/// What the program answers to all words but those that start threads, over nodes of any kind.
+/// `docs/LANGUAGE.md` lists the statuses, and `docs/PROMISES.md` says what the claim promises.
 pub fn answer<N: Member, S: Source, K: Sink>(
     alloc: Global,
     words: &[String],

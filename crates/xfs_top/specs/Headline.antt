@@ -1,6 +1,6 @@
--- What is claimed of the run that a call of the program played: the headline, in one record. Its premises are three. The registry does not fail: no line of a
--- script stops it. What speaks of versions and of what reads lose ends with the first restart that is doubtful. Want of memory ends the call, and then there is
--- no run.
+-- What is claimed of the run that a call of the program played: the headline, in one record. Two premises stand before all of it: the registry does not fail,
+-- no line of a script stops it; and want of memory ends the call, and then there is no run. Three parts, of versions (`legal_acts`), of what clients that serve
+-- lose (`reads`) and that what takeovers lose had been filed (`takeovers_filed`), end with the first restart that is doubtful; the others have no such end.
 use Rattle.earned_losses.specs.answer_law.Runs.{LostAnswersEarned}
 use Rattle.core_world.specs.AnyNode.{any_start, any_step}
 use Rattle.core_world.specs.declared.any_node.AnyNode.{AnyNode}
@@ -21,10 +21,12 @@ use Rattle.run_laws.specs.world_reads.Legal.{LegalActs, LegalWithoutLosses}
 pub record LossesEarned (e : Estate AnyNode) : Type 0 where
   -- what a client, or the cleaner, says is lost while it opens its log was torn at a moment since it began to, and whole there but for lost disks
   pub reopenings : ReopeningLossesWereWhole e
-  -- what a manager says is lost while it takes a slot over was torn at a moment from which on it read it there, or had been deleted, and it had been filed
+  -- what a manager says is lost while it takes a slot over was torn at a moment from which on it read it there, or had been deleted by the time it says so
   pub takeovers : TakeoverLossesEarned e
+  -- and it had been filed: up to the first doubtful restart
   pub takeovers_filed : TakeoverLossesFiled e
-  -- what a client that serves says is lost had been filed, and was torn: at a moment from which on its open call read it, or the manager that told it so
+  -- what a client that serves says is lost had been filed, and was torn, at a moment from which on its open call read it, or the manager that told it so did:
+  -- up to the first doubtful restart
   pub reads : ReadLossesEarned e
   -- and no item is answered that a segment is lost but where its node says so, in the same event
   pub answers : LostAnswersEarned e
@@ -44,9 +46,12 @@ pub record Headline (e : Estate AnyNode) : Type 0 where
   pub logs_stand : LogsStand e
   pub cleaners_log_stands : CleanersLogStands e
   pub managers_logs_stand : ManagersLogsStand e
+  -- and the registry keeps no horizon of a client's log, or of the cleaner's, that is more than one beyond what its owner filed
   pub horizons_filed : HorizonsReached e
-  -- each read answers its block's newest version, with its value, and no fall goes below a version that was synced or read elsewhere
+  -- each act Read is of its block's newest version, with its value, and no fall goes below a version that was synced or read elsewhere: up to the first
+  -- doubtful restart
   pub legal_acts : LegalActs e
+  -- and throughout, where no line of the script has a server lose its disk
   pub legal_without_losses : LegalWithoutLosses e
   -- and only what is gone is refused as lost
   pub losses_earned : LossesEarned e

@@ -22,15 +22,15 @@ use std::thread::Threads;
 use top_call::{Outcome, Sink, Source, answer};
 use xfs_base::Gate;
 
-/// The program for all words but those that start threads. `README.md` lists the statuses, and
+/// The program for all words but those that start threads. `docs/LANGUAGE.md` lists the statuses, and
 /// `docs/PROMISES.md` says what is promised.
 ///
 /// - `claim`: what the call answers, of the words, the input and the output.
 /// - `untouched`: words that are no form read nothing.
 /// - `headline`: what is so of the run that was played, whatever messages were lost, repeated or reordered and
-///   whichever nodes stopped (`specs/Headline.antt`): it is one run of the xFS nodes in which no block has two owners,
-///   each read answers its block's newest version, no fall goes below what was synced or read elsewhere, and only what
-///   is gone is refused as lost.
+///   whichever nodes stopped, with the premises named there (`specs/Headline.antt`): it is one run of the xFS nodes in
+///   which no block has two owners, each act Read is of its block's newest version, no fall goes below what was synced
+///   or read elsewhere, and only what is gone is refused as lost.
 pub fn solo<S: Source, K: Sink>(
     alloc: Global,
     words: &[String],

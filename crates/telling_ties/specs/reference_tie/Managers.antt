@@ -83,7 +83,7 @@ pub record RefersThen {N : Type 0} (Refers : References → N → Type 0) (r : R
   pub node : Refers r step.node
   pub packets : AllByRecursion (PacketRefers r) step.packets
 
--- ---- the laws (which `proofs/Managers.antt` has of references of any kind)
+-- ---- the laws (which `proofs/reference_tie/Managers.antt` has of references of any kind)
 
 -- at its start a manager refers to nothing
 abbrev pub ManagersStartReferring : Type 0

@@ -15,7 +15,7 @@ use Rattle.telling_ties.specs.reference_tie.References.{DoRefers, PartsRefer, Re
 abbrev pub RegistryRefers : References → RegistryNode → Type 0
 RegistryRefers r node = (slot : ℕ) → PartsRefer r (parts_at node.board.checkpoints slot)
 
--- ---- the laws (which `proofs/Registries.antt` has of references of any kind)
+-- ---- the laws (which `proofs/reference_tie/Registries.antt` has of references of any kind)
 
 abbrev pub RegistryStartsReferring : Type 0
 RegistryStartsReferring =
