@@ -46,7 +46,7 @@ pub record Headline (e : Estate AnyNode) : Type 0 where
   pub logs_stand : LogsStand e
   pub cleaners_log_stands : CleanersLogStands e
   pub managers_logs_stand : ManagersLogsStand e
-  -- and the registry keeps no horizon of a client's log, or of the cleaner's, that is more than one beyond what its owner filed
+  -- and the least horizon that the registry keeps of a client's log, or of the cleaner's, is 1 at most, or at most one beyond a segment that its owner filed
   pub horizons_filed : HorizonsReached e
   -- each act Read is of its block's newest version, with its value, and no fall goes below a version that was synced or read elsewhere: up to the first
   -- doubtful restart
