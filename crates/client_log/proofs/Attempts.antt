@@ -1,6 +1,8 @@
 -- What a flight is to the state before.
-use Rattle.std.proofs.Common.{◌≡◌, ℕ, true, false, cond, inl, inr, List, Some, None, refl, sym, ap, take, drop}
-use Rattle.std.specs.Prelude.{IfSome, ◌&&◌, nat_lt, length}
+use Rattle.std.proofs.Common.{◌≡◌, ℕ, Bool, true, false, cond, ◌⊎◌, inl, inr, List, Option, Some, None, refl, sym, ap, subst, take, drop}
+use Rattle.std.specs.Prelude.{IfSome, ◌&&◌, is_none, nat_lt, nat_le, length}
+use Rattle.std.proofs.lemmas.Bool.{true≢false, and_parts}
+use Rattle.xfs_base.specs.declared.segment.End.{End}
 use Rattle.xfs_base.specs.declared.segment.SegName.{SegName}
 use Rattle.xfs_base.specs.Limits.{segment_blocks}
 use Rattle.xfs_base.specs.Steps.{still}
@@ -17,51 +19,71 @@ use Rattle.log_flight.specs.Texts.{has_text}
 use Rattle.client_log.specs.declared.input.In.{In}
 use Rattle.client_log.specs.declared.input.In.TheVariants.{Put, Parts, Seal, Acked, Maps, Tick}
 use Rattle.client_log.specs.LogState.{LogState}
-use Rattle.client_log.specs.Transition.{Done, all_sends, launched, writes, has_next, is_idle, is_full, can_go_on, sealed, if_full, waits, on_put, on_seal, on_parts, next_attempt, restriped, landed, settled, can_follow, followed, looked_at, on_acked, on_maps, on_tick, transition}
-use Rattle.client_log.specs.History.{Follows}
+use Rattle.client_log.specs.Transition.{Done, all_sends, launched, writes, has_next, is_idle, is_full, can_go_on, sealed, if_full, waits, on_put, on_seal, on_parts, next_attempt, restriped, end_from, landed, settled, can_follow, followed, looked_at, on_acked, on_maps, on_tick, transition}
+use Rattle.client_log.specs.History.{noted_by, Follows}
 
-module _ (s : LogState) where
+-- what flew, if anything did, is this end
+abbrev Landed : LogState → End → Type 0
+Landed s end = IfSome s.flight (λ f. end ≡ end_from f.segment)
+
+none_flew : (o : Option FlightState) (end : End) → is_none o ≡ true → IfSome o (λ f. end ≡ end_from f.segment)
+none_flew None end e = tt
+none_flew (Some f) end e = absurd (true≢false (sym e))
+
+module _ (s : LogState) (input : In) where
   abbrev Flies : Done → Type 0
-  Flies d = IfSome d.state.flight (Follows s d.state)
+  Flies d = IfSome d.state.flight (Follows s input d.state)
 
   -- the flight is still there
-  same : (t : LogState) → t.flight ≡ s.flight → IfSome t.flight (Follows s t)
-  same t e = elim t.flight as (λ o. o ≡ s.flight → IfSome o (Follows s t)) [
+  same : (t : LogState) → t.flight ≡ s.flight → IfSome t.flight (Follows s input t)
+  same t e = elim t.flight as (λ o. o ≡ s.flight → IfSome o (Follows s input t)) [
     | None ↦ λ h. tt
-    | Some g ↦ λ h. inl (record { flight = g; was = sym h; segment = refl; group = refl })
+    | Some g ↦ λ h. inl (record { flight = g; was = sym h; segment = refl; group = refl; noted = inl refl })
   ] e
 
-  begun_writes : (t : LogState) (items : List Item) → Flies (writes t items)
+  begun_writes : (t : LogState) (items : List Item) → Landed s t.end → Flies (writes t items)
   unfolding launched
-  begun_writes t items = inr (inr (record { seq = refl; att = refl; prior = refl }))
+  begun_writes t items l = inr (inr (record { seq = refl; att = refl; prior = refl; noted = refl; landed = l }))
 
-  begun_sealed : (t : LogState) → Flies (sealed t)
+  begun_sealed : (t : LogState) → Landed s t.end → Flies (sealed t)
   unfolding sealed
-  begun_sealed t = begun_writes (record t { dirty = drop segment_blocks t.dirty }) (items_of 0 (take segment_blocks t.dirty))
+  begun_sealed t l = begun_writes (record t { dirty = drop segment_blocks t.dirty }) (items_of 0 (take segment_blocks t.dirty)) l
 
-  flies_if_full : (t : LogState) → IfSome t.flight (Follows s t) → Flies (if_full t)
+  flies_if_full : (t : LogState) → IfSome t.flight (Follows s input t) → (is_full t ≡ true → Landed s t.end) → Flies (if_full t)
   unfolding if_full
-  flies_if_full t k = elim (is_full t) as (λ b. Flies (cond b (sealed t) (still t))) [ true ↦ begun_sealed t | false ↦ k ]
+  flies_if_full t k l =
+      elim (is_full t) as (λ b. is_full t ≡ b → Flies (cond b (sealed t) (still t))) [ true ↦ λ e. begun_sealed t (l e) | false ↦ λ e. k ] refl
 
   flies_put : (block : _) (change : Change) → Flies (on_put s block change)
   unfolding on_put
   flies_put block change =
       let t : LogState = waits s block change in
-      elim (can_go_on t) as (λ b. Flies (cond b (if_full t) (still s))) [ true ↦ flies_if_full t (same t refl) | false ↦ same s refl ]
+      let idle : is_full t ≡ true → Landed s s.end = λ e. none_flew s.flight s.end (and_parts (is_idle s) (nat_le segment_blocks (length t.dirty)) e).0 in
+      elim (can_go_on t) as (λ b. Flies (cond b (if_full t) (still s))) [ true ↦ flies_if_full t (same t refl) idle | false ↦ same s refl ]
 
   flies_seal : Flies (on_seal s)
   unfolding on_seal
-  flies_seal = elim (is_idle s && nat_lt 0 (length s.dirty) && has_next s.end.seq) as (λ b. Flies (cond b (sealed s) (still s)))
-      [ true ↦ begun_sealed s | false ↦ same s refl ]
+  flies_seal =
+      let may : Bool = is_idle s && nat_lt 0 (length s.dirty) in
+      elim (may && has_next s.end.seq) as (λ b. (may && has_next s.end.seq) ≡ b → Flies (cond b (sealed s) (still s))) [
+        | true ↦ λ e. begun_sealed s
+            (none_flew s.flight s.end (and_parts (is_idle s) (nat_lt 0 (length s.dirty)) (and_parts may (has_next s.end.seq) e).0).0)
+        | false ↦ λ e. same s refl
+      ] refl
 
   flies_parts : (items : List Item) → Flies (on_parts s items)
   unfolding on_parts
   flies_parts items =
-      elim (is_idle s && has_next s.end.seq && has_text items) as (λ b. Flies (cond b (writes s items) (still s)))
-      [ true ↦ begun_writes s items | false ↦ same s refl ]
+      let may : Bool = is_idle s && has_next s.end.seq in
+      elim (may && has_text items) as (λ b. (may && has_text items) ≡ b → Flies (cond b (writes s items) (still s))) [
+        | true ↦ λ e. begun_writes s items
+            (none_flew s.flight s.end (and_parts (is_idle s) (has_next s.end.seq) (and_parts may (has_text items) e).0).0)
+        | false ↦ λ e. same s refl
+      ] refl
 
-  -- f was in flight; g is it, perhaps with more noted
-  module _ (t : LogState) (f g : FlightState) (was : s.flight ≡ Some f) (segment : g.segment ≡ f.segment) (group : g.group ≡ f.group) where
+  -- f was in flight; g is it, perhaps with what the input notes
+  module _ (t : LogState) (f g : FlightState) (was : s.flight ≡ Some f) (segment : g.segment ≡ f.segment) (group : g.group ≡ f.group)
+      (noted : (g.noted ≡ f.noted) ⊎ (g.noted ≡ (noted_by f input).noted)) where
     flies_followed : (fate : Fate) → Flies (followed t g fate)
     unfolding restriped launched settled
     flies_followed Restripe = inr (inl (record {
@@ -70,9 +92,11 @@ module _ (s : LogState) where
       name = ap (λ (x : Segment). next_attempt x.name) segment;
       items = ap (λ (x : Segment). x.items) segment;
       prior = ap (λ (x : Segment). x.prior) segment;
+      noted = refl;
     }))
-    flies_followed Settle = flies_if_full (landed t g) tt
-    flies_followed Wait = inl (record { flight = f; was = was; segment = segment; group = group })
+    flies_followed Settle =
+        flies_if_full (landed t g) tt (λ full. subst (λ o. IfSome o (λ x. end_from g.segment ≡ end_from x.segment)) (sym was) (ap end_from segment))
+    flies_followed Wait = inl (record { flight = f; was = was; segment = segment; group = group; noted = noted })
 
     flies_looked : Flies (looked_at s t g)
     unfolding looked_at
@@ -82,25 +106,13 @@ module _ (s : LogState) where
           | false ↦ same s refl
         ]
 
-  flies_acked : (name : SegName) (index generation : ℕ) → Flies (on_acked s name index generation)
-  unfolding on_acked
-  flies_acked name index generation =
-      elim s.flight as
-      (λ o. s.flight ≡ o → Flies (elim o [ None ↦ still s | Some f ↦ cond (is_of f name index generation) (looked_at s s (noting f index)) (still s) ])) [
-        | None ↦ λ e. same s refl
-        | Some f ↦ λ e. elim (is_of f name index generation) as (λ b. Flies (cond b (looked_at s s (noting f index)) (still s))) [
-          | true ↦ flies_looked s f (noting f index) e refl refl
-          | false ↦ same s refl
-        ]
-      ] refl
-
   flies_maps : (groups : GroupMapState) → Flies (on_maps s groups)
   unfolding on_maps
   flies_maps groups =
       let t : LogState = record s { groups = groups } in
       elim s.flight as (λ o. s.flight ≡ o → Flies (elim o [ None ↦ still t | Some f ↦ looked_at s t f ])) [
         | None ↦ λ e. same t refl
-        | Some f ↦ λ e. flies_looked t f f e refl refl
+        | Some f ↦ λ e. flies_looked t f f e refl refl (inl refl)
       ] refl
 
   flies_tick : Flies (on_tick s)
@@ -108,10 +120,29 @@ module _ (s : LogState) where
   flies_tick = elim s.flight as (λ o. Flies (elim o [ None ↦ still s | Some f ↦ record { state = s; outs = all_sends f } ]))
       [ None ↦ same s refl | Some f ↦ same s refl ]
 
-pub flies : (s : LogState) (input : In) → IfSome (transition s input).state.flight (Follows s (transition s input).state)
-flies s (Put block entry value) = flies_put s block (record { entry = entry; value = value })
-flies s (Parts items) = flies_parts s items
-flies s Seal = flies_seal s
+abbrev FliesOn : LogState → In → Done → Type 0
+FliesOn s input d = Flies s input d
+
+flies_acked : (s : LogState) (name : SegName) (index generation : ℕ) → FliesOn s (Acked name index generation) (on_acked s name index generation)
+unfolding on_acked
+flies_acked s name index generation =
+    let input : In = Acked name index generation in
+    elim s.flight as
+    (λ o. s.flight ≡ o
+    → FliesOn s input (elim o [ None ↦ still s | Some f ↦ cond (is_of f name index generation) (looked_at s s (noting f index)) (still s) ])) [
+      | None ↦ λ e. same s input s refl
+      | Some f ↦ λ e. elim (is_of f name index generation) as
+          (λ b. is_of f name index generation ≡ b → FliesOn s input (cond b (looked_at s s (noting f index)) (still s))) [
+            | true ↦ λ is. flies_looked s input s f (noting f index) e refl refl
+                (inr (ap (λ b. (cond b (noting f index) f).noted) (sym is)))
+            | false ↦ λ is. same s input s refl
+          ] refl
+    ] refl
+
+pub flies : (s : LogState) (input : In) → IfSome (transition s input).state.flight (Follows s input (transition s input).state)
+flies s (Put block entry value) = flies_put s (Put block entry value) block (record { entry = entry; value = value })
+flies s (Parts items) = flies_parts s (Parts items) items
+flies s Seal = flies_seal s Seal
 flies s (Acked name index generation) = flies_acked s name index generation
-flies s (Maps groups) = flies_maps s groups
-flies s Tick = flies_tick s
+flies s (Maps groups) = flies_maps s (Maps groups) groups
+flies s Tick = flies_tick s Tick

@@ -1,4 +1,5 @@
 pub mod Attempts
+pub mod Keeping
 pub mod LastPuts
 pub mod Lines
 pub mod Looks

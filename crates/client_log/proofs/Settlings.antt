@@ -1,5 +1,5 @@
 -- What is told as settled is due.
-use Rattle.std.proofs.Common.{◌≡◌, ℕ, ◌+◌, true, false, cond, List, [], ◌∷◌, ◌++◌, Some, None, refl, take, drop}
+use Rattle.std.proofs.Common.{◌≡◌, ℕ, ◌+◌, true, false, cond, List, [], ◌∷◌, ◌++◌, Some, None, refl, ap, ◌∙◌, take, drop}
 use Rattle.std.specs.Prelude.{◌&&◌, nat_lt, length}
 use Rattle.std.specs.List.{AllByRecursion}
 use Rattle.xfs_base.specs.declared.segment.Prior.{Prior}
@@ -104,11 +104,16 @@ tell_acked s name index generation =
     (elim o [ None ↦ still s | Some f ↦ cond (is_of f name index generation) (looked_at s s (noting f index)) (still s) ])) [
       | None ↦ λ e. tt
       | Some f ↦ λ e. elim (is_of f name index generation) as
-          (λ b. Tell s (Acked name index generation) (cond b (looked_at s s (noting f index)) (still s)).outs) [
-            | true ↦ tell_looked s (Acked name index generation) s s (noting f index)
-                (λ due. record { flight = f; was = e; is_end = refl; are_rows = refl; due = due })
-            | false ↦ tt
-          ]
+          (λ b. is_of f name index generation ≡ b → Tell s (Acked name index generation) (cond b (looked_at s s (noting f index)) (still s)).outs) [
+            | true ↦ λ is. tell_looked s (Acked name index generation) s s (noting f index) (λ due. record {
+              flight = f;
+              was = e;
+              is_end = refl;
+              are_rows = refl;
+              due = ap (λ b. fate_of s.groups (cond b (noting f index) f)) is ∙ due;
+            })
+            | false ↦ λ is. tt
+          ] refl
     ] refl
 
 tell_maps : (s : LogState) (groups : GroupMapState) → Tell s (Maps groups) (on_maps s groups).outs

@@ -1,5 +1,5 @@
 -- What a log took, newest first, and what is claimed of it whatever it took.
-use Rattle.std.specs.Prelude.{◌≡◌, ◌+◌, ◌⊎◌, IfSome, List, [], ◌∷◌, Option, Some, None, if◌then◌else◌}
+use Rattle.std.specs.Prelude.{◌≡◌, ◌+◌, ◌⊎◌, IfSome, List, [], ◌∷◌, ◌++◌, Contains, Option, Some, None, if◌then◌else◌}
 use Rattle.std.specs.List.{AllByRecursion}
 use Rattle.xfs_base.specs.declared.block.BlockId.{BlockId}
 use Rattle.xfs_base.specs.declared.entry.Entry.{Entry}
@@ -10,7 +10,7 @@ use Rattle.group_map.specs.GroupMapState.{GroupMapState}
 use Rattle.log_flight.specs.declared.dirty.Change.{Change}
 use Rattle.log_flight.specs.declared.flight.Fate.TheVariants.{Settle}
 use Rattle.log_flight.specs.Fate.{fate_of}
-use Rattle.log_flight.specs.Flights.{FlightState, noting}
+use Rattle.log_flight.specs.Flights.{FlightState, is_of, none_noted, noting}
 use Rattle.log_flight.specs.Items.{items_of}
 use Rattle.client_log.specs.declared.input.In.{In}
 use Rattle.client_log.specs.declared.input.In.TheVariants.{Put, Parts, Seal, Acked, Maps, Tick}
@@ -49,7 +49,7 @@ EndRisesByOne s d = ((settled_ends d.outs ≡ []) × (d.state.end ≡ s.end)) �
 
 -- ---- what is settled
 
--- the groups that an input leaves, and what it notes of a flight
+-- the groups that an input leaves
 abbrev pub groups_with : GroupMapState → In → GroupMapState
 groups_with groups (Put block entry value) = groups
 groups_with groups (Parts items) = groups
@@ -58,11 +58,12 @@ groups_with groups (Acked name index generation) = groups
 groups_with groups (Maps new) = new
 groups_with groups Tick = groups
 
+-- a flight with what an input notes of it: of an answer that is of it, by name, place and generation, the place
 abbrev pub noted_by : FlightState → In → FlightState
 noted_by f (Put block entry value) = f
 noted_by f (Parts items) = f
 noted_by f Seal = f
-noted_by f (Acked name index generation) = noting f index
+noted_by f (Acked name index generation) = if is_of f name index generation then noting f index else f
 noted_by f (Maps new) = f
 noted_by f Tick = f
 
@@ -81,30 +82,34 @@ TellsWhatIsDue s input (Settled end rows) = IsDue s input end rows
 
 -- ---- attempts
 
--- the same segment, perhaps with more noted
-pub record IsSameFlight (s : LogState) (g : FlightState) : Type 0 where
+-- the same segment, of which is noted what was, or that and what the input notes
+pub record IsSameFlight (s : LogState) (input : In) (g : FlightState) : Type 0 where
   pub flight : FlightState
   pub was : s.flight ≡ Some flight
   pub segment : g.segment ≡ flight.segment
   pub group : g.group ≡ flight.group
+  pub noted : (g.noted ≡ flight.noted) ⊎ (g.noted ≡ (noted_by flight input).noted)
 
--- the same content by the next attempt, whose number is one higher
+-- the same content by the next attempt, whose number is one higher, and of which nothing is noted
 pub record IsNextAttempt (s : LogState) (g : FlightState) : Type 0 where
   pub flight : FlightState
   pub was : s.flight ≡ Some flight
   pub name : g.segment.name ≡ next_attempt flight.segment.name
   pub items : g.segment.items ≡ flight.segment.items
   pub prior : g.segment.prior ≡ flight.segment.prior
+  pub noted : g.noted ≡ none_noted
 
--- a new segment, by its first attempt, behind the end
-pub record IsBegun (after : LogState) (g : FlightState) : Type 0 where
+-- a new segment, by its first attempt, behind the end, of which nothing is noted; what flew before, if anything did, is that end
+pub record IsBegun (s after : LogState) (g : FlightState) : Type 0 where
   pub seq : g.segment.name.seq ≡ after.end.seq + 1
   pub att : g.segment.name.pass.att ≡ 1
   pub prior : g.segment.prior ≡ prior_from after.end
+  pub noted : g.noted ≡ none_noted
+  pub landed : IfSome s.flight (λ f. after.end ≡ end_from f.segment)
 
 -- what a flight is to the state before: it goes on, is the next attempt of what flew, or has begun
-abbrev pub Follows : LogState → LogState → FlightState → Type 0
-Follows s after g = IsSameFlight s g ⊎ (IsNextAttempt s g ⊎ IsBegun after g)
+abbrev pub Follows : LogState → In → LogState → FlightState → Type 0
+Follows s input after g = IsSameFlight s input g ⊎ (IsNextAttempt s g ⊎ IsBegun s after g)
 
 -- ---- what is written
 
@@ -150,3 +155,41 @@ pub record WereFlying (s : LogState) (items : List Item) : Type 0 where
 abbrev pub HoldsLastPuts : LogState → List In → In → List Item → Type 0
 HoldsLastPuts start history input items =
     WereFlying (state_after start history) items ⊎ (IsGiven input items ⊎ AreOfLastPuts start (input ∷ history) items)
+
+-- ---- nothing is lost
+
+-- what waits once an input is heard: what waited, and of a Put that has an effect its version, at the place of its block
+abbrev pub waiting_with : LogState → In → List (BlockId × Change)
+waiting_with s (Put block entry value) =
+    let with : LogState = waits s block (record { entry = entry; value = value }) in
+    if can_go_on with then with.dirty else s.dirty
+waiting_with s (Parts items) = s.dirty
+waiting_with s Seal = s.dirty
+waiting_with s (Acked name index generation) = s.dirty
+waiting_with s (Maps groups) = s.dirty
+waiting_with s Tick = s.dirty
+
+-- these changes are what a log has in flight
+pub record AreInFlight (s : LogState) (changes : List (BlockId × Change)) : Type 0 where
+  pub flight : FlightState
+  pub is : s.flight ≡ Some flight
+  pub written : flight.segment.items ≡ items_of 0 changes
+
+-- the first of these changes are in flight, and the rest wait
+pub record AreSealed (changes : List (BlockId × Change)) (after : LogState) : Type 0 where
+  pub first : List (BlockId × Change)
+  pub fly : AreInFlight after first
+  pub all : changes ≡ first ++ after.dirty
+
+-- all that waits once an input is heard waits after it, in the same order, or the first of it are in flight then and the rest wait
+abbrev pub NothingIsLost : LogState → In → LogState → Type 0
+NothingIsLost s input after = (after.dirty ≡ waiting_with s input) ⊎ AreSealed (waiting_with s input) after
+
+-- a version of a block flies
+pub record Flies (s : LogState) (block : BlockId) (change : Change) : Type 0 where
+  pub changes : List (BlockId × Change)
+  pub fly : AreInFlight s changes
+  pub among : Contains changes (block, change)
+
+abbrev pub WaitsOrFlies : LogState → BlockId → Change → Type 0
+WaitsOrFlies s block change = Contains s.dirty (block, change) ⊎ Flies s block change

@@ -1,14 +1,16 @@
 //! What is true of a log, whatever it took before. Each function stands for the law that its contract
 //! states; a call of it does nothing. A history is what a log took, newest first.
-ghost use Rattle.std.specs.Prelude.{ℕ, IfSome, List, ◌∷◌};
+ghost use Rattle.std.specs.Prelude.{◌≡◌, ℕ, IfSome, List, ◌∷◌, true};
 ghost use Rattle.std.specs.List.{AllByRecursion};
+ghost use Rattle.xfs_base.specs.declared.block.BlockId.{BlockId};
 ghost use Rattle.xfs_base.specs.declared.segment.End.{End};
 ghost use Rattle.xfs_base.specs.declared.segment.LogId.{LogId};
 ghost use Rattle.group_map.specs.GroupMapState.{GroupMapState};
+ghost use Rattle.log_flight.specs.declared.dirty.Change.{Change};
 ghost use Rattle.client_log.specs.declared.input.In.{In};
 ghost use Rattle.client_log.specs.LogState.{LogState, started};
-ghost use Rattle.client_log.specs.Transition.{transition};
-ghost use Rattle.client_log.specs.History.{state_after, IsInLine, EndRisesByOne, TellsWhatIsDue, Follows, AreLastPuts, HoldsLastPuts};
+ghost use Rattle.client_log.specs.Transition.{transition, waits, can_go_on, on_put};
+ghost use Rattle.client_log.specs.History.{state_after, IsInLine, EndRisesByOne, TellsWhatIsDue, Follows, AreLastPuts, HoldsLastPuts, NothingIsLost, WaitsOrFlies};
 
 /// The segment in flight has the next number, is of its owner's incarnation, and names the end as the one
 /// before it.
@@ -22,24 +24,39 @@ pub fn end_rises_by_one()
 {}
 
 /// What is told as settled is the flight, with what its Deltas say, once no more of its members are lost
-/// than its group has parity and each is noted or lost.
+/// than its group has parity and each is noted or lost: a server's answer counts as noted only where it is
+/// of the flight, by name, place and generation.
 pub fn settles_what_is_due()
     ensures { (s : LogState) (input : In) → AllByRecursion (TellsWhatIsDue s input) (transition s input).outs }
 {}
 
-/// A segment in flight goes on, or is the next attempt of what flew, with the same content and an attempt
-/// one higher, or has begun behind the end, by its first attempt.
+/// A segment in flight goes on, with no more noted of it than an answer of its own tells; or is the next
+/// attempt of what flew, with the same content and an attempt one higher; or has begun behind the end, by
+/// its first attempt, where nothing flew before or what flew is that end. Of one that is sent anew nothing
+/// is noted.
 pub fn attempts_rise()
-    ensures { (s : LogState) (input : In) → IfSome (transition s input).state.flight (Follows s (transition s input).state) }
+    ensures { (s : LogState) (input : In) → IfSome (transition s input).state.flight (Follows s input (transition s input).state) }
 {}
 
-/// What waits of a block is what was put last of it.
+/// What waits of a block is what was put last of it, among the puts that had an effect.
 pub fn last_put_waits()
     ensures { (log : LogId) (inc : ℕ) (end : End) (groups : GroupMapState) (history : List In) → AreLastPuts (started log inc end groups) history (state_after (started log inc end groups) history).dirty }
 {}
 
-/// What is sealed of a block is what was put last of it: a flight holds what flew before, what was given as
-/// items, or changes of which each was put last.
+/// What is sealed of a block is what was put last of it, among the puts that had an effect: a flight holds
+/// what flew before, what was given as items, or changes of which each was put last.
 pub fn last_put_is_sealed()
     ensures { (log : LogId) (inc : ℕ) (end : End) (groups : GroupMapState) (history : List In) (input : In) → IfSome (state_after (started log inc end groups) (input ∷ history)).flight (λ g. HoldsLastPuts (started log inc end groups) history input g.segment.items) }
+{}
+
+/// A put that has an effect is not lost: its version waits, or is in flight. It has none only where it would
+/// seal a segment whose number can't rise.
+pub fn puts_are_kept()
+    ensures { (s : LogState) (block : BlockId) (change : Change) → can_go_on (waits s block change) ≡ true → WaitsOrFlies (on_put s block change).state block change }
+{}
+
+/// What waits leaves only into the flight: after any input all of it waits, in the same order, or the first
+/// of it are what is in flight, and the rest wait.
+pub fn nothing_is_lost()
+    ensures { (s : LogState) (input : In) → NothingIsLost s input (transition s input).state }
 {}

@@ -39,7 +39,7 @@ impl Crosses for Log {}
 
 impl Log {
     /// The log of an owner in this incarnation, whose newest settled segment is the end: nothing waits and
-    /// nothing is in flight. The log is 1 to 13.
+    /// nothing is in flight. The end of a log that has no segment yet is all zero. The log is 1 to 13.
     pub fn start(alloc: Global, log: LogId, inc: u32, end: End, groups: GroupMap) -> Mem<Log>
         requires { IsLog log.0 }
         ensures { IfOk result (λ made. made ≡ started log inc end groups) }
