@@ -1,3 +1,4 @@
 pub mod FragmentLists
 pub mod ItemTexts
 pub mod Lengths
+pub mod TextTests

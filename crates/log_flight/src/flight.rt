@@ -48,7 +48,9 @@ impl Model for Flight {
 }
 
 impl Flight {
-    /// A segment whose fragments are yet to be sent.
+    /// A segment whose fragments are yet to be sent. The segment keeps the limits of a text, and the group is
+    /// one that a text is cut over: its parity is 1 or 2, and it has 8 members at most, of which at least 2
+    /// are not for parity.
     pub fn launch(alloc: Global, segment: Segment, group: Group) -> Mem<Flight>
         requires limits { KeepsLimits segment }
         requires cut { IsCut (length group.members) group.parity }
@@ -70,7 +72,7 @@ impl Flight {
         &self.segment
     }
 
-    /// The segment, and nothing else.
+    /// The segment, and nothing else. It keeps the limits of a text.
     pub fn into_segment(self) -> Segment
         ensures segment { result ≡ self.segment }
         ensures limits { KeepsLimits result }

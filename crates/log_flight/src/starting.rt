@@ -11,7 +11,8 @@ use segment_format::{Item, Segment};
 use std::alloc::Global;
 use xfs_base::{List, LogId, Mem, Prior, SegName};
 
-/// A segment of this name over the group that the map chooses for it.
+/// A segment of this name over the group that the map chooses for it, of which nothing is noted. The log of
+/// the name is 1 to 13, and a segment may have the items, as `texts::has_text` tells.
 pub fn flight_over(
     alloc: Global,
     groups: &GroupMap,

@@ -1,16 +1,24 @@
 //! Which items a segment may have.
-ghost use Rattle.std.specs.Prelude.{◌≡◌};
+ghost use Rattle.std.specs.Prelude.{◌≡◌, ◌↔◌, IsTrue};
 ghost use Rattle.std.specs.List.{list_all};
 ghost use Rattle.segment_format.specs.Rule.{deltas_in, others_in};
-ghost use Rattle.log_flight.specs.Texts.{is_placed, is_present, is_item, awaited_after, may_come, keeps_rule, has_text};
+ghost use Rattle.log_flight.specs.Texts.{HasText, is_placed, is_present, is_item, awaited_after, may_come, keeps_rule, has_text};
 
 use segment_format::Item;
 use segment_format::format::NO_ITEM;
 use xfs_base::limits::{MAX_VALUE, SEGMENT_BLOCKS};
 use xfs_base::{BlockId, Entry, Value};
 
-/// Whether a segment may have these items.
+/// Whether a segment may have these items: just where they keep the limits of a text and the rule on
+/// Deltas.
 pub fn has_text(items: &[Item]) -> bool
+    ensures exact { IsTrue result ↔ HasText items.now }
+    ensures test { result ≡ has_text items.now }
+{
+    passes(items)
+}
+
+fn passes(items: &[Item]) -> bool
     ensures { result ≡ has_text items.now }
 {
     if !are_items(items) {
