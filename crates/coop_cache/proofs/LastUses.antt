@@ -182,7 +182,7 @@ capacity_stays capacity (Touch block ∷ earlier) =
 capacity_stays capacity (Dirty block ∷ earlier) = capacity_stays capacity earlier
 capacity_stays capacity (Gone block ∷ earlier) = capacity_stays capacity earlier
 
-fewer : (p : BlockId → Bool) (bs : List BlockId) → length (filter p bs) ≤ length bs
+pub fewer : (p : BlockId → Bool) (bs : List BlockId) → length (filter p bs) ≤ length bs
 fewer p [] = omega arith
 fewer p (b ∷ bs) =
     elim (p b) as (λ t. length (cond t (b ∷ filter p bs) (filter p bs)) ≤ suc (length bs))

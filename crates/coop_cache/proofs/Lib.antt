@@ -1,3 +1,4 @@
 pub mod Keys
 pub mod LastUses
+pub mod Leavings
 pub mod Orders

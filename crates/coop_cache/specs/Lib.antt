@@ -1,3 +1,4 @@
 pub mod CacheState
+pub mod Leaving
 pub mod Transition
 pub mod Use

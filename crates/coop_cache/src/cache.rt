@@ -33,7 +33,7 @@ impl Model for Cache {
 impl Crosses for Cache {}
 
 impl Cache {
-    /// An empty cache of that many clean blocks at most.
+    /// An empty cache of that many clean blocks at most, which is more than none.
     pub fn start(alloc: Global, capacity: u16) -> Mem<Cache>
         requires { 0 < capacity }
         ensures { IfOk result (λ cache. cache ≡ started capacity) }
