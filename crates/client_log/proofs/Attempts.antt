@@ -1,6 +1,6 @@
 -- What a flight is to the state before.
 use Rattle.std.proofs.Common.{◌≡◌, ℕ, Bool, true, false, cond, ◌⊎◌, inl, inr, List, Option, Some, None, refl, sym, ap, subst, take, drop}
-use Rattle.std.specs.Prelude.{IfSome, ◌&&◌, is_none, nat_lt, nat_le, length}
+use Rattle.std.specs.Prelude.{IfSome, MatchOption, ◌&&◌, is_none, nat_lt, nat_le, length}
 use Rattle.std.proofs.lemmas.Bool.{true≢false, and_parts}
 use Rattle.xfs_base.specs.declared.segment.End.{End}
 use Rattle.xfs_base.specs.declared.segment.SegName.{SegName}
@@ -20,7 +20,7 @@ use Rattle.client_log.specs.declared.input.In.{In}
 use Rattle.client_log.specs.declared.input.In.TheVariants.{Put, Parts, Seal, Acked, Maps, Tick}
 use Rattle.client_log.specs.LogState.{LogState}
 use Rattle.client_log.specs.Transition.{Done, all_sends, launched, writes, has_next, is_idle, is_full, can_go_on, sealed, if_full, waits, on_put, on_seal, on_parts, next_attempt, restriped, end_from, landed, settled, can_follow, followed, looked_at, on_acked, on_maps, on_tick, transition}
-use Rattle.client_log.specs.History.{noted_by, Follows}
+use Rattle.client_log.specs.History.{noted_by, Follows, FlightFollows}
 
 -- what flew, if anything did, is this end
 abbrev Landed : LogState → End → Type 0
@@ -32,12 +32,12 @@ none_flew (Some f) end e = absurd (true≢false (sym e))
 
 module _ (s : LogState) (input : In) where
   abbrev Flies : Done → Type 0
-  Flies d = IfSome d.state.flight (Follows s input d.state)
+  Flies d = FlightFollows s input d.state
 
   -- the flight is still there
-  same : (t : LogState) → t.flight ≡ s.flight → IfSome t.flight (Follows s input t)
-  same t e = elim t.flight as (λ o. o ≡ s.flight → IfSome o (Follows s input t)) [
-    | None ↦ λ h. tt
+  same : (t : LogState) → t.flight ≡ s.flight → FlightFollows s input t
+  same t e = elim t.flight as (λ o. o ≡ s.flight → MatchOption o (Landed s t.end) (Follows s input t)) [
+    | None ↦ λ h. subst (λ o. IfSome o (λ f. t.end ≡ end_from f.segment)) h tt
     | Some g ↦ λ h. inl (record { flight = g; was = sym h; segment = refl; group = refl; noted = inl refl })
   ] e
 
@@ -49,7 +49,7 @@ module _ (s : LogState) (input : In) where
   unfolding sealed
   begun_sealed t l = begun_writes (record t { dirty = drop segment_blocks t.dirty }) (items_of 0 (take segment_blocks t.dirty)) l
 
-  flies_if_full : (t : LogState) → IfSome t.flight (Follows s input t) → (is_full t ≡ true → Landed s t.end) → Flies (if_full t)
+  flies_if_full : (t : LogState) → FlightFollows s input t → (is_full t ≡ true → Landed s t.end) → Flies (if_full t)
   unfolding if_full
   flies_if_full t k l =
       elim (is_full t) as (λ b. is_full t ≡ b → Flies (cond b (sealed t) (still t))) [ true ↦ λ e. begun_sealed t (l e) | false ↦ λ e. k ] refl
@@ -95,7 +95,8 @@ module _ (s : LogState) (input : In) where
       noted = refl;
     }))
     flies_followed Settle =
-        flies_if_full (landed t g) tt (λ full. subst (λ o. IfSome o (λ x. end_from g.segment ≡ end_from x.segment)) (sym was) (ap end_from segment))
+        let is_end : Landed s (end_from g.segment) = subst (λ o. IfSome o (λ x. end_from g.segment ≡ end_from x.segment)) (sym was) (ap end_from segment) in
+        flies_if_full (landed t g) is_end (λ full. is_end)
     flies_followed Wait = inl (record { flight = f; was = was; segment = segment; group = group; noted = noted })
 
     flies_looked : Flies (looked_at s t g)
@@ -139,7 +140,7 @@ flies_acked s name index generation =
           ] refl
     ] refl
 
-pub flies : (s : LogState) (input : In) → IfSome (transition s input).state.flight (Follows s input (transition s input).state)
+pub flies : (s : LogState) (input : In) → FlightFollows s input (transition s input).state
 flies s (Put block entry value) = flies_put s (Put block entry value) block (record { entry = entry; value = value })
 flies s (Parts items) = flies_parts s (Parts items) items
 flies s Seal = flies_seal s Seal

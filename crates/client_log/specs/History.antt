@@ -1,5 +1,5 @@
 -- What a log took, newest first, and what is claimed of it whatever it took.
-use Rattle.std.specs.Prelude.{◌≡◌, ◌+◌, ◌⊎◌, IfSome, List, [], ◌∷◌, ◌++◌, Contains, Option, Some, None, if◌then◌else◌}
+use Rattle.std.specs.Prelude.{◌≡◌, ◌+◌, ◌⊎◌, IfSome, MatchOption, List, [], ◌∷◌, ◌++◌, Contains, Option, Some, None, if◌then◌else◌}
 use Rattle.std.specs.List.{AllByRecursion}
 use Rattle.xfs_base.specs.declared.block.BlockId.{BlockId}
 use Rattle.xfs_base.specs.declared.entry.Entry.{Entry}
@@ -99,17 +99,25 @@ pub record IsNextAttempt (s : LogState) (g : FlightState) : Type 0 where
   pub prior : g.segment.prior ≡ flight.segment.prior
   pub noted : g.noted ≡ none_noted
 
--- a new segment, by its first attempt, behind the end, of which nothing is noted; what flew before, if anything did, is that end
+-- what flew before, if anything did, is the end now
+abbrev pub HasLanded : LogState → LogState → Type 0
+HasLanded s after = IfSome s.flight (λ f. after.end ≡ end_from f.segment)
+
+-- a new segment, by its first attempt, behind the end, of which nothing is noted; what flew before has landed
 pub record IsBegun (s after : LogState) (g : FlightState) : Type 0 where
   pub seq : g.segment.name.seq ≡ after.end.seq + 1
   pub att : g.segment.name.pass.att ≡ 1
   pub prior : g.segment.prior ≡ prior_from after.end
   pub noted : g.noted ≡ none_noted
-  pub landed : IfSome s.flight (λ f. after.end ≡ end_from f.segment)
+  pub landed : HasLanded s after
 
 -- what a flight is to the state before: it goes on, is the next attempt of what flew, or has begun
 abbrev pub Follows : LogState → In → LogState → FlightState → Type 0
 Follows s input after g = IsSameFlight s input g ⊎ (IsNextAttempt s g ⊎ IsBegun s after g)
+
+-- what is in flight after an input follows what was; and where nothing is, what was has landed
+abbrev pub FlightFollows : LogState → In → LogState → Type 0
+FlightFollows s input after = MatchOption after.flight (HasLanded s after) (Follows s input after)
 
 -- ---- what is written
 

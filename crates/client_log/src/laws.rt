@@ -10,7 +10,7 @@ ghost use Rattle.log_flight.specs.declared.dirty.Change.{Change};
 ghost use Rattle.client_log.specs.declared.input.In.{In};
 ghost use Rattle.client_log.specs.LogState.{LogState, started};
 ghost use Rattle.client_log.specs.Transition.{transition, waits, can_go_on, on_put};
-ghost use Rattle.client_log.specs.History.{state_after, IsInLine, EndRisesByOne, TellsWhatIsDue, Follows, AreLastPuts, HoldsLastPuts, NothingIsLost, WaitsOrFlies};
+ghost use Rattle.client_log.specs.History.{state_after, IsInLine, EndRisesByOne, TellsWhatIsDue, FlightFollows, AreLastPuts, HoldsLastPuts, NothingIsLost, WaitsOrFlies};
 
 /// The segment in flight has the next number, is of its owner's incarnation, and names the end as the one
 /// before it.
@@ -33,9 +33,9 @@ pub fn settles_what_is_due()
 /// A segment in flight goes on, with no more noted of it than an answer of its own tells; or is the next
 /// attempt of what flew, with the same content and an attempt one higher; or has begun behind the end, by
 /// its first attempt, where nothing flew before or what flew is that end. Of one that is sent anew nothing
-/// is noted.
+/// is noted. Where nothing is in flight nothing was, or what was is the end.
 pub fn attempts_rise()
-    ensures { (s : LogState) (input : In) → IfSome (transition s input).state.flight (Follows s input (transition s input).state) }
+    ensures { (s : LogState) (input : In) → FlightFollows s input (transition s input).state }
 {}
 
 /// What waits of a block is what was put last of it, among the puts that had an effect.
