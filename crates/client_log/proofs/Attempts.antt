@@ -1,5 +1,5 @@
 -- What a flight is to the state before.
-use Rattle.std.proofs.Common.{◌≡◌, ℕ, Bool, true, false, cond, ◌⊎◌, inl, inr, List, Option, Some, None, refl, sym, ap, subst, take, drop}
+use Rattle.std.proofs.Common.{◌≡◌, ℕ, Bool, true, false, cond, ◌⊎◌, inl, inr, List, Option, Some, None, refl, sym, ap, subst, ◌∙◌, take, drop}
 use Rattle.std.specs.Prelude.{IfSome, MatchOption, ◌&&◌, is_none, nat_lt, nat_le, length}
 use Rattle.std.proofs.lemmas.Bool.{true≢false, and_parts}
 use Rattle.xfs_base.specs.declared.segment.End.{End}
@@ -20,7 +20,7 @@ use Rattle.client_log.specs.declared.input.In.{In}
 use Rattle.client_log.specs.declared.input.In.TheVariants.{Put, Parts, Seal, Acked, Maps, Tick}
 use Rattle.client_log.specs.LogState.{LogState}
 use Rattle.client_log.specs.Transition.{Done, all_sends, launched, writes, has_next, is_idle, is_full, can_go_on, sealed, if_full, waits, on_put, on_seal, on_parts, next_attempt, restriped, end_from, landed, settled, can_follow, followed, looked_at, on_acked, on_maps, on_tick, transition}
-use Rattle.client_log.specs.History.{noted_by, Follows, FlightFollows}
+use Rattle.client_log.specs.History.{groups_with, noted_by, Follows, FlightFollows}
 
 -- what flew, if anything did, is this end
 abbrev Landed : LogState → End → Type 0
@@ -83,44 +83,38 @@ module _ (s : LogState) (input : In) where
 
   -- f was in flight; g is it, perhaps with what the input notes
   module _ (t : LogState) (f g : FlightState) (was : s.flight ≡ Some f) (segment : g.segment ≡ f.segment) (group : g.group ≡ f.group)
-      (noted : (g.noted ≡ f.noted) ⊎ (g.noted ≡ (noted_by f input).noted)) where
-    flies_followed : (fate : Fate) → Flies (followed t g fate)
+      (noted : (g.noted ≡ f.noted) ⊎ (g.noted ≡ (noted_by f input).noted))
+      (looks : fate_of (groups_with s.groups input) (noted_by f input) ≡ fate_of t.groups g) where
+    flies_followed : (fate : Fate) → fate_of t.groups g ≡ fate → Flies (followed t g fate)
     unfolding restriped launched settled
-    flies_followed Restripe = inr (inl (record {
+    flies_followed Restripe e = inr (inl (record {
       flight = f;
       was = was;
       name = ap (λ (x : Segment). next_attempt x.name) segment;
       items = ap (λ (x : Segment). x.items) segment;
       prior = ap (λ (x : Segment). x.prior) segment;
       noted = refl;
+      due = looks ∙ e;
     }))
-    flies_followed Settle =
+    flies_followed Settle e =
         let is_end : Landed s (end_from g.segment) = subst (λ o. IfSome o (λ x. end_from g.segment ≡ end_from x.segment)) (sym was) (ap end_from segment) in
         flies_if_full (landed t g) is_end (λ full. is_end)
-    flies_followed Wait = inl (record { flight = f; was = was; segment = segment; group = group; noted = noted })
+    flies_followed Wait e = inl (record { flight = f; was = was; segment = segment; group = group; noted = noted })
 
     flies_looked : Flies (looked_at s t g)
     unfolding looked_at
     flies_looked =
         elim (can_follow t g (fate_of t.groups g)) as (λ b. Flies (cond b (followed t g (fate_of t.groups g)) (still s))) [
-          | true ↦ flies_followed (fate_of t.groups g)
+          | true ↦ flies_followed (fate_of t.groups g) refl
           | false ↦ same s refl
         ]
-
-  flies_maps : (groups : GroupMapState) → Flies (on_maps s groups)
-  unfolding on_maps
-  flies_maps groups =
-      let t : LogState = record s { groups = groups } in
-      elim s.flight as (λ o. s.flight ≡ o → Flies (elim o [ None ↦ still t | Some f ↦ looked_at s t f ])) [
-        | None ↦ λ e. same t refl
-        | Some f ↦ λ e. flies_looked t f f e refl refl (inl refl)
-      ] refl
 
   flies_tick : Flies (on_tick s)
   unfolding on_tick
   flies_tick = elim s.flight as (λ o. Flies (elim o [ None ↦ still s | Some f ↦ record { state = s; outs = all_sends f } ]))
       [ None ↦ same s refl | Some f ↦ same s refl ]
 
+-- the same of a step
 abbrev FliesOn : LogState → In → Done → Type 0
 FliesOn s input d = Flies s input d
 
@@ -135,9 +129,19 @@ flies_acked s name index generation =
       | Some f ↦ λ e. elim (is_of f name index generation) as
           (λ b. is_of f name index generation ≡ b → FliesOn s input (cond b (looked_at s s (noting f index)) (still s))) [
             | true ↦ λ is. flies_looked s input s f (noting f index) e refl refl
-                (inr (ap (λ b. (cond b (noting f index) f).noted) (sym is)))
+                (inr (ap (λ b. (cond b (noting f index) f).noted) (sym is))) (ap (λ b. fate_of s.groups (cond b (noting f index) f)) is)
             | false ↦ λ is. same s input s refl
           ] refl
+    ] refl
+
+flies_maps : (s : LogState) (groups : GroupMapState) → FliesOn s (Maps groups) (on_maps s groups)
+unfolding on_maps
+flies_maps s groups =
+    let input : In = Maps groups in
+    let t : LogState = record s { groups = groups } in
+    elim s.flight as (λ o. s.flight ≡ o → FliesOn s input (elim o [ None ↦ still t | Some f ↦ looked_at s t f ])) [
+      | None ↦ λ e. same s input t refl
+      | Some f ↦ λ e. flies_looked s input t f f e refl refl (inl refl) refl
     ] refl
 
 pub flies : (s : LogState) (input : In) → FlightFollows s input (transition s input).state
@@ -145,5 +149,5 @@ flies s (Put block entry value) = flies_put s (Put block entry value) block (rec
 flies s (Parts items) = flies_parts s (Parts items) items
 flies s Seal = flies_seal s Seal
 flies s (Acked name index generation) = flies_acked s name index generation
-flies s (Maps groups) = flies_maps s (Maps groups) groups
+flies s (Maps groups) = flies_maps s groups
 flies s Tick = flies_tick s Tick

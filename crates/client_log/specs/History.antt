@@ -8,7 +8,7 @@ use Rattle.xfs_base.specs.Blocks.{same_block}
 use Rattle.segment_format.specs.declared.segment.Item.{Item}
 use Rattle.group_map.specs.GroupMapState.{GroupMapState}
 use Rattle.log_flight.specs.declared.dirty.Change.{Change}
-use Rattle.log_flight.specs.declared.flight.Fate.TheVariants.{Settle}
+use Rattle.log_flight.specs.declared.flight.Fate.TheVariants.{Restripe, Settle}
 use Rattle.log_flight.specs.Fate.{fate_of}
 use Rattle.log_flight.specs.Flights.{FlightState, is_of, none_noted, noting}
 use Rattle.log_flight.specs.Items.{items_of}
@@ -90,14 +90,16 @@ pub record IsSameFlight (s : LogState) (input : In) (g : FlightState) : Type 0 w
   pub group : g.group ≡ flight.group
   pub noted : (g.noted ≡ flight.noted) ⊎ (g.noted ≡ (noted_by flight input).noted)
 
--- the same content by the next attempt, whose number is one higher, and of which nothing is noted
-pub record IsNextAttempt (s : LogState) (g : FlightState) : Type 0 where
+-- The same content by the next attempt, whose number is one higher, and of which nothing is noted; and it is due: more members
+-- of what flew are lost than its group has parity.
+pub record IsNextAttempt (s : LogState) (input : In) (g : FlightState) : Type 0 where
   pub flight : FlightState
   pub was : s.flight ≡ Some flight
   pub name : g.segment.name ≡ next_attempt flight.segment.name
   pub items : g.segment.items ≡ flight.segment.items
   pub prior : g.segment.prior ≡ flight.segment.prior
   pub noted : g.noted ≡ none_noted
+  pub due : fate_of (groups_with s.groups input) (noted_by flight input) ≡ Restripe
 
 -- what flew before, if anything did, is the end now
 abbrev pub HasLanded : LogState → LogState → Type 0
@@ -113,7 +115,7 @@ pub record IsBegun (s after : LogState) (g : FlightState) : Type 0 where
 
 -- what a flight is to the state before: it goes on, is the next attempt of what flew, or has begun
 abbrev pub Follows : LogState → In → LogState → FlightState → Type 0
-Follows s input after g = IsSameFlight s input g ⊎ (IsNextAttempt s g ⊎ IsBegun s after g)
+Follows s input after g = IsSameFlight s input g ⊎ (IsNextAttempt s input g ⊎ IsBegun s after g)
 
 -- what is in flight after an input follows what was; and where nothing is, what was has landed
 abbrev pub FlightFollows : LogState → In → LogState → Type 0

@@ -31,9 +31,10 @@ pub fn settles_what_is_due()
 {}
 
 /// A segment in flight goes on, with no more noted of it than an answer of its own tells; or is the next
-/// attempt of what flew, with the same content and an attempt one higher; or has begun behind the end, by
-/// its first attempt, where nothing flew before or what flew is that end. Of one that is sent anew nothing
-/// is noted. Where nothing is in flight nothing was, or what was is the end.
+/// attempt of what flew, with the same content and an attempt one higher, where more members are lost than
+/// the group has parity; or has begun behind the end, by its first attempt, where nothing flew before or
+/// what flew is that end. Of one that is sent anew nothing is noted. Where nothing is in flight nothing was,
+/// or what was is the end.
 pub fn attempts_rise()
     ensures { (s : LogState) (input : In) → FlightFollows s input (transition s input).state }
 {}
