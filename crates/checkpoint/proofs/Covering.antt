@@ -2,7 +2,6 @@
 -- something was put since; and there they hold nothing that is above it.
 use Rattle.std.proofs.Common.{◌≡◌, ◌^◌, ◌<◌, Bool, true, false, cond, ◌||◌, List, [], ◌∷◌, ◌++◌, ◌⊎◌, inl, inr, filter, map, length, refl, sym, ap, ◌∙◌, subst}
 use Rattle.std.specs.List.{list_any}
-use Rattle.std.proofs.lemmas.List.Sums.{fold-append}
 use Rattle.std.proofs.lemmas.List.Folds.{list_any-append}
 use Rattle.xfs_base.specs.declared.block.BlockId.{BlockId}
 use Rattle.xfs_base.specs.declared.entry.Entry.{Entry}
@@ -17,10 +16,9 @@ use Rattle.delta_index.proofs.EntryAlgebra.{is_newer-trans, newer_than_none, fir
 use Rattle.delta_index.proofs.JoinAlgebra.{join-append}
 use Rattle.index_pages.specs.declared.layout.Page.{Page}
 use Rattle.index_pages.specs.Layout.{first_block}
-use Rattle.index_pages.specs.Pages.{PagesState, no_pages, put, put_newer, cleaned, all_rows, changed_rows}
-use Rattle.index_pages.specs.Calls.{Call, after_call, after_calls, pages_begun, puts_since_clean, with_page, with_put, page_with}
-use Rattle.index_pages.specs.Calls.Call.{Put, Clean}
-use Rattle.index_pages.proofs.Numbering.{numbered}
+use Rattle.index_pages.specs.Pages.{put, put_newer, cleaned, all_rows, changed_rows}
+use Rattle.index_pages.specs.Calls.{with_first, page_with}
+use Rattle.index_pages.proofs.Numbering.{IsNumbered, kept_put, kept_clean, none_numbered}
 use Rattle.index_pages.proofs.PlainTable.{entry_of-insert, rows-put}
 use Rattle.checkpoint.specs.declared.plan.Plan.{Plan}
 use Rattle.checkpoint.specs.Plan.{writes_all, plan_of}
@@ -30,13 +28,13 @@ use Rattle.checkpoint.specs.Laws.Event.{Merged, Written}
 use Rattle.checkpoint.proofs.Holding.{rows_in-append}
 use Rattle.checkpoint.proofs.PageRows.{on_page, its_page, its_changed_page, join-pages}
 
--- whether something was put on a block's page since the last clean
-abbrev is_put_on : List Call → BlockId → Bool
-is_put_on calls q = list_any (λ b. same_block (first_block b) (first_block q)) (puts_since_clean calls)
+-- whether one of these blocks is on a block's page
+abbrev is_put_on : List BlockId → BlockId → Bool
+is_put_on blocks q = list_any (λ b. same_block (first_block b) (first_block q)) blocks
 
 -- nothing is held of a block, or its page was begun
-abbrev IsKnown : Checkpointed → List Call → BlockId → Type 0
-IsKnown k calls q = (entry_of k.pages.rows q ≡ no_entry) ⊎ ((list_any (same_block (first_block q)) (pages_begun calls) ≡ true) × (q.blk < 2 ^ 32))
+abbrev IsKnown : Checkpointed → List BlockId → BlockId → Type 0
+IsKnown k firsts q = (entry_of k.pages.rows q ≡ no_entry) ⊎ ((list_any (same_block (first_block q)) firsts ≡ true) × (q.blk < 2 ^ 32))
 
 -- what the parts hold of a block isn't above what the index holds, and is that where nothing was put on its page
 record Covers (joined was : Entry) (put_on : Bool) : Type 0 where
@@ -44,11 +42,13 @@ record Covers (joined was : Entry) (put_on : Bool) : Type 0 where
   same : put_on ≡ false → joined ≡ was
 
 record IsCovered (holds : SegRef → Rows) (k : Checkpointed) : Type 0 where
-  calls : List Call
-  made : k.pages ≡ after_calls no_pages calls
-  known : (q : BlockId) → IsKnown k calls q
+  -- the pages by their first blocks, and the blocks at which something was put since the last clean
+  firsts : List BlockId
+  blocks : List BlockId
+  numbered : IsNumbered k.pages firsts blocks
+  known : (q : BlockId) → IsKnown k firsts q
   held : (q : BlockId) → first_greatest no_entry (entry_of k.pages.rows q) ≡ entry_of k.pages.rows q
-  parts : (k.parts ≡ []) ⊎ ((q : BlockId) → Covers (join (rows_in holds k.parts) q) (entry_of k.pages.rows q) (is_put_on calls q))
+  parts : (k.parts ≡ []) ⊎ ((q : BlockId) → Covers (join (rows_in holds k.parts) q) (entry_of k.pages.rows q) (is_put_on blocks q))
 
 -- ---- what is written
 
@@ -67,19 +67,19 @@ module _ (holds : SegRef → Rows) (k : Checkpointed) (c : IsCovered holds k) (q
   abbrev found : Bool
   found = list_any (on_page q) (filter is_changed k.pages.pages)
 
-  their_pages : k.pages.pages ≡ map (page_with (puts_since_clean c.calls)) (pages_begun c.calls)
-  their_pages = ap (λ (s : PagesState). s.pages) c.made ∙ (numbered c.calls).pages
+  their_pages : k.pages.pages ≡ map (page_with c.blocks) c.firsts
+  their_pages = c.numbered.pages
 
   all_join : join (rows_of (all_rows k.pages)) q ≡ now_held
   all_join = join-pages k.pages.rows q (c.held q) k.pages.pages ∙ at_known (c.known q)
     where
-      at_known : IsKnown k c.calls q → cond (list_any (on_page q) k.pages.pages) now_held no_entry ≡ now_held
+      at_known : IsKnown k c.firsts q → cond (list_any (on_page q) k.pages.pages) now_held no_entry ≡ now_held
       at_known (inl none) = cond_none (list_any (on_page q) k.pages.pages) now_held none
       at_known (inr (begun, fits)) =
-          ap (λ t. cond t now_held no_entry) (ap (list_any (on_page q)) their_pages ∙ its_page q (puts_since_clean c.calls) (pages_begun c.calls) fits begun)
+          ap (λ t. cond t now_held no_entry) (ap (list_any (on_page q)) their_pages ∙ its_page q c.blocks c.firsts fits begun)
 
   -- the changed pages on what the parts hold
-  changed_join : Covers (join (rows_in holds k.parts) q) now_held (is_put_on c.calls q)
+  changed_join : Covers (join (rows_in holds k.parts) q) now_held (is_put_on c.blocks q)
       → first_greatest (join (rows_in holds k.parts) q) (join (rows_of (changed_rows k.pages)) q) ≡ now_held
   changed_join v =
       ap (first_greatest (join (rows_in holds k.parts) q)) (join-pages k.pages.rows q (c.held q) (filter is_changed k.pages.pages)) ∙ at_known (c.known q)
@@ -88,15 +88,15 @@ module _ (holds : SegRef → Rows) (k : Checkpointed) (c : IsCovered holds k) (q
       unchanged true is = v.below
       unchanged false is = first_greatest-none (join (rows_in holds k.parts) q) ∙ is
 
-      at_known : IsKnown k c.calls q → first_greatest (join (rows_in holds k.parts) q) (cond found now_held no_entry) ≡ now_held
+      at_known : IsKnown k c.firsts q → first_greatest (join (rows_in holds k.parts) q) (cond found now_held no_entry) ≡ now_held
       at_known (inl none) = ap (first_greatest (join (rows_in holds k.parts) q)) (cond_none found now_held none) ∙ v.below
       at_known (inr (begun, fits)) =
-          elim (is_put_on c.calls q) as
-          (λ t. is_put_on c.calls q ≡ t → first_greatest (join (rows_in holds k.parts) q) (cond found now_held no_entry) ≡ now_held) [
+          elim (is_put_on c.blocks q) as
+          (λ t. is_put_on c.blocks q ≡ t → first_greatest (join (rows_in holds k.parts) q) (cond found now_held no_entry) ≡ now_held) [
             | true ↦ λ on.
                 let there : found ≡ true =
                 ap (λ ps. list_any (on_page q) (filter is_changed ps)) their_pages
-                ∙ its_changed_page q (puts_since_clean c.calls) (pages_begun c.calls) fits on begun in
+                ∙ its_changed_page q c.blocks c.firsts fits on begun in
                 ap (λ t. first_greatest (join (rows_in holds k.parts) q) (cond t now_held no_entry)) there ∙ v.below
             | false ↦ λ off. unchanged found (v.same off)
           ] refl
@@ -114,7 +114,7 @@ module _ (holds : SegRef → Rows) (k : Checkpointed) (c : IsCovered holds k) (q
       ] refl
     where
       at_parts : writes_all (length k.parts) ≡ false → rows_in holds segments ≡ rows_of (changed_rows k.pages)
-          → (k.parts ≡ []) ⊎ ((b : BlockId) → Covers (join (rows_in holds k.parts) b) (entry_of k.pages.rows b) (is_put_on c.calls b))
+          → (k.parts ≡ []) ⊎ ((b : BlockId) → Covers (join (rows_in holds k.parts) b) (entry_of k.pages.rows b) (is_put_on c.blocks b))
           → join (rows_in holds (k.parts ++ segments)) q ≡ now_held
       at_parts few laid (inl none) = contrary (sym few ∙ ap (λ (ps : List SegRef). writes_all (length ps)) none)
       at_parts few laid (inr covers) =
@@ -123,19 +123,15 @@ module _ (holds : SegRef → Rows) (k : Checkpointed) (c : IsCovered holds k) (q
 
 -- ---- each event
 
-made_more : (s : PagesState) (calls : List Call) (call : Call) → after_calls s (calls ++ call ∷ []) ≡ after_call (after_calls s calls) call
-made_more s [] call = refl
-made_more s (c ∷ cs) call = made_more (after_call s c) cs call
-
 covered_written : (holds : SegRef → Rows) (k : Checkpointed) (segments : List SegRef) → rows_in holds segments ≡ rows_of (plan_of k.pages k.parts).pages
     → IsCovered holds k → IsCovered holds (after_event k (Written segments))
 unfolding cleaned
 covered_written holds k segments laid c =
     record {
-      calls = c.calls ++ Clean ∷ [];
-      made = ap cleaned c.made ∙ sym (made_more no_pages c.calls Clean);
-      known = λ q. subst (λ fs. (entry_of k.pages.rows q ≡ no_entry) ⊎ ((list_any (same_block (first_block q)) fs ≡ true) × (q.blk < 2 ^ 32)))
-          (sym (fold-append with_page [] c.calls (Clean ∷ []))) (c.known q);
+      firsts = c.firsts;
+      blocks = [];
+      numbered = kept_clean k.pages c.firsts c.blocks c.numbered;
+      known = c.known;
       held = c.held;
       parts = inr (λ q.
           let joined = written_joins holds k c q segments laid in
@@ -153,10 +149,7 @@ rises joined old entry below newer =
 module _ (holds : SegRef → Rows) (k : Checkpointed) (c : IsCovered holds k) (block : BlockId) (entry : Entry) (fits : block.blk < 2 ^ 32)
     (newer : is_newer entry (entry_of k.pages.rows block) ≡ true) where
   abbrev firsts : List BlockId
-  firsts = pages_begun c.calls
-
-  abbrev next : List Call
-  next = c.calls ++ Put block entry ∷ []
+  firsts = c.firsts
 
   abbrev was : BlockId → Entry
   was q = entry_of k.pages.rows q
@@ -165,7 +158,7 @@ module _ (holds : SegRef → Rows) (k : Checkpointed) (c : IsCovered holds k) (b
   is_now : (q : BlockId) → entry_of (put k.pages block entry).rows q ≡ cond (same_block q block) entry (was q)
   is_now q = ap (λ r. entry_of r q) (rows-put k.pages block entry) ∙ entry_of-insert k.pages.rows block entry q
 
-  its_page_begun : list_any (same_block (first_block block)) (with_page firsts (Put block entry)) ≡ true
+  its_page_begun : list_any (same_block (first_block block)) (with_first firsts block) ≡ true
   its_page_begun =
       elim (list_any (same_block (first_block block)) firsts) as
       (λ t. list_any (same_block (first_block block)) firsts ≡ t
@@ -176,7 +169,7 @@ module _ (holds : SegRef → Rows) (k : Checkpointed) (c : IsCovered holds k) (b
             (or_first (same_block (first_block block) (first_block block)) false (same_block_itself (first_block block)))
       ] refl
 
-  still_begun : (f : BlockId) → list_any (same_block f) firsts ≡ true → list_any (same_block f) (with_page firsts (Put block entry)) ≡ true
+  still_begun : (f : BlockId) → list_any (same_block f) firsts ≡ true → list_any (same_block f) (with_first firsts block) ≡ true
   still_begun f there =
       elim (list_any (same_block (first_block block)) firsts) as (λ t. list_any (same_block f) (cond t firsts (firsts ++ first_block block ∷ [])) ≡ true) [
         | true ↦ there
@@ -185,7 +178,7 @@ module _ (holds : SegRef → Rows) (k : Checkpointed) (c : IsCovered holds k) (b
 
   -- what is held of a block or known of its page, where the first holds now
   abbrev KnownAs : BlockId → Entry → Type 0
-  KnownAs q e = (e ≡ no_entry) ⊎ ((list_any (same_block (first_block q)) (with_page firsts (Put block entry)) ≡ true) × (q.blk < 2 ^ 32))
+  KnownAs q e = (e ≡ no_entry) ⊎ ((list_any (same_block (first_block q)) (with_first firsts block) ≡ true) × (q.blk < 2 ^ 32))
 
   known_now : (q : BlockId) → KnownAs q (cond (same_block q block) entry (was q))
   known_now q =
@@ -193,7 +186,7 @@ module _ (holds : SegRef → Rows) (k : Checkpointed) (c : IsCovered holds k) (b
       (λ same. subst (λ b. KnownAs b entry) (same_block_exact q block same) (inr (its_page_begun, fits)))
       (λ _. more (c.known q))
     where
-      more : IsKnown k c.calls q → KnownAs q (was q)
+      more : IsKnown k c.firsts q → KnownAs q (was q)
       more (inl none) = inl none
       more (inr (begun, q_fits)) = inr (still_begun (first_block q) begun, q_fits)
 
@@ -203,10 +196,10 @@ module _ (holds : SegRef → Rows) (k : Checkpointed) (c : IsCovered holds k) (b
       (λ _. first_greatest-newer no_entry entry (newer_than_none (was block) entry newer)) (λ _. c.held q)
 
   abbrev put_on_now : BlockId → Bool
-  put_on_now q = list_any (λ b. same_block (first_block b) (first_block q)) (puts_since_clean c.calls ++ block ∷ [])
+  put_on_now q = list_any (λ b. same_block (first_block b) (first_block q)) (c.blocks ++ block ∷ [])
 
-  is_on : (q : BlockId) → put_on_now q ≡ (is_put_on c.calls q || (same_block (first_block block) (first_block q) || false))
-  is_on q = list_any-append (λ b. same_block (first_block b) (first_block q)) (puts_since_clean c.calls) (block ∷ [])
+  is_on : (q : BlockId) → put_on_now q ≡ (is_put_on c.blocks q || (same_block (first_block block) (first_block q) || false))
+  is_on q = list_any-append (λ b. same_block (first_block b) (first_block q)) c.blocks (block ∷ [])
 
   none_first : (a b : Bool) → (a || b) ≡ false → a ≡ false
   none_first true b h = h
@@ -214,36 +207,32 @@ module _ (holds : SegRef → Rows) (k : Checkpointed) (c : IsCovered holds k) (b
 
   own_on : put_on_now block ≡ true
   own_on = is_on block
-      ∙ or_second (is_put_on c.calls block) _ (or_first (same_block (first_block block) (first_block block)) false (same_block_itself (first_block block)))
+      ∙ or_second (is_put_on c.blocks block) _ (or_first (same_block (first_block block) (first_block block)) false (same_block_itself (first_block block)))
 
-  covers_now : (joined : BlockId → Entry) → ((q : BlockId) → Covers (joined q) (was q) (is_put_on c.calls q)) → (q : BlockId)
+  covers_now : (joined : BlockId → Entry) → ((q : BlockId) → Covers (joined q) (was q) (is_put_on c.blocks q)) → (q : BlockId)
       → Covers (joined q) (cond (same_block q block) entry (was q)) (put_on_now q)
   covers_now joined covers q =
       by_test (λ e. Covers (joined q) e (put_on_now q)) (same_block q block) entry (was q)
       (λ same. let is : block ≡ q = same_block_exact q block same in
       subst (λ b. Covers (joined b) entry (put_on_now b)) is
       (record { below = rises (joined block) (was block) entry (covers block).below newer; same = λ off. contrary (sym off ∙ own_on) }))
-      (λ _. record { below = (covers q).below; same = λ off. (covers q).same (none_first (is_put_on c.calls q) _ (sym (is_on q) ∙ off)) })
+      (λ _. record { below = (covers q).below; same = λ off. (covers q).same (none_first (is_put_on c.blocks q) _ (sym (is_on q) ∙ off)) })
 
   covered_put : IsCovered holds (record { pages = put k.pages block entry; parts = k.parts })
   covered_put = record {
-    calls = next;
-    made = ap (λ s. put s block entry) c.made ∙ sym (made_more no_pages c.calls (Put block entry));
-    known = λ q.
-        subst (λ fs. (entry_of (put k.pages block entry).rows q ≡ no_entry) ⊎ ((list_any (same_block (first_block q)) fs ≡ true) × (q.blk < 2 ^ 32)))
-        (sym (fold-append with_page [] c.calls (Put block entry ∷ [])))
-        (subst (KnownAs q) (sym (is_now q)) (known_now q));
+    firsts = with_first firsts block;
+    blocks = c.blocks ++ block ∷ [];
+    numbered = kept_put k.pages c.firsts c.blocks block entry c.numbered;
+    known = λ q. subst (KnownAs q) (sym (is_now q)) (known_now q);
     held = λ q. subst (λ e. first_greatest no_entry e ≡ e) (sym (is_now q)) (held_now q);
     parts = parts_now c.parts;
   }
     where
-      parts_now : (k.parts ≡ []) ⊎ ((q : BlockId) → Covers (join (rows_in holds k.parts) q) (was q) (is_put_on c.calls q))
-          → (k.parts ≡ []) ⊎ ((q : BlockId) → Covers (join (rows_in holds k.parts) q) (entry_of (put k.pages block entry).rows q) (is_put_on next q))
+      parts_now : (k.parts ≡ []) ⊎ ((q : BlockId) → Covers (join (rows_in holds k.parts) q) (was q) (is_put_on c.blocks q))
+          → (k.parts ≡ []) ⊎ ((q : BlockId) → Covers (join (rows_in holds k.parts) q) (entry_of (put k.pages block entry).rows q) (put_on_now q))
       parts_now (inl none) = inl none
       parts_now (inr covers) = inr (λ q.
-          subst (λ bs. Covers (join (rows_in holds k.parts) q) (entry_of (put k.pages block entry).rows q)
-          (list_any (λ b. same_block (first_block b) (first_block q)) bs)) (sym (fold-append with_put [] c.calls (Put block entry ∷ [])))
-          (subst (λ e. Covers (join (rows_in holds k.parts) q) e (put_on_now q)) (sym (is_now q)) (covers_now (join (rows_in holds k.parts)) covers q)))
+          subst (λ e. Covers (join (rows_in holds k.parts) q) e (put_on_now q)) (sym (is_now q)) (covers_now (join (rows_in holds k.parts)) covers q))
 
 covered_event : (holds : SegRef → Rows) (k : Checkpointed) (event : Event) → MayCome holds k event → IsCovered holds k → IsCovered holds (after_event k event)
 unfolding put_newer
@@ -261,7 +250,7 @@ covered_events holds k [] all c = c
 covered_events holds k (event ∷ events) all c = covered_events holds (after_event k event) events all.1 (covered_event holds k event all.0 c)
 
 nothing_covered : (holds : SegRef → Rows) → IsCovered holds nothing_checkpointed
-nothing_covered holds = record { calls = []; made = refl; known = λ q. inl refl; held = λ q. refl; parts = inl refl }
+nothing_covered holds = record { firsts = []; blocks = []; numbered = none_numbered; known = λ q. inl refl; held = λ q. refl; parts = inl refl }
 
 pub is_the_index : (holds : SegRef → Rows) (events : List Event) (segments : List SegRef) (block : BlockId) → AllMayCome holds nothing_checkpointed events
     → MayCome holds (slot_after events) (Written segments)

@@ -7,19 +7,23 @@ use Rattle.std.specs.BTreeMap.{is_at}
 use Rattle.std.proofs.lemmas.Bool.Decides.{nat_tests}
 use Rattle.std.proofs.lemmas.List.{length-map}
 use Rattle.std.proofs.lemmas.List.Folds.{list_any-append}
+use Rattle.std.proofs.lemmas.List.Sums.{fold-append}
 use Rattle.xfs_base.specs.declared.block.BlockId.{BlockId}
 use Rattle.xfs_base.specs.declared.entry.Entry.{Entry}
 use Rattle.xfs_base.specs.Blocks.{block_cmp, same_block}
 use Rattle.xfs_base.proofs.BlockOrder.{block_cmp_total, lookup-insert_entry, same_block_exact, same_block_itself}
 use Rattle.xfs_base.proofs.Booleans.{contrary}
+use Rattle.delta_index.specs.Entries.{no_entry, is_newer}
+use Rattle.delta_index.specs.Index.{entry_of}
 use Rattle.delta_index.proofs.JoinAlgebra.{same_block-eq}
 use Rattle.index_pages.specs.Layout.{first_block}
-use Rattle.index_pages.specs.Pages.{PagesState, no_pages, page_of, changed_page, put, put_at, put_on, put_anew, clean_page, cleaned}
-use Rattle.index_pages.specs.Calls.{Call, after_call, after_calls, with_page, with_put, place_from, page_with}
-use Rattle.index_pages.specs.Calls.Call.{Put, Clean}
+use Rattle.index_pages.specs.Pages.{PagesState, no_pages, page_of, changed_page, put, put_newer, put_at, put_on, put_anew, clean_page, cleaned}
+use Rattle.index_pages.specs.Calls.{Call, after_call, after_calls, put_over, last_put, takes, taken_from, pages_begun, puts_since_clean, with_first, with_page, with_put, place_from, page_with}
+use Rattle.index_pages.specs.Calls.Call.{Put, Merge, Clean}
+use Rattle.index_pages.proofs.PlainTable.{one_call}
 
 -- each block differs from all after it
-abbrev IsApart : List BlockId → Type 0
+abbrev pub IsApart : List BlockId → Type 0
 IsApart [] = Unit {0}
 IsApart (f ∷ fs) = (list_any (same_block f) fs ≡ false) × IsApart fs
 
@@ -31,11 +35,11 @@ pub record IsNumbered (s : PagesState) (firsts blocks : List BlockId) : Type 0 w
 
 -- ---- tests
 
-or_none_first : (a b : Bool) → (a || b) ≡ false → a ≡ false
+pub or_none_first : (a b : Bool) → (a || b) ≡ false → a ≡ false
 or_none_first true b h = h
 or_none_first false b h = refl
 
-or_none_second : (a b : Bool) → (a || b) ≡ false → b ≡ false
+pub or_none_second : (a b : Bool) → (a || b) ≡ false → b ≡ false
 or_none_second true b h = contrary (sym h)
 or_none_second false b h = h
 
@@ -49,7 +53,7 @@ or_last_true true b h = refl
 or_last_true false true h = refl
 or_last_true false false h = h
 
-same_turned : (a b : BlockId) → same_block a b ≡ same_block b a
+pub same_turned : (a b : BlockId) → same_block a b ≡ same_block b a
 same_turned a b = grind (arith, nat_tests)
 
 -- a block that is another's isn't a third's, from which that other differs
@@ -63,7 +67,7 @@ any_step : (t : Bool) (n : ℕ) (o : Option ℕ) (r : Bool) → is_some o ≡ r 
 any_step true n o r h = refl
 any_step false n o r h = h
 
-any_place : (n : ℕ) (f : BlockId) (fs : List BlockId) → is_some (place_from n f fs) ≡ list_any (same_block f) fs
+pub any_place : (n : ℕ) (f : BlockId) (fs : List BlockId) → is_some (place_from n f fs) ≡ list_any (same_block f) fs
 any_place n f [] = refl
 any_place n f (b ∷ bs) = any_step (same_block f b) n (place_from (n + 1) f bs) (list_any (same_block f) bs) (any_place (n + 1) f bs)
 
@@ -193,11 +197,11 @@ kept_anew s firsts blocks block entry i absent =
     zero_more : (n : ℕ) → 0 + n ≡ n
     zero_more n = omega arith
 
-kept_put : (s : PagesState) (firsts blocks : List BlockId) (block : BlockId) (entry : Entry) → IsNumbered s firsts blocks
-    → IsNumbered (put s block entry) (with_page firsts (Put block entry)) (blocks ++ block ∷ [])
+pub kept_put : (s : PagesState) (firsts blocks : List BlockId) (block : BlockId) (entry : Entry) → IsNumbered s firsts blocks
+    → IsNumbered (put s block entry) (with_first firsts block) (blocks ++ block ∷ [])
 unfolding put
 kept_put s firsts blocks block entry i =
-    elim (page_of s block) as (λ o. page_of s block ≡ o → IsNumbered (put_at o s block entry) (with_page firsts (Put block entry)) (blocks ++ block ∷ [])) [
+    elim (page_of s block) as (λ o. page_of s block ≡ o → IsNumbered (put_at o s block entry) (with_first firsts block) (blocks ++ block ∷ [])) [
       | Some m ↦ λ p. let found : place_from 0 (first_block block) firsts ≡ Some m = sym (i.numbers (first_block block)) ∙ p in
           let there : true ≡ list_any (same_block (first_block block)) firsts = ap is_some (sym found) ∙ any_place 0 (first_block block) firsts in
           subst (λ t. IsNumbered (put_on s m block entry) (cond t firsts (firsts ++ first_block block ∷ [])) (blocks ++ block ∷ [])) there
@@ -208,16 +212,61 @@ kept_put s firsts blocks block entry i =
           (kept_anew s firsts blocks block entry i (sym absent))
     ] refl
 
-kept_one : (s : PagesState) (firsts blocks : List BlockId) (call : Call) → IsNumbered s firsts blocks
-    → IsNumbered (after_call s call) (with_page firsts call) (with_put blocks call)
+pub kept_clean : (s : PagesState) (firsts blocks : List BlockId) → IsNumbered s firsts blocks → IsNumbered (cleaned s) firsts []
 unfolding cleaned
-kept_one s firsts blocks (Put block entry) i = kept_put s firsts blocks block entry i
-kept_one s firsts blocks Clean i = record { pages = ap (map clean_page) i.pages ∙ clean_pages blocks firsts; numbers = i.numbers; apart = i.apart }
+kept_clean s firsts blocks i = record { pages = ap (map clean_page) i.pages ∙ clean_pages blocks firsts; numbers = i.numbers; apart = i.apart }
 
-kept : (s : PagesState) (firsts blocks : List BlockId) (calls : List Call) → IsNumbered s firsts blocks
-    → IsNumbered (after_calls s calls) (fold with_page firsts calls) (fold with_put blocks calls)
-kept s firsts blocks [] i = i
-kept s firsts blocks (call ∷ calls) i = kept (after_call s call) (with_page firsts call) (with_put blocks call) calls (kept_one s firsts blocks call i)
+pub none_numbered : IsNumbered no_pages [] []
+none_numbered = record { pages = refl; numbers = λ f. refl; apart = tt }
 
-pub numbered : (calls : List Call) → IsNumbered (after_calls no_pages calls) (fold with_page [] calls) (fold with_put [] calls)
-numbered calls = kept no_pages [] [] calls (record { pages = refl; numbers = λ f. refl; apart = tt })
+-- ---- any calls
+
+-- what was put last once one more is called
+last_more : (q : BlockId) (before : List Call) (call : Call) → last_put (before ++ call ∷ []) q ≡ put_over q (last_put before q) call
+last_more q before call = fold-append (put_over q) no_entry before (call ∷ [])
+
+-- the pages of these first blocks are as they were numbered, and hold what the calls before put last
+record IsAfter (s : PagesState) (before : List Call) (firsts blocks : List BlockId) : Type 0 where
+  pub table : (q : BlockId) → entry_of s.rows q ≡ last_put before q
+  pub numbered : IsNumbered s firsts blocks
+
+kept_table : (s : PagesState) (before : List Call) (call : Call) → ((q : BlockId) → entry_of s.rows q ≡ last_put before q)
+    → (q : BlockId) → entry_of (after_call s call).rows q ≡ last_put (before ++ call ∷ []) q
+kept_table s before call table q = one_call s call q ∙ ap (λ e. put_over q e call) (table q) ∙ sym (last_more q before call)
+
+-- a call that takes numbers its page and notes its block; another changes no page
+kept_one : (s : PagesState) (before : List Call) (firsts blocks : List BlockId) (call : Call) → IsAfter s before firsts blocks
+    → IsNumbered (after_call s call) (cond (takes before call) (with_page firsts call) firsts) (cond (takes before call) (with_put blocks call) blocks)
+unfolding put_newer
+kept_one s before firsts blocks (Put block entry) i = kept_put s firsts blocks block entry i.numbered
+kept_one s before firsts blocks (Merge block entry) i =
+    subst (λ e. IsNumbered (cond (is_newer entry (entry_of s.rows block)) (put s block entry) s)
+    (cond (is_newer entry e) (with_first firsts block) firsts) (cond (is_newer entry e) (blocks ++ block ∷ []) blocks)) (i.table block)
+    (at_test (is_newer entry (entry_of s.rows block)))
+  where
+    at_test : (t : Bool) → IsNumbered (cond t (put s block entry) s) (cond t (with_first firsts block) firsts) (cond t (blocks ++ block ∷ []) blocks)
+    at_test true = kept_put s firsts blocks block entry i.numbered
+    at_test false = i.numbered
+kept_one s before firsts blocks Clean i = kept_clean s firsts blocks i.numbered
+
+fold_taken : {A : Type 0} (step : A → Call → A) (a : A) (t : Bool) (call : Call) (calls : List Call)
+    → fold step a (cond t (call ∷ calls) calls) ≡ fold step (cond t (step a call) a) calls
+fold_taken step a true call calls = refl
+fold_taken step a false call calls = refl
+
+kept : (s : PagesState) (before : List Call) (firsts blocks : List BlockId) (calls : List Call) → IsAfter s before firsts blocks
+    → IsNumbered (after_calls s calls) (fold with_page firsts (taken_from before calls)) (fold with_put blocks (taken_from before calls))
+kept s before firsts blocks [] i = i.numbered
+kept s before firsts blocks (call ∷ calls) i =
+    let rest : List Call = taken_from (before ++ call ∷ []) calls in
+    let more = kept (after_call s call) (before ++ call ∷ []) (cond (takes before call) (with_page firsts call) firsts)
+    (cond (takes before call) (with_put blocks call) blocks) calls
+    (record { table = kept_table s before call i.table; numbered = kept_one s before firsts blocks call i })
+    in
+    subst (λ fs. IsNumbered (after_calls s (call ∷ calls)) fs (fold with_put blocks (cond (takes before call) (call ∷ rest) rest)))
+    (sym (fold_taken with_page firsts (takes before call) call rest))
+    (subst (IsNumbered (after_calls s (call ∷ calls)) (fold with_page (cond (takes before call) (with_page firsts call) firsts) rest))
+    (sym (fold_taken with_put blocks (takes before call) call rest)) more)
+
+pub numbered : (calls : List Call) → IsNumbered (after_calls no_pages calls) (pages_begun calls) (puts_since_clean calls)
+numbered calls = kept no_pages [] [] [] calls (record { table = λ q. refl; numbered = none_numbered })

@@ -1,5 +1,5 @@
 //! The index in pages.
-ghost use Rattle.std.specs.Prelude.{◌≡◌, ◌<◌, length, IfOk, OnOk, OnErr, None};
+ghost use Rattle.std.specs.Prelude.{◌≡◌, ◌<◌, length, IfOk, OnOk, OnErr, IsTrue, None};
 ghost use Rattle.xfs_base.specs.Limits.{u32_end};
 ghost use Rattle.delta_index.specs.Entries.{is_newer};
 ghost use Rattle.delta_index.specs.Index.{entry_of};
@@ -191,11 +191,13 @@ impl Pages {
     }
 
     /// Puts an entry at a block where its version, or at one version its hop, is greater than that of
-    /// what `get` gives, and answers whether it did: of equal ones the earlier stays. Where memory is
-    /// wanting nothing changes, and so it is where a page more than 4,294,967,295 would be needed.
+    /// what `get` gives, and answers whether it did: of equal ones the earlier stays. Only a block whose
+    /// page is there, or can be begun, is put; where a page more than 4,294,967,295 would be needed, that is
+    /// want of memory. Where memory is wanting nothing changes.
     #[tactic(auto, unfolding(crate::specs::Pages::put_newer))]
     pub fn merge(&mut self, alloc: Global, block: BlockId, entry: Entry) -> Mem<bool>
         ensures taken { IfOk result (λ taken. taken ≡ is_newer entry (entry_of self.old.rows block)) }
+        ensures room { IfOk result (λ taken. IsTrue taken → IsTrue (has_room self.old block)) }
         ensures ok { OnOk result (self.new ≡ put_newer self.old block entry) }
         ensures err { OnErr result (self.new ≡ self.old) }
     {
