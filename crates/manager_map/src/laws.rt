@@ -8,7 +8,7 @@ ghost use Rattle.manager_map.specs.Moves.{Move, after_moves, moves_of};
 /// Over any list of calls of `advance`, refused ones among them, no epoch falls; while a slot's epoch
 /// stays, so does its manager; and from the start the epoch of a slot is one more than the number of
 /// times that it was moved, up to 4,294,967,295.
-pub fn epochs_only_rise()
+pub fn epochs_never_fall()
     ensures never_fall { (slots : List SlotEntry) (moves : List Move) (slot : ℕ)
         → (entry_at slots slot).epoch ≤ (entry_at (after_moves slots moves) slot).epoch }
     ensures one_manager { (slots : List SlotEntry) (moves : List Move) (slot : ℕ)

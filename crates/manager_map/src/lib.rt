@@ -7,5 +7,5 @@ pub mod laws;
 pub mod slots;
 
 pub use entry::SlotEntry;
-pub use laws::epochs_only_rise;
+pub use laws::epochs_never_fall;
 pub use slots::{BadSlot, ManagerMap};

@@ -1,2 +1,4 @@
 pub mod Later
 pub mod Losses
+pub mod Restarts
+pub mod Rising

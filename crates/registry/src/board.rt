@@ -150,12 +150,14 @@ impl Board {
     /// - The Hello of a server of a greater generation than the one that is kept tells of a loss: each
     ///   current group that has the server is followed by a new one.
     /// - A reassignment gives a slot to a manager under its next epoch, which is the answer.
-    /// - A checkpoint of the slot's epoch whose horizon has no number below the kept one is kept. The
-    ///   epoch that is kept is the answer, also where the checkpoint is not kept.
+    /// - A checkpoint of the slot's epoch whose horizon has nine numbers, none below the kept one, is kept.
+    ///   Each checkpoint is answered with the epoch that is kept of its slot, also one that is not kept, but
+    ///   for two: that of a slot above 7, and one that would be kept where the version could not rise.
     ///
     /// Each change gives the maps the next version; all but that of a checkpoint go to all nodes at once. Where
     /// a version, an epoch or the ids of groups could not rise, nothing changes and nothing is sent. A
-    /// slot above 7 and a horizon of other than nine numbers change nothing.
+    /// slot above 7 and a horizon of other than nine numbers change nothing. Where memory is wanting nothing is
+    /// said of the maps.
     pub fn take(&mut self, alloc: Global, input: In) -> Mem<List<Out>>
         ensures state { OnOk result (self.new ≡ (transition self.old input).state) }
         ensures outs { IfOk result (λ outs. outs ≡ (transition self.old input).outs) }

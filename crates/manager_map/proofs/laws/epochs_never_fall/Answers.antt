@@ -1,7 +1,7 @@
 use Rattle.std.proofs.Common.{arith}
 use Rattle.manager_map.specs.Slots.{start_entries}
 use Rattle.manager_map.proofs.Epochs.{moves_follow, moves_epoch, start_epoch}
-use Rattle.manager_map.proofs.laws.epochs_only_rise.Goals as goal
+use Rattle.manager_map.proofs.laws.epochs_never_fall.Goals as goal
 
 pub returns-clause-never_fall : goal.returns-clause-never_fall
 returns-clause-never_fall c = λ slots moves slot. (moves_follow slots moves slot).never_below
