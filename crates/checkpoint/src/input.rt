@@ -10,7 +10,7 @@ pub enum In {
         slot: u8,
         /// The epoch of the slot.
         epoch: u32,
-        /// The rows of each page that is to be written.
+        /// The rows of each page that is to be written: 1 to 128 of each, as many as a Part has.
         pages: List<List<(BlockId, Entry)>>,
         /// The segments of the checkpoint before that are named again.
         parts: List<SegRef>,
@@ -24,7 +24,7 @@ pub enum In {
     },
     /// The registry's answer to a checkpoint.
     Ack {
-        /// The epoch of the slot that the registry keeps.
+        /// The epoch of the slot that the registry has.
         epoch: u32,
         /// The number of the checkpoint, counted from 1 over all that were done.
         number: u32,

@@ -21,11 +21,11 @@ pub enum Out {
         /// The horizon as it was when the checkpoint was begun.
         horizon: List<u32>,
     },
-    /// The registry keeps the checkpoint.
+    /// The registry still has this epoch of the slot.
     Kept,
-    /// The registry keeps a greater epoch of the slot, so it does not keep the checkpoint.
+    /// The registry has a greater epoch of the slot.
     Stale {
-        /// The epoch that it keeps.
+        /// The epoch that it has.
         epoch: u32,
     },
 }

@@ -75,11 +75,11 @@ impl Writer {
     ///   given out as Parts, a page in each, for one segment after the other; the next follow when the
     ///   segment before is settled. When all are, or where there is no page, the checkpoint is done: it
     ///   names the parts that it was handed, and then those segments.
-    /// - The registry's answer to the checkpoint that was done last ends it: it is kept where the
-    ///   registry keeps the same epoch, and stale where it keeps a greater one.
+    /// - The registry's answer to the checkpoint that was done last ends it, and is given out: `Kept` where
+    ///   the registry still has this epoch of the slot, and `Stale` where it has a greater one.
     ///
     /// Anything else changes nothing and gives nothing, and so does the beginning of a checkpoint once
-    /// 4,294,967,295 were begun.
+    /// 4,294,967,295 were begun. After want of memory nothing is said of the writer.
     pub fn take(&mut self, alloc: Global, input: In) -> Mem<List<Out>>
         ensures state { OnOk result (self.new ≡ (transition self.old input).state) }
         ensures outs { IfOk result (λ outs. outs ≡ (transition self.old input).outs) }

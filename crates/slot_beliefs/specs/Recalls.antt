@@ -33,7 +33,7 @@ abbrev pub noted : List Awaited → ℕ → Stamp → ℕ → List Awaited
 noted [] client stamp end = []
 noted (a ∷ rest) client stamp end = (if answers client stamp a then record a { end = Some end } else a) ∷ noted rest client stamp end
 
--- what is applied of a log: nothing of a log that a slot does not follow
+-- what is applied of a log: nothing of a log above 9, and of log 0, which there is not, that of log 1
 abbrev pub applied_of : List ℕ → ℕ → ℕ
 applied_of applied log = slice_index applied (log - 1)
 

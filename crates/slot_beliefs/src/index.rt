@@ -127,7 +127,8 @@ impl BlockIndex {
     }
 
     /// Merges these rows in their order. It may be asked only where each segment can get a live block more
-    /// for each row that lies in it.
+    /// for each row that lies in it. An index that would need more than 4,294,967,295 pages is in want of
+    /// memory. After want of memory nothing is said of the index.
     pub fn merge_all(&mut self, alloc: Global, rows: &[(BlockId, Entry)]) -> Mem<()>
         requires { Fits self.old.usage rows.now }
         ensures { OnOk result (self.new ≡ indexed_all self.old rows.now) }

@@ -109,7 +109,8 @@ pub fn nine(list: &[u32]) -> [u32; 9]
     nine
 }
 
-/// What is applied of a log: 0 of a log that a slot does not follow.
+/// What is applied of a log: 0 of a log above 9, which a slot does not follow, and of log 0, which there is
+/// not, what is applied of log 1.
 pub fn applied_of(applied: &[u32; 9], log: u8) -> u32
     ensures { result ≡ applied_of applied.now log }
 {

@@ -63,7 +63,8 @@ impl Slot {
     /// A slot at the start of an epoch. `index` is what is known of where blocks lie, `beliefs` is who
     /// holds what, where `Nothing` says nothing, and `applied` is how much of each log, from log 1, the
     /// index covers. It may be asked only with nine numbers in `applied` and where no segment is named by
-    /// more than 4,294,967,295 rows of the index.
+    /// more than 4,294,967,295 rows of the index. A slot that would need more than 4,294,967,295 pages is in
+    /// want of memory.
     pub fn start(
         alloc: Global,
         epoch: u32,
@@ -116,7 +117,8 @@ impl Slot {
         self.turn
     }
 
-    /// The last segment number of a log whose deltas are applied. Takes no memory.
+    /// The last segment number of a log whose deltas are applied: 0 of a log above 9, and of log 0, which
+    /// there is not, that of log 1. Takes no memory.
     pub fn applied(&self, log: LogId) -> u32
         ensures { result ≡ applied_of self.now.applied log.0 }
     {
@@ -146,19 +148,23 @@ impl Slot {
 
     /// What a slot does on an input, and what its manager then sends, in order.
     ///
-    /// - A want is dropped where another want waits for the block, or where the asker's log is not applied
-    ///   up to the end that it names. Else the block is recalled from the other owner, or to write from
-    ///   all other holders, and the want waits; where there are none, it is answered at once.
+    /// - A want is dropped where it is of mode `Nothing`, where another want waits for the block, or where
+    ///   the asker's log is not applied up to the end that it names. Else the block is recalled from the
+    ///   other owner, or to write from all other holders, and the want waits; where there are none, it is
+    ///   answered at once.
     /// - An answer to a recall counts where its stamp is that of an unanswered recall of the want. The
     ///   want is answered when all are in and what each named is applied.
     /// - Deltas are merged where they join on to what is applied of their log and lead beyond it; the log
     ///   is told how much is applied, and then the wants that need wait no longer are answered, in order
-    ///   of blocks. A log that is no client's and not the cleaner's is not followed.
+    ///   of blocks. A log that is no client's and not the cleaner's is not followed. Deltas are dropped as a
+    ///   whole where the count of a segment that one of the rows names could not rise by as many live blocks
+    ///   as there are rows.
     /// - A check is answered `Live` exactly where the index has the block at the place.
     /// - A tick sends the unanswered recalls again.
     ///
     /// Where a turn or a count of live blocks could not rise, nothing changes and nothing is sent. A slot
-    /// that would need more than 4,294,967,295 pages is in want of memory.
+    /// that would need more than 4,294,967,295 pages is in want of memory. After want of memory nothing is
+    /// said of the slot.
     pub fn take(&mut self, alloc: Global, input: In) -> Mem<List<Out>>
         ensures state { OnOk result (self.new ≡ (transition self.old input).state) }
         ensures outs { IfOk result (λ outs. outs ≡ (transition self.old input).outs) }
