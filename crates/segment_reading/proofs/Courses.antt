@@ -1,21 +1,24 @@
 -- Over any course of a reading: what is kept are the pairs of the last round that ended, and it is doubted exactly where the
 -- last two missed the segment.
-use Rattle.std.proofs.Common.{◌≡◌, ℕ, ◌≤◌, Bool, true, false, List, [], ◌∷◌, ◌++◌, Option, Some, None, length, refl, sym, ◌∙◌, ap₂, subst, arith}
+use Rattle.std.proofs.Common.{◌≡◌, ℕ, ◌≤◌, Bool, true, false, List, [], ◌∷◌, ◌++◌, Option, Some, None, length, refl, sym, ap, subst, arith}
 use Rattle.std.proofs.lemmas.Bool.{ltb-true, ltb-false}
-use Rattle.std.specs.Prelude.{nat_lt, if◌then◌else◌}
+use Rattle.std.specs.Prelude.{nat_lt, if◌then◌else◌, unwrap_or}
+use Rattle.group_map.specs.declared.group.Group.{Group}
 use Rattle.group_map.specs.GroupMapState.{GroupMapState}
 use Rattle.segment_format.specs.declared.segment.Segment.{Segment}
 use Rattle.segment_format.specs.ReadingItems.{answer_of}
-use Rattle.stripe_code.specs.declared.round.RoundState.{RoundState}
+use Rattle.stripe_code.specs.declared.round.Answer.{Answer}
 use Rattle.stripe_code.specs.declared.round.RoundState.TheVariants as round
 use Rattle.stripe_code.specs.declared.round.Told.{Told}
-use Rattle.stripe_code.specs.Round.{RoundSoFar, has_answered, taken, state_of}
+use Rattle.stripe_code.specs.Joined.{joined}
+use Rattle.stripe_code.specs.Round.{RoundSoFar, has_answered, have_answered, is_enough, len_in, missing_in, parts_in, taken, state_of}
 use Rattle.segment_reading.specs.declared.reading.Next.TheVariants.{Wait}
 use Rattle.segment_reading.specs.declared.reading.Stage.{Stage}
 use Rattle.segment_reading.specs.declared.reading.Stage.TheVariants.{Asking, Between, Doubted, Over}
-use Rattle.segment_reading.specs.Course.{Event, Answered, Alike, Course, transition, after_step, course, MissedTwice, Decides, IsLostExactly}
+use Rattle.segment_reading.specs.declared.target.Target.{Target}
+use Rattle.segment_reading.specs.Course.{Event, Answered, Alike, Course, Heard, after_event, after_step, at_question, can_be, course, missing_of, round_of, MissedTwice, Decides, IsLostExactly}
 use Rattle.segment_reading.specs.Lost.{missing_twice, are_gone}
-use Rattle.segment_reading.specs.Reading.{ReadingState, Step, begun, on_answer, on_confirmed, counts, judged, read_as, ends, goes_on, segment_found}
+use Rattle.segment_reading.specs.Reading.{ReadingState, Step, begun, on_answer, on_confirmed, judged, read_as, ends, segment_found}
 
 first_of : List (List (ℕ × ℕ)) → List (ℕ × ℕ)
 first_of [] = []
@@ -28,10 +31,13 @@ Says parity Between ended = MissedTwice parity ended → ⊥
 Says parity Doubted ended = MissedTwice parity ended
 Says parity Over ended = Unit {0}
 
-record Holds (spare : ℕ) (c : Course) : Type 0 where
-  same : c.reading.round.parity ≡ spare
-  kept : c.reading.kept ≡ first_of c.ended
-  says : Says spare c.reading.stage c.ended
+-- Where a reading stands over a course. What it keeps of its round is what was told, while the round is on.
+record Holds (target : Target) (group : Group) (c : Course) : Type 0 where
+  told : List Answer
+  stage : Stage
+  is : c.reading ≡ record { target = target; ask = c.heard.question; kept = first_of c.ended; round = round_of group told; stage = stage }
+  same : stage ≡ Asking → told ≡ c.heard.answers
+  says : Says group.parity stage c.ended
 
 none_twice : (pairs : List (ℕ × ℕ)) → length (missing_twice [] pairs) ≡ 0
 none_twice [] = refl
@@ -57,73 +63,138 @@ chosen parity (before ∷ rest) pairs =
     ] in
     go (nat_lt parity many) refl
 
-module _ (spare : ℕ) where
-  ends_holds : (r : ReadingState) (ended : List (List (ℕ × ℕ))) (pairs : List (ℕ × ℕ)) → r.round.parity ≡ spare → r.kept ≡ first_of ended
-      → Holds spare (after_step (ends r pairs) ended)
+-- a round with what a server told is a round over the same group
+taken_is : (group : Group) (answers : List Answer) (server : ℕ) (told : Told)
+    → taken (round_of group answers) server told ≡ round_of group (taken (round_of group answers) server told).answers
+unfolding taken
+taken_is group answers server told =
+    let r = round_of group answers in
+    let more : RoundSoFar = record r { answers = answers ++ record { server = server; told = told } ∷ [] } in
+    elim (has_answered answers server) as (λ t. (if t then r else more) ≡ round_of group (if t then r else more).answers) [ true ↦ refl | false ↦ refl ]
+
+module _ (target : Target) (group : Group) where
+  abbrev standing : Heard → List (List (ℕ × ℕ)) → List Answer → Stage → ReadingState
+  standing h ended told stage = record { target = target; ask = h.question; kept = first_of ended; round = round_of group told; stage = stage }
+
+  abbrev After : Step → Heard → List (List (ℕ × ℕ)) → Type 0
+  After s h ended = Holds target group (after_step group s h ended)
+
+  -- ---- an answer
+
+  waits : (h : Heard) (answers : List Answer) (ended : List (List (ℕ × ℕ))) (told : List Answer) (stage : Stage) → (stage ≡ Asking → told ≡ answers)
+      → Says group.parity stage ended → After (record { state = standing h ended told stage; next = Wait }) (record h { answers = answers }) ended
+  waits h answers ended told stage same says = record { told = told; stage = stage; is = refl; same = same; says = says }
+
+  ends_holds : (h : Heard) (ended : List (List (ℕ × ℕ))) (pairs : List (ℕ × ℕ)) → missing_of group h ≡ pairs
+      → After (ends (standing h ended h.answers Asking) pairs) h ended
   unfolding first_of
-  ends_holds r ended pairs same kept = record {
-    same = same;
-    kept = refl;
-    says = subst (λ (s : Stage). Says spare s (pairs ∷ ended))
-        (ap₂ (λ (p : ℕ) (before : List (ℕ × ℕ)). if are_gone p before pairs then Doubted else Between) (sym same) (sym kept)) (chosen spare ended pairs);
-  }
+  ends_holds h ended pairs is = subst (λ (ps : List (ℕ × ℕ)). After (ends (standing h ended h.answers Asking) ps) h ended) is
+      (record {
+        told = h.answers;
+        stage = if are_gone group.parity (first_of ended) (missing_of group h) then Doubted else Between;
+        is = refl;
+        same = λ e. refl;
+        says = chosen group.parity ended (missing_of group h);
+      })
 
-  read_holds : (r : ReadingState) (ended : List (List (ℕ × ℕ))) (o : Option Segment) → r.round.parity ≡ spare → r.kept ≡ first_of ended
-      → Holds spare (after_step (read_as r o) ended)
-  read_holds r ended (Some s) same kept = record { same = same; kept = kept; says = tt }
-  read_holds r ended None same kept = ends_holds r ended [] same kept
+  read_holds : (h : Heard) (ended : List (List (ℕ × ℕ))) (o : Option Segment) → missing_of group h ≡ []
+      → After (read_as (standing h ended h.answers Asking) o) h ended
+  read_holds h ended (Some s) none = record { told = h.answers; stage = Over; is = refl; same = λ e. refl; says = tt }
+  read_holds h ended None none = ends_holds h ended [] none
 
-  judged_holds : (r : ReadingState) (ended : List (List (ℕ × ℕ))) (groups : GroupMapState) (s : RoundState) → r.round.parity ≡ spare → r.kept ≡ first_of ended
-      → Says spare r.stage ended → Holds spare (after_step (judged r groups s) ended)
-  judged_holds r ended groups (round.Read bytes) same kept says = read_holds r ended (segment_found r.target groups (answer_of bytes)) same kept
-  judged_holds r ended groups (round.Short pairs) same kept says = ends_holds r ended pairs same kept
-  judged_holds r ended groups round.Waiting same kept says = record { same = same; kept = kept; says = says }
+  judged_holds : (h : Heard) (ended : List (List (ℕ × ℕ))) (groups : GroupMapState)
+      → After (judged (standing h ended h.answers Asking) groups (state_of (round_of group h.answers))) h ended
+  unfolding state_of
+  judged_holds h ended groups =
+      let now = round_of group h.answers in
+      let r = standing h ended h.answers Asking in
+      let text = joined (parts_in now.n h.answers) now.parity (unwrap_or (len_in h.answers) 0) in
+      let missing : (t : Bool) → is_enough now ≡ t → missing_of group h ≡ (if t then [] else missing_in h.answers) =
+      λ t e. ap (λ u. if u then [] else missing_in h.answers) e in
+      elim (is_enough now) as
+      (λ t. is_enough now ≡ t
+      → After (judged r groups (if t then round.Read text else if have_answered h.answers now.servers then round.Short (missing_in h.answers) else round.Waiting)) h
+      ended) [
+        | true ↦ λ e. read_holds h ended (segment_found target groups (answer_of text)) (missing true e)
+        | false ↦ λ e.
+            elim (have_answered h.answers now.servers) as
+            (λ t. After (judged r groups (if t then round.Short (missing_in h.answers) else round.Waiting)) h ended) [
+              | true ↦ ends_holds h ended (missing_in h.answers) (missing false e)
+              | false ↦ waits h h.answers ended h.answers Asking (λ e. refl) tt
+            ]
+      ] refl
 
-  parity-taken : (r : RoundSoFar) (server : ℕ) (told : Told) → (taken r server told).parity ≡ r.parity
-  unfolding taken
-  parity-taken r server told =
-      elim (has_answered r.answers server) as
-      (λ t. (if t then r else record r { answers = r.answers ++ record { server = server; told = told } ∷ [] }).parity ≡ r.parity)
-      [ true ↦ refl | false ↦ refl ]
+  abbrev heard : Heard → ℕ → ℕ → Told → Heard
+  heard h ask server told =
+      record h { answers = if can_be target group h ask server told then (taken (round_of group h.answers) server told).answers else h.answers }
 
-  answer_holds : (c : Course) (groups : GroupMapState) (ask server : ℕ) (told : Told) → Holds spare c
-      → Holds spare (after_step (on_answer c.reading groups ask server told) c.ended)
+  asking_holds : (h : Heard) (ended : List (List (ℕ × ℕ))) (groups : GroupMapState) (ask server : ℕ) (told : Told)
+      → After (on_answer (standing h ended h.answers Asking) groups ask server told) (heard h ask server told) ended
   unfolding on_answer
-  answer_holds c groups ask server told h =
-      let r = c.reading in
-      let now = taken r.round server told in
-      let is_taken : Step = judged (record r { round = now }) groups (state_of now) in
-      elim (counts r ask server told) as (λ t. Holds spare (after_step (if t then is_taken else record { state = r; next = Wait }) c.ended)) [
-        | true ↦ judged_holds (record r { round = now }) c.ended groups (state_of now) (parity-taken r.round server told ∙ h.same) h.kept h.says
-        | false ↦ record { same = h.same; kept = h.kept; says = h.says }
+  asking_holds h ended groups ask server told =
+      let r = standing h ended h.answers Asking in
+      let now = taken (round_of group h.answers) server told in
+      elim (can_be target group h ask server told) as
+      (λ t. After (if t then judged (record r { round = now }) groups (state_of now) else record { state = r; next = Wait })
+      (record h { answers = if t then now.answers else h.answers }) ended) [
+        | true ↦
+            subst (λ (rd : RoundSoFar). After (judged (record r { round = rd }) groups (state_of rd)) (record h { answers = now.answers }) ended)
+            (sym (taken_is group h.answers server told)) (judged_holds (record h { answers = now.answers }) ended groups)
+        | false ↦ waits h h.answers ended h.answers Asking (λ e. refl) tt
       ]
 
-  goes_holds : (r : ReadingState) (ended : List (List (ℕ × ℕ))) (ask : ℕ) (stage : Stage) → r.stage ≡ stage → r.round.parity ≡ spare → r.kept ≡ first_of ended
-      → Says spare stage ended → Holds spare (after_step (goes_on r ask stage) ended)
-  goes_holds r ended ask Asking is same kept says = record { same = same; kept = kept; says = subst (λ (s : Stage). Says spare s ended) (sym is) says }
-  goes_holds r ended ask Between is same kept says = record { same = same; kept = kept; says = tt }
-  goes_holds r ended ask Doubted is same kept says = record { same = same; kept = kept; says = tt }
-  goes_holds r ended ask Over is same kept says = record { same = same; kept = kept; says = subst (λ (s : Stage). Says spare s ended) (sym is) says }
+  answer_holds : (h : Heard) (ended : List (List (ℕ × ℕ))) (so_far : List Answer) (groups : GroupMapState) (ask server : ℕ) (told : Told) (stage : Stage)
+      → (stage ≡ Asking → so_far ≡ h.answers) → Says group.parity stage ended
+      → After (on_answer (standing h ended so_far stage) groups ask server told) (heard h ask server told) ended
+  unfolding on_answer
+  answer_holds h ended so_far groups ask server told Asking same says =
+      subst (λ (answers : List Answer). After (on_answer (standing h ended answers Asking) groups ask server told) (heard h ask server told) ended) (sym (same refl))
+      (asking_holds h ended groups ask server told)
+  answer_holds h ended so_far groups ask server told Between same says =
+      waits h (heard h ask server told).answers ended so_far Between (λ e. absurd cc) says
+  answer_holds h ended so_far groups ask server told Doubted same says =
+      waits h (heard h ask server told).answers ended so_far Doubted (λ e. absurd cc) says
+  answer_holds h ended so_far groups ask server told Over same says =
+      waits h (heard h ask server told).answers ended so_far Over (λ e. absurd cc) says
 
-  step_holds : (c : Course) (e : Event) → Holds spare c → Holds spare (after_step (transition c.reading e) c.ended)
+  -- ---- the reader's own question was answered alike
+
+  alike_holds : (h : Heard) (ended : List (List (ℕ × ℕ))) (told : List Answer) (ask : ℕ) (stage : Stage) → (stage ≡ Asking → told ≡ h.answers)
+      → Says group.parity stage ended
+      → (let s = on_confirmed (standing h ended told stage) ask in After s (at_question ask s.next h) ended)
   unfolding on_confirmed
-  step_holds c (Answered groups ask server told) h = answer_holds c groups ask server told h
-  step_holds c (Alike ask) h = goes_holds c.reading c.ended ask c.reading.stage refl h.same h.kept h.says
+  alike_holds h ended told ask Asking same says = record { told = told; stage = Asking; is = refl; same = same; says = says }
+  alike_holds h ended told ask Between same says = record { told = []; stage = Asking; is = refl; same = λ e. refl; says = tt }
+  alike_holds h ended told ask Doubted same says = record { told = told; stage = Over; is = refl; same = λ e. absurd cc; says = tt }
+  alike_holds h ended told ask Over same says = record { told = told; stage = Over; is = refl; same = same; says = says }
 
-  course_holds : (c : Course) (events : List Event) → Holds spare c → Holds spare (course c events)
-  course_holds c [] h = h
-  course_holds c (e ∷ es) h = course_holds (after_step (transition c.reading e) c.ended) es (step_holds c e h)
+  -- ---- any course
 
-  decides : (r : ReadingState) (ended : List (List (ℕ × ℕ))) (ask : ℕ) (stage : Stage) → Says spare stage ended
-      → Decides stage (goes_on r ask stage).next (MissedTwice spare ended)
-  decides r ended ask Asking says = refl
-  decides r ended ask Between says = (refl, says)
-  decides r ended ask Doubted says = (refl, says)
-  decides r ended ask Over says = refl
+  event_holds : (c : Course) (e : Event) → Holds target group c → Holds target group (after_event target group e c)
+  event_holds c (Answered groups ask server told) holds =
+      subst (λ (r : ReadingState). After (on_answer r groups ask server told) (heard c.heard ask server told) c.ended) (sym holds.is)
+      (answer_holds c.heard c.ended holds.told groups ask server told holds.stage holds.same holds.says)
+  event_holds c (Alike ask) holds =
+      subst (λ (r : ReadingState). After (on_confirmed r ask) (at_question ask (on_confirmed r ask).next c.heard) c.ended) (sym holds.is)
+      (alike_holds c.heard c.ended holds.told ask holds.stage holds.same holds.says)
+
+  course_holds : (c : Course) (events : List Event) → Holds target group c → Holds target group (course target group c events)
+  course_holds c [] holds = holds
+  course_holds c (e ∷ es) holds = course_holds (after_event target group e c) es (event_holds c e holds)
+
+  decides : (h : Heard) (ended : List (List (ℕ × ℕ))) (told : List Answer) (ask : ℕ) (stage : Stage) → Says group.parity stage ended
+      → Decides stage (on_confirmed (standing h ended told stage) ask).next (MissedTwice group.parity ended)
+  unfolding on_confirmed
+  decides h ended told ask Asking says = refl
+  decides h ended told ask Between says = (refl, says)
+  decides h ended told ask Doubted says = (refl, says)
+  decides h ended told ask Over says = refl
 
 pub lost_exactly : IsLostExactly
-unfolding on_confirmed first_of
+unfolding first_of
 lost_exactly target group ask next events =
-    let start : Course = record { reading = begun target group ask; ended = [] } in
-    let held = course_holds group.parity start events (record { same = refl; kept = refl; says = tt }) in
-    decides group.parity (course start events).reading (course start events).ended next (course start events).reading.stage held.says
+    let start : Course = record { reading = begun target group ask; heard = record { question = ask; answers = [] }; ended = [] } in
+    let holds = course_holds target group start events (record { told = []; stage = Asking; is = refl; same = λ e. refl; says = tt }) in
+    let c = course target group start events in
+    subst (λ (r : ReadingState). Decides r.stage (on_confirmed r next).next (MissedTwice group.parity c.ended)) (sym holds.is)
+    (decides target group c.heard c.ended holds.told next holds.stage holds.says)

@@ -1,15 +1,17 @@
 -- A reading over any course of events, and when it is lost.
-use Rattle.std.specs.Prelude.{◌≡◌, ℕ, ◌<◌, List, [], ◌∷◌, length}
+use Rattle.std.specs.Prelude.{◌≡◌, ℕ, ◌<◌, Bool, ◌==◌, ◌&&◌, if◌then◌else◌, List, [], ◌∷◌, length}
 use Rattle.group_map.specs.declared.group.Group.{Group}
 use Rattle.group_map.specs.GroupMapState.{GroupMapState}
+use Rattle.stripe_code.specs.declared.round.Answer.{Answer}
 use Rattle.stripe_code.specs.declared.round.Told.{Told}
+use Rattle.stripe_code.specs.Round.{RoundSoFar, asks, is_enough, missing_in, taken, told_fits}
 use Rattle.segment_reading.specs.declared.reading.Next.{Next}
 use Rattle.segment_reading.specs.declared.reading.Next.TheVariants.{Wait, Ask, Again, Read, Lost}
 use Rattle.segment_reading.specs.declared.reading.Stage.{Stage}
 use Rattle.segment_reading.specs.declared.reading.Stage.TheVariants.{Asking, Between, Doubted, Over}
 use Rattle.segment_reading.specs.declared.target.Target.{Target}
 use Rattle.segment_reading.specs.Lost.{missing_twice}
-use Rattle.segment_reading.specs.Reading.{ReadingState, Step, begun, on_answer, on_confirmed}
+use Rattle.segment_reading.specs.Reading.{ReadingState, Step, begun, name_fits, on_answer, on_confirmed, servers_of}
 
 -- a server told something in answer to a question, where the reader knew these groups; or the reader's own question was answered alike, and a further
 -- one is drawn
@@ -21,9 +23,42 @@ abbrev pub transition : ReadingState → Event → Step
 transition r (Answered groups ask server told) = on_answer r groups ask server told
 transition r (Alike ask) = on_confirmed r ask
 
--- the reading, and the pairs that were Missing in each round that ended without the segment, the last round first
+-- what was told in the present round: its question, and of each server of the group the first answer to it that can be of the segment
+pub record Heard : Type 0 where
+  pub question : ℕ
+  pub answers : List Answer
+
+-- the round over a group in which these answers count
+abbrev pub round_of : Group → List Answer → RoundSoFar
+round_of group answers = record { n = length group.members; parity = group.parity; servers = servers_of group; answers = answers }
+
+-- it answers the question of the round, a server of the group tells it, and a fragment can be of the segment
+abbrev pub can_be : Target → Group → Heard → ℕ → ℕ → Told → Bool
+can_be target group h ask server told =
+    (ask == h.question) && asks (round_of group h.answers) server && (name_fits target told && told_fits (round_of group h.answers) told)
+
+-- a further round begins with its question
+abbrev pub at_question : ℕ → Next → Heard → Heard
+at_question ask Wait h = h
+at_question ask Ask h = record { question = ask; answers = [] }
+at_question ask Again h = h
+at_question ask (Read s) h = h
+at_question ask Lost h = h
+
+abbrev pub heard_after : Target → Group → Event → Next → Heard → Heard
+heard_after target group (Answered groups ask server told) next h =
+    record h { answers = if can_be target group h ask server told then (taken (round_of group h.answers) server told).answers else h.answers }
+heard_after target group (Alike ask) next h = at_question ask next h
+
+-- the pairs that were Missing in a round in which this was told: none where it makes up a text
+abbrev pub missing_of : Group → Heard → List (ℕ × ℕ)
+missing_of group h = if is_enough (round_of group h.answers) then [] else missing_in h.answers
+
+-- the reading; and, from the events and what the reader was to do next alone, what was told in the present round, and the pairs that were Missing
+-- in each round that ended without the segment, the last round first
 pub record Course : Type 0 where
   pub reading : ReadingState
+  pub heard : Heard
   pub ended : List (List (ℕ × ℕ))
 
 abbrev pub ended_after : Next → List (ℕ × ℕ) → List (List (ℕ × ℕ)) → List (List (ℕ × ℕ))
@@ -33,15 +68,20 @@ ended_after Again pairs ended = pairs ∷ ended
 ended_after (Read s) pairs ended = ended
 ended_after Lost pairs ended = ended
 
-abbrev pub after_step : Step → List (List (ℕ × ℕ)) → Course
-after_step s ended = record { reading = s.state; ended = ended_after s.next s.state.kept ended }
+abbrev pub after_step : Group → Step → Heard → List (List (ℕ × ℕ)) → Course
+after_step group s heard ended = record { reading = s.state; heard = heard; ended = ended_after s.next (missing_of group heard) ended }
 
-abbrev pub course : Course → List Event → Course
-course c [] = c
-course c (e ∷ es) = course (after_step (transition c.reading e) c.ended) es
+abbrev pub after_event : Target → Group → Event → Course → Course
+after_event target group e c =
+    let s = transition c.reading e in after_step group s (heard_after target group e s.next c.heard) c.ended
+
+abbrev pub course : Target → Group → Course → List Event → Course
+course target group c [] = c
+course target group c (e ∷ es) = course target group (after_event target group e c) es
 
 abbrev pub course_of : Target → Group → ℕ → List Event → Course
-course_of target group ask events = course (record { reading = begun target group ask; ended = [] }) events
+course_of target group ask events =
+    course target group (record { reading = begun target group ask; heard = record { question = ask; answers = [] }; ended = [] }) events
 
 -- in the last two rounds, one after the other, more of the same pairs were Missing than the parity makes good
 abbrev pub MissedTwice : ℕ → List (List (ℕ × ℕ)) → Type 0

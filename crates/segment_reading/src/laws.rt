@@ -3,7 +3,8 @@
 ghost use Rattle.segment_reading.specs.Course.{AnswersLoseNothing, IsLostExactly, OtherAnswersChangeNothing};
 
 /// Where the reader's own question is answered alike, the segment is lost exactly where, in the last two rounds,
-/// more of the same pairs of a server and its generation were Missing than the parity makes good.
+/// more of the same pairs of a server and its generation were Missing than the parity makes good. What was
+/// Missing in a round is what servers told in answer to its question, not what the reading keeps of it.
 pub fn lost_after_two_rounds()
     ensures { IsLostExactly }
 {}
