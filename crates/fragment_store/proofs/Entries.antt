@@ -1,7 +1,6 @@
 -- The table of a shelf is its fragments under their names: what looking up, inserting and removing do to them.
 use Rattle.std.proofs.Common.{◌≡◌, Bool, true, false, cond, List, [], ◌∷◌, Option, Some, None, map, filter, refl, sym, ap, subst, ◌∙◌}
-use Rattle.std.specs.Prelude.{find, not, is_some}
-use Rattle.std.specs.declared.cmp.Ordering.{Ordering}
+use Rattle.std.specs.Prelude.{not, is_some}
 use Rattle.std.specs.declared.cmp.Ordering.TheVariants.{Less, Equal, Greater}
 use Rattle.std.specs.Ordering.{is_eq, match_ordering}
 use Rattle.std.specs.Map.{lookup, keys_of, values_of, remove_entry}
@@ -17,7 +16,7 @@ use Rattle.xfs_base.proofs.Orders.{seg_cmp_total}
 use Rattle.xfs_base.proofs.Sorted.{sorted_insert, sorted_remove}
 use Rattle.fragment_store.specs.ShelfState.{same_name, held_at, entries_of, IsShelf}
 use Rattle.fragment_store.specs.Calls.{with_fragment}
-use Rattle.fragment_store.proofs.Names.{one_name, same_itself, same_back}
+use Rattle.fragment_store.proofs.Names.{one_name}
 
 pub values-entries : (fs : List Fragment) → values_of (entries_of fs) ≡ fs
 values-entries [] = refl

@@ -1,6 +1,6 @@
 -- What no list of stores, fences, deletions and fills undoes.
 use Rattle.std.proofs.Common.{◌≡◌, Bool, true, false, cond, List, [], ◌∷◌, Option, Some, None, refl, sym, ap, subst, ◌∙◌, inl, inr}
-use Rattle.std.specs.Prelude.{◌⊎◌, IsTrue, IsFalse, is_none, is_some, not, ◌||◌, nat_eq}
+use Rattle.std.specs.Prelude.{◌⊎◌, Contains, IsTrue, IsFalse, is_none, is_some, not, ◌||◌, nat_eq}
 use Rattle.std.specs.declared.cmp.Ordering.{Ordering}
 use Rattle.std.specs.declared.cmp.Ordering.TheVariants.{Less, Equal, Greater}
 use Rattle.std.specs.Ordering.{eq_by_cmp, is_gt, ordering_reverse}
@@ -14,16 +14,17 @@ use Rattle.xfs_base.specs.declared.segment.Pass.{Pass}
 use Rattle.xfs_base.specs.declared.segment.SegName.{SegName}
 use Rattle.xfs_base.specs.Segments.{pass_cmp}
 use Rattle.xfs_base.specs.Stamps.{is_greater}
-use Rattle.xfs_base.proofs.Booleans.{contrary, by_test, or_first, or_second}
+use Rattle.xfs_base.proofs.Booleans.{contrary, by_test, or_second}
+use Rattle.xfs_base.proofs.Members.{contains_first, contains_rest}
 use Rattle.xfs_base.proofs.Orders.{pass_cmp_total}
 use Rattle.fragment_store.specs.declared.store_error.StoreError.TheVariants.{WrongGeneration, Marked}
-use Rattle.fragment_store.specs.ShelfState.{ShelfState, new_shelf, same_name, log_cmp, held_at, is_held, is_marked, fence_of}
-use Rattle.fragment_store.specs.Calls.{with_fragment, store_refused, kept, on_fence, on_delete, on_fill}
-use Rattle.fragment_store.specs.Histories.{Call, after_call, after_calls}
+use Rattle.fragment_store.specs.ShelfState.{ShelfState, same_name, log_cmp, held_at, is_held, is_marked, fence_of}
+use Rattle.fragment_store.specs.Calls.{with_fragment, store_refused, kept, on_fence, on_delete}
+use Rattle.fragment_store.specs.Histories.{Call, DeletedAreAway, after_call, after_calls}
 use Rattle.fragment_store.specs.Histories.Call.{Store, Fence, Delete, Fill}
 use Rattle.fragment_store.proofs.Entries.{none_held}
-use Rattle.fragment_store.proofs.Names.{one_name, same_itself, same_back}
-use Rattle.fragment_store.proofs.Tables.{held-with, held-without, is_marked-with, log_cmp_total, fence_of-with}
+use Rattle.fragment_store.proofs.Names.{one_name, same_back}
+use Rattle.fragment_store.proofs.Tables.{held-with, held-without, is_marked-with, fence_of-with}
 
 -- ---- passes
 
@@ -115,8 +116,8 @@ marks_stay s (c ∷ cs) name m = marks_stay (after_call s c) cs name (marks_afte
 
 -- ---- what is held
 
-abbrev HeldOrMarked : SegName → Fragment → ShelfState → Type 0
-HeldOrMarked name f s = (held_at s.held name ≡ Some f) ⊎ IsTrue (is_marked s.marks name)
+abbrev HeldOr : Type 0 → SegName → Fragment → ShelfState → Type 0
+HeldOr deleted name f s = (held_at s.held name ≡ Some f) ⊎ deleted
 
 -- a fragment of another name comes
 beside : (s : ShelfState) (new : Fragment) (name : SegName) (f : Fragment) → held_at s.held new.meta.name ≡ None → held_at s.held name ≡ Some f → (t : Bool)
@@ -125,52 +126,57 @@ beside s new name f none h true e =
     contrary (sym (ap is_some none) ∙ (ap (λ n. is_some (held_at s.held n)) (sym (one_name name new.meta.name e)) ∙ ap is_some h))
 beside s new name f none h false e = h
 
-kept_held : (s : ShelfState) (new : Fragment) (name : SegName) (f : Fragment) → held_at s.held name ≡ Some f → HeldOrMarked name f (kept s new)
+kept_held : (s : ShelfState) (new : Fragment) (name : SegName) (f : Fragment) → held_at s.held name ≡ Some f → held_at (kept s new).held name ≡ Some f
 kept_held s new name f h =
-    by_test (HeldOrMarked name f) (is_held s new.meta.name) s (record s { held = with_fragment new s.held }) (λ e. inl h)
+    by_test (λ (later : ShelfState). held_at later.held name ≡ Some f) (is_held s new.meta.name) s (record s { held = with_fragment new s.held }) (λ e. h)
     (λ e. let none = none_held (held_at s.held new.meta.name) e in
-    inl (held-with new s.held name none ∙ beside s new name f none h (same_name name new.meta.name) refl))
+    held-with new s.held name none ∙ beside s new name f none h (same_name name new.meta.name) refl)
 
 deleted_or_held : (s : ShelfState) (gone name : SegName) (f : Fragment) → held_at s.held name ≡ Some f → (t : Bool) → same_name gone name ≡ t
-    → HeldOrMarked name f (on_delete s gone)
-deleted_or_held s gone name f h true e =
-    inr (is_marked-with s.marks gone name ∙ or_first (same_name name gone) (is_marked s.marks name) (same_back name gone ∙ e))
+    → HeldOr (Delete gone ≡ Delete name) name f (on_delete s gone)
+deleted_or_held s gone name f h true e = inr (ap Delete (one_name gone name e))
 deleted_or_held s gone name f h false e = inl (held-without gone s.held name ∙ ap (λ t. cond t None (held_at s.held name)) e ∙ h)
 
-held_after_call : (s : ShelfState) (c : Call) (name : SegName) (f : Fragment) → held_at s.held name ≡ Some f → HeldOrMarked name f (after_call s c)
+held_after_call : (s : ShelfState) (c : Call) (name : SegName) (f : Fragment) → held_at s.held name ≡ Some f
+    → HeldOr (c ≡ Delete name) name f (after_call s c)
 held_after_call s (Store new generation) name f h =
-    by_test (HeldOrMarked name f) (is_none (store_refused s new.meta.name generation)) (kept s new) s (λ e. kept_held s new name f h) (λ e. inl h)
+    by_test (HeldOr (Store new generation ≡ Delete name) name f) (is_none (store_refused s new.meta.name generation)) (kept s new) s
+    (λ e. inl (kept_held s new name f h)) (λ e. inl h)
 held_after_call s (Fence log pass) name f h =
-    by_test (HeldOrMarked name f) (is_greater (pass_cmp pass (fence_of s.fences log))) (record s { fences = insert_entry log_cmp s.fences log pass }) s
-    (λ e. inl h) (λ e. inl h)
+    by_test (HeldOr (Fence log pass ≡ Delete name) name f) (is_greater (pass_cmp pass (fence_of s.fences log)))
+    (record s { fences = insert_entry log_cmp s.fences log pass }) s (λ e. inl h) (λ e. inl h)
 held_after_call s (Delete gone) name f h = deleted_or_held s gone name f h (same_name gone name) refl
 held_after_call s (Fill new) name f h =
-    by_test (HeldOrMarked name f) (is_marked s.marks new.meta.name) s (kept s new) (λ e. inl h) (λ e. kept_held s new name f h)
+    by_test (HeldOr (Fill new ≡ Delete name) name f) (is_marked s.marks new.meta.name) s (kept s new) (λ e. inl h) (λ e. inl (kept_held s new name f h))
+
+abbrev HeldOrDeleted : SegName → Fragment → ShelfState → List Call → Type 0
+HeldOrDeleted name f s calls = HeldOr (Contains calls (Delete name)) name f (after_calls s calls)
+
+later_deleted : (s : ShelfState) (c : Call) (calls : List Call) (name : SegName) (f : Fragment) → HeldOrDeleted name f (after_call s c) calls
+    → HeldOrDeleted name f s (c ∷ calls)
+later_deleted s c calls name f (inl h) = inl h
+later_deleted s c calls name f (inr k) = inr (contains_rest c (Delete name) calls k)
 
 held_on : (s : ShelfState) (c : Call) (calls : List Call) (name : SegName) (f : Fragment)
-    → ((h : held_at (after_call s c).held name ≡ Some f) → HeldOrMarked name f (after_calls (after_call s c) calls)) → HeldOrMarked name f (after_call s c)
-    → HeldOrMarked name f (after_calls (after_call s c) calls)
-held_on s c calls name f more (inl h) = more h
-held_on s c calls name f more (inr m) = inr (marks_stay (after_call s c) calls name m)
+    → ((h : held_at (after_call s c).held name ≡ Some f) → HeldOrDeleted name f (after_call s c) calls) → HeldOr (c ≡ Delete name) name f (after_call s c)
+    → HeldOrDeleted name f s (c ∷ calls)
+held_on s c calls name f more (inl h) = later_deleted s c calls name f (more h)
+held_on s c calls name f more (inr e) = inr (subst (Contains (c ∷ calls)) e (contains_first c calls))
 
-pub held_until_deleted : (s : ShelfState) (calls : List Call) (name : SegName) (f : Fragment) → held_at s.held name ≡ Some f
-    → HeldOrMarked name f (after_calls s calls)
+pub held_until_deleted : (s : ShelfState) (calls : List Call) (name : SegName) (f : Fragment) → held_at s.held name ≡ Some f → HeldOrDeleted name f s calls
 held_until_deleted s [] name f h = inl h
 held_until_deleted s (c ∷ cs) name f h = held_on s c cs name f (λ k. held_until_deleted (after_call s c) cs name f k) (held_after_call s c name f h)
 
 -- ---- nothing is held of a marked name
-
-abbrev Away : ShelfState → Type 0
-Away s = (name : SegName) → is_marked s.marks name ≡ true → held_at s.held name ≡ None
 
 apart : (s : ShelfState) (new : Fragment) (name : SegName) → is_marked s.marks new.meta.name ≡ false → is_marked s.marks name ≡ true
     → held_at s.held name ≡ None → (t : Bool) → same_name name new.meta.name ≡ t → cond t (Some new) (held_at s.held name) ≡ None
 apart s new name unmarked marked none true e = contrary (sym unmarked ∙ (ap (is_marked s.marks) (sym (one_name name new.meta.name e)) ∙ marked))
 apart s new name unmarked marked none false e = none
 
-kept_away : (s : ShelfState) (new : Fragment) → is_marked s.marks new.meta.name ≡ false → Away s → Away (kept s new)
+kept_away : (s : ShelfState) (new : Fragment) → is_marked s.marks new.meta.name ≡ false → DeletedAreAway s → DeletedAreAway (kept s new)
 kept_away s new unmarked away =
-    by_test Away (is_held s new.meta.name) s (record s { held = with_fragment new s.held }) (λ e. away)
+    by_test DeletedAreAway (is_held s new.meta.name) s (record s { held = with_fragment new s.held }) (λ e. away)
     (λ e name m. held-with new s.held name (none_held (held_at s.held new.meta.name) e)
     ∙ apart s new name unmarked m (away name m) (same_name name new.meta.name) refl)
 
@@ -179,26 +185,25 @@ not_marked true b x y o h = contrary h
 not_marked false true x y o h = contrary h
 not_marked false false x y o h = refl
 
-deleted_away : (s : ShelfState) (gone name : SegName) → Away s → (t : Bool) → same_name gone name ≡ t → (same_name name gone || is_marked s.marks name) ≡ true
+deleted_away : (s : ShelfState) (gone name : SegName) → DeletedAreAway s → (t : Bool) → same_name gone name ≡ t → (same_name name gone || is_marked s.marks name) ≡ true
     → cond t None (held_at s.held name) ≡ None
 deleted_away s gone name away true e m = refl
 deleted_away s gone name away false e m = away name (sym (ap (λ t. t || is_marked s.marks name) (same_back name gone ∙ e)) ∙ m)
 
-away_after_call : (s : ShelfState) (c : Call) → Away s → Away (after_call s c)
+away_after_call : (s : ShelfState) (c : Call) → DeletedAreAway s → DeletedAreAway (after_call s c)
 away_after_call s (Store new generation) away =
-    by_test Away (is_none (store_refused s new.meta.name generation)) (kept s new) s
+    by_test DeletedAreAway (is_none (store_refused s new.meta.name generation)) (kept s new) s
     (λ e. kept_away s new (not_marked (not (nat_eq generation s.generation)) (is_marked s.marks new.meta.name) (WrongGeneration s.generation) Marked _ e) away)
     (λ e. away)
 away_after_call s (Fence log pass) away =
-    by_test Away (is_greater (pass_cmp pass (fence_of s.fences log))) (record s { fences = insert_entry log_cmp s.fences log pass }) s (λ e. away) (λ e. away)
+    by_test DeletedAreAway (is_greater (pass_cmp pass (fence_of s.fences log))) (record s { fences = insert_entry log_cmp s.fences log pass }) s (λ e. away) (λ e. away)
 away_after_call s (Delete gone) away =
     λ name m. held-without gone s.held name ∙ deleted_away s gone name away (same_name gone name) refl (sym (is_marked-with s.marks gone name) ∙ m)
-away_after_call s (Fill new) away = by_test Away (is_marked s.marks new.meta.name) s (kept s new) (λ e. away) (λ e. kept_away s new e away)
+away_after_call s (Fill new) away = by_test DeletedAreAway (is_marked s.marks new.meta.name) s (kept s new) (λ e. away) (λ e. kept_away s new e away)
 
-away_after_calls : (s : ShelfState) (calls : List Call) → Away s → Away (after_calls s calls)
-away_after_calls s [] away = away
-away_after_calls s (c ∷ cs) away = away_after_calls (after_call s c) cs (away_after_call s c away)
+pub deleted_stay_away : (s : ShelfState) (calls : List Call) → DeletedAreAway s → DeletedAreAway (after_calls s calls)
+deleted_stay_away s [] away = away
+deleted_stay_away s (c ∷ cs) away = deleted_stay_away (after_call s c) cs (away_after_call s c away)
 
-pub deleted_stay_away : (calls : List Call) (name : SegName) → IsTrue (is_marked (after_calls new_shelf calls).marks name)
-    → held_at (after_calls new_shelf calls).held name ≡ None
-deleted_stay_away calls name m = away_after_calls new_shelf calls (λ n h. contrary h) name m
+pub nothing_marked : (s : ShelfState) → s.marks ≡ [] → DeletedAreAway s
+nothing_marked s none name marked = contrary (sym (ap (λ marks. is_marked marks name) none) ∙ marked)

@@ -1,10 +1,9 @@
 -- What a shelf has at each name, and at each log, after each change.
-use Rattle.std.proofs.Common.{◌≡◌, Bool, true, false, cond, List, [], ◌∷◌, Option, Some, None, filter, unwrap_or, refl, sym, ap, subst, ◌∙◌}
-use Rattle.std.specs.Prelude.{find, not, is_some, ◌||◌}
+use Rattle.std.proofs.Common.{◌≡◌, Bool, true, false, cond, List, [], ◌∷◌, Option, Some, None, filter, unwrap_or, refl, sym, ap, ◌∙◌}
+use Rattle.std.specs.Prelude.{not, is_some, ◌||◌}
 use Rattle.std.specs.List.{list_any}
-use Rattle.std.specs.declared.cmp.Ordering.{Ordering}
 use Rattle.std.specs.declared.cmp.Ordering.TheVariants.{Less, Equal, Greater}
-use Rattle.std.specs.Ordering.{is_eq, nat_cmp, eq_by_cmp, match_ordering}
+use Rattle.std.specs.Ordering.{is_eq, eq_by_cmp, match_ordering}
 use Rattle.std.specs.Cmp.{IsTotalOrder}
 use Rattle.std.specs.Map.{lookup}
 use Rattle.std.specs.BTreeMap.{is_at, insert_entry}
@@ -20,7 +19,7 @@ use Rattle.xfs_base.proofs.BlockOrder.{lookup-insert_entry}
 use Rattle.xfs_base.proofs.Booleans.{contrary}
 use Rattle.fragment_store.specs.ShelfState.{same_name, log_cmp, held_at, is_marked, fence_of}
 use Rattle.fragment_store.specs.Calls.{with_fragment}
-use Rattle.fragment_store.proofs.Names.{one_name, same_itself}
+use Rattle.fragment_store.proofs.Names.{one_name}
 
 -- two names that a third is cannot differ
 one_of_two : (a b name : SegName) → same_name name a ≡ true → same_name name b ≡ true → same_name a b ≡ true

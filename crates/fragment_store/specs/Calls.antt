@@ -1,5 +1,5 @@
 -- What each call makes of a shelf, and what it answers.
-use Rattle.std.specs.Prelude.{ℕ, ◌+◌, Bool, not, ◌||◌, ◌++◌, min, nat_eq, if◌then◌else◌, List, [], ◌∷◌, Option, Some, None, map, filter, fold}
+use Rattle.std.specs.Prelude.{ℕ, ◌+◌, not, ◌++◌, min, nat_eq, if◌then◌else◌, List, [], ◌∷◌, Option, Some, None, map, filter, fold}
 use Rattle.std.specs.BTreeMap.{insert_entry}
 use Rattle.std.specs.BTreeSet.{insert_key}
 use Rattle.xfs_base.specs.declared.fragment.FragMeta.{FragMeta}

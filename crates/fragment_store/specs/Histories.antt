@@ -1,10 +1,10 @@
 -- Any list of calls that change a shelf, but a loss.
-use Rattle.std.specs.Prelude.{ℕ, List, [], ◌∷◌, is_none, if◌then◌else◌}
+use Rattle.std.specs.Prelude.{◌≡◌, ℕ, List, [], ◌∷◌, None, is_none, if◌then◌else◌, IsTrue}
 use Rattle.xfs_base.specs.declared.fragment.Fragment.{Fragment}
 use Rattle.xfs_base.specs.declared.segment.LogId.{LogId}
 use Rattle.xfs_base.specs.declared.segment.Pass.{Pass}
 use Rattle.xfs_base.specs.declared.segment.SegName.{SegName}
-use Rattle.fragment_store.specs.ShelfState.{ShelfState}
+use Rattle.fragment_store.specs.ShelfState.{ShelfState, held_at, is_marked}
 use Rattle.fragment_store.specs.Calls.{store_refused, kept, on_fence, on_delete, on_fill}
 
 pub data Call : Type 0 where
@@ -24,3 +24,7 @@ after_call s (Fill f) = on_fill s f
 abbrev pub after_calls : ShelfState → List Call → ShelfState
 after_calls s [] = s
 after_calls s (c ∷ cs) = after_calls (after_call s c) cs
+
+-- nothing is held of a name that was deleted
+abbrev pub DeletedAreAway : ShelfState → Type 0
+DeletedAreAway s = (name : SegName) → IsTrue (is_marked s.marks name) → held_at s.held name ≡ None

@@ -10,3 +10,6 @@ pub mod store_error;
 pub use laws::{fences_never_fall, kept_until_deleted};
 pub use shelf::Shelf;
 pub use store_error::{Missing, StoreError};
+
+#[cfg(test)]
+mod tests;

@@ -6,7 +6,7 @@ ghost use Rattle.xfs_base.specs.Segments.{pass_cmp, seg_cmp};
 ghost use Rattle.xfs_base.specs.Stamps.{is_greater};
 ghost use Rattle.fragment_store.specs.declared.store_error.StoreError.TheVariants.{Memory};
 ghost use Rattle.fragment_store.specs.ShelfState.{ShelfState, new_shelf, held_at, is_held, is_marked, fence_of};
-ghost use Rattle.fragment_store.specs.Calls.{store_refused, kept, on_fence, on_list, on_delete, on_fill, on_lose, barred};
+ghost use Rattle.fragment_store.specs.Calls.{store_refused, kept, on_fence, on_list, on_delete, on_fill, on_lose, barred, in_order};
 
 use crate::{Missing, StoreError};
 use std::alloc::Global;
@@ -15,8 +15,8 @@ use std::marker::Model;
 use xfs_base::{Crosses, FragMeta, Fragment, List, LogId, Mem, Pass, SegName};
 
 /// What a storage server keeps (the 1996 paper, "Storage Servers" and "RAID"): its generation, the
-/// fragments by name, for each log the pass below which nothing is taken, and the names that were
-/// deleted. Look-ups and stores take time logarithmic in what is held.
+/// fragments by name, for each log the pass below which no store is taken, and the names that were
+/// deleted. Look-ups and stores take time logarithmic in what is held and marked.
 #[derive(Drop)]
 pub struct Shelf {
     generation: u32,
@@ -51,7 +51,7 @@ impl Shelf {
         }
     }
 
-    /// How often the disk was lost, and one. Takes no memory.
+    /// How often the disk was lost, and one, up to the greatest number. Takes no memory.
     pub fn generation(&self) -> u32
         ensures { result ≡ self.now.generation }
     {
@@ -91,8 +91,9 @@ impl Shelf {
         }
     }
 
-    /// Bars from now on what is of this log and below this pass: of it and the log's fence the greater is
-    /// kept and answered. Where memory is wanting the shelf is unchanged.
+    /// Bars from now on a store of what is of this log and below this pass, though no `fill` of it: of the
+    /// pass and the log's fence the greater is kept and answered. Where memory is wanting the shelf is
+    /// unchanged.
     pub fn fence(&mut self, _alloc: Global, log: LogId, pass: Pass) -> Mem<Pass>
         ensures ok { OnOk result (self.new ≡ on_fence self.old log pass) }
         ensures kept { IfOk result (λ fence. fence ≡ fence_of self.new.fences log) }
@@ -162,14 +163,22 @@ impl Shelf {
         ensures sorted { IfOk result (λ names. IsStrictlySortedBy seg_cmp names) }
         ensures just_these { IfOk result (λ names. (name : SegName) → Contains names name ↔ (Contains self.now.marks name ⊎ Contains (map (λ f. f.meta.name) self.now.held) name)) }
     {
-        let mut names = BTreeSet::new(alloc);
-        for name in &self.marks {
-            names.insert(*name)?;
-        }
+        let mut names = self.marked(alloc)?;
         for fragment in self.held.values() {
             names.insert(fragment.meta.name)?;
         }
         listed(alloc, &names)
+    }
+
+    // The names that are marked.
+    fn marked(&self, alloc: Global) -> Mem<BTreeSet<SegName>>
+        ensures { IfOk result (λ names. names.keys ≡ in_order self.now.marks) }
+    {
+        let mut names = BTreeSet::new(alloc);
+        for name in &self.marks {
+            names.insert(*name)?;
+        }
+        Ok(names)
     }
 
     // Why a fragment of this name may not be kept.
