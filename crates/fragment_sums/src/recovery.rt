@@ -10,7 +10,8 @@ use parity_kernel::inverse;
 use std::alloc::Global;
 use xfs_base::{List, Mem};
 
-/// The pieces that are missing, of so many, in order. Behind the pieces stand one or two parity fragments.
+/// The pieces that are missing, of so many, in order. Behind the pieces stand one or two parity fragments. Where more are
+/// missing than the parity makes good, what is answered isn't the pieces.
 pub fn recovered(
     alloc: Global,
     parts: &[Option<List<u8>>],
@@ -20,7 +21,7 @@ pub fn recovered(
     requires few { count ≤ 8 }
     requires within { count ≤ length parts.now }
     requires lengths { HasLengths part parts.now }
-    // Whatever is missing, the pieces come back.
+    // Where no more are missing than the parity makes good, the pieces come back.
     ensures gives_back { IfOk result (λ found. GivesBack part parts.now count found) }
     ensures exact { IfOk result (λ found. found ≡ recovered parts.now count) }
 {

@@ -26,10 +26,11 @@ inverse_of by = times_squares 7 by 1
 
 -- ---- the laws of the field that parity rests on
 
--- a product is linear in both bytes
+-- a product goes through exclusive or in the second byte
 abbrev pub IsLinear : Type 0
 IsLinear = (by x y : ℕ) → product by (bit_xor x y) ≡ bit_xor (product by x) (product by y)
 
+-- and in the first
 abbrev pub IsAdditive : Type 0
 IsAdditive = (a b x : ℕ) → product (bit_xor a b) x ≡ bit_xor (product a x) (product b x)
 

@@ -2,7 +2,9 @@
 //! nothing.
 ghost use Rattle.parity_kernel.specs.Field.{IsLinear, IsAdditive, HasInverses};
 
-/// A product is linear in both factors, and a product by any byte but 0 can be undone.
+/// Of the laws of a field those that parity rests on: a product goes through exclusive or in either factor,
+/// and a product by any byte but 0 is undone by one by that byte's inverse. That products commute and
+/// associate isn't said.
 pub fn bytes_are_a_field()
     ensures linear { IsLinear }
     ensures additive { IsAdditive }

@@ -1,3 +1,4 @@
+//! Sums and products of bytes, against values from outside.
 use crate::{inverse, mul_into, xor_into};
 
 // The products of the field stand in the textbooks; a vector's bytes agree with single ones.
@@ -8,6 +9,9 @@ fn folds_byte_by_byte(rt: HostRuntime) {
     assert_eq!(rt; to, [0xf0, 0x0f]);
     mul_into(&mut to, &[0x80, 0x01], 2);
     assert_eq!(rt; to, [0xed, 0x0d]);
+    let mut one = [0x00];
+    mul_into(&mut one, &[0x80], 2);
+    assert_eq!(rt; one, [0x1d]);
     assert_eq!(rt; inverse(2), 0x8e);
     for length in [0_usize, 1, 31, 32, 33, 64, 70] {
         let mut folded = [1; 70];

@@ -1,3 +1,4 @@
+//! One fragment folded into another.
 ghost use Rattle.std.specs.Prelude.{◌≡◌, ◌+◌, ◌≤◌, ◌++◌, length, take, drop};
 ghost use Rattle.std.specs.Simd.Lanes.{chunk, put_chunk};
 ghost use Rattle.parity_kernel.specs.Bytewise.{xor_of};
