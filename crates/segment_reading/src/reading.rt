@@ -115,7 +115,8 @@ impl Reading {
     }
 
     /// Takes what a server told in answer to a question. It is dropped unless a round is on, the question is
-    /// the present one, the server is a member, and a fragment can be one of this segment's.
+    /// the present one, the server is a member, and a fragment can be one of this segment's. After want of
+    /// memory nothing is said of the reading.
     #[tactic(auto, unfolding(crate::specs::Reading::on_answer))]
     pub fn take(
         &mut self,
@@ -166,7 +167,8 @@ impl Reading {
     }
 
     /// The reader's own question was answered alike: a further round begins, under this question, or the
-    /// segment is lost. While a round is on nothing changes.
+    /// segment is lost. While a round is on nothing changes. After want of memory nothing is said of the
+    /// reading.
     #[tactic(auto, unfolding(crate::specs::Reading::on_confirmed))]
     pub fn confirmed(&mut self, alloc: Global, ask: u32) -> Mem<Next>
         ensures state { OnOk result (self.new ≡ (on_confirmed self.old ask).state) }

@@ -2,3 +2,4 @@ pub mod Given
 pub mod Pieces
 pub mod Recovery
 pub mod Rounds
+pub mod WhatWasCut

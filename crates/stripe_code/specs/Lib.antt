@@ -2,3 +2,4 @@ pub mod Fragments
 pub mod Joined
 pub mod Round
 pub mod Stripe
+pub mod WhatWasCut

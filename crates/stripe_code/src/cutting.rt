@@ -8,7 +8,8 @@ use xfs_base::{List, Mem};
 
 /// The stripe of a text over n members: its pieces, the last filled up with zeros, then the exclusive or
 /// of these, and with a parity of 2 also the sum of their products by 1, 2, 4 and so on, in the field of
-/// 256 elements (the 1996 paper, "RAID"; the second parity fragment is this project's own).
+/// 256 elements (the 1996 paper, "RAID"; the second parity fragment is this project's own). The parity is
+/// 1 or 2, and n from parity + 2 to 8. Only memory can be wanting.
 #[tactic(auto, unfolding(crate::specs::Stripe::stripe_of))]
 pub fn cut(alloc: Global, segment: &[u8], n: usize, parity: u8) -> Mem<List<List<u8>>>
     requires { IsCut n parity }

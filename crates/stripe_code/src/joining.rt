@@ -34,8 +34,10 @@ impl From<AllocError> for JoinError {
 }
 
 /// The text of `len` bytes whose stripe has these fragments, of which some may be missing: any that are
-/// as many as the pieces of the text suffice. `TwoGone` and `ThreeGone` come exactly where more are
-/// missing than the parity makes good, with the first of them.
+/// as many as the pieces of the text suffice. The parity is 1 or 2, and there are from parity + 2 to 8
+/// places. Each fragment that is there is as long as one of a text of `len` bytes: `len` divided by the
+/// number of pieces, rounded up. `TwoGone` and `ThreeGone` come exactly where more are missing than the
+/// parity makes good, with the first of them; but for `Memory`, which comes wherever memory is wanting.
 pub fn join(
     alloc: Global,
     parts: &[Option<List<u8>>],

@@ -5,6 +5,7 @@
 
 mod cutting;
 mod joining;
+pub mod laws;
 pub mod round;
 mod threads;
 

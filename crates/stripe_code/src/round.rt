@@ -64,8 +64,9 @@ impl Model for Round {
 impl Round {
     ghost use Rattle.stripe_code.specs.Round.{new_round};
 
-    /// A round over these servers, which differ, for a segment that was cut for n members with this
-    /// parity.
+    /// A round over these servers for a segment that was cut for n members with this parity: 1 or 2, and n
+    /// from parity + 2 to 8. The servers should differ, one for each member; nothing here tests it, and of
+    /// one that stands twice an answer counts once. Only memory can be wanting.
     pub fn start(alloc: Global, n: u8, parity: u8, servers: &[u8]) -> Mem<Round>
         requires { IsCut n parity }
         ensures { IfOk result (λ round. round ≡ new_round n parity servers.now) }
@@ -79,7 +80,7 @@ impl Round {
     }
 
     /// Takes what a server of the round told, and says how the round stands. A fragment must be one that
-    /// `fits`.
+    /// `fits`. After want of memory nothing is said of the round.
     pub fn take(&mut self, alloc: Global, server: u8, told: Told) -> Mem<RoundState>
         requires asked { IsTrue (asks self.old server) }
         requires one_of_it { IsTrue (told_fits self.old told) }
