@@ -220,6 +220,6 @@ on_tick e =
 
 -- ---- the ends of counters
 
--- no counter is near its end
+-- each counter is at least 65,536 below its end
 abbrev pub emptying_room : Emptying → Bool
 emptying_room e = lasting_room e.lasting && (has_room e.maps.version && (log_room e.log && list_all has_room e.promised.epochs))

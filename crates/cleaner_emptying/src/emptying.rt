@@ -76,7 +76,7 @@ impl Emptying {
         }
     }
 
-    /// Whether no counter is near its end.
+    /// Whether each counter is at least 65,536 below its end.
     pub fn has_room(&self) -> bool
         ensures { result ≡ emptying_room self.now }
     {

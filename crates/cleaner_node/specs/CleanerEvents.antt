@@ -205,7 +205,7 @@ happens peers phase Tick = on_time phase
 
 -- ---- the transition
 
--- no counter is near its end
+-- each counter is at least 65,536 below its end
 abbrev pub phase_room : Phase → Bool
 phase_room (Down l) = lasting_room l
 phase_room (Opening l o) = lasting_room l && opening.opening_room o

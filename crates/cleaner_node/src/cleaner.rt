@@ -103,7 +103,7 @@ impl Cleaner {
 }
 
 impl Phase {
-    // Whether no event can raise a counter past its end.
+    // Whether each counter is at least 65,536 below its end.
     fn has_room(&self) -> bool
         ensures { result ≡ phase_room self.now }
     {
@@ -125,7 +125,7 @@ fn first_life(items: List<Work>) -> Lasting
     }
 }
 
-// An event is taken where no counter is near its end.
+// An event is taken where each counter is at least 65,536 below its end.
 fn takes(alloc: Global, effects: &mut Effects, peers: Peers, phase: Phase, what: &Do) -> Mem<Phase>
     ensures phase { IfOk result (λ p. p ≡ (takes peers phase what.now).state) }
     ensures effects { OnOk result (effects.new ≡ effects.old ++ (takes peers phase what.now).outs) }

@@ -19,7 +19,7 @@ pub struct Lasting {
 impl Crosses for Lasting {}
 
 impl Lasting {
-    /// Whether no event can raise a counter past its end.
+    /// Whether each counter is at least 65,536 below its end.
     pub fn has_room(&self) -> bool
         ensures { result ≡ lasting_room self.now }
     {

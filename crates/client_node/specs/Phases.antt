@@ -185,7 +185,7 @@ phase_room (Down l) = true
 phase_room (Opening l o) = opening.opening_room o
 phase_room (Serves s) = serving_room s
 
--- no counter is near its end
+-- each counter is at least 65,536 below its end
 abbrev pub client_room : Client → Bool
 client_room c = has_room (lasting_of c.phase).inc && (has_room (lasting_of c.phase).questions.last && phase_room c.phase)
 
@@ -199,7 +199,7 @@ stepped c w =
       acts = acts_of (AClient (lasting_of c.phase).number) w.outs;
     }
 
--- an event is taken; where a counter is near its end, it changes nothing
+-- an event is taken; where a counter isn't at least 65,536 below its end, it changes nothing
 abbrev pub takes : Client → Do → Went_to
 takes c what = if client_room c then happens c what else still c.phase
 

@@ -74,21 +74,7 @@ impl Client {
         })
     }
 
-    /// How many clean blocks it caches at most.
-    pub fn cache(&self) -> u16
-        ensures { result ≡ self.now.cache }
-    {
-        self.cache
-    }
-
-    /// What it has.
-    pub fn phase(&self) -> &Phase
-        ensures { result.now ≡ self.now.phase }
-    {
-        &self.phase
-    }
-
-    // Whether no counter is near its end.
+    // Whether each counter is at least 65,536 below its end.
     fn has_room(&self) -> bool
         ensures { result ≡ client_room self.now }
     {
@@ -96,7 +82,7 @@ impl Client {
         has_room(lasting.inc) && (has_room(lasting.questions.last) && phase_has_room(&self.phase))
     }
 
-    // An event is taken where no counter is near its end.
+    // An event is taken where each counter is at least 65,536 below its end.
     fn takes(self, alloc: Global, effects: &mut Effects, what: &Do) -> Mem<Client>
         ensures client { IfOk result (λ client. client ≡ record self { phase = (takes self what.now).state }) }
         ensures effects { OnOk result (effects.new ≡ effects.old ++ (takes self what.now).outs) }

@@ -9,6 +9,4 @@ pub mod phase;
 mod returning;
 
 pub use client::Client;
-pub use client_parts::{Call, Going, Lasting, Plan};
-pub use client_serving::Serving;
 pub use phase::Phase;

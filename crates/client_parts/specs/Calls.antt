@@ -50,7 +50,7 @@ may_make number self = nat_le number 20000 && (nat_le 1 self && nat_le self 8)
 abbrev pub file_call : FileCall → ℕ → ℕ → Option Going
 file_call call number self = if may_make number self then Some (going (plan.start call (plan.made_by number self))) else None
 
--- the call of an item; none where the item is no call
+-- the call of an item; none where the item is no call, or is one on files that its number or its client can't make
 abbrev pub call_of : Work → ℕ → ℕ → Option Going
 call_of (work.Bput client block value) number self = Some (On (call_for One (Put block value)))
 call_of (work.Bget client block) number self = Some (On (call_for One (Get block)))

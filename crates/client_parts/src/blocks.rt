@@ -89,7 +89,8 @@ pub fn is_settled(log: &Log) -> bool
     log.is_settled()
 }
 
-/// A version at the end of its type has none after it: a write then waits for ever.
+/// Whether a block may be written: it is owned, no recall of it is put off, and its version isn't the last of
+/// its type.
 pub fn may_put(tokens: &Tokens, block: BlockId) -> bool
     ensures { result ≡ may_write (held_of tokens.now.blocks block) }
 {

@@ -51,7 +51,8 @@ impl Call {
         }
     }
 
-    /// The call of an item of this number of a client; none where the item is no call.
+    /// The call of an item of this number of a client; none where the item is no call, nor where it is a call
+    /// on files and the number is above 20,000, or the client isn't 1 to 8.
     pub fn of(alloc: Global, work: &Work, number: u32, client: u8) -> Mem<Option<Going>>
         ensures { IfOk result (λ call. call ≡ call_of work.now number client) }
     {

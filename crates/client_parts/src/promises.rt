@@ -38,7 +38,7 @@ pub fn report(
     effects.send(managers.of(slot), Body::Report(report))
 }
 
-/// Whether the promised epochs are not near the end.
+/// Whether each promised epoch is at least 65,536 below its end.
 #[tactic(auto, unfolding(crate::specs::Promises::epochs_room))]
 pub fn epochs_have_room(tokens: &Tokens) -> bool
     ensures { result ≡ epochs_room tokens.now }

@@ -49,7 +49,7 @@ got s block h =
 unfoldable pub gets : Serving → BlockId → Made
 gets s block = if is_nothing (held_at s block).mode then needs s block Copy else got s block (held_at s block)
 
--- the version that a block has once it is written
+-- a block has a new version, and is clean no more
 abbrev pub wrote : Serving → BlockId → Option (List ℕ) → Serving
 wrote s block value = record s { tokens = (on_wrote s.tokens block value).state; cache = left s.cache block }
 

@@ -1,6 +1,7 @@
 -- What each packet, and time, make of a client that serves: one definition for each, named for it.
 use Rattle.std.specs.Prelude.{ℕ, Bool, option_map, ◌==◌, ◌&&◌, not, nat_lt, nat_le, if◌then◌else◌, List, [], ◌∷◌, ◌++◌, Option, Some, None}
-use Rattle.std.specs.List.{flat_map}
+use Rattle.std.specs.List.{flat_map, list_all}
+use Rattle.std.specs.Map.{values_of}
 use Rattle.client_log.specs.declared.input.In.TheVariants as log_in
 use Rattle.client_parts.specs.Grants.{supplies, is_stamp, is_want}
 use Rattle.client_parts.specs.Promises.{epochs_room}
@@ -27,6 +28,7 @@ use Rattle.stripe_code.specs.declared.round.Told.TheVariants as told
 use Rattle.group_map.specs.GroupMapState.{GroupMapState}
 use Rattle.token_client.specs.declared.input.In.TheVariants as tokens
 use Rattle.token_client.specs.declared.output.Out.{Out}
+use Rattle.token_client.specs.Repetitions.{repetition}
 use Rattle.token_client.specs.State.{TokensState, epoch_of}
 use Rattle.token_client.specs.Transition.{on_forwarded, on_recalled, on_promise}
 use Rattle.wire_msg.specs.declared.body.Body.{Body}
@@ -201,9 +203,14 @@ on_tick s =
 
 -- ---- the ends of counters
 
+-- each promised epoch, and how often each open want was sent again, is at least 65,536 below its end
+abbrev pub tokens_room : TokensState → Bool
+tokens_room t = epochs_room t && list_all (λ h. has_room (repetition h.want)) (values_of t.blocks)
+
+-- and so are the version of the maps, the number of the last want, and the numbers of the log
 abbrev pub serving_room : Serving → Bool
 serving_room s =
-    has_room s.maps.version && (has_room s.tokens.req && (log_room s.log && epochs_room s.tokens))
+    has_room s.maps.version && (has_room s.tokens.req && (log_room s.log && tokens_room s.tokens))
 
 -- ---- a packet
 

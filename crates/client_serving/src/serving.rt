@@ -25,6 +25,7 @@ use std::alloc::Global;
 use token_client::Tokens;
 use version_model::Answer;
 use wire_msg::{Body, DeltaAck, Packet};
+use xfs_base::limits::COUNTER_ROOM;
 use xfs_base::{Mem, NodeId};
 
 /// What a client that serves has. The tokens keep which epoch each slot is promised to.
@@ -201,7 +202,7 @@ impl Serving {
         self.run(alloc, effects)
     }
 
-    /// Whether no counter is near its end.
+    /// Whether each counter is at least 65,536 below its end.
     pub fn has_room(&self) -> bool
         ensures { result ≡ serving_room self.now }
     {
@@ -209,6 +210,7 @@ impl Serving {
             && has_room(self.tokens.asked())
             && log_has_room(&self.log)
             && epochs_have_room(&self.tokens)
+            && self.tokens.repeated_at_most(u32::MAX - COUNTER_ROOM)
     }
 
     // A manager has applied the log.

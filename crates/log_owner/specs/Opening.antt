@@ -346,7 +346,7 @@ abbrev pub attempt_of : Option FlightState → ℕ
 attempt_of None = 0
 attempt_of (Some f) = f.segment.name.pass.att
 
--- neither the number of the newest segment of a log, nor the attempt of the one in flight, is near its end
+-- the number of the newest segment of a log, and the attempt of the one in flight, are each at least 65,536 below their end
 abbrev pub log_room : LogState → Bool
 log_room s = has_room s.end.seq && has_room (attempt_of s.flight)
 
@@ -354,6 +354,6 @@ abbrev pub stage_room : Stage → Bool
 stage_room (stage.Scanning s) = true
 stage_room (stage.Settling s) = log_room s.log
 
--- no counter is near its end; the questions of the scan are fewer than those of the node
+-- each counter is at least 65,536 below its end; the questions of the scan are fewer than those of the node
 abbrev pub opening_room : Opening → Bool
 opening_room o = has_room o.known.maps.version && (list_all has_room o.known.promised.epochs && stage_room o.stage)

@@ -10,8 +10,8 @@ ghost use Rattle.wire_msg.specs.declared.packet.Packet.{Packet};
 
 /// Whatever an opening is told, it says nothing to managers and clients: it asks the registry in its
 /// incarnation, asks servers for fragments, tells them to store some, and fences them, its own log alone,
-/// below its incarnation. It answers nothing, and acts only that segments are filed. As long as it goes on it
-/// is the same owner's.
+/// below its incarnation. It answers nothing, and acts only that segments are filed, or that one is lost. As
+/// long as it goes on it is the same owner's.
 pub fn opening_only_reads_and_stores()
     ensures start { (owner : Owner) (servers : ℕ) (q : Questions) → Behaves owner (on_start owner servers q) }
     ensures packet { (o : Opening) (q : Questions) (p : Packet) → Behaves o.known.owner (on_packet o q p) }

@@ -83,7 +83,7 @@ impl Opening {
         })
     }
 
-    /// Whether no counter is near its end. The questions of the scan are fewer than those of the node.
+    /// Whether each counter is at least 65,536 below its end. The questions of the scan are fewer than those of the node.
     pub fn has_room(&self) -> bool
         ensures { result ≡ opening_room self.now }
     {
@@ -172,8 +172,8 @@ fn stage_has_room(stage: &Stage) -> bool
     }
 }
 
-/// Whether no counter of a log is near its end: neither the number of its newest segment, nor the attempt of
-/// the one in flight.
+/// Whether each counter of a log is at least 65,536 below its end: the number of its newest segment, and the
+/// attempt of the one in flight.
 pub fn log_has_room(log: &Log) -> bool
     ensures { result ≡ log_room log.now }
 {

@@ -119,7 +119,7 @@ impl Promised {
         }
     }
 
-    /// Whether no epoch is near its end.
+    /// Whether each epoch is at least 65,536 below its end.
     pub fn has_room(&self) -> bool
         ensures { result ≡ list_all has_room self.now.epochs }
     {

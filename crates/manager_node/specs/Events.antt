@@ -86,7 +86,7 @@ on_event peers p Begin = on_begin p
 on_event peers p (Deliver packet) = on_deliver peers p packet
 on_event peers p Tick = on_time p
 
--- where a counter is near its end, the event changes nothing
+-- where a counter isn't at least 65,536 below its end, the event changes nothing
 unfoldable pub happens : Manager → Do → Went_to
 happens m what = if phase_has_room m.phase then on_event m.peers m.phase what else still m.phase
 

@@ -31,7 +31,7 @@ lasting_of (Down kept) = kept
 lasting_of (Waiting kept hello) = kept
 lasting_of (Serves s) = s.lasting
 
--- no event can raise a counter past its end
+-- each counter is at least 65,536 below its end
 abbrev pub phase_has_room : Phase → Bool
 phase_has_room (Down kept) = kept_has_room kept
 phase_has_room (Waiting kept hello) = kept_has_room kept

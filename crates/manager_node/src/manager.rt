@@ -53,7 +53,7 @@ impl Manager {
         &self.phase.lasting().items
     }
 
-    // Where a counter is near its end, the event changes nothing.
+    // Where a counter isn't at least 65,536 below its end, the event changes nothing.
     #[tactic(auto, unfolding(crate::specs::Events::happens))]
     pub(crate) fn happens(self, alloc: Global, effects: &mut Effects, what: &Do) -> Mem<Phase>
         ensures state { IfOk result (λ phase. phase ≡ (happens self what.now).state) }

@@ -28,7 +28,7 @@ impl Phase {
         }
     }
 
-    /// Whether no event can raise a counter past its end.
+    /// Whether each counter is at least 65,536 below its end.
     pub fn has_room(&self) -> bool
         ensures { result ≡ phase_has_room self.now }
     {

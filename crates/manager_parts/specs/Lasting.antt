@@ -9,7 +9,7 @@ use Rattle.manager_parts.specs.declared.lasting.Lasting.{Lasting as Kept}
 abbrev pub log_of : ℕ → LogId
 log_of number = record { 0 = 9 + min number 4 }
 
--- no event can raise a counter past its end
+-- each counter is at least 65,536 below its end
 abbrev pub kept_has_room : Kept → Bool
 kept_has_room kept = has_room kept.inc && has_room kept.questions.last
 

@@ -75,7 +75,7 @@ unknown_phase slot = phase.Away 0
 abbrev pub unknown_table : Table
 unknown_table = map unknown_phase all_slots
 
--- no event can raise a counter past its end
+-- each counter is at least 65,536 below its end
 abbrev pub table_has_room : Table → Bool
 table_has_room table = list_all slot_has_room table
 

@@ -35,7 +35,7 @@ has_turns (phase.Away epoch) = true
 has_turns (phase.Taking taking) = true
 has_turns (phase.Broken epoch seg) = true
 
--- no event can raise a counter past its end
+-- each counter is at least 65,536 below its end
 abbrev pub slot_has_room : SlotPhase → Bool
 slot_has_room p = has_room (epoch_of p) && has_turns p
 

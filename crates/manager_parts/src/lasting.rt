@@ -30,7 +30,7 @@ impl Lasting {
         LogId(9 + self.number.min(4))
     }
 
-    /// Whether no event can raise a counter past its end.
+    /// Whether each counter is at least 65,536 below its end.
     pub fn has_room(&self) -> bool
         ensures { result ≡ kept_has_room self.now }
     {

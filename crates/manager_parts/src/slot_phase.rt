@@ -76,7 +76,7 @@ impl SlotPhase {
         matches!(self, SlotPhase::Taking(_))
     }
 
-    /// Whether no event can raise a counter past its end.
+    /// Whether each counter is at least 65,536 below its end.
     pub fn has_room(&self) -> bool
         ensures { result ≡ slot_has_room self.now }
     {

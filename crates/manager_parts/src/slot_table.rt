@@ -57,7 +57,7 @@ impl SlotTable {
         Ok(SlotTable { phases })
     }
 
-    /// Whether no event can raise a counter past its end.
+    /// Whether each counter is at least 65,536 below its end.
     pub fn has_room(&self) -> bool
         ensures { result ≡ table_has_room self.now }
     {

@@ -66,7 +66,7 @@ first kept managers groups = begun kept (at_start groups) (table.first_table kep
 abbrev pub again : Kept → Maps → GroupMapState → Serving
 again kept maps groups = begun kept maps table.unknown_table groups
 
--- no event can raise a counter past its end
+-- each counter is at least 65,536 below its end
 abbrev pub serving_room : Serving → Bool
 serving_room s =
     kept_has_room s.lasting && (has_room s.maps.version && (has_room s.dones && (log_room s.log && table.table_has_room s.slots)))

@@ -22,7 +22,8 @@ use wire_msg::{
 };
 use xfs_base::{End, LogId, Mem, NodeId, Pass, SlotNews};
 
-/// What a manager has that serves: it lasts from the Welcome of its boot to its crash.
+/// What a manager has that serves: it lasts from the start of a run, or from the Welcome of its boot, to its
+/// crash.
 #[derive(Drop)]
 pub struct Serving {
     /// What outlives a crash.
@@ -110,7 +111,7 @@ impl Serving {
         }
     }
 
-    /// Whether no event can raise a counter past its end.
+    /// Whether each counter is at least 65,536 below its end.
     pub fn has_room(&self) -> bool
         ensures { result ≡ serving_room self.now }
     {

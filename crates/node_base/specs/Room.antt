@@ -2,7 +2,7 @@
 use Rattle.std.specs.Prelude.{ℕ, ◌-◌, Bool, nat_le}
 use Rattle.xfs_base.specs.Limits.{u32_end, counter_room, u64_end}
 
--- no event can raise it past its end
+-- whether a counter is at least 65,536 below its end
 abbrev pub has_room : ℕ → Bool
 has_room counter = nat_le counter (u32_end - counter_room)
 

@@ -122,7 +122,7 @@ has_slot (body.Hello hello) = true
 has_slot (body.Welcome welcome) = true
 has_slot (body.MapNews news) = true
 
--- no version that rows of a log tell is near its end
+-- each version that rows of a log tell is at least 65,536 below its end
 abbrev pub has_versions : Body → Bool
 has_versions (body.Deltas deltas) = list_all (λ row. has_long_room row.1.ver) deltas.rows
 has_versions other = true

@@ -4,15 +4,15 @@ ghost use Rattle.node_base.specs.Room.{has_room, has_long_room};
 
 use xfs_base::limits::COUNTER_ROOM;
 
-/// Whether a counter is so far below its end that no event can raise it past that. A node looks at each
-/// of its counters before it takes an event; where one has no room, the event changes nothing.
+/// Whether a counter is at least 65,536 below its end. A node looks at each of its counters before it takes
+/// an event; where one isn't that far below, the event changes nothing.
 pub fn has_room(counter: u32) -> bool
     ensures { result ≡ has_room counter }
 {
     counter <= u32::MAX - COUNTER_ROOM
 }
 
-/// Whether a long counter is so far below its end that no event can raise it past that.
+/// Whether a long counter is at least 65,536 below its end.
 pub fn has_long_room(counter: u64) -> bool
     ensures { result ≡ has_long_room counter }
 {

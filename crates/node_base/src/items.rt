@@ -1,5 +1,5 @@
 //! The items of a node.
-ghost use Rattle.std.specs.Prelude.{◌≡◌, ◌++◌, OnOk, MatchOption, None, Some, length};
+ghost use Rattle.std.specs.Prelude.{◌≡◌, ◌++◌, OnOk, MatchOption, None, Some};
 ghost use Rattle.node_base.specs.Beginning.{started, next_item, begun, work_at, waiting, answered, answers_unanswered};
 
 use crate::Effects;
@@ -47,20 +47,6 @@ impl Items {
             Some(place) => self.works.get(place as usize),
             None => None,
         }
-    }
-
-    /// How many items there are.
-    pub fn len(&self) -> usize
-        ensures { result ≡ length self.now.works }
-    {
-        self.works.len()
-    }
-
-    /// How many items were begun.
-    pub fn begun(&self) -> u32
-        ensures { result ≡ self.now.begun }
-    {
-        self.begun
     }
 
     /// The number of the item that is begun and not answered; none where each is answered.

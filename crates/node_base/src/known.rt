@@ -8,8 +8,8 @@ use crate::Maps;
 use wire_msg::{Body, Deltas, Report};
 use xfs_base::{BlockId, End, Entry, FragMeta, Place, SegRef};
 
-/// Whether each group that a packet names is known. Where one isn't, a node drops the packet and asks the
-/// registry for the maps. Maps themselves are looked at by `Maps`, and the rows of Part items within the
+/// Whether each group that a packet names is known. Where one isn't, a node that is up drops the packet and
+/// asks the registry for the maps. Maps themselves are looked at by `Maps`, and the rows of Part items within the
 /// bytes of a fragment don't count.
 pub fn names_known_groups(maps: &Maps, body: &Body) -> bool
     ensures { result ≡ names_known maps.now body.now }

@@ -9,8 +9,8 @@ use wire_msg::{Body, CkptDone, Deltas, News, Packet, Usage};
 use xfs_base::{BlockId, Entry, FragMeta, LogId, Place, SegName, SegRef, SlotNews};
 
 /// Whether a packet is one that a node looks at: its sender is a node, its logs are 1 to 13, its slots 0
-/// to 7, those of maps in order, each horizon has nine numbers from 1 on, and no version that rows of a log
-/// tell is near its end.
+/// to 7, those of maps in order, each horizon has nine numbers from 1 on, and each version that rows of a log
+/// tell is at least 65,536 below its end.
 pub fn is_well_formed(peers: Peers, packet: &Packet) -> bool
     ensures { result ≡ is_well_formed peers packet.now }
 {

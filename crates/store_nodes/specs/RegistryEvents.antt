@@ -133,7 +133,7 @@ on_event node Begin = on_begin node
 on_event node (Deliver packet) = on_packet node packet
 on_event node Tick = record { state = node; outs = tells_all node }
 
--- where the version has room the event is taken; an epoch is never above the version
+-- the event is taken where the version is at least 65,536 below its end; an epoch is never above the version
 abbrev pub takes : RegistryNode → Do → Done
 takes node what = if has_room node.board.version then on_event node what else still node
 

@@ -232,7 +232,7 @@ on_event node Tick = on_tick node
 abbrev pub is_far_from_ends : Node → Bool
 is_far_from_ends node = has_room node.shelf.generation && (has_room node.questions.last && has_room node.maps.version)
 
--- the event is taken where each counter is far from its end
+-- the event is taken where each counter is at least 65,536 below its end
 abbrev pub takes : Node → Do → Done
 takes node what = if is_far_from_ends node then on_event node what else still node
 

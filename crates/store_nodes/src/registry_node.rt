@@ -82,7 +82,7 @@ impl RegistryNode {
         effects.into_parts(alloc, NodeId::Registry)
     }
 
-    // An event is taken where no counter is near its end.
+    // An event is taken where each counter is at least 65,536 below its end.
     fn takes(&mut self, alloc: Global, effects: &mut Effects, what: &Do) -> Mem<()>
         ensures state { OnOk result (self.new ≡ (takes self.old what.now).state) }
         ensures effects { OnOk result (effects.new ≡ effects.old ++ (takes self.old what.now).outs) }

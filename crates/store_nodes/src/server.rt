@@ -121,7 +121,7 @@ impl Server {
         effects.into_parts(alloc, node)
     }
 
-    // An event is taken where no counter is near its end.
+    // An event is taken where each counter is at least 65,536 below its end.
     fn takes(&mut self, alloc: Global, effects: &mut Effects, what: &Do) -> Mem<()>
         ensures state { OnOk result (self.new ≡ (takes self.old what.now).state) }
         ensures effects { OnOk result (effects.new ≡ effects.old ++ (takes self.old what.now).outs) }

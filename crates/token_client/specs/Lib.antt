@@ -1,5 +1,6 @@
 pub mod Held
 pub mod Laws
 pub mod Readings
+pub mod Repetitions
 pub mod State
 pub mod Transition

@@ -1,8 +1,9 @@
 //! What a node reads of its tokens.
 ghost use Rattle.std.specs.Prelude.{◌≡◌, ◌<◌, None, Some, option_map, IfOk, MatchOption};
 ghost use Rattle.token_client.specs.State.{held_of, held_in, dirty_in, epoch_of};
+ghost use Rattle.token_client.specs.Repetitions.{repeated_at_most};
 
-use crate::table::{dirty_blocks, held_blocks};
+use crate::table::{dirty_blocks, held_blocks, repeated_at_most};
 use crate::tokens::Tokens;
 use std::alloc::Global;
 use xfs_base::{BlockId, List, Mem, Mode, Place, Stamp, Value};
@@ -97,6 +98,13 @@ impl Tokens {
         ensures { result ≡ self.now.req }
     {
         self.req
+    }
+
+    /// Whether no open want was sent again more often than this.
+    pub fn repeated_at_most(&self, often: u32) -> bool
+        ensures { result ≡ repeated_at_most often self.now.blocks }
+    {
+        repeated_at_most(&self.blocks, often)
     }
 
     /// The epoch that a slot is promised to.

@@ -11,9 +11,8 @@ use Rattle.client_parts.specs.declared.call.Going.TheVariants.{On, Ends}
 use Rattle.client_parts.specs.declared.call.Going.{Going}
 use Rattle.client_parts.specs.Reads.{reading_in}
 use Rattle.client_serving.specs.declared.serving.Serving.{Serving}
-use Rattle.client_parts.specs.Promises.{epochs_room}
 use Rattle.client_serving.specs.Opens.{begins_call, call_at, opens}
-use Rattle.client_serving.specs.Packets.{serving_room}
+use Rattle.client_serving.specs.Packets.{serving_room, tokens_room}
 use Rattle.client_serving.specs.Running.{goes_on, runs}
 use Rattle.client_serving.specs.Sends.{Done, gives}
 use Rattle.log_owner.specs.Opening.{log_room}
@@ -244,5 +243,5 @@ event_serves client s is waits what =
         let rest = and_second (has_room (lasting_of client.phase).inc) (has_room (lasting_of client.phase).questions.last && phase_room client.phase) room in
         let serves : serving_room s ≡ true =
         subst (λ p. phase_room p ≡ true) is (and_second (has_room (lasting_of client.phase).questions.last) (phase_room client.phase) rest) in
-        and_first (has_room s.tokens.req) (log_room s.log && epochs_room s.tokens)
-        (and_second (has_room s.maps.version) (has_room s.tokens.req && (log_room s.log && epochs_room s.tokens)) serves)
+        and_first (has_room s.tokens.req) (log_room s.log && tokens_room s.tokens)
+        (and_second (has_room s.maps.version) (has_room s.tokens.req && (log_room s.log && tokens_room s.tokens)) serves)

@@ -10,11 +10,10 @@ use Rattle.client_node.specs.Starting.{first_client}
 use Rattle.client_parts.specs.declared.call.Going.{Going}
 use Rattle.client_parts.specs.declared.lasting.Lasting.{Lasting}
 use Rattle.client_parts.specs.Lasting.{next_life}
-use Rattle.client_parts.specs.Promises.{epochs_room}
 use Rattle.client_parts.specs.Starting.{cached_upto, empty_end}
 use Rattle.client_serving.specs.declared.serving.Serving.{Serving}
 use Rattle.client_serving.specs.Opens.{begins_call, call_at, opens}
-use Rattle.client_serving.specs.Packets.{on_packet, on_tick, serving_room}
+use Rattle.client_serving.specs.Packets.{on_packet, on_tick, serving_room, tokens_room}
 use Rattle.client_serving.specs.Running.{goes_on, runs}
 use Rattle.client_serving.specs.Sends as client
 use Rattle.client_serving.specs.Sends.{gives}
@@ -103,9 +102,9 @@ module _ (A : BlockId → Type 0) (M : GroupMapState → Type 0) (B : Fact) (P :
 
   begin : (s : Serving) → serving_room s ≡ true → At B s → At (P 1) s
   begin s room h =
-      let further : Bool = log_room s.log && epochs_room s.tokens in
+      let further : Bool = log_room s.log && tokens_room s.tokens in
       let one : (has_room s.tokens.req && further) ≡ true = and_second (has_room s.maps.version) (has_room s.tokens.req && further) room in
-      let two : log_room s.log ≡ true = and_first (log_room s.log) (epochs_room s.tokens) (and_second (has_room s.tokens.req) further one) in
+      let two : log_room s.log ≡ true = and_first (log_room s.log) (tokens_room s.tokens) (and_second (has_room s.tokens.req) further one) in
       k.begins s.tokens s.log s.cache h (and_first (has_room s.log.end.seq) _ two)
 
   end : (s : Serving) → At (P 0) s → At B s

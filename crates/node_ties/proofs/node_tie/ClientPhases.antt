@@ -6,12 +6,11 @@ use Rattle.client_node.specs.declared.phase.Phase.TheVariants.{Down, Opening, Se
 use Rattle.client_node.specs.declared.phase.Phase.{Phase}
 use Rattle.client_node.specs.Phases.{Went_to, crashed, answers, serves_on, wish_of, wish_at, serving_begins, lasting_of, with_begun, item_begins, begins_item, on_begin, then_runs, on_deliver, on_time, delivers, happens, phase_room, client_room}
 use Rattle.client_parts.specs.Crash.{flight_of}
-use Rattle.client_parts.specs.Promises.{epochs_room}
 use Rattle.client_serving.specs.Crash.{fall_of, falls}
 use Rattle.client_serving.specs.declared.serving.Serving.{Serving}
 use Rattle.client_serving.specs.Opens.{opens}
 use Rattle.client_serving.specs.Packets as packets
-use Rattle.client_serving.specs.Packets.{serving_room}
+use Rattle.client_serving.specs.Packets.{serving_room, tokens_room}
 use Rattle.client_serving.specs.Sends.{gives}
 use Rattle.log_owner.specs.Opening.{attempt_of, log_room}
 use Rattle.node_base.specs.Beginning.{next_item, work_at, begun, answers_unanswered}
@@ -57,14 +56,14 @@ use Rattle.node_ties.proofs.node_tie.SmallWorld.{premise, premise_by}
 -- where no counter of a client that serves is near its end, neither is one of its log, nor of its wants
 log_has_room : (s : Serving) → serving_room s ≡ true → has_room s.log.end.seq ≡ true
 log_has_room s room =
-    and_first (has_room s.log.end.seq) (has_room (attempt_of s.log.flight)) (and_first (log_room s.log) (epochs_room s.tokens)
-    (and_second (has_room s.tokens.req) (log_room s.log && epochs_room s.tokens)
-    (and_second (has_room s.maps.version) (has_room s.tokens.req && (log_room s.log && epochs_room s.tokens)) room)))
+    and_first (has_room s.log.end.seq) (has_room (attempt_of s.log.flight)) (and_first (log_room s.log) (tokens_room s.tokens)
+    (and_second (has_room s.tokens.req) (log_room s.log && tokens_room s.tokens)
+    (and_second (has_room s.maps.version) (has_room s.tokens.req && (log_room s.log && tokens_room s.tokens)) room)))
 
 wants_have_room : (s : Serving) → serving_room s ≡ true → has_room s.tokens.req ≡ true
 wants_have_room s room =
-    and_first (has_room s.tokens.req) (log_room s.log && epochs_room s.tokens)
-    (and_second (has_room s.maps.version) (has_room s.tokens.req && (log_room s.log && epochs_room s.tokens)) room)
+    and_first (has_room s.tokens.req) (log_room s.log && tokens_room s.tokens)
+    (and_second (has_room s.maps.version) (has_room s.tokens.req && (log_room s.log && tokens_room s.tokens)) room)
 
 module _ (logs : Bool) (members part most c : ℕ) (small : part < 8) (pos : 0 < c) (less : c < members) (n : Net) where
   abbrev Goes : Phase → Went_to → Type 0

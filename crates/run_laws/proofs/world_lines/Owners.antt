@@ -14,7 +14,7 @@ use Rattle.log_ties.specs.client_log_tie.Owner.{Scene, ClientAgrees, SeesStage}
 use Rattle.client_node.specs.declared.phase.Phase.TheVariants as client
 use Rattle.client_node.specs.declared.phase.Phase.{Phase}
 use Rattle.client_node.specs.Phases as clients
-use Rattle.client_parts.specs.Promises.{epochs_room}
+use Rattle.client_serving.specs.Packets.{tokens_room}
 use Rattle.index_tie.specs.Filed.{Filed}
 use Rattle.index_tie.specs.Net as index
 use Rattle.log_law.specs.Ends.{EndsAreLast}
@@ -110,8 +110,8 @@ module _ (g : Setting) (c : ℕ) (w : Scene) where
   client_fits (client.Opening l o) sees room = stage_fits o.known l.questions.last o.stage sees.1 (opening_next o room)
   client_fits (client.Serving s) sees room = subst NextFits (sym sees.1.owner)
       (log_next s.log
-      (and_first (log_room s.log) (epochs_room s.tokens)
-      (and_second (has_room s.tokens.req) (log_room s.log && epochs_room s.tokens) (and_second (has_room s.maps.version) _ room))))
+      (and_first (log_room s.log) (tokens_room s.tokens)
+      (and_second (has_room s.tokens.req) (log_room s.log && tokens_room s.tokens) (and_second (has_room s.maps.version) _ room))))
 
 pub cleaner_fits : (g : Setting) (w : Scene) (p : CleanerPhase) → cleaner_log.CleanerAgrees g w p → cleaners.phase_room p ≡ true → NextFits w.net.owner
 cleaner_fits g w (cleaning.Down l) sees room = subst NextFits (sym sees.1) first_next

@@ -18,7 +18,7 @@ use Rattle.client_node.specs.declared.client.Client.{Client as ClientNode}
 use Rattle.client_node.specs.declared.phase.Phase.TheVariants as clients
 use Rattle.client_node.specs.declared.phase.Phase.{Phase}
 use Rattle.client_node.specs.Phases.{client_room, client_step, happens, lasting_of, phase_room, takes}
-use Rattle.client_parts.specs.Promises.{epochs_room}
+use Rattle.client_serving.specs.Packets.{tokens_room}
 use Rattle.log_law.specs.Events.{Runs}
 use Rattle.log_law.specs.Laws.{Moment}
 use Rattle.log_law.specs.Net.{Net, Owner}
@@ -94,8 +94,8 @@ phase_next (clients.Opening l o) room k le =
     stage_next o.stage (and_second (list_all has_room o.known.promised.epochs) (stage_room o.stage) (and_second (has_room o.known.maps.version) _ room)) k le
 phase_next (clients.Serving s) room k le =
     log_next s.log
-    (and_first (log_room s.log) (epochs_room s.tokens)
-    (and_second (has_room s.tokens.req) (log_room s.log && epochs_room s.tokens) (and_second (has_room s.maps.version) _ room))) k le
+    (and_first (log_room s.log) (tokens_room s.tokens)
+    (and_second (has_room s.tokens.req) (log_room s.log && tokens_room s.tokens) (and_second (has_room s.maps.version) _ room))) k le
 
 module _ (g : Setting) (c : ℕ) (w : Scene) where
   stage_owner : (k : Known) (last : ℕ) (at : stages.Stage) → SeesStage g c w k last at → w.net.owner ≡ owner_at at

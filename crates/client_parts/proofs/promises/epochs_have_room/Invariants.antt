@@ -4,7 +4,7 @@ use Rattle.node_base.specs.Room.{has_room}
 use Rattle.token_client.specs.State.{epoch_of}
 use Rattle.client_parts.proofs.promises.epochs_have_room.Given as goal
 
--- those so far are not near the end, so all depends on those to come
+-- those so far have room, so all depends on those to come
 abbrev pub invariant-loop-slot : goal.invariant-loop-slot
 invariant-loop-slot l =
     list_all (λ slot. has_room (epoch_of l.tokens.epochs slot)) (range_with_len l.slot (8 - l.slot)) ≡ list_all
