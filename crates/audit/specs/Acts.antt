@@ -1,5 +1,5 @@
 -- What a line of an act says: the act, or the kind of the first part at fault, from left to right.
-use Rattle.std.specs.Prelude.{◌≡◌, ◌≤◌, ℕ, ◌+◌, ◌==◌, Bool, false, ◌&&◌, nat_lt, nat_le, List, [], ◌∷◌, codes, length, drop, Option, Some, None, Result, Ok, Err, if◌then◌else◌}
+use Rattle.std.specs.Prelude.{◌≡◌, ◌≤◌, ℕ, ◌+◌, ◌^◌, ◌==◌, Bool, false, ◌&&◌, nat_lt, nat_le, List, [], ◌∷◌, codes, length, drop, Option, Some, None, Result, Ok, Err, if◌then◌else◌}
 use Rattle.std.specs.Fmt.{decimal}
 use Rattle.std.specs.Str.{bytes_eq}
 use Rattle.std.specs.Str.Parse.{digits_value}
@@ -31,7 +31,7 @@ read_counted word = judge BadNumber BadNumber (λ n. nat_lt 0 n) (number_of word
 
 -- the number below 2^64 that a word writes
 abbrev pub long_of : List ℕ → Option ℕ
-long_of word = let n = digits_value 10 word in if bytes_eq word (decimal n) && nat_lt n 18446744073709551616 then Some n else None
+long_of word = let n = digits_value 10 word in if bytes_eq word (decimal n) && nat_lt n (2 ^ 64) then Some n else None
 
 abbrev pub read_long : List ℕ → Result ℕ Kind
 read_long word = or_fault BadNumber (long_of word)

@@ -10,7 +10,7 @@ use Rattle.script_text.specs.declared.stage.Stage.{Stage}
 use Rattle.script_text.specs.declared.stage.Stage.TheVariants as stage
 use Rattle.script_text.specs.declared.stage.Place.{Place}
 use Rattle.script_text.specs.Words.{Lacks, words}
-use Rattle.script_text.specs.Script.{IsGroup, NamesGroup, AddsGroup, AddsSetup, AddsItem, Leads, IsPast, Accepts, is_whole, start, text_size, item_at}
+use Rattle.script_text.specs.Script.{IsGroup, NamesGroup, AddsGroup, AddsSetup, AddsItem, Leads, IsPast, Accepts, line_at, is_whole, start, text_size, item_at}
 use Rattle.script_print.specs.Printing.{gives, group_line, cache_lines, acts_lines, setup_lines}
 use Rattle.script_print.proofs.ItemLines.{IsAsked}
 use Rattle.script_print.proofs.Asks.{item_asked}
@@ -73,7 +73,7 @@ items_stage : (n : ℕ) (l : List ℕ) (p q : Place) → AddsItem n p (words l) 
 items_stage n l p q (whole, other, after, work, i, e) = ap (λ (x : Place). x.stage) e
 
 rest_of : (live : Bool) (total n at : ℕ) (ls : List (List ℕ)) (p : Place) (s : Script) (before : ℕ) → p.stage ≡ stage.Items → before < n
-    → AllByRecursion (λ l. Lacks 10 l) ls → Accepts live total n at ls p s → Rest s p before
+    → AllByRecursion (λ l. Lacks 10 l) ls → Accepts live (line_at total n at) ls p s → Rest s p before
 rest_of live total n at [] p s before st b k a = record {
   items = [];
   lines = ap (λ (x : Script). x.lines) a.2 ∙ sym (append-nil p.items);
@@ -245,7 +245,7 @@ from_rest s p i e f r =
     record { setup = subst P (sym r.setup) i; asked = subst Q (sym r.setup) (subst S (sym g) (subst R f r.asked)) }
 
 whole_of : (live : Bool) (total n at : ℕ) (ls : List (List ℕ)) (p : Place) (s : Script) → Sound p.stage n p.setup → p.items ≡ [] → p.room ≡ 67108864
-    → AllByRecursion (λ l. Lacks 10 l) ls → Accepts live total n at ls p s → Whole s
+    → AllByRecursion (λ l. Lacks 10 l) ls → Accepts live (line_at total n at) ls p s → Whole s
 whole_of live total n at [] p s h e f k a =
     let w = whole_sound p.stage n p.setup a.0 h in
     from_rest s p w.1 e f
@@ -266,6 +266,6 @@ whole_of live total n at (l ∷ ls) p s h e f k a =
         from_rest s p w.1 e f (item_rest n (length (setup_lines p.setup)) l p a.1 s w.0 (within total n (at + (length l + 1)) a.0) k.0 i r)
 
 -- what is known of a script that some bytes spell
-pub script_whole : (live : Bool) (total : ℕ) (ls : List (List ℕ)) (s : Script) → AllByRecursion (λ l. Lacks 10 l) ls → Accepts live total 1 0 ls start s
+pub script_whole : (live : Bool) (total : ℕ) (ls : List (List ℕ)) (s : Script) → AllByRecursion (λ l. Lacks 10 l) ls → Accepts live (line_at total 1 0) ls start s
     → Whole s
 script_whole live total ls s k a = whole_of live total 1 0 ls start s (omega arith, (refl, refl, refl)) refl refl k a

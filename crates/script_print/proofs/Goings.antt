@@ -4,7 +4,7 @@ use Rattle.std.specs.List.{repeat, AllByRecursion}
 use Rattle.script_text.specs.declared.stage.Place.{Place}
 use Rattle.script_text.specs.Lines.{lines}
 use Rattle.script_text.specs.Words.{Lacks}
-use Rattle.script_text.specs.Script.{Leads, IsPast, Accepts, is_whole}
+use Rattle.script_text.specs.Script.{Leads, IsPast, Accepts, line_at, is_whole}
 use Rattle.script_text.proofs.Lines.{lines_cut}
 use Rattle.script_print.specs.Printing.{ended}
 
@@ -30,9 +30,9 @@ empty_lines n zero p = refl
 empty_lines n (suc k) p = (p, inl (refl, refl), empty_lines (n + 1) k p)
 
 pub accepts : (total n at : ℕ) (ls : List (List ℕ)) (p q : Place) → total ≤ 1048576 → n + length ls ≤ 20001 → Goes n ls p q → is_whole q.stage ≡ true
-    → Accepts false total n at ls p (record { setup = q.setup; lines = q.items })
+    → Accepts false (line_at total n at) ls p (record { setup = q.setup; lines = q.items })
 accepts total n at [] p q t m g w =
-    let P : Place → Type 0 = λ x. Accepts false total n at [] x (record { setup = q.setup; lines = q.items }) in
+    let P : Place → Type 0 = λ x. Accepts false (line_at total n at) [] x (record { setup = q.setup; lines = q.items }) in
     subst P (sym g) (w, refl, refl)
 accepts total n at (l ∷ ls) p q t m g w =
     ((λ x. not_past x), g.0, g.1, accepts total (n + 1) (at + (length l + 1)) ls g.0 q t (omega (arith, m)) g.2 w)

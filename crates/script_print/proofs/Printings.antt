@@ -8,7 +8,7 @@ use Rattle.script_text.specs.declared.stage.Stage.TheVariants as stage
 use Rattle.script_text.specs.declared.stage.Place.{Place}
 use Rattle.script_text.specs.Lines.{lines}
 use Rattle.script_text.specs.Words.{Lacks}
-use Rattle.script_text.specs.Script.{Leads, Accepts, IsScriptOf, is_whole, start, text_size}
+use Rattle.script_text.specs.Script.{Leads, Accepts, line_at, IsScriptOf, is_whole, start, text_size}
 use Rattle.script_print.specs.Printing.{item_text, items_text, acts_lines, setup_lines, ended, printed, work_line, after_text, IsScript}
 use Rattle.script_print.proofs.ItemLines.{IsAsked, item_line, item_reads}
 use Rattle.script_print.proofs.Goings.{Goes, goes_on, empties, empty_lines, accepts, ended_lines, empty_ended, ended_join, length_empty, empty_lack, all_both}
@@ -117,9 +117,9 @@ whole_spelled s w t =
     let h : Goes 1 all start r.last = goes_on 1 (n + 1) (setup_lines s.setup) (item_lines n s.lines) start p r.last (omega arith) g.goes r.goes in
     let d : length all ≡ n + length (item_lines n s.lines) = length-append (setup_lines s.setup) (item_lines n s.lines) in
     let f : n + length (item_lines n s.lines) ≤ 20000 = items_few s.setup n 67108864 s.lines (setup_few s.setup w.setup) w.asked in
-    let a : Accepts false (length (printed s)) 1 0 all start (record { setup = r.last.setup; lines = r.last.items }) =
+    let a : Accepts false (line_at (length (printed s)) 1 0) all start (record { setup = r.last.setup; lines = r.last.items }) =
     accepts (length (printed s)) 1 0 all start r.last t (omega (arith, d, f)) h r.whole in
-    let P : List (List ℕ) → Type 0 = λ ls. Accepts false (length (printed s)) 1 0 ls start (record { setup = r.last.setup; lines = r.last.items }) in
+    let P : List (List ℕ) → Type 0 = λ ls. Accepts false (line_at (length (printed s)) 1 0) ls start (record { setup = r.last.setup; lines = r.last.items }) in
     let Q : Setup → Type 0 = λ x. IsScriptOf false (printed s) (record { setup = x; lines = r.last.items }) in
     let R : List Line → Type 0 = λ x. IsScriptOf false (printed s) (record { setup = s.setup; lines = x }) in
     subst R r.items (subst Q r.setup (subst P (sym (printed_lines s w)) a))

@@ -7,7 +7,7 @@ use Rattle.script_text.specs.declared.stage.Stage.TheVariants as stage
 use Rattle.script_text.specs.declared.stage.Place.{Place}
 use Rattle.script_text.specs.Lines.{lines}
 use Rattle.script_text.specs.Words.{words}
-use Rattle.script_text.specs.Script.{AddsSetup, Leads, IsPast, Accepts, start, IsScriptOf, item_at}
+use Rattle.script_text.specs.Script.{AddsSetup, Leads, IsPast, Accepts, line_at, start, IsScriptOf, item_at}
 
 setup_items : (st : Stage) (p q : Place) (ws : List (List ℕ)) → AddsSetup st p ws q → q.items ≡ p.items
 setup_items stage.Version p q ws a = ap (λ (x : Place). x.items) a.2
@@ -35,7 +35,7 @@ not_many total n end h = not_above n (λ l. h (inl l))
     not_above : (m : ℕ) → (20000 < m → ⊥) → m ≤ 20000
     not_above m k = omega (arith, k)
 
-few_from : (live : Bool) (total n at : ℕ) (ls : List (List ℕ)) (p : Place) (s : Script) → n ≤ 20001 → Accepts live total n at ls p s
+few_from : (live : Bool) (total n at : ℕ) (ls : List (List ℕ)) (p : Place) (s : Script) → n ≤ 20001 → Accepts live (line_at total n at) ls p s
     → length s.lines + n ≤ length p.items + 20001
 few_from live total n at [] p s h a =
     let f : length s.lines ≡ length p.items = ap (λ (x : Script). length x.lines) a.2 in

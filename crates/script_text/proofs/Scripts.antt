@@ -12,7 +12,7 @@ use Rattle.script_text.specs.Words.{words, first}
 use Rattle.script_text.specs.declared.refusal.LineError.{LineError}
 use Rattle.script_text.specs.declared.refusal.LineError.TheVariants as line_errors
 use Rattle.script_text.specs.Outcome.{◌>>=◌, Fails}
-use Rattle.script_text.specs.Script.{is_setup_word, is_whole, is_silent, at_place, AddsSetup, IsBadItem, AddsItem, Leads, IsBad, IsPast, open_crash, Accepts, Refuses, start, IsScriptOf, IsFirstBad}
+use Rattle.script_text.specs.Script.{is_setup_word, is_whole, is_silent, at_place, AddsSetup, IsBadItem, AddsItem, Leads, IsBad, IsPast, open_crash, Accepts, line_at, Refuses, start, IsScriptOf, IsFirstBad}
 use Rattle.script_text.specs.Reading.{said_at, behind_said, behind_item, read_item, read_other, read_words, read_line, is_past, read_at, Fault, Faults, refused, script_at, read_lines, read_script}
 use Rattle.script_text.proofs.Judged.{good, bad, bind_ok, bind_err}
 use Rattle.script_text.proofs.Items.{bind_good, bind_bad, of_ok, not_err, item_ok, item_good, item_err, item_bad}
@@ -268,23 +268,23 @@ abbrev within : ℕ → ℕ → List ℕ → Place → Bool → Result Place Kin
 within n at l p t = if t then Err TooLong else read_line n l p
 
 pub lines_ok : (live : Bool) (total n at : ℕ) (ls : List (List ℕ)) (p : Place) (s : Script) → read_lines live total n at ls p ≡ Ok s
-    → Accepts live total n at ls p s
+    → Accepts live (line_at total n at) ls p s
 lines_ok live total n at [] p s e = end_ok live n p s e
 lines_ok live total n at (l ∷ ls) p s e =
     at_test (λ q h. lines_ok live total (n + 1) (at + (length l + 1)) ls q s h) (is_past total n (at + (length l + 1))) refl e
   where
-    at_line : ((q : Place) → read_lines live total (n + 1) (at + (length l + 1)) ls q ≡ Ok s → Accepts live total (n + 1) (at + (length l + 1)) ls q s)
+    at_line : ((q : Place) → read_lines live total (n + 1) (at + (length l + 1)) ls q ≡ Ok s → Accepts live (line_at total (n + 1) (at + (length l + 1))) ls q s)
         → is_past total n (at + (length l + 1)) ≡ false → (r : Result Place Kind) → read_line n l p ≡ r → next live total n at l ls r ≡ Ok s
-        → Accepts live total n at (l ∷ ls) p s
+        → Accepts live (line_at total n at) (l ∷ ls) p s
     at_line i f (Ok q) g h = (past_false total n (at + (length l + 1)) f, q, line_ok n l p q g, i q h)
     at_line i f (Err k) g h = absurd (ok_no_fault s (fault n k) (sym h))
 
-    at_test : ((q : Place) → read_lines live total (n + 1) (at + (length l + 1)) ls q ≡ Ok s → Accepts live total (n + 1) (at + (length l + 1)) ls q s)
-        → (t : Bool) → is_past total n (at + (length l + 1)) ≡ t → next live total n at l ls (within n at l p t) ≡ Ok s → Accepts live total n at (l ∷ ls) p s
+    at_test : ((q : Place) → read_lines live total (n + 1) (at + (length l + 1)) ls q ≡ Ok s → Accepts live (line_at total (n + 1) (at + (length l + 1))) ls q s)
+        → (t : Bool) → is_past total n (at + (length l + 1)) ≡ t → next live total n at l ls (within n at l p t) ≡ Ok s → Accepts live (line_at total n at) (l ∷ ls) p s
     at_test i true f g = absurd (ok_no_fault s (fault n TooLong) (sym g))
     at_test i false f g = at_line i f (read_line n l p) refl g
 
-pub lines_good : (live : Bool) (total n at : ℕ) (ls : List (List ℕ)) (p : Place) (s : Script) → Accepts live total n at ls p s
+pub lines_good : (live : Bool) (total n at : ℕ) (ls : List (List ℕ)) (p : Place) (s : Script) → Accepts live (line_at total n at) ls p s
     → read_lines live total n at ls p ≡ Ok s
 lines_good live total n at [] p s (w, e, f) = end_good live n p w e ∙ ap (λ x. done x) (sym f)
 lines_good live total n at (l ∷ ls) p s (h, q, a, b) =
@@ -293,14 +293,14 @@ lines_good live total n at (l ∷ ls) p s (h, q, a, b) =
     ∙ lines_good live total (n + 1) (at + (length l + 1)) ls q s b
 
 pub lines_err : (live : Bool) (total n at : ℕ) (ls : List (List ℕ)) (p : Place) (m : ℕ) (k : Kind) → read_lines live total n at ls p ≡ Err (fault m k)
-    → Refuses live total n at ls p m k
+    → Refuses live (line_at total n at) ls p m k
 lines_err live total n at [] p m k e = end_err live n m k p e
 lines_err live total n at (l ∷ ls) p m k e =
     at_test (λ q h. lines_err live total (n + 1) (at + (length l + 1)) ls q m k h) (is_past total n (at + (length l + 1))) refl e
   where
     at_line : ((q : Place) → read_lines live total (n + 1) (at + (length l + 1)) ls q ≡ Err (fault m k)
-        → Refuses live total (n + 1) (at + (length l + 1)) ls q m k) → is_past total n (at + (length l + 1)) ≡ false → (r : Result Place Kind)
-        → read_line n l p ≡ r → next live total n at l ls r ≡ Err (fault m k) → Refuses live total n at (l ∷ ls) p m k
+        → Refuses live (line_at total (n + 1) (at + (length l + 1))) ls q m k) → is_past total n (at + (length l + 1)) ≡ false → (r : Result Place Kind)
+        → read_line n l p ≡ r → next live total n at l ls r ≡ Err (fault m k) → Refuses live (line_at total n at) (l ∷ ls) p m k
     at_line i f (Ok q) g h = inr (inr (past_false total n (at + (length l + 1)) f, q, line_ok n l p q g, i q h))
     at_line i f (Err j) g h =
         let x = fault_of (fault n j) (fault m k) h in
@@ -309,8 +309,8 @@ lines_err live total n at (l ∷ ls) p m k e =
         inr (inl (past_false total n (at + (length l + 1)) f, subst P j_k (line_err n l p j g), sym (ap (λ y. y.line) x)))
 
     at_test : ((q : Place) → read_lines live total (n + 1) (at + (length l + 1)) ls q ≡ Err (fault m k)
-        → Refuses live total (n + 1) (at + (length l + 1)) ls q m k) → (t : Bool) → is_past total n (at + (length l + 1)) ≡ t
-        → next live total n at l ls (within n at l p t) ≡ Err (fault m k) → Refuses live total n at (l ∷ ls) p m k
+        → Refuses live (line_at total (n + 1) (at + (length l + 1))) ls q m k) → (t : Bool) → is_past total n (at + (length l + 1)) ≡ t
+        → next live total n at l ls (within n at l p t) ≡ Err (fault m k) → Refuses live (line_at total n at) (l ∷ ls) p m k
     at_test i true f g =
         let x = fault_of (fault n TooLong) (fault m k) g in
         inl (past_true total n (at + (length l + 1)) f, sym (ap (λ y. y.line) x), sym (ap (λ y. y.kind) x))
@@ -319,7 +319,7 @@ lines_err live total n at (l ∷ ls) p m k e =
 same_fault : (n m : ℕ) (j k : Kind) → m ≡ n → k ≡ j → failed (fault n j) ≡ failed (fault m k)
 same_fault n m j k e f = rw (e, f) refl
 
-pub lines_bad : (live : Bool) (total n at : ℕ) (ls : List (List ℕ)) (p : Place) (m : ℕ) (k : Kind) → Refuses live total n at ls p m k
+pub lines_bad : (live : Bool) (total n at : ℕ) (ls : List (List ℕ)) (p : Place) (m : ℕ) (k : Kind) → Refuses live (line_at total n at) ls p m k
     → read_lines live total n at ls p ≡ Err (fault m k)
 lines_bad live total n at [] p m k (inl (w, e, f)) = end_part live n p w ∙ same_fault n m BadSetup k e f
 lines_bad live total n at [] p m k (inr (w, e, f)) = end_open live n m p w e ∙ same_fault m m Unclosed k refl f

@@ -52,7 +52,7 @@ left_of (Some bytes) = words bytes.now
 abbrev pub number_of : List ℕ → Option ℕ
 number_of word =
     let n = digits_value 10 word in
-    if bytes_eq word (decimal n) && nat_lt n 4294967296 then Some n else None
+    if bytes_eq word (decimal n) && nat_lt n (2 ^ 32) then Some n else None
 
 -- a number within a range
 abbrev pub in_range : ℕ → ℕ → Option ℕ → Option ℕ

@@ -217,33 +217,51 @@ unclosed (l ∷ ls) = if is_unclosed l.work ls then Some l.number else unclosed 
 abbrev pub open_crash : Bool → List Line → Option ℕ
 open_crash live items = if live then unclosed items else None
 
--- these lines, of which the first has this number and begins at this byte, are within the limits and good, and are the script
-abbrev pub Accepts : Bool → ℕ → ℕ → ℕ → List (List ℕ) → Place → Script → Type 0
-Accepts live total n at [] p s =
-    (is_whole p.stage ≡ true) × (open_crash live p.items ≡ None) × (s ≡ record { setup = p.setup; lines = p.items })
-Accepts live total n at (l ∷ ls) p s =
-    (IsPast (record { total = total; number = n; end = at + (length l + 1) }) → ⊥)
-    × (q : Place) × Leads n l p q × Accepts live total (n + 1) (at + (length l + 1)) ls q s
+-- where a line begins: in an input of how many bytes, its number, and how many bytes stand before it
+pub record LineStart : Type 0 where
+  pub total : ℕ
+  pub number : ℕ
+  pub begins : ℕ
 
--- of these lines the first bad one has the number m and is bad of kind k: the setup is not whole at their end, a crash stays
--- open, the first of them is past a limit or bad, or it is good and the first bad line is among the others
-abbrev pub Refuses : Bool → ℕ → ℕ → ℕ → List (List ℕ) → Place → ℕ → Kind → Type 0
-Refuses live total n at [] p m k =
-    ((is_whole p.stage ≡ false) × (m ≡ n) × (k ≡ BadSetup))
+abbrev pub line_at : ℕ → ℕ → ℕ → LineStart
+line_at total number begins = record { total = total; number = number; begins = begins }
+
+-- where the first line begins
+abbrev pub first_line : List ℕ → LineStart
+first_line bytes = line_at (length bytes) 1 0
+
+-- where the line behind this one begins
+abbrev pub line_behind : LineStart → List ℕ → LineStart
+line_behind from line = line_at from.total (from.number + 1) (from.begins + (length line + 1))
+
+-- where this line ends
+abbrev pub end_of : LineStart → List ℕ → LineEnd
+end_of from line = record { total = from.total; number = from.number; end = from.begins + (length line + 1) }
+
+-- these lines, the first of which begins here, are within the limits and good, and are the script
+abbrev pub Accepts : Bool → LineStart → List (List ℕ) → Place → Script → Type 0
+Accepts live from [] p s = (is_whole p.stage ≡ true) × (open_crash live p.items ≡ None) × (s ≡ record { setup = p.setup; lines = p.items })
+Accepts live from (l ∷ ls) p s =
+    (IsPast (end_of from l) → ⊥) × (q : Place) × Leads from.number l p q × Accepts live (line_behind from l) ls q s
+
+-- of these lines, the first of which begins here, the first bad one has the number m and is bad of kind k: the setup is not whole at
+-- their end, a crash stays open, the first of them is past a limit or bad, or it is good and the first bad line is among the others
+abbrev pub Refuses : Bool → LineStart → List (List ℕ) → Place → ℕ → Kind → Type 0
+Refuses live from [] p m k =
+    ((is_whole p.stage ≡ false) × (m ≡ from.number) × (k ≡ BadSetup))
     ⊎ ((is_whole p.stage ≡ true) × (open_crash live p.items ≡ Some m) × (k ≡ Unclosed))
-Refuses live total n at (l ∷ ls) p m k =
-    (IsPast (record { total = total; number = n; end = at + (length l + 1) }) × (m ≡ n) × (k ≡ TooLong))
-    ⊎ ((IsPast (record { total = total; number = n; end = at + (length l + 1) }) → ⊥) × IsBad l p k × (m ≡ n))
-    ⊎ ((IsPast (record { total = total; number = n; end = at + (length l + 1) }) → ⊥) × (q : Place) × Leads n l p q
-    × Refuses live total (n + 1) (at + (length l + 1)) ls q m k)
+Refuses live from (l ∷ ls) p m k =
+    (IsPast (end_of from l) × (m ≡ from.number) × (k ≡ TooLong))
+    ⊎ ((IsPast (end_of from l) → ⊥) × IsBad l p k × (m ≡ from.number))
+    ⊎ ((IsPast (end_of from l) → ⊥) × (q : Place) × Leads from.number l p q × Refuses live (line_behind from l) ls q m k)
 
 -- the bytes are this script
 abbrev pub IsScriptOf : Bool → List ℕ → Script → Type 0
-IsScriptOf live bytes s = Accepts live (length bytes) 1 0 (lines bytes) start s
+IsScriptOf live bytes s = Accepts live (first_line bytes) (lines bytes) start s
 
 -- the first bad line of the bytes, and its kind
 abbrev pub IsFirstBad : Bool → List ℕ → ℕ → Kind → Type 0
-IsFirstBad live bytes number kind = Refuses live (length bytes) 1 0 (lines bytes) start number kind
+IsFirstBad live bytes number kind = Refuses live (first_line bytes) (lines bytes) start number kind
 
 -- a refusal names the first bad line and its kind; want of memory needs no cause
 abbrev pub HasCause : Bool → List ℕ → ScriptError → Type 0
