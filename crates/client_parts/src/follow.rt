@@ -4,7 +4,7 @@ ghost use Rattle.client_parts.specs.Follow.{drops};
 ghost use Rattle.log_owner.specs.Promised.{manager_of};
 ghost use Rattle.log_owner.specs.Sending.{pushes};
 ghost use Rattle.node_base.specs.declared.effects.Effect.TheVariants.{Send};
-ghost use Rattle.wire_msg.specs.declared.body.Body.TheVariants.{Want as Wants, Gave as Gives};
+ghost use Rattle.wire_msg.specs.declared.body.Body.TheVariants.{Want as WantBody, Gave as GaveBody};
 ghost use Rattle.xfs_base.specs.Blocks.{slot_of};
 
 use delta_feed::Feed;
@@ -25,7 +25,7 @@ pub fn send_want(
     want: Want,
 ) -> Mem<()>
     ensures feed { OnOk result (feed.new ≡ feed.old) }
-    ensures effects { OnOk result (effects.new ≡ effects.old ++ ((if want.again == 0 then pushes managers feed.old (slot_of want.block.ino.0) else []) ++ Send (manager_of managers (slot_of want.block.ino.0)) (Wants want) ∷ [])) }
+    ensures effects { OnOk result (effects.new ≡ effects.old ++ ((if want.again == 0 then pushes managers feed.old (slot_of want.block.ino.0) else []) ++ Send (manager_of managers (slot_of want.block.ino.0)) (WantBody want) ∷ [])) }
 {
     let slot = want.block.ino.slot();
     push_first(alloc, effects, feed, managers, slot, want.again)?;
@@ -58,7 +58,7 @@ pub fn send_gave(
     gave: Gave,
 ) -> Mem<()>
     ensures feed { OnOk result (feed.new ≡ feed.old) }
-    ensures effects { OnOk result (effects.new ≡ effects.old ++ (pushes managers feed.old (slot_of gave.block.ino.0) ++ Send (manager_of managers (slot_of gave.block.ino.0)) (Gives gave) ∷ [])) }
+    ensures effects { OnOk result (effects.new ≡ effects.old ++ (pushes managers feed.old (slot_of gave.block.ino.0) ++ Send (manager_of managers (slot_of gave.block.ino.0)) (GaveBody gave) ∷ [])) }
 {
     push(alloc, effects, feed, managers, gave.block.ino.slot())?;
     say_gave(effects, managers, gave)
@@ -66,7 +66,7 @@ pub fn send_gave(
 
 /// Says that a block was given up.
 pub fn say_gave(effects: &mut Effects, managers: Managers, gave: Gave) -> Mem<()>
-    ensures { OnOk result (effects.new ≡ effects.old ++ Send (manager_of managers (slot_of gave.block.ino.0)) (Gives gave) ∷ []) }
+    ensures { OnOk result (effects.new ≡ effects.old ++ Send (manager_of managers (slot_of gave.block.ino.0)) (GaveBody gave) ∷ []) }
 {
     effects.send(managers.of(gave.block.ino.slot()), Body::Gave(gave))
 }

@@ -26,7 +26,7 @@ abbrev pub said_of : Segment → BlockId → Entry
 said_of s b = join (rows_of s) b
 
 -- A client's log files versions above all that were filed, and no copies.
-pub record IsNews (w : IndexState) (l : ℕ) (said : Entry) : Type 0 where
+pub record SaysNewer (w : IndexState) (l : ℕ) (said : Entry) : Type 0 where
   pub client : l < 9
   pub new : 0 < said.ver → w.joined.version < said.ver
   pub first_hand : 0 < said.ver → said.hop ≡ 0
@@ -61,7 +61,7 @@ pub record Files (b : BlockId) (f : Filed) (w : IndexState) : Type 0 where
 abbrev pub ClientsFile : Type 0
 ClientsFile =
     (b : BlockId) (f : Filed) (w : IndexState) (l : ℕ) (s : Segment) → IndexReached w → IsFiled f → Tells b f w → 0 < l → IsSegment l (suc (f.head l)) s
-    → IsNews w l (said_of s b) → Files b (with_segment f l s) w
+    → SaysNewer w l (said_of s b) → Files b (with_segment f l s) w
 
 -- A segment that the cleaner settles is filed at each block: it has copies of those that it names.
 abbrev pub CleanerFiles : Type 0

@@ -14,7 +14,7 @@ use xfs_base::Mem;
 /// world in which it ends. Its events are a run of the script, and each item is begun once, at its line.
 pub fn play<N: Member>(alloc: Global, script: &Script) -> Mem<Estate<N>>
     requires { IsSetup script.now.setup }
-    ensures is { IfOk result (λ estate. estate ≡ estate_of N.transition N.first script.now) }
+    ensures exact { IfOk result (λ estate. estate ≡ estate_of N.transition N.first script.now) }
     ensures one_run { IfOk result (λ estate. IsRun N.transition N.first script.now estate.events estate.world) }
     ensures in_order { IfOk result (λ estate. begun_in estate.events ≡ actors_of script.now.lines) }
     ensures complete { IfOk result (λ estate. BeginsAll script.now.lines estate.events) }

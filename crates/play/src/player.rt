@@ -86,7 +86,7 @@ impl<N: Member> Player<N> {
     /// An event happens.
     #[tactic(auto, unfolding(crate::specs::Plays::happens))]
     fn happen(self, alloc: Global, event: Event) -> Mem<Player<N>>
-        ensures is { IfOk result (λ player. player ≡ happens N.transition self event) }
+        ensures exact { IfOk result (λ player. player ≡ happens N.transition self event) }
         ensures no_more { IfOk result (λ player. player.unanswered ≤ self.unanswered) }
     {
         let sent = self.world.sent.len();
@@ -110,7 +110,7 @@ impl<N: Member> Player<N> {
     #[tactic(auto, unfolding(crate::specs::Plays::begins))]
     fn begin(self, alloc: Global, node: NodeId) -> Mem<Player<N>>
         requires { self.unanswered + 1 < 2 ^ 64 }
-        ensures is { IfOk result (λ player. player ≡ begins N.transition self node) }
+        ensures exact { IfOk result (λ player. player ≡ begins N.transition self node) }
         ensures one_more { IfOk result (λ player. player.unanswered ≤ self.unanswered + 1) }
     {
         let mut player = self;
@@ -123,7 +123,7 @@ impl<N: Member> Player<N> {
     /// The packet of this number is delivered.
     #[tactic(auto, unfolding(crate::specs::Plays::delivered))]
     fn deliver(self, alloc: Global, number: usize) -> Mem<Player<N>>
-        ensures is { IfOk result (λ player. player ≡ delivered N.transition self number) }
+        ensures exact { IfOk result (λ player. player ≡ delivered N.transition self number) }
         ensures no_more { IfOk result (λ player. player.unanswered ≤ self.unanswered) }
     {
         let packet = match self.world.sent.get(number) {
@@ -138,7 +138,7 @@ impl<N: Member> Player<N> {
     /// Time passes at every node, in their order.
     #[tactic(auto, unfolding(crate::specs::Plays::rounded))]
     fn round(self, alloc: Global) -> Mem<Player<N>>
-        ensures is { IfOk result (λ player. player ≡ rounded N.transition self) }
+        ensures exact { IfOk result (λ player. player ≡ rounded N.transition self) }
         ensures no_more { IfOk result (λ player. player.unanswered ≤ self.unanswered) }
     {
         let cluster = self.world.cluster;
@@ -151,7 +151,7 @@ impl<N: Member> Player<N> {
 
     /// What comes next happens.
     fn come(self, alloc: Global, next: Next) -> Mem<Player<N>>
-        ensures is { IfOk result (λ player. player ≡ comes N.transition self next) }
+        ensures exact { IfOk result (λ player. player ≡ comes N.transition self next) }
         ensures no_more { IfOk result (λ player. player.unanswered ≤ self.unanswered) }
     {
         match next {
@@ -164,7 +164,7 @@ impl<N: Member> Player<N> {
     /// All that the schedule says happens for the line in hand.
     #[tactic(auto, unfolding(crate::specs::Plays::goes_out))]
     fn go(self, alloc: Global) -> Mem<Player<N>>
-        ensures is { IfOk result (λ player. player ≡ goes_out N.transition self) }
+        ensures exact { IfOk result (λ player. player ≡ goes_out N.transition self) }
         ensures no_more { IfOk result (λ player. player.unanswered ≤ self.unanswered) }
     {
         let mut player = self;
@@ -181,7 +181,7 @@ impl<N: Member> Player<N> {
     #[tactic(auto, unfolding(crate::specs::Plays::opens))]
     fn open(self, alloc: Global, work: &Work) -> Mem<Player<N>>
         requires { self.unanswered + 1 < 2 ^ 64 }
-        ensures is { IfOk result (λ player. player ≡ opens N.transition self work.now) }
+        ensures exact { IfOk result (λ player. player ≡ opens N.transition self work.now) }
         ensures one_more { IfOk result (λ player. player.unanswered ≤ self.unanswered + 1) }
     {
         match actor_of(work) {
@@ -198,7 +198,7 @@ impl<N: Member> Player<N> {
     #[tactic(auto, unfolding(crate::specs::Plays::plays_line))]
     fn line(self, alloc: Global, line: &Line) -> Mem<Player<N>>
         requires { self.unanswered + 1 < 2 ^ 64 }
-        ensures is { IfOk result (λ player. player ≡ plays_line N.transition self line.now) }
+        ensures exact { IfOk result (λ player. player ≡ plays_line N.transition self line.now) }
         ensures one_more { IfOk result (λ player. player.unanswered ≤ self.unanswered + 1) }
     {
         let player = self.open(alloc, &line.work)?;
@@ -221,7 +221,7 @@ impl<N: Member> Player<N> {
     /// The play of a script. Its events are a run of the script, and each item is begun once, at its line.
     pub fn play(alloc: Global, script: &Script) -> Mem<Player<N>>
         requires { IsSetup script.now.setup }
-        ensures is { IfOk result (λ player. player ≡ played N.transition N.first script.now) }
+        ensures exact { IfOk result (λ player. player ≡ played N.transition N.first script.now) }
         ensures one_run { IfOk result (λ player. IsRun N.transition N.first script.now player.events player.world) }
         ensures in_order { IfOk result (λ player. begun_in player.events ≡ actors_of script.now.lines) }
         ensures complete { IfOk result (λ player. BeginsAll script.now.lines player.events) }

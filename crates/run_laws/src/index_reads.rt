@@ -2,7 +2,7 @@
 //! of the index, which knows where its versions lie. `specs/index_reads/Ties.antt` says how they tell of the same logs. It has no code: each function below
 //! has an empty body, and its contract is a law.
 
-ghost use Rattle.run_laws.specs.index_reads.Clients.{FlightsAreNews, NothingIsNews};
+ghost use Rattle.run_laws.specs.index_reads.Clients.{FlightsAreNews, NothingIsNewer};
 ghost use Rattle.run_laws.specs.index_reads.Managers.{DeltasAreCovered, FoundGather, ManagersAreTold, MissingGather, ReportsGather};
 ghost use Rattle.run_laws.specs.index_reads.Places.{PlacesAreKept};
 ghost use Rattle.run_laws.specs.index_reads.Rows.{DeltasAreSaid, RowsAreEntries};
@@ -24,7 +24,7 @@ pub fn rows_are_entries()
 /// - `nothing`: a segment that says nothing of blocks is news of each.
 pub fn flights_are_news()
     ensures news { FlightsAreNews }
-    ensures nothing { NothingIsNews }
+    ensures nothing { NothingIsNewer }
 {}
 
 /// What the index gives tokens.

@@ -188,7 +188,7 @@ fn script_of(alloc: Global, number: u32, turns: u32) -> Mem<Script>
 /// The script of `n` turns, at most 2,000, that a number draws. Its text spells that very script.
 pub fn generate(alloc: Global, number: u32, n: u32) -> Mem<Script>
     requires { n ≤ 2000 }
-    ensures is { IfOk result (λ script. script ≡ generated number n) }
+    ensures exact { IfOk result (λ script. script ≡ generated number n) }
     ensures again { IfOk result (λ script. IsScriptOf false (printed script) script) }
 {
     script_of(alloc, number, n)

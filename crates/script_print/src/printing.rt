@@ -76,7 +76,7 @@ fn text_of(alloc: Global, script: &Script) -> Mem<Text>
 /// without a count. Where the text has at most 1,048,576 bytes, it spells that very script. A work that
 /// no line asks for has an empty line.
 pub fn print(alloc: Global, script: &Script) -> Mem<Text>
-    ensures is { IfOk result (λ text. text ≡ printed script.now) }
+    ensures exact { IfOk result (λ text. text ≡ printed script.now) }
     ensures again { IfOk result (λ text. IsScript script.now → length text ≤ 1048576 → IsScriptOf false text script.now) }
 {
     text_of(alloc, script)

@@ -11,7 +11,7 @@ use xfs_base::Ino;
 
 /// The number that a word writes, at least and at most this.
 pub fn number_in(least: u32, most: u32, word: &[u8]) -> Option<u32>
-    ensures is { result ≡ number_in least most word.now }
+    ensures exact { result ≡ number_in least most word.now }
     ensures range { IfSome result (λ n. (least ≤ n) × (n ≤ most)) }
 {
     match number_of(word) {

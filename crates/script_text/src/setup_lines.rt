@@ -32,7 +32,7 @@ pub enum Said {
 
 /// The number that a line gives to a name.
 fn number_for(name: &[u8], least: u32, most: u32, line: &[u8]) -> Option<u32>
-    ensures is { result ≡ number_for name.now least most (words line.now) }
+    ensures exact { result ≡ number_for name.now least most (words line.now) }
     ensures range { IfSome result (λ n. n ≤ most) }
 {
     let mut words = Words::of(line);

@@ -54,7 +54,7 @@ fn is_plain(b: u8) -> bool
 }
 
 fn hex_value(b: u8) -> Option<u8>
-    ensures is { result ≡ hex_value b }
+    ensures exact { result ≡ hex_value b }
     ensures small { IfSome result (λ n. n < 16) }
 {
     match b {
@@ -67,7 +67,7 @@ fn hex_value(b: u8) -> Option<u8>
 /// What a byte does at this mark.
 fn turn_at(mark: Mark, b: u8) -> Turn
     requires { IsMark mark }
-    ensures is { result ≡ turn_at mark b }
+    ensures exact { result ≡ turn_at mark b }
     ensures mark { IsTurn result }
 {
     match mark {

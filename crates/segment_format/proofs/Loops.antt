@@ -13,7 +13,7 @@ use Rattle.segment_format.specs.declared.seg_error.SegError.TheVariants.{BadRef}
 use Rattle.segment_format.specs.Reading.{Reader, read_on, ◌>>=◌, gives, Fails}
 use Rattle.segment_format.specs.ReadingFields.{row_at, rows_at}
 use Rattle.segment_format.specs.ReadingItems.{item_at, items_at}
-use Rattle.segment_format.specs.Rule.{after}
+use Rattle.segment_format.specs.Rule.{seen_after}
 
 -- what was read before, and what is still read
 abbrev pub with_front : {A : Type 0} → List A → Result (List A × Fields) SegError → Result (List A × Fields) SegError
@@ -67,12 +67,12 @@ rows_end front count i f total le so_far =
 pub items_go_on : (version : ℕ) (front : List Item) (seen : Seen) (count i : ℕ) (f g : Fields) (item : Item) (total : Result (List Item × Fields) SegError)
     → i < count → item_at version seen f ≡ Ok (item, g)
     → with_front front (items_at version seen (count - i) f) ≡ total
-    → with_front (front ++ item ∷ []) (items_at version (after item seen) (count - (i + 1)) g) ≡ total
+    → with_front (front ++ item ∷ []) (items_at version (seen_after item seen) (count - (i + 1)) g) ≡ total
 unfolding items_at
 items_go_on version front seen count i f g item total lt h so_far =
     let k : count - i ≡ suc (count - (i + 1)) = omega arith in
     let one : with_front front (items_at version seen (count - i) f) ≡ with_front (front ++ item ∷ [])
-    (items_at version (after item seen) (count - (i + 1)) g) = rw (k, h) (regroup front item (items_at version (after item seen) (count - (i + 1)) g)) in
+    (items_at version (seen_after item seen) (count - (i + 1)) g) = rw (k, h) (regroup front item (items_at version (seen_after item seen) (count - (i + 1)) g)) in
     sym one ∙ so_far
 
 pub items_fail : (version : ℕ) (e : SegError) (front : List Item) (seen : Seen) (count i : ℕ) (f : Fields) (total : Result (List Item × Fields) SegError)
@@ -82,7 +82,7 @@ unfolding items_at
 items_fail version e front seen count i f total lt h so_far =
     let k : count - i ≡ suc (count - (i + 1)) = omega arith in
     let here : Fails e (items_at version seen (count - i) f) =
-    rw k (fails_in e (item_at version seen f) (λ item. items_at version (after item seen) (count - (i + 1)) >>= λ others. gives (item ∷ others)) h) in
+    rw k (fails_in e (item_at version seen f) (λ item. items_at version (seen_after item seen) (count - (i + 1)) >>= λ others. gives (item ∷ others)) h) in
     fails_on e front (items_at version seen (count - i) f) total here so_far
 
 pub items_end : (version : ℕ) (front : List Item) (seen : Seen) (count i : ℕ) (f : Fields) (total : Result (List Item × Fields) SegError) → count ≤ i
@@ -102,7 +102,7 @@ items_miss version front seen count i f total le some so_far =
     sym so_far ∙ one
 
 -- one item more is seen
-pub after_counts : (item : Item) (seen : Seen) → (after item seen).others + (after item seen).deltas ≡ seen.others + seen.deltas + 1
+pub after_counts : (item : Item) (seen : Seen) → (seen_after item seen).others + (seen_after item seen).deltas ≡ seen.others + seen.deltas + 1
 after_counts (Block block value) seen = omega arith
 after_counts (Delta block ver hop item) seen = omega arith
 after_counts (Part slot rows) seen = omega arith

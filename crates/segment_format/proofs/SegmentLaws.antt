@@ -19,7 +19,7 @@ use Rattle.segment_format.specs.declared.seg_error.SegError.TheVariants.{BadVers
 use Rattle.segment_format.specs.Format.{first_version, second_version, longest, most_items, mark, IsVersion}
 use Rattle.segment_format.specs.Ranges.{FitsItem, Fits}
 use Rattle.segment_format.specs.ReadingItems.{items_at, parts_at, segment_at, ended, answer_of}
-use Rattle.segment_format.specs.Rule.{KeepsRule, deltas_in, others_in, nothing_seen, after, no_item, answers}
+use Rattle.segment_format.specs.Rule.{KeepsRule, deltas_in, others_in, nothing_seen, seen_after, no_item, answers}
 use Rattle.segment_format.specs.Text.{item_text, head_text, is_long, version_of, head_of, text_of, IsItem, KeepsLimits, IsText}
 use Rattle.segment_format.proofs.Writes.{kinds_count}
 use Rattle.segment_format.proofs.Readers.{IsBytes, IsReader, then-reader, gives-reader, checked-reader, as-reader, cons-reader, OfCons}
@@ -94,12 +94,12 @@ abbrev Next : ℕ → Seen → Item → Type 0
 Next version seen x = FullItem version x × Joins seen x
 
 next_bounds : (version : ℕ) (seen : Seen) (x : Item) → Next version seen x → seen.others ≤ most_items → seen.deltas ≤ most_items
-    → ((after x seen).others ≤ most_items) × ((after x seen).deltas ≤ most_items)
+    → ((seen_after x seen).others ≤ most_items) × ((seen_after x seen).deltas ≤ most_items)
 next_bounds version seen (Block block value) v o d = let lt : seen.others < most_items = v.1.0 in (omega arith, d)
 next_bounds version seen (Delta block ver hop item) v o d = let lt : seen.deltas < most_items = v.1.0 in (o, omega arith)
 next_bounds version seen (Part slot rows) v o d = let lt : seen.others < most_items = v.1.0 in (omega arith, d)
 
-cons_to : (version n : ℕ) (seen : Seen) (x : Item) (xs : List Item) → Next version seen x → OfItems version n (after x seen) xs
+cons_to : (version n : ℕ) (seen : Seen) (x : Item) (xs : List Item) → Next version seen x → OfItems version n (seen_after x seen) xs
     → OfItems version (suc n) seen (x ∷ xs)
 cons_to version n seen (Block block value) xs v h = (
   ap suc h.0,
@@ -124,7 +124,7 @@ cons_to version n seen (Part slot rows) xs v h = (
 )
 
 cons_from : (version n : ℕ) (seen : Seen) (x : Item) (xs : List Item) → OfItems version (suc n) seen (x ∷ xs)
-    → Next version seen x × OfItems version n (after x seen) xs
+    → Next version seen x × OfItems version n (seen_after x seen) xs
 cons_from version n seen (Block block value) xs h =
     let r = rule_uncons seen.awaited (seen.others + seen.deltas) (seen.others + 1 + seen.deltas) (Block block value) xs (omega arith) h.2 in
     let len : length xs ≡ n = omega (arith, h.0) in
@@ -138,13 +138,13 @@ cons_from version n seen (Part slot rows) xs h =
     let len : length xs ≡ n = omega (arith, h.0) in
     ((h.1.0, (omega (arith, h.3), r.0)), (len, h.1.1, r.1, omega (arith, h.3), omega (arith, h.4)))
 
-of_cons_to : (version n : ℕ) (seen : Seen) (items : List Item) → OfCons (Next version seen) (λ x xs. OfItems version n (after x seen) xs) items
+of_cons_to : (version n : ℕ) (seen : Seen) (items : List Item) → OfCons (Next version seen) (λ x xs. OfItems version n (seen_after x seen) xs) items
     → OfItems version (suc n) seen items
 of_cons_to version n seen [] h = absurd h
 of_cons_to version n seen (x ∷ xs) h = cons_to version n seen x xs h.0 h.1
 
 of_cons_from : (version n : ℕ) (seen : Seen) (items : List Item) → OfItems version (suc n) seen items
-    → OfCons (Next version seen) (λ x xs. OfItems version n (after x seen) xs) items
+    → OfCons (Next version seen) (λ x xs. OfItems version n (seen_after x seen) xs) items
 of_cons_from version n seen [] h = absurd (omega (arith, h.0))
 of_cons_from version n seen (x ∷ xs) h = cons_from version n seen x xs h
 
@@ -157,7 +157,7 @@ items-reader version zero seen o d =
     (λ items v. none_to version seen items o d v.0 v.1)
     (none_from version seen)
 items-reader version (suc n) seen o d =
-    as-reader (cons-reader (item-reader version seen) (λ x v. let b = next_bounds version seen x v o d in items-reader version n (after x seen) b.0 b.1))
+    as-reader (cons-reader (item-reader version seen) (λ x v. let b = next_bounds version seen x v o d in items-reader version n (seen_after x seen) b.0 b.1))
     (λ items v. refl)
     (of_cons_to version n seen)
     (of_cons_from version n seen)

@@ -14,7 +14,7 @@ use Rattle.segment_format.specs.Format.{most_items, is_mark, is_log, is_version,
 use Rattle.segment_format.specs.Reading.{Reader, read_on, ◌>>=◌, gives, past, raw, number, judged, checked}
 use Rattle.segment_format.specs.ReadingFields.{block_at, log_at, pass_at, name_at, prior_at, mark_at, head_at, value_at, place_at, flagged_at, row_at, rows_at}
 use Rattle.segment_format.specs.ReadingItems.{kind_at, block_item_at, delta_item_at, part_item_at, body_at, item_at, items_at, parts_at, segment_at}
-use Rattle.segment_format.specs.Rule.{nothing_seen, after, is_kind, has_room, may_come, follows}
+use Rattle.segment_format.specs.Rule.{nothing_seen, seen_after, is_kind, has_room, may_come, follows}
 use Rattle.segment_format.specs.Text.{version_of}
 
 -- the same bytes, and more behind them
@@ -230,7 +230,7 @@ items-steady : (version n : ℕ) (seen : Seen) → IsSteady (items_at version se
 unfolding items_at
 items-steady version zero seen = checked-steady (λ none. is_none seen.awaited) BadRef (λ at. refl) (gives-steady [])
 items-steady version (suc n) seen =
-    then-steady (item-steady version seen) (λ item. then-steady (items-steady version n (after item seen)) (λ others. gives-steady (item ∷ others)))
+    then-steady (item-steady version seen) (λ item. then-steady (items-steady version n (seen_after item seen)) (λ others. gives-steady (item ∷ others)))
 
 parts-steady : IsSteady parts_at
 unfolding parts_at

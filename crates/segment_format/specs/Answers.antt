@@ -4,13 +4,13 @@ use Rattle.segment_format.specs.declared.segment.Segment.{Segment}
 use Rattle.segment_format.specs.declared.seg_error.SegError.{SegError}
 use Rattle.segment_format.specs.declared.seg_error.SegError.TheVariants.{Short, BadMark, BadVersion, BadKind, BadLength, BadRef, Trailing, Memory}
 use Rattle.segment_format.specs.Ranges.{Fits}
-use Rattle.segment_format.specs.Reading.{Gives}
+use Rattle.segment_format.specs.Reading.{Yields}
 use Rattle.segment_format.specs.ReadingItems.{answer_of}
 use Rattle.segment_format.specs.Text.{IsText}
 
 -- where the bytes are the text of a segment, the answer is that segment, unless memory ran out
 abbrev pub ReadsEachText : List ℕ → Result Segment SegError → Type 0
-ReadsEachText bytes answer = (s : Segment) → Fits s → IsText bytes s → Gives (λ x. x) answer (Ok s)
+ReadsEachText bytes answer = (s : Segment) → Fits s → IsText bytes s → Yields (λ x. x) answer (Ok s)
 
 -- the offset that a refusal names
 abbrev pub place : SegError → ℕ

@@ -48,6 +48,6 @@ checked p test bad f = judged (p f) test (bad f.at)
 abbrev pub Fails : {Y : Type 0} → SegError → Result Y SegError → Type 0
 Fails e read = (e ≡ Memory) ⊎ (read ≡ Err e)
 
-abbrev pub Gives : {X Y : Type 0} → (X → Y) → Result X SegError → Result Y SegError → Type 0
-Gives view (Ok x) read = read ≡ Ok (view x)
-Gives view (Err e) read = Fails e read
+abbrev pub Yields : {X Y : Type 0} → (X → Y) → Result X SegError → Result Y SegError → Type 0
+Yields view (Ok x) read = read ≡ Ok (view x)
+Yields view (Err e) read = Fails e read

@@ -12,7 +12,7 @@ use Rattle.segment_format.specs.declared.seg_error.SegError.TheVariants.{BadVers
 use Rattle.segment_format.specs.Format.{is_row_count}
 use Rattle.segment_format.specs.Reading.{Reader, ◌>>=◌, gives, number, checked}
 use Rattle.segment_format.specs.ReadingFields.{block_at, value_at, rows_at, mark_at, head_at}
-use Rattle.segment_format.specs.Rule.{nothing_seen, after, is_kind, has_room, may_come, follows}
+use Rattle.segment_format.specs.Rule.{nothing_seen, seen_after, is_kind, has_room, may_come, follows}
 use Rattle.segment_format.specs.Text.{version_of}
 
 -- the kind of the next item
@@ -53,7 +53,7 @@ unfoldable pub items_at : ℕ → Seen → ℕ → Reader (List Item)
 items_at version seen zero = checked (gives []) (λ none. is_none seen.awaited) BadRef
 items_at version seen (suc n) = do
   item ← item_at version seen
-  others ← items_at version (after item seen) n
+  others ← items_at version (seen_after item seen) n
   gives (item ∷ others)
 
 -- what stands behind the mark; the version must be the one that the items need, which is known behind the last of them

@@ -43,11 +43,11 @@ abbrev pub nothing_seen : Seen
 nothing_seen = record { others = 0; deltas = 0; awaited = None }
 
 -- what is seen behind this item
-abbrev pub after : Item → Seen → Seen
-after (Block block value) seen =
+abbrev pub seen_after : Item → Seen → Seen
+seen_after (Block block value) seen =
     record { others = seen.others + 1; deltas = seen.deltas; awaited = Some (record { block = block; item = seen.others + seen.deltas }) }
-after (Delta block ver hop item) seen = record { others = seen.others; deltas = seen.deltas + 1; awaited = None }
-after (Part slot rows) seen = record { others = seen.others + 1; deltas = seen.deltas; awaited = None }
+seen_after (Delta block ver hop item) seen = record { others = seen.others; deltas = seen.deltas + 1; awaited = None }
+seen_after (Part slot rows) seen = record { others = seen.others + 1; deltas = seen.deltas; awaited = None }
 
 abbrev pub is_kind : ℕ → Bool
 is_kind kind = is_within 1 3 kind

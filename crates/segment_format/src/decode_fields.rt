@@ -1,7 +1,7 @@
 //! Reading the header's fields, and those within an item.
 ghost use Rattle.std.specs.Prelude.{◌≡◌};
 ghost use Rattle.std.specs.Int.{w8, w16, w32, w64};
-ghost use Rattle.segment_format.specs.Reading.{Gives, number, raw};
+ghost use Rattle.segment_format.specs.Reading.{Yields, number, raw};
 ghost use Rattle.segment_format.specs.ReadingFields.{block_at, log_at, pass_at, name_at, prior_at, mark_at, head_at, value_at, place_at, flagged_at, row_at, rows_at};
 
 use crate::SegError;
@@ -14,7 +14,7 @@ use xfs_base::{
 };
 
 pub(crate) fn u8_of(reader: &mut FieldReader) -> Result<u8, SegError>
-    ensures { Gives (λ n. (n, reader.new)) result (number w8 reader.old) }
+    ensures { Yields (λ n. (n, reader.new)) result (number w8 reader.old) }
 {
     let at = reader.at();
     match reader.u8() {
@@ -24,7 +24,7 @@ pub(crate) fn u8_of(reader: &mut FieldReader) -> Result<u8, SegError>
 }
 
 pub(crate) fn u16_of(reader: &mut FieldReader) -> Result<u16, SegError>
-    ensures { Gives (λ n. (n, reader.new)) result (number w16 reader.old) }
+    ensures { Yields (λ n. (n, reader.new)) result (number w16 reader.old) }
 {
     let at = reader.at();
     match reader.u16() {
@@ -34,7 +34,7 @@ pub(crate) fn u16_of(reader: &mut FieldReader) -> Result<u16, SegError>
 }
 
 pub(crate) fn u32_of(reader: &mut FieldReader) -> Result<u32, SegError>
-    ensures { Gives (λ n. (n, reader.new)) result (number w32 reader.old) }
+    ensures { Yields (λ n. (n, reader.new)) result (number w32 reader.old) }
 {
     let at = reader.at();
     match reader.u32() {
@@ -44,7 +44,7 @@ pub(crate) fn u32_of(reader: &mut FieldReader) -> Result<u32, SegError>
 }
 
 pub(crate) fn u64_of(reader: &mut FieldReader) -> Result<u64, SegError>
-    ensures { Gives (λ n. (n, reader.new)) result (number w64 reader.old) }
+    ensures { Yields (λ n. (n, reader.new)) result (number w64 reader.old) }
 {
     let at = reader.at();
     match reader.u64() {
@@ -54,7 +54,7 @@ pub(crate) fn u64_of(reader: &mut FieldReader) -> Result<u64, SegError>
 }
 
 fn bytes_of<'a>(n: usize, reader: &mut FieldReader<'a>) -> Result<&'a [u8], SegError>
-    ensures { Gives (λ bytes. (bytes.now, reader.new)) result (raw n reader.old) }
+    ensures { Yields (λ bytes. (bytes.now, reader.new)) result (raw n reader.old) }
 {
     let at = reader.at();
     match reader.bytes(n) {
@@ -65,7 +65,7 @@ fn bytes_of<'a>(n: usize, reader: &mut FieldReader<'a>) -> Result<&'a [u8], SegE
 
 #[tactic(auto, unfolding(crate::specs::ReadingFields::block_at))]
 pub(crate) fn block_of(reader: &mut FieldReader) -> Result<BlockId, SegError>
-    ensures { Gives (λ x. (x, reader.new)) result (block_at reader.old) }
+    ensures { Yields (λ x. (x, reader.new)) result (block_at reader.old) }
 {
     let ino = u32_of(reader)?;
     let blk = u32_of(reader)?;
@@ -74,7 +74,7 @@ pub(crate) fn block_of(reader: &mut FieldReader) -> Result<BlockId, SegError>
 
 #[tactic(auto, unfolding(crate::specs::ReadingFields::log_at))]
 fn log_of(reader: &mut FieldReader) -> Result<LogId, SegError>
-    ensures { Gives (λ x. (x, reader.new)) result (log_at reader.old) }
+    ensures { Yields (λ x. (x, reader.new)) result (log_at reader.old) }
 {
     let at = reader.at();
     let log = u8_of(reader)?;
@@ -86,7 +86,7 @@ fn log_of(reader: &mut FieldReader) -> Result<LogId, SegError>
 
 #[tactic(auto, unfolding(crate::specs::ReadingFields::pass_at))]
 fn pass_of(reader: &mut FieldReader) -> Result<Pass, SegError>
-    ensures { Gives (λ x. (x, reader.new)) result (pass_at reader.old) }
+    ensures { Yields (λ x. (x, reader.new)) result (pass_at reader.old) }
 {
     let inc = u32_of(reader)?;
     let att = u32_of(reader)?;
@@ -95,7 +95,7 @@ fn pass_of(reader: &mut FieldReader) -> Result<Pass, SegError>
 
 #[tactic(auto, unfolding(crate::specs::ReadingFields::name_at))]
 fn name_of(reader: &mut FieldReader) -> Result<SegName, SegError>
-    ensures { Gives (λ x. (x, reader.new)) result (name_at reader.old) }
+    ensures { Yields (λ x. (x, reader.new)) result (name_at reader.old) }
 {
     let log = log_of(reader)?;
     let seq = u32_of(reader)?;
@@ -105,7 +105,7 @@ fn name_of(reader: &mut FieldReader) -> Result<SegName, SegError>
 
 #[tactic(auto, unfolding(crate::specs::ReadingFields::prior_at))]
 fn prior_of(reader: &mut FieldReader) -> Result<Prior, SegError>
-    ensures { Gives (λ x. (x, reader.new)) result (prior_at reader.old) }
+    ensures { Yields (λ x. (x, reader.new)) result (prior_at reader.old) }
 {
     let pass = pass_of(reader)?;
     let group = u32_of(reader)?;
@@ -114,7 +114,7 @@ fn prior_of(reader: &mut FieldReader) -> Result<Prior, SegError>
 
 #[tactic(auto, unfolding(crate::specs::ReadingFields::mark_at))]
 pub(crate) fn mark_of<'a>(reader: &mut FieldReader<'a>) -> Result<&'a [u8], SegError>
-    ensures { Gives (λ bytes. (bytes.now, reader.new)) result (mark_at reader.old) }
+    ensures { Yields (λ bytes. (bytes.now, reader.new)) result (mark_at reader.old) }
 {
     let start = reader.at();
     let mark = bytes_of(3, reader)?;
@@ -126,7 +126,7 @@ pub(crate) fn mark_of<'a>(reader: &mut FieldReader<'a>) -> Result<&'a [u8], SegE
 
 #[tactic(auto, unfolding(crate::specs::ReadingFields::head_at))]
 pub(crate) fn head_of(reader: &mut FieldReader) -> Result<Head, SegError>
-    ensures { Gives (λ x. (x, reader.new)) result (head_at reader.old) }
+    ensures { Yields (λ x. (x, reader.new)) result (head_at reader.old) }
 {
     let start = reader.at();
     let version = u8_of(reader)?;
@@ -156,7 +156,7 @@ pub(crate) fn value_of(
     version: u8,
     reader: &mut FieldReader,
 ) -> Result<Value, SegError>
-    ensures { Gives (λ x. (x, reader.new)) result (value_at version reader.old) }
+    ensures { Yields (λ x. (x, reader.new)) result (value_at version reader.old) }
 {
     let at = reader.at();
     let length = u16_of(reader)?;
@@ -172,7 +172,7 @@ pub(crate) fn value_of(
 
 #[tactic(auto, unfolding(crate::specs::ReadingFields::place_at))]
 fn place_of(reader: &mut FieldReader) -> Result<Place, SegError>
-    ensures { Gives (λ x. (x, reader.new)) result (place_at reader.old) }
+    ensures { Yields (λ x. (x, reader.new)) result (place_at reader.old) }
 {
     let name = name_of(reader)?;
     let group = u32_of(reader)?;
@@ -185,7 +185,7 @@ fn place_of(reader: &mut FieldReader) -> Result<Place, SegError>
 
 #[tactic(auto, unfolding(crate::specs::ReadingFields::flagged_at))]
 fn flagged_of(has: u8, reader: &mut FieldReader) -> Result<Option<Place>, SegError>
-    ensures { Gives (λ x. (x, reader.new)) result (flagged_at has reader.old) }
+    ensures { Yields (λ x. (x, reader.new)) result (flagged_at has reader.old) }
 {
     if has == 0 {
         return Ok(None);
@@ -195,7 +195,7 @@ fn flagged_of(has: u8, reader: &mut FieldReader) -> Result<Option<Place>, SegErr
 
 #[tactic(auto, unfolding(crate::specs::ReadingFields::row_at))]
 fn row_of(reader: &mut FieldReader) -> Result<(BlockId, Entry), SegError>
-    ensures { Gives (λ x. ((x.0, x.1), reader.new)) result (row_at reader.old) }
+    ensures { Yields (λ x. ((x.0, x.1), reader.new)) result (row_at reader.old) }
 {
     let block = block_of(reader)?;
     let ver = u64_of(reader)?;
@@ -214,7 +214,7 @@ pub(crate) fn rows_of(
     count: u16,
     reader: &mut FieldReader,
 ) -> Result<List<(BlockId, Entry)>, SegError>
-    ensures { Gives (λ x. (x, reader.new)) result (rows_at count reader.old) }
+    ensures { Yields (λ x. (x, reader.new)) result (rows_at count reader.old) }
 {
     let mut rows = List::new(alloc);
     for _ in 0..count {

@@ -4,7 +4,7 @@ ghost use Rattle.segment_format.specs.Answers.{IsFirst, ReadsEachText};
 ghost use Rattle.segment_format.specs.declared.seg_error.SegError.TheVariants.{Memory};
 ghost use Rattle.segment_format.specs.Ranges.{Fits};
 ghost use Rattle.segment_format.specs.Text.{IsText};
-ghost use Rattle.segment_format.specs.Reading.{Gives};
+ghost use Rattle.segment_format.specs.Reading.{Yields};
 ghost use Rattle.segment_format.specs.ReadingItems.{kind_at, block_item_at, delta_item_at, part_item_at, body_at, item_at, items_at, parts_at, segment_at, answer_of};
 ghost use Rattle.segment_format.specs.Rule.{nothing_seen};
 
@@ -21,7 +21,7 @@ use xfs_base::{FieldReader, List};
 
 #[tactic(auto, unfolding(crate::specs::ReadingItems::kind_at))]
 fn kind_of(seen: Seen, reader: &mut FieldReader) -> Result<u8, SegError>
-    ensures { Gives (λ x. (x, reader.new)) result (kind_at seen reader.old) }
+    ensures { Yields (λ x. (x, reader.new)) result (kind_at seen reader.old) }
 {
     let at = reader.at();
     let kind = u8_of(reader)?;
@@ -39,7 +39,7 @@ fn kind_of(seen: Seen, reader: &mut FieldReader) -> Result<u8, SegError>
 
 #[tactic(auto, unfolding(crate::specs::ReadingItems::block_item_at))]
 fn block_item_of(alloc: Global, version: u8, reader: &mut FieldReader) -> Result<Item, SegError>
-    ensures { Gives (λ x. (x, reader.new)) result (block_item_at version reader.old) }
+    ensures { Yields (λ x. (x, reader.new)) result (block_item_at version reader.old) }
 {
     let block = block_of(reader)?;
     let value = value_of(alloc, version, reader)?;
@@ -48,7 +48,7 @@ fn block_item_of(alloc: Global, version: u8, reader: &mut FieldReader) -> Result
 
 #[tactic(auto, unfolding(crate::specs::ReadingItems::delta_item_at))]
 fn delta_item_of(reader: &mut FieldReader) -> Result<Item, SegError>
-    ensures { Gives (λ x. (x, reader.new)) result (delta_item_at reader.old) }
+    ensures { Yields (λ x. (x, reader.new)) result (delta_item_at reader.old) }
 {
     let block = block_of(reader)?;
     let ver = u64_of(reader)?;
@@ -64,7 +64,7 @@ fn delta_item_of(reader: &mut FieldReader) -> Result<Item, SegError>
 
 #[tactic(auto, unfolding(crate::specs::ReadingItems::part_item_at))]
 fn part_item_of(alloc: Global, reader: &mut FieldReader) -> Result<Item, SegError>
-    ensures { Gives (λ x. (x, reader.new)) result (part_item_at reader.old) }
+    ensures { Yields (λ x. (x, reader.new)) result (part_item_at reader.old) }
 {
     let at = reader.at();
     let slot = u8_of(reader)?;
@@ -82,7 +82,7 @@ fn part_item_of(alloc: Global, reader: &mut FieldReader) -> Result<Item, SegErro
 
 #[tactic(auto, unfolding(crate::specs::ReadingItems::body_at))]
 fn body_of(alloc: Global, version: u8, kind: u8, reader: &mut FieldReader) -> Result<Item, SegError>
-    ensures { Gives (λ x. (x, reader.new)) result (body_at version kind reader.old) }
+    ensures { Yields (λ x. (x, reader.new)) result (body_at version kind reader.old) }
 {
     if kind == 1 {
         return block_item_of(alloc, version, reader);
@@ -100,7 +100,7 @@ fn item_of(
     seen: Seen,
     reader: &mut FieldReader,
 ) -> Result<Item, SegError>
-    ensures { Gives (λ x. (x, reader.new)) result (item_at version seen reader.old) }
+    ensures { Yields (λ x. (x, reader.new)) result (item_at version seen reader.old) }
 {
     let at = reader.at();
     let kind = kind_of(seen, reader)?;
@@ -117,7 +117,7 @@ fn items_of(
     count: u16,
     reader: &mut FieldReader,
 ) -> Result<List<Item>, SegError>
-    ensures { Gives (λ x. (x, reader.new)) result (items_at version nothing_seen count reader.old) }
+    ensures { Yields (λ x. (x, reader.new)) result (items_at version nothing_seen count reader.old) }
 {
     let mut items = List::new(alloc);
     let mut seen = Seen::nothing();
@@ -134,7 +134,7 @@ fn items_of(
 
 #[tactic(auto, unfolding(crate::specs::ReadingItems::parts_at))]
 fn parts_of(alloc: Global, reader: &mut FieldReader) -> Result<(Head, List<Item>), SegError>
-    ensures { Gives (λ x. ((x.0, x.1), reader.new)) result (parts_at reader.old) }
+    ensures { Yields (λ x. ((x.0, x.1), reader.new)) result (parts_at reader.old) }
 {
     let start = reader.at();
     let head = head_of(reader)?;
@@ -147,7 +147,7 @@ fn parts_of(alloc: Global, reader: &mut FieldReader) -> Result<(Head, List<Item>
 
 #[tactic(auto, unfolding(crate::specs::ReadingItems::segment_at))]
 fn segment_of(alloc: Global, reader: &mut FieldReader) -> Result<Segment, SegError>
-    ensures { Gives (λ x. (x, reader.new)) result (segment_at reader.old) }
+    ensures { Yields (λ x. (x, reader.new)) result (segment_at reader.old) }
 {
     let _mark = mark_of(reader)?;
     let (head, items) = parts_of(alloc, reader)?;
@@ -161,7 +161,7 @@ fn segment_of(alloc: Global, reader: &mut FieldReader) -> Result<Segment, SegErr
 
 #[tactic(auto, unfolding(crate::specs::ReadingItems::answer_of))]
 fn answer(alloc: Global, bytes: &[u8]) -> Result<Segment, SegError>
-    ensures { Gives (λ x. x) result (answer_of bytes.now) }
+    ensures { Yields (λ x. x) result (answer_of bytes.now) }
 {
     let mut reader = FieldReader::new(bytes);
     let segment = segment_of(alloc, &mut reader)?;
@@ -180,7 +180,7 @@ pub fn decode(alloc: Global, bytes: &[u8]) -> Result<Segment, SegError>
     // The text of a segment is read as it, unless memory runs out.
     ensures only { ReadsEachText bytes.now result }
     // Which refusal it is.
-    ensures refused { Gives (λ s. s) result (answer_of bytes.now) }
+    ensures refused { Yields (λ s. s) result (answer_of bytes.now) }
     // It stands at the first place, from the left, at which no text can go on, or at a second version that
     // no Block needs.
     ensures first { IfErr result (λ e. (e ≡ Memory) ⊎ IsFirst bytes.now e) }

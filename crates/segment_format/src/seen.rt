@@ -1,6 +1,6 @@
 //! What the items before a place say of the next.
 ghost use Rattle.std.specs.Prelude.{◌≡◌, ◌+◌, ◌<◌};
-ghost use Rattle.segment_format.specs.Rule.{nothing_seen, after, is_kind, has_room, may_come, answers, follows};
+ghost use Rattle.segment_format.specs.Rule.{nothing_seen, seen_after, is_kind, has_room, may_come, answers, follows};
 
 use crate::Item;
 use crate::format::{MOST, NO_ITEM};
@@ -48,7 +48,7 @@ impl Seen {
     /// What is seen behind this item.
     pub fn after(self, item: &Item) -> Seen
         requires { self.others + self.deltas < 65535 }
-        ensures { result ≡ after item.now self }
+        ensures { result ≡ seen_after item.now self }
     {
         match item {
             Item::Block { block, value: _ } => Seen {

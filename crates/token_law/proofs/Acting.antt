@@ -203,7 +203,7 @@ syncs_true members part b n v apart c pos less up clean = go (nat_lt 0 version) 
     may h =
         let g = greatest_is c 1 versions (some h) in
         let is : version ≡ suc g.place = let e = g.is in omega arith in
-        let safe = shown.settled in
+        let settles = shown.settled in
         let known = shown.version in
         let most = upto (held_of (n.tokens c).blocks b).settled (held_of (n.tokens c).blocks b).ver (clean b) in
         record {

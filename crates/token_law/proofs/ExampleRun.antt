@@ -99,11 +99,11 @@ n4 = record n3 { books = sealed n3.books 1 rows }
 step4 : Happens true 3 1 n3 n4
 step4 = Seals 1 rows (omega arith) (omega arith) refl refl seals_newest
 
-abbrev safe : Held
-safe = version_settled wrote 1
+abbrev known_settled : Held
+known_settled = version_settled wrote 1
 
 abbrev n5 : Net
-n5 = record n4 { tokens = put n4.tokens 1 (knows safe); books = filed n4.books 1 }
+n5 = record n4 { tokens = put n4.tokens 1 (knows known_settled); books = filed n4.books 1 }
 
 step5 : Happens true 3 1 n4 n5
 unfolding client.on_settled
@@ -196,7 +196,7 @@ step8 : Happens true 3 1 n7 n8
 step8 = GetsWant 1 z2 2 1 1 0 example_block Copy 0 refl (inl refl)
 
 abbrev kept : Held
-kept = given_up safe (at 2) true
+kept = given_up known_settled (at 2) true
 
 abbrev n9 : Net
 n9 = record n8 { tokens = put n8.tokens 1 (knows kept); sent = GaveSent 1 example_block (at 2) 1 ∷ n8.sent }

@@ -147,9 +147,9 @@ module _ (logs : Bool) (members part : ℕ) (b : BlockId) (n : Net) (v : View lo
   tells_dirty c falls shown dirty kept is acts =
       let row = said n.books c (suc (n.books.end c)) b in
       let f : Fall = record { block = b; low = (held c).settled; high = max (held c).settled row.version } in
-      let safe = shown.settled in
+      let settles = shown.settled in
       let flies = in_flight c kept in
-      (λ i. FellBlock c (safe i) (max (safe i) (flies i)) ∷ acts) ∙ sym (ap (λ o. with_fall c o acts) (is ∙ ap (λ t. if t then Some f else None) dirty))
+      (λ i. FellBlock c (settles i) (max (settles i) (flies i)) ∷ acts) ∙ sym (ap (λ o. with_fall c o acts) (is ∙ ap (λ t. if t then Some f else None) dirty))
 
   tells_clean : (c : ℕ) (falls : List Fall) → is_dirty (held c) ≡ false → fall_of b falls ≡ fall_from b (held c) (said n.books c (suc (n.books.end c)) b)
       → (acts : List block.Act)

@@ -16,7 +16,7 @@ use Rattle.token_protocol.specs.Entry as abstract
 use Rattle.token_protocol.proofs.Told.{acts_legal}
 use Rattle.token_protocol.proofs.Invariant.{Owned, owned, always as invariant}
 use Rattle.token_protocol.proofs.Laws.{single_owner, epoch_promised, beliefs_cover, acceptable_believed, no_holder_after_fall, flights_new, join_is_join, acceptable_joins}
-use Rattle.token_tie.specs.Seen.{rank, local_of, entry_seen}
+use Rattle.token_tie.specs.Seen.{mode_number, local_of, entry_seen}
 use Rattle.token_tie.proofs.Leaves.{taking}
 use Rattle.token_tie.proofs.SmallFacts.{equal_numbers}
 use Rattle.token_law.specs.Laws.{Moment, IsClient, Reigns, OneOwner, ActiveEpochsPromised, HoldingsBelieved, GrantsBelieved, NobodyHoldsAfterFall, ActsAreLegal, FallsAreApart, FlightsAreNewer, GrantsAreOfTheNewest}
@@ -30,17 +30,17 @@ use Rattle.token_law.proofs.Views.{setting, some_one, ClientShown, View}
 use Rattle.token_law.proofs.Falls.{shown_up}
 use Rattle.token_law.proofs.Start.{always}
 
-owns_two : (mode : Mode) → is_own mode ≡ true → rank mode ≡ 2
+owns_two : (mode : Mode) → is_own mode ≡ true → mode_number mode ≡ 2
 owns_two Nothing h = contrary h
 owns_two Copy h = contrary h
 owns_two Own h = refl
 
-holds_some : (mode : Mode) → is_held mode ≡ true → 0 < rank mode
+holds_some : (mode : Mode) → is_held mode ≡ true → 0 < mode_number mode
 holds_some Nothing h = contrary h
 holds_some Copy h = omega arith
 holds_some Own h = omega arith
 
-holds_none : (mode : Mode) → rank mode ≡ 0 → is_held mode ≡ false
+holds_none : (mode : Mode) → mode_number mode ≡ 0 → is_held mode ≡ false
 holds_none Nothing h = refl
 holds_none Copy h = absurd (omega arith)
 holds_none Own h = absurd (omega arith)
@@ -91,7 +91,7 @@ holdings_believed logs members part n b m e s r c is up =
     let covered = (beliefs_cover v.world (is_owned logs members part n b m v)).held c in
     let believed = v.manages.belief c in
     let mode = (shown_up logs members part b n v c is.some is.within up).mode in
-    subst (λ (x : SlotState). rank (held_of (n.tokens c).blocks b).mode ≤ share_of x.beliefs b c) (sym (reigning logs members part n b m v e s r)) (omega arith)
+    subst (λ (x : SlotState). mode_number (held_of (n.tokens c).blocks b).mode ≤ share_of x.beliefs b c) (sym (reigning logs members part n b m v e s r)) (omega arith)
 
 pub grants_believed : GrantsBelieved
 grants_believed logs members part n b m e s r c is up stamp inc req mode entry sent accepted =
@@ -101,7 +101,7 @@ grants_believed logs members part n b m e s r c is up stamp inc req mode entry s
     (promised_by logs members part n b m v c is) (v.sent _ sent refl) accepted in
     let covered = acceptable_believed v.world (is_owned logs members part n b m v) _ may.1.sent may.1.live in
     let believed = v.manages.belief c in
-    subst (λ (x : SlotState). rank mode ≤ share_of x.beliefs b c) (sym (reigning logs members part n b m v e s r)) (omega arith)
+    subst (λ (x : SlotState). mode_number mode ≤ share_of x.beliefs b c) (sym (reigning logs members part n b m v e s r)) (omega arith)
 
 pub nobody_holds : NobodyHoldsAfterFall
 nobody_holds logs members part n b m c d is is2 down dirty up =

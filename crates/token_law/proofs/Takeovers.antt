@@ -22,7 +22,7 @@ use Rattle.token_protocol.specs.Step.{Steps}
 use Rattle.token_protocol.specs.Step.Steps.{More}
 use Rattle.token_protocol.specs.World.{World, start}
 use Rattle.token_protocol.proofs.Invariant.{owned}
-use Rattle.token_tie.specs.Seen.{rank, local_of, entry_seen}
+use Rattle.token_tie.specs.Seen.{mode_number, local_of, entry_seen}
 use Rattle.token_law.specs.Net.{Packet, Net}
 use Rattle.token_law.specs.Net.Packet.{WantSent, GrantSent, RecallSent, GaveSent, ForwardSent, SupplySent, ReportSent}
 use Rattle.token_protocol.specs.Entry as abstract_entry
@@ -79,7 +79,7 @@ rows_same members rows more (c ∷ order) within same =
     λ i. reported c (same c (within 0 c (omega arith)).0 (within 0 c (omega arith)).1 i)
     ++ rows_same members rows more order (λ k d less. within (suc k) d (omega arith)) same i
 
-pub most_rank : (mode : Mode) → rank mode ≤ 2
+pub most_rank : (mode : Mode) → mode_number mode ≤ 2
 most_rank Nothing = omega arith
 most_rank Copy = omega arith
 most_rank Own = omega arith
@@ -104,9 +104,9 @@ pub record Told (members part : ℕ) (b : BlockId) (w : World) (epoch : ℕ) (ro
   pub sent : c < members → In report w.reports
   pub sender : c < members → report.client ≡ c
   pub asked : c < members → report.epoch ≡ epoch
-  pub mode : c < members → report.mode ≡ rank (held_of blocks b).mode
+  pub mode : c < members → report.mode ≡ mode_number (held_of blocks b).mode
   pub end : 0 < c → c < members → report.end ≡ ends c
-  pub nothing : (c < members → ⊥) → rank (held_of blocks b).mode ≡ 0
+  pub nothing : (c < members → ⊥) → mode_number (held_of blocks b).mode ≡ 0
 
 module _ (logs : Bool) (members part : ℕ) (b : BlockId) (n : Net) (v : View logs members part b n) (epoch : ℕ) (index : List (BlockId × Entry))
     (applied : List ℕ) (rows : ℕ → List (BlockId × Mode)) (ends : ℕ → ℕ)
@@ -158,7 +158,7 @@ module _ (logs : Bool) (members part : ℕ) (b : BlockId) (n : Net) (v : View lo
                 let h = v.sent _ (reports_sent c pos (less c members is)) in
                 record {
                   blocks = h.0;
-                  report = record { client = c; epoch = epoch; mode = rank (held_of h.0 b).mode; end = ends c };
+                  report = record { client = c; epoch = epoch; mode = mode_number (held_of h.0 b).mode; end = ends c };
                   sorted = h.1;
                   same = λ _ _. h.2;
                   sent = λ _. inr h.3;
@@ -286,8 +286,8 @@ module _ (logs : Bool) (members part : ℕ) (b : BlockId) (n : Net) (v : View lo
           }
 
       covered : (c : ℕ) → c < members → (c ≡ 0) ⊎ (c ≡ 0 → ⊥) → (report c).mode ≤ share_of (all_believed [] beliefs) b c
-      covered c within (inl none) = let mode = (hears c).mode within in let z : rank (held_of (blocks c) b).mode ≡ 0 =
-          ap (λ k. rank (held_of (blocks k) b).mode) none in omega arith
+      covered c within (inl none) = let mode = (hears c).mode within in let z : mode_number (held_of (blocks c) b).mode ≡ 0 =
+          ap (λ k. mode_number (held_of (blocks k) b).mode) none in omega arith
       covered c within (inr some) =
           let mode = (hears c).mode within in
           let most = reports_believed part blocks order b c (λ d. (hears d).sorted) inside (all c (positive c some) within) in
@@ -302,9 +302,9 @@ module _ (logs : Bool) (members part : ℕ) (b : BlockId) (n : Net) (v : View lo
       → share_of (all_believed [] beliefs) b c + share_of (all_believed [] beliefs) b d ≤ 2
   alone_here later gathered c d apart =
       let cover = beliefs_cover next (owned logs members next (activates_steps later gathered)) in
-      let mode : (k : ℕ) → next.belief k ≡ rank (held_of (blocks k) b).mode = λ k. belief_is k (nat_lt k now.members) refl in
+      let mode : (k : ℕ) → next.belief k ≡ mode_number (held_of (blocks k) b).mode = λ k. belief_is k (nat_lt k now.members) refl in
       let mc = mode c in let md = mode d in
-      let sum = two_ranks (rank (held_of (blocks c) b).mode) (rank (held_of (blocks d) b).mode) (most_rank _) (most_rank _)
+      let sum = two_ranks (mode_number (held_of (blocks c) b).mode) (mode_number (held_of (blocks d) b).mode) (most_rank _) (most_rank _)
       (λ two some. apart (cover.single c d (mc ∙ two) (omega arith))) (λ two some. apart (sym (cover.single d c (md ∙ two) (omega arith)))) in
       let a = reports_most part b c blocks order (λ k. (hears k).sorted) in
       let e = reports_most part b d blocks order (λ k. (hears k).sorted) in
@@ -316,6 +316,6 @@ module _ (logs : Bool) (members part : ℕ) (b : BlockId) (n : Net) (v : View lo
       no_less : (c n : ℕ) → nat_lt c n ≡ false → c < n → ⊥
       no_less c n h l = grind (arith, nat_tests)
 
-      belief_is : (k : ℕ) (t : Bool) → nat_lt k now.members ≡ t → cond t (report k).mode 0 ≡ rank (held_of (blocks k) b).mode
+      belief_is : (k : ℕ) (t : Bool) → nat_lt k now.members ≡ t → cond t (report k).mode 0 ≡ mode_number (held_of (blocks k) b).mode
       belief_is k true is = (hears k).mode (let m = v.many in let l = less k now.members is in omega arith)
       belief_is k false is = sym ((hears k).nothing (λ l. no_less k now.members is (let m = v.many in omega arith)))

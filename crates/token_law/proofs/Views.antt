@@ -27,7 +27,7 @@ use Rattle.act_tie.specs.BlockActs.{acts_of}
 use Rattle.act_tie.specs.Number.{number}
 use Rattle.token_protocol.specs.Step.Steps.{More}
 use Rattle.token_protocol.specs.World.{World, start}
-use Rattle.token_tie.specs.Seen.{Setting, Shows, SentOffer, SentRecall, rank, local_of, entry_seen}
+use Rattle.token_tie.specs.Seen.{Setting, Shows, SentOffer, SentRecall, mode_number, local_of, entry_seen}
 use Rattle.token_tie.specs.Taken.{ByClient, AllSaid, Acted, Took}
 use Rattle.token_tie.specs.Managed.{want_seen, JobShown, Manages}
 use Rattle.token_law.specs.Net.{Packet, Net, client_packets, after_client}
@@ -111,7 +111,7 @@ Carried logs part b w (SupplySent c block at inc req ver value) =
     block ≡ b → (entry : Entry) × (entry.ver ≡ ver) × SentOffer c w at inc req Copy (entry_seen entry) × Premise logs (Supplies at.epoch ver value w)
 Carried logs part b w (ReportSent c epoch rows end) =
     (blocks : List (BlockId × Held)) × InOrder blocks × (rows ≡ held_in part blocks)
-    × In (record { client = c; epoch = epoch; mode = rank (held_of blocks b).mode; end = end }) w.reports
+    × In (record { client = c; epoch = epoch; mode = mode_number (held_of blocks b).mode; end = end }) w.reports
 
 -- a client that fell with the block dirty is known as fallen there
 abbrev pub FellDirty : Bool → Held → ℕ → Type 0
@@ -209,7 +209,7 @@ pub said_carried : (logs : Bool) (part : ℕ) (b : BlockId) (c i inc end : ℕ) 
 said_carried logs part b c i inc end v [] some one said p is = absurd is
 said_carried logs part b c i inc end v (output.Want block req again mode ∷ os) some one said p is =
     ⊎_elim (λ e. subst (Carried logs part b v) (sym e)
-    (some, λ same. subst (λ k. In (record { client = c; incarnation = k; request = req; mode = rank mode; end = end }) v.wants) one (said.0 same)))
+    (some, λ same. subst (λ k. In (record { client = c; incarnation = k; request = req; mode = mode_number mode; end = end }) v.wants) one (said.0 same)))
     (λ r. said_carried logs part b c i inc end v os some one said.1 p r) is
 said_carried logs part b c i inc end v (output.Gave block stamp ∷ os) some one said p is =
     ⊎_elim (λ e. subst (Carried logs part b v) (sym e) (some, λ same. ((said.0 same).0, λ _. (said.0 same).1)))

@@ -11,7 +11,7 @@ use Rattle.token_client.specs.State.{held_of, epoch_of, is_in_slot}
 use Rattle.token_client.specs.Transition.{accepts}
 use Rattle.token_manager.specs.SlotState.{SlotState}
 use Rattle.token_protocol.specs.Basics.{In}
-use Rattle.token_tie.specs.Seen.{rank}
+use Rattle.token_tie.specs.Seen.{mode_number}
 use Rattle.act_tie.specs.BlockActs.{acts_of}
 use Rattle.act_tie.specs.Shown.{FallsApart}
 use Rattle.token_protocol.specs.Acts.{LegalActs}
@@ -53,7 +53,7 @@ abbrev pub HoldingsBelieved : Type 0
 HoldingsBelieved =
     (logs : Bool) (members part : ℕ) (n : Net) (b : BlockId) → Moment logs members part n b → (e : ℕ) (s : SlotState) → Reigns n e s → (c : ℕ)
     → IsClient members c → n.up c ≡ true
-    → rank (held_of (n.tokens c).blocks b).mode ≤ share_of s.beliefs b c
+    → mode_number (held_of (n.tokens c).blocks b).mode ≤ share_of s.beliefs b c
 
 -- It believes of each client what any sent Grant would give that the client would still accept.
 abbrev pub GrantsBelieved : Type 0
@@ -61,7 +61,7 @@ GrantsBelieved =
     (logs : Bool) (members part : ℕ) (n : Net) (b : BlockId) → Moment logs members part n b → (e : ℕ) (s : SlotState) → Reigns n e s → (c : ℕ)
     → IsClient members c → n.up c ≡ true
     → (stamp : Stamp) (inc req : ℕ) (mode : Mode) (entry : Entry) → In (GrantSent c b stamp inc req mode entry) n.sent
-    → accepts (n.tokens c) b stamp inc req mode ≡ true → rank mode ≤ share_of s.beliefs b c
+    → accepts (n.tokens c) b stamp inc req mode ≡ true → mode_number mode ≤ share_of s.beliefs b c
 
 -- Between the fall of a client with the block dirty and its return, nobody holds the block.
 abbrev pub NobodyHoldsAfterFall : Type 0

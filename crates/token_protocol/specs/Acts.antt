@@ -37,13 +37,13 @@ cut h c version =
     }
 
 -- What an act makes of the history.
-abbrev pub after : History → Act → History
-after h (Act.Wrote c value) =
+abbrev pub after_act : History → Act → History
+after_act h (Act.Wrote c value) =
     record h { length = suc h.length; value_at = put h.value_at (suc h.length) value; writer = put h.writer (suc h.length) c }
-after h (Act.Read c version value) = record h { pinned = if h.writer version == c then h.pinned else max h.pinned version }
-after h (Act.Synced c version) = record h { pinned = max h.pinned version }
-after h (Act.Fell c low high) = record h { fallen = put h.fallen c 1; low = put h.low c low; high = put h.high c high }
-after h (Act.Back c adopted) = cut h c (if adopted then h.high c else h.low c)
+after_act h (Act.Read c version value) = record h { pinned = if h.writer version == c then h.pinned else max h.pinned version }
+after_act h (Act.Synced c version) = record h { pinned = max h.pinned version }
+after_act h (Act.Fell c low high) = record h { fallen = put h.fallen c 1; low = put h.low c low; high = put h.high c high }
+after_act h (Act.Back c adopted) = cut h c (if adopted then h.high c else h.low c)
 
 -- A read is legal of the newest version with its value.
 pub record LegalRead (h : History) (version : ℕ) (value : ℕ) : Type 0 where
@@ -73,7 +73,7 @@ LegalAct h act = Unit {0}
 -- The history that acts made, newest act first.
 abbrev pub history : List Act → History
 history [] = no_history
-history (act ∷ acts) = after (history acts) act
+history (act ∷ acts) = after_act (history acts) act
 
 -- Each act is legal in the history that the acts before it made.
 abbrev pub LegalActs : List Act → Type 0

@@ -92,9 +92,9 @@ pub owns_and_declines : OwnsAndDeclines
 owns_and_declines logs g end w s stamp inc req entry r sent t = takes.owns_and_declines logs g end w s r stamp inc req entry sent t
 
 -- what is settled, whether or not it is news
-now_settled : (safe ver most : ℕ) → ver ≤ most → (t : Bool) → (nat_lt safe ver && nat_le ver most) ≡ t → max safe ver ≡ cond t ver safe
-now_settled safe ver most below true h = grind (arith, nat_tests)
-now_settled safe ver most below false h = grind (arith, nat_tests)
+now_settled : (settled ver most : ℕ) → ver ≤ most → (t : Bool) → (nat_lt settled ver && nat_le ver most) ≡ t → max settled ver ≡ cond t ver settled
+now_settled settled ver most below true h = grind (arith, nat_tests)
+now_settled settled ver most below false h = grind (arith, nat_tests)
 
 module _ (logs : Bool) (g : Setting) (end : ℕ) (w : World) (s : TokensState) (ver : ℕ) (r : Ready logs g end w s) where
   abbrev h : Held

@@ -25,7 +25,7 @@ use Rattle.token_protocol.specs.Using.{writes, evicts}
 use Rattle.token_protocol.specs.Giving.{gives, gives_again}
 use Rattle.token_protocol.specs.Takeover.{promises}
 use Rattle.token_protocol.proofs.StampsSeen.{taken, equal, stamped, promised}
-use Rattle.token_tie.specs.Seen.{WantShown, FetchShown, SentOffer, SentRecall, offer_seen, recall_seen, Setting, Local, Shows, rank, kept, located, stamp_seen, node_seen}
+use Rattle.token_tie.specs.Seen.{WantShown, FetchShown, SentOffer, SentRecall, offer_seen, recall_seen, Setting, Local, Shows, mode_number, kept, located, stamp_seen, node_seen}
 use Rattle.token_tie.specs.Taken.{Acts, Goes, AllSaid}
 use Rattle.token_tie.proofs.Frames.{acts_by, goes_saying}
 use Rattle.xfs_base.specs.Modes.{is_held, is_own}
@@ -100,12 +100,12 @@ module _ (logs : Bool) (g : Setting) (end : ℕ) (w : World) where
       tt
 
   -- a want is opened, whether or not one was open
-  pub asks-goes : (l : Local) (mode : Mode) → Shown l → is_held mode ≡ true → rank l.held.mode < rank mode → Premise logs (SettledEnd w g.client end)
+  pub asks-goes : (l : Local) (mode : Mode) → Shown l → is_held mode ≡ true → mode_number l.held.mode < mode_number mode → Premise logs (SettledEnd w g.client end)
       → To (record l { req = l.req + 1; held = asked l.held (l.req + 1) mode }) (Want g.block (l.req + 1) 0 mode ∷ [])
   asks-goes l mode s some less settled =
       let known = s.mode in let counted = s.counted in
-      acts_by logs g end w (asks w g.client (rank mode) (l.req + 1) end) [] _ _ (record here { want = rank mode; request = l.req + 1 })
-      (Asks g.client (rank mode) (l.req + 1) end
+      acts_by logs g end w (asks w g.client (mode_number mode) (l.req + 1) end) [] _ _ (record here { want = mode_number mode; request = l.req + 1 })
+      (Asks g.client (mode_number mode) (l.req + 1) end
       (record { client = s.client; serving = s.serving; some = some_rank mode some; upto_own = most_rank mode; less = omega arith; unused = omega arith })
       settled)
       refl refl refl (λ p is. inr is) (λ y is. is)
@@ -122,7 +122,7 @@ module _ (logs : Bool) (g : Setting) (end : ℕ) (w : World) where
         settled = s.settled;
         value = s.value;
         fetch = s.fetch;
-      }) (λ is. inl (ap (λ i. record { client = g.client; incarnation = i; request = l.req + 1; mode = rank mode; end = end }) (sym s.incarnation)), tt)
+      }) (λ is. inl (ap (λ i. record { client = g.client; incarnation = i; request = l.req + 1; mode = mode_number mode; end = end }) (sym s.incarnation)), tt)
 
   -- an open want is sent again
   pub asks_again-goes : (l : Local) (v : Wanted) → Shown l → l.held.want ≡ Some v → Premise logs (SettledEnd w g.client end)
@@ -156,7 +156,7 @@ module _ (logs : Bool) (g : Setting) (end : ℕ) (w : World) where
   -- they show that the offer may be taken, and is of the reigning epoch
   pub taking : (l : Local) (stamp : Stamp) (inc req : ℕ) (mode : Mode) (entry : abstract_entry.Entry) → Shown l → w.epoch ≤ here.promised
       → SentOffer g.client w stamp inc req mode entry → meets l stamp inc req mode ≡ true
-      → (stamp.epoch ≡ w.epoch) × MayTake w (offer_seen g.client stamp inc req mode entry) (rank mode)
+      → (stamp.epoch ≡ w.epoch) × MayTake w (offer_seen g.client stamp inc req mode entry) (mode_number mode)
   taking l stamp inc req mode entry s high sent t =
       let two = and_first ((l.promised == stamp.epoch) && (inc == l.inc)) (is_answer l.held stamp req mode) t in
       let answer = and_second ((l.promised == stamp.epoch) && (inc == l.inc)) (is_answer l.held stamp req mode) t in

@@ -37,7 +37,7 @@ use Rattle.token_protocol.specs.Step.Steps.{Done as Ended, More}
 use Rattle.token_protocol.specs.Step.Step.{Offers, Recalls, Turns}
 use Rattle.token_protocol.specs.World.{World}
 use Rattle.token_protocol.proofs.Refining.{put_each}
-use Rattle.token_tie.specs.Seen.{rank, kept, entry_seen, SentOffer, SentRecall}
+use Rattle.token_tie.specs.Seen.{mode_number, kept, entry_seen, SentOffer, SentRecall}
 use Rattle.token_tie.specs.Managed.{want_seen, AllAwaited, Idle, JobShown, Manages, ByManager, AllTold, Runs}
 use Rattle.token_protocol.specs.Told.{told as acts_told}
 use Rattle.token_protocol.proofs.Told.{steps_through}
@@ -82,12 +82,12 @@ told_both b w (o ∷ os) more h k = (h.0, told_both b w os more h.1 k)
 
 -- ---- ranks
 
-rank_wanted : (mode : Mode) → is_nothing mode ≡ false → rank mode ≡ wanted_share mode
+rank_wanted : (mode : Mode) → is_nothing mode ≡ false → mode_number mode ≡ wanted_share mode
 rank_wanted Nothing h = contrary (sym h)
 rank_wanted Copy h = refl
 rank_wanted Own h = refl
 
-rank_copy : (mode : Mode) → is_nothing mode ≡ false → is_own mode ≡ false → rank mode ≡ 1
+rank_copy : (mode : Mode) → is_nothing mode ≡ false → is_own mode ≡ false → mode_number mode ≡ 1
 rank_copy Nothing h k = contrary (sym h)
 rank_copy Copy h k = refl
 rank_copy Own h k = contrary (sym k)
@@ -103,22 +103,22 @@ none_least (Some x) h = contrary (sym h)
 
 -- the asker is believed to have what it had and what it wants
 asker_has : (bs : List (Holder × Bool)) (ask : Wanted) (n : ℕ) → is_nothing ask.mode ≡ false → n ≤ share_of bs ask.block ask.client
-    → max n (rank ask.mode) ≤ share_of (want_met bs ask) ask.block ask.client
+    → max n (mode_number ask.mode) ≤ share_of (want_met bs ask) ask.block ask.client
 asker_has bs ask n something less =
     let h = holder ask.block ask.client in
     let most : manager.share (belief bs h) ≤ 2 = most_rank (belief bs h) in
-    let named : rank ask.mode ≡ wanted_share ask.mode = rank_wanted ask.mode something in
+    let named : mode_number ask.mode ≡ wanted_share ask.mode = rank_wanted ask.mode something in
     let itself = λ (t : Bool) (es : List (Holder × Bool)). lookup-insert_entry holder_cmp_total h h t es
     ∙ ap (λ c. cond c (Some t) (belief es h)) (holder_laws.refl h) in
-    elim (is_own ask.mode) as (λ t. is_own ask.mode ≡ t → max n (rank ask.mode) ≤ manager.share (belief (cond t (owned_by bs h) (held_by bs h)) h)) [
+    elim (is_own ask.mode) as (λ t. is_own ask.mode ≡ t → max n (mode_number ask.mode) ≤ manager.share (belief (cond t (owned_by bs h) (held_by bs h)) h)) [
       | true ↦ λ own. let two : manager.share (belief (owned_by bs h) h) ≡ 2 = ap manager.share (itself true (without_block bs h.block)) in let one =
-          rank_own ask.mode own in at_most n (rank ask.mode) _ (omega arith) (omega arith)
-      | false ↦ λ copy. let one : rank ask.mode ≡ 1 = rank_copy ask.mode something copy in
+          rank_own ask.mode own in at_most n (mode_number ask.mode) _ (omega arith) (omega arith)
+      | false ↦ λ copy. let one : mode_number ask.mode ≡ 1 = rank_copy ask.mode something copy in
           elim (is_some (belief bs h)) as
-          (λ t. is_some (belief bs h) ≡ t → max n (rank ask.mode) ≤ manager.share (belief (cond t bs (insert_entry holder_cmp bs h false)) h)) [
-            | true ↦ λ some. let there = some_most (belief bs h) some in at_most n (rank ask.mode) _ less (omega arith)
+          (λ t. is_some (belief bs h) ≡ t → max n (mode_number ask.mode) ≤ manager.share (belief (cond t bs (insert_entry holder_cmp bs h false)) h)) [
+            | true ↦ λ some. let there = some_most (belief bs h) some in at_most n (mode_number ask.mode) _ less (omega arith)
             | false ↦ λ none. let new : manager.share (belief (insert_entry holder_cmp bs h false) h) ≡ 1 = ap manager.share (itself false bs) in let old =
-                none_least (belief bs h) none in at_most n (rank ask.mode) _ (omega arith) (omega arith)
+                none_least (belief bs h) none in at_most n (mode_number ask.mode) _ (omega arith) (omega arith)
           ] refl
     ] refl
   where
@@ -127,7 +127,7 @@ asker_has bs ask n something less =
     most_rank (Some true) = omega arith
     most_rank (Some false) = omega arith
 
-    rank_own : (mode : Mode) → is_own mode ≡ true → rank mode ≡ 2
+    rank_own : (mode : Mode) → is_own mode ≡ true → mode_number mode ≡ 2
     rank_own Nothing h = contrary h
     rank_own Copy h = contrary h
     rank_own Own h = refl
@@ -197,7 +197,7 @@ module _ (logs : Bool) where
         stamp = s.turn + 1;
         incarnation = ask.inc;
         request = ask.req;
-        mode = rank ask.mode;
+        mode = mode_number ask.mode;
         entry = entry_seen (entry_at s ask.block);
       }) v.offers → AllTold ask.block v (answer s ask from ∷ [])
   told-answer v s ask [] none something epoch is = (λ same. record { low = omega arith; some = omega arith; offered = λ _. is }, tt)
@@ -236,8 +236,8 @@ module _ (logs : Bool) where
   finished-runs w s ask end m none something room asked asker =
       let p = want_seen ask end in
       let idle : Idle w.awaited w.owed w.applied = subst (λ o. JobShown o s.epoch w.awaited w.keep w.owed w.applied w.wants w.recalls) none m.job in
-      let named : rank ask.mode ≡ wanted_share ask.mode = rank_wanted ask.mode something in
-      let fits : (d : ℕ) → (d ≡ ask.client → ⊥) → w.belief d + rank ask.mode ≤ 2 = λ d other. (let x = m.belief d in let y = room d other in omega arith) in
+      let named : mode_number ask.mode ≡ wanted_share ask.mode = rank_wanted ask.mode something in
+      let fits : (d : ℕ) → (d ≡ ask.client → ⊥) → w.belief d + mode_number ask.mode ≤ 2 = λ d other. (let x = m.belief d in let y = room d other in omega arith) in
       let turn : s.turn + 1 ≡ suc w.turn = let t = m.turn in omega arith in
       record {
         world = steps.offers w p;
@@ -248,7 +248,7 @@ module _ (logs : Bool) where
         shows = record {
           epoch = m.epoch;
           turn = turn;
-          belief = put_each (λ d n. n ≤ share_of (want_met s.beliefs ask) ask.block d) w.belief ask.client (max (w.belief ask.client) (rank ask.mode))
+          belief = put_each (λ d n. n ≤ share_of (want_met s.beliefs ask) ask.block d) w.belief ask.client (max (w.belief ask.client) (mode_number ask.mode))
               (asker_has s.beliefs ask (w.belief ask.client) something (m.belief ask.client))
               (λ d other. elsewhere d other (is_own ask.mode) refl (fits d other));
           applied = m.applied;
@@ -256,19 +256,19 @@ module _ (logs : Bool) where
           job = m.job;
         };
         told = told-answer (steps.offers w p) s ask (passers s ask) (no_passers s ask) something m.epoch
-            (inl (λ i. record { client = ask.client; stamp = turn i; incarnation = ask.inc; request = ask.req; mode = rank ask.mode; entry = sym m.index i }));
+            (inl (λ i. record { client = ask.client; stamp = turn i; incarnation = ask.inc; request = ask.req; mode = mode_number ask.mode; entry = sym m.index i }));
       }
     where
       ends : (t : Bool) → EndsApplied w (want_seen ask end) → Premise t (EndsApplied w (want_seen ask end))
       ends true h = h
       ends false h = tt
 
-      two : (mode : Mode) → is_own mode ≡ true → rank mode ≡ 2
+      two : (mode : Mode) → is_own mode ≡ true → mode_number mode ≡ 2
       two Nothing h = contrary h
       two Copy h = contrary h
       two Own h = refl
 
-      elsewhere : (d : ℕ) → (d ≡ ask.client → ⊥) → (t : Bool) → is_own ask.mode ≡ t → w.belief d + rank ask.mode ≤ 2
+      elsewhere : (d : ℕ) → (d ≡ ask.client → ⊥) → (t : Bool) → is_own ask.mode ≡ t → w.belief d + mode_number ask.mode ≤ 2
           → w.belief d ≤ share_of (want_met s.beliefs ask) ask.block d
       elsewhere d other true own fits = let n = two ask.mode own in omega arith
       elsewhere d other false copy fits = let x = m.belief d in let y = others_have s.beliefs ask d other copy in omega arith

@@ -11,7 +11,7 @@ use Rattle.token_protocol.specs.Basics.{put}
 use Rattle.token_protocol.specs.Client.{Client}
 use Rattle.token_protocol.specs.Entry as abstract_entry
 use Rattle.token_protocol.specs.Stamps.{Node, Seen, Exceeds}
-use Rattle.token_tie.specs.Seen.{WantShown, FetchShown, rank, kept, stamp_seen}
+use Rattle.token_tie.specs.Seen.{WantShown, FetchShown, mode_number, kept, stamp_seen}
 use Rattle.xfs_base.specs.Modes.{is_held, is_own, same_mode}
 use Rattle.xfs_base.specs.Stamps.{is_later}
 use Rattle.xfs_base.proofs.Booleans.{and_first, and_second, contrary}
@@ -22,22 +22,22 @@ put_back f c = λ i d. one d i
     one : (d : ℕ) → put f c (f c) d ≡ f d
     one d = grind (arith, nat_tests)
 
-pub some_rank : (mode : Mode) → is_held mode ≡ true → 0 < rank mode
+pub some_rank : (mode : Mode) → is_held mode ≡ true → 0 < mode_number mode
 some_rank Nothing h = contrary h
 some_rank Copy h = omega arith
 some_rank Own h = omega arith
 
-pub most_rank : (mode : Mode) → rank mode ≤ 2
+pub most_rank : (mode : Mode) → mode_number mode ≤ 2
 most_rank Nothing = omega arith
 most_rank Copy = omega arith
 most_rank Own = omega arith
 
-pub own_rank : (mode : Mode) → is_own mode ≡ true → rank mode ≡ 2
+pub own_rank : (mode : Mode) → is_own mode ≡ true → mode_number mode ≡ 2
 own_rank Nothing h = contrary h
 own_rank Copy h = contrary h
 own_rank Own h = refl
 
-pub same_rank : (a b : Mode) → same_mode a b ≡ true → rank a ≡ rank b
+pub same_rank : (a b : Mode) → same_mode a b ≡ true → mode_number a ≡ mode_number b
 same_rank Nothing Nothing h = refl
 same_rank Nothing Copy h = contrary h
 same_rank Nothing Own h = contrary h
@@ -57,28 +57,28 @@ later_exceeds s t h = grind (arith, nat_tests)
 
 -- an open want that an answer names
 pub wanted_rank : (o : Option Wanted) (req : ℕ) (mode : Mode) (want request : ℕ) → is_wanted o req mode ≡ true → WantShown o want request
-    → (want ≡ rank mode) × (request ≡ req) × (0 < rank mode)
+    → (want ≡ mode_number mode) × (request ≡ req) × (0 < mode_number mode)
 wanted_rank None req mode want request named shown = contrary named
 wanted_rank (Some v) req mode want request named shown =
-    let same : rank v.mode ≡ rank mode = same_rank v.mode mode (and_second (v.req == req) (same_mode v.mode mode) named) in
-    let some : 0 < rank v.mode = some_rank v.mode shown.2 in
+    let same : mode_number v.mode ≡ mode_number mode = same_rank v.mode mode (and_second (v.req == req) (same_mode v.mode mode) named) in
+    let some : 0 < mode_number v.mode = some_rank v.mode shown.2 in
     (shown.0 ∙ same, shown.1 ∙ equal_numbers v.req req (and_first (v.req == req) (same_mode v.mode mode) named), omega arith)
 
 -- the same stamp and promise are seen of a client that differs elsewhere
 pub restamped : (n : Node) (x y : Client) (e : ℕ) → y.promised ≡ x.promised → y.stamp ≡ x.stamp → Seen n x e → Seen n y e
 restamped n x y e p q s = record { promised = p ∙ s.promised; past = s.past; now = λ h. q ∙ s.now h; old = λ h. q ∙ s.old h }
 
-pub given_rank : (mode : Mode) (keep t : Bool) → (keep && is_held mode) ≡ t → min (rank mode) (kept keep) ≡ cond t 1 0
+pub given_rank : (mode : Mode) (keep t : Bool) → (keep && is_held mode) ≡ t → min (mode_number mode) (kept keep) ≡ cond t 1 0
 given_rank mode keep true h = one mode keep h
   where
-    one : (mode : Mode) (keep : Bool) → (keep && is_held mode) ≡ true → min (rank mode) (kept keep) ≡ 1
+    one : (mode : Mode) (keep : Bool) → (keep && is_held mode) ≡ true → min (mode_number mode) (kept keep) ≡ 1
     one Nothing true h = contrary h
     one Copy true h = refl
     one Own true h = refl
     one mode false h = contrary h
 given_rank mode keep false h = none mode keep h
   where
-    none : (mode : Mode) (keep : Bool) → (keep && is_held mode) ≡ false → min (rank mode) (kept keep) ≡ 0
+    none : (mode : Mode) (keep : Bool) → (keep && is_held mode) ≡ false → min (mode_number mode) (kept keep) ≡ 0
     none Nothing true h = refl
     none Copy true h = contrary (sym h)
     none Own true h = contrary (sym h)

@@ -27,7 +27,7 @@ use Rattle.token_protocol.specs.Acts.{Act}
 use Rattle.token_protocol.specs.Acts.Act.{Wrote as WroteBlock}
 use Rattle.token_protocol.specs.Premises.{Premise, SettledEnd, PlaceRead}
 use Rattle.token_protocol.specs.World.{World}
-use Rattle.token_tie.specs.Seen.{Setting, Local, Shows, SentOffer, rank, local_of, located, entry_seen}
+use Rattle.token_tie.specs.Seen.{Setting, Local, Shows, SentOffer, mode_number, local_of, located, entry_seen}
 use Rattle.token_tie.specs.Taken.{AllSaid, Acts, Goes, Acted, Took}
 use Rattle.token_tie.specs.Inputs as laws
 use Rattle.token_tie.proofs.Frames.{goes_nowhere, goes_saying, goes_through, shown_on}
@@ -58,13 +58,13 @@ none_by : {A : Type 0} (o : Option A) → is_some o ≡ false → is_none o ≡ 
 none_by None h = refl
 none_by (Some x) h = contrary (sym h)
 
-pub unheld_rank : (mode : Mode) → is_held mode ≡ false → rank mode ≡ 0
+pub unheld_rank : (mode : Mode) → is_held mode ≡ false → mode_number mode ≡ 0
 unheld_rank Nothing h = refl
 unheld_rank Copy h = contrary (sym h)
 unheld_rank Own h = contrary (sym h)
 
 -- a mode that doesn't serve a need is less, and the need is something
-needed : (held mode : Mode) → allows held mode ≡ false → (is_held mode ≡ true) × (rank held < rank mode)
+needed : (held mode : Mode) → allows held mode ≡ false → (is_held mode ≡ true) × (mode_number held < mode_number mode)
 needed held Nothing h = contrary (sym h)
 needed Nothing Copy h = (refl, omega arith)
 needed Copy Copy h = contrary (sym h)
@@ -92,7 +92,7 @@ module _ (logs : Bool) (g : Setting) (end : ℕ) where
 
   -- a want is asked, in any state that is shown
   pub ask-there : (v : World) (u : TokensState) (mode : Mode) → Shows g v.epoch (local_of u g.block) (v.client g.client)
-      → Premise logs (SettledEnd v g.client end) → is_held mode ≡ true → rank (held_of u.blocks g.block).mode < rank mode
+      → Premise logs (SettledEnd v g.client end) → is_held mode ≡ true → mode_number (held_of u.blocks g.block).mode < mode_number mode
       → Took logs g end v (new_want u g.block mode)
   unfolding new_want
   ask-there v u mode shows settled_ some less =
@@ -131,7 +131,7 @@ module _ (logs : Bool) (g : Setting) (end : ℕ) where
     stays : At (still s)
     stays = goes_nowhere logs g end w l r.shows
 
-    asks-here : (mode : Mode) → is_held mode ≡ true → rank h.mode < rank mode → At (new_want s g.block mode)
+    asks-here : (mode : Mode) → is_held mode ≡ true → mode_number h.mode < mode_number mode → At (new_want s g.block mode)
     asks-here mode some less = ask-there w s mode r.shows r.settled some less
 
     pub on_need-here : (mode : Mode) → At (on_need s g.block mode)

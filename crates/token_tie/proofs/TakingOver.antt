@@ -23,7 +23,7 @@ use Rattle.token_client.specs.State.{held_of, held_in, is_in_slot}
 use Rattle.token_client.specs.Transition.{is_promised}
 use Rattle.token_client.proofs.Promises.{Agrees, agrees-itself}
 use Rattle.token_protocol.proofs.StampsSeen.{activated}
-use Rattle.token_tie.specs.Seen.{ValueShown, rank, node_seen}
+use Rattle.token_tie.specs.Seen.{ValueShown, mode_number, node_seen}
 use Rattle.token_tie.specs.Epochs.{SuppliesNewest, RestartShows, ActivationShows, ActivationManages, reported, all_reported, ReportsBelieved}
 use Rattle.token_tie.proofs.SmallFacts.{equal_numbers}
 use Rattle.xfs_base.specs.Modes.{is_held, is_nothing, is_own, same_mode}
@@ -33,7 +33,7 @@ use Rattle.std.specs.Prelude.{Contains}
 
 -- ---- forwards
 
-copy_held : (mode : Mode) → same_mode mode Copy ≡ true → 0 < rank mode
+copy_held : (mode : Mode) → same_mode mode Copy ≡ true → 0 < mode_number mode
 copy_held Nothing h = contrary h
 copy_held Copy h = omega arith
 copy_held Own h = contrary h
@@ -113,36 +113,36 @@ module _ (b : BlockId) (c : ℕ) (mode : Mode) where
   -- each of these that speaks of the block and the client says at least this
   abbrev Least : List (BlockId × ℕ × Mode) → Type 0
   Least [] = Unit {0}
-  Least (x ∷ xs) = (x.0 ≡ b → x.1 ≡ c → rank mode ≤ rank x.2) × Least xs
+  Least (x ∷ xs) = (x.0 ≡ b → x.1 ≡ c → mode_number mode ≤ mode_number x.2) × Least xs
 
   abbrev Speaks : List (BlockId × ℕ × Mode) → Type 0
   Speaks [] = ⊥
   Speaks (x ∷ xs) = ((x.0 ≡ b) × (x.1 ≡ c)) ⊎ Speaks xs
 
-  inserted : (m : Mode) → is_nothing m ≡ false → rank m ≤ manager.share (Some (is_own m))
+  inserted : (m : Mode) → is_nothing m ≡ false → mode_number m ≤ manager.share (Some (is_own m))
   inserted Nothing h = contrary (sym h)
   inserted Copy h = omega arith
   inserted Own h = omega arith
 
-  nothing_least : (m : Mode) (n : ℕ) → is_nothing m ≡ true → rank m ≤ n
+  nothing_least : (m : Mode) (n : ℕ) → is_nothing m ≡ true → mode_number m ≤ n
   nothing_least Nothing n h = omega arith
   nothing_least Copy n h = contrary h
   nothing_least Own n h = contrary h
 
-  one-believed : (bs : List (Holder × Bool)) (x : BlockId × ℕ × Mode) → (x.0 ≡ b → x.1 ≡ c → rank mode ≤ rank x.2)
-      → (rank mode ≤ share_of bs b c) ⊎ ((x.0 ≡ b) × (x.1 ≡ c)) → rank mode ≤ share_of (believed bs x) b c
+  one-believed : (bs : List (Holder × Bool)) (x : BlockId × ℕ × Mode) → (x.0 ≡ b → x.1 ≡ c → mode_number mode ≤ mode_number x.2)
+      → (mode_number mode ≤ share_of bs b c) ⊎ ((x.0 ≡ b) × (x.1 ≡ c)) → mode_number mode ≤ share_of (believed bs x) b c
   unfolding believed
   one-believed bs x least why =
       let q = holder b c in
       let k = holder x.0 x.1 in
-      by_test (λ (rows : List (Holder × Bool)). is_nothing x.2 ≡ is_nothing x.2 → rank mode ≤ manager.share (belief rows q)) (is_nothing x.2) bs
+      by_test (λ (rows : List (Holder × Bool)). is_nothing x.2 ≡ is_nothing x.2 → mode_number mode ≤ manager.share (belief rows q)) (is_nothing x.2) bs
       (insert_entry holder_cmp bs k (is_own x.2))
       (λ none _. ⊎_elim (λ h. h) (λ h. let a = least h.0 h.1 in let z = nothing_least x.2 (manager.share (belief bs q)) none in omega arith) why)
-      (λ some _. subst (λ o. rank mode ≤ manager.share o) (sym (lookup-insert_entry holder_cmp_total q k (is_own x.2) bs))
+      (λ some _. subst (λ o. mode_number mode ≤ manager.share o) (sym (lookup-insert_entry holder_cmp_total q k (is_own x.2) bs))
       (at (eq_by_cmp holder_cmp q k) refl some)) refl
     where
       at : (t : Bool) → eq_by_cmp holder_cmp (holder b c) (holder x.0 x.1) ≡ t → is_nothing x.2 ≡ false
-          → rank mode ≤ manager.share (cond t (Some (is_own x.2)) (belief bs (holder b c)))
+          → mode_number mode ≤ manager.share (cond t (Some (is_own x.2)) (belief bs (holder b c)))
       at true same some =
           let one : holder b c ≡ holder x.0 x.1 = tells_apart holder_cmp_exact (holder b c) (holder x.0 x.1) same in
           let a = least (sym (ap (λ (h : Holder). h.block) one)) (sym (ap (λ (h : Holder). h.client) one)) in
@@ -153,8 +153,8 @@ module _ (b : BlockId) (c : ℕ) (mode : Mode) where
           (sym apart ∙ subst (λ (k : Holder). eq_by_cmp holder_cmp (holder b c) k ≡ true) (λ i. record { block = sym h.0 i; client = sym h.1 i })
           (holder_laws.refl (holder b c))))) why
 
-  pub all-believed : (bs : List (Holder × Bool)) (xs : List (BlockId × ℕ × Mode)) → Least xs → (rank mode ≤ share_of bs b c) ⊎ Speaks xs
-      → rank mode ≤ share_of (all_believed bs xs) b c
+  pub all-believed : (bs : List (Holder × Bool)) (xs : List (BlockId × ℕ × Mode)) → Least xs → (mode_number mode ≤ share_of bs b c) ⊎ Speaks xs
+      → mode_number mode ≤ share_of (all_believed bs xs) b c
   all-believed bs [] least why = ⊎_elim (λ h. h) (λ h. absurd h) why
   all-believed bs (x ∷ xs) least why =
       all-believed (believed bs x) xs least.1
@@ -187,8 +187,8 @@ module _ (slot : ℕ) (b : BlockId) where
       let rest_ = least_mine c d table es agrees.1 in
       by_test (λ (xs : List (BlockId × Held)). Least b c (held_of table b).mode (reported d (map (λ e. (e.0, e.1.mode)) xs))) keeps (e ∷ rows) rows
       (λ _. (
-        (λ same _. let eq : rank (held_of table b).mode ≡ rank e.1.mode = ap (λ k. rank (held_of table k).mode) (sym same)
-            ∙ ap (λ (h : Held). rank h.mode) agrees.0 in omega arith),
+        (λ same _. let eq : mode_number (held_of table b).mode ≡ mode_number e.1.mode = ap (λ k. mode_number (held_of table k).mode) (sym same)
+            ∙ ap (λ (h : Held). mode_number h.mode) agrees.0 in omega arith),
         rest_,
       )) (λ _. rest_)
 
@@ -248,14 +248,14 @@ module _ (slot : ℕ) (b : BlockId) where
 module _ (b : BlockId) (c : ℕ) (n : ℕ) where
   abbrev Most : List (BlockId × ℕ × Mode) → Type 0
   Most [] = Unit {0}
-  Most (x ∷ xs) = (x.0 ≡ b → x.1 ≡ c → rank x.2 ≤ n) × Most xs
+  Most (x ∷ xs) = (x.0 ≡ b → x.1 ≡ c → mode_number x.2 ≤ n) × Most xs
 
-  believed_rank : (m : Mode) → is_nothing m ≡ false → manager.share (Some (is_own m)) ≤ rank m
+  believed_rank : (m : Mode) → is_nothing m ≡ false → manager.share (Some (is_own m)) ≤ mode_number m
   believed_rank Nothing h = contrary (sym h)
   believed_rank Copy h = omega arith
   believed_rank Own h = omega arith
 
-  one-most : (bs : List (Holder × Bool)) (x : BlockId × ℕ × Mode) → (x.0 ≡ b → x.1 ≡ c → rank x.2 ≤ n) → share_of bs b c ≤ n → share_of (believed bs x) b c ≤ n
+  one-most : (bs : List (Holder × Bool)) (x : BlockId × ℕ × Mode) → (x.0 ≡ b → x.1 ≡ c → mode_number x.2 ≤ n) → share_of bs b c ≤ n → share_of (believed bs x) b c ≤ n
   unfolding believed
   one-most bs x most less =
       let q = holder b c in
@@ -289,16 +289,16 @@ module _ (b : BlockId) (c : ℕ) (n : ℕ) where
   most_other d (p ∷ rows) other = ((λ _ same. absurd (other same)), most_other d rows other)
 
 module _ (slot : ℕ) (b : BlockId) (c : ℕ) where
-  most_mine : (d : ℕ) (table es : List (BlockId × Held)) → Agrees table es → Most b c (rank (held_of table b).mode) (reported d (held_in slot es))
+  most_mine : (d : ℕ) (table es : List (BlockId × Held)) → Agrees table es → Most b c (mode_number (held_of table b).mode) (reported d (held_in slot es))
   most_mine d table [] agrees = tt
   most_mine d table (e ∷ es) agrees =
       let rows = filter (λ e. is_in_slot slot e.0 && is_held e.1.mode) es in
       let rest_ = most_mine d table es agrees.1 in
-      by_test (λ (xs : List (BlockId × Held)). Most b c (rank (held_of table b).mode) (reported d (map (λ e. (e.0, e.1.mode)) xs)))
+      by_test (λ (xs : List (BlockId × Held)). Most b c (mode_number (held_of table b).mode) (reported d (map (λ e. (e.0, e.1.mode)) xs)))
       (is_in_slot slot e.0 && is_held e.1.mode) (e ∷ rows) rows
       (λ _. (
-        (λ same _. let eq : rank (held_of table b).mode ≡ rank e.1.mode = ap (λ k. rank (held_of table k).mode) (sym same)
-            ∙ ap (λ (h : Held). rank h.mode) agrees.0 in omega arith),
+        (λ same _. let eq : mode_number (held_of table b).mode ≡ mode_number e.1.mode = ap (λ k. mode_number (held_of table k).mode) (sym same)
+            ∙ ap (λ (h : Held). mode_number h.mode) agrees.0 in omega arith),
         rest_,
       )) (λ _. rest_)
 
@@ -316,9 +316,9 @@ module _ (slot : ℕ) (b : BlockId) (c : ℕ) where
 
   -- no more of a block is believed of a client than it holds
   pub reports_most : (blocks : ℕ → List (BlockId × Held)) (cs : List ℕ) → ((d : ℕ) → InOrder (blocks d))
-      → share_of (all_believed [] (all_reported (λ d. held_in slot (blocks d)) cs)) b c ≤ rank (held_of (blocks c) b).mode
+      → share_of (all_believed [] (all_reported (λ d. held_in slot (blocks d)) cs)) b c ≤ mode_number (held_of (blocks c) b).mode
   reports_most blocks cs sorted =
-      let n = rank (held_of (blocks c) b).mode in
+      let n = mode_number (held_of (blocks c) b).mode in
       most-believed b c n [] (all_reported (λ d. held_in slot (blocks d)) cs)
       (most_all b c n (λ d. held_in slot (blocks d)) cs
       (λ d. ⊎_elim (λ same. subst (λ k. Most b c n (reported k (held_in slot (blocks k)))) (sym same)
@@ -333,7 +333,7 @@ module _ (slot : ℕ) (b : BlockId) (c : ℕ) where
       most-believed b c 0 [] (all_reported (λ d. held_in slot (blocks d)) cs)
       (most_all b c 0 (λ d. held_in slot (blocks d)) cs (λ d. most_none d (blocks d) outside)) (omega arith)
 
-none_rank : (m : Mode) (n : ℕ) → is_held m ≡ false → rank m ≤ n
+none_rank : (m : Mode) (n : ℕ) → is_held m ≡ false → mode_number m ≤ n
 none_rank Nothing n h = omega arith
 none_rank Copy n h = contrary (sym h)
 none_rank Own n h = contrary (sym h)
@@ -342,7 +342,7 @@ pub reports_believed : ReportsBelieved
 reports_believed slot blocks cs b c sorted inside has =
     let m = (held_of (blocks c) b).mode in
     let xs = all_reported (λ d. held_in slot (blocks d)) cs in
-    elim (is_held m) as (λ t. is_held m ≡ t → rank m ≤ share_of (all_believed [] xs) b c) [
+    elim (is_held m) as (λ t. is_held m ≡ t → mode_number m ≤ share_of (all_believed [] xs) b c) [
       | true ↦ λ held. all-believed b c m [] xs (all_least slot b blocks c sorted cs) (inr (all_speak slot b blocks c sorted cs inside held has))
       | false ↦ λ none. none_rank m _ none
     ] refl

@@ -19,7 +19,7 @@ use Rattle.token_protocol.specs.Laws.{HasNewest}
 use Rattle.token_protocol.specs.Packets as packets
 use Rattle.token_protocol.specs.Takeover.{activates}
 use Rattle.token_protocol.specs.World.{World}
-use Rattle.token_tie.specs.Seen.{Setting, Local, Shows, rank, local_of, entry_seen}
+use Rattle.token_tie.specs.Seen.{Setting, Local, Shows, mode_number, local_of, entry_seen}
 use Rattle.token_tie.specs.Managed.{Manages}
 use Rattle.std.specs.List.Sorted.{IsStrictlySortedBy}
 use Rattle.std.specs.Map.{keys_of}
@@ -62,4 +62,4 @@ abbrev pub ReportsBelieved : Type 0
 ReportsBelieved =
     (slot : ℕ) (blocks : ℕ → List (BlockId × Held)) (cs : List ℕ) (b : BlockId) (c : ℕ)
     → ((d : ℕ) → IsStrictlySortedBy block_cmp (keys_of (blocks d))) → is_in_slot slot b ≡ true → Contains cs c
-    → rank (held_of (blocks c) b).mode ≤ share_of (all_believed [] (all_reported (λ d. held_in slot (blocks d)) cs)) b c
+    → mode_number (held_of (blocks c) b).mode ≤ share_of (all_believed [] (all_reported (λ d. held_in slot (blocks d)) cs)) b c

@@ -19,12 +19,12 @@ use Rattle.token_protocol.specs.Packets as packets
 use Rattle.token_protocol.specs.Step.{Steps}
 use Rattle.token_protocol.specs.Told.{told as acts_told}
 use Rattle.token_protocol.specs.World.{World}
-use Rattle.token_tie.specs.Seen.{rank, kept, entry_seen, SentOffer, SentRecall}
+use Rattle.token_tie.specs.Seen.{mode_number, kept, entry_seen, SentOffer, SentRecall}
 use Rattle.xfs_base.specs.Modes.{is_nothing, is_own}
 
 -- a want with the end that it named
 abbrev pub want_seen : Wanted → ℕ → packets.Want
-want_seen ask end = record { client = ask.client; incarnation = ask.inc; request = ask.req; mode = rank ask.mode; end = end }
+want_seen ask end = record { client = ask.client; incarnation = ask.inc; request = ask.req; mode = mode_number ask.mode; end = end }
 
 -- what an unanswered recall is there
 pub record AwaitedShown (leave : Bool) (epoch : ℕ) (awaited keep : ℕ → ℕ) (recalls : List packets.Recall) (a : Awaited) : Type 0 where

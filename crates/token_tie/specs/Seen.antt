@@ -29,10 +29,10 @@ pub record Setting : Type 0 where
   pub incarnation : ℕ
 
 -- modes are ranks
-abbrev pub rank : Mode → ℕ
-rank Nothing = 0
-rank Copy = 1
-rank Own = 2
+abbrev pub mode_number : Mode → ℕ
+mode_number Nothing = 0
+mode_number Copy = 1
+mode_number Own = 2
 
 -- what a Recall lets a client keep
 abbrev pub kept : Bool → ℕ
@@ -77,7 +77,7 @@ local_of s block = record { promised = epoch_of s.epochs (slot_of block.ino.0); 
 -- an open want has its mode, which is a copy or more, and its number there; without one no want is open
 abbrev pub WantShown : Option Wanted → ℕ → ℕ → Type 0
 WantShown None want request = want ≡ 0
-WantShown (Some w) want request = (want ≡ rank w.mode) × (request ≡ w.req) × (is_held w.mode ≡ true)
+WantShown (Some w) want request = (want ≡ mode_number w.mode) × (request ≡ w.req) × (is_held w.mode ≡ true)
 
 -- a fetch reads its place there, whatever the hop of the entry
 abbrev pub FetchShown : Option Fetch → ℕ → abstract_entry.Entry → Type 0
@@ -96,7 +96,7 @@ pub record Shows (g : Setting) (epoch : ℕ) (l : Local) (x : Client) : Type 0 w
   pub boot : l.inc ≡ g.incarnation
   pub incarnation : x.incarnation ≡ g.incarnation
   pub stamps : Seen (node_seen l.promised l.held.stamp) x epoch
-  pub mode : x.mode ≡ rank l.held.mode
+  pub mode : x.mode ≡ mode_number l.held.mode
   pub counted : x.request ≤ l.req
   pub want : WantShown l.held.want x.want x.request
   pub version : x.version ≡ l.held.ver
@@ -107,7 +107,7 @@ pub record Shows (g : Setting) (epoch : ℕ) (l : Local) (x : Client) : Type 0 w
 -- ---- what is asked of packets: they are of no later epoch than the reigning one, and those of the reigning one were sent there
 
 abbrev pub offer_seen : ℕ → Stamp → ℕ → ℕ → Mode → abstract_entry.Entry → packets.Offer
-offer_seen client stamp inc req mode entry = record { client = client; stamp = stamp.turn; incarnation = inc; request = req; mode = rank mode; entry = entry }
+offer_seen client stamp inc req mode entry = record { client = client; stamp = stamp.turn; incarnation = inc; request = req; mode = mode_number mode; entry = entry }
 
 pub record SentOffer (client : ℕ) (w : World) (stamp : Stamp) (inc req : ℕ) (mode : Mode) (entry : abstract_entry.Entry) : Type 0 where
   pub low : stamp.epoch ≤ w.epoch

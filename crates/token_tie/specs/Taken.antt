@@ -10,7 +10,7 @@ use Rattle.token_protocol.specs.Packets as packets
 use Rattle.token_protocol.specs.Step.{Steps}
 use Rattle.token_protocol.specs.Told.{told}
 use Rattle.token_protocol.specs.World.{World}
-use Rattle.token_tie.specs.Seen.{Setting, Local, Shows, local_of, rank}
+use Rattle.token_tie.specs.Seen.{Setting, Local, Shows, local_of, mode_number}
 
 -- the world, but for what a client's steps change
 abbrev pub rest : World → World
@@ -26,7 +26,7 @@ pub record ByClient (c : ℕ) (w v : World) : Type 0 where
 -- what is given of the block was sent there, with this end of the client's log
 abbrev pub Said : Setting → ℕ → World → Out → Type 0
 Said g end w (Want block req again mode) =
-    block ≡ g.block → In (record { client = g.client; incarnation = g.incarnation; request = req; mode = rank mode; end = end }) w.wants
+    block ≡ g.block → In (record { client = g.client; incarnation = g.incarnation; request = req; mode = mode_number mode; end = end }) w.wants
 Said g end w (Gave block stamp) = block ≡ g.block → (stamp.epoch ≤ w.epoch) × In (record { client = g.client; stamp = stamp.turn; end = end }) w.gaves
 Said g end w (Supply block ver value) = Unit {0}
 Said g end w (Flush block) = Unit {0}

@@ -85,7 +85,7 @@ fn hand_out<N, K: Sink>(estate: Estate<N>, text: &Text, sink: &mut K) -> Outcome
 /// Plays a script.
 fn played<N: Member>(alloc: Global, script: &Script) -> Mem<Estate<N>>
     requires { IsScript script.now }
-    ensures is { IfOk result (λ estate. estate ≡ estate_of N.transition N.first script.now) }
+    ensures exact { IfOk result (λ estate. estate ≡ estate_of N.transition N.first script.now) }
     ensures run { IfOk result (λ estate. IsPlayed N.transition N.first estate) }
 {
     let estate = play::<N>(alloc, script)?;

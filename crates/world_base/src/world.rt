@@ -93,7 +93,7 @@ impl<N: Member> World<N> {
 
     /// The clock of an event of the node at a place; none where there is no such node.
     fn clock_at(&self, place: usize, what: &Do) -> Option<u64>
-        ensures is { result ≡ clock_at self.now place what.now }
+        ensures exact { result ≡ clock_at self.now place what.now }
         ensures within { IfSome result (λ clock. (place < length self.now.nodes) × (place < length self.now.clocks)) }
     {
         if place < self.nodes.len() && place < self.clocks.len() {

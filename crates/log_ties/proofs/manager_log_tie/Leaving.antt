@@ -30,17 +30,17 @@ all_put P (x ∷ xs) (suc place) y new all = (all.0, all_put P xs place y new al
 
 -- ---- steps
 
-module _ {S O : Type 0} (Keeps : S → Type 0) (Gives : O → Type 0) where
+module _ {S O : Type 0} (Keeps : S → Type 0) (GivesSo : O → Type 0) where
   -- a step that leaves its state so, and gives these things
   pub record Leaves (d : Stepped S O) : Type 0 where
     pub state : Keeps d.state
-    pub outs : AllByRecursion Gives d.outs
+    pub outs : AllByRecursion GivesSo d.outs
 
   pub stays : (s : S) → Keeps s → Leaves (still s)
   stays s kept = record { state = kept; outs = tt }
 
-  pub goes_after : (outs : List O) (d : Stepped S O) → AllByRecursion Gives outs → Leaves d → Leaves (after outs d)
-  goes_after outs d given left = record { state = left.state; outs = all_append Gives outs d.outs given left.outs }
+  pub goes_after : (outs : List O) (d : Stepped S O) → AllByRecursion GivesSo outs → Leaves d → Leaves (after outs d)
+  goes_after outs d given left = record { state = left.state; outs = all_append GivesSo outs d.outs given left.outs }
 
   -- one step for each item
   pub leaves_each : {X : Type 0} (Takes : X → Type 0) (step : S → X → Stepped S O) → ((s : S) (x : X) → Keeps s → Takes x → Leaves (step s x))

@@ -58,8 +58,8 @@ caches-of s p = record {
 }
 
 module _ (opens : OpensEmptyLogs) where
-  abbrev Gives : Phase → Type 0
-  Gives = PhaseHolds AnyBlock AnyMap (G giving.none) (λ n. G giving.none)
+  abbrev GivesSo : Phase → Type 0
+  GivesSo = PhaseHolds AnyBlock AnyMap (G giving.none) (λ n. G giving.none)
       (λ b. G giving.none) giving.keeps-giving AnyOpening AnyLog any_reopens giving.starts-giving
 
   abbrev Caches : Phase → Type 0
@@ -81,7 +81,7 @@ module _ (opens : OpensEmptyLogs) where
   asks_in (Opening l o) p = tt
   asks_in (Serves s) p = p.asks
 
-  gives_in : (phase : Phase) → StandsWell phase → Gives phase
+  gives_in : (phase : Phase) → StandsWell phase → GivesSo phase
   gives_in (Down l) p = tt
   gives_in (Opening l o) p = tt
   gives_in (Serves s) p = λ b some. inl (p.gives b some)
@@ -103,7 +103,7 @@ module _ (opens : OpensEmptyLogs) where
 
   -- ---- and all together
 
-  together : (phase : Phase) → PhaseAsks phase → Gives phase → Caches phase → Writes phase → Stripes phase → StandsWell phase
+  together : (phase : Phase) → PhaseAsks phase → GivesSo phase → Caches phase → Writes phase → Stripes phase → StandsWell phase
   together (Down l) asks gives caches writes by = tt
   together (Opening l o) asks gives caches writes by = record { waits = writes; maps = by }
   together (Serves s) asks gives caches writes by = record {

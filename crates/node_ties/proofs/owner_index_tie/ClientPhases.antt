@@ -45,7 +45,7 @@ use Rattle.wire_msg.specs.declared.packet.Packet.{Packet}
 use Rattle.xfs_base.proofs.Booleans.{by_test}
 use Rattle.xfs_base.specs.Steps.{still, after}
 use Rattle.segment_format.specs.declared.segment.Segment.{Segment}
-use Rattle.node_ties.specs.owner_index_tie.ClientEvents.{RestingSeen, ClientAgrees, IsNews, BodyGets, PacketGets, EventGets, ReopensOn, WritesTexts, ClientEventGoes}
+use Rattle.node_ties.specs.owner_index_tie.ClientEvents.{RestingSeen, ClientAgrees, IsNewerAtSlot, BodyGets, PacketGets, EventGets, ReopensOn, WritesTexts, ClientEventGoes}
 use Rattle.node_ties.specs.owner_index_tie.Filing.{filing, filed_after}
 use Rattle.node_ties.specs.owner_index_tie.Owners.{OpeningSeen, StageWrites, OwnerDoes}
 use Rattle.node_ties.proofs.owner_index_tie.Frames as frames
@@ -267,16 +267,16 @@ client_event_goes part texts n c client what some below agreed owed =
     let w = takes client what in
     let most : c ≤ 9 = omega arith in
     let f = filed_after texts c n.filed w.outs in
-    let k = (takes_so (IsNews part) part texts n c some most client what (stands (IsNews part) part texts n c some most client.phase agreed) owed.gets
+    let k = (takes_so (IsNewerAtSlot part) part texts n c some most client what (stands (IsNewerAtSlot part) part texts n c some most client.phase agreed) owed.gets
     owed.reopens).0 owed.files in
     record {
       next = filing n f;
       is = refl;
       more = frames.more_after texts c n.filed w.outs;
       others = λ l other. others_after texts c l other n.filed w.outs;
-      runs = runs_after (IsNews part) part texts (held_in part texts) n c
+      runs = runs_after (IsNewerAtSlot part) part texts (held_in part texts) n c
           (λ g name it. ClientFiles c (texts name) some below it.segment it.new) n.filed w.outs owed.files;
-      agrees = agrees (IsNews part) part texts n c some most f w.state k.at owed.writes;
-      named = λ are. texts_after (IsNews part) texts c n.filed w.outs owed.files are;
+      agrees = agrees (IsNewerAtSlot part) part texts n c some most f w.state k.at owed.writes;
+      named = λ are. texts_after (IsNewerAtSlot part) texts c n.filed w.outs owed.files are;
       does = All-from_recursion (OwnerDoes part (filing n f) c (n.filed.head c)) w.outs k.says;
     }

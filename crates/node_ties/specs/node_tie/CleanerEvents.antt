@@ -36,7 +36,7 @@ pub record Bounded (part low high : ℕ) (p : Promised) : Type 0 where
   pub within : epoch_of p.epochs part ≤ high
 
 -- The epoch of the slot that it has promised, or had promised when it last served, and one that no epoch of the slot is above.
-module _ (part promised most : ℕ) where
+module _ (part promised last_epoch : ℕ) where
   -- one that serves has promised that epoch
   pub record ServesSo (e : Emptying) : Type 0 where
     pub eight : length e.promised.epochs ≡ 8
@@ -45,7 +45,7 @@ module _ (part promised most : ℕ) where
   -- an opening promises no less, once its first Welcome came
   pub record OpensSo (l : Lasting) (o : openings.Opening) : Type 0 where
     pub owner : o.known.owner.inc ≡ l.inc
-    pub promises : AwaitsFirst o.stage ⊎ Bounded part promised most o.known.promised
+    pub promises : AwaitsFirst o.stage ⊎ Bounded part promised last_epoch o.known.promised
 
   abbrev pub CleanerStands : Phase → Type 0
   CleanerStands (Down l) = Unit {0}
@@ -55,7 +55,7 @@ module _ (part promised most : ℕ) where
   -- ---- what the world owes it
 
   abbrev pub NewsLow : List SlotNews → Type 0
-  NewsLow slots = All (λ news. news.slot ≡ part → news.epoch ≤ most) slots
+  NewsLow slots = All (λ news. news.slot ≡ part → news.epoch ≤ last_epoch) slots
 
   -- a Welcome that answers an opening names no earlier epoch of the slot than the promised one
   abbrev pub CleanerWelcomed : Phase → Welcome → Type 0
@@ -64,7 +64,7 @@ module _ (part promised most : ℕ) where
   CleanerWelcomed (Serves e) m = Unit {0}
 
   abbrev pub CleanerGets : Phase → Body → Type 0
-  CleanerGets p (body.Poll m) = m.slot ≡ part → m.epoch ≤ most
+  CleanerGets p (body.Poll m) = m.slot ≡ part → m.epoch ≤ last_epoch
   CleanerGets p (body.MapNews m) = NewsLow m.slots
   CleanerGets p (body.Welcome m) = NewsLow m.news.slots × CleanerWelcomed p m
   CleanerGets p _ = Unit {0}
@@ -98,12 +98,12 @@ IsOpening (Down l) = ⊥
 IsOpening (Opening l o) = Unit {0}
 IsOpening (Serves e) = ⊥
 
-pub record CleanerGoes (part promised most : ℕ) (p p' : Phase) (outs : List Effect) : Type 0 where
+pub record CleanerGoes (part promised last_epoch : ℕ) (p p' : Phase) (outs : List Effect) : Type 0 where
   -- the epoch that it has promised then
   pub next : ℕ
   pub rises : promised ≤ next
-  pub within : next ≤ most
-  pub stands : CleanerStands part next most p'
+  pub within : next ≤ last_epoch
+  pub stands : CleanerStands part next last_epoch p'
   pub does : All (CleanerDoes part next (lasting_of p').inc) outs
   pub later : (lasting_of p).inc ≤ (lasting_of p').inc
   pub begins : OpensLater p p'
@@ -119,15 +119,15 @@ pub record IsTaken (cleaner : Cleaner) (what : Do) : Type 0 where
 -- an opening that ends has what was in flight.
 abbrev pub CleanerTakes : Type 0
 CleanerTakes =
-    (logs : Bool) (members part promised most : ℕ) (n : Net) → part < 8 → promised ≤ most → Premise logs (members ≤ its_log) → (adopted : Bool) (cleaner : Cleaner)
+    (logs : Bool) (members part promised last_epoch : ℕ) (n : Net) → part < 8 → promised ≤ last_epoch → Premise logs (members ≤ its_log) → (adopted : Bool) (cleaner : Cleaner)
     (what : Do)
-    → CleanerStands part promised most cleaner.phase → CleanerOwed part promised most cleaner.phase what
+    → CleanerStands part promised last_epoch cleaner.phase → CleanerOwed part promised last_epoch cleaner.phase what
     → Premise logs (CleanerCopies n.books cleaner.phase) → Premise logs (IsTaken cleaner what → CleanerTold n.books adopted cleaner.phase what)
-    → CleanerGoes part promised most cleaner.phase (takes cleaner.peers cleaner.phase what).state (takes cleaner.peers cleaner.phase what).outs
+    → CleanerGoes part promised last_epoch cleaner.phase (takes cleaner.peers cleaner.phase what).state (takes cleaner.peers cleaner.phase what).outs
     × CleanerRuns logs members part n adopted cleaner.phase (takes cleaner.peers cleaner.phase what).state (takes cleaner.peers cleaner.phase what).outs
 
 -- At the start it has promised epoch 1 of each slot, its log is empty, and it has no job.
 abbrev pub CleanerStarts : Type 0
 CleanerStarts =
-    (part most : ℕ) → part < 8 → (setup : Setup) (works : List Work)
-    → CleanerStands part 1 most (cleaner_start setup works).phase × CleanerCopies no_books (cleaner_start setup works).phase
+    (part last_epoch : ℕ) → part < 8 → (setup : Setup) (works : List Work)
+    → CleanerStands part 1 last_epoch (cleaner_start setup works).phase × CleanerCopies no_books (cleaner_start setup works).phase

@@ -99,20 +99,20 @@ module _ (logs : Bool) (part c : ℕ) (n : Net) where
 
 -- what is promised is of no later epoch than this bound; before its first Welcome an opening promises nothing
 abbrev pub PromisesWithin : ℕ → ℕ → Phase → Type 0
-PromisesWithin part most (Down l) = Unit {0}
-PromisesWithin part most (Opening l o) = AwaitsFirst o.stage ⊎ (epoch_of o.known.promised.epochs part ≤ most)
-PromisesWithin part most (Serves s) = Unit {0}
+PromisesWithin part last_epoch (Down l) = Unit {0}
+PromisesWithin part last_epoch (Opening l o) = AwaitsFirst o.stage ⊎ (epoch_of o.known.promised.epochs part ≤ last_epoch)
+PromisesWithin part last_epoch (Serves s) = Unit {0}
 
 -- what holds before each event
-pub record ClientStands (part most c : ℕ) (n : Net) (p : Phase) : Type 0 where
+pub record ClientStands (part last_epoch c : ℕ) (n : Net) (p : Phase) : Type 0 where
   pub asks : PhaseAsks p
-  pub within : epoch_of (n.tokens c).epochs part ≤ most
-  pub promises : PromisesWithin part most p
+  pub within : epoch_of (n.tokens c).epochs part ≤ last_epoch
+  pub promises : PromisesWithin part last_epoch p
 
-module _ (part most c : ℕ) (n : Net) where
+module _ (part last_epoch c : ℕ) (n : Net) where
   -- what is said of the slot is of an epoch within the bound
   abbrev pub NewsWithin : List SlotNews → Type 0
-  NewsWithin slots = All (λ news. news.slot ≡ part → news.epoch ≤ most) slots
+  NewsWithin slots = All (λ news. news.slot ≡ part → news.epoch ≤ last_epoch) slots
 
   -- what is said of the slot is of no earlier epoch than the promised one
   abbrev pub NewsRises : List SlotNews → Type 0
@@ -129,7 +129,7 @@ module _ (part most c : ℕ) (n : Net) where
   GetsBody p (body.Forward m) = ForwardSeen part n.sent (Client c) m
   GetsBody p (body.Recall m) = RecallSeen part n.sent (Client c) m
   GetsBody p (body.Supply m) = SupplySeen part n.sent (Client c) m
-  GetsBody p (body.Poll m) = PollSeen part n.sent most m
+  GetsBody p (body.Poll m) = PollSeen part n.sent last_epoch m
   GetsBody p (body.MapNews m) = NewsWithin m.slots
   GetsBody p (body.Welcome m) = NewsWithin m.news.slots × WelcomeRises p m
   GetsBody p _ = Unit {0}
@@ -153,9 +153,9 @@ module _ (part most c : ℕ) (n : Net) where
   EndsInTime (Serves s) = Unit {0}
 
 -- what the world owes a packet that is delivered to the client
-pub record ClientGets (logs : Bool) (part most c : ℕ) (n : Net) (p : Phase) (packet : packets.Packet) : Type 0 where
-  pub brings : GetsBody part most c n p packet.body
-  pub reads : Premise logs (ReadsSo part most c n p packet)
+pub record ClientGets (logs : Bool) (part last_epoch c : ℕ) (n : Net) (p : Phase) (packet : packets.Packet) : Type 0 where
+  pub brings : GetsBody part last_epoch c n p packet.body
+  pub reads : Premise logs (ReadsSo part last_epoch c n p packet)
 
 -- ---- what an event makes of it
 
@@ -207,7 +207,7 @@ module _ (part c : ℕ) (n : Net) (sent : List Packet) (life : ℕ) (p' : Phase)
   ClientDid (Does a) = ClientActs a
 
 -- The small world runs on to a net in which the client is seen as it is then, all that it sends was sent, and what it acts is right.
-pub record ClientGoes (logs : Bool) (members part most c : ℕ) (n : Net) (p p' : Phase) (outs : List Effect) : Type 0 where
+pub record ClientGoes (logs : Bool) (members part last_epoch c : ℕ) (n : Net) (p p' : Phase) (outs : List Effect) : Type 0 where
   pub next : Net
   pub runs : Runs logs members part n next
   pub agrees : ClientAgrees logs part c next p'
@@ -219,8 +219,8 @@ pub record ClientGoes (logs : Bool) (members part most c : ℕ) (n : Net) (p p' 
   pub books : (l : ℕ) → (l ≡ c → ⊥) → SameLog n.books next.books l
   pub log : Premise logs (LogGoes n next.books c outs p p')
   pub does : All (ClientDid part c n next.sent (lasting_of p').inc p') outs
-  pub within : epoch_of (next.tokens c).epochs part ≤ most
-  pub promises : PromisesWithin part most p'
+  pub within : epoch_of (next.tokens c).epochs part ≤ last_epoch
+  pub promises : PromisesWithin part last_epoch p'
   pub later : (lasting_of p).inc ≤ (lasting_of p').inc
   pub begins : BeginsLater p p'
   -- what is left of the last tokens of a client that doesn't serve stands still
@@ -233,25 +233,25 @@ pub record IsTaken (client : clients.Client) (what : Do) : Type 0 where
   pub formed : (q : packets.Packet) → what ≡ Deliver q → is_well_formed client.peers q ≡ true
 
 -- what the world owes an event
-abbrev pub ClientOwed : (logs : Bool) (part most c : ℕ) → Net → Phase → Do → Type 0
-ClientOwed logs part most c n p Begin = Unit {0}
-ClientOwed logs part most c n p (Deliver packet) = ClientGets logs part most c n p packet
-ClientOwed logs part most c n p Tick = Premise logs (EndsInTime part most c n p)
+abbrev pub ClientOwed : (logs : Bool) (part last_epoch c : ℕ) → Net → Phase → Do → Type 0
+ClientOwed logs part last_epoch c n p Begin = Unit {0}
+ClientOwed logs part last_epoch c n p (Deliver packet) = ClientGets logs part last_epoch c n p packet
+ClientOwed logs part last_epoch c n p Tick = Premise logs (EndsInTime part last_epoch c n p)
 
 -- Each event of a client is a run of the small world, if the world owes it what it brings where it is taken.
 abbrev pub ClientTakes : Type 0
 ClientTakes =
-    (logs : Bool) (members part most c : ℕ) → part < 8 → 0 < c → c < members → (n : Net) (client : clients.Client) (what : Do)
-    → ClientAgrees logs part c n client.phase → ClientStands part most c n client.phase
-    → (IsTaken client what → ClientOwed logs part most c n client.phase what)
-    → ClientGoes logs members part most c n client.phase (takes client what).state (takes client what).outs
+    (logs : Bool) (members part last_epoch c : ℕ) → part < 8 → 0 < c → c < members → (n : Net) (client : clients.Client) (what : Do)
+    → ClientAgrees logs part c n client.phase → ClientStands part last_epoch c n client.phase
+    → (IsTaken client what → ClientOwed logs part last_epoch c n client.phase what)
+    → ClientGoes logs members part last_epoch c n client.phase (takes client what).state (takes client what).outs
 
 -- At the start each client is seen in the small world, and what is promised is within any bound from 1 on.
-pub record ClientBegins (logs : Bool) (part most c : ℕ) (client : clients.Client) : Type 0 where
+pub record ClientBegins (logs : Bool) (part last_epoch c : ℕ) (client : clients.Client) : Type 0 where
   pub agrees : ClientAgrees logs part c opening client.phase
-  pub within : epoch_of (opening.tokens c).epochs part ≤ most
-  pub promises : PromisesWithin part most client.phase
+  pub within : epoch_of (opening.tokens c).epochs part ≤ last_epoch
+  pub promises : PromisesWithin part last_epoch client.phase
 
 abbrev pub ClientStarts : Type 0
 ClientStarts =
-    (logs : Bool) (part most c : ℕ) → part < 8 → 1 ≤ most → (setup : Setup) (works : List Work) → ClientBegins logs part most c (first_client c setup works)
+    (logs : Bool) (part last_epoch c : ℕ) → part < 8 → 1 ≤ last_epoch → (setup : Setup) (works : List Work) → ClientBegins logs part last_epoch c (first_client c setup works)

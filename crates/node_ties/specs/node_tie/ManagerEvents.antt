@@ -247,10 +247,10 @@ module _ (logs : Bool) (members part : ℕ) (n : Net) where
   AbsentGets p Cleaner m = Unit {0}
   AbsentGets p Registry m = Unit {0}
 
-module _ (part most j : ℕ) (n : Net) where
+module _ (part last_epoch j : ℕ) (n : Net) where
   -- news of a slot: an epoch that is new to the manager that gets it is new to the small world
   pub record NewsGets (known : ℕ) (news : SlotNews) : Type 0 where
-    pub within : news.epoch ≤ most
+    pub within : news.epoch ≤ last_epoch
     pub new : news.manager ≡ j → known < news.epoch → n.slots news.epoch ≡ None
 
   abbrev pub AllNewsGets : ℕ → List SlotNews → Type 0
@@ -267,7 +267,7 @@ module _ (part most j : ℕ) (n : Net) where
   WaitingGets life (body.Welcome welcome) = welcome.inc ≡ life → OpeningGets welcome.news
   WaitingGets life _ = Unit {0}
 
-module _ (logs : Bool) (part most j : ℕ) (n : Net) where
+module _ (logs : Bool) (part last_epoch j : ℕ) (n : Net) where
   -- to one that serves, in this incarnation, and has this of the slot
   abbrev pub ServingGets : ℕ → ℕ → SlotPhase → NodeId → Body → Type 0
   ServingGets members life p from (body.Want m) = WantGets part n from m
@@ -276,13 +276,13 @@ module _ (logs : Bool) (part most j : ℕ) (n : Net) where
   ServingGets members life p from (body.Report m) = ReportGets part n members from m × LastReportGets logs members part n p from m
   ServingGets members life p from (body.Fragment m) = FoundGets logs members part n p from m
   ServingGets members life p from (body.Missing m) = AbsentGets logs members part n p from m
-  ServingGets members life p from (body.MapNews news) = AllNewsGets part most j n (epoch_of p) news.slots
-  ServingGets members life p from (body.Welcome welcome) = welcome.inc ≡ life → AllNewsGets part most j n (epoch_of p) welcome.news.slots
+  ServingGets members life p from (body.MapNews news) = AllNewsGets part last_epoch j n (epoch_of p) news.slots
+  ServingGets members life p from (body.Welcome welcome) = welcome.inc ≡ life → AllNewsGets part last_epoch j n (epoch_of p) welcome.news.slots
   ServingGets members life p from _ = Unit {0}
 
   abbrev pub ManagerGets : ℕ → Phase → Sent → Type 0
   ManagerGets members (Serves s) packet = ServingGets members s.lasting.inc (slot_in part (Serves s)) packet.from packet.body
-  ManagerGets members (Waiting kept hello) packet = WaitingGets part most j n kept.inc packet.body
+  ManagerGets members (Waiting kept hello) packet = WaitingGets part last_epoch j n kept.inc packet.body
   ManagerGets members (Down kept) packet = Unit {0}
 
   abbrev pub EventGets : ℕ → Phase → Do → Type 0
@@ -333,7 +333,7 @@ pub record Opens (part : ℕ) (p : Phase) (what : Do) (q : Phase) : Type 0 where
   pub above : (news : SlotNews) → In news welcome.news.slots → news.slot ≡ part → news.epoch ≤ epoch_in part q
 
 -- An event of manager j is a list of things that happen in the small world.
-pub record ManagerGoes (logs : Bool) (members part most j : ℕ) (n : Net) (p : Phase) (what : Do) (w : Went_to) : Type 0 where
+pub record ManagerGoes (logs : Bool) (members part last_epoch j : ℕ) (n : Net) (p : Phase) (what : Do) (w : Went_to) : Type 0 where
   pub next : Net
   pub runs : Runs logs members part n next
   pub agrees : ManagerAgrees members part next j w.state
@@ -351,10 +351,10 @@ pub record ManagerGoes (logs : Bool) (members part most j : ℕ) (n : Net) (p : 
   pub taken : (e : ℕ) → HeldAt (slot_in part w.state) e
       → (HeldAt (slot_in part p) e × ((lasting_of w.state).inc ≡ (lasting_of p).inc)) ⊎ (Names part j e what × (epoch_in part p < e))
   pub rises : is_serving p ≡ true → is_serving w.state ≡ true → epoch_in part p ≤ epoch_in part w.state
-  pub within : epoch_in part w.state ≤ most
+  pub within : epoch_in part w.state ≤ last_epoch
   -- what was sent stays sent
   pub grows : (x : Packet) → In x n.sent → In x next.sent
-  pub does : All (ManagerDoes part next.sent most (lasting_of w.state).inc) w.outs
+  pub does : All (ManagerDoes part next.sent last_epoch (lasting_of w.state).inc) w.outs
   -- incarnations don't fall; a restart begins a later one
   pub later : (lasting_of p).inc ≤ (lasting_of w.state).inc
   pub restarts : is_waiting w.state ≡ true → is_waiting p ≡ false → (lasting_of p).inc < (lasting_of w.state).inc
@@ -365,10 +365,10 @@ pub record ManagerGoes (logs : Bool) (members part most j : ℕ) (n : Net) (p : 
 -- Each event of a manager, if the world owes it what its packet says.
 abbrev pub ManagerEventGoes : Type 0
 ManagerEventGoes =
-    (logs : Bool) (members part most j : ℕ) (n : Net) (m : AManager) (what : Do) → part < 8 → members ≡ m.peers.clients + 1
+    (logs : Bool) (members part last_epoch j : ℕ) (n : Net) (m : AManager) (what : Do) → part < 8 → members ≡ m.peers.clients + 1
     → ManagerAgrees members part n j m.phase
-    → epoch_in part m.phase ≤ most → EventGets logs part most j n members m.phase what
-    → ManagerGoes logs members part most j n m.phase what (happens m what)
+    → epoch_in part m.phase ≤ last_epoch → EventGets logs part last_epoch j n members m.phase what
+    → ManagerGoes logs members part last_epoch j n m.phase what (happens m what)
 
 -- At the start of a run a manager is seen in the opening of the small world: it manages the slot at epoch 1, or isn't its manager then.
 pub record FirstAgrees (members part number : ℕ) (setup : Setup) (works : List Work) : Type 0 where

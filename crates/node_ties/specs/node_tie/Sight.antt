@@ -108,29 +108,29 @@ module _ (part : ℕ) (sent : List Packet) where
   -- a manager sends grants, forwards and recalls; polls up to this epoch of the slot; and what takeovers and checkpoints need; it says Hello in this
   -- incarnation at most
   abbrev pub PollSeen : ℕ → Poll → Type 0
-  PollSeen most m = m.slot ≡ part → m.epoch ≤ most
+  PollSeen last_epoch m = m.slot ≡ part → m.epoch ≤ last_epoch
 
   abbrev pub ManagerSends : ℕ → ℕ → NodeId → Body → Type 0
-  ManagerSends most life to (body.Grant m) = GrantSeen to m
-  ManagerSends most life to (body.Forward m) = ForwardSeen to m
-  ManagerSends most life to (body.Recall m) = RecallSeen to m
-  ManagerSends most life to (body.Poll m) = PollSeen most m
-  ManagerSends most life to (body.Gone m) = Unit {0}
-  ManagerSends most life to (body.DeltaAck m) = Unit {0}
-  ManagerSends most life to (body.Store m) = Unit {0}
-  ManagerSends most life to (body.Fetch m) = Unit {0}
-  ManagerSends most life to (body.Live m) = Unit {0}
-  ManagerSends most life to (body.Dead m) = Unit {0}
-  ManagerSends most life to (body.Usage m) = Unit {0}
-  ManagerSends most life to (body.Hello m) = m.inc ≤ life
-  ManagerSends most life to (body.CkptDone m) = Unit {0}
-  ManagerSends most life to _ = ⊥
+  ManagerSends last_epoch life to (body.Grant m) = GrantSeen to m
+  ManagerSends last_epoch life to (body.Forward m) = ForwardSeen to m
+  ManagerSends last_epoch life to (body.Recall m) = RecallSeen to m
+  ManagerSends last_epoch life to (body.Poll m) = PollSeen last_epoch m
+  ManagerSends last_epoch life to (body.Gone m) = Unit {0}
+  ManagerSends last_epoch life to (body.DeltaAck m) = Unit {0}
+  ManagerSends last_epoch life to (body.Store m) = Unit {0}
+  ManagerSends last_epoch life to (body.Fetch m) = Unit {0}
+  ManagerSends last_epoch life to (body.Live m) = Unit {0}
+  ManagerSends last_epoch life to (body.Dead m) = Unit {0}
+  ManagerSends last_epoch life to (body.Usage m) = Unit {0}
+  ManagerSends last_epoch life to (body.Hello m) = m.inc ≤ life
+  ManagerSends last_epoch life to (body.CkptDone m) = Unit {0}
+  ManagerSends last_epoch life to _ = ⊥
 
   abbrev pub ManagerDoes : ℕ → ℕ → Effect → Type 0
-  ManagerDoes most life (Send to m) = ManagerSends most life to m
-  ManagerDoes most life (Answer item answer) = Unit {0}
-  ManagerDoes most life (Lose seg) = Unit {0}
-  ManagerDoes most life (Does a) = IsNeutral a
+  ManagerDoes last_epoch life (Send to m) = ManagerSends last_epoch life to m
+  ManagerDoes last_epoch life (Answer item answer) = Unit {0}
+  ManagerDoes last_epoch life (Lose seg) = Unit {0}
+  ManagerDoes last_epoch life (Does a) = IsNeutral a
 
 -- a server sends what it holds and did, and what a rebuild asks
 abbrev pub ServerSends : Body → Type 0

@@ -44,8 +44,8 @@ module _ (part : ℕ) (texts : Texts) (n : Net) (c : ℕ) where
 -- ---- what the world owes an event
 
 -- what a client's segment says of the slot's blocks is newer than all that is filed, and at first hand
-abbrev pub IsNews : ℕ → Filed → Segment → Type 0
-IsNews part f s = (b : BlockId) → slot_of b.ino.0 ≡ part → IsNewer b f s
+abbrev pub IsNewerAtSlot : ℕ → Filed → Segment → Type 0
+IsNewerAtSlot part f s = (b : BlockId) → slot_of b.ino.0 ≡ part → IsNewer b f s
 
 module _ (part : ℕ) (texts : Texts) (n : Net) (c : ℕ) where
   -- from the horizon of an epoch on that is polled, and that is none before the one that the tokens are of, the log is linked
@@ -81,7 +81,7 @@ module _ (part : ℕ) (texts : Texts) (n : Net) (c : ℕ) where
   -- The world owes a client that what it acts to be filed is new, that what a reopening read back is what was filed and adopted, that the log is linked from the
   -- horizon of a polled epoch on, and that what the client writes are the texts of their names.
   pub record ClientOwed (p : Phase) (what : Do) (w : Went_to) : Type 0 where
-    pub files : FilesOwed (IsNews part) texts c n.filed w.outs
+    pub files : FilesOwed (IsNewerAtSlot part) texts c n.filed w.outs
     pub reopens : ReopensOn p w.state
     pub gets : EventGets p what
     pub writes : WritesTexts w.state

@@ -17,7 +17,7 @@ use Rattle.xfs_base.specs.Blocks.{slot_of}
 use Rattle.xfs_base.specs.declared.block.BlockId.{BlockId}
 use Rattle.xfs_base.specs.declared.entry.Entry.{Entry}
 use Rattle.xfs_base.specs.declared.segment.SegRef.{SegRef}
-use Rattle.run_laws.specs.index_reads.Clients.{IsFlight, FlightsAreNews, NothingIsNews}
+use Rattle.run_laws.specs.index_reads.Clients.{IsFlight, FlightsAreNews, NothingIsNewer}
 use Rattle.run_laws.specs.index_reads.Ties.{Tied}
 use Rattle.run_laws.proofs.index_reads.Rows.{rows_are_entries}
 use Rattle.run_laws.proofs.index_reads.Sayings.{same_version, of_log}
@@ -52,7 +52,7 @@ flights_are_news members part holds t i c s tied is flight b inside = record {
   first_hand = λ some. join_has (λ (e : Entry). e.hop ≡ 0) b (rows_of s) refl flight.first_hand;
 }
 
-pub nothing_is_news : NothingIsNews
+pub nothing_is_news : NothingIsNewer
 nothing_is_news part f s none b inside =
     record {
       newer = λ some. absurd (let zero_ : (said_of s b).ver ≡ 0 = ap (λ rows. (join rows b).ver) none in omega arith);

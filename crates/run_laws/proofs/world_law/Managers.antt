@@ -23,7 +23,7 @@ use Rattle.slot_beliefs.specs.Beliefs.{share_of}
 use Rattle.token_law.specs.Laws.{ActiveEpochsPromised, GrantsBelieved, HoldingsBelieved, Reigns}
 use Rattle.token_manager.specs.SlotState.{SlotState}
 use Rattle.token_protocol.specs.Basics.{In}
-use Rattle.token_tie.specs.Seen.{rank}
+use Rattle.token_tie.specs.Seen.{mode_number}
 use Rattle.version_model.specs.declared.act.Act.{Act}
 use Rattle.wire_msg.specs.declared.body.Body.{Body}
 use Rattle.wire_msg.specs.declared.body.Body.TheVariants as body
@@ -162,12 +162,12 @@ module _ (laws : NodeLaws) (small_promised : ActiveEpochsPromised) (small_believ
         λ j s p at_j serves.
         (let x = managed j s at_j in cleaner_above j s p x (subst (λ cl. promised_of (node_in w.nodes (place_of cl Cleaner)) ≡ Some p) same_cluster serves));
     believed = λ j c s t b at_j latest at_c inside. (let x = managed j s at_j in let y = served c t at_c in
-        subst (λ (z : TokensState). rank (held_of z.blocks b).mode ≤ share_of s.beliefs b c) y.tokens
-        (subst (λ beliefs. rank (held_of (now.net.tokens c).blocks b).mode ≤ share_of beliefs b c) (ap (λ (z : SlotState). z.beliefs) x.same)
+        subst (λ (z : TokensState). mode_number (held_of z.blocks b).mode ≤ share_of s.beliefs b c) y.tokens
+        (subst (λ beliefs. mode_number (held_of (now.net.tokens c).blocks b).mode ≤ share_of beliefs b c) (ap (λ (z : SlotState). z.beliefs) x.same)
         (small_believed false (members k part) part (with_promise 1 now.net) b (record { run = st.runs; inside = inside }) s.epoch x.slot
         (newest j s at_j latest) c y.client y.up)));
     acceptable = λ j c s t packet m at_j latest at_c sent to is inside accepted. (let x = managed j s at_j in let y = served c t at_c in
-        subst (λ beliefs. rank m.mode ≤ share_of beliefs m.block c) (ap (λ (z : SlotState). z.beliefs) x.same)
+        subst (λ beliefs. mode_number m.mode ≤ share_of beliefs m.block c) (ap (λ (z : SlotState). z.beliefs) x.same)
         (small_acceptable false (members k part) part (with_promise 1 now.net) m.block (record { run = st.runs; inside = inside }) s.epoch x.slot
         (newest j s at_j latest) c y.client y.up
         m.stamp m.inc m.req m.mode m.entry (granted c packet m (was_sent w.sent packet sent) to is inside)

@@ -20,7 +20,7 @@ use Rattle.node_ties.specs.node_index_tie.Sight.{Texts}
 use Rattle.node_ties.proofs.owner_index_tie.Frames.{more_after}
 use Rattle.node_ties.proofs.owner_index_tie.Growing.{head_is, segment_is}
 use Rattle.node_ties.specs.owner_index_tie.CleanerEvents.{NewFor}
-use Rattle.node_ties.specs.owner_index_tie.ClientEvents.{IsNews}
+use Rattle.node_ties.specs.owner_index_tie.ClientEvents.{IsNewerAtSlot}
 use Rattle.node_ties.specs.owner_index_tie.Filing.{FilesOwed, IsSameLog, OwedAct, OwedEffect, after_act, after_effect, filed_after, with_name}
 use Rattle.segment_format.specs.declared.segment.Segment.{Segment}
 use Rattle.version_model.specs.declared.act.Act.{Act}
@@ -173,7 +173,7 @@ module _ (whole : LogsStayWhole) (texts : Texts) (l : ℕ) (g : Setting) (o : Ne
 
 pub clients_files_are_owed : WhatFlewIsWritten → LogsStayWhole → ClientsFilesAreOwed
 clients_files_are_owed written whole part texts c g o f outs k acts says new =
-    owed whole texts c g o k written (IsNews part) f outs acts.filed acts.short says new
+    owed whole texts c g o k written (IsNewerAtSlot part) f outs acts.filed acts.short says new
 
 pub cleaners_files_are_owed : WhatFlewIsWritten → LogsStayWhole → CleanersFilesAreOwed
 cleaners_files_are_owed written whole part texts n p g o f outs k acts says new =

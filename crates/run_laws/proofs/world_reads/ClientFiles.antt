@@ -13,7 +13,7 @@ use Rattle.client_node.specs.Phases.{takes}
 use Rattle.client_serving.specs.declared.serving.Serving.{Serving as ServingClient}
 use Rattle.core_world.specs.declared.any_node.AnyNode.{AnyNode}
 use Rattle.core_world.specs.declared.any_node.AnyNode.TheVariants as any
-use Rattle.run_laws.specs.index_reads.Clients.{NothingIsNews}
+use Rattle.run_laws.specs.index_reads.Clients.{NothingIsNewer}
 use Rattle.run_laws.specs.index_reads.Ties.{Tied}
 use Rattle.index_tie.specs.Filed.{Filed}
 use Rattle.index_tie.specs.Growth.{with_segment}
@@ -37,7 +37,7 @@ use Rattle.node_ties.specs.node_tie.LogRows.{rows_told}
 use Rattle.node_ties.proofs.owner_index_tie.Acting.{all_then}
 use Rattle.node_ties.proofs.owner_index_tie.Growing.{head_is}
 use Rattle.node_ties.specs.owner_index_tie.Acting.{IsFlight}
-use Rattle.node_ties.specs.owner_index_tie.ClientEvents.{ClientAgrees, EventGets, IsNews}
+use Rattle.node_ties.specs.owner_index_tie.ClientEvents.{ClientAgrees, EventGets, IsNewerAtSlot}
 use Rattle.node_ties.specs.owner_index_tie.Filing.{FilesOwed, after_act, after_effect, with_name}
 use Rattle.segment_format.specs.declared.segment.Segment.{Segment}
 use Rattle.segment_format.specs.Rows.{row_of, rows_of}
@@ -62,10 +62,10 @@ use Rattle.xfs_base.specs.declared.segment.SegName.{SegName}
 
 -- ---- what is new, in what is filed on the way
 
-module _ (nothing : NothingIsNews) (part : ℕ) (texts : Named) (l : ℕ) (f : Filed) where
+module _ (nothing : NothingIsNewer) (part : ℕ) (texts : Named) (l : ℕ) (f : Filed) where
   -- a name is of what was filed, or its text says nothing, or it is the next one, and news
   abbrev pub IsKnown : SegName → Type 0
-  IsKnown name = (name.seq ≤ f.head l) ⊎ ((rows_of (texts name) ≡ []) ⊎ ((name.seq ≡ suc (f.head l)) × IsNews part f (texts name)))
+  IsKnown name = (name.seq ≤ f.head l) ⊎ ((rows_of (texts name) ≡ []) ⊎ ((name.seq ≡ suc (f.head l)) × IsNewerAtSlot part f (texts name)))
 
   -- what is filed on the way: as before, or some more of the log
   abbrev Past : Filed → Type 0
@@ -75,10 +75,10 @@ module _ (nothing : NothingIsNews) (part : ℕ) (texts : Named) (l : ℕ) (f : F
   no_less h (inl same) = (let e = ap (λ (x : Filed). x.head l) same in omega arith)
   no_less h (inr more) = omega arith
 
-  new_name : (h : Filed) → Past h → (name : SegName) → IsKnown name → name.seq ≡ suc (h.head l) → IsNews part h (texts name)
+  new_name : (h : Filed) → Past h → (name : SegName) → IsKnown name → name.seq ≡ suc (h.head l) → IsNewerAtSlot part h (texts name)
   new_name h past name (inl old) next = absurd (let a = no_less h past in omega arith)
   new_name h past name (inr (inl none)) next = nothing part h (texts name) none
-  new_name h (inl same) name (inr (inr news)) next = subst (λ x. IsNews part x (texts name)) (sym same) news.1
+  new_name h (inl same) name (inr (inr news)) next = subst (λ x. IsNewerAtSlot part x (texts name)) (sym same) news.1
   new_name h (inr more) name (inr (inr news)) next = absurd (let a = news.0 in omega arith)
 
   past_name : (h : Filed) → Past h → (name : SegName) → Past (with_name texts l h name)
@@ -86,22 +86,22 @@ module _ (nothing : NothingIsNews) (part : ℕ) (texts : Named) (l : ℕ) (f : F
       by_test Past (name.seq == suc (h.head l)) (with_segment h l (texts name)) h
       (λ next. inr (let a = no_less h past in let b = head_is l h (texts name) in omega arith)) (λ _. past)
 
-  new_act : (h : Filed) → Past h → (a : Act) → ActSo IsKnown a → NewAct (IsNews part) texts l h a × Past (after_act texts l h a)
+  new_act : (h : Filed) → Past h → (a : Act) → ActSo IsKnown a → NewAct (IsNewerAtSlot part) texts l h a × Past (after_act texts l h a)
   new_act h past (ActsFiled name) known = (new_name h past name known, past_name h past name)
   new_act h past _ known = (tt, past)
 
-  new_effect : (h : Filed) → Past h → (x : Effect) → EffectSo IsKnown x → NewEffect (IsNews part) texts l h x × Past (after_effect texts l h x)
+  new_effect : (h : Filed) → Past h → (x : Effect) → EffectSo IsKnown x → NewEffect (IsNewerAtSlot part) texts l h x × Past (after_effect texts l h x)
   new_effect h past (Send to m) known = (tt, past)
   new_effect h past (Answer item answer) known = (tt, past)
   new_effect h past (Lose seg) known = (tt, past)
   new_effect h past (Does act) known = new_act h past act known
 
-  all_from : (h : Filed) → Past h → (outs : List Effect) → AllSo IsKnown outs → AllNew (IsNews part) texts l h outs
+  all_from : (h : Filed) → Past h → (outs : List Effect) → AllSo IsKnown outs → AllNew (IsNewerAtSlot part) texts l h outs
   all_from h past [] known = tt
   all_from h past (x ∷ outs) known = (let a = new_effect h past x known.0 in (a.0, all_from (after_effect texts l h x) a.1 outs known.1))
 
   -- so all is new, each where it is the next one
-  pub all_new : (outs : List Effect) → AllSo IsKnown outs → AllNew (IsNews part) texts l f outs
+  pub all_new : (outs : List Effect) → AllSo IsKnown outs → AllNew (IsNewerAtSlot part) texts l f outs
   all_new outs known = all_from f (inl refl) outs known
 
 -- ---- an event of a client
@@ -187,7 +187,7 @@ module _ (base : Setting) (e : Estate AnyNode) (lines : HasLines base e) (texts 
       (z.0 ∙ ap suc (x.joint.books.end c there.0 (let b = below in omega arith)), z.1)
 
   pub flight_news : (flight : FlightState) → last_flight at.run ≡ Some flight → (t : Segment) → In t v.net.flown → t.items ≡ flight.segment.items
-      → IsNews part filed t
+      → IsNewerAtSlot part filed t
   flight_news flight is t flown same =
       let z = log.original base e lines texts part first count c there laws event node x t flown in
       laws.news (index.members (k base e lines texts part first)) part (held_in part texts.text) (with_promise 1 x.joint.tok.net) i.net c t tied
@@ -237,7 +237,7 @@ module _ (base : Setting) (e : Estate AnyNode) (lines : HasLines base e) (texts 
       let text : texts.text name ≡ f.0.segment = ap texts.text (sym f.2) ∙ text_is f.0.segment flown in
       inr (inr (
         ap (λ (y : SegName). y.seq) (sym f.2) ∙ (flight_next f.0 is).0,
-        subst (IsNews part filed) (sym text) (flight_news f.0 is f.0.segment flown refl),
+        subst (IsNewerAtSlot part filed) (sym text) (flight_news f.0 is f.0.segment flown refl),
       ))
 
   -- where it comes to serve
@@ -248,7 +248,7 @@ module _ (base : Setting) (e : Estate AnyNode) (lines : HasLines base e) (texts 
       (λ nothing. inr (inl (subst (λ (s : Segment). rows_of s ≡ []) (sym text) (says_nothing t.0 (x.apart t.0.items [] (nothing ∙ sym base.no_content))))))
       (λ f. inr (inr (
         ap (λ (y : SegName). y.seq) (sym t.2) ∙ (f.2.seq ∙ (flight_next f.0 f.1).0),
-        subst (IsNews part filed) (sym text) (flight_news f.0 f.1 t.0 t.1 (x.apart t.0.items f.0.segment.items f.2.content)),
+        subst (IsNewerAtSlot part filed) (sym text) (flight_news f.0 f.1 t.0 t.1 (x.apart t.0.items f.0.segment.items f.2.content)),
       ))) t.3
     where
       says_nothing : (s : Segment) → s.items ≡ [] → rows_of s ≡ []
@@ -296,7 +296,7 @@ module _ (base : Setting) (e : Estate AnyNode) (lines : HasLines base e) (texts 
             (laws.flights part texts.text g c w i.net node (what_of event) s there.0 below sure sees.room (flight_says s is) sees.agrees is agrees gets).flights
 
     -- it is owed
-    pub files_owed : FilesOwed (IsNews part) texts.text c filed outs
+    pub files_owed : FilesOwed (IsNewerAtSlot part) texts.text c filed outs
     files_owed = laws.owed part texts.text c g v.net filed outs (log.is_sure_then base e lines texts part first count c there laws event node x) acts_file
         (all_then (λ name. In name v.net.filed) (λ name. SaysBlocks (texts.text name)) named_says outs
         (log.acts_filed base e lines texts part first count c there laws event node x))

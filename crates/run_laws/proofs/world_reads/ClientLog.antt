@@ -7,7 +7,7 @@ use Rattle.client_node.specs.Phases.{Went_to, client_step, lasting_of, takes}
 use Rattle.core_world.specs.AnyNode.{any_step}
 use Rattle.core_world.specs.declared.any_node.AnyNode.{AnyNode}
 use Rattle.core_world.specs.declared.any_node.AnyNode.TheVariants as any
-use Rattle.run_laws.specs.index_reads.Clients.{FlightsAreNews, NothingIsNews}
+use Rattle.run_laws.specs.index_reads.Clients.{FlightsAreNews, NothingIsNewer}
 use Rattle.index_tie.specs.Filed.{Filed}
 use Rattle.log_law.specs.Held.{WhatIsHeldFlew}
 use Rattle.log_law.specs.Laws.{LogsStayWhole, Moment}
@@ -60,7 +60,7 @@ pub record ClientLaws : Type 0 where
   pub written : WhatFlewIsWritten
   pub tail : ARestartFilesTheTail
   pub news : FlightsAreNews
-  pub nothing : NothingIsNews
+  pub nothing : NothingIsNewer
   pub read_back : ReopeningsReadBack
 
 module _ (base : Setting) (e : Estate AnyNode) (lines : HasLines base e) (texts : Texts base e lines) (part : ℕ) (first : ℕ → ℕ → Segment) (count c : ℕ)

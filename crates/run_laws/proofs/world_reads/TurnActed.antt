@@ -19,7 +19,7 @@ use Rattle.node_ties.proofs.owner_index_tie.Growing.{head_is, segment_is}
 use Rattle.node_ties.proofs.owner_index_tie.Running.{others_after}
 use Rattle.node_ties.specs.owner_index_tie.Acting.{ActSo, AllSo, EffectSo}
 use Rattle.node_ties.specs.owner_index_tie.CleanerEvents.{NewFor}
-use Rattle.node_ties.specs.owner_index_tie.ClientEvents.{IsNews}
+use Rattle.node_ties.specs.owner_index_tie.ClientEvents.{IsNewerAtSlot}
 use Rattle.node_ties.specs.owner_index_tie.Filing.{FilesNext, FilesOwed, IsSameLog, OwedAct, OwedEffect, after_act, after_effect, filed_after, with_name}
 use Rattle.segment_format.specs.declared.segment.Segment.{Segment}
 use Rattle.token_protocol.specs.Basics.{In}
@@ -170,7 +170,7 @@ module _ (base : Setting) (e : Estate AnyNode) (lines : HasLines base e) (texts 
       acted_then (Client d) own (any.Client node) took owed makes was =
           let its : owns d (node_of event) ≡ true = ap (owns d) own ∙ itself d in
           subst (Acted (suc count)) (sym (ap (λ (x : index.Net). x.filed) makes))
-          (own_acted d its (IsNews part) n.filed (Client (lasting_of node.phase).number) (client_takes node what).outs owed.files
+          (own_acted d its (IsNewerAtSlot part) n.filed (Client (lasting_of node.phase).number) (client_takes node what).outs owed.files
           (λ a is. did_then e d count event (any.Client node) at_event its took a is) was)
       acted_then Cleaner own (any.Cleaner node) took owed makes was =
           let its : owns 9 (node_of event) ≡ true = ap (owns 9) own in

@@ -5,7 +5,7 @@ use Rattle.checkpoint.specs.WriterState.{Rows}
 use Rattle.index_tie.specs.Filed.{Filed}
 use Rattle.index_tie.specs.Net as index
 use Rattle.node_ties.specs.node_tie.LogRows.{rows_told}
-use Rattle.node_ties.specs.owner_index_tie.ClientEvents.{IsNews}
+use Rattle.node_ties.specs.owner_index_tie.ClientEvents.{IsNewerAtSlot}
 use Rattle.segment_format.specs.Rows.{rows_of}
 use Rattle.segment_format.specs.declared.segment.Segment.{Segment}
 use Rattle.token_law.specs.Laws.{IsClient}
@@ -29,8 +29,8 @@ pub record IsFlight (t : tokens.Net) (c : ℕ) (s : Segment) : Type 0 where
 abbrev pub FlightsAreNews : Type 0
 FlightsAreNews =
     (members part : ℕ) (holds : SegRef → Rows) (t : tokens.Net) (i : index.Net) (c : ℕ) (s : Segment) → Tied members part holds t i → IsClient members c
-    → IsFlight t c s → IsNews part i.filed s
+    → IsFlight t c s → IsNewerAtSlot part i.filed s
 
 -- A segment that says nothing of blocks is news of each.
-abbrev pub NothingIsNews : Type 0
-NothingIsNews = (part : ℕ) (f : Filed) (s : Segment) → rows_of s ≡ [] → IsNews part f s
+abbrev pub NothingIsNewer : Type 0
+NothingIsNewer = (part : ℕ) (f : Filed) (s : Segment) → rows_of s ≡ [] → IsNewerAtSlot part f s

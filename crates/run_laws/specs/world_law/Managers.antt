@@ -15,7 +15,7 @@ use Rattle.slot_beliefs.specs.Beliefs.{share_of}
 use Rattle.token_client.specs.State.{TokensState, epoch_of, held_of, is_in_slot}
 use Rattle.token_client.specs.Transition.{accepts}
 use Rattle.token_manager.specs.SlotState.{SlotState}
-use Rattle.token_tie.specs.Seen.{rank}
+use Rattle.token_tie.specs.Seen.{mode_number}
 use Rattle.wire_msg.specs.declared.body.Body.TheVariants as body
 use Rattle.wire_msg.specs.declared.packet.Packet.{Packet}
 use Rattle.wire_msg.specs.declared.tokens.Grant.{Grant}
@@ -85,12 +85,12 @@ pub record HasOneManager (w : World AnyNode) (part : ℕ) : Type 0 where
   pub cleaner_promised : (j : ℕ) (s : SlotState) (p : Promised) → active_at w part j ≡ Some s → promised_at w ≡ Some p → s.epoch ≤ epoch_of p.epochs part
   -- who manages it at the registry's epoch believes of each client that serves at least what that holds
   pub believed : (j c : ℕ) (s : SlotState) (t : TokensState) (b : BlockId) → active_at w part j ≡ Some s → s.epoch ≡ epoch_at w part → tokens_at w c ≡ Some t
-      → is_in_slot part b ≡ true → rank (held_of t.blocks b).mode ≤ share_of s.beliefs b c
+      → is_in_slot part b ≡ true → mode_number (held_of t.blocks b).mode ≤ share_of s.beliefs b c
   -- and what a Grant that was sent to it would give, where it would still accept that
   pub acceptable : (j c : ℕ) (s : SlotState) (t : TokensState) (packet : Packet) (m : Grant) → active_at w part j ≡ Some s → s.epoch ≡ epoch_at w part
       → tokens_at w c ≡ Some t
       → WasSent w.sent packet → packet.to ≡ nodes.Client c → packet.body ≡ body.Grant m → is_in_slot part m.block ≡ true
-      → accepts t m.block m.stamp m.inc m.req m.mode ≡ true → rank m.mode ≤ share_of s.beliefs m.block c
+      → accepts t m.block m.stamp m.inc m.req m.mode ≡ true → mode_number m.mode ≤ share_of s.beliefs m.block c
 
 -- at each moment of a run each slot has one manager at an epoch at most
 abbrev pub OneManagerThroughout : Estate AnyNode → Type 0

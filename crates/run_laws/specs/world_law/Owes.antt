@@ -29,11 +29,11 @@ use Rattle.xfs_base.specs.declared.node.NodeId.TheVariants.{Client, Manager, Cle
 -- ---- what is owed
 
 -- what a client reads, and where the opening of its log ends
-module _ (part most : ℕ) (n : Net) where
+module _ (part last_epoch : ℕ) (n : Net) where
   abbrev pub ClientTold : ℕ → ClientPhase → Do → Type 0
   ClientTold c p Begin = Unit {0}
-  ClientTold c p (Deliver packet) = ReadsSo part most c n p packet
-  ClientTold c p Tick = EndsInTime part most c n p
+  ClientTold c p (Deliver packet) = ReadsSo part last_epoch c n p packet
+  ClientTold c p Tick = EndsInTime part last_epoch c n p
 
 -- the Deltas that a slot takes, and what a takeover gathers
 module _ (members part : ℕ) (n : Net) where
@@ -56,15 +56,15 @@ module _ (members part : ℕ) (n : Net) where
 
 -- Of the node of this name; servers and the registry are owed nothing, nor are a client and the cleaner of an event that is not taken. Of the cleaner it is said
 -- whether an opening that ends has what was in flight.
-abbrev pub NodeTold : Bool → (members part most : ℕ) → Net → NodeId → AnyNode → Do → Type 0
-NodeTold adopted members part most n (Client c) (any.Client node) what = client.IsTaken node what → ClientTold part most n c node.phase what
-NodeTold adopted members part most n (Manager j) (any.Manager node) what = ManagerTold members part n node.phase what
-NodeTold adopted members part most n Cleaner (any.Cleaner node) what = cleaner.IsTaken node what → CleanerTold n.books adopted node.phase what
-NodeTold adopted members part most n name node what = Unit {0}
+abbrev pub NodeTold : Bool → (members part last_epoch : ℕ) → Net → NodeId → AnyNode → Do → Type 0
+NodeTold adopted members part last_epoch n (Client c) (any.Client node) what = client.IsTaken node what → ClientTold part last_epoch n c node.phase what
+NodeTold adopted members part last_epoch n (Manager j) (any.Manager node) what = ManagerTold members part n node.phase what
+NodeTold adopted members part last_epoch n Cleaner (any.Cleaner node) what = cleaner.IsTaken node what → CleanerTold n.books adopted node.phase what
+NodeTold adopted members part last_epoch n name node what = Unit {0}
 
 -- what logs owe this event of this node, where they keep their word
-abbrev pub TurnOwes : (logs adopted : Bool) → (members part most : ℕ) → Net → NodeId → AnyNode → Do → Type 0
-TurnOwes logs adopted members part most n name node what = Premise logs (NodeTold adopted members part most n name node what)
+abbrev pub TurnOwes : (logs adopted : Bool) → (members part last_epoch : ℕ) → Net → NodeId → AnyNode → Do → Type 0
+TurnOwes logs adopted members part last_epoch n name node what = Premise logs (NodeTold adopted members part last_epoch n name node what)
 
 -- ---- what becomes of the books
 

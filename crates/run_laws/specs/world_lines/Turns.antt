@@ -17,7 +17,7 @@ use Rattle.node_base.specs.declared.effects.Effect.TheVariants.{Send, Answer, Lo
 use Rattle.node_ties.specs.node_index_tie.Sight.{Texts}
 pub use Rattle.node_ties.specs.owner_index_tie.Acting.{ActSo, AllSo, EffectSo}
 use Rattle.node_ties.specs.owner_index_tie.CleanerEvents.{NewFor}
-use Rattle.node_ties.specs.owner_index_tie.ClientEvents.{IsNews}
+use Rattle.node_ties.specs.owner_index_tie.ClientEvents.{IsNewerAtSlot}
 use Rattle.node_ties.specs.owner_index_tie.Filing.{FilesOwed, IsSameLog, after_effect, filed_after}
 use Rattle.segment_format.specs.declared.segment.Segment.{Segment}
 use Rattle.version_model.specs.declared.act.Act.{Act}
@@ -61,7 +61,7 @@ abbrev pub ClientsFilesAreOwed : Type 0
 ClientsFilesAreOwed =
     (part : ℕ) (texts : Texts) (c : ℕ) (g : Setting) (o : Net) (f : Filed) (outs : List Effect) → IsSure texts c g o → ActsFile o outs
     → AllSo (λ name. SaysBlocks (texts name)) outs
-    → AllNew (IsNews part) texts c f outs → FilesOwed (IsNews part) texts c f outs
+    → AllNew (IsNewerAtSlot part) texts c f outs → FilesOwed (IsNewerAtSlot part) texts c f outs
 
 -- and of the cleaner
 abbrev pub CleanersFilesAreOwed : Type 0

@@ -9,7 +9,7 @@ use Rattle.telling_ties.specs.entry_tie.OtherTells.{RegistryTellsNone, ServersTe
 use Rattle.run_laws.specs.epoch_law.Managers.{TokensAreGiven}
 use Rattle.run_laws.specs.epoch_law.Polls.{CleanerPollsAreLow, ClientPollsAreLow, HorizonsStay}
 use Rattle.run_laws.specs.epoch_law.Slots.{SlotsStartSame, SlotsStaySame}
-use Rattle.run_laws.specs.index_reads.Clients.{FlightsAreNews, NothingIsNews}
+use Rattle.run_laws.specs.index_reads.Clients.{FlightsAreNews, NothingIsNewer}
 use Rattle.run_laws.specs.index_reads.Managers.{DeltasAreCovered}
 use Rattle.index_tie.specs.NetLaws.{CheckpointsHaveManagers, EachIndexIsTheJoin, NewestIsNeverDeleted}
 use Rattle.log_law.specs.Ends.{EndsAreLast}
@@ -109,7 +109,7 @@ pub record IndexBelow : Type 0 where
   pub newest_is_never_deleted : NewestIsNeverDeleted
   pub checkpoints_have_managers : CheckpointsHaveManagers
   pub flights_are_news : FlightsAreNews
-  pub nothing_is_news : NothingIsNews
+  pub nothing_is_news : NothingIsNewer
   pub deltas_are_covered : DeltasAreCovered
 
 -- what nodes tell of where blocks lie, and what they read

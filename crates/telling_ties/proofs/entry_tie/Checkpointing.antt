@@ -42,8 +42,8 @@ module _ (told : Told) (nothing : AllowsNothing told) where
   -- ---- the writer of checkpoints
 
   -- what is sent is told
-  abbrev Gives : Effect → Type 0
-  Gives e = Says told nothing e
+  abbrev GivesSo : Effect → Type 0
+  GivesSo e = Says told nothing e
 
   abbrev WriterHolds : WriterState → Type 0
   WriterHolds s = IfSome s.work (WorkHolds told)
@@ -109,7 +109,7 @@ module _ (told : Told) (nothing : AllowsNothing told) where
   -- ---- what the writer says
 
   abbrev pub Goes : Done → Type 0
-  Goes d = Leaves (ServingHolds told) Gives d
+  Goes d = Leaves (ServingHolds told) GivesSo d
 
   pub saying : (s : Serving) (outs : List Effect) → ServingHolds told s → AllSay told nothing outs → Goes (gives s outs)
   saying s outs h is = record { state = h; outs = is }
@@ -123,7 +123,7 @@ module _ (told : Told) (nothing : AllowsNothing told) where
   unfolding gives_parts
   parts_on s items h is = record {
     state = record { slots = h.slots; pages = h.pages; log = parts_hold told s.log items is h.log };
-    outs = all_flat_map Gives stored one_stored (log.transition s.log (log_input.Parts items)).outs;
+    outs = all_flat_map GivesSo stored one_stored (log.transition s.log (log_input.Parts items)).outs;
   }
 
   registers_on : (s : Serving) (done : CkptDone) → ServingHolds told s → Goes (registers s done)
@@ -144,7 +144,7 @@ module _ (told : Told) (nothing : AllowsNothing told) where
   unfolding writer_takes says_each
   writer_on s given h is =
       let d = writer_goes s.writer given h.pages is in
-      leaves_each (ServingHolds told) Gives OutTold says says_on (record s { writer = (writer.transition s.writer given).state })
+      leaves_each (ServingHolds told) GivesSo OutTold says says_on (record s { writer = (writer.transition s.writer given).state })
       (writer.transition s.writer given).outs (record { slots = h.slots; pages = d.state; log = h.log }) d.outs
 
   -- ---- the log of checkpoints
@@ -152,7 +152,7 @@ module _ (told : Told) (nothing : AllowsNothing told) where
   settles_on : (s : Serving) (end : End) → ServingHolds told s → Goes (on_settled s end)
   unfolding on_settled
   settles_on s end h =
-      goes_after (ServingHolds told) Gives (filed s end) (writer_takes s (writer_in.Settled end)) (tt, tt)
+      goes_after (ServingHolds told) GivesSo (filed s end) (writer_takes s (writer_in.Settled end)) (tt, tt)
       (writer_on s (writer_in.Settled end) h tt)
 
   log_says_on : (s : Serving) (o : LogOut) → ServingHolds told s → Unit {0} → Goes (log_says s o)
@@ -166,7 +166,7 @@ module _ (told : Told) (nothing : AllowsNothing told) where
   writes_on : (s : Serving) (given : LogIn) → ServingHolds told s → LogHolds told (log.transition s.log given).state → Goes (writes s given)
   unfolding writes log_says_each
   writes_on s given h logs =
-      leaves_each (ServingHolds told) Gives Any log_says log_says_on (record s { log = (log.transition s.log given).state })
+      leaves_each (ServingHolds told) GivesSo Any log_says log_says_on (record s { log = (log.transition s.log given).state })
       (log.transition s.log given).outs (record { slots = h.slots; pages = h.pages; log = logs })
       (all_each Any (λ o. tt) (log.transition s.log given).outs)
 

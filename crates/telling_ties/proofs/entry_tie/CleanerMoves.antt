@@ -49,8 +49,8 @@ module _ (told : Told) where
   abbrev Outs : List Out → Type 0
   Outs outs = AllByRecursion (OutMoved told) outs
 
-  abbrev Gives : Turn → Type 0
-  Gives t = Outs t.outs
+  abbrev GivesSo : Turn → Type 0
+  GivesSo t = Outs t.outs
 
   -- ---- lists of words
 
@@ -81,30 +81,30 @@ module _ (told : Told) where
 
   -- ---- the segment in hand
 
-  next_gives : (j : JobState) → Gives (next j)
+  next_gives : (j : JobState) → GivesSo (next j)
   next_gives j = by j.left
     where
-      by : (left : List SegRef) → Gives (next_of left j)
+      by : (left : List SegRef) → GivesSo (next_of left j)
       by [] = (tt, tt)
       by (segment ∷ left) = (tt, tt)
 
-  deleting_gives : (j : JobState) (segment : SegRef) → Gives (deleting j segment)
+  deleting_gives : (j : JobState) (segment : SegRef) → GivesSo (deleting j segment)
   deleting_gives j segment = deletes_out segment.name (job.servers_of j.groups segment)
 
-  checking_gives : (j : JobState) (segment : SegRef) (checks : List Check) → Gives (checking j segment checks)
+  checking_gives : (j : JobState) (segment : SegRef) (checks : List Check) → GivesSo (checking j segment checks)
   unfolding checking
-  checking_gives j segment checks = by_test Gives (all_dead checks) (deleting j segment) _ (λ t. deleting_gives j segment) (λ t. questions_out segment checks)
+  checking_gives j segment checks = by_test GivesSo (all_dead checks) (deleting j segment) _ (λ t. deleting_gives j segment) (λ t. questions_out segment checks)
 
-  looked_gives : (j : JobState) (segment : SegRef) (was_asked : Bool) (checks : List Check) → Checks told checks → Gives (looked_at j segment was_asked checks)
+  looked_gives : (j : JobState) (segment : SegRef) (was_asked : Bool) (checks : List Check) → Checks told checks → GivesSo (looked_at j segment was_asked checks)
   unfolding looked_at
   looked_gives j segment was_asked checks all =
-      by_test Gives (all_dead checks) (deleting j segment) _ (λ t. deleting_gives j segment)
-      (λ t. by_test Gives (was_asked && not (any_asked checks)) _ _ (λ u. (moves_told checks all, tt)) (λ u. tt))
+      by_test GivesSo (all_dead checks) (deleting j segment) _ (λ t. deleting_gives j segment)
+      (λ t. by_test GivesSo (was_asked && not (any_asked checks)) _ _ (λ u. (moves_told checks all, tt)) (λ u. tt))
 
   -- ---- each phase
 
-  forgetting_gives : (slot : ℕ) (p : Phase) → Gives (forgetting slot p)
-  forgetting_gives slot (Counting c) = by_test Gives (has_usage c.usages slot) _ (still (Counting c)) (λ t. (tt, tt)) (λ t. tt)
+  forgetting_gives : (slot : ℕ) (p : Phase) → GivesSo (forgetting slot p)
+  forgetting_gives slot (Counting c) = by_test GivesSo (has_usage c.usages slot) _ (still (Counting c)) (λ t. (tt, tt)) (λ t. tt)
   forgetting_gives slot Greeting = tt
   forgetting_gives slot (Listing l) = tt
   forgetting_gives slot (Reading j segment) = tt
@@ -112,10 +112,10 @@ module _ (told : Told) where
   forgetting_gives slot (Deleting j segment servers) = tt
   forgetting_gives slot Over = tt
 
-  listed_gives : (server : ℕ) (held : List FragMeta) (p : Phase) → Gives (listed_in server held p)
+  listed_gives : (server : ℕ) (held : List FragMeta) (p : Phase) → GivesSo (listed_in server held p)
   listed_gives server held (Listing l) =
-      by_test Gives (is_among l.awaited server) (listed (heard l server held)) (still (Listing l))
-      (λ t. by_test Gives (length (heard l server held).awaited == 0) _ _ (λ u. usages_out all_slots) (λ u. tt)) (λ t. tt)
+      by_test GivesSo (is_among l.awaited server) (listed (heard l server held)) (still (Listing l))
+      (λ t. by_test GivesSo (length (heard l server held).awaited == 0) _ _ (λ u. usages_out all_slots) (λ u. tt)) (λ t. tt)
   listed_gives server held (Counting c) = tt
   listed_gives server held Greeting = tt
   listed_gives server held (Reading j segment) = tt
@@ -123,10 +123,10 @@ module _ (told : Told) where
   listed_gives server held (Deleting j segment servers) = tt
   listed_gives server held Over = tt
 
-  counted_gives : (count slot : ℕ) (counts : List (SegName × ℕ)) (p : Phase) → Gives (counted_in count slot counts p)
+  counted_gives : (count slot : ℕ) (counts : List (SegName × ℕ)) (p : Phase) → GivesSo (counted_in count slot counts p)
   counted_gives count slot counts (Counting c) =
-      by_test Gives (has_usage c.usages slot) (still (Counting c)) (steps.counted count (usage_with slot counts c)) (λ t. tt)
-      (λ t. by_test Gives (is_counted (usage_with slot counts c).usages) _ _ (λ u. next_gives _) (λ u. tt))
+      by_test GivesSo (has_usage c.usages slot) (still (Counting c)) (steps.counted count (usage_with slot counts c)) (λ t. tt)
+      (λ t. by_test GivesSo (is_counted (usage_with slot counts c).usages) _ _ (λ u. next_gives _) (λ u. tt))
   counted_gives count slot counts (Listing l) = tt
   counted_gives count slot counts Greeting = tt
   counted_gives count slot counts (Reading j segment) = tt
@@ -134,10 +134,10 @@ module _ (told : Told) where
   counted_gives count slot counts (Deleting j segment servers) = tt
   counted_gives count slot counts Over = tt
 
-  read_gives : (read : Option Segment) (p : Phase) → Gives (read_in read p)
+  read_gives : (read : Option Segment) (p : Phase) → GivesSo (read_in read p)
   read_gives None (Reading j segment) = next_gives j
   read_gives (Some read) (Reading j segment) =
-      by_test Gives (same_name read.name segment.name) (checking j segment (checks_from 0 read.items)) (still (Reading j segment))
+      by_test GivesSo (same_name read.name segment.name) (checking j segment (checks_from 0 read.items)) (still (Reading j segment))
       (λ t. checking_gives j segment (checks_from 0 read.items)) (λ t. tt)
   read_gives read (Counting c) = tt
   read_gives read (Listing l) = tt
@@ -146,7 +146,7 @@ module _ (told : Told) where
   read_gives read (Deleting j segment servers) = tt
   read_gives read Over = tt
 
-  answered_gives : (f : Check → Check) → ((c : Check) → CheckTold told c → CheckTold told (f c)) → (p : Phase) → CheckingTold told p → Gives (answered_in f p)
+  answered_gives : (f : Check → Check) → ((c : Check) → CheckTold told c → CheckTold told (f c)) → (p : Phase) → CheckingTold told p → GivesSo (answered_in f p)
   answered_gives f each (Checking j segment checks) h = looked_gives j segment (any_asked checks) (map f checks) (all_mapped told f each checks h)
   answered_gives f each (Counting c) h = tt
   answered_gives f each (Listing l) h = tt
@@ -155,9 +155,9 @@ module _ (told : Told) where
   answered_gives f each (Deleting j segment servers) h = tt
   answered_gives f each Over h = tt
 
-  moved_gives : (p : Phase) → Gives (moved_in p)
+  moved_gives : (p : Phase) → GivesSo (moved_in p)
   moved_gives (Checking j segment checks) =
-      by_test Gives (is_moving checks) _ (still (Checking j segment checks)) (λ t. questions_out segment (map moved_at checks)) (λ t. tt)
+      by_test GivesSo (is_moving checks) _ (still (Checking j segment checks)) (λ t. questions_out segment (map moved_at checks)) (λ t. tt)
   moved_gives (Counting c) = tt
   moved_gives (Listing l) = tt
   moved_gives Greeting = tt
@@ -165,11 +165,11 @@ module _ (told : Told) where
   moved_gives (Deleting j segment servers) = tt
   moved_gives Over = tt
 
-  deleted_gives : (server : ℕ) (name : SegName) (p : Phase) → Gives (deleted_in server name p)
+  deleted_gives : (server : ℕ) (name : SegName) (p : Phase) → GivesSo (deleted_in server name p)
   deleted_gives server name (Deleting j segment servers) =
-      by_test Gives (same_name name segment.name && is_among servers server) (left_to_delete j segment (without servers server))
+      by_test GivesSo (same_name name segment.name && is_among servers server) (left_to_delete j segment (without servers server))
       (still (Deleting j segment servers))
-      (λ t. by_test Gives (length (without servers server) == 0) (next (counted j)) _ (λ u. next_gives (counted j)) (λ u. tt)) (λ t. tt)
+      (λ t. by_test GivesSo (length (without servers server) == 0) (next (counted j)) _ (λ u. next_gives (counted j)) (λ u. tt)) (λ t. tt)
   deleted_gives server name (Checking j segment checks) = tt
   deleted_gives server name (Counting c) = tt
   deleted_gives server name (Listing l) = tt

@@ -57,11 +57,11 @@ module _ (told : Told) (nothing : AllowsNothing told) where
   abbrev pub TableHolds : Table → Type 0
   TableHolds t = AllByRecursion (SlotHolds told) t
 
-  abbrev Gives : Effect → Type 0
-  Gives e = Says told nothing e
+  abbrev GivesSo : Effect → Type 0
+  GivesSo e = Says told nothing e
 
   abbrev pub TableGoes : Done → Type 0
-  TableGoes d = Leaves TableHolds Gives d
+  TableGoes d = Leaves TableHolds GivesSo d
 
   -- an event of one slot
   at_slot-goes : (t : Table) (k : ℕ) (event : SlotPhase → Stepped SlotPhase Effect) → ((p : SlotPhase) → SlotHolds told p → PhaseGoes told nothing (event p))
@@ -114,7 +114,7 @@ module _ (told : Told) (nothing : AllowsNothing told) where
   any_slots = all_each Any (λ k. tt) all_slots
 
   pub table_recalls : (t : Table) → TableHolds t → TableGoes (recalls_all t)
-  table_recalls t h = leaves_each TableHolds Gives Any recalls one_recalls t all_slots h any_slots
+  table_recalls t h = leaves_each TableHolds GivesSo Any recalls one_recalls t all_slots h any_slots
 
   -- ---- takeovers
 
@@ -122,7 +122,7 @@ module _ (told : Told) (nothing : AllowsNothing told) where
   TableAskerHolds a = TableHolds a.table
 
   abbrev pub TableAsks : Asks → Type 0
-  TableAsks d = Leaves TableAskerHolds Gives d
+  TableAsks d = Leaves TableAskerHolds GivesSo d
 
   at_taken-goes : (a : TableAsker) (k : ℕ) (event : Asker → Stepped Asker Effect)
       → ((p : SlotPhase) → slice_get a.table k ≡ Some p → SlotHolds told p → PhaseAsks told nothing (event (asker p a.questions)))
@@ -153,13 +153,13 @@ module _ (told : Told) (nothing : AllowsNothing told) where
       at_taken-goes a k (λ one. takeovers.asks_again one k polls) (λ p at here. asker_asks told nothing (asker p a.questions) k polls here) h
 
   pub table_asks : (polls : Bool) (a : TableAsker) → TableAskerHolds a → TableAsks (asks_all polls a)
-  table_asks polls a h = leaves_each TableAskerHolds Gives Any (asks polls) (one_asks polls) a all_slots h any_slots
+  table_asks polls a h = leaves_each TableAskerHolds GivesSo Any (asks polls) (one_asks polls) a all_slots h any_slots
 
   one_regroups : (groups : GroupMapState) (a : TableAsker) (k : ℕ) → TableAskerHolds a → Any k → TableAsks (regroups groups a k)
   one_regroups groups a k h any = table_takes a k (take_in.Maps groups) h (λ p at. tt)
 
   pub table_regroups : (groups : GroupMapState) (a : TableAsker) → TableAskerHolds a → TableAsks (regroups_all groups a)
-  table_regroups groups a h = leaves_each TableAskerHolds Gives Any (regroups groups) (one_regroups groups) a all_slots h any_slots
+  table_regroups groups a h = leaves_each TableAskerHolds GivesSo Any (regroups groups) (one_regroups groups) a all_slots h any_slots
 
   one_hears : (h : Hearer) (a : TableAsker) (news : SlotNews) → TableAskerHolds a → Unit {0} → TableAsks (hears h a news)
   unfolding hears
@@ -168,7 +168,7 @@ module _ (told : Told) (nothing : AllowsNothing told) where
 
   pub table_hears : (h : Hearer) (a : TableAsker) (slots : List SlotNews) → TableAskerHolds a → TableAsks (hears_all h a slots)
   table_hears h a slots before =
-      leaves_each TableAskerHolds Gives (λ news. Unit {0}) (hears h) (one_hears h) a slots before (all_each (λ news. Unit {0}) (λ news. tt) slots)
+      leaves_each TableAskerHolds GivesSo (λ news. Unit {0}) (hears h) (one_hears h) a slots before (all_each (λ news. Unit {0}) (λ news. tt) slots)
 
   -- ---- checkpoints
 

@@ -43,8 +43,8 @@ module _ (known : Known) (acts : List Act) (its_number : ℕ) (log : LogId) wher
   abbrev Flown : FlightState → Type 0
   Flown f = FiledKnown (end_from f.segment)
 
-  abbrev Gives : Done → Type 0
-  Gives d = AllByRecursion OutNames d.outs
+  abbrev GivesSo : Done → Type 0
+  GivesSo d = AllByRecursion OutNames d.outs
 
   some_sends : (f : FlightState) (members : List Member) (place : ℕ) → AllByRecursion OutNames (sends f members place)
   some_sends f [] place = tt
@@ -57,57 +57,57 @@ module _ (known : Known) (acts : List Act) (its_number : ℕ) (log : LogId) wher
   unfolding all_sends
   sends_all f = some_sends f f.group.members 0
 
-  launches : (s : LogState) (name : SegName) (prior : Prior) (items : List Item) → Gives (launched s name prior items)
+  launches : (s : LogState) (name : SegName) (prior : Prior) (items : List Item) → GivesSo (launched s name prior items)
   unfolding launched
   launches s name prior items = sends_all (flown name prior items (group_for s.groups s.log.0 name.seq))
 
-  seals : (s : LogState) → Gives (sealed s)
+  seals : (s : LogState) → GivesSo (sealed s)
   unfolding sealed
   seals s = launches _ _ _ _
 
-  fills : (s : LogState) → Gives (if_full s)
+  fills : (s : LogState) → GivesSo (if_full s)
   unfolding if_full
-  fills s = by_test Gives (is_full s) (sealed s) (still s) (λ _. seals s) (λ _. tt)
+  fills s = by_test GivesSo (is_full s) (sealed s) (still s) (λ _. seals s) (λ _. tt)
 
-  settles : (s : LogState) (f : FlightState) → Flown f → Gives (settled s f)
+  settles : (s : LogState) (f : FlightState) → Flown f → GivesSo (settled s f)
   unfolding settled
   settles s f is = all_append OutNames (Settled (end_from f.segment) (rows_of f.segment) ∷ []) (if_full (landed s f)).outs (is, tt) (fills (landed s f))
 
-  follows : (s : LogState) (f : FlightState) (fate : Fate) → Flown f → Gives (followed s f fate)
+  follows : (s : LogState) (f : FlightState) (fate : Fate) → Flown f → GivesSo (followed s f fate)
   unfolding restriped
   follows s f Restripe is = launches s _ _ _
   follows s f Settle is = settles s f is
   follows s f Wait is = tt
 
-  looks : (before s : LogState) (f : FlightState) → Flown f → Gives (looked_at before s f)
+  looks : (before s : LogState) (f : FlightState) → Flown f → GivesSo (looked_at before s f)
   unfolding looked_at
   looks before s f is =
-      by_test Gives (can_follow s f (fate_of s.groups f)) (followed s f (fate_of s.groups f)) (still before)
+      by_test GivesSo (can_follow s f (fate_of s.groups f)) (followed s f (fate_of s.groups f)) (still before)
       (λ _. follows s f (fate_of s.groups f) is) (λ _. tt)
 
-  pub acked_names : (s : LogState) (name : SegName) (index generation : ℕ) → FlightNames known acts its_number log s → Gives (on_acked s name index generation)
+  pub acked_names : (s : LogState) (name : SegName) (index generation : ℕ) → FlightNames known acts its_number log s → GivesSo (on_acked s name index generation)
   unfolding on_acked
   acked_names s name index generation flies = by s.flight refl
     where
       by : (o : Option FlightState) → s.flight ≡ o
-          → Gives (elim o [ None ↦ still s | Some f ↦ cond (is_of f name index generation) (looked_at s s (noting f index)) (still s) ])
+          → GivesSo (elim o [ None ↦ still s | Some f ↦ cond (is_of f name index generation) (looked_at s s (noting f index)) (still s) ])
       by None is = tt
       by (Some f) is =
-          by_test Gives (is_of f name index generation) (looked_at s s (noting f index)) (still s) (λ _. looks s s (noting f index) (flies f is)) (λ _. tt)
+          by_test GivesSo (is_of f name index generation) (looked_at s s (noting f index)) (still s) (λ _. looks s s (noting f index) (flies f is)) (λ _. tt)
 
-  pub maps_names : (s : LogState) (groups : GroupMapState) → FlightNames known acts its_number log s → Gives (on_maps s groups)
+  pub maps_names : (s : LogState) (groups : GroupMapState) → FlightNames known acts its_number log s → GivesSo (on_maps s groups)
   unfolding on_maps
   maps_names s groups flies = by s.flight refl
     where
       by : (o : Option FlightState) → s.flight ≡ o
-          → Gives (elim o [ None ↦ still (record s { groups = groups }) | Some f ↦ looked_at s (record s { groups = groups }) f ])
+          → GivesSo (elim o [ None ↦ still (record s { groups = groups }) | Some f ↦ looked_at s (record s { groups = groups }) f ])
       by None is = tt
       by (Some f) is = looks s (record s { groups = groups }) f (flies f is)
 
-  pub tick_names : (s : LogState) → Gives (on_tick s)
+  pub tick_names : (s : LogState) → GivesSo (on_tick s)
   unfolding on_tick
   tick_names s = by s.flight
     where
-      by : (o : Option FlightState) → Gives (elim o [ None ↦ still s | Some f ↦ record { state = s; outs = all_sends f } ])
+      by : (o : Option FlightState) → GivesSo (elim o [ None ↦ still s | Some f ↦ record { state = s; outs = all_sends f } ])
       by None = tt
       by (Some f) = sends_all f

@@ -56,11 +56,11 @@ module _ (known : Known) where
   abbrev pub TableNames : Table → Type 0
   TableNames t = AllByRecursion (SlotNames known) t
 
-  abbrev Gives : Effect → Type 0
-  Gives e = Says known e
+  abbrev GivesSo : Effect → Type 0
+  GivesSo e = Says known e
 
   abbrev pub TableGoes : Done → Type 0
-  TableGoes d = Leaves TableNames Gives d
+  TableGoes d = Leaves TableNames GivesSo d
 
   -- an event of one slot
   at_slot-goes : (t : Table) (k : ℕ) (event : SlotPhase → Stepped SlotPhase Effect) → ((p : SlotPhase) → SlotNames known p → PhaseGoes known (event p))
@@ -113,7 +113,7 @@ module _ (known : Known) where
   any_slots = all_each Any (λ k. tt) all_slots
 
   pub table_recalls : (t : Table) → TableNames t → TableGoes (recalls_all t)
-  table_recalls t h = leaves_each TableNames Gives Any recalls one_recalls t all_slots h any_slots
+  table_recalls t h = leaves_each TableNames GivesSo Any recalls one_recalls t all_slots h any_slots
 
   -- ---- takeovers
 
@@ -121,7 +121,7 @@ module _ (known : Known) where
   TableAskerNames a = TableNames a.table
 
   abbrev pub TableAsks : Asks → Type 0
-  TableAsks d = Leaves TableAskerNames Gives d
+  TableAsks d = Leaves TableAskerNames GivesSo d
 
   at_taken-goes : (a : TableAsker) (k : ℕ) (event : Asker → Stepped Asker Effect)
       → ((p : SlotPhase) → slice_get a.table k ≡ Some p → SlotNames known p → PhaseAsks known (event (asker p a.questions)))
@@ -151,13 +151,13 @@ module _ (known : Known) where
       at_taken-goes a k (λ one. takeovers.asks_again one k polls) (λ p at here. asker_asks known (asker p a.questions) k polls here) h
 
   pub table_asks : (polls : Bool) (a : TableAsker) → TableAskerNames a → TableAsks (asks_all polls a)
-  table_asks polls a h = leaves_each TableAskerNames Gives Any (asks polls) (one_asks polls) a all_slots h any_slots
+  table_asks polls a h = leaves_each TableAskerNames GivesSo Any (asks polls) (one_asks polls) a all_slots h any_slots
 
   one_regroups : (groups : GroupMapState) (a : TableAsker) (k : ℕ) → TableAskerNames a → Any k → TableAsks (regroups groups a k)
   one_regroups groups a k h any = table_takes a k (take_in.Maps groups) h
 
   pub table_regroups : (groups : GroupMapState) (a : TableAsker) → TableAskerNames a → TableAsks (regroups_all groups a)
-  table_regroups groups a h = leaves_each TableAskerNames Gives Any (regroups groups) (one_regroups groups) a all_slots h any_slots
+  table_regroups groups a h = leaves_each TableAskerNames GivesSo Any (regroups groups) (one_regroups groups) a all_slots h any_slots
 
   one_hears : (h : Hearer) (a : TableAsker) (news : SlotNews) → TableAskerNames a → NewsNames known news → TableAsks (hears h a news)
   unfolding hears
@@ -166,7 +166,7 @@ module _ (known : Known) where
 
   pub table_hears : (h : Hearer) (a : TableAsker) (slots : List SlotNews) → AllByRecursion (NewsNames known) slots → TableAskerNames a
       → TableAsks (hears_all h a slots)
-  table_hears h a slots names before = leaves_each TableAskerNames Gives (NewsNames known) (hears h) (one_hears h) a slots before names
+  table_hears h a slots names before = leaves_each TableAskerNames GivesSo (NewsNames known) (hears h) (one_hears h) a slots before names
 
   -- ---- checkpoints
 

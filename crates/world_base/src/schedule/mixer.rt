@@ -15,7 +15,7 @@ pub fn next_number(number: u32) -> u32
 /// The place, among so many, of the packet that comes next, after a draw of this number.
 pub fn drawn_place(number: u32, count: usize) -> usize
     requires { 0 < count }
-    ensures is { result ≡ drawn_place number count }
+    ensures exact { result ≡ drawn_place number count }
     ensures within { result < count }
 {
     (next_number(number) / 65_536) as usize % count

@@ -7,7 +7,7 @@ use Rattle.top_call.proofs.one_thread.count_script.Goals as goal
 pub returns-in-Ok-clause-told : goal.returns-in-Ok-clause-told
 returns-in-Ok-clause-told g c =
     let s = writing g.K.Sink.written g.K.Sink.faults c.args.sink.now c.write_brief.new.sink in
-    subst (λ e. TellsOrGivesUp s c.write_brief.result (run_answer (brief_of e) e)) c.in-Ok.ensures.is c.write_brief.ensures.told
+    subst (λ e. TellsOrGivesUp s c.write_brief.result (run_answer (brief_of e) e)) c.in-Ok.ensures.exact c.write_brief.ensures.told
 
 pub returns-in-Ok-clause-one_run : goal.returns-in-Ok-clause-one_run
 returns-in-Ok-clause-one_run g c =

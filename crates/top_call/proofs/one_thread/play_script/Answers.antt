@@ -7,7 +7,7 @@ use Rattle.top_call.proofs.one_thread.play_script.Goals as goal
 pub returns-in-Ok-clause-told : goal.returns-in-Ok-clause-told
 returns-in-Ok-clause-told g c =
     let s = writing g.K.Sink.written g.K.Sink.faults c.args.sink.now c.write_run.new.sink in
-    subst (λ e. TellsOrGivesUp s c.write_run.result (run_answer (text_of e) e)) c.in-Ok.ensures.is c.write_run.ensures.told
+    subst (λ e. TellsOrGivesUp s c.write_run.result (run_answer (text_of e) e)) c.in-Ok.ensures.exact c.write_run.ensures.told
 
 pub returns-in-Ok-clause-one_run : goal.returns-in-Ok-clause-one_run
 returns-in-Ok-clause-one_run g c =

@@ -11,7 +11,7 @@ loop-alloc-preserved g c =
     let going = goes p.unanswered p.schedule in
     let more : is_done going.next ≡ false = ap is_done (sym c.next-next.ensures.next) ∙ sym c.is_done.ensures ∙ c.if-is_done.false in
     let came =
-    c.in_ok-player.ensures.is
+    c.in_ok-player.ensures.exact
     ∙ ap (λ s. comes step (with_schedule p s) c.next-next.result) c.next-next.ensures.state
     ∙ ap (λ n. comes step (with_schedule p going.state) n) c.next-next.ensures.next
     in (
@@ -27,7 +27,7 @@ loop-alloc-smaller g c =
     let going = goes p.unanswered p.schedule in
     let more : is_done going.next ≡ false = ap is_done (sym c.next-next.ensures.next) ∙ sym c.is_done.ensures ∙ c.if-is_done.false in
     let came =
-    c.in_ok-player.ensures.is
+    c.in_ok-player.ensures.exact
     ∙ ap (λ s. comes step (with_schedule p s) c.next-next.result) c.next-next.ensures.state
     ∙ ap (λ n. comes step (with_schedule p going.state) n) c.next-next.ensures.next
     in
@@ -35,9 +35,9 @@ loop-alloc-smaller g c =
     let less : left c.in_ok-player.player.schedule < left p.schedule = omega (arith, falls) in
     less
 
-pub returns-then-is_done-clause-is : goal.returns-then-is_done-clause-is
+pub returns-then-is_done-clause-exact : goal.returns-then-is_done-clause-exact
 unfolding goes_out
-returns-then-is_done-clause-is g c =
+returns-then-is_done-clause-exact g c =
     let step = g.N.Actor.transition in
     let p = c.loop-alloc.player in
     let over : is_done (goes p.unanswered p.schedule).next ≡ true = ap is_done (sym c.next-next.ensures.next) ∙ sym c.is_done.ensures ∙ c.if-is_done.true in

@@ -5,8 +5,8 @@ use Rattle.play.specs.Plays.{answers, sent_since}
 use Rattle.play.proofs.Happening.{happens_is, same_event}
 use Rattle.play.proofs.player.Player.happen.Goals as goal
 
-pub returns-clause-is : goal.returns-clause-is
-returns-clause-is g c =
+pub returns-clause-exact : goal.returns-clause-exact
+returns-clause-exact g c =
     let step = g.N.Actor.transition in
     let p = c.args.self in
     let event = c.args.event in
