@@ -1,5 +1,6 @@
 -- The call that is open: what it is to make on blocks, and its answer.
 use Rattle.std.specs.Prelude.{ℕ, Bool, ◌&&◌, nat_le, if◌then◌else◌, Option, Some, None}
+use Rattle.xfs_base.specs.declared.block.BlockId.{BlockId}
 use Rattle.client_parts.specs.declared.call.Call.{Call}
 use Rattle.client_parts.specs.declared.call.Going.TheVariants.{On, Ends}
 use Rattle.client_parts.specs.declared.call.Going.{Going}
@@ -8,7 +9,7 @@ use Rattle.client_parts.specs.declared.call.Plan.{Plan}
 use Rattle.file_plan.specs.declared.block_call.BlockAnswer.{BlockAnswer}
 use Rattle.file_plan.specs.declared.block_call.BlockAnswer.TheVariants as answer
 use Rattle.file_plan.specs.declared.block_call.BlockCall.{BlockCall}
-use Rattle.file_plan.specs.declared.block_call.BlockCall.TheVariants.{Get, Put, Sync}
+use Rattle.file_plan.specs.declared.block_call.BlockCall.TheVariants.{Get, Put, PutAt, Sync}
 use Rattle.file_plan.specs.declared.block_call.Next.{Next}
 use Rattle.file_plan.specs.declared.block_call.Next.TheVariants.{Step, Reply}
 use Rattle.file_plan.specs.declared.state.PlanState.{PlanState}
@@ -22,6 +23,13 @@ use Rattle.version_model.specs.declared.work.Work.TheVariants as work
 -- a call that has this call on blocks to make
 abbrev pub call_for : Plan → BlockCall → Call
 call_for p step = record { plan = p; step = step; reading = None }
+
+-- the block that a call on blocks is on; none where it waits for all that is dirty
+abbrev pub block_of : BlockCall → Option BlockId
+block_of (Get block) = Some block
+block_of (Put block value) = Some block
+block_of (PutAt block ver value) = Some block
+block_of Sync = None
 
 abbrev pub going_by : PlanState → Next → Going
 going_by p (Step step) = On (call_for (File p) step)

@@ -1,6 +1,6 @@
 //! The call that is open.
 ghost use Rattle.std.specs.Prelude.{◌≡◌, IfOk, Some};
-ghost use Rattle.client_parts.specs.Calls.{call_for, going, call_of, file_call, may_make, after_answer, answer_of};
+ghost use Rattle.client_parts.specs.Calls.{call_for, block_of, going, call_of, file_call, may_make, after_answer, answer_of};
 
 use file_plan::planning::made_by;
 use file_plan::{BlockAnswer, BlockCall, FilePlan, Next};
@@ -8,7 +8,7 @@ use segment_reading::Reading;
 use std::alloc::Global;
 use std::mem;
 use version_model::{Answer, FileCall, Work};
-use xfs_base::Mem;
+use xfs_base::{BlockId, Mem};
 
 /// What a call does after its present call on blocks.
 #[derive(Drop)]
@@ -48,6 +48,18 @@ impl Call {
             plan,
             step,
             reading: None,
+        }
+    }
+
+    /// The block that its present call on blocks is on; none where it waits for all that is dirty.
+    pub fn block(&self) -> Option<BlockId>
+        ensures { result ≡ block_of self.now.step }
+    {
+        match &self.step {
+            BlockCall::Get(block) => Some(*block),
+            BlockCall::Put(block, _) => Some(*block),
+            BlockCall::PutAt(block, _, _) => Some(*block),
+            BlockCall::Sync => None,
         }
     }
 

@@ -1,8 +1,10 @@
 -- What each packet, and time, make of a client that serves: one definition for each, named for it.
 use Rattle.std.specs.Prelude.{ℕ, Bool, option_map, ◌==◌, ◌&&◌, not, nat_lt, nat_le, if◌then◌else◌, List, [], ◌∷◌, ◌++◌, Option, Some, None}
-use Rattle.std.specs.List.{flat_map, list_all}
-use Rattle.std.specs.Map.{values_of}
+use Rattle.std.specs.List.{flat_map}
 use Rattle.client_log.specs.declared.input.In.TheVariants as log_in
+use Rattle.xfs_base.specs.declared.block.BlockId.{BlockId}
+use Rattle.client_parts.specs.declared.call.Call.{Call}
+use Rattle.client_parts.specs.Calls.{block_of}
 use Rattle.client_parts.specs.Grants.{supplies, is_stamp, is_want}
 use Rattle.client_parts.specs.Promises.{epochs_room}
 use Rattle.client_parts.specs.Reads.{Heard, block_read, heard, fetches_again, reading_in, value_at}
@@ -29,7 +31,7 @@ use Rattle.group_map.specs.GroupMapState.{GroupMapState}
 use Rattle.token_client.specs.declared.input.In.TheVariants as tokens
 use Rattle.token_client.specs.declared.output.Out.{Out}
 use Rattle.token_client.specs.Repetitions.{repetition}
-use Rattle.token_client.specs.State.{TokensState, epoch_of}
+use Rattle.token_client.specs.State.{TokensState, epoch_of, held_of}
 use Rattle.token_client.specs.Transition.{on_forwarded, on_recalled, on_promise}
 use Rattle.wire_msg.specs.declared.body.Body.{Body}
 use Rattle.wire_msg.specs.declared.body.Body.TheVariants as body
@@ -203,14 +205,24 @@ on_tick s =
 
 -- ---- the ends of counters
 
--- each promised epoch, and how often each open want was sent again, is at least 65,536 below its end
-abbrev pub tokens_room : TokensState → Bool
-tokens_room t = epochs_room t && list_all (λ h. has_room (repetition h.want)) (values_of t.blocks)
+-- the block that the open call is on
+abbrev pub open_block : Option Call → Option BlockId
+open_block None = None
+open_block (Some call) = block_of call.step
+
+-- how often the want of a block was sent again; 0 where nothing is wanted
+abbrev pub asked_again : TokensState → Option BlockId → ℕ
+asked_again t None = 0
+asked_again t (Some block) = repetition (held_of t.blocks block).want
+
+-- each promised epoch, and how often the open call asked again for its block, is at least 65,536 below its end
+abbrev pub tokens_room : Serving → Bool
+tokens_room s = epochs_room s.tokens && has_room (asked_again s.tokens (open_block s.call))
 
 -- and so are the version of the maps, the number of the last want, and the numbers of the log
 abbrev pub serving_room : Serving → Bool
 serving_room s =
-    has_room s.maps.version && (has_room s.tokens.req && (log_room s.log && tokens_room s.tokens))
+    has_room s.maps.version && (has_room s.tokens.req && (log_room s.log && tokens_room s))
 
 -- ---- a packet
 

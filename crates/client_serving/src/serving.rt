@@ -2,7 +2,7 @@
 ghost use Rattle.std.specs.Prelude.{◌≡◌, ◌++◌, IfOk, OnOk};
 ghost use Rattle.client_serving.specs.Bodies.{on_log_body};
 ghost use Rattle.client_serving.specs.Opens.{begins_call, call_at, opens};
-ghost use Rattle.client_serving.specs.Packets.{on_ack, on_body, on_packet, on_tick, serving_room};
+ghost use Rattle.client_serving.specs.Packets.{asked_again, on_ack, on_body, on_packet, on_tick, open_block, serving_room};
 ghost use Rattle.client_serving.specs.Starting.{first_serving, returned};
 ghost use Rattle.node_base.specs.Beginning.{work_at};
 ghost use Rattle.segment_format.specs.Format.{IsLog};
@@ -25,7 +25,6 @@ use std::alloc::Global;
 use token_client::Tokens;
 use version_model::Answer;
 use wire_msg::{Body, DeltaAck, Packet};
-use xfs_base::limits::COUNTER_ROOM;
 use xfs_base::{Mem, NodeId};
 
 /// What a client that serves has. The tokens keep which epoch each slot is promised to.
@@ -210,7 +209,20 @@ impl Serving {
             && has_room(self.tokens.asked())
             && log_has_room(&self.log)
             && epochs_have_room(&self.tokens)
-            && self.tokens.repeated_at_most(u32::MAX - COUNTER_ROOM)
+            && has_room(self.asked_again())
+    }
+
+    // How often the open call asked again for its block.
+    fn asked_again(&self) -> u32
+        ensures { result ≡ asked_again self.now.tokens (open_block self.now.call) }
+    {
+        let Some(call) = &self.call else {
+            return 0;
+        };
+        match call.block() {
+            Some(block) => self.tokens.repetition(block),
+            None => 0,
+        }
     }
 
     // A manager has applied the log.

@@ -1,9 +1,9 @@
 //! What a node reads of its tokens.
 ghost use Rattle.std.specs.Prelude.{◌≡◌, ◌<◌, None, Some, option_map, IfOk, MatchOption};
 ghost use Rattle.token_client.specs.State.{held_of, held_in, dirty_in, epoch_of};
-ghost use Rattle.token_client.specs.Repetitions.{repeated_at_most};
+ghost use Rattle.token_client.specs.Repetitions.{repetition};
 
-use crate::table::{dirty_blocks, held_blocks, repeated_at_most};
+use crate::table::{dirty_blocks, held_blocks, repetition};
 use crate::tokens::Tokens;
 use std::alloc::Global;
 use xfs_base::{BlockId, List, Mem, Mode, Place, Stamp, Value};
@@ -100,11 +100,14 @@ impl Tokens {
         self.req
     }
 
-    /// Whether no open want was sent again more often than this.
-    pub fn repeated_at_most(&self, often: u32) -> bool
-        ensures { result ≡ repeated_at_most often self.now.blocks }
+    /// How often the want of a block was sent again; 0 where the block has no want.
+    pub fn repetition(&self, block: BlockId) -> u32
+        ensures { result ≡ repetition (held_of self.now.blocks block).want }
     {
-        repeated_at_most(&self.blocks, often)
+        match self.blocks.get(&block) {
+            Some(held) => repetition(held.want),
+            None => 0,
+        }
     }
 
     /// The epoch that a slot is promised to.

@@ -6,7 +6,7 @@ ghost use Rattle.std.specs.BTreeMap.{is_at};
 ghost use Rattle.xfs_base.specs.Blocks.{block_cmp};
 ghost use Rattle.token_client.specs.Held.{is_answer, may_write, is_settled_by, may_end_fetch, may_evict, is_asking};
 ghost use Rattle.token_client.specs.State.{held_of, held_in, dirty_in};
-ghost use Rattle.token_client.specs.Repetitions.{repetition, repeated_at_most};
+ghost use Rattle.token_client.specs.Repetitions.{repetition};
 ghost use Rattle.token_client.specs.Transition.{fetched_in, wanted_in, all_dropped_in, dropped_in, is_spent, copy_next, grant_next};
 
 use crate::held::{Held, Wanted};
@@ -111,13 +111,6 @@ pub(crate) fn repetition(want: Option<Wanted>) -> u32
         Some(want) => want.again,
         None => 0,
     }
-}
-
-/// Whether no want was sent again more often than this.
-pub(crate) fn repeated_at_most(blocks: &BTreeMap<BlockId, Held>, often: u32) -> bool
-    ensures { result ≡ repeated_at_most often blocks.now.entries }
-{
-    blocks.values().all(|held| repetition(held.want) <= often)
 }
 
 /// Drops what a promise of a slot ends, if the block is of the slot.

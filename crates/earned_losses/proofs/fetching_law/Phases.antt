@@ -243,5 +243,5 @@ event_serves client s is waits what =
         let rest = and_second (has_room (lasting_of client.phase).inc) (has_room (lasting_of client.phase).questions.last && phase_room client.phase) room in
         let serves : serving_room s ≡ true =
         subst (λ p. phase_room p ≡ true) is (and_second (has_room (lasting_of client.phase).questions.last) (phase_room client.phase) rest) in
-        and_first (has_room s.tokens.req) (log_room s.log && tokens_room s.tokens)
-        (and_second (has_room s.maps.version) (has_room s.tokens.req && (log_room s.log && tokens_room s.tokens)) serves)
+        and_first (has_room s.tokens.req) (log_room s.log && tokens_room s)
+        (and_second (has_room s.maps.version) (has_room s.tokens.req && (log_room s.log && tokens_room s)) serves)

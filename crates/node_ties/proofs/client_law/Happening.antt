@@ -102,9 +102,9 @@ module _ (A : BlockId → Type 0) (M : GroupMapState → Type 0) (B : Fact) (P :
 
   begin : (s : Serving) → serving_room s ≡ true → At B s → At (P 1) s
   begin s room h =
-      let further : Bool = log_room s.log && tokens_room s.tokens in
+      let further : Bool = log_room s.log && tokens_room s in
       let one : (has_room s.tokens.req && further) ≡ true = and_second (has_room s.maps.version) (has_room s.tokens.req && further) room in
-      let two : log_room s.log ≡ true = and_first (log_room s.log) (tokens_room s.tokens) (and_second (has_room s.tokens.req) further one) in
+      let two : log_room s.log ≡ true = and_first (log_room s.log) (tokens_room s) (and_second (has_room s.tokens.req) further one) in
       k.begins s.tokens s.log s.cache h (and_first (has_room s.log.end.seq) _ two)
 
   end : (s : Serving) → At (P 0) s → At B s

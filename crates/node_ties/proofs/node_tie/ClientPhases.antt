@@ -56,14 +56,14 @@ use Rattle.node_ties.proofs.node_tie.SmallWorld.{premise, premise_by}
 -- where no counter of a client that serves is near its end, neither is one of its log, nor of its wants
 log_has_room : (s : Serving) → serving_room s ≡ true → has_room s.log.end.seq ≡ true
 log_has_room s room =
-    and_first (has_room s.log.end.seq) (has_room (attempt_of s.log.flight)) (and_first (log_room s.log) (tokens_room s.tokens)
-    (and_second (has_room s.tokens.req) (log_room s.log && tokens_room s.tokens)
-    (and_second (has_room s.maps.version) (has_room s.tokens.req && (log_room s.log && tokens_room s.tokens)) room)))
+    and_first (has_room s.log.end.seq) (has_room (attempt_of s.log.flight)) (and_first (log_room s.log) (tokens_room s)
+    (and_second (has_room s.tokens.req) (log_room s.log && tokens_room s)
+    (and_second (has_room s.maps.version) (has_room s.tokens.req && (log_room s.log && tokens_room s)) room)))
 
 wants_have_room : (s : Serving) → serving_room s ≡ true → has_room s.tokens.req ≡ true
 wants_have_room s room =
-    and_first (has_room s.tokens.req) (log_room s.log && tokens_room s.tokens)
-    (and_second (has_room s.maps.version) (has_room s.tokens.req && (log_room s.log && tokens_room s.tokens)) room)
+    and_first (has_room s.tokens.req) (log_room s.log && tokens_room s)
+    (and_second (has_room s.maps.version) (has_room s.tokens.req && (log_room s.log && tokens_room s)) room)
 
 module _ (logs : Bool) (members part most c : ℕ) (small : part < 8) (pos : 0 < c) (less : c < members) (n : Net) where
   abbrev Goes : Phase → Went_to → Type 0

@@ -110,8 +110,8 @@ module _ (g : Setting) (c : ℕ) (w : Scene) where
   client_fits (client.Opening l o) sees room = stage_fits o.known l.questions.last o.stage sees.1 (opening_next o room)
   client_fits (client.Serving s) sees room = subst NextFits (sym sees.1.owner)
       (log_next s.log
-      (and_first (log_room s.log) (tokens_room s.tokens)
-      (and_second (has_room s.tokens.req) (log_room s.log && tokens_room s.tokens) (and_second (has_room s.maps.version) _ room))))
+      (and_first (log_room s.log) (tokens_room s)
+      (and_second (has_room s.tokens.req) (log_room s.log && tokens_room s) (and_second (has_room s.maps.version) _ room))))
 
 pub cleaner_fits : (g : Setting) (w : Scene) (p : CleanerPhase) → cleaner_log.CleanerAgrees g w p → cleaners.phase_room p ≡ true → NextFits w.net.owner
 cleaner_fits g w (cleaning.Down l) sees room = subst NextFits (sym sees.1) first_next

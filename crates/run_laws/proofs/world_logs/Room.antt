@@ -94,8 +94,8 @@ phase_next (clients.Opening l o) room k le =
     stage_next o.stage (and_second (list_all has_room o.known.promised.epochs) (stage_room o.stage) (and_second (has_room o.known.maps.version) _ room)) k le
 phase_next (clients.Serving s) room k le =
     log_next s.log
-    (and_first (log_room s.log) (tokens_room s.tokens)
-    (and_second (has_room s.tokens.req) (log_room s.log && tokens_room s.tokens) (and_second (has_room s.maps.version) _ room))) k le
+    (and_first (log_room s.log) (tokens_room s)
+    (and_second (has_room s.tokens.req) (log_room s.log && tokens_room s) (and_second (has_room s.maps.version) _ room))) k le
 
 module _ (g : Setting) (c : ℕ) (w : Scene) where
   stage_owner : (k : Known) (last : ℕ) (at : stages.Stage) → SeesStage g c w k last at → w.net.owner ≡ owner_at at
