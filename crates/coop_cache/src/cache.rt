@@ -33,7 +33,7 @@ impl Model for Cache {
 impl Crosses for Cache {}
 
 impl Cache {
-    /// An empty cache of that many clean blocks at most, which is more than none.
+    /// An empty cache of that many clean blocks at most. The capacity is above 0.
     pub fn start(alloc: Global, capacity: u16) -> Mem<Cache>
         requires { 0 < capacity }
         ensures { IfOk result (λ cache. cache ≡ started capacity) }
