@@ -1,5 +1,5 @@
 -- Each name that is wanted is counted once.
-use Rattle.std.proofs.Common.{inl, inr, ◌≡◌, ℕ, suc, ◌+◌, ◌≤◌, Bool, true, false, cond, List, [], ◌∷◌, length, map, min, Option, Some, None, refl, sym, ap, subst, ◌∙◌, arith}
+use Rattle.std.proofs.Common.{inl, inr, ◌≡◌, ℕ, ◌+◌, ◌≤◌, List, [], ◌∷◌, length, min, Option, Some, None, refl, sym, ap, ◌∙◌, arith}
 use Rattle.std.specs.Prelude.{Contains, ◌==◌, ◌&&◌}
 use Rattle.stripe_code.specs.Round.{RoundSoFar, taken, state_of}
 use Rattle.stripe_code.specs.declared.round.RoundState.{RoundState}
@@ -18,7 +18,7 @@ use Rattle.group_rebuild.specs.Counted.{count_of, names_in, Reply, after_replies
 use Rattle.group_rebuild.specs.Reads.{ReadsState, at_first, one_more, fetches, go_on, counts, judged, answered, on_answer}
 use Rattle.group_rebuild.specs.Wanted.{refilled}
 
-one_more_is : (n e : ℕ) → n + 1 ≤ e → min (n + 1) e ≡ n + 1
+pub one_more_is : (n e : ℕ) → n + 1 ≤ e → min (n + 1) e ≡ n + 1
 one_more_is n e le = omega arith
 
 -- ---- the next name
@@ -27,11 +27,11 @@ names_in-go_on : (left : List Wanted) (r : ReadsState) → names_in (go_on left 
 names_in-go_on [] r = omega arith
 names_in-go_on (w ∷ ws) r = omega arith
 
-abbrev finished : ℕ → ℕ → Out
+abbrev pub finished : ℕ → ℕ → Out
 finished a b = Finished a b
 
 -- no question ends the rebuild
-no_end : (name : SegName) (ask : ℕ) (servers : List ℕ) (a b : ℕ) → Contains (fetches name ask servers) (Finished a b) → ⊥
+pub no_end : (name : SegName) (ask : ℕ) (servers : List ℕ) (a b : ℕ) → Contains (fetches name ask servers) (Finished a b) → ⊥
 no_end name ask [] a b h = contains_nothing (finished a b) h
 no_end name ask (s ∷ ss) a b h =
     elim (contains_cases (Fetch s name ask) (finished a b) (fetches name ask ss) h) [ inl e ↦ absurd cc | inr k ↦ no_end name ask ss a b k ]
@@ -46,7 +46,7 @@ ends-go_on (w ∷ ws) r a b h = absurd (no_end w.meta.name (one_more r.ask) w.ot
 -- ---- an answer
 
 -- the names of a reading, one of which is read
-abbrev in_all : ReadsState → ℕ
+abbrev pub in_all : ReadsState → ℕ
 in_all r = r.filled + r.gone + 1 + length r.left
 
 names_in-judged : (r : ReadsState) (w : Wanted) (round : RoundSoFar) (st : RoundState) → in_all r ≤ u32_end → names_in (judged r w round st).state ≡ in_all r
@@ -95,7 +95,7 @@ ends-answered r (Some p) ask server told a b e le h =
     (λ t k. absurd (contains_nothing (finished a b) k))
     h
 
-names_stay : (r : ReadsState) (ask server : ℕ) (told : Told) → names_in r ≤ u32_end → names_in (on_answer r ask server told).state ≡ names_in r
+pub names_stay : (r : ReadsState) (ask server : ℕ) (told : Told) → names_in r ≤ u32_end → names_in (on_answer r ask server told).state ≡ names_in r
 unfolding on_answer
 names_stay r ask server told le = names_in-answered r r.present ask server told refl le
 
@@ -104,14 +104,14 @@ all_are_counted : (r : ReadsState) (ask server : ℕ) (told : Told) (a b : ℕ) 
 unfolding on_answer
 all_are_counted r ask server told a b le h = ends-answered r r.present ask server told a b refl le h
 
-names_begun : (wanted : List Wanted) → names_in (go_on wanted (at_first wanted)).state ≡ length wanted
+pub names_begun : (wanted : List Wanted) → names_in (go_on wanted (at_first wanted)).state ≡ length wanted
 names_begun wanted = names_in-go_on wanted (at_first wanted) ∙ omega arith
 
 pub none_to_count : (wanted : List Wanted) (a b : ℕ) → Contains (go_on wanted (at_first wanted)).outs (Finished a b) → a + b ≡ length wanted
 none_to_count wanted a b h = ends-go_on wanted (at_first wanted) a b h ∙ omega arith
 
 -- over any replies
-names_stay_after : (r : ReadsState) (replies : List Reply) → names_in r ≤ u32_end → names_in (after_replies r replies) ≡ names_in r
+pub names_stay_after : (r : ReadsState) (replies : List Reply) → names_in r ≤ u32_end → names_in (after_replies r replies) ≡ names_in r
 names_stay_after r [] le = refl
 names_stay_after r (a ∷ rest) le =
     let one = names_stay r a.ask a.server a.told le in

@@ -1,5 +1,5 @@
 -- What is filled in was cut from a text that the answers join to.
-use Rattle.std.proofs.Common.{inl, inr, ◌≡◌, ℕ, Bool, true, false, List, [], ◌∷◌, Option, Some, None, refl, sym, ap, ◌∙◌}
+use Rattle.std.proofs.Common.{inl, inr, ◌≡◌, ℕ, List, [], ◌∷◌, Option, Some, None, refl}
 use Rattle.std.specs.Prelude.{Contains, ◌==◌, ◌&&◌}
 use Rattle.stripe_code.specs.Round.{RoundSoFar, taken, state_of}
 use Rattle.stripe_code.specs.declared.round.RoundState.{RoundState}

@@ -2,3 +2,4 @@ pub mod Counting
 pub mod Filling
 pub mod Loops
 pub mod Queues
+pub mod Telling

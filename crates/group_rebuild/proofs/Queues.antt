@@ -1,5 +1,5 @@
 -- Each segment that is wanted may be cut as its group says, wherever it stands.
-use Rattle.std.proofs.Common.{◌≡◌, List, ◌∷◌, Option, Some, subst}
+use Rattle.std.proofs.Common.{◌≡◌, List, ◌∷◌, Some, subst}
 use Rattle.std.specs.Prelude.{All}
 use Rattle.std.proofs.lemmas.List.Elements.{All-head, All-tail}
 use Rattle.stripe_code.specs.Round.{RoundSoFar}

@@ -1,5 +1,5 @@
 -- The segments of which the rebuilt server should hold a fragment, and that fragment.
-use Rattle.std.specs.Prelude.{◌≡◌, ℕ, ◌<◌, ◌==◌, not, List, [], Option, Some, None, map, filter, length, position, slice_get, unwrap_or}
+use Rattle.std.specs.Prelude.{ℕ, ◌<◌, ◌==◌, not, List, [], Option, Some, None, map, filter, length, position, slice_get, unwrap_or}
 use Rattle.std.specs.List.{filter_map}
 use Rattle.group_map.specs.declared.group.Group.{Group}
 use Rattle.group_map.specs.declared.group.Member.{Member}

@@ -1,6 +1,6 @@
-use Rattle.std.proofs.Common.{◌≡◌, ◌+◌, ◌-◌, true, false, cond, List, [], ◌∷◌, ◌++◌, sym, ap, ◌∙◌, append-nil}
+use Rattle.std.proofs.Common.{◌≡◌, ◌+◌, ◌-◌, cond, [], ◌∷◌, ◌++◌, sym, ap, ◌∙◌, append-nil}
 use Rattle.std.specs.List.{flat_map, range_with_len}
-use Rattle.group_rebuild.specs.Transition.{awaits, if_awaited}
+use Rattle.group_rebuild.specs.Transition.{if_awaited}
 use Rattle.group_rebuild.proofs.Loops.{count_step}
 use Rattle.group_rebuild.proofs.rebuild.Rebuild.awaited.Goals as goal
 use Rattle.group_rebuild.proofs.rebuild.Rebuild.awaited.Goals.{then-awaits+in_ok-push, else-awaits}
