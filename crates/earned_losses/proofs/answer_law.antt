@@ -5,6 +5,7 @@ mod Following
 mod Arriving
 mod Calling
 mod Openings
+mod Settling
 mod Clients
 mod Emptying
 mod Cleaners

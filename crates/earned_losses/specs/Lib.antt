@@ -10,3 +10,5 @@ pub mod standing_law
 pub mod fetched_law
 pub mod lost_law
 pub mod answer_law
+pub mod reader_law
+pub mod earned_law

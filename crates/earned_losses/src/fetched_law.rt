@@ -4,7 +4,7 @@
 ghost use Rattle.earned_losses.specs.fetched_law.Reads.{CallsReadWhatIsStored, CallsReadWhatWasFiled};
 
 use crate::fetching_law::fetches_lose_what_is_torn;
-use log_law::logs_stay_whole;
+use log_law::{logs_stay_whole, one_name_one_text, what_is_held_flew};
 use run_laws::segment_tie::items_say_all;
 use run_laws::world_logs::runs_keep_logs;
 use run_laws::world_reads::every_runs_acts_are_legal;
@@ -21,6 +21,8 @@ pub fn calls_read_what_was_filed()
 {
     fetches_lose_what_is_torn();
     logs_stay_whole();
+    one_name_one_text();
+    what_is_held_flew();
     items_say_all();
     runs_keep_logs();
     every_runs_acts_are_legal();

@@ -16,11 +16,11 @@ use run_laws::world_logs::runs_keep_logs;
 /// again (the 1996 paper, on RAID).
 ///
 /// - `node`: each Gone that a manager sends is of a slot that is broken then, in the epoch that it names and by the segment that it names.
-/// - `managers`: where a slot of a manager of a run is broken in an epoch, that manager said before that the segment was lost, while it took this slot over in
-///   that epoch, and so it did where it has sent a Gone: at a moment since which it has read the segment there more members of the segment's group than its parity
-///   makes good lacked their fragments while no server had been told to delete it, or by then servers had been told to delete it.
-/// - `clients`: where a client of a run that serves says that a segment is lost at an event that brings it a Gone of that segment, the Gone is a manager's that was
-///   sent, it names the epoch that the client has promised for the slot of its block, and that manager said so before of that slot in that epoch.
+/// - `managers`: where a slot of a manager of a run is broken in an epoch, that manager said before that the segment was lost, while it took this slot over
+///   in that epoch, and so it did where it has sent a Gone: at a moment since which it has read the segment there more members of the segment's group than
+///   its parity makes good lacked their fragments while no server had been told to delete it, or by then servers had been told to delete it.
+/// - `clients`: where a client of a run that serves says that a segment is lost at an event that brings it a Gone of that segment, the Gone is a manager's
+///   that was sent, it names the epoch that the client has promised for the slot of its block, and that manager said so before of that slot in that epoch.
 pub fn gone_was_lost()
     ensures node { GonesAreOfBroken }
     ensures managers { ManagersSayGoneWhatTheyLost }

@@ -19,7 +19,8 @@ use token_law::{grants_tell_the_newest, tokens_keep_their_word};
 
 /// What a Grant tells of where a block lies (the 1996 paper, on cache consistency and on cleaning).
 ///
-/// - `told`: whatever happens to a manager in whose slots wants wait in place, each Grant that it sends tells what its index holds of the block after the event.
+/// - `told`: whatever happens to a manager in whose slots wants wait in place, each Grant that it sends tells what its index holds of the block after the
+///   event.
 /// - `stood`: whatever messages are lost, repeated or reordered, whichever nodes stop and start again, and however epochs pass from manager to manager: at
 ///   each moment up to which no restart of a client or of the cleaner was doubtful, where a client that serves would accept a Grant that was sent to it, no
 ///   server had been told to delete the segment that it leads to, at any moment by which the Grant was not sent. So it is in every run of a script of whose

@@ -5,6 +5,7 @@
 ghost use Rattle.earned_losses.specs.missing_law.Missed.{AnswersTellOfMisses, WhatIsMissingTwiceWasTorn};
 ghost use Rattle.earned_losses.specs.missing_law.Stored.{WhatIsFiledIsStored};
 
+use log_law::{logs_stay_whole, one_name_one_text, what_is_held_flew};
 use log_tie::settings_exist;
 use run_laws::world_logs::runs_keep_logs;
 
@@ -30,5 +31,9 @@ pub fn what_is_missing_twice_was_torn()
 pub fn what_is_filed_is_stored()
     ensures stored { WhatIsFiledIsStored }
 {
+    settings_exist();
     runs_keep_logs();
+    logs_stay_whole();
+    one_name_one_text();
+    what_is_held_flew();
 }

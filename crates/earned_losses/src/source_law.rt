@@ -5,7 +5,10 @@
 ghost use Rattle.earned_losses.specs.source_law.Sources.{TakeoversLoseWhatWasFiled, TakeoversReadWhatIsStored, TakeoversReadWhatWasFiled};
 
 use crate::taking_law::takeovers_lose_what_is_torn;
-use log_law::{a_place_names_one_content, logs_stay_whole, names_bear_groups, one_name_one_text};
+use log_law::{
+    a_place_names_one_content, logs_stay_whole, names_bear_groups, one_name_one_text,
+    what_is_held_flew,
+};
 use run_laws::reading_law::readers_hold_what_came;
 use run_laws::segment_tie::items_say_all;
 use run_laws::world_logs::runs_keep_logs;
@@ -29,6 +32,7 @@ pub fn takeovers_read_what_was_filed()
     a_place_names_one_content();
     names_bear_groups();
     logs_stay_whole();
+    what_is_held_flew();
 }
 
 /// Where a manager says that a segment is lost, in an event up to which no restart of a client or of the cleaner was doubtful, it takes a slot over in an epoch

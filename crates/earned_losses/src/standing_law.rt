@@ -13,10 +13,10 @@ use run_laws::world_logs::runs_keep_logs;
 use run_laws::world_reads::every_runs_acts_are_legal;
 use token_law::tokens_keep_their_word;
 
-/// Whatever messages are lost, repeated or reordered, however disks are lost and rebuilt, and whichever nodes stop and start again: where a client that serves
-/// says that a segment is lost at an event that brings it a Gone, no server has been told to delete the segment, and it had been filed and was torn at a moment
-/// from which on the manager that sent the Gone read it, while it took the slot of the block over in the epoch that the client has promised. So it is in every run of a script of
-/// whose setup a run can be started, while no restart that ended was doubtful.
+/// Whatever messages are lost, repeated or reordered, however disks are lost and rebuilt, and whichever nodes stop and start again: where a client that
+/// serves says that a segment is lost at an event that brings it a Gone, no server has been told to delete the segment, and it had been filed and was torn at
+/// a moment from which on the manager that sent the Gone read it, while it took the slot of the block over in the epoch that the client has promised. So it
+/// is in every run of a script of whose setup a run can be started, while no restart that ended was doubtful.
 ///
 /// A manager that breaks in an epoch never manages the slot in that epoch, and nobody manages it in a later one than a client has promised: so the registry's
 /// horizons of the slot are still those with which the takeover began, and no segment that it reads has been dropped (the 1996 paper, on cleaning).

@@ -1,35 +1,34 @@
--- What is claimed of the run that a call of the program played: the headline, in one record. Two premises stand before all of it: the registry does not fail,
--- no line of a script stops it; and want of memory ends the call, and then there is no run. Three parts, of versions (`legal_acts`), of what clients that serve
--- lose (`reads`) and that what takeovers lose had been filed (`takeovers_filed`), end with the first restart that is doubtful; the others have no such end.
-use Rattle.earned_losses.specs.answer_law.Runs.{LostAnswersEarned}
+-- What is claimed of the run that a call of the program played: the headline, in one record. Two premises stand before all of it: the registry does not fail, no
+-- line of a script stops it; and want of memory ends the call, and then there is no run. What is said of versions (`legal_acts`), of what clients that serve lose,
+-- and that what takeovers lose had been filed (both in `losses_earned`), ends with the first restart that is doubtful; nothing else does. A script without a line
+-- by which a server loses its disk has no such restart (`undoubted`).
 use Rattle.core_world.specs.AnyNode.{any_start, any_step}
 use Rattle.core_world.specs.declared.any_node.AnyNode.{AnyNode}
-use Rattle.earned_losses.specs.lost_law.Reads.{ReadLossesEarned}
-use Rattle.earned_losses.specs.source_law.Sources.{TakeoverLossesFiled}
-use Rattle.earned_losses.specs.taking_law.Takings.{TakeoverLossesEarned}
-use Rattle.top_call.specs.Claim.{IsPlayed}
-use Rattle.earned_losses.specs.whole_law.Whole.{ReopeningLossesWereWhole}
-use Rattle.world_base.specs.declared.estate.Estate.{Estate}
+use Rattle.earned_losses.specs.answer_law.Runs.{LostAnswersEarned}
+use Rattle.earned_losses.specs.earned_law.Earned.{EachLostActIsEarned}
+use Rattle.run_laws.specs.restart_law.Restarts.{NoDoubtfulRestart}
+use Rattle.run_laws.specs.restart_law.Unlost.{LosesNone}
 use Rattle.run_laws.specs.world_law.Fallen.{FallsApartThroughout, NobodyHoldsThroughout}
 use Rattle.run_laws.specs.world_law.Managers.{OneManagerThroughout}
 use Rattle.run_laws.specs.world_law.Owners.{OneOwnerThroughout}
 use Rattle.run_laws.specs.world_logs.Horizons.{HorizonsReached}
 use Rattle.run_laws.specs.world_logs.Logs.{CleanersLogStands, LogsStand, ManagersLogsStand}
 use Rattle.run_laws.specs.world_reads.Legal.{LegalActs, LegalWithoutLosses}
+use Rattle.std.specs.Prelude.{ℕ}
+use Rattle.top_call.specs.Claim.{IsPlayed}
+use Rattle.world_base.specs.declared.estate.Estate.{Estate}
+use Rattle.world_base.specs.Items.{works_of}
 
 -- Only what is gone is refused as lost.
 pub record LossesEarned (e : Estate AnyNode) : Type 0 where
-  -- what a client, or the cleaner, says is lost while it opens its log was torn at a moment since it began to, and whole there but for lost disks
-  pub reopenings : ReopeningLossesWereWhole e
-  -- what a manager says is lost while it takes a slot over was torn at a moment from which on it read it there, or had been deleted by the time it says so
-  pub takeovers : TakeoverLossesEarned e
-  -- and it had been filed: up to the first doubtful restart
-  pub takeovers_filed : TakeoverLossesFiled e
-  -- what a client that serves says is lost had been filed, and was torn, at a moment from which on its open call read it, or the manager that told it so did:
-  -- up to the first doubtful restart
-  pub reads : ReadLossesEarned e
+  -- each act that a segment is lost is of the node that has its turn, and it is earned: while it opens its log, to a takeover, or to a read
+  pub each : EachLostActIsEarned e
   -- and no item is answered that a segment is lost but where its node says so, in the same event
   pub answers : LostAnswersEarned e
+
+-- where the script has no line by which a server loses its disk, no restart is doubtful
+abbrev pub WithoutLossesNoDoubt : Estate AnyNode → Type 0
+WithoutLossesNoDoubt e = LosesNone (works_of e.script.lines) → (count : ℕ) → NoDoubtfulRestart e count
 
 -- Whatever messages are lost, repeated or reordered and whichever nodes stop:
 pub record Headline (e : Estate AnyNode) : Type 0 where
@@ -53,5 +52,7 @@ pub record Headline (e : Estate AnyNode) : Type 0 where
   pub legal_acts : LegalActs e
   -- and throughout, where no line of the script has a server lose its disk
   pub legal_without_losses : LegalWithoutLosses e
-  -- and only what is gone is refused as lost
+  -- only what is gone is refused as lost
   pub losses_earned : LossesEarned e
+  -- and where no line of the script has a server lose its disk, no restart is doubtful
+  pub undoubted : WithoutLossesNoDoubt e

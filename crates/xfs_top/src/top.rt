@@ -7,10 +7,8 @@ ghost use Rattle.xfs_top.specs.Headline.{Headline};
 
 use core_world::AnyNode;
 use earned_losses::answer_law::lost_answers_are_said;
-use earned_losses::lost_law::reads_lose_what_is_torn;
-use earned_losses::source_law::takeovers_lose_what_was_filed;
-use earned_losses::taking_law::takeovers_lose_what_is_torn;
-use earned_losses::whole_law::reopenings_lose_what_was_whole;
+use earned_losses::earned_law::each_lost_act_is_earned;
+use run_laws::restart_law::without_losses_no_restart_is_doubtful;
 use run_laws::world_law::{
     every_run_has_one_manager, every_run_has_one_owner, what_fell_is_held_by_nobody,
 };
@@ -46,11 +44,9 @@ pub fn solo<S: Source, K: Sink>(
     what_fell_is_held_by_nobody();
     runs_keep_logs();
     every_runs_acts_are_legal();
-    reopenings_lose_what_was_whole();
-    takeovers_lose_what_is_torn();
-    takeovers_lose_what_was_filed();
-    reads_lose_what_is_torn();
+    each_lost_act_is_earned();
     lost_answers_are_said();
+    without_losses_no_restart_is_doubtful();
     answer(alloc, words, source, sink)
 }
 

@@ -1,9 +1,10 @@
--- Each event of a client: where it answers that a segment is lost, it has said so before, and the item had begun.
-use Rattle.std.proofs.Common.{◌≡◌, ◌⊎◌, ℕ, ◌+◌, [], ◌∷◌, ◌++◌, Option, Some, None, inl, inr, refl, ◌∙◌}
+-- Each event of a client: where it answers that a segment is lost, it has said so before, and the item had begun; and it says so only while it scans its log,
+-- or serves.
+use Rattle.std.proofs.Common.{◌≡◌, ◌⊎◌, ℕ, ◌+◌, List, [], ◌∷◌, ◌++◌, Option, Some, None, inl, inr, refl, ◌∙◌}
 use Rattle.client_node.specs.declared.client.Client.{Client}
 use Rattle.client_node.specs.declared.phase.Phase.{Phase}
 use Rattle.client_node.specs.declared.phase.Phase.TheVariants.{Down, Opening, Serving as Serves}
-use Rattle.client_node.specs.Phases.{Went_to, after_opening, begins_item, client_room, down_begins, happens, item_begins, lasting_of, on_begin, on_deliver, on_time, opened_on, opening_begins, owner_of, restarted, serving_begins, takes, then_runs, wish_of, with_begun}
+use Rattle.client_node.specs.Phases.{Went_to, after_opening, begins_item, client_room, down_begins, happens, item_begins, lasting_of, on_begin, on_deliver, on_time, opened_on, opening_begins, restarted, serving_begins, takes, then_runs, wish_of, with_begun}
 use Rattle.client_parts.specs.declared.lasting.Lasting.{Lasting}
 use Rattle.client_parts.specs.Lasting.{next_life}
 use Rattle.client_serving.specs.declared.serving.Serving.{Serving}
@@ -11,7 +12,6 @@ use Rattle.client_serving.specs.Opens.{opens}
 use Rattle.client_serving.specs.Packets.{on_packet, on_tick}
 use Rattle.client_serving.specs.Running.{runs}
 use Rattle.client_serving.specs.Sends.{Done}
-use Rattle.log_owner.proofs.Behaving.{begin_so}
 use Rattle.log_owner.proofs.Behaving as behaving
 use Rattle.log_owner.specs.declared.opened.Progress.{Progress}
 use Rattle.log_owner.specs.declared.opened.Progress.TheVariants as progress
@@ -20,6 +20,7 @@ use Rattle.log_owner.specs.Opening as opening
 use Rattle.log_owner.specs.Opening.{Went}
 use Rattle.log_owner.specs.Sending.{pushes_all}
 use Rattle.node_base.specs.Beginning.{answers_unanswered, begun, next_item, waiting, work_at}
+use Rattle.node_base.specs.declared.effects.Effect.{Effect}
 use Rattle.node_base.specs.declared.effects.Effect.TheVariants.{Answer as Answers}
 use Rattle.node_base.specs.declared.items.Items.{Items}
 use Rattle.node_base.specs.Shape.{is_well_formed}
@@ -37,12 +38,24 @@ use Rattle.earned_losses.proofs.answer_law.Calling.{opens_go, runs_go}
 use Rattle.earned_losses.proofs.answer_law.Following.{Goes, IsOpen, then_goes}
 use Rattle.earned_losses.proofs.answer_law.Items as counting
 use Rattle.earned_losses.proofs.answer_law.Openings as openly
-use Rattle.earned_losses.proofs.answer_law.Telling.{AllPlain, IsPlain, Told, all_append, all_pushed_plain, answers_plain, items_so, losses_said, told_behind, told_by, told_plain}
+use Rattle.earned_losses.proofs.answer_law.Settling.{UnlessScans, packet_settles, tick_settles, unless_scans, unless_then}
+use Rattle.earned_losses.proofs.answer_law.Telling.{AllPlain, AllQuiet, IsNoLoss, IsPlain, IsQuiet, NoLosses, Told, all_append, all_pushed_plain, answers_no_loss, answers_plain, answers_quiet, items_so, losses_said, pushed_no_loss, quiet_no_loss, quiet_plain, told_behind, told_by, told_plain}
 use Rattle.earned_losses.specs.answer_law.Answers.{IsBegunBy}
 use Rattle.earned_losses.specs.answer_law.Calls.{CallsWell, ClientsSay, ClientsStartWell, GoesWell}
 
 abbrev pub items_in : Phase → Items
 items_in p = (lasting_of p).items
+
+-- it scans its log, or serves, or none of these says that a segment is lost
+abbrev pub UnlessReads : Phase → List Effect → Type 0
+UnlessReads (Down l) outs = NoLosses outs
+UnlessReads (Opening l o) outs = UnlessScans o.stage outs
+UnlessReads (Serves s) outs = Unit {0}
+
+unless_reads : (p : Phase) (outs : List Effect) → NoLosses outs → UnlessReads p outs
+unless_reads (Down l) outs none = none
+unless_reads (Opening l o) outs none = unless_scans o.stage outs none
+unless_reads (Serves s) outs none = tt
 
 -- what an event makes of a phase: its call ends well then, the items are those before, of which one more may have begun, and what it answers to be lost it has
 -- said to be lost, of an item that had begun
@@ -51,10 +64,16 @@ pub record Turned (p : Phase) (what : Do) (w : Went_to) : Type 0 where
   pub number : (lasting_of w.state).number ≡ (lasting_of p).number
   pub items : counting.Goes (items_in p) (items_in w.state) what
   pub told : Told (IsBegunBy (items_in p) what) [] w.outs
+  pub loses : UnlessReads p w.outs
 
 unmoved : (p : Phase) (what : Do) → GoesWell p → Turned p what (still p)
-unmoved p what well =
-    record { well = well; number = refl; items = counting.same_goes (items_in p) (items_in p) what (counting.same (items_in p)); told = tt }
+unmoved p what well = record {
+  well = well;
+  number = refl;
+  items = counting.same_goes (items_in p) (items_in p) what (counting.same (items_in p));
+  told = tt;
+  loses = unless_reads p [] tt;
+}
 
 -- one that serves then
 served : (s : Serving) (what : Do) (d : Done) → CallsWell s.call → Goes s d → Turned (Serves s) what (record { state = Serves d.state; outs = d.outs })
@@ -63,6 +82,7 @@ served s what d well g = record {
   number = g.kept.number;
   items = counting.same_goes s.lasting.items d.state.lasting.items what g.kept.items;
   told = told_by (IsOpen s) (IsBegunBy s.lasting.items what) (λ number is. inl is) [] d.outs g.told;
+  loses = tt;
 }
 
 -- ---- an opening
@@ -74,8 +94,8 @@ module _ (l : Lasting) (o : openings.Opening) (capacity : ℕ) (what : Do) where
   answered_goes : counting.Goes l.items (record l.items { unanswered = None }) what
   answered_goes = counting.same_goes l.items (record l.items { unanswered = None }) what (counting.same_answered l.items)
 
-  opened_so : (w : Went) → AllPlain w.effects → openly.WentSo w → Turned (Opening l o) what (opened_on l capacity w)
-  opened_so w plain so = by w.progress so
+  opened_so : (w : Went) → AllPlain w.effects → openly.WentSo w → UnlessScans o.stage w.effects → Turned (Opening l o) what (opened_on l capacity w)
+  opened_so w plain so settles = by w.progress so
     where
       by : (p : Progress) → openly.SaysLoss p w.effects
           → Turned (Opening l o) what (after w.effects (after_opening (record l { questions = w.questions }) capacity p))
@@ -84,6 +104,7 @@ module _ (l : Lasting) (o : openings.Opening) (capacity : ℕ) (what : Do) where
         number = refl;
         items = counting.same_goes l.items l.items what (counting.same l.items);
         told = told_plain I [] (w.effects ++ []) (all_append IsPlain w.effects [] plain tt);
+        loses = unless_then o.stage w.effects [] settles tt;
       }
       by (progress.Opened r) h = record {
         well = tt;
@@ -94,28 +115,38 @@ module _ (l : Lasting) (o : openings.Opening) (capacity : ℕ) (what : Do) where
           all_append IsPlain (pushes_all r.promised.managers r.feed) _
               (all_pushed_plain r.promised.managers r.feed) (answers_plain l.items.unanswered answer.Done tt),
         ));
+        loses = unless_then o.stage w.effects _ settles (
+          tt,
+          all_append IsNoLoss (pushes_all r.promised.managers r.feed) _
+              (pushed_no_loss r.promised.managers r.feed) (answers_no_loss l.items.unanswered answer.Done),
+        );
       }
       by (progress.Lost name) h = record {
         well = tt;
         number = refl;
         items = answered_goes;
         told = told_behind I name l.items.unanswered (λ number is. inl is) [] w.effects plain h;
+        loses = unless_then o.stage w.effects _ settles (answers_no_loss l.items.unanswered (answer.Lost name));
       }
 
 -- ---- an item begins
 
-crash_plain : (item : Option ℕ) (number : ℕ) → AllPlain (answers_unanswered item answer.Cut ++ Answers number answer.Done ∷ [])
-crash_plain item number = all_append IsPlain (answers_unanswered item answer.Cut) _ (answers_plain item answer.Cut tt) (tt, tt)
+crash_quiet : (item : Option ℕ) (number : ℕ) → AllQuiet (answers_unanswered item answer.Cut ++ Answers number answer.Done ∷ [])
+crash_quiet item number = all_append IsQuiet (answers_unanswered item answer.Cut) _ (answers_quiet item answer.Cut tt) (tt, tt)
 
-restart_plain : (servers : ℕ) (l : Lasting) → AllPlain (restarted servers l).outs
-restart_plain servers l =
-    openly.behaves_plain (owner_of l) (opening.on_start (owner_of l) servers l.questions) (begin_so (owner_of l) servers l.questions)
+restart_quiet : (servers : ℕ) (l : Lasting) → AllQuiet (restarted servers l).outs
+restart_quiet servers l = (tt, tt)
 
 -- nothing is answered so, where the item has begun
 begun_plainly : (p : Phase) (w : Went_to) → GoesWell w.state → (lasting_of w.state).number ≡ (lasting_of p).number
-    → counting.Goes (items_in p) (items_in w.state) Begin → AllPlain w.outs → Turned p Begin w
-begun_plainly p w well number goes plain =
-    record { well = well; number = number; items = goes; told = told_plain (IsBegunBy (items_in p) Begin) [] w.outs plain }
+    → counting.Goes (items_in p) (items_in w.state) Begin → AllQuiet w.outs → Turned p Begin w
+begun_plainly p w well number goes quiet = record {
+  well = well;
+  number = number;
+  items = goes;
+  told = told_plain (IsBegunBy (items_in p) Begin) [] w.outs (quiet_plain w.outs quiet);
+  loses = unless_reads p w.outs (quiet_no_loss w.outs quiet);
+}
 
 -- those that began, and none waits
 fallen : (i : Items) → counting.Goes i (record (begun i) { unanswered = None }) Begin
@@ -133,7 +164,7 @@ module _ (l : Lasting) (number : ℕ) (its : next_item l.items ≡ Some number) 
   down_so servers (Some (work.Restart node)) =
       begun_plainly (Down l) (restarted servers (next_life m number)) tt refl
       (counting.waiting_goes l.items (begun l.items) (waiting (begun l.items) number) number its (counting.begun_goes l.items) refl one_number)
-      (restart_plain servers (next_life m number))
+      (restart_quiet servers (next_life m number))
   down_so servers (Some (work.Crash node)) =
       begun_plainly (Down l) (down_begins servers m number (wish_of (Some (work.Crash node)))) tt refl (counting.begun_goes l.items) (tt, tt)
   down_so servers (Some other) =
@@ -143,7 +174,7 @@ module _ (l : Lasting) (number : ℕ) (its : next_item l.items ≡ Some number) 
   opening_so o None = begun_plainly (Opening l o) (opening_begins m o number (wish_of None)) tt refl (counting.begun_goes l.items) (tt, tt)
   opening_so o (Some (work.Crash node)) =
       begun_plainly (Opening l o) (opening_begins m o number (wish_of (Some (work.Crash node)))) tt refl (fallen l.items)
-      (crash_plain m.items.unanswered number)
+      (crash_quiet m.items.unanswered number)
   opening_so o (Some (work.Restart node)) =
       begun_plainly (Opening l o) (opening_begins m o number (wish_of (Some (work.Restart node)))) tt refl (counting.begun_goes l.items) (tt, tt)
   opening_so o (Some other) =
@@ -168,6 +199,7 @@ module _ (s : Serving) (number : ℕ) (its : next_item s.lasting.items ≡ Some 
         number = o.number_is;
         items = record { begun = begun_so g.begun o.begun; waits = λ n is. waits_so n g (o.waits n is) };
         told = told_by (λ n. number ≡ n) (IsBegunBy s.lasting.items Begin) its_item [] (opens t number).outs o.told;
+        loses = tt;
       }
     where
       begun_so : (t.lasting.items.begun ≡ s.lasting.items.begun) ⊎ ((Begin ≡ Begin) × (t.lasting.items.begun ≡ s.lasting.items.begun + 1))
@@ -185,7 +217,7 @@ module _ (s : Serving) (number : ℕ) (its : next_item s.lasting.items ≡ Some 
   serving_so None = opens_so
   serving_so (Some (work.Crash node)) =
       begun_plainly (Serves s) (serving_begins t number (wish_of (Some (work.Crash node)))) tt refl (fallen s.lasting.items)
-      (tt, crash_plain t.lasting.items.unanswered number)
+      (tt, crash_quiet t.lasting.items.unanswered number)
   serving_so (Some (work.Restart node)) =
       begun_plainly (Serves s) (serving_begins t number (wish_of (Some (work.Restart node)))) well refl (counting.begun_goes s.lasting.items) (tt, tt)
   serving_so (Some other) = opens_so
@@ -215,7 +247,7 @@ deliver_turned capacity (Down l) packet well = unmoved (Down l) (Deliver packet)
 deliver_turned capacity (Opening l o) packet well =
     opened_so l o capacity (Deliver packet) (opening.on_packet o l.questions packet)
     (openly.behaves_plain o.known.owner (opening.on_packet o l.questions packet) (behaving.packet_so o l.questions packet))
-    (openly.packet_so o l.questions packet)
+    (openly.packet_so o l.questions packet) (packet_settles o l.questions packet)
 deliver_turned capacity (Serves s) packet well = runs_then s (Deliver packet) (on_packet s packet) well (packet_goes s packet)
 
 time_turned : (capacity : ℕ) (p : Phase) → GoesWell p → Turned p Tick (on_time capacity p)
@@ -224,6 +256,7 @@ time_turned capacity (Down l) well = unmoved (Down l) Tick well
 time_turned capacity (Opening l o) well =
     opened_so l o capacity Tick (opening.on_tick o l.questions)
     (openly.behaves_plain o.known.owner (opening.on_tick o l.questions) (behaving.tick_so o l.questions)) (openly.tick_so o l.questions)
+    (tick_settles o l.questions)
 time_turned capacity (Serves s) well = runs_then s Tick (on_tick s) well (tick_goes s)
 
 happens_turned : (c : Client) (what : Do) → GoesWell c.phase → Turned c.phase what (happens c what)

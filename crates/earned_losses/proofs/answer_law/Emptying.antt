@@ -62,7 +62,7 @@ use Rattle.xfs_base.specs.declared.segment.SegName.{SegName}
 use Rattle.xfs_base.specs.declared.segment.SegRef.{SegRef}
 use Rattle.xfs_base.specs.Steps.{after, steps, still}
 use Rattle.earned_losses.proofs.answer_law.Items.{Same, same, same_answered, same_then}
-use Rattle.earned_losses.proofs.answer_law.Telling.{AllPlain, IsPlain, all_append, all_flat_map, all_map, all_pushed_plain, answers_plain}
+use Rattle.earned_losses.proofs.answer_law.Telling.{AllQuiet, IsQuiet, all_append, all_flat_map, all_map, all_pushed_quiet, answers_quiet}
 
 abbrev items_of : Emptying → Items
 items_of e = e.lasting.items
@@ -70,25 +70,25 @@ items_of e = e.lasting.items
 -- the same items, and no item is answered so
 pub record Goes (e : Emptying) (d : Done) : Type 0 where
   pub items : Same (items_of e) (items_of d.state)
-  pub plain : AllPlain d.outs
+  pub quiet : AllQuiet d.outs
 
 stays : (e f : Emptying) → Same (items_of e) (items_of f) → Goes e (still f)
-stays e f is = record { items = is; plain = tt }
+stays e f is = record { items = is; quiet = tt }
 
 rests : (e : Emptying) → Goes e (still e)
 rests e = stays e e (same (items_of e))
 
 from_goes : (e f : Emptying) (d : Done) → Same (items_of e) (items_of f) → Goes f d → Goes e d
-from_goes e f d is g = record { items = same_then (items_of e) (items_of f) (items_of d.state) is g.items; plain = g.plain }
+from_goes e f d is g = record { items = same_then (items_of e) (items_of f) (items_of d.state) is g.items; quiet = g.quiet }
 
 then_goes : (e : Emptying) (d x : Done) → Goes e d → Goes d.state x → Goes e (after d.outs x)
 then_goes e d x a b = record {
   items = same_then (items_of e) (items_of d.state) (items_of x.state) a.items b.items;
-  plain = all_append IsPlain d.outs x.outs a.plain b.plain;
+  quiet = all_append IsQuiet d.outs x.outs a.quiet b.quiet;
 }
 
-first_goes : (e : Emptying) (outs : List Effect) (x : Done) → AllPlain outs → Goes e x → Goes e (after outs x)
-first_goes e outs x plain g = record { items = g.items; plain = all_append IsPlain outs x.outs plain g.plain }
+first_goes : (e : Emptying) (outs : List Effect) (x : Done) → AllQuiet outs → Goes e x → Goes e (after outs x)
+first_goes e outs x quiet g = record { items = g.items; quiet = all_append IsQuiet outs x.outs quiet g.quiet }
 
 steps_go : {A : Type 0} (step : Emptying → A → Done) → ((e : Emptying) (x : A) → Goes e (step e x)) → (e : Emptying) (xs : List A)
     → Goes e (steps step e xs)
@@ -102,25 +102,25 @@ if_goes t e d g = by_test (Goes e) t d (still e) (λ _. g) (λ _. rests e)
 
 -- ---- what the job has it do
 
-stored_plain : (o : LogOut) → AllPlain (stored o)
-stored_plain (log_out.Send fragment member) = (tt, tt)
-stored_plain (log_out.Settled end rows) = tt
+stored_quiet : (o : LogOut) → AllQuiet (stored o)
+stored_quiet (log_out.Send fragment member) = (tt, tt)
+stored_quiet (log_out.Settled end rows) = tt
 
 maps_go : (e : Emptying) (job : Option Job) → Goes e (jobs.asks_maps e job)
 maps_go e None = rests e
-maps_go e (Some job) = record { items = same (items_of e); plain = (tt, tt) }
+maps_go e (Some job) = record { items = same (items_of e); quiet = (tt, tt) }
 
 list_goes : (e : Emptying) (job : Option Job) (server : ℕ) → Goes e (jobs.asks_list e job server)
 list_goes e None server = rests e
-list_goes e (Some job) server = record { items = same (items_of e); plain = (tt, tt) }
+list_goes e (Some job) server = record { items = same (items_of e); quiet = (tt, tt) }
 
 usage_goes : (e : Emptying) (job : Option Job) (slot : ℕ) → Goes e (jobs.asks_usage e job slot)
 usage_goes e None slot = rests e
-usage_goes e (Some job) slot = record { items = same (items_of e); plain = (tt, tt) }
+usage_goes e (Some job) slot = record { items = same (items_of e); quiet = (tt, tt) }
 
 sent_goes : (e : Emptying) (block : BlockId) (place : Place) (ask : Option ℕ) → Goes e (jobs.check_sent e block place ask)
 sent_goes e block place None = rests e
-sent_goes e block place (Some ask) = record { items = same (items_of e); plain = (tt, tt) }
+sent_goes e block place (Some ask) = record { items = same (items_of e); quiet = (tt, tt) }
 
 checked_same : (e : Emptying) (job : Option Job) (block : BlockId) → Same (items_of e) (items_of (jobs.checked_in e job block).state)
 checked_same e None block = same (items_of e)
@@ -132,13 +132,13 @@ check_goes e block place =
     let c = jobs.checked_in e e.job block in
     from_goes e c.state (jobs.check_sent c.state block place c.ask) (checked_same e e.job block) (sent_goes c.state block place c.ask)
 
-for_plain : (name : SegName) (r : Option ReadingState) → AllPlain (fetches_for name r)
-for_plain name None = tt
-for_plain name (Some r) = all_map IsPlain (fetch name r.ask) (λ member. tt) (to_ask r)
+for_quiet : (name : SegName) (r : Option ReadingState) → AllQuiet (fetches_for name r)
+for_quiet name None = tt
+for_quiet name (Some r) = all_map IsQuiet (fetch name r.ask) (λ member. tt) (to_ask r)
 
-fetches_plain : (hand : Option Hand) → AllPlain (fetches hand)
-fetches_plain None = tt
-fetches_plain (Some hand) = for_plain hand.seg.name hand.reading
+fetches_quiet : (hand : Option Hand) → AllQuiet (fetches hand)
+fetches_quiet None = tt
+fetches_quiet (Some hand) = for_quiet hand.seg.name hand.reading
 
 holds_same : (e : Emptying) (job : Option Job) (seg : SegRef) → Same (items_of e) (items_of (jobs.holds_in e job seg))
 holds_same e None seg = same (items_of e)
@@ -146,11 +146,11 @@ holds_same e (Some job) seg = same (items_of e)
 
 reads_go : (e : Emptying) (seg : SegRef) → Goes e (jobs.reads e seg)
 unfolding jobs.reads jobs.holds
-reads_go e seg = record { items = holds_same e e.job seg; plain = fetches_plain (hand_of (jobs.holds_in e e.job seg).job) }
+reads_go e seg = record { items = holds_same e e.job seg; quiet = fetches_quiet (hand_of (jobs.holds_in e e.job seg).job) }
 
 puts_go : (e : Emptying) (i : LogIn) → Goes e (jobs.puts e i)
 unfolding jobs.puts
-puts_go e i = record { items = same (items_of e); plain = all_flat_map IsPlain stored stored_plain (log.transition e.log i).outs }
+puts_go e i = record { items = same (items_of e); quiet = all_flat_map IsQuiet stored stored_quiet (log.transition e.log i).outs }
 
 block_goes : (e : Emptying) (one : BlockId × Entry × Option (List ℕ)) → Goes e (jobs.puts_block e one)
 unfolding jobs.puts_block
@@ -162,13 +162,13 @@ moves_go e blocks =
     let d : Done = steps jobs.puts_block e blocks in
     then_goes e d (jobs.puts d.state log_in.Seal) (steps_go jobs.puts_block block_goes e blocks) (puts_go d.state log_in.Seal)
 
-drops_plain : (first : Bool) (name : SegName) → AllPlain (drops first name)
-drops_plain first name = by_test AllPlain first (Does (Dropped name) ∷ []) [] (λ _. (tt, tt)) (λ _. tt)
+drops_quiet : (first : Bool) (name : SegName) → AllQuiet (drops first name)
+drops_quiet first name = by_test AllQuiet first (Does (Dropped name) ∷ []) [] (λ _. (tt, tt)) (λ _. tt)
 
 deletes_go : (e : Emptying) (job : Option Job) (server : ℕ) (name : SegName) → Goes e (jobs.deletes e job server name)
 deletes_go e None server name = rests e
 deletes_go e (Some job) server name =
-    record { items = same (items_of e); plain = all_append IsPlain (drops (is_whole job.hand) name) _ (drops_plain (is_whole job.hand) name) (tt, tt) }
+    record { items = same (items_of e); quiet = all_append IsQuiet (drops (is_whole job.hand) name) _ (drops_quiet (is_whole job.hand) name) (tt, tt) }
 
 says_go : (e : Emptying) (o : Out) → Goes e (jobs.says e o)
 unfolding jobs.says
@@ -180,7 +180,7 @@ says_go e (out.Check block place) = check_goes e block place
 says_go e (out.Move blocks) = moves_go e blocks
 says_go e (out.Delete server name) = deletes_go e e.job server name
 says_go e (out.Finished count) =
-    record { items = same_answered (items_of e); plain = answers_plain e.lasting.items.unanswered (answer.Count count) tt }
+    record { items = same_answered (items_of e); quiet = answers_quiet e.lasting.items.unanswered (answer.Count count) tt }
 
 taken_same : (e : Emptying) (job : Option Job) (given : In) → Same (items_of e) (items_of (jobs.takes_in e job given).state)
 taken_same e None given = same (items_of e)
@@ -201,7 +201,7 @@ ends_go e read =
     from_goes e f (jobs.cleans f (input.Read read)) (same (items_of e)) (cleans_go f (input.Read read))
 
 confirmed_go : (e : Emptying) (x : Next) → Goes e (jobs.after_confirmed e x)
-confirmed_go e next.Ask = record { items = same (items_of e); plain = fetches_plain (hand_of e.job) }
+confirmed_go e next.Ask = record { items = same (items_of e); quiet = fetches_quiet (hand_of e.job) }
 confirmed_go e next.Lost = ends_go e None
 confirmed_go e next.Wait = rests e
 confirmed_go e next.Again = rests e
@@ -270,7 +270,7 @@ promise_goes e slot = cleans_go e (input.Promise slot (epoch_of e.promised slot)
 pub record Cleans (e : Emptying) (number : ℕ) (d : Done) : Type 0 where
   pub begun : d.state.lasting.items.begun ≡ e.lasting.items.begun
   pub waits : (n : ℕ) → d.state.lasting.items.unanswered ≡ Some n → (e.lasting.items.unanswered ≡ Some n) ⊎ (number ≡ n)
-  pub plain : AllPlain d.outs
+  pub quiet : AllQuiet d.outs
 
 one_number : (a b : ℕ) → Some a ≡ Some b → a ≡ b
 one_number a b is = cc
@@ -282,13 +282,13 @@ begins_go e number count =
     let d : Done = steps emptying.promises_slot f (range_with_len 0 8) in
     let g : Goes f (after d.outs (jobs.cleans d.state input.Tick)) =
     then_goes f d (jobs.cleans d.state input.Tick) (steps_go emptying.promises_slot promise_goes f (range_with_len 0 8)) (cleans_go d.state input.Tick) in
-    record { begun = g.items.begun; waits = λ n is. inr (one_number number n (g.items.waits n is)); plain = g.plain }
+    record { begun = g.items.begun; waits = λ n is. inr (one_number number n (g.items.waits n is)); quiet = g.quiet }
 
 pub clean_goes : (e : Emptying) (number count : ℕ) → Cleans e number (emptying.on_clean e number count)
 unfolding emptying.on_clean
 clean_goes e number count =
     by_test (Cleans e number) (is_some e.lasting.items.unanswered) (record { state = e; outs = Answers number answer.Busy ∷ [] })
-    (emptying.begins_job e number count) (λ _. record { begun = refl; waits = λ n is. inl is; plain = (tt, tt) }) (λ _. begins_go e number count)
+    (emptying.begins_job e number count) (λ _. record { begun = refl; waits = λ n is. inl is; quiet = (tt, tt) }) (λ _. begins_go e number count)
 
 -- ---- the log
 
@@ -297,11 +297,11 @@ unfolding emptying.settles
 settles_go e end rows =
     let f : Emptying = emptying.fed e end rows in
     first_goes e (Does (Filed (name_of cleaner_log end)) ∷ pushes_all f.promised.managers f.feed) (jobs.cleans f input.Moved)
-    (tt, all_pushed_plain f.promised.managers f.feed) (from_goes e f (jobs.cleans f input.Moved) (same (items_of e)) (cleans_go f input.Moved))
+    (tt, all_pushed_quiet f.promised.managers f.feed) (from_goes e f (jobs.cleans f input.Moved) (same (items_of e)) (cleans_go f input.Moved))
 
 one_goes : (e : Emptying) (o : LogOut) → Goes e (emptying.writes_one e o)
 unfolding emptying.writes_one
-one_goes e (log_out.Send fragment member) = record { items = same (items_of e); plain = (tt, tt) }
+one_goes e (log_out.Send fragment member) = record { items = same (items_of e); quiet = (tt, tt) }
 one_goes e (log_out.Settled end rows) = settles_go e end rows
 
 writes_go : (e : Emptying) (i : LogIn) → Goes e (emptying.writes e i)
@@ -415,7 +415,7 @@ pub packet_goes : (e : Emptying) (packet : Packet) → Goes e (emptying.on_packe
 unfolding emptying.on_packet
 packet_goes e packet =
     by_test (Goes e) (names_known e.maps packet.body) (emptying.on_body e packet.from packet.body) (emptying.asks_for_maps e)
-    (λ _. body_goes e packet.from packet.body) (λ _. record { items = same (items_of e); plain = (tt, tt) })
+    (λ _. body_goes e packet.from packet.body) (λ _. record { items = same (items_of e); quiet = (tt, tt) })
 
 pub tick_goes : (e : Emptying) → Goes e (emptying.on_tick e)
 unfolding emptying.on_tick
@@ -425,4 +425,4 @@ tick_goes e =
     let pushed : List Effect = pushes_all l.state.promised.managers l.state.feed in
     then_goes e j (after l.outs (record { state = l.state; outs = pushed })) (cleans_go e input.Tick)
     (then_goes j.state l (record { state = l.state; outs = pushed }) (writes_go j.state log_in.Tick)
-    (record { items = same (items_of l.state); plain = all_pushed_plain l.state.promised.managers l.state.feed }))
+    (record { items = same (items_of l.state); quiet = all_pushed_quiet l.state.promised.managers l.state.feed }))

@@ -337,8 +337,10 @@ event_so peers p (Deliver packet) =
     by_test WentSo (is_well_formed peers packet) (on_packet peers p packet) (still p) (λ _. gets_so peers p packet) (λ _. tt)
 event_so peers p Tick = time_so p
 
-pub managers_say_none : (m : Manager) (what : Do) → NoneIsLost (manager_step m what).acts
+pub manager_plain : (m : Manager) (what : Do) → AllPlain (happens m what).outs
 unfolding happens
-managers_say_none m what =
-    none_lost (nodes.Manager (lasting_of m.phase).number) (happens m what).outs
-    (by_test WentSo (phase_has_room m.phase) (on_event m.peers m.phase what) (still m.phase) (λ _. event_so m.peers m.phase what) (λ _. tt))
+manager_plain m what =
+    by_test WentSo (phase_has_room m.phase) (on_event m.peers m.phase what) (still m.phase) (λ _. event_so m.peers m.phase what) (λ _. tt)
+
+pub managers_say_none : (m : Manager) (what : Do) → NoneIsLost (manager_step m what).acts
+managers_say_none m what = none_lost (nodes.Manager (lasting_of m.phase).number) (happens m what).outs (manager_plain m what)

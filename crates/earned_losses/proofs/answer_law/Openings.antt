@@ -50,6 +50,7 @@ use Rattle.earned_losses.proofs.answer_law.Telling.{AllPlain, IsPlain, NoAnswer,
 
 act_plain : (a : Act) → MayAct a → NoAnswer a
 act_plain (act.Answered node item x) may = may
+act_plain (act.Lost node name) may = may
 act_plain _ may = tt
 
 one_plain : (owner : Owner) (e : Effect) → MayDo owner e → IsPlain e

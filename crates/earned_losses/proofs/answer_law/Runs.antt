@@ -4,6 +4,7 @@ use Rattle.std.specs.List.{fold}
 use Rattle.std.proofs.lemmas.Bool.{eqb-true}
 use Rattle.std.proofs.lemmas.Bool.Decides.{nat_tests}
 use Rattle.cleaner_node.specs.CleanerEvents as cleaning
+use Rattle.client_node.specs.declared.client.Client.{Client}
 use Rattle.client_node.specs.Phases.{lasting_of, takes}
 use Rattle.core_world.specs.AnyNode.{any_start, any_step}
 use Rattle.core_world.specs.declared.any_node.AnyNode.{AnyNode}
@@ -25,7 +26,7 @@ use Rattle.run_laws.proofs.world_law.Nodes.{get_set_other, get_set_same}
 use Rattle.run_laws.proofs.world_law.Places.{one_name}
 use Rattle.run_laws.proofs.world_law.Start.{first_stands}
 use Rattle.run_laws.proofs.world_law.Turning.{next_cluster, next_keeps}
-use Rattle.run_laws.specs.world_law.Owners.{moment, node_in}
+use Rattle.run_laws.specs.world_law.Owners.{moment, node_in, node_named}
 use Rattle.run_laws.specs.world_logs.Doings.{acts_in}
 use Rattle.xfs_base.specs.declared.node.NodeId.{NodeId}
 use Rattle.xfs_base.specs.declared.node.NodeId.TheVariants as nodes
@@ -225,6 +226,11 @@ module _ (e : Estate AnyNode) where
   stands_at count =
       all_stand e.events count (start_world any_start e.script) []
       (subst (λ k. AllStand k [] (start_world any_start e.script).nodes) (sym first_cluster) (start_stands e.script))
+
+-- a client of a run has its number, and its call ends well
+pub client_stands : (e : Estate AnyNode) (count c : ℕ) (node : Client) → node_named (moment e count) (nodes.Client c) ≡ Some (any.Client node)
+    → (nodes.Client (lasting_of node.phase).number ≡ nodes.Client c) × GoesWell node.phase
+client_stands e count c node is = (let s = stands_at e count (nodes.Client c) (any.Client node) is in (s.0, s.1.0))
 
 pub runs_say : LostAnswersAreSaid
 runs_say e = record {

@@ -1,4 +1,4 @@
--- Servers and the registry answer no item that a segment is lost.
+-- Servers and the registry answer no item that a segment is lost, nor say it.
 use Rattle.std.proofs.Common.{ℕ, ◌==◌, ◌&&◌, List, [], ◌∷◌, Option, Some, None, is_some}
 use Rattle.std.specs.List.{flat_map}
 use Rattle.std.specs.Ordering.{is_eq}
@@ -51,17 +51,17 @@ use Rattle.xfs_base.specs.declared.node.NodeId.TheVariants as nodes
 use Rattle.xfs_base.specs.declared.segment.SegName.{SegName}
 use Rattle.xfs_base.specs.Segments.{pass_cmp}
 use Rattle.xfs_base.specs.Steps.{still}
-use Rattle.earned_losses.proofs.answer_law.Telling.{AllPlain, IsPlain, all_append, all_flat_map, all_map, all_steps, answers_plain, none_lost}
+use Rattle.earned_losses.proofs.answer_law.Telling.{AllQuiet, IsQuiet, all_append, all_flat_map, all_map, all_steps, answers_quiet, none_lost, quiet_plain}
 use Rattle.earned_losses.specs.answer_law.Answers.{NoneIsLost}
 
 -- ---- servers
 
 abbrev So : Done → Type 0
-So d = AllPlain d.outs
+So d = AllQuiet d.outs
 
-lists_plain : (r : Option Rebuilding) (asked : ℕ) → AllPlain (rebuilds.lists_asked r asked)
-lists_plain None asked = tt
-lists_plain (Some r) asked = (tt, tt)
+lists_quiet : (r : Option Rebuilding) (asked : ℕ) → AllQuiet (rebuilds.lists_asked r asked)
+lists_quiet None asked = tt
+lists_quiet (Some r) asked = (tt, tt)
 
 fetch_so : (v : Server) (r : Option Rebuilding) (asked : ℕ) (name : SegName) (own : ℕ) → So (rebuilds.fetch_asked v r asked name own)
 fetch_so v None asked name own = tt
@@ -69,10 +69,10 @@ fetch_so v (Some r) asked name own = (tt, tt)
 
 says_so : (v : Server) (o : RebuildOut) → So (rebuilds.says v o)
 unfolding rebuilds.says
-says_so v (rebuild_out.List asked) = lists_plain v.rebuilding asked
+says_so v (rebuild_out.List asked) = lists_quiet v.rebuilding asked
 says_so v (rebuild_out.Fetch asked name own) = fetch_so v v.rebuilding asked name own
 says_so v (rebuild_out.Fill fragment) = tt
-says_so v (rebuild_out.Finished filled gone) = answers_plain v.items.unanswered (answer.Rebuilt filled gone) tt
+says_so v (rebuild_out.Finished filled gone) = answers_quiet v.items.unanswered (answer.Rebuilt filled gone) tt
 
 rebuilds_so : (v : Server) (given : In) → So (rebuilds.rebuilds v given)
 unfolding rebuilds.rebuilds
@@ -80,7 +80,7 @@ rebuilds_so v given = by v.rebuilding
   where
     by : (r : Option Rebuilding) → So (rebuilds.goes_on v r given)
     by None = tt
-    by (Some r) = all_steps rebuilds.says IsPlain says_so _ (rebuild.transition r.rebuild given).outs
+    by (Some r) = all_steps rebuilds.says IsQuiet says_so _ (rebuild.transition r.rebuild given).outs
 
 listed_so : (v : Server) (from : Option ℕ) (listed : Listed) → So (rebuilds.on_listed v from listed)
 unfolding rebuilds.on_listed
@@ -111,8 +111,8 @@ unfolding server.on_store
 store_so v from store =
     by_test So (is_some (store_refused v.shelf store.fragment.meta.name store.generation)) (still v) _ (λ _. tt) (λ _. (tt, tt))
 
-fence_plain : (from : NodeId) (fence : Fence) (s : ShelfState) → AllPlain (server.fence_told from fence s)
-fence_plain from fence s = by_test AllPlain (is_eq (pass_cmp (fence_of s.fences fence.log) fence.pass)) _ [] (λ _. (tt, tt)) (λ _. tt)
+fence_quiet : (from : NodeId) (fence : Fence) (s : ShelfState) → AllQuiet (server.fence_told from fence s)
+fence_quiet from fence s = by_test AllQuiet (is_eq (pass_cmp (fence_of s.fences fence.log) fence.pass)) _ [] (λ _. (tt, tt)) (λ _. tt)
 
 takes_news_so : (v : Server) (news : News) → So (server.takes_news v news)
 unfolding server.takes_news
@@ -127,7 +127,7 @@ hears_so : (v : Server) (from : NodeId) (b : Body) → So (server.hears v from b
 unfolding server.on_fence server.on_delete
 hears_so v from (body.Store store) = store_so v from store
 hears_so v from (body.Fetch fetch) = (tt, tt)
-hears_so v from (body.Fence fence) = fence_plain from fence (fenced_at v.shelf fence.log fence.pass)
+hears_so v from (body.Fence fence) = fence_quiet from fence (fenced_at v.shelf fence.log fence.pass)
 hears_so v from (body.List list) = (tt, tt)
 hears_so v from (body.Delete delete) = (tt, tt)
 hears_so v from (body.Listed listed) = listed_so v (rebuilds.server_in from) listed
@@ -159,7 +159,7 @@ begins_so v number (Some groups) = rebuilds_so _ input.Tick
 wish_so : (v : Server) (number : ℕ) (wish : Wish) → So (server.on_wish v number wish)
 unfolding server.on_lose server.on_rebuild
 wish_so v number Lose =
-    all_append IsPlain (answers_unanswered v.items.unanswered answer.Cut) _ (answers_plain v.items.unanswered answer.Cut tt) (tt, (tt, tt))
+    all_append IsQuiet (answers_unanswered v.items.unanswered answer.Cut) _ (answers_quiet v.items.unanswered answer.Cut tt) (tt, (tt, tt))
 wish_so v number Rebuild =
     by_test So (is_some v.items.unanswered) _ (server.begins_rebuild v number v.maps.groups) (λ _. (tt, tt)) (λ _. begins_so v number v.maps.groups)
 wish_so v number Other = tt
@@ -168,62 +168,63 @@ item_so : (v : Server) (item : Option ℕ) → So (server.at_item v item)
 item_so v None = tt
 item_so v (Some number) = wish_so v number (server.wish_of (work_at v.items number))
 
-hello_plain : (v : Server) (ask : Option ℕ) → AllPlain (server.hello_again v ask)
-hello_plain v None = tt
-hello_plain v (Some ask) = (tt, tt)
+hello_quiet : (v : Server) (ask : Option ℕ) → AllQuiet (server.hello_again v ask)
+hello_quiet v None = tt
+hello_quiet v (Some ask) = (tt, tt)
 
 event_so : (v : Server) (what : Do) → So (server.on_event v what)
 unfolding server.on_begin server.on_tick
 event_so v Begin = item_so (record v { items = begun v.items }) (next_item v.items)
 event_so v (Deliver packet) = packet_so v packet
-event_so v Tick = all_append IsPlain (server.hello_again v v.hello) _ (hello_plain v v.hello) (rebuilds_so v input.Tick)
+event_so v Tick = all_append IsQuiet (server.hello_again v v.hello) _ (hello_quiet v v.hello) (rebuilds_so v input.Tick)
+
+pub server_quiet : (v : Server) (what : Do) → AllQuiet (server.takes v what).outs
+server_quiet v what = by_test So (server.is_far_from_ends v) (server.on_event v what) (still v) (λ _. event_so v what) (λ _. tt)
 
 pub servers_say_none : (v : Server) (what : Do) → NoneIsLost (server_step v what).acts
-servers_say_none v what =
-    none_lost (nodes.Server v.number) (server.takes v what).outs
-    (by_test So (server.is_far_from_ends v) (server.on_event v what) (still v) (λ _. event_so v what) (λ _. tt))
+servers_say_none v what = none_lost (nodes.Server v.number) (server.takes v what).outs (quiet_plain (server.takes v what).outs (server_quiet v what))
 
 -- ---- the registry
 
 abbrev RegistrySo : registry.Done → Type 0
-RegistrySo d = AllPlain d.outs
+RegistrySo d = AllQuiet d.outs
 
-tells_plain : (node : RegistryNode) → AllPlain (registry.tells_all node)
-tells_plain node = all_map IsPlain (λ (to : NodeId). Send to _) (λ to. tt) _
+tells_quiet : (node : RegistryNode) → AllQuiet (registry.tells_all node)
+tells_quiet node = all_map IsQuiet (λ (to : NodeId). Send to _) (λ to. tt) _
 
-moved_plain : (node : RegistryNode) (number : ℕ) (o : Out) → AllPlain (registry.moved node number o)
-moved_plain node number Changed = tells_plain node
-moved_plain node number (Epoch epoch) = (tt, tt)
-moved_plain node number (Kept epoch) = tt
+moved_quiet : (node : RegistryNode) (number : ℕ) (o : Out) → AllQuiet (registry.moved node number o)
+moved_quiet node number Changed = tells_quiet node
+moved_quiet node number (Epoch epoch) = (tt, tt)
+moved_quiet node number (Kept epoch) = tt
 
-changed_plain : (node : RegistryNode) (o : Out) → AllPlain (registry.changed node o)
-changed_plain node Changed = tells_plain node
-changed_plain node (Epoch epoch) = tt
-changed_plain node (Kept epoch) = tt
+changed_quiet : (node : RegistryNode) (o : Out) → AllQuiet (registry.changed node o)
+changed_quiet node Changed = tells_quiet node
+changed_quiet node (Epoch epoch) = tt
+changed_quiet node (Kept epoch) = tt
 
-kept_plain : (from : NodeId) (done : CkptDone) (o : Out) → AllPlain (registry.kept from done o)
-kept_plain from done Changed = tt
-kept_plain from done (Epoch epoch) = tt
-kept_plain from done (Kept epoch) = (tt, tt)
+kept_quiet : (from : NodeId) (done : CkptDone) (o : Out) → AllQuiet (registry.kept from done o)
+kept_quiet from done Changed = tt
+kept_quiet from done (Epoch epoch) = tt
+kept_quiet from done (Kept epoch) = (tt, tt)
 
 move_so : (node : RegistryNode) (number slot manager : ℕ) → RegistrySo (registry.on_move node number slot manager)
 unfolding registry.on_move
 move_so node number slot manager =
     let n : RegistryNode = record node { board = (transition node.board (board.Reassign slot manager)).state } in
-    all_flat_map IsPlain (registry.moved n number) (moved_plain n number) (transition node.board (board.Reassign slot manager)).outs
+    all_flat_map IsQuiet (registry.moved n number) (moved_quiet n number) (transition node.board (board.Reassign slot manager)).outs
 
 hello_so : (node : RegistryNode) (from : NodeId) (hello : Hello) → RegistrySo (registry.on_hello node from hello)
 unfolding registry.on_hello
 hello_so node from hello =
     let n : RegistryNode = record node { board = (transition node.board (board.Hello from hello.inc)).state } in
     let outs : List Out = (transition node.board (board.Hello from hello.inc)).outs in
-    all_append IsPlain (flat_map (registry.changed n) outs) (Send from (body.Welcome (registry.welcome_of n hello)) ∷ [])
-    (all_flat_map IsPlain (registry.changed n) (changed_plain n) outs) (tt, tt)
+    all_append IsQuiet (flat_map (registry.changed n) outs) (Send from (body.Welcome (registry.welcome_of n hello)) ∷ [])
+    (all_flat_map IsQuiet (registry.changed n) (changed_quiet n) outs) (tt, tt)
 
 done_so : (node : RegistryNode) (from : NodeId) (done : CkptDone) → RegistrySo (registry.on_done node from done)
 unfolding registry.on_done
 done_so node from done =
-    all_flat_map IsPlain (registry.kept from done) (kept_plain from done)
+    all_flat_map IsQuiet (registry.kept from done) (kept_quiet from done)
     (transition node.board (board.Done done.slot done.epoch done.parts done.horizon)).outs
 
 moves_so : (node : RegistryNode) (number : ℕ) (wish : Option (ℕ × ℕ)) → RegistrySo (registry.on_item node number wish)
@@ -245,9 +246,11 @@ happens_so node Begin = at_item_so (record node { items = begun node.items }) (n
 happens_so node (Deliver packet) =
     by_test RegistrySo (is_well_formed node.peers packet) (registry.hears node packet.from packet.body) (still node) (λ _. told_so node packet.from packet.body)
     (λ _. tt)
-happens_so node Tick = tells_plain node
+happens_so node Tick = tells_quiet node
+
+pub registry_quiet : (node : RegistryNode) (what : Do) → AllQuiet (registry.takes node what).outs
+registry_quiet node what = by_test RegistrySo (has_room node.board.version) (registry.on_event node what) (still node) (λ _. happens_so node what) (λ _. tt)
 
 pub registry_says_none : (node : RegistryNode) (what : Do) → NoneIsLost (registry_step node what).acts
 registry_says_none node what =
-    none_lost nodes.Registry (registry.takes node what).outs
-    (by_test RegistrySo (has_room node.board.version) (registry.on_event node what) (still node) (λ _. happens_so node what) (λ _. tt))
+    none_lost nodes.Registry (registry.takes node what).outs (quiet_plain (registry.takes node what).outs (registry_quiet node what))

@@ -47,9 +47,10 @@ in_behind x (y ∷ xs) ys is = inr (in_behind x xs ys is)
 
 -- ---- effects that answer no item so
 
--- an act that answers no item
+-- an act that answers no item, nor says that a segment is lost
 abbrev pub NoAnswer : Act → Type 0
 NoAnswer (act.Answered node item a) = ⊥
+NoAnswer (act.Lost node name) = ⊥
 NoAnswer _ = Unit {0}
 
 abbrev pub IsPlain : Effect → Type 0
@@ -73,6 +74,70 @@ pushed_plain managers feed slot = all_map IsPlain (range managers) (range_plain 
 
 pub all_pushed_plain : (managers : Managers) (feed : FeedState) → AllPlain (pushes_all managers feed)
 all_pushed_plain managers feed = all_map IsPlain (range managers) (range_plain managers) (ticked feed)
+
+-- ---- effects that say of no segment that it is lost
+
+abbrev pub IsNoLoss : Effect → Type 0
+IsNoLoss (Lose name) = ⊥
+IsNoLoss _ = Unit {0}
+
+abbrev pub NoLosses : List Effect → Type 0
+NoLosses outs = AllByRecursion IsNoLoss outs
+
+pub answers_no_loss : (item : Option ℕ) (a : Answer) → NoLosses (answers_unanswered item a)
+answers_no_loss None a = tt
+answers_no_loss (Some number) a = (tt, tt)
+
+range_no_loss : (managers : Managers) (x : RangeOut) → IsNoLoss (range managers x)
+range_no_loss managers (Range slot first upto rows) = tt
+
+pub pushed_no_loss : (managers : Managers) (feed : FeedState) → NoLosses (pushes_all managers feed)
+pushed_no_loss managers feed = all_map IsNoLoss (range managers) (range_no_loss managers) (ticked feed)
+
+pub none_among : (outs : List Effect) (name : SegName) → NoLosses outs → In (Lose name) outs → ⊥
+none_among [] name none is = is
+none_among (Send to b ∷ outs) name none (inl e) = absurd cc
+none_among (Send to b ∷ outs) name none (inr is) = none_among outs name none.1 is
+none_among (Answers item a ∷ outs) name none (inl e) = absurd cc
+none_among (Answers item a ∷ outs) name none (inr is) = none_among outs name none.1 is
+none_among (Lose seg ∷ outs) name none is = absurd none.0
+none_among (Does a ∷ outs) name none (inl e) = absurd cc
+none_among (Does a ∷ outs) name none (inr is) = none_among outs name none.1 is
+
+-- ---- effects that answer no item so, and say of no segment that it is lost
+
+abbrev pub IsQuiet : Effect → Type 0
+IsQuiet (Send to said) = Unit {0}
+IsQuiet (Answers item a) = NotLost a
+IsQuiet (Lose name) = ⊥
+IsQuiet (Does a) = NoAnswer a
+
+abbrev pub AllQuiet : List Effect → Type 0
+AllQuiet outs = AllByRecursion IsQuiet outs
+
+pub answers_quiet : (item : Option ℕ) (a : Answer) → NotLost a → AllQuiet (answers_unanswered item a)
+answers_quiet None a quiet = tt
+answers_quiet (Some number) a quiet = (quiet, tt)
+
+range_quiet : (managers : Managers) (x : RangeOut) → IsQuiet (range managers x)
+range_quiet managers (Range slot first upto rows) = tt
+
+pub all_pushed_quiet : (managers : Managers) (feed : FeedState) → AllQuiet (pushes_all managers feed)
+all_pushed_quiet managers feed = all_map IsQuiet (range managers) (range_quiet managers) (ticked feed)
+
+pub quiet_plain : (outs : List Effect) → AllQuiet outs → AllPlain outs
+quiet_plain [] all = tt
+quiet_plain (Send to b ∷ outs) all = (tt, quiet_plain outs all.1)
+quiet_plain (Answers item a ∷ outs) all = (all.0, quiet_plain outs all.1)
+quiet_plain (Lose name ∷ outs) all = absurd all.0
+quiet_plain (Does a ∷ outs) all = (all.0, quiet_plain outs all.1)
+
+pub quiet_no_loss : (outs : List Effect) → AllQuiet outs → NoLosses outs
+quiet_no_loss [] all = tt
+quiet_no_loss (Send to b ∷ outs) all = (tt, quiet_no_loss outs all.1)
+quiet_no_loss (Answers item a ∷ outs) all = (tt, quiet_no_loss outs all.1)
+quiet_no_loss (Lose name ∷ outs) all = absurd all.0
+quiet_no_loss (Does a ∷ outs) all = (tt, quiet_no_loss outs all.1)
 
 -- ---- effects that answer so of these items alone
 
@@ -264,6 +329,33 @@ module _ (I : ℕ → Type 0) (me : NodeId) (outs : List Effect) (told : Told I 
   node_so node item name is =
       let s = split (answers_lost node item name) (acts_of me outs) is in
       (earned I me node item name [] outs s.before s.behind told s.is).is_me
+
+-- what a node acts to be lost, it says is lost, and it acts that of itself
+module _ (I : ℕ → Type 0) (me node : NodeId) (name : SegName) where
+  pub record SaysLost (outs : List Effect) : Type 0 where
+    pub own : node ≡ me
+    pub among : In (Lose name) outs
+
+  behind_it : (x : Effect) (outs : List Effect) → SaysLost outs → SaysLost (x ∷ outs)
+  behind_it x outs s = record { own = s.own; among = inr s.among }
+
+  here : (seg : SegName) (outs : List Effect) → act.Lost node name ≡ act.Lost me seg → SaysLost (Lose seg ∷ outs)
+  here seg outs e = (let same : name ≡ seg = cc in record { own = cc; among = inl (ap Lose same) })
+
+  pub says_lost : (said : List SegName) (outs : List Effect) → Told I said outs → In (act.Lost node name) (acts_of me outs) → SaysLost outs
+  says_lost said [] t is = absurd is
+  says_lost said (Send to b ∷ outs) t is = behind_it (Send to b) outs (says_lost said outs t is)
+  says_lost said (Answers item a ∷ outs) t (inl e) = absurd cc
+  says_lost said (Answers item a ∷ outs) t (inr is) = behind_it (Answers item a) outs (says_lost said outs t.1 is)
+  says_lost said (Lose seg ∷ outs) t (inl e) = here seg outs e
+  says_lost said (Lose seg ∷ outs) t (inr is) = behind_it (Lose seg) outs (says_lost (seg ∷ said) outs t is)
+  says_lost said (Does a ∷ outs) t (inl e) = absurd (subst NoAnswer (sym e) t.0)
+  says_lost said (Does a ∷ outs) t (inr is) = behind_it (Does a) outs (says_lost said outs t.1 is)
+
+-- so it does where it answers no item so
+pub plain_says : (me node : NodeId) (name : SegName) (outs : List Effect) → AllPlain outs → In (act.Lost node name) (acts_of me outs)
+    → SaysLost (λ number. ⊥) me node name outs
+plain_says me node name outs plain is = says_lost (λ number. ⊥) me node name [] outs (told_plain (λ number. ⊥) [] outs plain) is
 
 -- what answers no item so answers none
 pub none_lost : (me : NodeId) (outs : List Effect) → AllPlain outs → NoneIsLost (acts_of me outs)

@@ -3,9 +3,10 @@ use Rattle.std.proofs.Common.{ℕ, ◌<◌, subst, arith}
 use Rattle.earned_losses.proofs.fetched_law.Lying.{is_stored, was_filed}
 use Rattle.earned_losses.specs.fetched_law.Reads.{CallsReadWhatIsStored, CallsReadWhatWasFiled}
 use Rattle.earned_losses.specs.fetching_law.Fetchings.{CallsReadBlocks}
-use Rattle.log_law.specs.Laws.{LogsStayWhole}
+use Rattle.earned_losses.proofs.missing_law.Servers.{StoredLaws}
+use Rattle.earned_losses.specs.missing_law.Stored.{IsStoredAs}
 use Rattle.run_laws.specs.segment_tie.Settings.{TellingSetting}
-use Rattle.earned_losses.specs.source_law.Sources.{IsStoredAs, WasFiled}
+use Rattle.earned_losses.specs.source_law.Sources.{WasFiled}
 use Rattle.run_laws.specs.world_law.Owners.{moment}
 use Rattle.run_laws.specs.world_logs.Lines.{LinesHaveTexts, RunsHaveLines}
 use Rattle.run_laws.specs.world_logs.Logs.{NotDeleted}
@@ -18,7 +19,7 @@ pub record Below : Type 0 where
   pub texts : LinesHaveTexts
   pub moments : EveryMomentStands
   pub blocks : CallsReadBlocks
-  pub whole : LogsStayWhole
+  pub stored : StoredLaws
 
 some_slot : 0 < 8
 some_slot = omega arith
@@ -41,4 +42,4 @@ calls_read_what_is_stored below e ok run count none c some most item segment x k
     let stands = below.moments base below.setting.1 e ok run lines texts count none in
     let block = below.blocks e ok run c some most count x.reading x.is in
     subst (λ (ref : SegRef). NotDeleted (moment e count) ref.name → IsStoredAs e count ref) x.of
-    (is_stored base e run lines texts (first_of base e lines texts) count (stands.joints 0 some_slot) c x.reading x.is block.0 block.1 below.whole) kept
+    (is_stored base e run lines texts (first_of base e lines texts) count (stands.joints 0 some_slot) c x.reading x.is block.0 block.1 below.stored) kept

@@ -14,18 +14,17 @@ use Rattle.telling_ties.specs.entry_tie.Told.{Told, told_by}
 use Rattle.earned_losses.specs.fetching_law.Fetchings.{serving_in, serving_of, what_is_read}
 use Rattle.run_laws.specs.index_reads.Ties.{ArePlain}
 use Rattle.index_tie.specs.Filed.{Filed, rows_at}
-use Rattle.log_law.specs.Laws.{LogsStayWhole}
 use Rattle.log_protocol.specs.Tables as tables
 use Rattle.log_tie.specs.Setting.{Setting}
 use Rattle.loss_law.specs.Losses.{ref_of}
-use Rattle.earned_losses.proofs.missing_law.Servers.{FlownStored, flown_is_stored}
+use Rattle.earned_losses.proofs.missing_law.Servers.{StoredLaws, flown_is_stored}
+use Rattle.earned_losses.specs.missing_law.Stored.{IsStoredAs}
 use Rattle.run_laws.proofs.place_law.Lying.{LiesAt, lies_there}
 use Rattle.segment_format.specs.declared.segment.Segment.{Segment}
 use Rattle.segment_reading.specs.declared.target.BlockAt.{BlockAt}
 use Rattle.segment_reading.specs.Reading.{ReadingState}
-use Rattle.earned_losses.specs.source_law.Sources.{IsStoredAs, WasFiled}
+use Rattle.earned_losses.specs.source_law.Sources.{WasFiled}
 use Rattle.token_protocol.specs.Basics.{In}
-use Rattle.earned_losses.specs.torn_law.Torn.{IsTornAt}
 use Rattle.version_model.specs.declared.act.Act.TheVariants as act
 use Rattle.world_base.specs.Cluster.{place_of}
 use Rattle.world_base.specs.declared.estate.Estate.{Estate}
@@ -147,17 +146,8 @@ module _ (base : Setting) (e : Estate AnyNode) (run : IsRun any_step any_start e
   }
 
   -- and it is stored over its group
-  pub is_stored : LogsStayWhole → NotDeleted (moment e count) r.target.seg.name → IsStoredAs e count r.target.seg
-  is_stored whole kept =
+  pub is_stored : StoredLaws → NotDeleted (moment e count) r.target.seg.name → IsStoredAs e count r.target.seg
+  is_stored laws kept =
       let undeleted : NotDeleted (moment e count) s.name = subst (NotDeleted (moment e count)) lies.name kept in
-      let k : FlownStored e run base lines whole h.role h.there count s flown_there filed_there undeleted =
-      flown_is_stored e run base lines whole h.role h.there count s flown_there filed_there undeleted in
       let same : ref_of s ≡ r.target.seg = λ i. record { name = sym lies.name i; group = sym lies.group i } in
-      record {
-        segment = s;
-        is = same;
-        group = k.group;
-        striped = k.striped;
-        kept = k.kept;
-        disks = λ torn. k.disks (subst (IsTornAt e count) (sym same) torn);
-      }
+      subst (IsStoredAs e count) same (flown_is_stored e run base lines laws h.role h.there count s flown_there filed_there undeleted)

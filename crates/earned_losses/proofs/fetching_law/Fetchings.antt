@@ -53,7 +53,7 @@ use Rattle.run_laws.specs.world_logs.Roles.Role.{OfClient}
 use Rattle.xfs_base.specs.declared.node.NodeId.{NodeId}
 use Rattle.xfs_base.specs.declared.node.NodeId.TheVariants as nodes
 use Rattle.xfs_base.specs.declared.segment.SegName.{SegName}
-use Rattle.earned_losses.specs.fetching_law.Fetchings.{BringsGone, CallsReadBlocks, FetchesLossesEarned, WasTorn, serving_at, serving_in, what_is_read}
+use Rattle.earned_losses.specs.fetching_law.Fetchings.{BringsGone, CallsReadBlocks, FetchesLossesEarned, WasTornInFetch, serving_at, serving_in, what_is_read}
 use Rattle.earned_losses.proofs.fetching_law.Counts.{AnswersTell, Good, GrantsAsked, Here, all_good, became, client_there, serving_is, was}
 use Rattle.earned_losses.proofs.fetching_law.Maps.{ServesWell, StandsWell}
 use Rattle.earned_losses.proofs.fetching_law.Phases.{After, event_serves}
@@ -129,7 +129,7 @@ module _ (base : Setting) (e : Estate AnyNode) (run : IsRun any_step any_start e
   module _ (count : ℕ) (event : Event) (is : slice_get e.events count ≡ Some event) (own : reader ≡ node_of event) (s : Serving)
       (serves : serving_at e c count ≡ Some s) (name : SegName) where
     abbrev Earned : Type 0
-    Earned = BringsGone s (what_of event) name ⊎ WasTorn e c s count (what_of event) name
+    Earned = BringsGone s (what_of event) name ⊎ WasTornInFetch e c s count (what_of event) name
 
     good : Good base e run lines c is_there answers asked count
     good = all_good base e run lines c is_there answers asked stay count
@@ -141,7 +141,7 @@ module _ (base : Setting) (e : Estate AnyNode) (run : IsRun any_step any_start e
     gets_it : (p : Packet) → what_of event ≡ Deliver p → p.to ≡ reader
     gets_it p delivers = (brought (moment e count) event (may_happen e run count event is) p delivers).1 ∙ sym own
 
-    doubts_torn : Doubts s (what_of event) name → WasTorn e c s count (what_of event) name
+    doubts_torn : Doubts s (what_of event) name → WasTornInFetch e c s count (what_of event) name
     doubts_torn d =
         let read : what_is_read (serving_at e c count) ≡ Some d.was = ap what_is_read serves ∙ d.is in
         let h : Reads e c count d.was = good.reads d.was read in
@@ -211,7 +211,7 @@ module _ (base : Setting) (e : Estate AnyNode) (run : IsRun any_step any_start e
         (said_so (takes node (what_of event)).state (takes node (what_of event)).outs (nodes.Client (lasting_of node.phase).number)
         (event_serves node s serving w.waits (what_of event)) (subst (In (act.Lost reader name)) acts among))
 
-    pub lost_earned : In (act.Lost reader name) (acts_in (moment e count) event) → BringsGone s (what_of event) name ⊎ WasTorn e c s count (what_of event) name
+    pub lost_earned : In (act.Lost reader name) (acts_in (moment e count) event) → BringsGone s (what_of event) name ⊎ WasTornInFetch e c s count (what_of event) name
     lost_earned among = ⊎_elim (λ still. still_lost still among) (λ t. turn_lost t among) (became base e run lines c is_there answers asked count event is)
 
 -- ---- of every run

@@ -1,5 +1,5 @@
--- What a client says is lost while it reads a block was torn: the Grant that confirmed where the block lies was sent after servers had missed the segment twice, and
--- it leads to what stood then; and where a manager answered that it is gone, that stands too.
+-- What a client says is lost while it reads a block was torn: the Grant that confirmed where the block lies was sent after servers had missed the segment
+-- twice, and it leads to what stood then; and where a manager answered that it is gone, that stands too.
 use Rattle.std.proofs.Common.{◌≡◌, ⊎_elim, ℕ, ◌<◌, ◌≤◌, Option, Some, None, slice_get, sym, ap, subst, ◌∙◌, inl, inr, arith}
 use Rattle.client_node.specs.declared.phase.Phase.{Phase}
 use Rattle.client_node.specs.declared.phase.Phase.TheVariants.{Down, Opening, Serving as Serves}
@@ -7,14 +7,15 @@ use Rattle.client_serving.specs.declared.serving.Serving.{Serving}
 use Rattle.core_world.specs.AnyNode.{any_start, any_step}
 use Rattle.core_world.specs.declared.any_node.AnyNode.{AnyNode}
 use Rattle.core_world.specs.declared.any_node.AnyNode.TheVariants as any
-use Rattle.earned_losses.specs.fetched_law.Reads.{CallsReadWhatWasFiled}
-use Rattle.earned_losses.specs.fetching_law.Fetchings.{FetchesLossesEarned, WasTorn, serving_at, serving_in, serving_of}
+use Rattle.earned_losses.specs.fetched_law.Reads.{CallsReadWhatIsStored, CallsReadWhatWasFiled}
+use Rattle.earned_losses.specs.fetching_law.Fetchings.{FetchesLossesEarned, WasTornInFetch, serving_at, serving_in, serving_of}
 use Rattle.earned_losses.specs.keeping_law.Keeping.{GrantsLeadToWhatStands, WouldAccept}
 use Rattle.node_base.specs.Setups.{IsSetup}
 use Rattle.run_laws.specs.restart_law.Restarts.{NoDoubtfulRestart}
 use Rattle.segment_reading.specs.declared.target.Target.{Target}
 use Rattle.earned_losses.specs.standing_law.Gone.{GonesAreOfWhatStands}
 use Rattle.token_client.specs.State.{TokensState}
+use Rattle.earned_losses.specs.torn_law.Torn.{IsTornAt}
 use Rattle.earned_losses.proofs.torn_law.Counts.{may_happen}
 use Rattle.earned_losses.proofs.torn_law.Turns.{brought}
 use Rattle.wire_msg.specs.declared.packet.Packet.{Packet}
@@ -50,21 +51,24 @@ tokens_there (Some (any.Registry node)) s is = absurd cc
 module _ (keeps : GrantsLeadToWhatStands) (e : Estate AnyNode) (setup : IsSetup e.script.setup) (run : IsRun any_step any_start e.script e.events e.world)
     (c count : ℕ) (none : NoDoubtfulRestart e count) (event : Event) (is : slice_get e.events count ≡ Some event) (own : nodes.Client c ≡ node_of event)
     (s : Serving) (serves : serving_at e c count ≡ Some s) (name : SegName) where
-  torn_so : CallsReadWhatWasFiled → 0 < c → c ≤ e.script.setup.clients → WasTorn e c s count (what_of event) name → WasTornInRead e c count name
-  torn_so filed some within w = record {
+  torn_so : CallsReadWhatWasFiled → CallsReadWhatIsStored → 0 < c → c ≤ e.script.setup.clients → WasTornInFetch e c s count (what_of event) name → WasTornInRead e c count name
+  torn_so filed stored some within w = record {
     segment = w.reading.target.seg;
     named = w.named;
     item = w.item;
     at = w.first;
     before = first_before;
     reads = w.reads;
-    filed = filed e setup run w.first (λ r n less. none r n (let a = first_before in omega arith)) c some within w.item w.reading.target.seg
-        (w.reads w.first (omega arith) first_before);
-    torn = w.torn stood;
+    filed = filed e setup run w.first undoubted c some within w.item w.reading.target.seg (w.reads w.first (omega arith) first_before);
+    torn = torn;
+    stored = stored e setup run w.first undoubted c some within w.item w.reading.target.seg (w.reads w.first (omega arith) first_before) torn.kept;
   }
     where
       first_before : w.first ≤ count
       first_before = (let a = w.in_order in let b = w.before in omega arith)
+
+      undoubted : NoDoubtfulRestart e w.first
+      undoubted r n less = none r n (let a = first_before in omega arith)
 
       packet : Packet
       packet = w.confirms.packet
@@ -89,8 +93,11 @@ module _ (keeps : GrantsLeadToWhatStands) (e : Estate AnyNode) (setup : IsSetup 
           subst (NotDeleted (moment e w.second)) (sym (w.named ∙ ap (λ (t : Target). t.seg.name) w.confirms.reads))
           (keeps e setup run count none c packet w.confirms.place would w.second w.before w.asked_after)
 
-pub reads_lose : FetchesLossesEarned → GonesAreOfWhatStands → GrantsLeadToWhatStands → CallsReadWhatWasFiled → ReadsLoseWhatIsTorn
-reads_lose fetches told keeps filed e setup run c some within count none event is own s serves name among =
+      torn : IsTornAt e w.first w.reading.target.seg
+      torn = w.torn stood
+
+pub reads_lose : FetchesLossesEarned → GonesAreOfWhatStands → GrantsLeadToWhatStands → CallsReadWhatWasFiled → CallsReadWhatIsStored → ReadsLoseWhatIsTorn
+reads_lose fetches told keeps filed stored e setup run c some within count none event is own s serves name among =
     ⊎_elim (λ gone. inl (told e setup run count none c event is own s serves name among gone))
-    (λ w. inr (torn_so keeps e setup run c count none event is own s serves name filed some within w))
+    (λ w. inr (torn_so keeps e setup run c count none event is own s serves name filed stored some within w))
     (fetches e setup run c some within count event is own s serves name among)

@@ -1,4 +1,5 @@
--- Of a segment that was filed, and that no server was told to delete, each member holds its fragment or has lost its disk; where it is torn, disks were lost.
+-- Where each member of a segment's group holds its fragment or has lost its disk, and the segment is torn, more have lost their disk than the parity makes
+-- good.
 use Rattle.std.proofs.Common.{◌≡◌, ℕ, ◌<◌, Bool, true, nat_lt, Option, Some, None, is_none, length, sym, subst, ◌∙◌, inl, inr, arith}
 use Rattle.std.proofs.lemmas.Bool.Decides.{nat_tests}
 use Rattle.std.specs.List.{count_by}
@@ -14,14 +15,11 @@ use Rattle.segment_format.specs.declared.segment.Segment.{Segment}
 use Rattle.earned_losses.specs.torn_law.Torn.{IsTornAt, lacks}
 use Rattle.world_base.specs.declared.estate.Estate.{Estate}
 use Rattle.run_laws.specs.world_law.Owners.{moment}
-use Rattle.run_laws.specs.world_logs.Logs.{IsWhole, RunsKeepLogs, RunsKeepManagersLogs, RunsKeepTheCleanersLog}
-use Rattle.run_laws.specs.world_logs.Roles.{log_by}
-use Rattle.run_laws.specs.world_logs.Roles.Role.{OfClient, OfCleaner, OfManager}
 use Rattle.run_laws.specs.world_logs.Shelves.{HoldsOrLost, IsKept, group_at, piece, shelf_at}
 use Rattle.xfs_base.proofs.Booleans.{contrary}
 use Rattle.xfs_base.specs.declared.fragment.Fragment.{Fragment}
 use Rattle.xfs_base.specs.declared.segment.SegName.{SegName}
-use Rattle.earned_losses.specs.missing_law.Stored.{IsStored, WhatIsFiledIsStored, disks_lost, has_lost_disk}
+use Rattle.earned_losses.specs.missing_law.Stored.{disks_lost, has_lost_disk}
 
 lacks_none : (o : Option Fragment) (f : Fragment) → o ≡ Some f → is_none o ≡ true → ⊥
 lacks_none None f is none = absurd cc
@@ -58,26 +56,3 @@ module _ (e : Estate AnyNode) (count : ℕ) (s : Segment) (group : Group) (kept 
       let torn : group.parity < count_by lack group.members = subst (λ (h : Group). h.parity < count_by lack h.members) same t.torn in
       let more = counted_places lack lost group.members each_lost in
       omega arith
-
-whole_is_stored : (e : Estate AnyNode) (count c : ℕ) (name : SegName) → IsWhole e.world (moment e count) c name → IsStored e count name
-whole_is_stored e count c name w = record {
-  segment = w.segment;
-  named = w.named;
-  group = w.group;
-  striped = w.striped;
-  kept = w.kept;
-  disks = disks_of e count w.segment w.group w.kept w.striped;
-}
-
-pub record Below : Type 0 where
-  pub clients : RunsKeepLogs
-  pub cleaners : RunsKeepTheCleanersLog
-  pub managers : RunsKeepManagersLogs
-
-pub what_is_filed_is_stored : Below → WhatIsFiledIsStored
-what_is_filed_is_stored below e ok run (OfClient c) is_there count name filed kept =
-    whole_is_stored e count c name ((below.clients e ok run count c is_there.0 is_there.1).whole name filed kept)
-what_is_filed_is_stored below e ok run OfCleaner is_there count name filed kept =
-    whole_is_stored e count (log_by OfCleaner) name ((below.cleaners e ok run count).whole name filed kept)
-what_is_filed_is_stored below e ok run (OfManager j) is_there count name filed kept =
-    whole_is_stored e count (log_by (OfManager j)) name ((below.managers e ok run count j is_there.0 is_there.1).whole name filed kept)

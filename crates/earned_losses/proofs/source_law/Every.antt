@@ -8,7 +8,8 @@ use Rattle.run_laws.specs.reading_law.Readings.{RunsReadWhatCame}
 use Rattle.run_laws.specs.restart_law.Restarts.{NoDoubtfulRestart}
 use Rattle.run_laws.specs.segment_tie.Settings.{TellingSetting}
 use Rattle.earned_losses.proofs.source_law.Lying.{Laws, reads_filed, reads_stored, slot_of_map}
-use Rattle.earned_losses.specs.source_law.Sources.{IsStoredAs, TakeoversLoseWhatWasFiled, TakeoversReadWhatIsStored, TakeoversReadWhatWasFiled, WasFiled}
+use Rattle.earned_losses.specs.missing_law.Stored.{IsStoredAs}
+use Rattle.earned_losses.specs.source_law.Sources.{TakeoversLoseWhatWasFiled, TakeoversReadWhatIsStored, TakeoversReadWhatWasFiled, WasFiled}
 use Rattle.earned_losses.specs.taking_law.Takings.{Reads, TakeoversLoseWhatIsTorn, WasTornOrDeleted, slot_at}
 use Rattle.world_base.specs.declared.estate.Estate.{Estate}
 use Rattle.world_base.specs.Runs.{IsRun}

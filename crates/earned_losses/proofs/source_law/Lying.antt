@@ -9,7 +9,7 @@ use Rattle.core_world.specs.declared.any_node.AnyNode.{AnyNode}
 use Rattle.core_world.specs.declared.any_node.AnyNode.TheVariants as any
 use Rattle.index_tie.specs.Filed.{Filed, rows_at}
 use Rattle.log_law.specs.Groups.{PriorsNameGroups}
-use Rattle.log_law.specs.Laws.{LogsStayWhole, OneNameOneText}
+use Rattle.log_law.specs.Laws.{OneNameOneText}
 use Rattle.log_law.specs.Places.{APlaceNamesOneContent}
 use Rattle.log_protocol.specs.Tables as tables
 use Rattle.log_tie.specs.Setting.{Setting}
@@ -21,7 +21,8 @@ use Rattle.manager_parts.specs.declared.slot_phase.SlotPhase.{SlotPhase}
 use Rattle.manager_parts.specs.declared.slot_phase.SlotPhase.TheVariants as phase
 use Rattle.manager_parts.specs.declared.slot_phase.Taking.{Taking}
 use Rattle.manager_serving.specs.declared.serving.Serving.{Serving}
-use Rattle.earned_losses.proofs.missing_law.Servers.{FlownStored, flown_is_stored}
+use Rattle.earned_losses.proofs.missing_law.Servers.{StoredLaws, flown_is_stored}
+use Rattle.earned_losses.specs.missing_law.Stored.{IsStoredAs}
 use Rattle.node_ties.specs.node_index_tie.ManagerEvents as places
 use Rattle.node_ties.specs.node_index_tie.Pages.{desk_of}
 use Rattle.node_ties.specs.node_tie.ManagerEvents.{phase_at, slot_in}
@@ -35,14 +36,13 @@ use Rattle.telling_ties.specs.reading_tie.TakeoverReads.{PresentHolds, StandsBy,
 use Rattle.telling_ties.specs.reference_tie.Managers.{PhaseRefers, ReportRefers, SlotRefers, TakeRefers}
 use Rattle.telling_ties.specs.reference_tie.References.{References}
 use Rattle.segment_format.specs.declared.segment.Segment.{Segment}
-use Rattle.earned_losses.specs.source_law.Sources.{IsStoredAs, WasFiled}
+use Rattle.earned_losses.specs.source_law.Sources.{WasFiled}
 use Rattle.takeover.specs.declared.report.Report.{Report as Heard}
 use Rattle.takeover.specs.declared.source.Source.{Source}
 use Rattle.takeover.specs.Reports.{writer_of}
 use Rattle.takeover.specs.Sources.{sources_of}
 use Rattle.earned_losses.specs.taking_law.Takings.{Reads, slot_at, slot_of}
 use Rattle.token_protocol.specs.Basics.{In}
-use Rattle.earned_losses.specs.torn_law.Torn.{IsTornAt}
 use Rattle.version_model.specs.declared.act.Act.TheVariants as act
 use Rattle.world_base.specs.Cluster.{cluster_of, place_of}
 use Rattle.world_base.specs.declared.estate.Estate.{Estate}
@@ -157,7 +157,7 @@ pub record Laws : Type 0 where
   pub one : OneNameOneText
   pub place : APlaceNamesOneContent
   pub priors : PriorsNameGroups
-  pub whole : LogsStayWhole
+  pub stored : StoredLaws
 
 module _ (laws : Laws) (base : Setting) (e : Estate AnyNode) (run : IsRun any_step any_start e.script e.events e.world) (lines : HasLines base e)
     (texts : Texts base e lines) (slot : ℕ) (first : ℕ → ℕ → Segment) (count : ℕ) (joint : Joint base e lines texts slot first count)
@@ -268,16 +268,7 @@ module _ (laws : Laws) (base : Setting) (e : Estate AnyNode) (run : IsRun any_st
       stored_so : IsStoredAs e count source.seg
       stored_so =
           let kept_so : NotDeleted (moment e count) s.name = subst (λ (x : SegRef). NotDeleted (moment e count) x.name) (sym same) kept in
-          let k : FlownStored e run base lines laws.whole role its_there count s flown filed_so kept_so =
-          flown_is_stored e run base lines laws.whole role its_there count s flown filed_so kept_so in
-          record {
-            segment = s;
-            is = same;
-            group = k.group;
-            striped = k.striped;
-            kept = k.kept;
-            disks = λ torn. k.disks (subst (IsTornAt e count) (sym same) torn);
-          }
+          subst (IsStoredAs e count) same (flown_is_stored e run base lines laws.stored role its_there count s flown filed_so kept_so)
 
     -- ---- a segment of a log
 

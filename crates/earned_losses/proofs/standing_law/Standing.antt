@@ -28,9 +28,10 @@ use Rattle.segment_format.specs.declared.segment.Segment.{Segment}
 use Rattle.run_laws.specs.segment_tie.Settings.{TellingSetting}
 use Rattle.takeover.specs.declared.source.Present.{Present}
 use Rattle.takeover.specs.declared.source.Source.{Source}
-use Rattle.earned_losses.specs.source_law.Sources.{TakeoversReadWhatWasFiled}
+use Rattle.earned_losses.specs.source_law.Sources.{TakeoversReadWhatIsStored, TakeoversReadWhatWasFiled}
 use Rattle.earned_losses.specs.taking_law.Takings.{Reads, WasTornOrDeleted, slot_at}
 use Rattle.token_client.specs.State.{epoch_of}
+use Rattle.earned_losses.specs.torn_law.Torn.{IsTornAt}
 use Rattle.token_law.specs.Laws.{ActiveEpochsPromised}
 use Rattle.token_manager.specs.SlotState.{SlotState}
 use Rattle.token_protocol.specs.Basics.{In}
@@ -76,6 +77,7 @@ pub record Below : Type 0 where
   pub moments : EveryMomentStands
   pub told : ClientsAreToldWhatWasLost
   pub filed : TakeoversReadWhatWasFiled
+  pub stored : TakeoversReadWhatIsStored
 
 same_log : (a b : LogId) → a.0 ≡ b.0 → a ≡ b
 same_log a b is = λ i. record { 0 = is i }
@@ -231,12 +233,17 @@ module _ (below : Below) (e : Estate AnyNode) (setup : IsSetup e.script.setup) (
   told_torn = record {
     told = told;
     stands = stood;
-    filed = below.filed e setup run was.at (λ r n less. none r n (let a = was.before in let b = told.said.before in omega arith)) j is_there was.slot was.epoch
-        was.segment
-        (was.reads was.at (omega arith) was.before);
-    torn = ⊎_elim (λ torn. torn) (λ d. absurd (not_deleted d.0 (record { name = was.segment.name })
-        (sent_on e at count (let before = told.said.before in omega arith) d.0 d.1) d.2 (sym was.named))) was.lost;
+    filed = below.filed e setup run was.at then_undoubted j is_there was.slot was.epoch was.segment (was.reads was.at (omega arith) was.before);
+    torn = torn;
+    stored = below.stored e setup run was.at then_undoubted j is_there was.slot was.epoch was.segment (was.reads was.at (omega arith) was.before) torn.kept;
   }
+    where
+      then_undoubted : NoDoubtfulRestart e was.at
+      then_undoubted r n less = none r n (let a = was.before in let b = told.said.before in omega arith)
+
+      torn : IsTornAt e was.at was.segment
+      torn = ⊎_elim (λ torn. torn) (λ d. absurd (not_deleted d.0 (record { name = was.segment.name })
+          (sent_on e at count (let before = told.said.before in omega arith) d.0 d.1) d.2 (sym was.named))) was.lost
 
 pub gones_are_of_what_stands : Below → GonesAreOfWhatStands
 gones_are_of_what_stands below e setup run count none c event is own s serves name among brings =

@@ -66,7 +66,7 @@ use Rattle.earned_losses.proofs.torn_law.Owners.{Scans, boot_in, outs_of}
 use Rattle.earned_losses.proofs.torn_law.Truths.{Truths, truth_of}
 use Rattle.earned_losses.proofs.torn_law.Turns.{brought}
 use Rattle.earned_losses.proofs.torn_law.Drawn.{FetchesDrawn, last_of}
-use Rattle.earned_losses.specs.torn_law.Torn.{IsReadAt, IsTornAt, LosesWhatIsTorn, ReopeningsLoseWhatIsTorn, WasTorn, lacks, scan_at, scan_of}
+use Rattle.earned_losses.specs.torn_law.Torn.{IsReadAt, IsTornAt, OpeningLosesWhatIsTorn, ReopeningsLoseWhatIsTorn, WasTornInOpening, lacks, scan_at, scan_of}
 
 -- ---- what is done in an event
 
@@ -182,7 +182,7 @@ module _ (base : Setting) (e : Estate AnyNode) (run : IsRun any_step any_start e
               (one_scan t x.scan (sym owner ∙ (node_at base e lines r is_there keeps at x is).scans.sees.owner)) reads;
         }
 
-    earned : (name : SegName) → TornOf (TornBy base e lines r is_there keeps count) s.scan name → WasTorn e r count name
+    earned : (name : SegName) → TornOf (TornBy base e lines r is_there keeps count) s.scan name → WasTornInOpening e r count name
     earned name t = record {
       scan = s;
       scans = opens;
@@ -209,7 +209,7 @@ module _ (base : Setting) (e : Estate AnyNode) (run : IsRun any_step any_start e
             (((lines r is_there).stands count).facts p got.0)) i comes
 
         -- what its scan says is lost
-        scan_lost : (by : Option Input) → Losing sc.known s (what_of event) last by name → WasTorn e r count name
+        scan_lost : (by : Option Input) → Losing sc.known s (what_of event) last by name → WasTornInOpening e r count name
         scan_lost None lost = absurd lost
         scan_lost (Some i) lost =
             earned name
@@ -226,14 +226,14 @@ module _ (base : Setting) (e : Estate AnyNode) (run : IsRun any_step any_start e
       acts_now = ap (λ (v : World AnyNode). drop (length (moment e count).acts) v.acts) (sym (moment_next e count event is))
 
       still_lost : (name : SegName) → Still (moment e count) (moment e (suc count)).nodes (moment e (suc count)).sent (moment e (suc count)).acts
-          → In (act.Lost (owner_by r) name) (acts_in (moment e count) event) → WasTorn e r count name
+          → In (act.Lost (owner_by r) name) (acts_in (moment e count) event) → WasTornInOpening e r count name
       still_lost name still among =
           let none : acts_in (moment e count) event ≡ [] =
           acts_now ∙ (ap (drop (length (moment e count).acts)) still.acts_are ∙ none_after (moment e count).acts) in
           absurd (subst (In (act.Lost (owner_by r) name)) none among)
 
       turn_lost : (name : SegName) → TurnAt (moment e count) event (moment e (suc count)).nodes (moment e (suc count)).sent (moment e (suc count)).acts
-          → In (act.Lost (owner_by r) name) (acts_in (moment e count) event) → WasTorn e r count name
+          → In (act.Lost (owner_by r) name) (acts_in (moment e count) event) → WasTornInOpening e r count name
       turn_lost name t among =
           let stood : node_in (moment e count).nodes (place_of (cluster_of e.script.setup) (owner_by r)) ≡ Some t.node =
           ap (node_in (moment e count).nodes)
@@ -251,15 +251,15 @@ module _ (base : Setting) (e : Estate AnyNode) (run : IsRun any_step any_start e
           (said_lost sc.known s (what_of event) (last_of (Some t.node)) turn.by (owner_by r) name (outs_of t.node (what_of event)) turn.does
           (subst (In (act.Lost (owner_by r) name)) acts among))
 
-      pub loses_torn : (name : SegName) → In (act.Lost (owner_by r) name) (acts_in (moment e count) event) → WasTorn e r count name
+      pub loses_torn : (name : SegName) → In (act.Lost (owner_by r) name) (acts_in (moment e count) event) → WasTornInOpening e r count name
       loses_torn name among =
           ⊎_elim (λ still. still_lost name still among) (λ t. turn_lost name t among)
           (became base e run lines r is_there keeps fetches count good event is)
 
-  pub loses_what_is_torn : LosesWhatIsTorn e r
+  pub loses_what_is_torn : OpeningLosesWhatIsTorn e r
   loses_what_is_torn count event is own opens name among = by (scan_at e r count) refl
     where
-      by : (o : Option Scanning) → scan_at e r count ≡ o → WasTorn e r count name
+      by : (o : Option Scanning) → scan_at e r count ≡ o → WasTornInOpening e r count name
       by (Some s) scan = loses_torn count s scan event is own name among
       by None scan = contrary (sym (ap is_some scan) ∙ opens)
 

@@ -3,13 +3,14 @@ use Rattle.std.proofs.Common.{◌≡◌, ℕ, false, sym, subst}
 use Rattle.core_world.specs.AnyNode.{any_start, any_step}
 use Rattle.core_world.specs.declared.any_node.AnyNode.{AnyNode}
 use Rattle.log_law.specs.BeingRead.{IsWhole, WhatIsReadIsWhole}
-use Rattle.log_law.specs.Laws.{LogsStayWhole}
 use Rattle.log_law.specs.Net.{Net}
 use Rattle.log_tie.specs.Setting.{Setting}
+use Rattle.loss_law.specs.Losses.{ref_of}
 use Rattle.loss_law.proofs.Disks.{read_whole}
-use Rattle.earned_losses.proofs.missing_law.Servers.{IsOnShelves, is_on_shelves, undropped}
+use Rattle.earned_losses.proofs.missing_law.Servers.{StoredLaws, on_shelves, undropped}
+use Rattle.earned_losses.specs.missing_law.Stored.{IsStoredAs}
 use Rattle.earned_losses.proofs.torn_law.Events.{node_at}
-use Rattle.earned_losses.specs.torn_law.Torn.{IsReadAt, IsTornAt, LosesWhatIsTorn, ReopeningsLoseWhatIsTorn}
+use Rattle.earned_losses.specs.torn_law.Torn.{IsReadAt, IsTornAt, OpeningLosesWhatIsTorn, ReopeningsLoseWhatIsTorn}
 use Rattle.world_base.specs.declared.estate.Estate.{Estate}
 use Rattle.world_base.specs.Runs.{IsRun}
 use Rattle.run_laws.specs.world_law.Owners.{moment}
@@ -17,12 +18,12 @@ use Rattle.run_laws.specs.world_logs.Lines.{HasLines, RunsHaveLines, setting}
 use Rattle.run_laws.specs.world_logs.Logs.{NotDeleted}
 use Rattle.run_laws.specs.world_logs.Roles.{IsThere, Role, renews}
 use Rattle.xfs_base.specs.declared.segment.SegRef.{SegRef}
-use Rattle.earned_losses.specs.whole_law.Whole.{IsWholeAt, LosesWhatWasWhole, ReadsWhatIsWhole, ReopeningsLoseWhatWasWhole, WhatReopeningsReadIsWhole}
+use Rattle.earned_losses.specs.whole_law.Whole.{LosesWhatWasWhole, ReadsWhatIsWhole, ReopeningsLoseWhatWasWhole, WhatReopeningsReadIsWhole}
 
 pub record Below : Type 0 where
   pub setting : Setting
   pub lines : RunsHaveLines
-  pub logs : LogsStayWhole
+  pub logs : StoredLaws
   pub read : WhatIsReadIsWhole
 
 module _ (below : Below) (e : Estate AnyNode) (run : IsRun any_step any_start e.script e.events e.world) (lines : HasLines below.setting e) (r : Role)
@@ -40,21 +41,17 @@ module _ (below : Below) (e : Estate AnyNode) (run : IsRun any_step any_start e.
         (read.scan.scan, (node_at below.setting e lines r is_there keeps count read.scan read.scans).scans.sees.owner, read.is_read)
         (undropped e run below.setting lines r is_there count segment.name kept)
 
-    on : IsOnShelves e run below.setting lines r is_there count there.text
-    on = is_on_shelves e run below.setting lines r is_there count there.text
-        ((below.logs g (net count) ((lines r is_there).stands count).moment).striped there.text there.flown) there.whole
+    same : ref_of there.text ≡ segment
+    same = λ i. record { name = there.named i; group = there.grouped i }
 
-    read_so : IsWholeAt e count segment
-    read_so = record {
-      stored = record { segment = there.text; named = there.named; group = on.group; striped = on.striped; kept = on.kept; disks = on.disks };
-      over = λ i. record { name = there.named i; group = there.grouped i };
-    }
+    read_so : IsStoredAs e count segment
+    read_so = subst (IsStoredAs e count) same (on_shelves e run below.setting lines r is_there count there.text below.logs there.flown there.whole)
 
   reads_whole : ReadsWhatIsWhole e r
   reads_whole count segment read kept = read_so count segment read kept
 
   -- what was torn while it was read was whole but for disks then
-  loses_whole : LosesWhatIsTorn e r → LosesWhatWasWhole e r
+  loses_whole : OpeningLosesWhatIsTorn e r → LosesWhatWasWhole e r
   loses_whole torn count event is own opens name among =
       let t = torn count event is own opens name among in
       let w = reads_whole t.at t.segment t.read t.torn.kept in

@@ -5,7 +5,8 @@ use Rattle.core_world.specs.declared.any_node.AnyNode.{AnyNode}
 use Rattle.earned_losses.specs.fetching_law.Fetchings.{ReadsAt}
 use Rattle.node_base.specs.Setups.{IsSetup}
 use Rattle.run_laws.specs.restart_law.Restarts.{NoDoubtfulRestart}
-use Rattle.earned_losses.specs.source_law.Sources.{IsStoredAs, WasFiled}
+use Rattle.earned_losses.specs.missing_law.Stored.{IsStoredAs}
+use Rattle.earned_losses.specs.source_law.Sources.{WasFiled}
 use Rattle.world_base.specs.declared.estate.Estate.{Estate}
 use Rattle.world_base.specs.Runs.{IsRun}
 use Rattle.run_laws.specs.world_law.Owners.{moment}

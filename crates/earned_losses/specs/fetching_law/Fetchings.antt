@@ -96,7 +96,7 @@ module _ (e : Estate AnyNode) where
   -- The client's open call reads the segment of this name, and the block is granted at the place where it is read. Since the first of two moments the
   -- call of the same item has read this segment; where no server had been told to delete it at the second moment, it was torn at the first; and the grant was
   -- sent after the second.
-  pub record WasTorn (c : ℕ) (s : Serving) (count : ℕ) (what : Do) (name : SegName) : Type 0 where
+  pub record WasTornInFetch (c : ℕ) (s : Serving) (count : ℕ) (what : Do) (name : SegName) : Type 0 where
     pub reading : ReadingState
     pub is_read : what_is_read (serving_at c count) ≡ Some reading
     pub named : name ≡ reading.target.seg.name
@@ -118,7 +118,7 @@ module _ (e : Estate AnyNode) where
       (count : ℕ) (event : Event) → slice_get e.events count ≡ Some event → nodes.Client c ≡ node_of event
       → (s : Serving) → serving_at c count ≡ Some s
       → (name : SegName) → In (act.Lost (nodes.Client c) name) (acts_in (moment e count) event)
-      → BringsGone s (what_of event) name ⊎ WasTorn c s count (what_of event) name
+      → BringsGone s (what_of event) name ⊎ WasTornInFetch c s count (what_of event) name
 
 -- so it is of each client of a run, whose setup a run can be started from
 abbrev pub FetchesLossesEarned : Type 0

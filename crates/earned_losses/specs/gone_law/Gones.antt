@@ -95,8 +95,8 @@ module _ (e : Estate AnyNode) where
   -- so it is where a client that serves says, at an event that brings it a Gone, that the segment that this names is lost
   abbrev pub GoneLossesTold : Type 0
   GoneLossesTold =
-      (c count : ℕ) (event : Event) → slice_get e.events count ≡ Some event → Client c ≡ node_of event → (s : Serving) → serving_at e c count ≡ Some s
-      → (name : SegName) → In (act.Lost (Client c) name) (acts_in (moment e count) event) → BringsGone s (what_of event) name
+      (c count : ℕ) (event : Event) → slice_get e.events count ≡ Some event → Client c ≡ node_of event → (s : Serving)
+      → serving_at e c count ≡ Some s → (name : SegName) → In (act.Lost (Client c) name) (acts_in (moment e count) event) → BringsGone s (what_of event) name
       → ToldLost c s count (what_of event) name
 
 -- ---- every run of a script of whose setup a run can be started

@@ -4,6 +4,7 @@ use Rattle.client_serving.specs.declared.serving.Serving.{Serving}
 use Rattle.core_world.specs.AnyNode.{any_start, any_step}
 use Rattle.core_world.specs.declared.any_node.AnyNode.{AnyNode}
 use Rattle.earned_losses.specs.fetching_law.Fetchings.{ReadsAt, serving_at}
+use Rattle.earned_losses.specs.missing_law.Stored.{IsStoredAs}
 use Rattle.node_base.specs.Setups.{IsSetup}
 use Rattle.run_laws.specs.restart_law.Restarts.{NoDoubtfulRestart}
 use Rattle.earned_losses.specs.source_law.Sources.{WasFiled}
@@ -23,7 +24,7 @@ use Rattle.xfs_base.specs.declared.segment.SegRef.{SegRef}
 
 module _ (e : Estate AnyNode) where
   -- The name is that of a segment that the client's open call reads; since a moment the call of the same item has read it, and at that moment it had been
-  -- filed, and it was torn.
+  -- filed, and it was torn, over the group over which it is stored.
   pub record WasTornInRead (c count : ℕ) (name : SegName) : Type 0 where
     pub segment : SegRef
     pub named : name ≡ segment.name
@@ -33,11 +34,13 @@ module _ (e : Estate AnyNode) where
     pub reads : (k : ℕ) → at ≤ k → k ≤ count → ReadsAt e c k item segment
     pub filed : WasFiled e at segment.name
     pub torn : IsTornAt e at segment
+    pub stored : IsStoredAs e at segment
 
-  -- what a client says is lost while it serves, at a moment up to which no restart that ended was doubtful: a manager told it so, in the epoch that the client has
-  -- promised, and it was torn when that manager read it, while it took the slot over in that epoch; or it was torn while the client's open call read it
-  abbrev pub LosesWhatIsTorn : ℕ → Type 0
-  LosesWhatIsTorn c =
+  -- what a client says is lost while it serves, at a moment up to which no restart that ended was doubtful: a manager told it so, in the epoch that the
+  -- client has promised, and it was torn when that manager read it, while it took the slot over in that epoch; or it was torn while the client's open call
+  -- read it
+  abbrev pub ReadLosesWhatIsTorn : ℕ → Type 0
+  ReadLosesWhatIsTorn c =
       (count : ℕ) → NoDoubtfulRestart e count → (event : Event) → slice_get e.events count ≡ Some event → nodes.Client c ≡ node_of event
       → (s : Serving) → serving_at e c count ≡ Some s
       → (name : SegName) → In (act.Lost (nodes.Client c) name) (acts_in (moment e count) event)
@@ -45,7 +48,7 @@ module _ (e : Estate AnyNode) where
 
 -- so it is of each client of a run
 abbrev pub ReadLossesEarned : Estate AnyNode → Type 0
-ReadLossesEarned e = (c : ℕ) → 0 < c → c ≤ e.script.setup.clients → LosesWhatIsTorn e c
+ReadLossesEarned e = (c : ℕ) → 0 < c → c ≤ e.script.setup.clients → ReadLosesWhatIsTorn e c
 
 -- So it is in each run of a script of whose setup a run can be started.
 abbrev pub ReadsLoseWhatIsTorn : Type 0

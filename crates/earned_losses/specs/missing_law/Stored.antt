@@ -1,4 +1,4 @@
--- What servers hold of a segment that was filed, and what they lost of it, in words of a run of the nodes.
+-- What servers hold of a segment, and what they lost of it, in words of a run of the nodes.
 use Rattle.std.specs.Prelude.{◌≡◌, ◌<◌, ℕ, Bool, false, nat_lt, Option, Some, None}
 use Rattle.std.specs.List.{count_by}
 use Rattle.core_world.specs.AnyNode.{any_start, any_step}
@@ -17,10 +17,11 @@ use Rattle.world_base.specs.declared.world.World.{World}
 use Rattle.world_base.specs.Runs.{IsRun}
 use Rattle.run_laws.specs.world_law.Owners.{moment}
 use Rattle.run_laws.specs.world_logs.Doings.{did}
-use Rattle.run_laws.specs.world_logs.Logs.{NotDeleted}
+use Rattle.run_laws.specs.world_logs.Logs.{IsText, NotDeleted}
 use Rattle.run_laws.specs.world_logs.Roles.{IsThere, Role, log_by}
 use Rattle.run_laws.specs.world_logs.Shelves.{IsKept, group_at, shelf_at}
 use Rattle.xfs_base.specs.declared.segment.SegName.{SegName}
+use Rattle.xfs_base.specs.declared.segment.SegRef.{SegRef}
 
 -- the server of a member has lost its disk since the group was made
 abbrev pub has_lost_disk : Member → Option ShelfState → Bool
@@ -31,15 +32,22 @@ has_lost_disk member (Some shelf) = nat_lt member.generation shelf.generation
 abbrev pub disks_lost : World AnyNode → Group → ℕ
 disks_lost w group = count_by (λ m. has_lost_disk m (shelf_at w m.server)) group.members
 
--- There is a segment of this name over a group of the registry's: each member holds its fragment, or has lost its disk since the group was made; and where it
--- is torn, more have lost their disk than the parity makes good.
+-- The segment of this name, over its group, one of the registry's: whatever is held under the name, or was sent under it to be stored or as what is held, is
+-- a fragment of this segment, cut for this group. Each member holds its fragment, or has lost its disk since the group was made; and where the segment is
+-- torn, more have lost their disk than the parity makes good (the 1996 paper, on RAID).
 pub record IsStored (e : Estate AnyNode) (count : ℕ) (name : SegName) : Type 0 where
   pub segment : Segment
   pub named : segment.name ≡ name
   pub group : Group
   pub striped : group_at e.world segment.group ≡ Some group
+  pub text : IsText (moment e count) name segment group
   pub kept : IsKept (moment e count) segment group
   pub disks : IsTornAt e count (ref_of segment) → group.parity < disks_lost (moment e count) group
+
+-- so it is of what is read under this name over this group: the name and the group are those of the one segment that is stored
+pub record IsStoredAs (e : Estate AnyNode) (count : ℕ) (read : SegRef) : Type 0 where
+  pub stored : IsStored e count read.name
+  pub over : ref_of stored.segment ≡ read
 
 -- So it is of each segment that a client, the cleaner or a manager told to be filed, unless a server was told to delete it.
 abbrev pub WhatIsFiledIsStored : Type 0

@@ -1,16 +1,12 @@
 -- What a manager reads while it takes a slot over had been filed and is stored, in the words of a run of the nodes.
-use Rattle.std.specs.Prelude.{◌≡◌, ◌<◌, ℕ, Some, slice_get}
+use Rattle.std.specs.Prelude.{◌≡◌, ℕ, Some, slice_get}
 use Rattle.core_world.specs.AnyNode.{any_start, any_step}
 use Rattle.core_world.specs.declared.any_node.AnyNode.{AnyNode}
-use Rattle.group_map.specs.declared.group.Group.{Group}
-use Rattle.loss_law.specs.Losses.{ref_of}
-use Rattle.earned_losses.specs.missing_law.Stored.{disks_lost}
+use Rattle.earned_losses.specs.missing_law.Stored.{IsStoredAs}
 use Rattle.node_base.specs.Setups.{IsSetup}
 use Rattle.run_laws.specs.restart_law.Restarts.{NoDoubtfulRestart}
-use Rattle.segment_format.specs.declared.segment.Segment.{Segment}
 use Rattle.earned_losses.specs.taking_law.Takings.{Reads, WasTornOrDeleted, slot_at}
 use Rattle.token_protocol.specs.Basics.{In}
-use Rattle.earned_losses.specs.torn_law.Torn.{IsTornAt}
 use Rattle.version_model.specs.declared.act.Act.TheVariants as act
 use Rattle.world_base.specs.declared.estate.Estate.{Estate}
 use Rattle.world_base.specs.declared.event.Event.{Event}
@@ -21,7 +17,6 @@ use Rattle.run_laws.specs.world_logs.Doings.{acts_in, did}
 use Rattle.run_laws.specs.world_logs.Logs.{NotDeleted}
 use Rattle.run_laws.specs.world_logs.Roles.{IsThere, Role, log_by}
 use Rattle.run_laws.specs.world_logs.Roles.Role.{OfManager}
-use Rattle.run_laws.specs.world_logs.Shelves.{IsKept, group_at}
 use Rattle.xfs_base.specs.declared.node.NodeId.TheVariants.{Manager}
 use Rattle.xfs_base.specs.declared.segment.SegName.{SegName}
 use Rattle.xfs_base.specs.declared.segment.SegRef.{SegRef}
@@ -33,16 +28,6 @@ pub record WasFiled (e : Estate AnyNode) (count : ℕ) (name : SegName) : Type 0
   pub owner : Role
   pub there : IsThere e.script.setup.clients e.script.setup.managers owner
   pub acted : In (act.Filed name) (did e (log_by owner) count)
-
--- There is a segment of this name over this group, one of the registry's: each member holds its fragment, or has lost its disk since the group was made; and
--- where the segment is torn, more have lost their disk than the parity makes good.
-pub record IsStoredAs (e : Estate AnyNode) (count : ℕ) (ref : SegRef) : Type 0 where
-  pub segment : Segment
-  pub is : ref_of segment ≡ ref
-  pub group : Group
-  pub striped : group_at e.world segment.group ≡ Some group
-  pub kept : IsKept (moment e count) segment group
-  pub disks : IsTornAt e count ref → group.parity < disks_lost (moment e count) group
 
 -- At each moment of a run up to which no restart that ended was doubtful: what a manager reads then while it takes a slot over, a part of the checkpoint that
 -- its news name or a segment of a log, had been filed.

@@ -71,14 +71,14 @@ module _ (e : Estate AnyNode) (j : ℕ) where
     pub lost : IsTornAt e at segment ⊎ Deletes segment.name (moment e count).sent
 
   -- so it is of what the manager says is lost, which it says while it takes a slot over
-  abbrev pub LosesWhatIsTorn : Type 0
-  LosesWhatIsTorn =
+  abbrev pub TakeoverLosesWhatIsTorn : Type 0
+  TakeoverLosesWhatIsTorn =
       (count : ℕ) (event : Event) → slice_get e.events count ≡ Some event → Manager j ≡ node_of event → (name : SegName)
       → In (act.Lost (Manager j) name) (acts_in (moment e count) event) → WasTornOrDeleted count name
 
 -- what any manager of a run says is lost was torn, or was deleted
 abbrev pub TakeoverLossesEarned : Estate AnyNode → Type 0
-TakeoverLossesEarned e = (j : ℕ) → IsThere e.script.setup.clients e.script.setup.managers (OfManager j) → LosesWhatIsTorn e j
+TakeoverLossesEarned e = (j : ℕ) → IsThere e.script.setup.clients e.script.setup.managers (OfManager j) → TakeoverLosesWhatIsTorn e j
 
 -- So it is in each run of a script of whose setup a run can be started.
 abbrev pub TakeoversLoseWhatIsTorn : Type 0

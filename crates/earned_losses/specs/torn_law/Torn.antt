@@ -77,7 +77,7 @@ module _ (e : Estate AnyNode) where
     pub kept : NotDeleted (moment e count) segment.name
 
   -- The name is that of the segment that the owner reads at a moment; and at a moment since it began to open its log it read that segment, and that was torn.
-  pub record WasTorn (r : Role) (count : ℕ) (name : SegName) : Type 0 where
+  pub record WasTornInOpening (r : Role) (count : ℕ) (name : SegName) : Type 0 where
     pub scan : Scanning
     pub scans : scan_at r count ≡ Some scan
     pub segment : SegRef
@@ -90,14 +90,14 @@ module _ (e : Estate AnyNode) where
     pub torn : IsTornAt at segment
 
   -- what a client, or the cleaner, says is lost while it opens its log
-  abbrev pub LosesWhatIsTorn : Role → Type 0
-  LosesWhatIsTorn r =
+  abbrev pub OpeningLosesWhatIsTorn : Role → Type 0
+  OpeningLosesWhatIsTorn r =
       (count : ℕ) (event : Event) → slice_get e.events count ≡ Some event → owner_by r ≡ node_of event → is_some (scan_at r count) ≡ true
-      → (name : SegName) → In (act.Lost (owner_by r) name) (acts_in (moment e count) event) → WasTorn r count name
+      → (name : SegName) → In (act.Lost (owner_by r) name) (acts_in (moment e count) event) → WasTornInOpening r count name
 
 -- what any client of a run, or the cleaner, says is lost while it opens its log was torn
 abbrev pub ReopeningLossesEarned : Estate AnyNode → Type 0
-ReopeningLossesEarned e = (r : Role) → IsThere e.script.setup.clients e.script.setup.managers r → renews r ≡ false → LosesWhatIsTorn e r
+ReopeningLossesEarned e = (r : Role) → IsThere e.script.setup.clients e.script.setup.managers r → renews r ≡ false → OpeningLosesWhatIsTorn e r
 
 -- So it is in each run of a script of whose setup a run can be started.
 abbrev pub ReopeningsLoseWhatIsTorn : Type 0

@@ -2,11 +2,10 @@
 use Rattle.std.specs.Prelude.{◌≡◌, ◌<◌, ℕ, false, true, Some, is_some, slice_get}
 use Rattle.core_world.specs.AnyNode.{any_start, any_step}
 use Rattle.core_world.specs.declared.any_node.AnyNode.{AnyNode}
-use Rattle.loss_law.specs.Losses.{ref_of}
-use Rattle.earned_losses.specs.missing_law.Stored.{IsStored, disks_lost}
+use Rattle.earned_losses.specs.missing_law.Stored.{IsStoredAs, disks_lost}
 use Rattle.node_base.specs.Setups.{IsSetup}
 use Rattle.token_protocol.specs.Basics.{In}
-use Rattle.earned_losses.specs.torn_law.Torn.{IsReadAt, WasTorn, scan_at}
+use Rattle.earned_losses.specs.torn_law.Torn.{IsReadAt, WasTornInOpening, scan_at}
 use Rattle.version_model.specs.declared.act.Act.TheVariants as act
 use Rattle.world_base.specs.declared.estate.Estate.{Estate}
 use Rattle.world_base.specs.declared.event.Event.{Event}
@@ -20,19 +19,16 @@ use Rattle.xfs_base.specs.declared.segment.SegName.{SegName}
 use Rattle.xfs_base.specs.declared.segment.SegRef.{SegRef}
 
 module _ (e : Estate AnyNode) where
-  -- It is whole but for disks: over the group by which it is read each member holds its fragment, or has lost its disk since the group was made.
-  pub record IsWholeAt (count : ℕ) (segment : SegRef) : Type 0 where
-    pub stored : IsStored e count segment.name
-    pub over : ref_of stored.segment ≡ segment
-
-  -- so is each segment that an owner reads while it opens its log, filed or not, unless a server was told to delete it
+  -- Each segment that an owner reads while it opens its log, filed or not, is whole but for disks, unless a server was told to delete it: over the group by
+  -- which it is read each member holds its fragment, or has lost its disk since the group was made.
   abbrev pub ReadsWhatIsWhole : Role → Type 0
-  ReadsWhatIsWhole r = (count : ℕ) (segment : SegRef) → IsReadAt e r count segment → NotDeleted (moment e count) segment.name → IsWholeAt count segment
+  ReadsWhatIsWhole r = (count : ℕ) (segment : SegRef) → IsReadAt e r count segment → NotDeleted (moment e count) segment.name → IsStoredAs e count segment
 
-  -- It was torn at a moment since the owner began to open its log, and whole but for disks then: so more members had lost their disk than the parity makes good.
+  -- It was torn at a moment since the owner began to open its log, and whole but for disks then: so more members had lost their disk than the parity makes
+  -- good.
   pub record WasWhole (r : Role) (count : ℕ) (name : SegName) : Type 0 where
-    pub lost : WasTorn e r count name
-    pub whole : IsWholeAt lost.at lost.segment
+    pub lost : WasTornInOpening e r count name
+    pub whole : IsStoredAs e lost.at lost.segment
     pub disks : whole.stored.group.parity < disks_lost (moment e lost.at) whole.stored.group
 
   -- what a client, or the cleaner, says is lost while it opens its log

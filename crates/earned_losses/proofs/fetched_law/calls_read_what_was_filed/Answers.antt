@@ -9,6 +9,10 @@ returns c =
       texts = c.runs_keep_logs.ensures.texts;
       moments = c.every_runs_acts_are_legal.ensures.moments;
       blocks = c.fetches_lose_what_is_torn.ensures.blocks;
-      whole = c.logs_stay_whole.ensures.whole;
+      stored = record {
+        whole = c.logs_stay_whole.ensures.whole;
+        one = c.one_name_one_text.ensures.one_text;
+        own = c.what_is_held_flew.ensures.own;
+      };
     } in
     record { filed = calls_read_what_was_filed below; stored = calls_read_what_is_stored below }

@@ -13,7 +13,11 @@ returns c =
         one = c.one_name_one_text.ensures.one_text;
         place = c.a_place_names_one_content.ensures.content;
         priors = c.names_bear_groups.ensures.priors;
-        whole = c.logs_stay_whole.ensures.whole;
+        stored = record {
+          whole = c.logs_stay_whole.ensures.whole;
+          one = c.one_name_one_text.ensures.one_text;
+          own = c.what_is_held_flew.ensures.own;
+        };
       };
     } in
     record { filed = takeovers_read_what_was_filed below; stored = takeovers_read_what_is_stored below }

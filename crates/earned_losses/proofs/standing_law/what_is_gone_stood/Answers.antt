@@ -14,5 +14,6 @@ returns c = record {
     moments = c.every_runs_acts_are_legal.ensures.moments;
     told = c.gone_was_lost.ensures.clients;
     filed = c.takeovers_read_what_was_filed.ensures.filed;
+    stored = c.takeovers_read_what_was_filed.ensures.stored;
   });
 }

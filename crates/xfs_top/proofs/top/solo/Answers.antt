@@ -29,10 +29,8 @@ returns-clause-headline g c = played_has Headline law c.answer.result.estate c.a
       legal_acts = c.every_runs_acts_are_legal.ensures.legal e p.setup p.one_run;
       legal_without_losses = c.every_runs_acts_are_legal.ensures.unlost e p.setup p.one_run;
       losses_earned = record {
-        reopenings = c.reopenings_lose_what_was_whole.ensures.lost e p.setup p.one_run;
-        takeovers = c.takeovers_lose_what_is_torn.ensures.torn e p.setup p.one_run;
-        takeovers_filed = c.takeovers_lose_what_was_filed.ensures.losses e p.setup p.one_run;
-        reads = c.reads_lose_what_is_torn.ensures.earned e p.setup p.one_run;
+        each = c.each_lost_act_is_earned.ensures.earned e p.setup p.one_run;
         answers = c.lost_answers_are_said.ensures.runs e;
       };
+      undoubted = λ none. (c.without_losses_no_restart_is_doubtful.ensures.scripts e p.setup p.one_run none).1;
     }
