@@ -19,8 +19,8 @@ ghost use Rattle.node_ties.specs.client_law.Unsettled.{WritesJustWhatIsDirty};
 /// them.
 ///
 /// - `says_nothing`: whatever happens, it sends no Want, Gave, Report or Supply.
-/// - `takes_nothing`: a Grant, Supply, Forward, Recall or Poll leaves it as it was, but that it may ask for
-///   the maps.
+/// - `takes_nothing`: a Grant, Supply, Forward, Recall, Gone or Poll leaves it as it was, but that it may ask
+///   for the maps.
 pub fn only_who_serves_has_tokens()
     ensures says_nothing { SaysNothingOfTokens }
     ensures takes_nothing { TakesNothingOfTokens }
@@ -32,8 +32,8 @@ pub fn puts_off_what_is_dirty()
     ensures dirty { PutsOffWhatIsDirty }
 {}
 
-/// After any events the cache of a client has just the blocks that it holds and that are clean, and what leaves
-/// it is held and clean (the 1996 paper, on cooperative caching).
+/// After any events the cache of a client has just the blocks that it holds and that are clean, each once, and
+/// what would leave it for one more such block is held and clean (the 1996 paper, on cooperative caching).
 pub fn caches_what_is_clean()
     ensures clean { CachesJustWhatIsClean }
 {}
@@ -51,8 +51,8 @@ pub fn asks_for_one_block()
     ensures one { AsksForOneBlockAlways }
 {}
 
-/// A block that isn't held, and of which a want is open, comes to be held by a Grant or a Supply of it alone:
-/// what was read ends a fetch only where nothing is wanted.
+/// After any events, in any further one before and after which a client serves: a block that isn't held and of
+/// which a want is open is held after it only where it brings a Grant or a Supply of that block.
 pub fn wants_end_by_an_answer()
     ensures answered { WantsEndByAnAnswer }
 {}
@@ -63,7 +63,10 @@ pub fn stripes_by_present_groups()
     ensures present { StripesByPresentGroupsAlways }
 {}
 
-/// The facts above as one invariant, for those who go from event to event.
+/// These facts as one invariant, for those who go from event to event: a client that serves has sound tokens,
+/// asks for its open call alone, puts off recalls of dirty blocks alone, caches just what is held and clean, has
+/// just what is dirty and not in flight wait to be written, has in flight the segment after its log's end, and
+/// stripes over a map of groups; in the log of one that opens nothing waits, and its maps are such.
 ///
 /// - `start`: a client at the start stands so, where the map of the setup's groups is one.
 /// - `events`: each event keeps it so, whatever a packet says, where a map of groups that it brings is one.

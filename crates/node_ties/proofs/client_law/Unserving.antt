@@ -158,6 +158,7 @@ drops_tokens o q from (body.Grant m) about = refl
 drops_tokens o q from (body.Supply m) about = refl
 drops_tokens o q from (body.Forward m) about = refl
 drops_tokens o q from (body.Recall m) about = refl
+drops_tokens o q from (body.Gone m) about = refl
 drops_tokens o q from (body.Poll m) about = refl
 drops_tokens o q from _ about = contrary about
 

@@ -20,9 +20,10 @@ pub record CachesWhatIsClean (s : Serving) : Type 0 where
   pub exact : (block : BlockId) → is_clean s.cache block ≡ may_evict (held_at s block)
   -- and none twice
   pub once : Once s.cache.blocks
-  -- whatever leaves it for a block that is held and clean is held and clean
+  -- whatever would leave it for one more block that is held and clean is held and clean
   pub victims : (block : BlockId) → may_evict (held_at s block) ≡ true → AllByRecursion (IsCleanVictim s) (cleaned s.cache block).outs
 
--- Between events the cache of a client has just the blocks that it holds and that are clean; so what leaves the cache is held and clean.
+-- Between events the cache of a client has just the blocks that it holds and that are clean; so what would leave it for one more such block
+-- is held and clean.
 abbrev pub CachesJustWhatIsClean : Type 0
 CachesJustWhatIsClean = HoldsAfterAnyEvents CachesWhatIsClean

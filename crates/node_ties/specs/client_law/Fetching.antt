@@ -1,4 +1,4 @@
--- What ends a want of a block that isn't held: an answer to it. What was read ends a fetch only where nothing is wanted.
+-- What has a block held of which a want is open: an answer to the want.
 use Rattle.std.specs.Prelude.{◌≡◌, ℕ, true, false, List, is_some}
 use Rattle.client_node.specs.declared.client.Client.{Client}
 use Rattle.client_node.specs.declared.phase.Phase.TheVariants.{Serving as Serves}

@@ -25,12 +25,13 @@ tells_of_tokens (body.Report m) = true
 tells_of_tokens (body.Supply m) = true
 tells_of_tokens _ = false
 
--- what is said to a client of its tokens: Grant, Supply, Forward, Recall, and Poll
+-- what is said to a client of its tokens: Grant, Supply, Forward, Recall, Gone, and Poll
 abbrev pub is_about_tokens : Body → Bool
 is_about_tokens (body.Grant m) = true
 is_about_tokens (body.Supply m) = true
 is_about_tokens (body.Forward m) = true
 is_about_tokens (body.Recall m) = true
+is_about_tokens (body.Gone m) = true
 is_about_tokens (body.Poll m) = true
 is_about_tokens _ = false
 
@@ -56,7 +57,7 @@ pub record IsUnmoved (phase : Phase) (step : NodeStep Client) : Type 0 where
   pub sends : All (λ packet. asks_for_maps packet.body ≡ true) step.packets
   pub acts : step.acts ≡ []
 
--- A Grant, Supply, Forward, Recall or Poll leaves a client that doesn't serve as it was, but that it may ask for the maps.
+-- A Grant, Supply, Forward, Recall, Gone or Poll leaves a client that doesn't serve as it was, but that it may ask for the maps.
 abbrev pub TakesNothingOfTokens : Type 0
 TakesNothingOfTokens =
     (client : Client) (packet : Packet) → serves client.phase ≡ false → is_about_tokens packet.body ≡ true
