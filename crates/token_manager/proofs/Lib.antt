@@ -5,3 +5,4 @@ pub mod JobsBarGrants
 pub mod Guarded
 pub mod AwaitsJust
 pub mod RecallTurns
+pub mod Stamps

@@ -1,17 +1,15 @@
 -- What the laws of a slot say.
-use Rattle.std.specs.Prelude.{◌≡◌, ◌↔◌, ℕ, ◌+◌, ◌<◌, ◌≤◌, Bool, List, [], ◌∷◌, ◌⊎◌, All, Option, Some, None, if◌then◌else◌}
-use Rattle.std.specs.Map.{lookup}
-use Rattle.std.specs.BTreeMap.{is_at}
+use Rattle.std.specs.Prelude.{◌≡◌, ◌↔◌, ℕ, ◌+◌, ◌<◌, ◌≤◌, Bool, List, [], ◌∷◌, ◌++◌, ◌⊎◌, All, map, Some, None}
+use Rattle.std.specs.List.{range_with_len}
 use Rattle.xfs_base.specs.Steps.{steps}
 use Rattle.xfs_base.specs.declared.block.BlockId.{BlockId}
-use Rattle.xfs_base.specs.Modes.{is_own}
 use Rattle.slot_beliefs.specs.declared.job.Holder.{Holder}
 use Rattle.slot_beliefs.specs.declared.job.Wanted.{Wanted}
 use Rattle.slot_beliefs.specs.declared.job.Awaited.{Awaited}
 use Rattle.slot_beliefs.specs.declared.job.Job.{Job}
 use Rattle.slot_beliefs.specs.Beliefs.{share_of, wanted_share}
 use Rattle.slot_beliefs.specs.Recalls.{stamp, job_at}
-use Rattle.xfs_base.specs.declared.token.Mode.{Mode}
+use Rattle.xfs_base.specs.declared.token.Stamp.{Stamp}
 use Rattle.token_manager.specs.declared.output.Out.{Out}
 use Rattle.token_manager.specs.declared.output.Out.TheVariants.{Grant, Forward, Recall, Applied, Live, Dead}
 use Rattle.token_manager.specs.declared.input.In.{In}
@@ -40,6 +38,33 @@ IsNotTick (Gave client block stamp end) = Unit {0}
 IsNotTick (Deltas log first upto rows) = Unit {0}
 IsNotTick (Check block place) = Unit {0}
 IsNotTick Tick = ⊥
+
+-- the stamps of the grants, forwards and recalls among these, in order
+abbrev pub stamps_in : List Out → List Stamp
+stamps_in [] = []
+stamps_in (Grant client block said inc req mode entry ∷ outs) = said ∷ stamps_in outs
+stamps_in (Forward client block said to inc req ver ∷ outs) = said ∷ stamps_in outs
+stamps_in (Recall client block said keep ∷ outs) = said ∷ stamps_in outs
+stamps_in (Applied log upto ∷ outs) = stamps_in outs
+stamps_in (Live entry ∷ outs) = stamps_in outs
+stamps_in (Dead ∷ outs) = stamps_in outs
+
+-- the stamps that an input gives out, where these are its outs: a tick gives out none
+abbrev pub given_by : In → List Out → List Stamp
+given_by (Want client block inc req again mode end) outs = stamps_in outs
+given_by (Gave client block stamp end) outs = stamps_in outs
+given_by (Deltas log first upto rows) outs = stamps_in outs
+given_by (Check block place) outs = stamps_in outs
+given_by Tick outs = []
+
+-- the stamps that inputs give out, in order
+abbrev pub given_out : SlotState → List In → List Stamp
+given_out s [] = []
+given_out s (input ∷ inputs) = given_by input (transition s input).outs ++ given_out (transition s input).state inputs
+
+-- so many stamps of an epoch, of the turns after this one, in order
+abbrev pub stamps_after : ℕ → ℕ → ℕ → List Stamp
+stamps_after epoch turn count = map (stamp epoch) (range_with_len (turn + 1) count)
 
 -- the block is granted, or its copy is to be passed on, by one of these
 abbrev pub HandsOut : BlockId → List Out → Type 0

@@ -1,6 +1,6 @@
 //! What holds over any list of inputs. Each function stands for the law that its contract states; a call
 //! of it does nothing.
-ghost use Rattle.std.specs.Prelude.{◌≡◌, ◌≤◌, ℕ, List, None};
+ghost use Rattle.std.specs.Prelude.{◌≡◌, ◌≤◌, ℕ, List, None, length};
 ghost use Rattle.xfs_base.specs.declared.block.BlockId.{BlockId};
 ghost use Rattle.xfs_base.specs.declared.entry.Entry.{Entry};
 ghost use Rattle.xfs_base.specs.declared.token.Mode.{Mode};
@@ -10,7 +10,7 @@ ghost use Rattle.slot_beliefs.specs.Index.{Indexed, indexed, pages_of, cleaned_i
 ghost use Rattle.slot_beliefs.specs.Recalls.{applied_of, job_at};
 ghost use Rattle.token_manager.specs.SlotState.{SlotState};
 ghost use Rattle.token_manager.specs.Transition.{started, transition};
-ghost use Rattle.token_manager.specs.Laws.{state_after, CountsTurns, IsNotTick, HandsOut, OwnsAlone, IsGuarded, RecallsAreGivenOut};
+ghost use Rattle.token_manager.specs.Laws.{state_after, CountsTurns, IsNotTick, given_out, stamps_after, HandsOut, OwnsAlone, IsGuarded, RecallsAreGivenOut};
 
 /// Whatever a slot took, the live blocks that it counts in each segment are those that a count from
 /// scratch over the places of its index gives.
@@ -24,12 +24,18 @@ pub fn applied_never_falls()
     ensures { (s : SlotState) (inputs : List In) (log : ℕ) → applied_of s.applied log ≤ applied_of (state_after s inputs).applied log }
 {}
 
-/// On each input other than a tick, the grants, forwards and recalls bear the turns after the last one
-/// that was given out, each the next, in the epoch of the slot, which stays; and the state keeps the last.
-/// So turns only rise, and no stamp is given out twice; a tick sends recalls again under their stamps.
+/// Of one input: each input but a tick gives out the turns after the last, in order. Its grants, forwards and
+/// recalls bear them, in the epoch of the slot, which stays; and the state keeps the last.
 pub fn each_stamp_is_fresh()
     ensures { (s : SlotState) (input : In) → IsNotTick input
         → ((transition s input).state.epoch ≡ s.epoch) × CountsTurns s.epoch s.turn (transition s input).outs (transition s input).state.turn }
+{}
+
+/// Over any inputs the stamps that are given out are those of the turns after the last one of the state
+/// before, each once and in order; so no two of them are equal. A tick gives out none: it sends recalls
+/// again under their stamps.
+pub fn no_stamp_is_given_out_twice()
+    ensures { (s : SlotState) (inputs : List In) → given_out s inputs ≡ stamps_after s.epoch s.turn (length (given_out s inputs)) }
 {}
 
 /// While a want waits for a block, the block is not granted, and no copy of it is passed on: what an input
