@@ -94,19 +94,23 @@ module _ (manager : ℕ) where
           let below : from < slot = grind (arith, nat_tests) in
           rest (omega (arith, below)) ∙ ap again (raise-other es from slot (λ same. absurd (omega (arith, below, same))))
 
+  -- whether each slot after one has a next epoch, where it is the manager's
+  abbrev rest_can : List SlotEntry → ℕ → ℕ → Bool
+  rest_can es from n = list_all (can_rise_one manager es) (range_with_len (from + 1) n)
+
   -- each slot of the manager has a next epoch
   can : (es : List SlotEntry) (from n slot : ℕ) → list_all (can_rise_one manager es) (range_with_len from n) ≡ true → from ≤ slot → slot < from + n
       → can_rise_one manager es slot ≡ true
   can es from zero slot all low high = absurd (omega arith)
   can es from (suc n) slot all low high =
       at (from == slot) refl
-      (λ later. can es (from + 1) n slot (and_second (can_rise_one manager es from) (list_all (can_rise_one manager es) (range_with_len (from + 1) n)) all) later
+      (λ later. can es (from + 1) n slot (and_second (can_rise_one manager es from) (rest_can es from n) all) later
       (omega arith))
     where
       at : (t : Bool) → (from == slot) ≡ t → (from + 1 ≤ slot → can_rise_one manager es slot ≡ true) → can_rise_one manager es slot ≡ true
       at true is _ =
           let same : from ≡ slot = grind (arith, nat_tests) in
-          ap (can_rise_one manager es) (sym same) ∙ and_first (can_rise_one manager es from) (list_all (can_rise_one manager es) (range_with_len (from + 1) n)) all
+          ap (can_rise_one manager es) (sym same) ∙ and_first (can_rise_one manager es from) (rest_can es from n) all
       at false is rest =
           let below : from < slot = grind (arith, nat_tests) in
           rest (omega (arith, below))

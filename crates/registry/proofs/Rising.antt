@@ -84,5 +84,6 @@ module _ (s : BoardState) where
   pub stays_or_rises : (input : In) → StaysOrRises s (transition s input).state
   stays_or_rises input = (rises input).one
 
-  pub told_where_it_rises : (input : In) → Contains (transition s input).outs Changed ↔ (((transition s input).state.version ≡ s.version + 1) × IsNotCheckpoint input)
+  pub told_where_it_rises : (input : In)
+      → Contains (transition s input).outs Changed ↔ (((transition s input).state.version ≡ s.version + 1) × IsNotCheckpoint input)
   told_where_it_rises input = (rises input).only
