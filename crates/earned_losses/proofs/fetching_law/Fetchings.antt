@@ -211,7 +211,8 @@ module _ (base : Setting) (e : Estate AnyNode) (run : IsRun any_step any_start e
         (said_so (takes node (what_of event)).state (takes node (what_of event)).outs (nodes.Client (lasting_of node.phase).number)
         (event_serves node s serving w.waits (what_of event)) (subst (In (act.Lost reader name)) acts among))
 
-    pub lost_earned : In (act.Lost reader name) (acts_in (moment e count) event) → BringsGone s (what_of event) name ⊎ WasTornInFetch e c s count (what_of event) name
+    pub lost_earned : In (act.Lost reader name) (acts_in (moment e count) event)
+        → BringsGone s (what_of event) name ⊎ WasTornInFetch e c s count (what_of event) name
     lost_earned among = ⊎_elim (λ still. still_lost still among) (λ t. turn_lost t among) (became base e run lines c is_there answers asked count event is)
 
 -- ---- of every run

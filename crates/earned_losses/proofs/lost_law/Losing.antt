@@ -51,7 +51,8 @@ tokens_there (Some (any.Registry node)) s is = absurd cc
 module _ (keeps : GrantsLeadToWhatStands) (e : Estate AnyNode) (setup : IsSetup e.script.setup) (run : IsRun any_step any_start e.script e.events e.world)
     (c count : ℕ) (none : NoDoubtfulRestart e count) (event : Event) (is : slice_get e.events count ≡ Some event) (own : nodes.Client c ≡ node_of event)
     (s : Serving) (serves : serving_at e c count ≡ Some s) (name : SegName) where
-  torn_so : CallsReadWhatWasFiled → CallsReadWhatIsStored → 0 < c → c ≤ e.script.setup.clients → WasTornInFetch e c s count (what_of event) name → WasTornInRead e c count name
+  torn_so : CallsReadWhatWasFiled → CallsReadWhatIsStored → 0 < c → c ≤ e.script.setup.clients → WasTornInFetch e c s count (what_of event) name
+      → WasTornInRead e c count name
   torn_so filed stored some within w = record {
     segment = w.reading.target.seg;
     named = w.named;

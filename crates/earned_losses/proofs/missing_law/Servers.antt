@@ -193,7 +193,8 @@ module _ (e : Estate AnyNode) (run : IsRun any_step any_start e.script e.events 
             stored = λ v packet m was to is same.
                 (let t = one.stored v m.generation m.fragment (said packet (body.Store m) (names.Server v) was to is (ours m.fragment.meta.name same)) in
                 of_it m.fragment t.0 t.1 (named_so m.fragment t.0 t.2 same) t.2);
-            told = λ packet m was is same. (let t = one.told m.fragment (said packet (body.Fragment m) packet.to was refl is (ours m.fragment.meta.name same)) in
+            told = λ packet m was is same.
+                (let t = one.told m.fragment (said packet (body.Fragment m) packet.to was refl is (ours m.fragment.meta.name same)) in
                 of_it m.fragment t.0 t.1 (named_so m.fragment t.0 t.2 same) t.2);
           }
 
@@ -206,7 +207,8 @@ module _ (e : Estate AnyNode) (run : IsRun any_step any_start e.script e.events 
 
       -- where each member of its group holds it, or has lost its disk, in the small world, it is stored
       module _ (laws : StoredLaws) (flew : tables.In s ((lines r is_there).at count).net.flown)
-          (all : (place : ℕ) → place < length (members_of (setting base e r) s) → Holds (setting base e r) net s place ⊎ IsLater (setting base e r) net s place) where
+          (all : (place : ℕ) → place < length (members_of (setting base e r) s)
+          → Holds (setting base e r) net s place ⊎ IsLater (setting base e r) net s place) where
         stored_over : (group : Group) → group_at e.world s.group ≡ Some group → IsStoredAs e count (ref_of s)
         stored_over group is = record {
           stored = record {

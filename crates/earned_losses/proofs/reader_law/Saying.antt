@@ -47,7 +47,6 @@ use Rattle.token_protocol.specs.Basics.{In}
 use Rattle.version_model.specs.declared.act.Act.{Act}
 use Rattle.version_model.specs.declared.act.Act.TheVariants as act
 use Rattle.wire_msg.specs.declared.packet.Do.{Do}
-use Rattle.wire_msg.specs.declared.tokens.Gone.{Gone}
 use Rattle.world_base.specs.Cluster.{cluster_of, place_of}
 use Rattle.world_base.specs.declared.cluster.Cluster.{Cluster}
 use Rattle.world_base.specs.declared.estate.Estate.{Estate}
@@ -125,9 +124,6 @@ wanted_some (Some w) req is = (w, refl)
 gone_open : (s : Serving) (what : Do) (name : SegName) → AsksForCall s → BringsGone s what name → (item : ℕ) × (s.lasting.items.unanswered ≡ Some item)
 gone_open s what name asks b = by s.lasting.items.unanswered refl
   where
-    g : Gone
-    g = b.gone
-
     want : (w : Wanted) × ((held_at s b.gone.block).want ≡ Some w)
     want =
         wanted_some (held_at s b.gone.block).want b.gone.req
@@ -181,8 +177,9 @@ module _ (laws : NodeLaws) (e : Estate AnyNode) (setup : IsSetup e.script.setup)
         let at = named (nodes.Client c) (any.Client node) stood in
         let its = client_stands e count c node at in
         let turned : clients.Turned node.phase what (takes node what) = client_turned node what its.1 in
-        let says : SaysLost (IsBegunBy (clients.items_in node.phase) what) (nodes.Client (lasting_of node.phase).number) acting name (takes node what).outs =
-        says_lost (IsBegunBy (clients.items_in node.phase) what) (nodes.Client (lasting_of node.phase).number) acting name [] (takes node what).outs turned.told is in (
+        let me = nodes.Client (lasting_of node.phase).number in
+        let says : SaysLost (IsBegunBy (clients.items_in node.phase) what) me acting name (takes node what).outs =
+        says_lost (IsBegunBy (clients.items_in node.phase) what) me acting name [] (takes node what).outs turned.told is in (
           says.own ∙ its.0,
           (
             there,
@@ -241,7 +238,8 @@ module _ (laws : NodeLaws) (e : Estate AnyNode) (setup : IsSetup e.script.setup)
         let s = st.placed.servers v b.some b.within in
         absurd (quiet_acts (nodes.Server s.0.number) acting name (server_events.takes s.0 what).outs (server_quiet s.0 what)
         (one_of (nodes.Server v) x (any.Server s.0) at s.1 is))
-    by_name nodes.Cleaner p x placed at is = cleaner_says now.cleaner st.placed.cleaner (one_of nodes.Cleaner x (any.Cleaner now.cleaner) at st.placed.cleaner is)
+    by_name nodes.Cleaner p x placed at is =
+        cleaner_says now.cleaner st.placed.cleaner (one_of nodes.Cleaner x (any.Cleaner now.cleaner) at st.placed.cleaner is)
     by_name nodes.Registry p x placed at is =
         absurd (quiet_acts nodes.Registry acting name (registry_events.takes now.registry what).outs (registry_quiet now.registry what)
         (one_of nodes.Registry x (any.Registry now.registry) at st.placed.registry is))
