@@ -22,3 +22,4 @@ mod Fetching
 mod Groups
 mod Standing
 mod Unserving
+mod Stamps

@@ -11,3 +11,4 @@ pub mod Standing
 pub mod Unserving
 pub mod Empty
 pub mod Grouped
+pub mod Stamps

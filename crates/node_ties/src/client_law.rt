@@ -4,13 +4,14 @@
 //! `specs/client_law/Events.antt` says what holds after any events. `proofs/client_law/Keeping.antt` says what a fact
 //! of a client's tokens, log and cache has to show to be kept; `Arriving`, `Packets`, `Calls` and `Happening` walk
 //! through all events once, and take any such fact along. Each fact has a file of its own: `Asking`, `Fetching`,
-//! `Caching`, `Unsettled`, `Giving`, `Groups`, and `Unserving` for a client that doesn't serve.
+//! `Caching`, `Unsettled`, `Giving`, `Groups`, `Stamps`, and `Unserving` for a client that doesn't serve.
 
 ghost use Rattle.node_ties.specs.client_law.Asking.{AsksForOneBlockAlways};
 ghost use Rattle.node_ties.specs.client_law.Caching.{CachesJustWhatIsClean};
 ghost use Rattle.node_ties.specs.client_law.Fetching.{WantsEndByAnAnswer};
 ghost use Rattle.node_ties.specs.client_law.Giving.{PutsOffWhatIsDirty};
 ghost use Rattle.node_ties.specs.client_law.Groups.{StripesByPresentGroupsAlways};
+ghost use Rattle.node_ties.specs.client_law.Stamps.{StampsNeverFallAlways};
 ghost use Rattle.node_ties.specs.client_law.Standing.{EventsKeepWell, StartsWell};
 ghost use Rattle.node_ties.specs.client_law.Unserving.{SaysNothingOfTokens, TakesNothingOfTokens};
 ghost use Rattle.node_ties.specs.client_law.Unsettled.{WritesJustWhatIsDirty};
@@ -55,6 +56,12 @@ pub fn asks_for_one_block()
 /// which a want is open is held after it only where it brings a Grant or a Supply of that block.
 pub fn wants_end_by_an_answer()
     ensures answered { WantsEndByAnAnswer }
+{}
+
+/// After any events, in any further one before and after which a client serves, no stamp falls: the last word of
+/// a manager on a block is not forgotten (the 1996 paper, on cache consistency).
+pub fn keeps_stamps()
+    ensures stamps { StampsNeverFallAlways }
 {}
 
 /// After any events that bring maps of groups, as each is by its type, the map over which a client stripes is one:

@@ -21,9 +21,9 @@ use Rattle.token_client.specs.declared.held.Fetch.{Fetch}
 use Rattle.token_client.specs.declared.held.Held.{Held}
 use Rattle.token_client.specs.declared.held.Wanted.{Wanted}
 use Rattle.token_client.specs.declared.output.Out.TheVariants.{Ready}
-use Rattle.token_client.specs.Held.{copied, copy_granted, fetch_ended, fetched_from, is_asking, is_wanted, may_end_fetch, may_write, owned}
+use Rattle.token_client.specs.Held.{copied, copy_granted, fetch_ended, fetched_from, is_answer, is_asking, is_wanted, may_end_fetch, may_write, owned}
 use Rattle.token_client.specs.State.{TokensState, held_of, with_held}
-use Rattle.token_client.specs.Transition.{Done, accepts, copy_next, on_fetched, on_granted, on_supplied, on_quit}
+use Rattle.token_client.specs.Transition.{Done, accepts, copy_next, is_promised, on_fetched, on_granted, on_supplied, on_quit}
 use Rattle.token_client.proofs.SoundBlocks.{asks_by_fetch, asks_by_want}
 use Rattle.token_client.proofs.Tables.{held_of-put_itself}
 use Rattle.xfs_base.specs.declared.block.BlockId.{BlockId}
@@ -35,7 +35,9 @@ use Rattle.xfs_base.specs.declared.token.Mode.TheVariants.{Nothing, Copy, Own}
 use Rattle.xfs_base.specs.declared.token.Stamp.{Stamp}
 use Rattle.xfs_base.specs.Modes.{allows, is_held, is_own, same_mode}
 use Rattle.xfs_base.specs.Steps.{still}
+use Rattle.xfs_base.specs.Stamps.{is_later}
 use Rattle.xfs_base.proofs.Booleans.{and_first, and_second, by_test, contrary}
+use Rattle.xfs_base.proofs.Orders.{not_later_back, not_later_itself}
 use Rattle.node_ties.specs.node_tie.Asks.{AsksForCall, needed}
 use Rattle.node_ties.proofs.node_tie.AsksBlock.{Need, WantSuits}
 use Rattle.node_ties.proofs.node_tie.AsksFollow.{call_with-step}
@@ -179,6 +181,12 @@ module _ (A : BlockId → Type 0) (M : GroupMapState → Type 0) (B : Fact) (P :
       needs_it : (mode : Mode) → accepts s.tokens block stamp inc req mode ≡ true → (needed s.call ≡ Some (block, mode)) × (allows h.mode mode ≡ false)
       needs_it mode t = wanted_as (needed s.call) block h.mode h.want req mode (a.suits block).want (answered mode t)
 
+      rises : (mode : Mode) → accepts s.tokens block stamp inc req mode ≡ true → is_later h.stamp stamp ≡ false
+      rises mode t =
+          not_later_back h.stamp stamp
+          (and_second (is_wanted h.want req mode) (is_later stamp h.stamp)
+          (and_second (is_promised s.tokens block stamp && (inc == s.tokens.inc)) (is_answer h stamp req mode) t))
+
       unheld : accepts s.tokens block stamp inc req Copy ≡ true → h.mode ≡ Nothing
       unheld t = unheld_is_nothing h.mode (needs_it Copy t).1
 
@@ -187,16 +195,17 @@ module _ (A : BlockId → Type 0) (M : GroupMapState → Type 0) (B : Fact) (P :
       supplied-keeps may ver value =
           by_test (λ (d : Done). At (P 1) (told s d).state) (accepts s.tokens block stamp inc req Copy)
           (record { state = with_held s.tokens block (copied h stamp ver value); outs = Ready block ∷ [] }) (still s.tokens)
-          (λ t. copy-arrives (copied h stamp ver value) may (record { asks = asked Copy t; unheld = unheld t; mode = refl; clean = refl; giving = refl }))
+          (λ t. copy-arrives (copied h stamp ver value) may
+          (record { asks = asked Copy t; unheld = unheld t; mode = refl; clean = refl; stamp = rises Copy t; giving = refl }))
           (λ t. stays)
 
       -- ---- a grant
 
-      fetched-same : (ver : ℕ) (place : Place) → h.mode ≡ Nothing → At (P 1) (with_block (fetched_from h stamp ver place))
-      fetched-same ver place nothing =
+      fetched-same : (ver : ℕ) (place : Place) → h.mode ≡ Nothing → is_later h.stamp stamp ≡ false → At (P 1) (with_block (fetched_from h stamp ver place))
+      fetched-same ver place nothing above =
           let g : Held = fetched_from h stamp ver place in
           (k.takes 1).quiet s.tokens (with_held s.tokens block g) s.log s.cache
-          (quiet_put s.tokens block g (record { mode = sym nothing; ver = refl; settled = refl; giving = λ x. x })) p
+          (quiet_put s.tokens block g (record { mode = sym nothing; ver = refl; settled = refl; stamp = above; giving = λ x. x })) p
 
       granted_copy : A block → (entry : Entry) → At (P 1) (told s (on_granted s.tokens block stamp inc req Copy entry)).state
       unfolding on_granted follows follows_one
@@ -207,8 +216,9 @@ module _ (A : BlockId → Type 0) (M : GroupMapState → Type 0) (B : Fact) (P :
           placed : accepts s.tokens block stamp inc req Copy ≡ true → (place : Option Place)
               → At (P 1) (told s (record { state = with_held s.tokens block (copy_granted h stamp entry.ver place); outs = copy_next block place ∷ [] })).state
           placed t None =
-              copy-arrives (copied h stamp entry.ver None) arrives (record { asks = asked Copy t; unheld = unheld t; mode = refl; clean = refl; giving = refl })
-          placed t (Some place) = reads-keeps 1 (with_block (fetched_from h stamp entry.ver place)) block place (fetched-same entry.ver place (unheld t))
+              copy-arrives (copied h stamp entry.ver None) arrives
+              (record { asks = asked Copy t; unheld = unheld t; mode = refl; clean = refl; stamp = rises Copy t; giving = refl })
+          placed t (Some place) = reads-keeps 1 (with_block (fetched_from h stamp entry.ver place)) block place (fetched-same entry.ver place (unheld t) (rises Copy t))
 
       granted_own : A block → (entry : Entry) → has_long_room entry.ver ≡ true → KeptOrFresh (told s (on_granted s.tokens block stamp inc req Own entry)).state
       unfolding on_granted follows follows_one notes_copy
@@ -230,7 +240,7 @@ module _ (A : BlockId → Type 0) (M : GroupMapState → Type 0) (B : Fact) (P :
               (λ x. contrary (sym (ap (λ (f : Held). same_mode f.mode Copy) now) ∙ x))
               (λ x. inr (record {
                 block = block;
-                fact = k.owns s.tokens s.log s.cache block g arrives asks.sound (record { asks = asked Own t; mode = refl; clean = refl; giving = refl }) p;
+                fact = k.owns s.tokens s.log s.cache block g arrives asks.sound (record { asks = asked Own t; mode = refl; clean = refl; stamp = rises Own t; giving = refl }) p;
                 needs = needed_same (with_block g).call s.call (call_with-step s.call (kept_while u (reading_in s.call))) ∙ (needs_it Own t).0;
                 may = ap may_write now ∙ ap (λ b. b && nat_lt entry.ver (2 ^ 64 - 1)) ungiven ∙ below;
                 empty = ap (λ (f : Held). is_none f.value) now;
@@ -256,7 +266,7 @@ module _ (A : BlockId → Type 0) (M : GroupMapState → Type 0) (B : Fact) (P :
 
     ended-copied : (f : Option Fetch) (value : Option (List ℕ)) → is_some f ≡ true → is_asking h ≡ true → h.mode ≡ Nothing → IsCopied h (fetch_ended h f value)
     ended-copied None value some asking nothing = contrary some
-    ended-copied (Some f) value some asking nothing = record { asks = asking; unheld = nothing; mode = refl; clean = refl; giving = refl }
+    ended-copied (Some f) value some asking nothing = record { asks = asking; unheld = nothing; mode = refl; clean = refl; stamp = not_later_itself h.stamp; giving = refl }
 
     pub fetched-keeps : (may_end_fetch h ≡ true → A block) → (value : Option (List ℕ)) → At (P 1) (told s (on_fetched s.tokens block value)).state
     unfolding on_fetched

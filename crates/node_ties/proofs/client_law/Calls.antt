@@ -28,6 +28,7 @@ use Rattle.xfs_base.specs.declared.token.Mode.TheVariants.{Nothing, Copy, Own}
 use Rattle.xfs_base.specs.Modes.{is_held, is_nothing}
 use Rattle.xfs_base.specs.Steps.{after, still}
 use Rattle.xfs_base.proofs.Booleans.{and_second, by_test, contrary, not_true}
+use Rattle.xfs_base.proofs.Orders.{not_later_itself}
 use Rattle.node_ties.specs.node_tie.Asks.{needed, needed_by}
 use Rattle.node_ties.proofs.client_law.Arriving.{IsFresh, KeptOrFresh}
 use Rattle.node_ties.proofs.client_law.Keeping.{At, Fact, Keeps, Sound, TakesKeep, notes_gone-keeps, quiet-keeps, seals-keeps}
@@ -47,7 +48,8 @@ module _ (P : Fact) (k : TakesKeep P) (s : Serving) (block : BlockId) (p : At P 
   unfolding notes_gone
   let_go-keeps clean =
       by_test (At P) (is_nothing (held_of without.tokens.blocks block).mode) _ without
-      (λ x. k.lets s.tokens s.log s.cache block (let_go now) clean (record { mode = refl; ver = refl; settled = refl; giving = λ g. g }) p)
+      (λ x. k.lets s.tokens s.log s.cache block (let_go now) clean
+      (record { mode = refl; ver = refl; settled = refl; stamp = not_later_itself now.stamp; giving = λ g. g }) p)
       (λ x. contrary (sym x ∙ ap (λ (h : Held). is_nothing h.mode) (held_of-put_itself block (let_go now) s.tokens.blocks)))
 
   evicted-keeps : At P (notes_gone (record s { tokens = (on_evict s.tokens block).state }) block)

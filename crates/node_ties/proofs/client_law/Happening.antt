@@ -1,11 +1,11 @@
 -- Each event keeps a fact of a client that asks for its call: so it holds after any events.
-use Rattle.std.proofs.Common.{◌≡◌, inl, ℕ, Bool, true, ◌&&◌, List, [], ◌∷◌, Option, Some, None, is_some}
+use Rattle.std.proofs.Common.{◌≡◌, inl, ℕ, Bool, true, ◌&&◌, List, [], ◌∷◌, Option, Some, None, is_some, sym, subst}
 use Rattle.client_log.specs.LogState as logs
 use Rattle.client_log.specs.LogState.{LogState}
 use Rattle.client_node.specs.declared.client.Client.{Client}
 use Rattle.client_node.specs.declared.phase.Phase.TheVariants.{Down, Opening, Serving as Serves}
 use Rattle.client_node.specs.declared.phase.Phase.{Phase}
-use Rattle.client_node.specs.Phases.{Went_to, after_opening, begins_item, client_room, client_step, down_begins, happens, item_begins, lasting_of, on_begin, on_deliver, on_time, opened_on, opening_begins, owner_of, phase_room, serving_begins, takes, wish_of, with_begun}
+use Rattle.client_node.specs.Phases.{Went_to, after_opening, begins_item, client_room, client_step, down_begins, happens, item_begins, lasting_of, on_begin, on_deliver, on_event, on_time, opened_on, opening_begins, owner_of, phase_room, serving_begins, takes, wish_of, with_begun}
 use Rattle.client_node.specs.Starting.{first_client}
 use Rattle.client_parts.specs.declared.call.Going.{Going}
 use Rattle.client_parts.specs.declared.lasting.Lasting.{Lasting}
@@ -78,26 +78,7 @@ abbrev pub ArrivesTo : (BlockId → Type 0) → Phase → Do → Type 0
 ArrivesTo A (Serves s) (Deliver packet) = Arrives A s packet.body
 ArrivesTo A _ _ = Unit {0}
 
-module _ (A : BlockId → Type 0) (M : GroupMapState → Type 0) (B : Fact) (P : ℕ → Fact) (Q : BlockId → Fact) (k : Keeps A M B P Q)
-    (O : openings.Opening → Type 0) (E : LogState → Type 0) (r : Reopens M O E) (starts : Starts B E) where
-  abbrev pub PhaseHolds : Phase → Type 0
-  PhaseHolds (Down l) = Unit {0}
-  PhaseHolds (Opening l o) = O o
-  PhaseHolds (Serves s) = At B s
-
-  abbrev WentSo : Went_to → Type 0
-  WentSo w = PhaseHolds w.state
-
-  -- ---- openings
-
-  after_opening-so : (l : Lasting) (capacity : ℕ) (p : Progress) → OpensSo O E p → WentSo (after_opening l capacity p)
-  after_opening-so l capacity (progress.Opening o) h = h
-  after_opening-so l capacity (progress.Opened d) h = starts l.inc d.promised.epochs d.log capacity h
-  after_opening-so l capacity (progress.Lost seg) h = tt
-
-  opened_on-so : (l : Lasting) (capacity : ℕ) (w : Went) → OpensSo O E w.progress → WentSo (opened_on l capacity w)
-  opened_on-so l capacity w h = after_opening-so (record l { questions = w.questions }) capacity w.progress h
-
+module _ (A : BlockId → Type 0) (M : GroupMapState → Type 0) (B : Fact) (P : ℕ → Fact) (Q : BlockId → Fact) (k : Keeps A M B P Q) where
   -- ---- a client that serves
 
   begin : (s : Serving) → serving_room s ≡ true → At B s → At (P 1) s
@@ -127,99 +108,154 @@ module _ (A : BlockId → Type 0) (M : GroupMapState → Type 0) (B : Fact) (P :
       (begins_call s number (call_at s number (work_at s.lasting.items number)))
       (λ t. end s h) (λ t. begins_call-so s number (call_at s number (work_at s.lasting.items number)) sound h)
 
-  -- ---- the next item begins
-
-  down_begins-so : (servers : ℕ) (l : Lasting) (number : ℕ) (w : Option Work) → WentSo (down_begins servers l number (wish_of w))
-  down_begins-so servers l number (Some (work.Restart node)) = r.first (owner_of (next_life l number)) servers (next_life l number).questions
-  down_begins-so servers l number (Some (work.Crash node)) = tt
-  down_begins-so servers l number None = tt
-  down_begins-so servers l number (Some other) = tt
-
-  opening_begins-so : (l : Lasting) (o : openings.Opening) (number : ℕ) (w : Option Work) → O o → WentSo (opening_begins l o number (wish_of w))
-  opening_begins-so l o number (Some (work.Crash node)) h = tt
-  opening_begins-so l o number (Some (work.Restart node)) h = h
-  opening_begins-so l o number None h = h
-  opening_begins-so l o number (Some other) h = h
-
-  serving_begins-so : (s : Serving) (number : ℕ) (w : Option Work) → Sound s → At (P 0) s → WentSo (serving_begins s number (wish_of w))
+  serving_begins-so : (s : Serving) (number : ℕ) (w : Option Work) → Sound s → At (P 0) s → WhereItServes (At B) (serving_begins s number (wish_of w)).state
   serving_begins-so s number (Some (work.Crash node)) sound h = tt
   serving_begins-so s number (Some (work.Restart node)) sound h = end s h
   serving_begins-so s number None sound h = opens-so s number sound h
   serving_begins-so s number (Some other) sound h = opens-so s number sound h
 
-  item_begins-so : (servers : ℕ) (phase : Phase) (number : ℕ) → phase_room phase ≡ true → PhaseAsks phase → PhaseHolds phase
-      → WentSo (item_begins servers (with_begun phase) number (wish_of (work_at (lasting_of (with_begun phase)).items number)))
-  item_begins-so servers (Down l) number room asks h =
-      down_begins-so servers (lasting_of (with_begun (Down l))) number (work_at (lasting_of (with_begun (Down l))).items number)
-  item_begins-so servers (Opening l o) number room asks h =
-      opening_begins-so (lasting_of (with_begun (Opening l o))) o number (work_at (lasting_of (with_begun (Opening l o))).items number) h
-  item_begins-so servers (Serves s) number room asks h =
+  begun-so : (servers : ℕ) (s : Serving) (number : Option ℕ) → serving_room s ≡ true → AsksForCall s → At B s
+      → WhereItServes (At B) (begins_item servers (Serves s) number).state
+  begun-so servers s None room asks h = h
+  begun-so servers s (Some number) room asks h =
       let b : Lasting = lasting_of (with_begun (Serves s)) in
       serving_begins-so (record s { lasting = b }) number (work_at b.items number) asks.sound (k.less s.tokens s.log s.cache (begin s room h))
 
-  begins_item-so : (servers : ℕ) (phase : Phase) (number : Option ℕ) → phase_room phase ≡ true → PhaseAsks phase → PhaseHolds phase
-      → WentSo (begins_item servers phase number)
-  begins_item-so servers phase None room asks h = h
-  begins_item-so servers phase (Some number) room asks h = item_begins-so servers phase number room asks h
-
-  on_begin-so : (servers : ℕ) (phase : Phase) → phase_room phase ≡ true → PhaseAsks phase → PhaseHolds phase → WentSo (on_begin servers phase)
-  unfolding on_begin
-  on_begin-so servers phase room asks h = begins_item-so servers phase (next_item (lasting_of phase).items) room asks h
-
-  -- ---- packets and time
-
-  on_deliver-so : (capacity : ℕ) (phase : Phase) (packet : Packet) → ArrivesTo A phase (Deliver packet) → BringsMaps M packet.body → phase_room phase ≡ true
-      → PhaseAsks phase → PhaseHolds phase
-      → WentSo (on_deliver capacity phase packet)
-  unfolding on_deliver
-  on_deliver-so capacity (Down l) packet arrives brings room asks h = tt
-  on_deliver-so capacity (Opening l o) packet arrives brings room asks h =
-      opened_on-so l capacity (opening.on_packet o l.questions packet) (r.packet o l.questions packet brings h)
-  on_deliver-so capacity (Serves s) packet arrives brings room asks h =
-      runs-so (on_packet s packet).state (on_packet-asks s asks packet) (on_packet-keeps A M B P Q k s asks (begin s room h) packet arrives brings)
-
-  on_time-so : (capacity : ℕ) (phase : Phase) → phase_room phase ≡ true → PhaseAsks phase → PhaseHolds phase → WentSo (on_time capacity phase)
-  unfolding on_time
-  on_time-so capacity (Down l) room asks h = tt
-  on_time-so capacity (Opening l o) room asks h = opened_on-so l capacity (opening.on_tick o l.questions) (r.tick o l.questions h)
-  on_time-so capacity (Serves s) room asks h = runs-so (on_tick s).state (on_tick-asks s asks) (inl (on_tick-keeps A M B P Q k s asks (begin s room h)))
-
-  happens-so : (client : Client) (what : Do) → ArrivesTo A client.phase what → DoBrings M what → phase_room client.phase ≡ true → PhaseAsks client.phase
-      → PhaseHolds client.phase → WentSo (happens client what)
-  happens-so client Begin arrives brings room asks h = on_begin-so client.peers.servers client.phase room asks h
-  happens-so client (Deliver packet) arrives brings room asks h =
-      by_test WentSo (is_well_formed client.peers packet) (on_deliver client.cache client.phase packet) (still client.phase)
-      (λ t. on_deliver-so client.cache client.phase packet arrives brings room asks h) (λ t. h)
-  happens-so client Tick arrives brings room asks h = on_time-so client.cache client.phase room asks h
-
-  pub takes-so : (client : Client) (what : Do) → ArrivesTo A client.phase what → DoBrings M what → PhaseAsks client.phase → PhaseHolds client.phase
-      → WentSo (takes client what)
-  takes-so client what arrives brings asks h =
-      by_test WentSo (client_room client) (happens client what) (still client.phase)
-      (λ t. happens-so client what arrives brings (and_second (has_room (lasting_of client.phase).questions.last) (phase_room client.phase)
-      (and_second (has_room (lasting_of client.phase).inc) _ t)) asks h)
+  event-so : (client : Client) (s : Serving) (what : Do) → ArrivesTo A (Serves s) what → DoBrings M what → serving_room s ≡ true → AsksForCall s → At B s
+      → WhereItServes (At B) (on_event client.peers client.cache (Serves s) what).state
+  unfolding on_begin on_deliver on_time
+  event-so client s Begin arrives brings room asks h = begun-so client.peers.servers s (next_item s.lasting.items) room asks h
+  event-so client s (Deliver packet) arrives brings room asks h =
+      by_test (λ (w : Went_to). WhereItServes (At B) w.state) (is_well_formed client.peers packet) (on_deliver client.cache (Serves s) packet) (still (Serves s))
+      (λ t. runs-so (on_packet s packet).state (on_packet-asks s asks packet) (on_packet-keeps A M B P Q k s asks (begin s room h) packet arrives brings))
       (λ t. h)
+  event-so client s Tick arrives brings room asks h =
+      runs-so (on_tick s).state (on_tick-asks s asks) (inl (on_tick-keeps A M B P Q k s asks (begin s room h)))
 
-  module _ (each : (phase : Phase) (what : Do) → ArrivesTo A phase what) where
-    after-so : (client : Client) (events : List Do) → AllByRecursion (DoBrings M) events → PhaseAsks client.phase → PhaseHolds client.phase
-        → PhaseHolds (after_events client events).phase
-    after-so client [] brings asks h = h
-    after-so client (what ∷ rest) brings asks h =
-        after-so (client_step client what).node rest brings.1 (phase_asks client what asks) (takes-so client what (each client.phase what) brings.0 asks h)
+  -- where it served before an event, and serves after it, the fact holds still
+  pub serves-so : (client : Client) (s : Serving) (what : Do) → client.phase ≡ Serves s → ArrivesTo A (Serves s) what → DoBrings M what → AsksForCall s
+      → At B s → WhereItServes (At B) (takes client what).state
+  serves-so client s what is arrives brings asks h =
+      by_test (λ (w : Went_to). WhereItServes (At B) w.state) (client_room client) (happens client what) (still client.phase)
+      (λ t. subst (λ p. WhereItServes (At B) (on_event client.peers client.cache p what).state) (sym is)
+      (event-so client s what arrives brings
+      (subst (λ p. phase_room p ≡ true) is
+      (and_second (has_room (lasting_of client.phase).questions.last) (phase_room client.phase) (and_second (has_room (lasting_of client.phase).inc) _ t)))
+      asks h))
+      (λ t. subst (WhereItServes (At B)) (sym is) h)
 
-    serves_so : (phase : Phase) → PhaseHolds phase → WhereItServes (At B) phase
-    serves_so (Down l) h = tt
-    serves_so (Opening l o) h = tt
-    serves_so (Serves s) h = h
+  module _ (O : openings.Opening → Type 0) (E : LogState → Type 0) (r : Reopens M O E) (starts : Starts B E) where
+    abbrev pub PhaseHolds : Phase → Type 0
+    PhaseHolds (Down l) = Unit {0}
+    PhaseHolds (Opening l o) = O o
+    PhaseHolds (Serves s) = At B s
 
-    -- it holds after events that bring such maps, where the log of a client at the start is so
-    pub always_where : (number : ℕ) (setup : Setup) (works : List Work) (events : List Do)
-        → E (logs.started (record { 0 = number }) 1 empty_end (groups.started setup.servers setup.groups)) → AllByRecursion (DoBrings M) events
-        → WhereItServes (At B) (after_events (first_client number setup works) events).phase
-    always_where number setup works events first brings =
-        let l : LogState = logs.started (record { 0 = number }) 1 empty_end (groups.started setup.servers setup.groups) in
-        serves_so (after_events (first_client number setup works) events).phase
-        (after-so (first_client number setup works) events brings (first_asks number setup works) (starts 1 _ l setup.cache first))
+    abbrev WentSo : Went_to → Type 0
+    WentSo w = PhaseHolds w.state
+
+    -- ---- openings
+
+    after_opening-so : (l : Lasting) (capacity : ℕ) (p : Progress) → OpensSo O E p → WentSo (after_opening l capacity p)
+    after_opening-so l capacity (progress.Opening o) h = h
+    after_opening-so l capacity (progress.Opened d) h = starts l.inc d.promised.epochs d.log capacity h
+    after_opening-so l capacity (progress.Lost seg) h = tt
+
+    opened_on-so : (l : Lasting) (capacity : ℕ) (w : Went) → OpensSo O E w.progress → WentSo (opened_on l capacity w)
+    opened_on-so l capacity w h = after_opening-so (record l { questions = w.questions }) capacity w.progress h
+
+    -- ---- the next item begins
+
+    down_begins-so : (servers : ℕ) (l : Lasting) (number : ℕ) (w : Option Work) → WentSo (down_begins servers l number (wish_of w))
+    down_begins-so servers l number (Some (work.Restart node)) = r.first (owner_of (next_life l number)) servers (next_life l number).questions
+    down_begins-so servers l number (Some (work.Crash node)) = tt
+    down_begins-so servers l number None = tt
+    down_begins-so servers l number (Some other) = tt
+
+    opening_begins-so : (l : Lasting) (o : openings.Opening) (number : ℕ) (w : Option Work) → O o → WentSo (opening_begins l o number (wish_of w))
+    opening_begins-so l o number (Some (work.Crash node)) h = tt
+    opening_begins-so l o number (Some (work.Restart node)) h = h
+    opening_begins-so l o number None h = h
+    opening_begins-so l o number (Some other) h = h
+
+    serving_item-so : (s : Serving) (number : ℕ) (w : Option Work) → Sound s → At (P 0) s → WentSo (serving_begins s number (wish_of w))
+    serving_item-so s number (Some (work.Crash node)) sound h = tt
+    serving_item-so s number (Some (work.Restart node)) sound h = end s h
+    serving_item-so s number None sound h = opens-so s number sound h
+    serving_item-so s number (Some other) sound h = opens-so s number sound h
+
+    item_begins-so : (servers : ℕ) (phase : Phase) (number : ℕ) → phase_room phase ≡ true → PhaseAsks phase → PhaseHolds phase
+        → WentSo (item_begins servers (with_begun phase) number (wish_of (work_at (lasting_of (with_begun phase)).items number)))
+    item_begins-so servers (Down l) number room asks h =
+        down_begins-so servers (lasting_of (with_begun (Down l))) number (work_at (lasting_of (with_begun (Down l))).items number)
+    item_begins-so servers (Opening l o) number room asks h =
+        opening_begins-so (lasting_of (with_begun (Opening l o))) o number (work_at (lasting_of (with_begun (Opening l o))).items number) h
+    item_begins-so servers (Serves s) number room asks h =
+        let b : Lasting = lasting_of (with_begun (Serves s)) in
+        serving_item-so (record s { lasting = b }) number (work_at b.items number) asks.sound (k.less s.tokens s.log s.cache (begin s room h))
+
+    begins_item-so : (servers : ℕ) (phase : Phase) (number : Option ℕ) → phase_room phase ≡ true → PhaseAsks phase → PhaseHolds phase
+        → WentSo (begins_item servers phase number)
+    begins_item-so servers phase None room asks h = h
+    begins_item-so servers phase (Some number) room asks h = item_begins-so servers phase number room asks h
+
+    on_begin-so : (servers : ℕ) (phase : Phase) → phase_room phase ≡ true → PhaseAsks phase → PhaseHolds phase → WentSo (on_begin servers phase)
+    unfolding on_begin
+    on_begin-so servers phase room asks h = begins_item-so servers phase (next_item (lasting_of phase).items) room asks h
+
+    -- ---- packets and time
+
+    on_deliver-so : (capacity : ℕ) (phase : Phase) (packet : Packet) → ArrivesTo A phase (Deliver packet) → BringsMaps M packet.body → phase_room phase ≡ true
+        → PhaseAsks phase → PhaseHolds phase
+        → WentSo (on_deliver capacity phase packet)
+    unfolding on_deliver
+    on_deliver-so capacity (Down l) packet arrives brings room asks h = tt
+    on_deliver-so capacity (Opening l o) packet arrives brings room asks h =
+        opened_on-so l capacity (opening.on_packet o l.questions packet) (r.packet o l.questions packet brings h)
+    on_deliver-so capacity (Serves s) packet arrives brings room asks h =
+        runs-so (on_packet s packet).state (on_packet-asks s asks packet) (on_packet-keeps A M B P Q k s asks (begin s room h) packet arrives brings)
+
+    on_time-so : (capacity : ℕ) (phase : Phase) → phase_room phase ≡ true → PhaseAsks phase → PhaseHolds phase → WentSo (on_time capacity phase)
+    unfolding on_time
+    on_time-so capacity (Down l) room asks h = tt
+    on_time-so capacity (Opening l o) room asks h = opened_on-so l capacity (opening.on_tick o l.questions) (r.tick o l.questions h)
+    on_time-so capacity (Serves s) room asks h = runs-so (on_tick s).state (on_tick-asks s asks) (inl (on_tick-keeps A M B P Q k s asks (begin s room h)))
+
+    happens-so : (client : Client) (what : Do) → ArrivesTo A client.phase what → DoBrings M what → phase_room client.phase ≡ true → PhaseAsks client.phase
+        → PhaseHolds client.phase → WentSo (happens client what)
+    happens-so client Begin arrives brings room asks h = on_begin-so client.peers.servers client.phase room asks h
+    happens-so client (Deliver packet) arrives brings room asks h =
+        by_test WentSo (is_well_formed client.peers packet) (on_deliver client.cache client.phase packet) (still client.phase)
+        (λ t. on_deliver-so client.cache client.phase packet arrives brings room asks h) (λ t. h)
+    happens-so client Tick arrives brings room asks h = on_time-so client.cache client.phase room asks h
+
+    pub takes-so : (client : Client) (what : Do) → ArrivesTo A client.phase what → DoBrings M what → PhaseAsks client.phase → PhaseHolds client.phase
+        → WentSo (takes client what)
+    takes-so client what arrives brings asks h =
+        by_test WentSo (client_room client) (happens client what) (still client.phase)
+        (λ t. happens-so client what arrives brings (and_second (has_room (lasting_of client.phase).questions.last) (phase_room client.phase)
+        (and_second (has_room (lasting_of client.phase).inc) _ t)) asks h)
+        (λ t. h)
+
+    module _ (each : (phase : Phase) (what : Do) → ArrivesTo A phase what) where
+      after-so : (client : Client) (events : List Do) → AllByRecursion (DoBrings M) events → PhaseAsks client.phase → PhaseHolds client.phase
+          → PhaseHolds (after_events client events).phase
+      after-so client [] brings asks h = h
+      after-so client (what ∷ rest) brings asks h =
+          after-so (client_step client what).node rest brings.1 (phase_asks client what asks) (takes-so client what (each client.phase what) brings.0 asks h)
+
+      serves_so : (phase : Phase) → PhaseHolds phase → WhereItServes (At B) phase
+      serves_so (Down l) h = tt
+      serves_so (Opening l o) h = tt
+      serves_so (Serves s) h = h
+
+      -- it holds after events that bring such maps, where the log of a client at the start is so
+      pub always_where : (number : ℕ) (setup : Setup) (works : List Work) (events : List Do)
+          → E (logs.started (record { 0 = number }) 1 empty_end (groups.started setup.servers setup.groups)) → AllByRecursion (DoBrings M) events
+          → WhereItServes (At B) (after_events (first_client number setup works) events).phase
+      always_where number setup works events first brings =
+          let l : LogState = logs.started (record { 0 = number }) 1 empty_end (groups.started setup.servers setup.groups) in
+          serves_so (after_events (first_client number setup works) events).phase
+          (after-so (first_client number setup works) events brings (first_asks number setup works) (starts 1 _ l setup.cache first))
 
 -- ---- whatever comes
 

@@ -31,7 +31,8 @@ use Rattle.xfs_base.specs.Modes.{is_held, is_nothing}
 use Rattle.xfs_base.specs.Stamps.{is_later}
 use Rattle.xfs_base.specs.Steps.{after, still}
 use Rattle.xfs_base.proofs.Booleans.{and_second, by_test, contrary}
-use Rattle.node_ties.proofs.client_law.Quiet.{GoesQuietly, IsQuiet, IsSilent, quiet_itself, quiet_still, refetch-quiet}
+use Rattle.xfs_base.proofs.Orders.{not_later_back, not_later_itself}
+use Rattle.node_ties.proofs.client_law.Quiet.{GoesQuietly, IsQuiet, IsSilent, quiet_itself, quiet_still, refetch-quiet, refetch-stamp}
 
 -- a fact of a client that serves: of its tokens, its log and its cache
 abbrev pub Fact : Type 1
@@ -40,19 +41,21 @@ Fact = TokensState → LogState → CacheState → Type 0
 abbrev pub At : Fact → Serving → Type 0
 At P s = P s.tokens s.log s.cache
 
--- ---- how what is known of a block changes
+-- ---- how what is known of a block changes; its stamp doesn't fall
 
 -- but for the recall that is put off, it is the same
 pub record IsPutOff (h g : Held) : Type 0 where
   pub mode : g.mode ≡ h.mode
   pub ver : g.ver ≡ h.ver
   pub settled : g.settled ≡ h.settled
+  pub stamp : is_later h.stamp g.stamp ≡ false
 
 -- it isn't held any more
 pub record IsLetGo (h g : Held) : Type 0 where
   pub mode : g.mode ≡ Nothing
   pub ver : g.ver ≡ h.ver
   pub settled : g.settled ≡ h.settled
+  pub stamp : is_later h.stamp g.stamp ≡ false
   pub giving : is_some g.giving ≡ true → is_some h.giving ≡ true
 
 -- it was held, and is a copy now
@@ -61,6 +64,7 @@ pub record IsLowered (h g : Held) : Type 0 where
   pub mode : g.mode ≡ Copy
   pub ver : g.ver ≡ h.ver
   pub settled : g.settled ≡ h.settled
+  pub stamp : is_later h.stamp g.stamp ≡ false
   pub giving : is_some g.giving ≡ true → is_some h.giving ≡ true
 
 -- it was asked for, and is a clean copy now
@@ -69,6 +73,7 @@ pub record IsCopied (h g : Held) : Type 0 where
   pub unheld : h.mode ≡ Nothing
   pub mode : g.mode ≡ Copy
   pub clean : g.settled ≡ g.ver
+  pub stamp : is_later h.stamp g.stamp ≡ false
   pub giving : g.giving ≡ h.giving
 
 -- it was asked for, and is owned now, at a settled version
@@ -76,6 +81,7 @@ pub record IsOwned (h g : Held) : Type 0 where
   pub asks : is_asking h ≡ true
   pub mode : g.mode ≡ Own
   pub clean : g.settled ≡ g.ver
+  pub stamp : is_later h.stamp g.stamp ≡ false
   pub giving : g.giving ≡ h.giving
 
 -- ---- what keeps a fact
@@ -196,7 +202,8 @@ module _ (P : Fact) (k : TakesKeep P) where
 
       put_off-same : IsPutOff now (put_off now stamp keep)
       put_off-same =
-          by_test (IsPutOff now) _ now _ (λ t. record { mode = refl; ver = refl; settled = refl }) (λ t. record { mode = refl; ver = refl; settled = refl })
+          by_test (IsPutOff now) _ now _ (λ t. record { mode = refl; ver = refl; settled = refl; stamp = not_later_itself now.stamp })
+          (λ t. record { mode = refl; ver = refl; settled = refl; stamp = not_later_itself now.stamp })
 
       back-put_off : is_dirty now ≡ true
           → Back (after asked_for.outs (record { state = with_held asked_for.state block (put_off now stamp keep); outs = Flush block ∷ [] }))
@@ -215,30 +222,32 @@ module _ (P : Fact) (k : TakesKeep P) where
           (λ x. k.lets asked_for.state s.log s.cache block g clean lets still_so)
           (λ x. contrary (sym x ∙ ap (λ (h : Held). is_nothing h.mode) (held_of-put_itself block g asked_for.state.blocks) ∙ ap is_nothing lets.mode))
 
-      given : is_dirty now ≡ false → At P (notes_gone (with_block (given_up now stamp keep)) block)
-      given clean =
+      given : is_later now.stamp stamp ≡ false → is_dirty now ≡ false → At P (notes_gone (with_block (given_up now stamp keep)) block)
+      given rises clean =
           let low : Held = record now { mode = Copy; stamp = stamp; giving = None } in
           let none : Held = record now { mode = Nothing; value = None; stamp = stamp; giving = None } in
           by_test (λ (g : Held). At P (notes_gone (with_block g) block)) (keep && is_held now.mode) low none
           (λ t. notes_gone-keeps (with_block low) block
           (k.lowers asked_for.state s.log s.cache block low clean
-          (record { held = and_second keep (is_held now.mode) t; mode = refl; ver = refl; settled = refl; giving = λ x. contrary x }) still_so))
-          (λ t. gone none clean (record { mode = refl; ver = refl; settled = refl; giving = λ x. contrary x }))
+          (record { held = and_second keep (is_held now.mode) t; mode = refl; ver = refl; settled = refl; stamp = rises; giving = λ x. contrary x }) still_so))
+          (λ t. gone none clean (record { mode = refl; ver = refl; settled = refl; stamp = rises; giving = λ x. contrary x }))
 
-      back-given : is_dirty now ≡ false
+      back-given : is_later now.stamp stamp ≡ false → is_dirty now ≡ false
           → Back (after asked_for.outs (record { state = with_held asked_for.state block (given_up now stamp keep); outs = Gave block stamp ∷ [] }))
       unfolding follows follows_one
-      back-given clean =
+      back-given rises clean =
           let u : Serving = with_block (given_up now stamp keep) in
-          subst (λ (v : Serving). At P (notes_gone v block)) (sym (follows-silent u asked_for.outs (Gave block stamp ∷ []) quietly.silent)) (given clean)
+          subst (λ (v : Serving). At P (notes_gone v block)) (sym (follows-silent u asked_for.outs (Gave block stamp ∷ []) quietly.silent)) (given rises clean)
 
-      back-above : Back (recalled_above s.tokens block stamp keep)
+      back-above : is_later stamp (held_of s.tokens.blocks block).stamp ≡ true → Back (recalled_above s.tokens block stamp keep)
       unfolding recalled_above give
-      back-above =
+      back-above later =
+          let rises : is_later now.stamp stamp ≡ false =
+          ap (λ a. is_later a stamp) (refetch-stamp s.tokens block) ∙ not_later_back (held_of s.tokens.blocks block).stamp stamp later in
           by_test Back (can_refetch s.tokens block) (after asked_for.outs (give asked_for.state block stamp keep)) (still s.tokens)
           (λ t. by_test (λ (d : Done). Back (after asked_for.outs d)) (is_dirty now)
           (record { state = with_held asked_for.state block (put_off now stamp keep); outs = Flush block ∷ [] })
-          (record { state = with_held asked_for.state block (given_up now stamp keep); outs = Gave block stamp ∷ [] }) back-put_off back-given)
+          (record { state = with_held asked_for.state block (given_up now stamp keep); outs = Gave block stamp ∷ [] }) back-put_off (back-given rises))
           (λ t. back-quiet (still s.tokens) (quiet_still s.tokens))
 
       back-again : Back (recalled_again s.tokens block stamp)
@@ -254,7 +263,7 @@ module _ (P : Fact) (k : TakesKeep P) where
           by_test Back (is_promised s.tokens block stamp) (recalled s.tokens block stamp keep) (still s.tokens)
           (λ t. by_test Back (is_later stamp (held_of s.tokens.blocks block).stamp) (recalled_above s.tokens block stamp keep)
           (recalled_again s.tokens block stamp)
-          (λ x. back-above) (λ x. back-again))
+          (λ x. back-above x) (λ x. back-again))
           (λ t. back-quiet (still s.tokens) (quiet_still s.tokens))
 
       -- a block is taken back

@@ -1,13 +1,15 @@
 -- What inputs leave of a client's tokens that neither give nor take a block: only what is asked for changes, and puts-off may be dropped.
-use Rattle.std.proofs.Common.{◌≡◌, ℕ, ◌+◌, ◌-◌, ◌^◌, true, List, [], ◌∷◌, Option, Some, None, is_some, refl, sym, subst, ◌∙◌, nat_lt}
+use Rattle.std.proofs.Common.{◌≡◌, ℕ, ◌+◌, ◌-◌, ◌^◌, true, false, List, [], ◌∷◌, Option, Some, None, is_some, refl, sym, subst, ◌∙◌, nat_lt}
 use Rattle.std.specs.List.{AllByRecursion, list_any}
 use Rattle.std.specs.Map.{values_of}
 use Rattle.xfs_base.specs.declared.block.BlockId.{BlockId}
 use Rattle.xfs_base.specs.declared.token.Mode.{Mode}
 use Rattle.xfs_base.specs.declared.token.Mode.TheVariants.{Copy}
 use Rattle.xfs_base.specs.declared.token.Stamp.{Stamp}
+use Rattle.xfs_base.specs.Stamps.{is_later}
 use Rattle.xfs_base.specs.Steps.{still, steps}
 use Rattle.xfs_base.proofs.Booleans.{by_test, contrary}
+use Rattle.xfs_base.proofs.Orders.{not_later_itself, not_later_through}
 use Rattle.token_client.specs.declared.held.Held.{Held}
 use Rattle.token_client.specs.declared.held.Wanted.{Wanted}
 use Rattle.token_client.specs.declared.output.Out.{Out}
@@ -16,14 +18,15 @@ use Rattle.token_client.specs.Held.{asked, asked_again, is_asking, must_ask, pro
 use Rattle.token_client.specs.State.{TokensState, held_of, is_in_slot, with_held}
 use Rattle.token_client.specs.Transition.{Done, new_want, ask_again, ask_copy, dropped_in, fetched_in, is_spent, may_promise, on_forwarded, on_need, on_promise, on_quit, on_reask, on_tick, raised, refetch, repeated, serves, supplies, wanted_in}
 use Rattle.token_client.proofs.Promises.{dropped-known}
-use Rattle.token_client.proofs.Tables.{put_each}
+use Rattle.token_client.proofs.Tables.{put_each, put_same}
 use Rattle.node_ties.proofs.client_law.Effects.{all_append}
 
--- the same mode and the same versions, and no recall put off that was not
+-- the same mode and the same versions, a stamp that didn't fall, and no recall put off that was not
 pub record IsSame (h g : Held) : Type 0 where
   pub mode : g.mode ≡ h.mode
   pub ver : g.ver ≡ h.ver
   pub settled : g.settled ≡ h.settled
+  pub stamp : is_later h.stamp g.stamp ≡ false
   pub giving : is_some g.giving ≡ true → is_some h.giving ≡ true
 
 abbrev pub IsQuiet : TokensState → TokensState → Type 0
@@ -43,10 +46,16 @@ pub record GoesQuietly (s : TokensState) (d : Done) : Type 0 where
   pub silent : AllByRecursion IsSilent d.outs
 
 same_itself : (h : Held) → IsSame h h
-same_itself h = record { mode = refl; ver = refl; settled = refl; giving = λ t. t }
+same_itself h = record { mode = refl; ver = refl; settled = refl; stamp = not_later_itself h.stamp; giving = λ t. t }
 
 same_through : (h g f : Held) → IsSame h g → IsSame g f → IsSame h f
-same_through h g f p q = record { mode = q.mode ∙ p.mode; ver = q.ver ∙ p.ver; settled = q.settled ∙ p.settled; giving = λ t. p.giving (q.giving t) }
+same_through h g f p q = record {
+  mode = q.mode ∙ p.mode;
+  ver = q.ver ∙ p.ver;
+  settled = q.settled ∙ p.settled;
+  stamp = not_later_through h.stamp g.stamp f.stamp p.stamp q.stamp;
+  giving = λ t. p.giving (q.giving t);
+}
 
 pub quiet_itself : (s : TokensState) → IsQuiet s s
 quiet_itself s b = same_itself (held_of s.blocks b)
@@ -82,7 +91,7 @@ ask-quiet s block mode =
     let g : Held = asked h (s.req + 1) mode in
     by_test (GoesQuietly s) (nat_lt s.req (2 ^ 32 - 1))
     (record { state = record (with_held s block g) { req = s.req + 1 }; outs = Want block (s.req + 1) 0 mode ∷ [] }) (still s)
-    (λ t. record { quiet = quiet_put s block g (record { mode = refl; ver = refl; settled = refl; giving = λ x. x }); silent = (tt, tt) }) (λ t. quiet_still s)
+    (λ t. record { quiet = quiet_put s block g (record { mode = refl; ver = refl; settled = refl; stamp = not_later_itself h.stamp; giving = λ x. x }); silent = (tt, tt) }) (λ t. quiet_still s)
 
 pub on_need-quiet : (s : TokensState) (block : BlockId) (mode : Mode) → GoesQuietly s (on_need s block mode)
 unfolding on_need
@@ -99,7 +108,7 @@ unfolding on_quit
 on_quit-quiet s block =
     let h : Held = held_of s.blocks block in
     by_test (GoesQuietly s) (is_asking h) (still (with_held s block (unasked h))) (still s)
-    (λ t. record { quiet = quiet_put s block (unasked h) (record { mode = refl; ver = refl; settled = refl; giving = λ x. x }); silent = tt })
+    (λ t. record { quiet = quiet_put s block (unasked h) (record { mode = refl; ver = refl; settled = refl; stamp = not_later_itself h.stamp; giving = λ x. x }); silent = tt })
     (λ t. quiet_still s)
 
 pub on_forwarded-quiet : (s : TokensState) (block : BlockId) (stamp : Stamp) (ver : ℕ) → GoesQuietly s (on_forwarded s block stamp ver)
@@ -119,10 +128,27 @@ unfolding refetch
 refetch-quiet s block =
     let h : Held = held_of s.blocks block in
     let dropped : TokensState = with_held s block (unfetched h) in
-    let first : IsQuiet s dropped = quiet_put s block (unfetched h) (record { mode = refl; ver = refl; settled = refl; giving = λ x. x }) in
+    let first : IsQuiet s dropped = quiet_put s block (unfetched h) (record { mode = refl; ver = refl; settled = refl; stamp = not_later_itself h.stamp; giving = λ x. x }) in
     let second : GoesQuietly dropped (new_want dropped block Copy) = ask-quiet dropped block Copy in
     by_test (GoesQuietly s) (is_some h.fetch) (new_want dropped block Copy) (still s)
     (λ t. record { quiet = quiet_through s dropped (new_want dropped block Copy).state first second.quiet; silent = second.silent }) (λ t. quiet_still s)
+
+ask-stamp : (s : TokensState) (block : BlockId) (mode : Mode) → (held_of (new_want s block mode).state.blocks block).stamp ≡ (held_of s.blocks block).stamp
+unfolding new_want
+ask-stamp s block mode =
+    let g : Held = asked (held_of s.blocks block) (s.req + 1) mode in
+    by_test (λ (d : Done). (held_of d.state.blocks block).stamp ≡ (held_of s.blocks block).stamp) (nat_lt s.req (2 ^ 32 - 1))
+    (record { state = record (with_held s block g) { req = s.req + 1 }; outs = Want block (s.req + 1) 0 mode ∷ [] }) (still s)
+    (λ t. put_same (λ (f : Held). f.stamp) block block g s.blocks refl) (λ t. refl)
+
+-- it has its stamp still
+pub refetch-stamp : (s : TokensState) (block : BlockId) → (held_of (refetch s block).state.blocks block).stamp ≡ (held_of s.blocks block).stamp
+unfolding refetch
+refetch-stamp s block =
+    let h : Held = held_of s.blocks block in
+    let dropped : TokensState = with_held s block (unfetched h) in
+    by_test (λ (d : Done). (held_of d.state.blocks block).stamp ≡ h.stamp) (is_some h.fetch) (new_want dropped block Copy) (still s)
+    (λ t. ask-stamp dropped block Copy ∙ put_same (λ (f : Held). f.stamp) block block (unfetched h) s.blocks refl) (λ t. refl)
 
 ask_again-quiet : (s : TokensState) (block : BlockId) → GoesQuietly s (ask_again s block)
 unfolding ask_again
@@ -133,7 +159,8 @@ ask_again-quiet s block =
     again : (w : Option Wanted) → GoesQuietly s (repeated s block w)
     again None = quiet_still s
     again (Some w) = record {
-      quiet = quiet_put s block (asked_again (held_of s.blocks block) w) (record { mode = refl; ver = refl; settled = refl; giving = λ x. x });
+      quiet = quiet_put s block (asked_again (held_of s.blocks block) w)
+          (record { mode = refl; ver = refl; settled = refl; stamp = not_later_itself (held_of s.blocks block).stamp; giving = λ x. x });
       silent = (tt, tt);
     }
 
@@ -146,7 +173,7 @@ on_tick-quiet s =
 dropped-same : (s : TokensState) (slot : ℕ) (b : BlockId) → IsSame (held_of s.blocks b) (dropped_in slot b (held_of s.blocks b))
 dropped-same s slot b =
     let h : Held = held_of s.blocks b in
-    by_test (IsSame h) (is_in_slot slot b) (promise_dropped h) h (λ t. record { mode = refl; ver = refl; settled = refl; giving = λ x. contrary x })
+    by_test (IsSame h) (is_in_slot slot b) (promise_dropped h) h (λ t. record { mode = refl; ver = refl; settled = refl; stamp = not_later_itself h.stamp; giving = λ x. contrary x })
     (λ t. same_itself h)
 
 pub on_promise-quiet : (s : TokensState) (slot epoch : ℕ) → GoesQuietly s (on_promise s slot epoch)
