@@ -48,7 +48,7 @@ module _ (b : BlockId) (p : BlockHistory) (told : ℕ → List FallTold) (t : bl
   -- ---- writes
 
   pub wrote_shown : (client : ℕ) (value : Content)
-      → BlockShown b (append (record { content = value; writer = client }) p) told (block.after t (WroteBlock client (number value)))
+      → BlockShown b (append (record { content = value; writer = client }) p) told (block.after_act t (WroteBlock client (number value)))
   wrote_shown client value =
       let v : Version = record { content = value; writer = client } in
       record {
@@ -88,7 +88,7 @@ module _ (b : BlockId) (p : BlockHistory) (told : ℕ → List FallTold) (t : bl
       (λ other. grind (arith, nat_tests)) (λ own. grind (arith, nat_tests))
 
   pub read_shown : (client ver number : ℕ) → block.LegalRead t ver number
-      → BlockShown b (if is_by_other client ver p.versions then pin ver p else p) told (block.after t (ReadBlock client ver number))
+      → BlockShown b (if is_by_other client ver p.versions then pin ver p else p) told (block.after_act t (ReadBlock client ver number))
   read_shown client zero number legal = let same =
       s.pinned in chosen false zero (if t.writer zero == client then t.pinned else max t.pinned zero) (λ other. absurd (cc)) (λ own. grind (arith, nat_tests))
   read_shown client (suc n) number legal = at_writer client n (slice_get p.versions n) refl (let a = legal.newest in let c = s.newest in omega arith)
@@ -188,14 +188,14 @@ fell_shown b p told acts client flight falls s none once = by_named (fall_of b f
 pub back_shown : (b : BlockId) (h : History) (t : block.History) (client : ℕ) (chain : List SegName) (ts : List FallTold) → BlockShown b (h.of_block b) h.told t
     → FallsShown b ts (t.fallen client) (t.low client) (t.high client) → block.LegalBack t client
     → BlockShown b ((settle chain ts h).of_block b) (λ c. if c == client then [] else (settle chain ts h).told c)
-    (block.after t (BackBlock client (is_adopted chain ts)))
+    (block.after_act t (BackBlock client (is_adopted chain ts)))
 back_shown b h t client chain [] s none legal = uncut_shown b (h.of_block b) h.told t s client (t.low client) none
 back_shown b h t client chain (w ∷ []) s fell legal =
     let adopted = holds_flight chain w.flight in
     subst (λ (told : ℕ → List FallTold). BlockShown b ((settle_falls (holds_flight chain w.flight) w.falls h).of_block b)
-    (λ c. if c == client then [] else told c) (block.after t (BackBlock client (holds_flight chain w.flight))))
+    (λ c. if c == client then [] else told c) (block.after_act t (BackBlock client (holds_flight chain w.flight))))
     (sym (settled_told adopted w.falls h))
-    (subst (λ (p : BlockHistory). BlockShown b p (λ c. if c == client then [] else h.told c) (block.after t (BackBlock client (holds_flight chain w.flight))))
+    (subst (λ (p : BlockHistory). BlockShown b p (λ c. if c == client then [] else h.told c) (block.after_act t (BackBlock client (holds_flight chain w.flight))))
     (sym (settled_block adopted w.falls h b fell.0))
     (by_fall b (h.of_block b) h.told t s client adopted (fall_of b w.falls) fell.1 legal))
 back_shown b h t client chain (w ∷ u ∷ ws) s none legal = absurd none

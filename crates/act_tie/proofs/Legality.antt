@@ -117,9 +117,9 @@ act_shown b (Read client q ver value) h told s apart legal = go (same_block q b)
         (block.history (if y then ReadBlock client ver (number value) ∷ told else told))
     go true same here =
         let one : b ≡ q = same_block_exact q b same in
-        let t = block.after (block.history told) (ReadBlock client ver (number value)) in
+        let t = block.after_act (block.history told) (ReadBlock client ver (number value)) in
         subst (λ (x : BlockId). HistoryShown b (if is_by_other client ver (h.of_block x).versions then change q (pin ver) h else h)
-        (block.after (block.history told) (ReadBlock client ver (number value)))) one
+        (block.after_act (block.history told) (ReadBlock client ver (number value)))) one
         (pinned_or (is_by_other client ver (h.of_block b).versions) true t same
         (read_shown b (h.of_block b) h.told (block.history told) s client ver (number value) here.1))
     go false same here = pinned_or (is_by_other client ver (h.of_block q).versions) false (block.history told) same s
