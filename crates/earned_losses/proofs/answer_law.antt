@@ -1,16 +1,16 @@
-mod Telling
+pub mod Telling
 mod Items
 mod Plans
 mod Following
 mod Arriving
 mod Calling
 mod Openings
-mod Settling
-mod Clients
+pub mod Settling
+pub mod Clients
 mod Emptying
-mod Cleaners
+pub mod Cleaners
 mod Slots
-mod Managers
-mod Stores
+pub mod Managers
+pub mod Stores
 mod Begins
-mod Runs
+pub mod Runs
