@@ -9,4 +9,4 @@ pub returns-clause-run : goal.returns-clause-run
 returns-clause-run g c =
     let e = c.in_ok-estate.ensures in
     is_played g.N.Actor.transition g.N.Member.first c.args.script.now c.in_ok-estate.estate
-    (script_setup c.args.script.now c.requires) e.is e.one_run e.in_order e.complete
+    (script_setup c.args.script.now c.requires) e.exact e.one_run e.in_order e.complete
