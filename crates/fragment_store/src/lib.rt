@@ -10,6 +10,3 @@ pub mod store_error;
 pub use laws::{fences_never_fall, kept_until_deleted};
 pub use shelf::Shelf;
 pub use store_error::{Missing, StoreError};
-
-#[cfg(test)]
-mod tests;
