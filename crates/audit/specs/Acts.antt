@@ -40,7 +40,7 @@ read_long word = or_fault BadNumber (long_of word)
 
 -- the number of a node, of so many, behind its letter
 abbrev pub read_node : ℕ → List ℕ → Result ℕ Kind
-read_node most word = judge BadNumber NoNode (is_one_of most) (number_of (drop 1 word))
+read_node limit word = judge BadNumber NoNode (is_one_of limit) (number_of (drop 1 word))
 
 -- one of at most 8 clients
 abbrev pub read_client : List ℕ → Result ℕ Kind

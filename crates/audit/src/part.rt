@@ -106,13 +106,13 @@ fn behind_letter(word: &[u8]) -> &[u8]
 }
 
 /// The number of a node behind its letter, from 1 to the most there are, which are fewer than 256.
-fn read_node_number(most: u32, word: &[u8]) -> Result<u8, LineError>
-    requires { most < 256 }
-    ensures node { Answers result (read_node most word.now) }
-    ensures few { IfOk result (λ number. number ≤ most) }
+fn read_node_number(limit: u32, word: &[u8]) -> Result<u8, LineError>
+    requires { limit < 256 }
+    ensures node { Answers result (read_node limit word.now) }
+    ensures few { IfOk result (λ number. number ≤ limit) }
 {
     let number = read_number(behind_letter(word))?;
-    if number == 0 || number > most {
+    if number == 0 || number > limit {
         return Err(LineError::Bad(Kind::NoNode));
     }
     Ok(number as u8)

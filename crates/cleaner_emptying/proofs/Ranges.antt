@@ -1,10 +1,10 @@
 -- The steps of a loop that counts up: the one of the number that comes, and those after it.
 use Rattle.std.proofs.Common.{◌≡◌, ℕ, suc, ◌+◌, ◌-◌, ◌<◌, List, ◌++◌, sym, ap, ◌∙◌, append_assoc, arith}
 use Rattle.std.specs.List.{range_with_len}
-use Rattle.xfs_base.specs.Steps.{Stepped, after, steps}
+use Rattle.xfs_base.specs.Steps.{Stepped, saying, steps}
 
 module _ {S O : Type 0} (step : S → ℕ → Stepped S O) (s t : S) (i n : ℕ) where
-  first : i < n → steps step s (range_with_len i (n - i)) ≡ after (step s i).outs (steps step (step s i).state (range_with_len (i + 1) (n - (i + 1))))
+  first : i < n → steps step s (range_with_len i (n - i)) ≡ saying (step s i).outs (steps step (step s i).state (range_with_len (i + 1) (n - (i + 1))))
   first below =
       let left : n - i ≡ suc (n - (i + 1)) = omega (arith, below) in
       ap (λ count. steps step s (range_with_len i count)) left

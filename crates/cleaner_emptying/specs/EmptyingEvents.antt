@@ -42,7 +42,7 @@ use Rattle.xfs_base.specs.declared.news.SlotNews.{SlotNews}
 use Rattle.xfs_base.specs.declared.node.NodeId.{NodeId}
 use Rattle.xfs_base.specs.declared.node.NodeId.TheVariants as node
 use Rattle.xfs_base.specs.declared.segment.End.{End}
-use Rattle.xfs_base.specs.Steps.{still, after, steps}
+use Rattle.xfs_base.specs.Steps.{still, saying, steps}
 use Rattle.cleaner_emptying.specs.declared.emptying.Emptying.{Emptying}
 use Rattle.cleaner_emptying.specs.Jobs.{Done, with_questions, cleans, on_listed, on_usage, on_live, on_dead, on_deleted, on_found, on_missing}
 
@@ -77,7 +77,7 @@ abbrev pub with_new_job : Emptying → ℕ → ℕ → Emptying
 with_new_job e number count = record e { lasting = record e.lasting { items = waiting e.lasting.items number }; job = Some (new_job count) }
 
 unfoldable pub begins_job : Emptying → ℕ → ℕ → Done
-begins_job e number count = (let d = promises_all (with_new_job e number count) in after d.outs (cleans d.state input.Tick))
+begins_job e number count = (let d = promises_all (with_new_job e number count) in saying d.outs (cleans d.state input.Tick))
 
 -- Begin of a job of so many segments. While another item is open it is refused.
 unfoldable pub on_clean : Emptying → ℕ → ℕ → Done
@@ -93,7 +93,7 @@ fed e end rows = record e { feed = feed.settled e.feed end.seq rows; job = job_m
 -- A segment of moved blocks is settled: it is filed, its deltas go to all slots, and the job goes on.
 unfoldable pub settles : Emptying → End → List (BlockId × Entry) → Done
 settles e end rows =
-    (let f = fed e end rows in after (Does (Filed (name_of cleaner_log end)) ∷ pushes_all f.promised.managers f.feed) (cleans f input.Moved))
+    (let f = fed e end rows in saying (Does (Filed (name_of cleaner_log end)) ∷ pushes_all f.promised.managers f.feed) (cleans f input.Moved))
 
 unfoldable pub writes_one : Emptying → LogOut → Done
 writes_one e (log_out.Send fragment member) = record { state = e; outs = store fragment member ∷ [] }
@@ -125,7 +125,7 @@ promises e slot epoch manager = (let r = renews e slot epoch in record r { promi
 abbrev pub reports : Emptying → ℕ → Poll → Done
 reports e manager p =
     let kept = promises e p.slot p.epoch manager in
-    after
+    saying
     (Send (node.Manager manager) (body.Report (record { slot = p.slot; epoch = p.epoch; held = []; end = kept.log.end })) ∷ [])
     (cleans kept (input.Promise p.slot p.epoch))
 
@@ -165,7 +165,7 @@ takes_news e news =
     let newer = is_older e.maps news in
     let a = job_regrouped (record e { maps = taken e.maps news }) newer news.groups in
     let b = hears_slots a.state news.slots in
-    after a.outs (after b.outs (log_regrouped b.state newer news.groups))
+    saying a.outs (saying b.outs (log_regrouped b.state newer news.groups))
 
 -- MapNews
 abbrev pub on_news : Emptying → News → Done
@@ -183,7 +183,7 @@ welcomes e w =
 -- Welcome: the maps in answer to a question of this incarnation.
 unfoldable pub on_welcome : Emptying → Welcome → Done
 on_welcome e w =
-    if (w.inc == e.lasting.inc) && fits e.maps w.news then (let d = takes_news e w.news in after d.outs (welcomes d.state w)) else still e
+    if (w.inc == e.lasting.inc) && fits e.maps w.news then (let d = takes_news e w.news in saying d.outs (welcomes d.state w)) else still e
 
 -- ---- packets and time
 
@@ -216,7 +216,7 @@ unfoldable pub on_tick : Emptying → Done
 on_tick e =
     let j = cleans e input.Tick in
     let l = writes j.state log_in.Tick in
-    after j.outs (after l.outs (record { state = l.state; outs = pushes_all l.state.promised.managers l.state.feed }))
+    saying j.outs (saying l.outs (record { state = l.state; outs = pushes_all l.state.promised.managers l.state.feed }))
 
 -- ---- the ends of counters
 

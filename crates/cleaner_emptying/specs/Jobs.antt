@@ -42,7 +42,7 @@ use Rattle.xfs_base.specs.declared.entry.Place.{Place}
 use Rattle.xfs_base.specs.declared.node.NodeId.TheVariants.{Server}
 use Rattle.xfs_base.specs.declared.segment.SegName.{SegName}
 use Rattle.xfs_base.specs.declared.segment.SegRef.{SegRef}
-use Rattle.xfs_base.specs.Steps.{Stepped, still, after, steps}
+use Rattle.xfs_base.specs.Steps.{Stepped, still, saying, steps}
 use Rattle.cleaner_emptying.specs.declared.emptying.Emptying.{Emptying}
 
 -- the cleaner after an event, and what it does
@@ -138,7 +138,7 @@ puts_block e one = puts e (log_in.Put one.0 one.1 one.2)
 
 -- live blocks are written to the cleaner's own log
 unfoldable pub moves : Emptying → List (BlockId × Entry × Option (List ℕ)) → Done
-moves e blocks = (let d = steps puts_block e blocks in after d.outs (puts d.state log_in.Seal))
+moves e blocks = (let d = steps puts_block e blocks in saying d.outs (puts d.state log_in.Seal))
 
 -- a server is to delete the segment in hand
 abbrev pub deletes : Emptying → Option Job → ℕ → SegName → Done

@@ -34,7 +34,7 @@ use Rattle.wire_msg.specs.NodeStep.{NodeStep}
 use Rattle.xfs_base.specs.declared.node.NodeId.TheVariants.{Cleaner as TheCleaner}
 use Rattle.xfs_base.specs.declared.setup.Setup.{Setup}
 use Rattle.xfs_base.specs.Limits.{u32_end}
-use Rattle.xfs_base.specs.Steps.{Stepped, still, after}
+use Rattle.xfs_base.specs.Steps.{Stepped, still, saying}
 use Rattle.cleaner_node.specs.declared.cleaner.Cleaner.{Cleaner}
 use Rattle.cleaner_node.specs.declared.cleaner.Phase.{Phase}
 use Rattle.cleaner_node.specs.declared.cleaner.Phase.TheVariants.{Down, Opening, Serving}
@@ -100,7 +100,7 @@ after_opening l (progress.Lost seg) =
     record { state = Down (record l { items = answered l.items }); outs = answers_unanswered l.items.unanswered (answer.Lost seg) }
 
 abbrev pub opened_on : Lasting → Went → Went_to
-opened_on l w = after w.effects (after_opening (record l { questions = w.questions }) w.progress)
+opened_on l w = saying w.effects (after_opening (record l { questions = w.questions }) w.progress)
 
 -- Restart: the log is opened again, as a client opens its log.
 abbrev pub restarts_in : ℕ → Lasting → Went_to

@@ -7,7 +7,7 @@ use Rattle.xfs_base.specs.declared.segment.Prior.{Prior}
 use Rattle.xfs_base.specs.declared.segment.SegName.{SegName}
 use Rattle.xfs_base.specs.Blocks.{same_block}
 use Rattle.xfs_base.specs.Limits.{segment_blocks, u32_end}
-use Rattle.xfs_base.specs.Steps.{Stepped, still, after}
+use Rattle.xfs_base.specs.Steps.{Stepped, still, saying}
 use Rattle.segment_format.specs.declared.segment.Item.{Item}
 use Rattle.segment_format.specs.declared.segment.Segment.{Segment}
 use Rattle.group_map.specs.declared.group.Member.{Member}
@@ -125,7 +125,7 @@ landed s f = landed_at s (end_from f.segment)
 
 -- the segment is the end, and what it says of blocks is told; a full log is sealed
 unfoldable pub settled : LogState → FlightState → Done
-settled s f = after (Settled (end_from f.segment) (rows_of f.segment) ∷ []) (if_full (landed s f))
+settled s f = saying (Settled (end_from f.segment) (rows_of f.segment) ∷ []) (if_full (landed s f))
 
 -- whether no number that the fate raises is at its end
 abbrev pub can_follow : LogState → FlightState → Fate → Bool

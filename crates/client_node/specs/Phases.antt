@@ -39,7 +39,7 @@ use Rattle.wire_msg.specs.declared.packet.Do.TheVariants.{Begin, Deliver, Tick}
 use Rattle.wire_msg.specs.declared.packet.Packet.{Packet}
 use Rattle.wire_msg.specs.NodeStep.{NodeStep}
 use Rattle.xfs_base.specs.declared.node.NodeId.TheVariants.{Client as AClient}
-use Rattle.xfs_base.specs.Steps.{Stepped, still, after}
+use Rattle.xfs_base.specs.Steps.{Stepped, still, saying}
 
 -- the phase of a client after an event, and what the event has it do
 abbrev pub Went_to : Type 0
@@ -86,7 +86,7 @@ after_opening l capacity (progress.Lost seg) =
     record { state = Down (record l { items = answered l.items }); outs = answers_unanswered l.items.unanswered (answer.Lost seg) }
 
 abbrev pub opened_on : Lasting → ℕ → Went → Went_to
-opened_on l capacity w = after w.effects (after_opening (record l { questions = w.questions }) capacity w.progress)
+opened_on l capacity w = saying w.effects (after_opening (record l { questions = w.questions }) capacity w.progress)
 
 -- ---- the next item begins
 
@@ -118,7 +118,7 @@ opening_begins l o number wish.Call = answers (Opening l o) number answer.Down
 
 -- what it may lose is acted, and then it is down
 abbrev pub serving_crashes : Serving → ℕ → Went_to
-serving_crashes s number = after (falls s ∷ []) (crashed s.lasting number)
+serving_crashes s number = saying (falls s ∷ []) (crashed s.lasting number)
 
 abbrev pub serving_begins : Serving → ℕ → Wish → Went_to
 serving_begins s number wish.Crash = serving_crashes s number
@@ -153,7 +153,7 @@ on_begin servers phase = begins_item servers phase (next_item (lasting_of phase)
 
 -- the open call is looked at once, at the end of the event
 abbrev pub then_runs : Done → Went_to
-then_runs d = serves_on (after d.outs (runs d.state))
+then_runs d = serves_on (saying d.outs (runs d.state))
 
 unfoldable pub on_deliver : ℕ → Phase → Packet → Went_to
 on_deliver capacity (Down l) packet = still (Down l)

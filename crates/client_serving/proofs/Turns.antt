@@ -3,23 +3,23 @@ use Rattle.std.proofs.Common.{◌≡◌, ℕ, suc, cond, true, false, List, ◌+
 use Rattle.client_serving.specs.declared.serving.Serving.{Serving}
 use Rattle.client_serving.specs.Running.{runs_once, runs_upto}
 use Rattle.node_base.specs.declared.effects.Effect.{Effect}
-use Rattle.xfs_base.specs.Steps.{after}
+use Rattle.xfs_base.specs.Steps.{saying}
 
 module _ (m n : ℕ) (s t : Serving) (made more : List Effect) (e : suc m ≡ n) (now : t ≡ (runs_once s).done.state)
     (out : more ≡ made ++ (runs_once s).done.outs) where
   -- where the call was answered, the turns that are left are made
-  goes : (runs_once s).goes ≡ true → runs_upto n s ≡ after (runs_once s).done.outs (runs_upto m (runs_once s).done.state)
+  goes : (runs_once s).goes ≡ true → runs_upto n s ≡ saying (runs_once s).done.outs (runs_upto m (runs_once s).done.state)
   unfolding runs_upto
   goes g =
-      subst (λ k. runs_upto k s ≡ after (runs_once s).done.outs (runs_upto m (runs_once s).done.state)) e
-      (ap (λ b. cond b (after (runs_once s).done.outs (runs_upto m (runs_once s).done.state)) (runs_once s).done) g)
+      subst (λ k. runs_upto k s ≡ saying (runs_once s).done.outs (runs_upto m (runs_once s).done.state)) e
+      (ap (λ b. cond b (saying (runs_once s).done.outs (runs_upto m (runs_once s).done.state)) (runs_once s).done) g)
 
   -- where it waits, none is
   stops : (runs_once s).goes ≡ false → runs_upto n s ≡ (runs_once s).done
   unfolding runs_upto
   stops g =
       subst (λ k. runs_upto k s ≡ (runs_once s).done) e
-      (ap (λ b. cond b (after (runs_once s).done.outs (runs_upto m (runs_once s).done.state)) (runs_once s).done) g)
+      (ap (λ b. cond b (saying (runs_once s).done.outs (runs_upto m (runs_once s).done.state)) (runs_once s).done) g)
 
   pub state_next : (end : Serving) → (runs_once s).goes ≡ true → (runs_upto n s).state ≡ end → (runs_upto m t).state ≡ end
   state_next end g h = ap (λ u. (runs_upto m u).state) now ∙ sym (ap (λ d. d.state) (goes g)) ∙ h

@@ -25,7 +25,7 @@ use Rattle.xfs_base.specs.declared.block.BlockId.{BlockId}
 use Rattle.xfs_base.specs.declared.entry.Entry.{Entry}
 use Rattle.xfs_base.specs.declared.segment.End.{End}
 use Rattle.xfs_base.specs.Modes.{is_held}
-use Rattle.xfs_base.specs.Steps.{still, after, steps}
+use Rattle.xfs_base.specs.Steps.{still, saying, steps}
 
 abbrev pub held_at : Serving → BlockId → Held
 held_at s block = held_of s.tokens.blocks block
@@ -59,7 +59,7 @@ settled_rows s rows = fold keeps_clean (fold notes_settled s rows) rows
 unfoldable pub settles : Serving → End → List (BlockId × Entry) → Done
 settles s end rows =
     let fed = feeds (settled_rows s rows) end rows in
-    after (Does (Filed (name_of (log_of s.lasting) end)) ∷ pushes_all fed.managers fed.feed) (steps gives_if_clean fed (dirty_in s.tokens.blocks))
+    saying (Does (Filed (name_of (log_of s.lasting) end)) ∷ pushes_all fed.managers fed.feed) (steps gives_if_clean fed (dirty_in s.tokens.blocks))
 
 unfoldable pub writes_one : Serving → Out → Done
 writes_one s (Send fragment member) = gives s (store fragment member ∷ [])
@@ -74,7 +74,7 @@ unfoldable pub writes : Serving → In → Done
 writes s i =
     let r = log.transition s.log i in
     let d = steps writes_one (record s { log = r.state }) r.outs in
-    after d.outs (seals_again d.state (list_any is_settling r.outs))
+    saying d.outs (seals_again d.state (list_any is_settling r.outs))
 
 -- Stored: a server holds a fragment of the segment in flight.
 abbrev pub on_stored : Serving → Stored → Done

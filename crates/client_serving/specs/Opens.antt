@@ -9,12 +9,12 @@ use Rattle.node_base.specs.Beginning.{work_at, waiting}
 use Rattle.node_base.specs.declared.effects.Effect.TheVariants.{Answer as Answers}
 use Rattle.version_model.specs.declared.answer.Answer.TheVariants as answer
 use Rattle.version_model.specs.declared.work.Work.{Work}
-use Rattle.xfs_base.specs.Steps.{after}
+use Rattle.xfs_base.specs.Steps.{saying}
 
 abbrev pub begins_call : Serving → ℕ → Option Going → Done
 begins_call s number None = gives s (Answers number answer.Done ∷ [])
 begins_call s number (Some going) =
-    (let d = goes_on (record s { lasting = record s.lasting { items = waiting s.lasting.items number } }) going in after d.outs (runs d.state))
+    (let d = goes_on (record s { lasting = record s.lasting { items = waiting s.lasting.items number } }) going in saying d.outs (runs d.state))
 
 abbrev pub call_at : Serving → ℕ → Option Work → Option Going
 call_at s number None = None

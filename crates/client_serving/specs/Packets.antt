@@ -52,7 +52,7 @@ use Rattle.xfs_base.specs.declared.news.SlotNews.{SlotNews}
 use Rattle.xfs_base.specs.declared.node.NodeId.{NodeId}
 use Rattle.xfs_base.specs.declared.node.NodeId.TheVariants as node
 use Rattle.xfs_base.specs.Modes.{is_own}
-use Rattle.xfs_base.specs.Steps.{Stepped, still, after, steps}
+use Rattle.xfs_base.specs.Steps.{Stepped, still, saying, steps}
 
 -- ---- tokens
 
@@ -152,7 +152,7 @@ unfoldable pub promises : Serving → ℕ → ℕ → ℕ → Stepped Serving Ou
 promises s slot epoch manager = promised_by (renews s slot epoch) slot epoch manager
 
 abbrev pub reports : ℕ → ℕ → Stepped Serving Out → Done
-reports slot epoch p = after (report p.state slot epoch ∷ []) (follows p.state p.outs)
+reports slot epoch p = saying (report p.state slot epoch ∷ []) (follows p.state p.outs)
 
 abbrev pub may_report : Serving → Poll → Bool
 may_report s p = nat_lt p.slot 8 && nat_le (epoch_of s.tokens.epochs p.slot) p.epoch
@@ -184,7 +184,7 @@ regroups s newer groups = if newer then writes s (log_in.Maps groups) else still
 unfoldable pub takes_news : Serving → News → Done
 takes_news s news =
     let d = steps hears (record s { maps = taken s.maps news }) news.slots in
-    after d.outs (regroups d.state (is_older s.maps news) news.groups)
+    saying d.outs (regroups d.state (is_older s.maps news) news.groups)
 
 -- MapNews: newer groups are taken, then slots of greater epochs in order, and then it is looked whether the segment in flight is settled.
 abbrev pub on_news : Serving → News → Done

@@ -9,7 +9,7 @@ use Rattle.client_serving.specs.declared.serving.Serving.{Serving}
 use Rattle.client_serving.specs.Sends.{Done, gives}
 use Rattle.file_plan.specs.declared.block_call.BlockAnswer.{BlockAnswer}
 use Rattle.node_base.specs.Beginning.{answered, answers_unanswered}
-use Rattle.xfs_base.specs.Steps.{still, after}
+use Rattle.xfs_base.specs.Steps.{still, saying}
 
 -- the open call stands so: it goes on, or its item is answered
 unfoldable pub goes_on : Serving → Going → Done
@@ -28,7 +28,7 @@ answers_call s call None = record { done = still (record s { call = Some call })
 answers_call s call (Some a) = record { done = goes_on s (after_answer call.plan a); goes = true }
 
 abbrev pub ran : Call → Made → Ran
-ran call made = (let r = answers_call made.done.state call made.answer in record { done = after made.done.outs r.done; goes = r.goes })
+ran call made = (let r = answers_call made.done.state call made.answer in record { done = saying made.done.outs r.done; goes = r.goes })
 
 abbrev pub runs_call : Serving → Option Call → Ran
 runs_call s None = record { done = still s; goes = false }
@@ -38,7 +38,7 @@ unfoldable pub runs_once : Serving → Ran
 runs_once s = runs_call s s.call
 
 abbrev pub if_goes : Ran → (Serving → Done) → Done
-if_goes r f = if r.goes then after r.done.outs (f r.done.state) else r.done
+if_goes r f = if r.goes then saying r.done.outs (f r.done.state) else r.done
 
 -- so many calls on blocks at most
 unfoldable pub runs_upto : ℕ → Serving → Done

@@ -24,11 +24,11 @@ impl Serving {
     }
 
     // Makes so many calls on blocks at most.
-    fn run_upto(&mut self, alloc: Global, effects: &mut Effects, most: u32) -> Mem<()>
-        ensures state { OnOk result (self.new ≡ (runs_upto most self.old).state) }
-        ensures effects { OnOk result (effects.new ≡ effects.old ++ (runs_upto most self.old).outs) }
+    fn run_upto(&mut self, alloc: Global, effects: &mut Effects, limit: u32) -> Mem<()>
+        ensures state { OnOk result (self.new ≡ (runs_upto limit self.old).state) }
+        ensures effects { OnOk result (effects.new ≡ effects.old ++ (runs_upto limit self.old).outs) }
     {
-        let mut left = most;
+        let mut left = limit;
         while 0 < left {
             let goes = self.run_once(alloc, effects)?;
             if !goes {

@@ -59,7 +59,7 @@ module _ (slot : ℕ) (l : slot < 8) (s : FeedState) (eight : length s.acked ≡
       let is : acked_of s slot ≡ now s = acked_in s slot l in
       by_test (λ (t : FeedState). now t ≡ max n (now s)) (nat_lt slot 8 && nat_lt (acked_of s slot) n) (record s { acked = set s.acked slot n }) s
       (λ p. let less : now s < n = grind (arith, nat_tests) in get_or-set_same s.acked slot n 0 (rw eight l) ∙ omega (arith, less))
-      (λ p. let most : n ≤ now s = grind (arith, nat_tests) in omega (arith, most))
+      (λ p. let limit : n ≤ now s = grind (arith, nat_tests) in omega (arith, limit))
 
   ack_own : (acker n : ℕ) → (acker == slot) ≡ true → now (acknowledged s acker n) ≡ max n (now s)
   ack_own acker n one = let is : acker ≡ slot = grind (arith, nat_tests) in ap (λ a. now (acknowledged s a n)) is ∙ ack_more n
@@ -126,8 +126,8 @@ end_after s (Settled seq rows ∷ is) =
           let is_max : seq ≡ max seq s.end = omega (arith, less) in
           end_after (record s { filed = s.filed ++ f ∷ []; end = seq }) is ∙ ap (λ m. greatest m numbers) is_max ∙ greatest-max seq s.end numbers
       | false ↦ λ p.
-          let most : seq ≤ s.end = grind (arith, nat_tests) in
-          let is_max : s.end ≡ max seq s.end = omega (arith, most) in
+          let limit : seq ≤ s.end = grind (arith, nat_tests) in
+          let is_max : s.end ≡ max seq s.end = omega (arith, limit) in
           end_after s is ∙ ap (λ m. greatest m numbers) is_max ∙ greatest-max seq s.end numbers
     ] refl
 end_after s (Ack slot applied ∷ is) =

@@ -66,12 +66,12 @@ with_all rows (Some more) = Some (rows ++ more)
 
 -- so many entries at most are to come, and with them all are those of the bucket
 pub record Reads (rows : List Row) (rest all : List ℕ) : Type 0 where
-  pub most : ℕ
-  pub enough : length rest ≤ most
-  pub same : with_all rows (rows_from most rest) ≡ rows_from (length all) all
+  pub limit : ℕ
+  pub enough : length rest ≤ limit
+  pub same : with_all rows (rows_from limit rest) ≡ rows_from (length all) all
 
 pub reads_first : (all : List ℕ) → Reads [] all all
-reads_first all = record { most = length all; enough = omega arith; same = by (rows_from (length all) all) }
+reads_first all = record { limit = length all; enough = omega arith; same = by (rows_from (length all) all) }
   where
     by : (o : Option (List Row)) → with_all [] o ≡ o
     by None = refl
@@ -95,13 +95,13 @@ rest_shorter bytes has =
 pub reads_more : (rows : List Row) (rest all : List ℕ) (row : Row) → has_row rest ≡ true → row ≡ front_row rest → Reads rows rest all
     → Reads (rows ++ row ∷ []) (rest_of_rows rest) all
 reads_more rows [] all row has is r = let long = row_length [] has in absurd (omega (arith, long))
-reads_more rows (b ∷ bs) all row has is r = by r.most r.enough r.same
+reads_more rows (b ∷ bs) all row has is r = by r.limit r.enough r.same
   where
     by : (n : ℕ) → length (b ∷ bs) ≤ n → with_all rows (rows_from n (b ∷ bs)) ≡ rows_from (length all) all
         → Reads (rows ++ row ∷ []) (rest_of_rows (b ∷ bs)) all
     by zero enough same = absurd (omega (arith, enough))
     by (suc n) enough same = record {
-      most = n;
+      limit = n;
       enough = let less = rest_shorter (b ∷ bs) has in omega (arith, less, enough);
       same = all_more rows row (rows_from n (rest_of_rows (b ∷ bs)))
           ∙ ap (λ (r : Row). with_all rows (with_row r (rows_from n (rest_of_rows (b ∷ bs))))) is
@@ -110,7 +110,7 @@ reads_more rows (b ∷ bs) all row has is r = by r.most r.enough r.same
 
 pub reads_none : (rows : List Row) (rest all : List ℕ) → 0 < length rest → has_row rest ≡ false → Reads rows rest all → None ≡ rows_from (length all) all
 reads_none rows [] all some has r = absurd (omega (arith, some))
-reads_none rows (b ∷ bs) all some has r = by r.most r.enough r.same
+reads_none rows (b ∷ bs) all some has r = by r.limit r.enough r.same
   where
     by : (n : ℕ) → length (b ∷ bs) ≤ n → with_all rows (rows_from n (b ∷ bs)) ≡ rows_from (length all) all → None ≡ rows_from (length all) all
     by zero enough same = absurd (omega (arith, enough))

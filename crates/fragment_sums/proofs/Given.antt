@@ -170,8 +170,8 @@ module _ (part : ℕ) (ps : List (Option (List ℕ))) (ds : List (List ℕ)) (fe
   pub pieces_back : (parity : ℕ) → 1 ≤ parity → parity ≤ 2 → AreOf ps (with_parity parity part ds) → length (missing_from 0 ps) ≤ parity
       → filled (take (length ds) ps) (recovered ps (length ds)) ≡ ds
   unfolding is_none_count
-  pieces_back zero some most are few = absurd (omega arith)
-  pieces_back (suc zero) some most are few =
+  pieces_back zero some limit are few = absurd (omega arith)
+  pieces_back (suc zero) some limit are few =
       let count = length ds in
       let there = one_there (drop count ps) _ (back_of ds _ ps are) in
       let none : part_at ps (count + 1) ≡ None = sym (part_at-drop count 1 ps) ∙ there.1 in
@@ -182,7 +182,7 @@ module _ (part : ℕ) (ps : List (Option (List ℕ))) (ds : List (List ℕ)) (fe
       let enough = suffices_one (length (missing_from 0 (take count ps))) (part_at ps count) (omega arith) in
       whole _ are (subst (λ (q : Option (List ℕ)). Suffices (length (missing_from 0 (take count ps))) (part_at ps count) q) (sym none) enough) first
       (subst (λ (q : Option (List ℕ)). IfSome q (λ f. f ≡ sum_onto weighted 0 (zeros part) ds)) (sym none) tt)
-  pieces_back (suc (suc zero)) some most are few =
+  pieces_back (suc (suc zero)) some limit are few =
       let count = length ds in
       let there = two_there (drop count ps) _ _ (back_of ds _ ps are) in
       let next : part_at (drop count ps) 1 ≡ part_at ps (count + 1) = part_at-drop count 1 ps in
@@ -195,8 +195,8 @@ module _ (part : ℕ) (ps : List (Option (List ℕ))) (ds : List (List ℕ)) (fe
       (there.2 ∙ ap₂ (λ (a b : ℕ). a + b) (ap is_none_count at_first) (ap is_none_count next)) in
       let enough = suffices_two (length (missing_from 0 (take count ps))) (part_at ps count) (part_at ps (count + 1)) (omega arith) in
       whole _ are enough first second
-  pieces_back (suc (suc (suc n))) some most are few = absurd (omega arith)
+  pieces_back (suc (suc (suc n))) some limit are few = absurd (omega arith)
 
 pub gives_back : (part count : ℕ) (parts : List (Option (List ℕ))) → count ≤ 8 → GivesBack part parts count (recovered parts count)
-gives_back part count parts few parity ds some most many long bytes are missing =
-    subst (λ (n : ℕ). filled (take n parts) (recovered parts n) ≡ ds) many (pieces_back part parts ds (omega arith) long bytes parity some most are missing)
+gives_back part count parts few parity ds some limit many long bytes are missing =
+    subst (λ (n : ℕ). filled (take n parts) (recovered parts n) ≡ ds) many (pieces_back part parts ds (omega arith) long bytes parity some limit are missing)

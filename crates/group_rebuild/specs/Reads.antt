@@ -10,7 +10,7 @@ use Rattle.stripe_code.specs.declared.round.Told.TheVariants.{Held, Missing}
 use Rattle.xfs_base.specs.declared.segment.SegName.{SegName}
 use Rattle.xfs_base.specs.Limits.{u32_end}
 use Rattle.xfs_base.specs.Segments.{seg_cmp}
-use Rattle.xfs_base.specs.Steps.{Stepped, still, after}
+use Rattle.xfs_base.specs.Steps.{Stepped, still, saying}
 use Rattle.group_rebuild.specs.declared.output.Out.{Out}
 use Rattle.group_rebuild.specs.declared.output.Out.TheVariants.{Fetch, Fill, Finished}
 use Rattle.group_rebuild.specs.declared.reads.Present.{Present}
@@ -61,7 +61,7 @@ counts p server told = asks p.round server && (is_of p.wanted told && told_fits 
 
 -- as the round stands: the fragment is filled in and counted, or the name is counted gone, or more answers are awaited
 abbrev pub judged : ReadsState → Wanted → RoundSoFar → RoundState → Stepped ReadsState Out
-judged r w round (Read text) = after (Fill (refilled w text) ∷ []) (go_on r.left (record r { filled = one_more r.filled }))
+judged r w round (Read text) = saying (Fill (refilled w text) ∷ []) (go_on r.left (record r { filled = one_more r.filled }))
 judged r w round (Short pairs) = go_on r.left (record r { gone = one_more r.gone })
 judged r w round Waiting = still (record r { present = Some (record { wanted = w; round = round }) })
 

@@ -59,8 +59,8 @@ told_is_said b slot l q s its is =
 -- so filed segments in a row tell what is filed from one seq up to another
 pub told_range : (b : BlockId) (f : Filed) (slot l n first : ℕ) → slot_of b.ino.0 ≡ slot → IsFiled f → 0 < first → first + n ≤ suc (f.head l)
     → join (told_along slot (map (f.segment l) (range_with_len first n))) b ≡ join (flat_map (rows_at f l) (range_with_len first n)) b
-told_range b f slot l zero first its filed some most = refl
-told_range b f slot l (suc n) first its filed some most =
+told_range b f slot l zero first its filed some limit = refl
+told_range b f slot l (suc n) first its filed some limit =
     let rest = range_with_len (first + 1) n in
     let says : join (rows_of (f.segment l first)) b ≡ join (rows_at f l first) b =
     ap (λ r. join r b) (sym (first_of (nat_lt 0 first && nat_le first (f.head l)) (rows_of (f.segment l first)) [] (grind (arith, nat_tests)))) in

@@ -34,7 +34,7 @@ parts_cover b f w s holds events segments horizon reached filed tells m pages al
     let held : join (rows_in holds (after_event (slot_after events) (Written segments)).parts) b ≡ entry_at s b =
     is_the_index holds events segments b all laid ∙ ap (λ (p : PagesState). entry_of p.rows b) pages in
     let upto : (l : ℕ) → w.applied e l ≡ below horizon l = by_log (λ l. w.applied e l ≡ below horizon l)
-    (λ l some most. let a = next l some most in m.applied l some ∙ (omega arith))
+    (λ l some limit. let a = next l some limit in m.applied l some ∙ (omega arith))
     (λ l out. let a = bounds.applied_filed e l in let h = tells.head l in let n = filed.others l out in let o = of_log_out horizon l out in omega arith) in
     record {
       named = w.index e;
@@ -117,7 +117,7 @@ parts_tell slot pages s is =
 -- ---- and kept
 
 seen_in : (xs : List ℕ) (l : ℕ) → 0 < l → l ≤ 9 → horizon_seen xs l ≡ of_log xs l
-seen_in xs l some most = first_of (nat_lt 0 l && nat_le l 9) (get_or xs (l - 1) 0) 1 (grind (arith, nat_tests)) ∙ sym (of_log_in xs l some most)
+seen_in xs l some limit = first_of (nat_lt 0 l && nat_le l 9) (get_or xs (l - 1) 0) 1 (grind (arith, nat_tests)) ∙ sym (of_log_in xs l some limit)
 
 seen_out : (xs : List ℕ) (l : ℕ) → (l ≡ 0) ⊎ (9 < l) → horizon_seen xs l ≡ 1
 seen_out xs l (inl none) = second_of (nat_lt 0 l && nat_le l 9) (get_or xs (l - 1) 0) 1 (grind (arith, nat_tests))
@@ -131,11 +131,11 @@ checkpoints_are_kept b f w horizon reached filed tells rises applied =
     record {
       step = Keep h (record {
         rises = by_log (λ l. w.floor e l ≤ h l)
-            (λ l some most. let a = rises l some most in let s = seen_in horizon l some most in omega arith)
+            (λ l some limit. let a = rises l some limit in let s = seen_in horizon l some limit in omega arith)
             (λ l out. let a = bounds.floor_filed e l in let n = filed.others l out in let t = tells.head l in let s = seen_out horizon l out in omega arith);
         applied = by_log (λ l. h l ≤ suc (w.applied e l))
-            (λ l some most. let a = applied l some most in let s = seen_in horizon l some most in omega arith)
+            (λ l some limit. let a = applied l some limit in let s = seen_in horizon l some limit in omega arith)
             (λ l out. let s = seen_out horizon l out in omega arith);
       });
-      floor = λ d l from some most. sym (second_of (nat_lt d e) (w.floor d l) (h l) (not_less_is d e from) ∙ seen_in horizon l some most);
+      floor = λ d l from some limit. sym (second_of (nat_lt d e) (w.floor d l) (h l) (not_less_is d e from) ∙ seen_in horizon l some limit);
     }

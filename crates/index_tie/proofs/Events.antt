@@ -69,7 +69,7 @@ module _ (part : ℕ) (holds : SegRef → Rows) where
         none = put_each (λ d o. o ≡ None → v.active d ≡ 0) n.slots e (Some s) (λ h. absurd (some_none s h))
             (λ d other at. r.frame.active d other ∙ i.none d at);
         epoch = ap (λ (x : IndexState). x.epoch) frame ∙ i.epoch;
-        horizon = λ d l some most. i.horizon d l some most ∙ sym (ap (λ (x : IndexState). x.floor d l) frame);
+        horizon = λ d l some limit. i.horizon d l some limit ∙ sym (ap (λ (x : IndexState). x.floor d l) frame);
         parts = λ d. parts_stay b f f w v (n.horizon d) (rows_in holds (n.parts d)) (same_filed f) i.tells tells (i.parts d);
         promised = ap (λ (x : IndexState). x.promised) frame ∙ i.promised;
         polled = λ d. let p = polled d in let h = ap (λ (x : IndexState). x.head 9) frame in let q = i.polled d in omega arith;
@@ -141,7 +141,7 @@ module _ (part : ℕ) (holds : SegRef → Rows) where
             }) (i.slots d t at);
         none = λ d at. ap (λ (x : IndexState). x.active d) frame ∙ i.none d at;
         epoch = ap (λ (x : IndexState). x.epoch) frame ∙ i.epoch;
-        horizon = λ d k some most. i.horizon d k some most ∙ sym (ap (λ (x : IndexState). x.floor d k) frame);
+        horizon = λ d k some limit. i.horizon d k some limit ∙ sym (ap (λ (x : IndexState). x.floor d k) frame);
         parts = λ d. parts_stay b f g w v (n.horizon d) (rows_in holds (n.parts d)) more i.tells r.tells (i.parts d);
         promised = ap (λ (x : IndexState). x.promised) frame ∙ i.promised;
         polled = λ d. let p = polled d in let h = went_on.later.past.head 9 in let q = i.polled d in omega arith;
@@ -154,8 +154,8 @@ module _ (part : ℕ) (holds : SegRef → Rows) where
   filing : (n : Net) (l : ℕ) (s : Segment) → Good part holds n → 0 < l → l ≤ 9 → IsSegment l (suc (n.filed.head l)) s
       → ((b : BlockId) → slot_of b.ino.0 ≡ part → (i : View part holds b n) → Files b (with_segment n.filed l s) i.state)
       → Good part holds (record n { filed = with_segment n.filed l s })
-  filing n l s g some most is files = record {
-    filed = filed_more n.filed l s g.filed some most is;
+  filing n l s g some limit is files = record {
+    filed = filed_more n.filed l s g.filed some limit is;
     epochs = g.epochs;
     begun = g.begun;
     views = λ b inside. by_files n b (g.views b inside) l s (files b inside (g.views b inside));

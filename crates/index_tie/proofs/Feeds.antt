@@ -27,7 +27,7 @@ all_within b f l first upto (suc n) at least ends =
     ∙ sym (join-append (rows_at f l at) (flat_map (rows_at f l) rest) b)
   where
     within : (first at upto : ℕ) → first ≤ at → at ≤ upto → (nat_le first at && nat_le at upto) ≡ true
-    within first at upto least most = grind (arith, nat_tests)
+    within first at upto least limit = grind (arith, nat_tests)
 
 -- and from before it on
 from_before : (b : BlockId) (f : Filed) (l first upto n at : ℕ) → at ≤ first → first ≤ upto → at + n ≡ suc upto
@@ -43,7 +43,7 @@ from_before b f l first upto (suc n) at below some ends =
     is_less at first h = grind (arith, nat_tests)
 
     is_first : (at first : ℕ) → at ≤ first → nat_lt at first ≡ false → first ≡ at
-    is_first at first most h = grind (arith, nat_tests)
+    is_first at first limit h = grind (arith, nat_tests)
 
     by : (t : Bool) → nat_lt at first ≡ t
         → (at < first → join (deltas_between first upto (map (fed_at f l) (range_with_len (at + 1) n))) b ≡ join (rows_between f l first upto) b)

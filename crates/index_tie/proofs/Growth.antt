@@ -24,23 +24,23 @@ use Rattle.index_tie.proofs.Tables.{put_each, first_of}
 -- ---- what was filed says what it said
 
 pub rows_stay : (f g : Filed) (l q : ℕ) → IsMore f g → q ≤ f.head l → rows_at g l q ≡ rows_at f l q
-rows_stay f g l q more most =
+rows_stay f g l q more limit =
     let head = more.head l in
     by (nat_lt 0 q) (nat_le q (g.head l)) (nat_le q (f.head l)) (λ h. grind (arith, nat_tests, h)) (grind (arith, nat_tests)) (grind (arith, nat_tests))
   where
     by : (some here there : Bool) → (some ≡ true → 0 < q) → here ≡ true → there ≡ true
         → cond (some && here) (rows_of (g.segment l q)) [] ≡ cond (some && there) (rows_of (f.segment l q)) []
-    by true true true from _ _ = ap rows_of (more.segment l q (from refl) most)
+    by true true true from _ _ = ap rows_of (more.segment l q (from refl) limit)
     by false true true from _ _ = refl
     by some false there from h _ = absurd (cc)
     by some here false from _ h = absurd (cc)
 
 pub row_stays : (b : BlockId) (f g : Filed) (l q : ℕ) → IsMore f g → q ≤ f.head l → row_at g b l q ≡ row_at f b l q
-row_stays b f g l q more most = ap (λ r. join r b) (rows_stay f g l q more most)
+row_stays b f g l q more limit = ap (λ r. join r b) (rows_stay f g l q more limit)
 
 -- where a row has a version, its seq is filed
 pub is_filed : (b : BlockId) (f : Filed) (l q : ℕ) → 0 < (row_at f b l q).ver → (0 < q) × (q ≤ f.head l)
-is_filed b f l q = by_filed (λ rows. 0 < (join rows b).ver → (0 < q) × (q ≤ f.head l)) f l q (λ some most _. (some, most)) (λ none. absurd (omega arith))
+is_filed b f l q = by_filed (λ rows. 0 < (join rows b).ver → (0 < q) × (q ≤ f.head l)) f l q (λ some limit _. (some, limit)) (λ none. absurd (omega arith))
 
 pub names_stay : (b : BlockId) (f g : Filed) (e : Entry) (named : index.Entry) → IsMore f g → Names b f e named → Names b g e named
 names_stay b f g e named more n = record {
@@ -63,11 +63,11 @@ slots_stay b f g w v s more kept m = record {
 -- a join of what is filed stays one
 pub joins_stay : (b : BlockId) (f g : Filed) (w v : IndexState) (upto : ℕ → ℕ) (named : index.Entry) → IsMore f g → Tells b f w → Tells b g v
     → ((l : ℕ) → upto l ≤ f.head l) → Joins w.version w.hop upto named → Joins v.version v.hop upto named
-joins_stay b f g w v upto named more old new most j =
+joins_stay b f g w v upto named more old new limit j =
     let version : (l q : ℕ) → q ≤ upto l → v.version l q ≡ w.version l q =
-    λ l q less. new.version l q ∙ ap (λ (e : Entry). e.ver) (row_stays b f g l q more (let m = most l in omega arith)) ∙ sym (old.version l q) in
+    λ l q less. new.version l q ∙ ap (λ (e : Entry). e.ver) (row_stays b f g l q more (let m = limit l in omega arith)) ∙ sym (old.version l q) in
     let hop : (l q : ℕ) → q ≤ upto l → v.hop l q ≡ w.hop l q =
-    λ l q less. new.hop l q ∙ ap (λ (e : Entry). e.hop) (row_stays b f g l q more (let m = most l in omega arith)) ∙ sym (old.hop l q) in
+    λ l q less. new.hop l q ∙ ap (λ (e : Entry). e.hop) (row_stays b f g l q more (let m = limit l in omega arith)) ∙ sym (old.hop l q) in
     record {
       newest = λ l q less. let a = j.newest l q less in let c = version l q less in omega arith;
       furthest = λ l q less same. let c = version l q less in let d = hop l q less in let a = j.furthest l q less (omega arith) in omega arith;
@@ -87,8 +87,8 @@ parts_stay b f g w v horizon rows more old new c = record {
 
 between_stays : (f g : Filed) (l n first : ℕ) → IsMore f g → first + n ≤ suc (f.head l)
     → flat_map (rows_at g l) (range_with_len first n) ≡ flat_map (rows_at f l) (range_with_len first n)
-between_stays f g l zero first more most = refl
-between_stays f g l (suc n) first more most =
+between_stays f g l zero first more limit = refl
+between_stays f g l (suc n) first more limit =
     ap (λ r. r ++ flat_map (rows_at g l) (range_with_len (first + 1) n)) (rows_stay f g l first more (omega arith))
     ∙ ap (λ r. rows_at f l first ++ r) (between_stays f g l n (first + 1) more (omega arith))
 
@@ -113,13 +113,13 @@ deltas_stay b f g l first upto rows more t = record {
 pub more_is_filed : MoreIsFiled
 more_is_filed f l s = record {
   head = put_each (λ m n. f.head m ≤ n) f.head l (suc (f.head l)) (omega arith) (λ m other. omega arith);
-  segment = λ m q some most. by m q most (m == l) (q == suc (f.head l)) (λ a c. grind (arith, nat_tests));
+  segment = λ m q some limit. by m q limit (m == l) (q == suc (f.head l)) (λ a c. grind (arith, nat_tests));
 }
   where
     by : (m q : ℕ) → q ≤ f.head m → (t u : Bool) → (t ≡ true → u ≡ true → ⊥) → cond t (cond u s (f.segment m q)) (f.segment m q) ≡ f.segment m q
-    by m q most true true apart = absurd (apart refl refl)
-    by m q most true false apart = refl
-    by m q most false u apart = refl
+    by m q limit true true apart = absurd (apart refl refl)
+    by m q limit true false apart = refl
+    by m q limit false u apart = refl
 
 -- what a seq says once the segment is filed
 rows_more : (f : Filed) (l m q : ℕ) (s : Segment)
@@ -157,18 +157,18 @@ module _ (b : BlockId) (f : Filed) (w : IndexState) (l : ℕ) (s : Segment) wher
 
   -- the index once the log filed what the segment says
   abbrev filing : ℕ → ℕ → index.Entry → (ℕ → ℕ) → (ℕ → ℕ) → IndexState
-  filing version hop top version_log version_seq = record w {
+  filing version hop highest version_log version_seq = record w {
     version = put_at w.version l (suc (w.head l)) version;
     hop = put_at w.hop l (suc (w.head l)) hop;
     head = put w.head l (suc (w.head l));
-    joined = top;
+    joined = highest;
     version_log = version_log;
     version_seq = version_seq;
   }
 
-  tells_more : (version hop : ℕ) (top : index.Entry) (version_log version_seq : ℕ → ℕ) → Tells b f w → version ≡ (said_of s b).ver → hop ≡ (said_of s b).hop
-      → Tells b (with_segment f l s) (filing version hop top version_log version_seq)
-  tells_more version hop top version_log version_seq tells is_version is_hop = record {
+  tells_more : (version hop : ℕ) (highest : index.Entry) (version_log version_seq : ℕ → ℕ) → Tells b f w → version ≡ (said_of s b).ver → hop ≡ (said_of s b).hop
+      → Tells b (with_segment f l s) (filing version hop highest version_log version_seq)
+  tells_more version hop highest version_log version_seq tells is_version is_hop = record {
     cleaner = tells.cleaner;
     head = λ m. ap (λ h. cond (m == l) (suc h) (w.head m)) (tells.head l) ∙ ap (λ h. cond (m == l) (suc (f.head l)) h) (tells.head m);
     version = table_more (λ e. e.ver) w.version version (tells.head l) tells.version is_version;
@@ -177,7 +177,7 @@ module _ (b : BlockId) (f : Filed) (w : IndexState) (l : ℕ) (s : Segment) wher
 
 -- each segment is what it has to be
 pub filed_more : (f : Filed) (l : ℕ) (s : Segment) → IsFiled f → 0 < l → l ≤ 9 → IsSegment l (suc (f.head l)) s → IsFiled (with_segment f l s)
-filed_more f l s filed some most is = record {
+filed_more f l s filed some limit is = record {
   others = put_each (λ m n. (m ≡ 0) ⊎ (9 < m) → n ≡ 0) f.head l (suc (f.head l)) (λ out. absurd (outside out)) (λ m other out. filed.others m out);
   each = λ m q more within. by m q more (m == l) (q == suc (f.head l)) within (λ e. grind (arith, nat_tests, e)) (λ e. grind (arith, nat_tests, e))
       (λ e. grind (arith, nat_tests, e));
@@ -231,7 +231,7 @@ clients_file b f w l s reached filed tells some is news = by (said_of s b).ver r
 cleaner_files_at : (b : BlockId) (f : Filed) (w : IndexState) (s : Segment) → IsFiled f → Tells b f w → 0 < w.cleaner → w.cleaner ≤ 9
     → IsSegment w.cleaner (suc (f.head w.cleaner)) s → (0 < (said_of s b).ver → IsCopy b f (said_of s b))
     → Files b (with_segment f w.cleaner s) w
-cleaner_files_at b f w s filed tells some most is copy = by (said_of s b).ver refl
+cleaner_files_at b f w s filed tells some limit is copy = by (said_of s b).ver refl
   where
     by : (v : ℕ) → (said_of s b).ver ≡ v → Files b (with_segment f w.cleaner s) w
     by zero none =
@@ -240,7 +240,7 @@ cleaner_files_at b f w s filed tells some most is copy = by (said_of s b).ver re
           state = files_none w w.cleaner;
           steps = More Ended (Files_none w.cleaner (record { named = some }));
           frame = refl;
-          filed = filed_more f w.cleaner s filed some most is;
+          filed = filed_more f w.cleaner s filed some limit is;
           tells = tells_more b f w w.cleaner s 0 0 w.joined w.version_log w.version_seq tells (sym none) (sym (ap (λ (e : Entry). e.hop) nothing));
         }
     by (suc v) has =
@@ -257,7 +257,7 @@ cleaner_files_at b f w s filed tells some most is copy = by (said_of s b).ver re
           state = u;
           steps = More Ended (Copies l q (record { filed = omega arith; some = omega arith }));
           frame = refl;
-          filed = filed_more f w.cleaner s filed some most is;
+          filed = filed_more f w.cleaner s filed some limit is;
           tells = tells_more b f w w.cleaner s (w.version l q) (suc (w.hop l q)) u.joined w.version_log w.version_seq tells (its ∙ sym version)
               (ap suc (tells.hop l q) ∙ sym c.hop);
         }

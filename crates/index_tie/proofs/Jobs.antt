@@ -84,7 +84,7 @@ module _ (part : ℕ) (holds : SegRef → Rows) where
         slots = kept_slots part holds b f n.slots w v kept i.slots;
         none = λ e at. kept.active e ∙ i.none e at;
         epoch = ap (λ (x : IndexState). x.epoch) frame ∙ i.epoch;
-        horizon = λ e l some most. i.horizon e l some most ∙ sym (ap (λ (x : IndexState). x.floor e l) frame);
+        horizon = λ e l some limit. i.horizon e l some limit ∙ sym (ap (λ (x : IndexState). x.floor e l) frame);
         parts = λ e. parts_stay b f f w v (n.horizon e) (rows_in holds (n.parts e)) (same_filed f) i.tells tells (i.parts e);
         promised = promised;
         polled = λ e. let q = headed e in let h = kept.head 9 in omega arith;

@@ -34,7 +34,7 @@ indexes_are_joins b f w s reached filed tells m =
     let version = m.index.version in
     let hop = m.index.hop in
     record {
-      newest = λ l q some most.
+      newest = λ l q some limit.
           let a = m.applied l some in
           let v = tells.version l q in
           let h = tells.hop l q in
@@ -63,18 +63,18 @@ indexes_are_joins b f w s reached filed tells m =
           some = some;
           applied = omega arith;
           is = row;
-          earliest = λ l q more most rank.
+          earliest = λ l q more limit order.
               let a = m.applied l more in
               let vl = tells.version l q in
               let hl = tells.hop l q in
-              let rv = rank.0 in
-              let rh = rank.1 in
+              let rv = order.0 in
+              let rh = order.1 in
               j.earliest l q (omega arith) (omega arith) (omega arith) (omega arith);
         })
       where
         somebody : (l : ℕ) → ((l ≡ 0) ⊎ (9 < l) → f.head l ≡ 0) → {q : ℕ} → 0 < q → q ≤ f.head l → 0 < l
-        somebody zero none some most = let h = none (inl refl) in absurd (omega arith)
-        somebody (suc l) none some most = omega arith
+        somebody zero none some limit = let h = none (inl refl) in absurd (omega arith)
+        somebody (suc l) none some limit = omega arith
 
 -- ---- places are exact
 
@@ -142,8 +142,8 @@ dropped_is_outdated b f w s place reached filed tells m lies dropped counted =
     let q = place.seg.name.seq in
     let d = dead_stays_always w reached in
     let newer = d.stays l q e (d.counted l q dropped) counted m.active (sym exact.log) (sym exact.seq) in
-    let top = (index_is_join_always w reached).all in
-    let is : w.version w.joined.log w.joined.seq ≡ w.joined.version = top.its_version (omega arith) in
+    let highest = (index_is_join_always w reached).all in
+    let is : w.version w.joined.log w.joined.seq ≡ w.joined.version = highest.its_version (omega arith) in
     let row : (row_at f b named.log named.seq).ver ≡ (entry_at s b).ver = row_version (entry_at s b).ver refl in
     let here : w.version l q ≡ (row_at f b named.log named.seq).ver =
     tells.version l q ∙ ap (λ k. (row_at f b k q).ver) exact.log ∙ ap (λ k. (row_at f b named.log k).ver) exact.seq in
@@ -170,7 +170,7 @@ one_log w a x l q p some version hop = by (nat_lt a w.cleaner) (nat_lt l w.clean
     last : (m r : ℕ) → w.cleaner ≤ m → 0 < w.version m r → m ≡ w.cleaner
     last m r least more = elim (nat_lt w.cleaner m) as (λ t. nat_lt w.cleaner m ≡ t → m ≡ w.cleaner) [
       | true ↦ λ past. let none = p.no_other m r (below w.cleaner m past) in absurd (omega arith)
-      | false ↦ λ most. let h = above w.cleaner m most in omega arith
+      | false ↦ λ limit. let h = above w.cleaner m limit in omega arith
     ] refl
 
     copied : (m r : ℕ) → m ≡ w.cleaner → 0 < w.version m r → 0 < w.hop m r
@@ -185,7 +185,7 @@ one_log w a x l q p some version hop = by (nat_lt a w.cleaner) (nat_lt l w.clean
 
 pub newest_is_kept : NewestIsKept
 newest_is_kept b f w l q reached filed tells n dropped =
-    let top = w.joined in
+    let highest = w.joined in
     let j = (index_is_join_always w reached).all in
     let place = rows_in_place_always w reached in
     let some = n.some in
@@ -197,16 +197,16 @@ newest_is_kept b f w l q reached filed tells n dropped =
     let newest = j.newest l q (omega arith) in
     let is_version = j.its_version (omega arith) in
     let is_hop = j.its_hop (omega arith) in
-    let its_version = tells.version top.log top.seq in
-    let its_hop = tells.hop top.log top.seq in
-    let below = rank_above (row_at f b top.log top.seq) (row_at f b l q) (n.newest top.log top.seq) in
-    let most = below.0 in
-    let same_version : (row_at f b top.log top.seq).ver ≡ (row_at f b l q).ver = omega arith in
+    let its_version = tells.version highest.log highest.seq in
+    let its_hop = tells.hop highest.log highest.seq in
+    let below = rank_above (row_at f b highest.log highest.seq) (row_at f b l q) (n.newest highest.log highest.seq) in
+    let limit = below.0 in
+    let same_version : (row_at f b highest.log highest.seq).ver ≡ (row_at f b l q).ver = omega arith in
     let furthest = j.furthest l q (omega arith) (omega arith) in
     let no_further = below.1 same_version in
-    let same_hop : (row_at f b top.log top.seq).hop ≡ (row_at f b l q).hop = omega arith in
+    let same_hop : (row_at f b highest.log highest.seq).hop ≡ (row_at f b l q).hop = omega arith in
     let earliest = j.earliest l q (omega arith) (omega arith) (omega arith) (omega arith) in
-    let earlier = n.earliest top.log top.seq (same_version, same_hop) in
-    let same_seq : top.seq ≡ q = omega arith in
-    let same_log : top.log ≡ l = one_log w top.log top.seq l q place (omega arith) (omega arith) (omega arith) in
+    let earlier = n.earliest highest.log highest.seq (same_version, same_hop) in
+    let same_seq : highest.seq ≡ q = omega arith in
+    let same_log : highest.log ≡ l = one_log w highest.log highest.seq l q place (omega arith) (omega arith) (omega arith) in
     cleaning_loses_nothing_always w reached l q dropped (omega arith) same_log same_seq

@@ -63,8 +63,8 @@ pub log_named : (f : Filed) (name : SegName) → IsFiled f → IsWithin f name �
 log_named f name filed within = by name.log.0 (filed.others name.log.0) within.some within.filed
   where
     by : (l : ℕ) → ((l ≡ 0) ⊎ (9 < l) → f.head l ≡ 0) → 0 < name.seq → name.seq ≤ f.head l → (0 < l) × (l ≤ 9)
-    by zero none some most = let h = none (inl refl) in absurd (omega arith)
-    by (suc l) none some most = (omega arith, small (nat_lt 9 (suc l)) refl)
+    by zero none some limit = let h = none (inl refl) in absurd (omega arith)
+    by (suc l) none some limit = (omega arith, small (nat_lt 9 (suc l)) refl)
       where
         small : (t : Bool) → nat_lt 9 (suc l) ≡ t → suc l ≤ 9
         small true past = let h = none (inr (grind (arith, nat_tests))) in absurd (omega arith)
@@ -119,7 +119,7 @@ module _ (part : ℕ) (holds : SegRef → Rows) where
         slots = kept_slots b f n.slots w v r.kept i.slots;
         none = λ d at. r.kept.active d ∙ i.none d at;
         epoch = r.epoch ∙ i.epoch;
-        horizon = λ d l some most. i.horizon d l some most ∙ sym (r.floor d l);
+        horizon = λ d l some limit. i.horizon d l some limit ∙ sym (r.floor d l);
         parts = λ d. parts_stay b f f w v (n.horizon d) (rows_in holds (n.parts d)) (same_filed f) i.tells tells (i.parts d);
         promised = r.promised ∙ i.promised;
         polled = λ d. let p = r.polled d in let h = r.kept.head 9 in let q = i.polled d in omega arith;
@@ -271,7 +271,7 @@ module _ (part : ℕ) (holds : SegRef → Rows) where
       still_sends b n i (CheckpointPlanned e events horizon ∷ []) (
         record {
           active = ap i.state.active (sym same) ∙ m.active;
-          applied = λ l some most. let x = next l some most in let y = m.applied l some in let z = ap (λ k. i.state.applied k l) same in omega arith;
+          applied = λ l some limit. let x = next l some limit in let y = m.applied l some in let z = ap (λ k. i.state.applied k l) same in omega arith;
           covers = λ segments laid. parts_cover b n.filed i.state s holds events segments horizon i.reached g.filed i.tells m pages all laid next;
         },
         tt,
@@ -341,8 +341,8 @@ module _ (part : ℕ) (holds : SegRef → Rows) where
       let known = found part holds b (Sound part holds b n w) (CheckpointDone n.epoch horizon parts) n.sent i.sent done in
       let same = i.epoch in
       let k = checkpoints_are_kept b f w horizon i.reached g.filed i.tells
-      (λ l some most. let h = i.horizon n.epoch l some most in let r = rises l some most in let e = ap (λ x. w.floor x l) same in omega arith)
-      (λ l some most. let a = known.1 l some most in let e = ap (λ x. w.applied x l) same in omega arith) in
+      (λ l some limit. let h = i.horizon n.epoch l some limit in let r = rises l some limit in let e = ap (λ x. w.floor x l) same in omega arith)
+      (λ l some limit. let a = known.1 l some limit in let e = ap (λ x. w.applied x l) same in omega arith) in
       let v = keeps_horizon w (horizon_seen horizon) in
       let kept : Kept w v =
       record { cleaner = refl; head = λ l. refl; version = λ l q. refl; hop = λ l q. refl; active = λ e. refl; applied = λ e l. refl; index = λ e. refl } in
@@ -355,11 +355,11 @@ module _ (part : ℕ) (holds : SegRef → Rows) where
         slots = kept_slots b f n.slots w v kept i.slots;
         none = i.none;
         epoch = i.epoch;
-        horizon = λ e l some most. by_test
+        horizon = λ e l some limit. by_test
             (λ (hs : List ℕ). (nat_lt e n.epoch ≡ true → hs ≡ n.horizon e) → (nat_lt e n.epoch ≡ false → hs ≡ horizon) → of_log hs l ≡ v.floor e l)
             (nat_lt e n.epoch) (n.horizon e) horizon
-            (λ t _ _. i.horizon e l some most ∙ sym (first_of (nat_lt e w.epoch) (w.floor e l) (horizon_seen horizon l) (ap (nat_lt e) same ∙ t)))
-            (λ t _ _. k.floor e l (let x = not_below e n.epoch t in omega arith) some most)
+            (λ t _ _. i.horizon e l some limit ∙ sym (first_of (nat_lt e w.epoch) (w.floor e l) (horizon_seen horizon l) (ap (nat_lt e) same ∙ t)))
+            (λ t _ _. k.floor e l (let x = not_below e n.epoch t in omega arith) some limit)
             (λ t. first_of (nat_lt e n.epoch) (n.horizon e) horizon t)
             (λ t. second_of (nat_lt e n.epoch) (n.horizon e) horizon t);
         parts = λ e. by_both e (nat_lt e n.epoch) (parts_stay b f f w v (n.horizon e) (rows_in holds (n.parts e)) (same_filed f) i.tells tells (i.parts e))
@@ -435,7 +435,7 @@ module _ (part : ℕ) (holds : SegRef → Rows) where
       let told : told_by_all part (take (length news.parts) c.read.whole) ≡ rows_in holds news.parts =
       parts_are_read part holds news.parts (take (length news.parts) c.read.whole) read has.written in
       record {
-        horizon = λ l some most. ap (λ h. of_log h l) has.horizon ∙ i.horizon e l some most ∙ sym (ap (λ k. i.state.floor k l) has.epoch);
+        horizon = λ l some limit. ap (λ h. of_log h l) has.horizon ∙ i.horizon e l some limit ∙ sym (ap (λ k. i.state.floor k l) has.epoch);
         parts = subst (λ h. Covers b n.filed i.state h (told_by_all news.slot (take (length news.parts) c.read.whole))) (sym has.horizon)
             (subst (Covers b n.filed i.state (n.horizon e))
             (sym (ap (λ k. told_by_all k (take (length news.parts) c.read.whole)) has.slot ∙ told ∙ ap (rows_in holds) has.parts)) (i.parts e));

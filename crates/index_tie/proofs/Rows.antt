@@ -46,7 +46,7 @@ by_filed P f l q here else_ =
 pub row_versioned : (b : BlockId) (f : Filed) (l q : ℕ) → IsFiled f → Versioned (row_at f b l q)
 row_versioned b f l q filed =
     by_filed (λ rows. Versioned (join rows b)) f l q
-    (λ some most. join_has Versioned b (rows_of (f.segment l q)) (λ _. refl) (versioned_of (rows_of (f.segment l q)) ((filed.each l q some most).versions)))
+    (λ some limit. join_has Versioned b (rows_of (f.segment l q)) (λ _. refl) (versioned_of (rows_of (f.segment l q)) ((filed.each l q some limit).versions)))
     (λ _. refl)
 
 -- ---- what names what
@@ -87,7 +87,7 @@ pub record Ranged (b : BlockId) (f : Filed) (w : IndexState) (l first upto : ℕ
 before : (w : IndexState) (l first upto version hop : ℕ) (named : index.Entry) → first ≤ upto → w.version l first ≡ version → w.hop l first ≡ hop
     → merge.FirstGreatest w l (first + 1) upto named
     → merge.FirstGreatest w l first upto (merge.merged (record { version = version; hop = hop; log = l; seq = first }) named)
-before w l first upto version hop named most is_version is_hop g = record {
+before w l first upto version hop named limit is_version is_hop g = record {
   newest = λ q from to. grind (arith, nat_tests);
   furthest = λ q from to same. grind (arith, nat_tests);
   earliest = λ q from to same also some. grind (arith, nat_tests);

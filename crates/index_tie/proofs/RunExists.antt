@@ -130,8 +130,8 @@ has_read = record {
   horizon = refl;
   parts = refl;
   written = tt;
-  ends = λ l some most within. absurd (let e = no_ends l in let o = of_log_in ones l some most in let i = one_at (l - 1) (omega arith) in omega arith);
-  linked = λ l some most q low high. absurd (let e = no_ends l in omega arith);
+  ends = λ l some limit within. absurd (let e = no_ends l in let o = of_log_in ones l some limit in let i = one_at (l - 1) (omega arith) in omega arith);
+  linked = λ l some limit q low high. absurd (let e = no_ends l in omega arith);
   texts = tt;
   reported = inl (ap (CleanerReported 2) (no_ends 9));
 }
@@ -155,10 +155,10 @@ runs : Runs 0 holds (opening any) told
 runs =
     On (On (On (On (On (On (On (On (On (On (Begun {n = started_net})
     (Plans {n = started_net} 1 (started 1 [] [] zeros) [] ones refl refl tt
-    (λ l some most. let o = of_log_in ones l some most in let i = one_at (l - 1) (omega arith) in let z = zero_at zeros all_zeros (l - 1) in omega arith)))
+    (λ l some limit. let o = of_log_in ones l some limit in let i = one_at (l - 1) (omega arith) in let z = zero_at zeros all_zeros (l - 1) in omega arith)))
     (Cleans {n = planned} 1 (started 1 [] [] zeros) refl))
     (Checkpoints {n = cleaned_net} 1 [] ones [] (inl refl) refl))
-    (Keeps {n = checkpointed} ones [] (inl refl) (λ l some most. omega arith)))
+    (Keeps {n = checkpointed} ones [] (inl refl) (λ l some limit. omega arith)))
     (Moves {n = kept}))
     (Promises {n = moved} 2 (omega arith) refl))
     (Reports {n = promised}))

@@ -73,9 +73,9 @@ nothing = record { version = 0; hop = 0; log = 0; seq = 0 }
 
 nothing_joins : (upto : ℕ → ℕ) → Joins (λ l q. 0) (λ l q. 0) upto nothing
 nothing_joins upto = record {
-  newest = λ l q most. omega arith;
-  furthest = λ l q most same. omega arith;
-  earliest = λ l q most same also some. absurd (omega arith);
+  newest = λ l q limit. omega arith;
+  furthest = λ l q limit same. omega arith;
+  earliest = λ l q limit same also some. absurd (omega arith);
   within = λ some. absurd (omega arith);
   its_version = λ some. absurd (omega arith);
   its_hop = λ some. absurd (omega arith);
@@ -116,7 +116,7 @@ module _ (any : ℕ → ℕ → Segment) (b : BlockId) where
   none_filed = record { head = λ l. 0; segment = any }
 
   pub no_row : (l q : ℕ) → row_at none_filed b l q ≡ no_entry
-  no_row l q = by_filed (λ rows. join rows b ≡ no_entry) none_filed l q (λ some most. absurd (omega arith)) refl
+  no_row l q = by_filed (λ rows. join rows b ≡ no_entry) none_filed l q (λ some limit. absurd (omega arith)) refl
 
   begun_tells : Tells b none_filed begun_state
   begun_tells =
@@ -147,10 +147,10 @@ module _ (any : ℕ → ℕ → Segment) (b : BlockId) where
     none = put_each (λ e o. o ≡ None → begun_state.active e ≡ 0) (λ e. None) 1 (Some (started 1 [] [] zeros))
         (λ is. absurd (some_none (started 1 [] [] zeros) is)) (λ e other is. at_other e 1 1 0 other);
     epoch = refl;
-    horizon = λ e l some most. of_log_in ones l some most ∙ one_at (l - 1) (omega arith);
+    horizon = λ e l some limit. of_log_in ones l some limit ∙ one_at (l - 1) (omega arith);
     parts = λ e. record {
       named = nothing;
-      filed = by_log (λ l. below ones l ≤ 0) (λ l some most. let h = of_log_in ones l some most in let o = one_at (l - 1) (omega arith) in omega arith)
+      filed = by_log (λ l. below ones l ≤ 0) (λ l some limit. let h = of_log_in ones l some limit in let o = one_at (l - 1) (omega arith) in omega arith)
           (λ l out. let h = of_log_out ones l out in omega arith);
       names = names_nothing b none_filed 0;
       joins = nothing_joins (below ones);
@@ -164,7 +164,7 @@ module _ (any : ℕ → ℕ → Segment) (b : BlockId) where
 
 opens : (part : ℕ) (holds : SegRef → Rows) (any : ℕ → ℕ → Segment) → Good part holds (opening any)
 opens part holds any = record {
-  filed = record { others = λ l out. refl; each = λ l q some most. absurd (omega arith) };
+  filed = record { others = λ l out. refl; each = λ l q some limit. absurd (omega arith) };
   epochs = put_each (λ e o. (s : SlotState) → o ≡ Some s → s.epoch ≡ e) (λ e. None) 1 (Some (started 1 [] [] zeros))
       (λ s is. ap (λ (x : SlotState). x.epoch) (sym (some_is (started 1 [] [] zeros) s is))) (λ e other s is. absurd (some_none s (sym is)));
   begun = refl;
@@ -212,7 +212,7 @@ reigning_is_outdated part holds n b e s place m at reigns lies deleted is has =
     let counted = dead.counted l q dropped in
     let reigned = dead.reigned l q counted in
     let on = (index_in_bounds_always w i.reached).reigning_active (omega arith) in
-    let most : w.reigning ≤ e = active_upto w (n.slots w.reigning) refl i.none on in
+    let limit : w.reigning ≤ e = active_upto w (n.slots w.reigning) refl i.none on in
     let same = g.epochs e s at in
     dropped_is_outdated b n.filed w s place i.reached g.filed i.tells (i.slots e s at) lies dropped (omega arith)
   where

@@ -110,7 +110,7 @@ either false x y a b = b
 -- ---- numbers by log
 
 pub of_log_in : (xs : List ℕ) (l : ℕ) → 0 < l → l ≤ 9 → of_log xs l ≡ get_or xs (l - 1) 0
-of_log_in xs l some most = first_of (nat_lt 0 l && nat_le l 9) (get_or xs (l - 1) 0) 0 (grind (arith, nat_tests))
+of_log_in xs l some limit = first_of (nat_lt 0 l && nat_le l 9) (get_or xs (l - 1) 0) 0 (grind (arith, nat_tests))
 
 pub of_log_out : (xs : List ℕ) (l : ℕ) → (l ≡ 0) ⊎ (9 < l) → of_log xs l ≡ 0
 of_log_out xs l (inl none) = second_of (nat_lt 0 l && nat_le l 9) (get_or xs (l - 1) 0) 0 (grind (arith, nat_tests))
@@ -126,8 +126,8 @@ by_log P here there (suc n) = elim (nat_le (suc n) 9) as (λ t. nat_le (suc n) 9
 
 pub applied_in : (horizon : List ℕ) (rs : List Report) (l : ℕ) → 0 < l → l ≤ 9 → of_log (reports.applied_of horizon rs) l ≡ applied_at horizon rs l
 unfolding reports.applied_of
-applied_in horizon rs l some most =
-    of_log_in (reports.applied_of horizon rs) l some most ∙ get_or-map-range_with_len (applied_at horizon rs) 1 9 (l - 1) l 0 (omega arith) (omega arith)
+applied_in horizon rs l some limit =
+    of_log_in (reports.applied_of horizon rs) l some limit ∙ get_or-map-range_with_len (applied_at horizon rs) 1 9 (l - 1) l 0 (omega arith) (omega arith)
 
 pub nine : (horizon : List ℕ) (rs : List Report) → length (reports.applied_of horizon rs) ≡ 9
 unfolding reports.applied_of
@@ -135,9 +135,9 @@ nine horizon rs = length-map-range_with_len (applied_at horizon rs) 1 9
 
 pub joins_at : (version hop : ℕ → ℕ → ℕ) (u v : ℕ → ℕ) (e : index.Entry) → ((l : ℕ) → u l ≡ v l) → Joins version hop u e → Joins version hop v e
 joins_at version hop u v e same j = record {
-  newest = λ l q most. j.newest l q (let s = same l in omega arith);
-  furthest = λ l q most. j.furthest l q (let s = same l in omega arith);
-  earliest = λ l q most. j.earliest l q (let s = same l in omega arith);
+  newest = λ l q limit. j.newest l q (let s = same l in omega arith);
+  furthest = λ l q limit. j.furthest l q (let s = same l in omega arith);
+  earliest = λ l q limit. j.earliest l q (let s = same l in omega arith);
   within = λ some. let w = j.within some in let s = same e.log in omega arith;
   its_version = j.its_version;
   its_hop = j.its_hop;
@@ -168,49 +168,49 @@ module _ (b : BlockId) (f : Filed) (w : IndexState) (slot epoch : ℕ) (horizon 
     upto k l = cond (nat_lt l k) (of_log applied l) (below horizon l)
 
     at_k : (k : ℕ) → 0 < k → k ≤ 9 → upto k k ≡ horizon_at horizon k - 1
-    at_k k some most = second_of (nat_lt k k) (of_log applied k) (below horizon k) (grind (arith, nat_tests)) ∙ ap (λ n. n - 1) (of_log_in horizon k some most)
+    at_k k some limit = second_of (nat_lt k k) (of_log applied k) (below horizon k) (grind (arith, nat_tests)) ∙ ap (λ n. n - 1) (of_log_in horizon k some limit)
 
     -- the next log
     next_is : (k n : ℕ) → 0 < k → k ≤ 9 → n ≡ applied_at horizon rs k → (l : ℕ) → put (upto k) k n l ≡ upto (suc k) l
-    next_is k n some most is =
+    next_is k n some limit is =
         put_each (λ l m. m ≡ upto (suc k) l) (upto k) k n
-        (is ∙ sym (applied_in horizon rs k some most) ∙ sym (first_of (nat_lt k (suc k)) (of_log applied k) (below horizon k) (grind (arith, nat_tests))))
+        (is ∙ sym (applied_in horizon rs k some limit) ∙ sym (first_of (nat_lt k (suc k)) (of_log applied k) (below horizon k) (grind (arith, nat_tests))))
         (λ l other. ap (λ t. cond t (of_log applied l) (below horizon l)) (same_test l k other))
 
     stays_is : (k : ℕ) → 0 < k → k ≤ 9 → (end_of rs k).seq < horizon_at horizon k → (l : ℕ) → upto k l ≡ upto (suc k) l
-    stays_is k some most past l =
-        sym (put_each (λ d m. m ≡ upto k d) (upto k) k (horizon_at horizon k - 1) (sym (at_k k some most)) (λ d other. refl) l)
-        ∙ next_is k (horizon_at horizon k - 1) some most (omega arith) l
+    stays_is k some limit past l =
+        sym (put_each (λ d m. m ≡ upto k d) (upto k) k (horizon_at horizon k - 1) (sym (at_k k some limit)) (λ d other. refl) l)
+        ∙ next_is k (horizon_at horizon k - 1) some limit (omega arith) l
 
     adds : (k : ℕ) (rows : List (BlockId × Entry)) (chain : List Segment) → 0 < k → k ≤ 9 → horizon_at horizon k ≤ (end_of rs k).seq
         → Gathered b f w (upto k) rows
         → IsReadBack (log_source k (horizon_at horizon k) (end_of rs k)) chain None → AllByRecursion (IsItsText f) chain
         → Gathered b f w (upto (suc k)) (rows ++ told_along slot chain)
-    adds k rows chain some most within g read texts =
+    adds k rows chain some limit within g read texts =
         let low = horizon_at horizon k in
         let end = end_of rs k in
-        let is_low : of_log horizon k ≡ low = of_log_in horizon k some most in
-        let floor = at_floor k some most in
+        let is_low : of_log horizon k ≡ low = of_log_in horizon k some limit in
+        let floor = at_floor k some limit in
         let some_floor = (index_in_bounds_always w reached).floor_some epoch k in
         let least : 0 < low = omega arith in
-        let is_end : IsEnd f k end = ends k some most (omega arith) in
+        let is_end : IsEnd f k end = ends k some limit (omega arith) in
         let r = ranged_between b f w k low end.seq filed tells in
         let tells_it : join (told_along slot chain) b ≡ join (rows_between f k low end.seq) b =
-        log_tells f k low end filed least within is_end (subst (λ n. Linked f k n end.seq) is_low (linked k some most)) b slot chain its read texts in
-        let was = at_k k some most in
+        log_tells f k low end filed least within is_end (subst (λ n. Linked f k n end.seq) is_low (linked k some limit)) b slot chain its read texts in
+        let was = at_k k some limit in
         record {
           named = merge.merged g.named r.named;
           names = subst (λ e. Names b f e (merge.merged g.named r.named))
               (ap (first_greatest (join rows b)) (sym tells_it) ∙ sym (join-append rows (told_along slot chain) b))
               (names_merged b f g.named r.named (join rows b) (join (rows_between f k low end.seq) b) g.names r.names);
-          joins = joins_at w.version w.hop (put (upto k) k end.seq) (upto (suc k)) (merge.merged g.named r.named) (next_is k end.seq some most (omega arith))
+          joins = joins_at w.version w.hop (put (upto k) k end.seq) (upto (suc k)) (merge.merged g.named r.named) (next_is k end.seq some limit (omega arith))
               (merging_joins w (upto k) k low end.seq g.named r.named reached g.joins r.greatest (omega arith) (omega arith));
         }
 
     skips : (k : ℕ) (rows : List (BlockId × Entry)) → 0 < k → k ≤ 9 → (end_of rs k).seq < horizon_at horizon k → Gathered b f w (upto k) rows
         → Gathered b f w (upto (suc k)) rows
-    skips k rows some most past g =
-        record { named = g.named; names = g.names; joins = joins_at w.version w.hop (upto k) (upto (suc k)) g.named (stays_is k some most past) g.joins }
+    skips k rows some limit past g =
+        record { named = g.named; names = g.names; joins = joins_at w.version w.hop (upto k) (upto (suc k)) g.named (stays_is k some limit past) g.joins }
 
     gathers : (n k : ℕ) (rows : List (BlockId × Entry)) (chains : List (List Segment)) → k + n ≡ 10 → 0 < k → Gathered b f w (upto k) rows
         → AreReadBack (flat_map (log_sources horizon rs) (range_with_len k n)) chains
@@ -250,11 +250,11 @@ module _ (b : BlockId) (f : Filed) (w : IndexState) (slot epoch : ℕ) (horizon 
     all_told parts chains covers read texts =
         let n = length parts in
         let start : (l : ℕ) → below horizon l ≡ upto 1 l = by_log (λ l. below horizon l ≡ upto 1 l)
-        (λ l some most. sym (second_of (nat_lt l 1) (of_log applied l) (below horizon l) (not_less_is l 1 (omega arith))))
+        (λ l some limit. sym (second_of (nat_lt l 1) (of_log applied l) (below horizon l) (not_less_is l 1 (omega arith))))
         (λ l out. ap (λ m. m - 1) (of_log_out horizon l out)
         ∙ sym (either (nat_lt l 1) (of_log applied l) (below horizon l) (of_log_out applied l out) (ap (λ m. m - 1) (of_log_out horizon l out)))) in
         let end : (l : ℕ) → upto 10 l ≡ of_log applied l = by_log (λ l. upto 10 l ≡ of_log applied l)
-        (λ l some most. first_of (nat_lt l 10) (of_log applied l) (below horizon l) (less_is l 10 (omega arith)))
+        (λ l some limit. first_of (nat_lt l 10) (of_log applied l) (below horizon l) (less_is l 10 (omega arith)))
         (λ l out. either (nat_lt l 10) (of_log applied l) (below horizon l) (of_log_out applied l out) (ap (λ m. m - 1) (of_log_out horizon l out))
         ∙ sym (of_log_out applied l out)) in
         let g = gathers 9 1 (told_by_all slot (take n chains)) (drop n chains) refl (omega arith)
@@ -298,17 +298,17 @@ activated b f w news c epoch rows beliefs numbers reached filed tells its over t
     (sym (ap (λ r. entry_of (indexed_all nothing_indexed r).rows b) over.rows ∙ starts_with (told_by_all news.slot c.read.whole) b)) g.names in
     let upto : ℕ → ℕ = of_log numbers_of in
     let covered : (l : ℕ) → w.floor e l ≤ suc (upto l) = by_log (λ l. w.floor e l ≤ suc (upto l))
-    (λ l some most. let a = applied_in horizon rs l some most in let h = told.horizon l some most in let i = of_log_in horizon l some most in omega arith)
+    (λ l some limit. let a = applied_in horizon rs l some limit in let h = told.horizon l some limit in let i = of_log_in horizon l some limit in omega arith)
     (λ l out. let a = bounds.floor_filed e l in let h = tells.head l in let i = filed.others l out in omega arith) in
     let most_filed : (l : ℕ) → upto l ≤ w.head l = by_log (λ l. upto l ≤ w.head l)
-    (λ l some most.
-    let a = applied_in horizon rs l some most in
-    let h = told.horizon l some most in
-    let i = of_log_in horizon l some most in
+    (λ l some limit.
+    let a = applied_in horizon rs l some limit in
+    let h = told.horizon l some limit in
+    let i = of_log_in horizon l some limit in
     let floor = bounds.floor_filed e l in
     let is_head = tells.head l in
     let m = applied_most (end_of rs l).seq (horizon_at horizon l) (w.head l) (omega arith)
-    (λ within. let x = (told.ends l some most (omega arith)).filed in omega arith) in
+    (λ within. let x = (told.ends l some limit (omega arith)).filed in omega arith) in
     omega arith)
     (λ l out. let a = of_log_out numbers_of l out in omega arith) in
     let reported : w.polled e ≤ upto w.cleaner =
@@ -319,7 +319,7 @@ activated b f w news c epoch rows beliefs numbers reached filed tells its over t
     let frame = framed w e upto g.named in
     let shows = shown b f w upto g.named t
     (λ l some. by_log (λ d. 0 < d → upto d ≡ recalls.applied_of numbers d)
-    (λ d more most _. of_log_in numbers_of d more most ∙ ap (λ xs. get_or xs (d - 1) 0) (sym over.applied_to))
+    (λ d more limit _. of_log_in numbers_of d more limit ∙ ap (λ xs. get_or xs (d - 1) 0) (sym over.applied_to))
     (λ d out more. of_log_out numbers_of d out
     ∙ sym (ap (λ xs. get_or xs (d - 1) 0) over.applied_to ∙ get_or-eq_default numbers_of 0 (let n = nine horizon rs in past d out more (length numbers_of) n)))
     l some) names in

@@ -98,13 +98,13 @@ module _ (part : ℕ) (holds : SegRef → Rows) (b : BlockId) where
   sound_later : (n m : Net) (w v : IndexState) (p : Packet) → Later n m w v → Sound n w p → Sound m v p
   sound_later n m w v (CheckpointPlanned e events horizon) t s = record {
     active = t.past.active e s.active;
-    applied = λ l some most. let x = s.applied l some most in let y = t.past.applied e l in omega arith;
+    applied = λ l some limit. let x = s.applied l some limit in let y = t.past.applied e l in omega arith;
     covers = λ segments laid. parts_stay b n.filed m.filed w v horizon
         (rows_in holds (after_event (slot_after events) (Written segments)).parts) t.more t.old t.new (s.covers segments laid);
   }
   sound_later n m w v (CheckpointDone e horizon parts) t s = (
     t.past.active e s.0,
-    (λ l some most. let x = s.1 l some most in let y = t.past.applied e l in omega arith),
+    (λ l some limit. let x = s.1 l some limit in let y = t.past.applied e l in omega arith),
     parts_stay b n.filed m.filed w v horizon (rows_in holds parts) t.more t.old t.new s.2,
   )
   sound_later n m w v (CleanerReported e end) t s =
@@ -173,7 +173,7 @@ pub record Good (part : ℕ) (holds : SegRef → Rows) (n : Net) : Type 0 where
   pub views : (b : BlockId) → slot_of b.ino.0 ≡ part → View part holds b n
 
 pub same_filed : (f : Filed) → IsMore f f
-same_filed f = record { head = λ l. omega arith; segment = λ l q some most. refl }
+same_filed f = record { head = λ l. omega arith; segment = λ l q some limit. refl }
 
 pub tells_same : (b : BlockId) (f : Filed) (w v : IndexState) → v.cleaner ≡ w.cleaner → ((l : ℕ) → v.head l ≡ w.head l)
     → ((l q : ℕ) → v.version l q ≡ w.version l q) → ((l q : ℕ) → v.hop l q ≡ w.hop l q) → Tells b f w → Tells b f v

@@ -86,9 +86,9 @@ with_packet n p = record n { sent = p ∷ n.sent }
 -- what a slot answers a Check
 abbrev pub answer_packets : ℕ → BlockId → SegName → ℕ → ℕ → List slot_outputs.Out → List Packet
 answer_packets number b name d e [] = []
-answer_packets number b name d e (slot_output.Grant client block at inc req mode entry ∷ os) = answer_packets number b name d e os
-answer_packets number b name d e (slot_output.Forward passer block at client inc req ver ∷ os) = answer_packets number b name d e os
-answer_packets number b name d e (slot_output.Recall client block at keep ∷ os) = answer_packets number b name d e os
+answer_packets number b name d e (slot_output.Grant client block stamp inc req mode entry ∷ os) = answer_packets number b name d e os
+answer_packets number b name d e (slot_output.Forward passer block stamp client inc req ver ∷ os) = answer_packets number b name d e os
+answer_packets number b name d e (slot_output.Recall client block stamp keep ∷ os) = answer_packets number b name d e os
 answer_packets number b name d e (slot_output.Applied log upto ∷ os) = answer_packets number b name d e os
 answer_packets number b name d e (slot_output.Live entry ∷ os) = AnsweredLive b entry ∷ answer_packets number b name d e os
 answer_packets number b name d e (slot_output.Dead ∷ os) = AnsweredDead number b name d e ∷ answer_packets number b name d e os

@@ -73,15 +73,15 @@ long_small w n e =
     let m = digits_value 10 w in
     long_some m n (bytes_eq w (decimal m)) (nat_lt m 18446744073709551616) refl j.0
 
-one_of : (most n : ℕ) (t u : Bool) → nat_lt 0 n ≡ t → nat_le n most ≡ u → (t && u) ≡ true → (1 ≤ n) × (n ≤ most)
-one_of most n true true f g e = (grind (arith, nat_tests, f), grind (arith, nat_tests, g))
-one_of most n true false f g e = absurd (grind (arith, e))
-one_of most n false u f g e = absurd (grind (arith, e))
+one_of : (limit n : ℕ) (t u : Bool) → nat_lt 0 n ≡ t → nat_le n limit ≡ u → (t && u) ≡ true → (1 ≤ n) × (n ≤ limit)
+one_of limit n true true f g e = (grind (arith, nat_tests, f), grind (arith, nat_tests, g))
+one_of limit n true false f g e = absurd (grind (arith, e))
+one_of limit n false u f g e = absurd (grind (arith, e))
 
-node_is : (most n : ℕ) (w : List ℕ) → read_node most w ≡ Ok n → (1 ≤ n) × (n ≤ most)
-node_is most n w e =
-    let j = judge_ok BadNumber NoNode (is_one_of most) (number_of (drop 1 w)) n e in
-    one_of most n (nat_lt 0 n) (nat_le n most) refl refl j.1
+node_is : (limit n : ℕ) (w : List ℕ) → read_node limit w ≡ Ok n → (1 ≤ n) × (n ≤ limit)
+node_is limit n w e =
+    let j = judge_ok BadNumber NoNode (is_one_of limit) (number_of (drop 1 w)) n e in
+    one_of limit n (nat_lt 0 n) (nat_le n limit) refl refl j.1
 
 client_is : (n : ℕ) (w : List ℕ) → read_client w ≡ Ok n → IsClient n
 client_is n w e = node_is 8 n w e

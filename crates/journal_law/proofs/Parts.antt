@@ -56,14 +56,14 @@ long_decimal n l =
 long_read : (n : ℕ) → IsVersion n → read_long (decimal n) ≡ Ok n
 long_read n l = judge_good BadNumber BadNumber (λ x. true) (long_of (decimal n)) n (long_decimal n l) refl
 
-one_of : (most n : ℕ) → 1 ≤ n → n ≤ most → is_one_of most n ≡ true
-one_of most n l u =
+one_of : (limit n : ℕ) → 1 ≤ n → n ≤ limit → is_one_of limit n ≡ true
+one_of limit n l u =
     let t : nat_lt 0 n ≡ true = grind (arith, nat_tests, l) in
-    let s : nat_le n most ≡ true = grind (arith, nat_tests, u) in
+    let s : nat_le n limit ≡ true = grind (arith, nat_tests, u) in
     and_true t s
 
-node_read : (most letter n : ℕ) → n < 2 ^ 32 → 1 ≤ n → n ≤ most → read_node most (letter ∷ decimal n) ≡ Ok n
-node_read most letter n s l u = judge_good BadNumber NoNode (is_one_of most) (number_of (decimal n)) n (number_decimal n s) (one_of most n l u)
+node_read : (limit letter n : ℕ) → n < 2 ^ 32 → 1 ≤ n → n ≤ limit → read_node limit (letter ∷ decimal n) ≡ Ok n
+node_read limit letter n s l u = judge_good BadNumber NoNode (is_one_of limit) (number_of (decimal n)) n (number_decimal n s) (one_of limit n l u)
 
 pub client_read : (n : ℕ) → IsClient n → read_client (99 ∷ decimal n) ≡ Ok n
 client_read n c = node_read 8 99 n (omega (arith, c.1)) c.0 c.1

@@ -23,8 +23,8 @@ use Rattle.log_law.specs.Below.{Below}
 use Rattle.log_law.proofs.Views.{OwnerShown, View}
 use Rattle.log_law.proofs.Followed.{Along, along_moment}
 
-module _ (g : Setting) (w : State) (book : ℕ → Segment) (fixed : Fixed g w) (paged : Book g w book) (lowest top : ℕ)
-    (opening_at : w.opening_seq ≡ top + 1) where
+module _ (g : Setting) (w : State) (book : ℕ → Segment) (fixed : Fixed g w) (paged : Book g w book) (lowest highest : ℕ)
+    (opening_at : w.opening_seq ≡ highest + 1) where
   -- a segment of the chain, on the path
   pub record OnPath (t : Segment) : Type 0 where
     pub number : ℕ
@@ -33,10 +33,10 @@ module _ (g : Setting) (w : State) (book : ℕ → Segment) (fixed : Fixed g w) 
     pub there : path w (w.seq_of number) ≡ number
     pub below : w.seq_of number < w.opening_seq
 
-  on_path : (x : ℕ) (ts : List Segment) → Chained g w book top x ts → (t : Segment) → In t ts → OnPath t
+  on_path : (x : ℕ) (ts : List Segment) → Chained g w book highest x ts → (t : Segment) → In t ts → OnPath t
   on_path x [] h t is = absurd is
   on_path x (s ∷ ss) h t (inl e) =
-      record { number = h.0; booked = h.1; is = e ∙ h.2; there = ap (back w) depth ∙ sym (back_chained g w book top h.0 ss h.5); below = less }
+      record { number = h.0; booked = h.1; is = e ∙ h.2; there = ap (back w) depth ∙ sym (back_chained g w book highest h.0 ss h.5); below = less }
     where
       depth : w.opening_seq - suc (w.seq_of h.0) ≡ length ss
       depth = let a = h.4 in let b : w.seq_of h.0 ≡ g.seq_of h.0 = ap (λ k. k h.0) fixed.seq_of in let c = opening_at in omega arith
@@ -64,7 +64,7 @@ module _ (k : Below) (g : Setting) (none : g.doubts ≡ false) (first : Net) (se
 
   -- the newest segment is filed
   newest_filed : 0 < h.w.head → In (name_of g h.w.end) n.filed
-  newest_filed some = by h.top
+  newest_filed some = by h.highest
     where
       by : (h.w.end ≡ 0) ⊎ In (name_of g h.w.end) n.filed → In (name_of g h.w.end) n.filed
       by (inl nothing) =

@@ -67,7 +67,7 @@ begins_seen k g m whole = record {
   asked = λ a is. absurd is;
   filed = λ name is. absurd is;
   calm = λ none. refl;
-  top = inl refl;
+  highest = inl refl;
   dropped = λ x. inl refl;
   gone = λ name is. absurd is;
 }

@@ -81,9 +81,9 @@ module _ (k : Below) (read : ReadWhole) (g : Setting) (n : Net) (h : View g n) (
   From y = ((2 ≤ h.w.phase) × (h.w.phase ≤ 3) × (y ≡ h.w.base)) ⊎ ((z : ℕ) × (h.w.booked z ≡ 1) × (h.w.prior_of z ≡ y))
 
   -- it is the base, or the prior of what was read before it
-  link : (top y : ℕ) (ts : List Segment) → Chained g h.w h.book top y ts → From y
-  link top y [] c = let p = shown.0.phase in inl (omega arith, omega arith, c)
-  link top y (t ∷ ts) c = inr (c.0, c.1, c.3)
+  link : (highest y : ℕ) (ts : List Segment) → Chained g h.w h.book highest y ts → From y
+  link highest y [] c = let p = shown.0.phase in inl (omega arith, omega arith, c)
+  link highest y (t ∷ ts) c = inr (c.0, c.1, c.3)
 
   from : From x
   from = link b.start.seq x (reverse b.chain) shown.0.chained

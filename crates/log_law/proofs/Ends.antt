@@ -54,7 +54,7 @@ module _ (g : Setting) (n : Net) (h : View g n) (s : LogState) (is : n.owner ≡
     last name among = let a = within k g none n h name among in let b = served_head k g n h (h.calm none) s is in omega arith
 
     filed : 0 < s.end.seq → In (record { log = s.log; seq = s.end.seq; pass = s.end.pass }) n.filed
-    filed some = by h.top
+    filed some = by h.highest
       where
         end_some : 0 < h.w.end
         end_some = some_number g h.w.end (let e = there.0.end_seq in omega arith)
@@ -121,7 +121,7 @@ files_its_flight k g n o m s is (Serves v deed some came) name among = inl among
 files_its_flight k g n o m s is (Bars v l pass) name among = inl among
 files_its_flight k g n o m s is (Lists v) name among = inl among
 files_its_flight k g n o m s is (Hears v generation up reached) name among = inl among
-files_its_flight k g n o m s is (Raises low top up under below) name among = inl among
+files_its_flight k g n o m s is (Raises low highest up under below) name among = inl among
 files_its_flight k g n o m s is (Publishes map whole) name among = inl among
 files_its_flight k g n o m s is (Welcomes inc ask news map hello low whole) name among = inl among
 files_its_flight k g n o m s is (Drops lists meta listed within below) name among = inl among

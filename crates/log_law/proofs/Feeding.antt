@@ -177,18 +177,18 @@ module _ (k : Below) (g : Setting) (none : g.doubts ≡ false) (n : Net) (h : Vi
     z = filed_one name among
 
     -- down the chain: it is there, or below all
-    down : (top x : ℕ) (ts : List Segment) → name.seq ≤ top → Chained g h.w h.book top x ts → ((c : SegName) → In c (names_of ts) → In c o.filed)
-        → In name (names_of ts) ⊎ (name.seq + length ts ≤ top)
-    down top x [] less c all = inr (omega arith)
-    down top x (b ∷ bs) less c all = ⊎_elim (λ there. inl (inr there)) here (down top c.0 bs less c.5 (λ m in_. all m (inr in_)))
+    down : (highest x : ℕ) (ts : List Segment) → name.seq ≤ highest → Chained g h.w h.book highest x ts → ((c : SegName) → In c (names_of ts) → In c o.filed)
+        → In name (names_of ts) ⊎ (name.seq + length ts ≤ highest)
+    down highest x [] less c all = inr (omega arith)
+    down highest x (b ∷ bs) less c all = ⊎_elim (λ there. inl (inr there)) here (down highest c.0 bs less c.5 (λ m in_. all m (inr in_)))
       where
         mine : (u.filed c.0 ≡ 1) × (b.name ≡ name_of g c.0)
         mine = chain_number b c.0 c.1 c.2 (all b.name (inl refl))
 
-        here : name.seq + length bs ≤ top → In name (b.name ∷ names_of bs) ⊎ (name.seq + suc (length bs) ≤ top)
+        here : name.seq + length bs ≤ highest → In name (b.name ∷ names_of bs) ⊎ (name.seq + suc (length bs) ≤ highest)
         here le = by (nat_lt name.seq (g.seq_of c.0)) refl
           where
-            by : (p : Bool) → nat_lt name.seq (g.seq_of c.0) ≡ p → In name (b.name ∷ names_of bs) ⊎ (name.seq + suc (length bs) ≤ top)
+            by : (p : Bool) → nat_lt name.seq (g.seq_of c.0) ≡ p → In name (b.name ∷ names_of bs) ⊎ (name.seq + suc (length bs) ≤ highest)
             by true e = inr (let a = less_of name.seq (g.seq_of c.0) e in let q = c.4 in omega arith)
               where
                 less_of : (p q : ℕ) → nat_lt p q ≡ true → p < q
@@ -235,9 +235,9 @@ module _ (k : Below) (g : Setting) (none : g.doubts ≡ false) (n : Net) (h : Vi
                 let f = e.1 in
                 let zs = z.seq in
                 let head_some : 0 < u.head = omega arith in
-                let top : u.filed u.end ≡ 1 = ap u.filed ends.its_end ∙ ends.line_filed u.head head_some (omega arith) in
+                let highest : u.filed u.end ≡ 1 = ap u.filed ends.its_end ∙ ends.line_filed u.head head_some (omega arith) in
                 let end_seq = ends.end_seq in
-                let same : z.number ≡ u.end = line.no_two z.number u.end z.filed top (omega arith) in
+                let same : z.number ≡ u.end = line.no_two z.number u.end z.filed highest (omega arith) in
                 let some : 0 < u.end = subst (λ y. 0 < y) same z.some in
                 let pass : d.state.end.pass ≡ (name_of g u.end).pass = passes g d.state.end.pass d.state.end.seq u.end some (sym after.0.end) in
                 let its_name : name ≡ record { log = g.log; seq = d.state.end.seq; pass = d.state.end.pass } =

@@ -76,11 +76,11 @@ goes_on n m o b h = record {
     by s (inr low) = inr (let r = b.rises in omega arith)
 
 -- what flies now flew, or is the flight
-flying : (o : Option FlightState) (flown : List Segment) (top : ℕ) → IfSome o (λ f. f.segment.name.seq ≡ top) → (s : Segment) → In s (flown_with o flown)
-    → In s flown ⊎ (s.name.seq ≤ top)
-flying None flown top next s among = inl among
-flying (Some f) flown top next s (inl e) = inr (let a = ap (λ (z : Segment). z.name.seq) e in let b = next in omega arith)
-flying (Some f) flown top next s (inr was) = inl was
+flying : (o : Option FlightState) (flown : List Segment) (highest : ℕ) → IfSome o (λ f. f.segment.name.seq ≡ highest) → (s : Segment) → In s (flown_with o flown)
+    → In s flown ⊎ (s.name.seq ≤ highest)
+flying None flown highest next s among = inl among
+flying (Some f) flown highest next s (inl e) = inr (let a = ap (λ (z : Segment). z.name.seq) e in let b = next in omega arith)
+flying (Some f) flown highest next s (inr was) = inl was
 
 module _ (k : Below) (g : Setting) (m : Net) (h : View (doubtful g) m) where
   ran_there : (s : LogState) → m.owner ≡ Serving s → Ran s

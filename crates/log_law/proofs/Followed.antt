@@ -93,14 +93,14 @@ module _ (g : Setting) (n : Net) (h : View g n) where
 -- ---- over one event
 
 module _ (k : Below) (g : Setting) (none : g.doubts ≡ false) (a : Net) (serves : is_serving a.owner ≡ true) (n : Net) (run : Runs g a n) (h : View g n) where
-  abbrev pub top : ℕ
-  top = h.w.line h.w.head
+  abbrev pub highest : ℕ
+  highest = h.w.line h.w.head
 
   -- what is carried along a run
   pub record Followed : Type 0 where
     pub fallen : is_down n.owner ≡ true → 0 < h.w.spanning → in_span run ≡ true
-    pub hurt : (i : ℕ) → InSpan h.w → 0 < h.w.head → h.w.span_low ≤ h.w.head → i < h.w.member_count top → 0 < h.w.hurt i
-        → LackedInSpan run (name_of g top) (h.w.member_server top i)
+    pub hurt : (i : ℕ) → InSpan h.w → 0 < h.w.head → h.w.span_low ≤ h.w.head → i < h.w.member_count highest → 0 < h.w.hurt i
+        → LackedInSpan run (name_of g highest) (h.w.member_server highest i)
 
   clean : h.w.clean ≡ 1
   clean = h.calm none
@@ -213,15 +213,15 @@ module _ (k : Below) (g : Setting) (none : g.doubts ≡ false) (a : Net) (serves
       -- where it was hurt before
       hurt_before : u.span_low ≤ u.head → HurtBefore h.w u i → LackedInSpan later (name_of g x) v
       hurt_before low b =
-          let booked = (k.protocol.book h.w h.reached).filed_booked top
+          let booked = (k.protocol.book h.w h.reached).filed_booked highest
           ((k.protocol.head h.w h.reached clean).line_filed h.w.head (let e = b.head in omega arith) (omega arith)) in
           let past = k.protocol.past h.w u h.reached t.steps in
-          let same : x ≡ top = b.line in
-          let server : u.member_server x i ≡ h.w.member_server top i = ap (λ y. u.member_server y i) same ∙ past.member_server top i booked in
-          let count : u.member_count x ≡ h.w.member_count top = ap u.member_count same ∙ past.member_count top booked in
+          let same : x ≡ highest = b.line in
+          let server : u.member_server x i ≡ h.w.member_server highest i = ap (λ y. u.member_server y i) same ∙ past.member_server highest i booked in
+          let count : u.member_count x ≡ h.w.member_count highest = ap u.member_count same ∙ past.member_count highest booked in
           let was = f.hurt i b.span (let e = b.head in omega arith) (let e = b.head in let s = b.span_low in let l = low in omega arith)
           (let m = member in omega arith) b.hurt in
-          (now_spans span, inr (subst (λ y. LackedInSpan run (name_of g y) v) (sym same) (subst (λ y. LackedInSpan run (name_of g top) y) (sym server) was)))
+          (now_spans span, inr (subst (λ y. LackedInSpan run (name_of g y) v) (sym same) (subst (λ y. LackedInSpan run (name_of g highest) y) (sym server) was)))
 
     now_hurt : (i : ℕ) → InSpan u → 0 < u.head → u.span_low ≤ u.head → i < u.member_count x → 0 < u.hurt i
         → LackedInSpan later (name_of g x) (u.member_server x i)
@@ -246,34 +246,34 @@ module _ (k : Below) (g : Setting) (none : g.doubts ≡ false) (a : Net) (serves
     ends = k.protocol.head h.w h.reached clean
 
     doubtful : is_writing n.owner ≡ true → h.w.pick_low ≤ h.w.head → 0 < h.w.head → h.w.span_low ≤ h.w.head
-        → ((i : ℕ) → i < h.w.member_count top → 0 < h.w.hurt i) → IsDoubtful g run
+        → ((i : ℕ) → i < h.w.member_count highest → 0 < h.w.hurt i) → IsDoubtful g run
     doubtful t low some span all = record {
-      segment = h.book top;
-      flown = h.flown.all top booked;
-      filed = subst (λ z. In z n.filed) (sym page.named) (is_filed h.top);
+      segment = h.book highest;
+      flown = h.flown.all highest booked;
+      filed = subst (λ z. In z n.filed) (sym page.named) (is_filed h.highest);
       newest = newest;
       above = (let a = (while_writing t).1 in let b = seq in let c = low in omega arith);
       lost = lost;
     }
       where
-        booked : h.w.booked top ≡ 1
-        booked = (k.protocol.book h.w h.reached).filed_booked top (ends.line_filed h.w.head some (omega arith))
+        booked : h.w.booked highest ≡ 1
+        booked = (k.protocol.book h.w h.reached).filed_booked highest (ends.line_filed h.w.head some (omega arith))
 
-        page : Page g top (h.book top) (h.w.text_of top) (h.w.member_count top) (h.w.member_server top) (h.w.member_generation top) (h.w.prior_of top)
-            (h.w.content_of top)
-        page = h.paged top booked
+        page : Page g highest (h.book highest) (h.w.text_of highest) (h.w.member_count highest) (h.w.member_server highest) (h.w.member_generation highest) (h.w.prior_of highest)
+            (h.w.content_of highest)
+        page = h.paged highest booked
 
-        seq : (h.book top).name.seq ≡ h.w.head
-        seq = ap (λ (z : SegName). z.seq) page.named ∙ (sym (ap (λ t. t top) h.fixed.seq_of) ∙ ends.line_seq h.w.head some (omega arith))
+        seq : (h.book highest).name.seq ≡ h.w.head
+        seq = ap (λ (z : SegName). z.seq) page.named ∙ (sym (ap (λ t. t highest) h.fixed.seq_of) ∙ ends.line_seq h.w.head some (omega arith))
 
-        is_filed : (h.w.end ≡ 0) ⊎ In (name_of g h.w.end) n.filed → In (name_of g top) n.filed
-        is_filed (inl nothing) = absurd (let a = (k.protocol.book h.w h.reached).named top booked in let b = ends.its_end in clash h.w.end top b nothing a)
+        is_filed : (h.w.end ≡ 0) ⊎ In (name_of g h.w.end) n.filed → In (name_of g highest) n.filed
+        is_filed (inl nothing) = absurd (let a = (k.protocol.book h.w h.reached).named highest booked in let b = ends.its_end in clash h.w.end highest b nothing a)
           where
             clash : (p q : ℕ) → p ≡ q → p ≡ 0 → 0 < q → ⊥
             clash p q a b c = omega arith
         is_filed (inr is) = subst (λ z. In (name_of g z) n.filed) ends.its_end is
 
-        newest : (name : SegName) → In name n.filed → name.seq ≤ (h.book top).name.seq
+        newest : (name : SegName) → In name n.filed → name.seq ≤ (h.book highest).name.seq
         newest name is =
             let d = h.filed name is in
             let a = ends.filed_head d.0 d.2 in
@@ -281,17 +281,17 @@ module _ (k : Below) (g : Setting) (none : g.doubts ≡ false) (a : Net) (serves
             let c = seq in
             omega arith
 
-        lost : (place : ℕ) → place < length (members_of g (h.book top)) → LackedInSpan run (h.book top).name (server_of (members_of g (h.book top)) place)
+        lost : (place : ℕ) → place < length (members_of g (h.book highest)) → LackedInSpan run (h.book highest).name (server_of (members_of g (h.book highest)) place)
         lost place member =
-            let inside : place < h.w.member_count top = subst (λ c. place < c) (sym page.counted) member in
+            let inside : place < h.w.member_count highest = subst (λ c. place < c) (sym page.counted) member in
             let p = (while_writing t).0 in
-            subst (λ z. LackedInSpan run z (server_of (members_of g (h.book top)) place)) (sym page.named)
-            (subst (λ v. LackedInSpan run (name_of g top) v) (page.at_server place)
+            subst (λ z. LackedInSpan run z (server_of (members_of g (h.book highest)) place)) (sym page.named)
+            (subst (λ v. LackedInSpan run (name_of g highest) v) (page.at_server place)
             (f.hurt place (record { not_serving = omega arith; begun = inl (omega arith) }) some span inside (all place inside)))
 
     sure : (o : Net) → EndsRestart n o → (IsDoubtful g run → ⊥) → h.w.pick_low ≤ h.w.head → Undoubted h.w
     sure o restart calm low some span =
-        ⊎_elim (λ a. a) (λ all. absurd (calm (doubtful restart.0 low some span all))) (some_unhurt h.w.hurt (h.w.member_count top))
+        ⊎_elim (λ a. a) (λ all. absurd (calm (doubtful restart.0 low some span all))) (some_unhurt h.w.hurt (h.w.member_count highest))
 
 -- ---- along the run
 

@@ -158,9 +158,9 @@ module _ (g : Setting) (w u : State) (book : ℕ → Segment) (by : Apart w u) w
     flight = same (λ o. FlightShown g book s.flight s.inc s.end.seq (o.booked o.flight) o.flight o.noted) h.flight;
   }
 
-  chained_apart : (top x : ℕ) (ts : List Segment) → Chained g w book top x ts → Chained g u book top x ts
-  chained_apart top x [] h = same (λ o. x ≡ o.base) h
-  chained_apart top x (t ∷ ts) h = (h.0, same (λ o. o.booked h.0 ≡ 1) h.1, h.2, same (λ o. o.prior_of h.0 ≡ x) h.3, h.4, chained_apart top h.0 ts h.5)
+  chained_apart : (highest x : ℕ) (ts : List Segment) → Chained g w book highest x ts → Chained g u book highest x ts
+  chained_apart highest x [] h = same (λ o. x ≡ o.base) h
+  chained_apart highest x (t ∷ ts) h = (h.0, same (λ o. o.booked h.0 ≡ 1) h.1, h.2, same (λ o. o.prior_of h.0 ≡ x) h.3, h.4, chained_apart highest h.0 ts h.5)
 
   writing_apart : (chain : List Segment) (s : LogState) → WritingShown g w book chain s → WritingShown g u book chain s
   writing_apart chain s h = record {

@@ -43,12 +43,12 @@ more_of : (p q : ℕ) → nat_lt p q ≡ false → q ≤ p
 more_of p q e = grind (arith, nat_tests)
 
 -- one more
-one_more : (n : Net) (top head : ℕ) → head ≤ suc top → Gapless n top → Has n (suc top) → Gapless n head
-one_more n top head less before there q some up = by (nat_lt top q) refl
+one_more : (n : Net) (highest head : ℕ) → head ≤ suc highest → Gapless n highest → Has n (suc highest) → Gapless n head
+one_more n highest head less before there q some up = by (nat_lt highest q) refl
   where
-    by : (b : Bool) → nat_lt top q ≡ b → Has n q
-    by true e = let a = less_of top q e in (there.0, there.1, there.2 ∙ omega arith)
-    by false e = before q some (more_of top q e)
+    by : (b : Bool) → nat_lt highest q ≡ b → Has n q
+    by true e = let a = less_of highest q e in (there.0, there.1, there.2 ∙ omega arith)
+    by false e = before q some (more_of highest q e)
 
 -- ---- an owner that serves has its end at the head
 
@@ -66,15 +66,15 @@ module _ (k : Below) (g : Setting) (none : g.doubts ≡ false) (n : Net) (h : Vi
     (serves : o.owner ≡ Serving (log.transition s i).state) (files : o.filed ≡ log_filed g.log (log.transition s i).outs ++ (names_of chain ++ n.filed))
     (low : o.low ≡ n.low) (gapless : Gapless n h.w.head) where
   -- down the chain
-  reaches : (q top x : ℕ) (ts : List Segment) → top < q + length ts → q ≤ top → Chained g h.w h.book top x ts
+  reaches : (q highest x : ℕ) (ts : List Segment) → highest < q + length ts → q ≤ highest → Chained g h.w h.book highest x ts
       → ((c : SegName) → In c (names_of ts) → In c o.filed) → Has o q
-  reaches q top x [] more less c all = absurd (omega arith)
-  reaches q top x (b ∷ bs) more less c all = by (nat_lt top (q + length bs)) refl (λ m. reaches q top c.0 bs m less c.5 (λ z in_. all z (inr in_)))
+  reaches q highest x [] more less c all = absurd (omega arith)
+  reaches q highest x (b ∷ bs) more less c all = by (nat_lt highest (q + length bs)) refl (λ m. reaches q highest c.0 bs m less c.5 (λ z in_. all z (inr in_)))
     where
-      by : (p : Bool) → nat_lt top (q + length bs) ≡ p → (top < q + length bs → Has o q) → Has o q
-      by true e down = down (less_of top (q + length bs) e)
+      by : (p : Bool) → nat_lt highest (q + length bs) ≡ p → (highest < q + length bs → Has o q) → Has o q
+      by true e down = down (less_of highest (q + length bs) e)
       by false e down =
-          let a = more_of top (q + length bs) e in
+          let a = more_of highest (q + length bs) e in
           let seq : b.name.seq ≡ g.seq_of c.0 = ap (λ (z : Segment). z.name.seq) c.2 ∙ ap (λ (z : SegName). z.seq) (h.paged c.0 c.1).named in
           let d = c.4 in (b.name, all b.name (inl refl), omega arith)
 

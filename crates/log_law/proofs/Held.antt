@@ -21,10 +21,10 @@ use Rattle.log_law.proofs.Views.{Flown, OwnerShown, View}
 use Rattle.log_law.proofs.Wholeness.{seen}
 
 module _ (g : Setting) (w : State) (book : ℕ → Segment) (flown : List Segment) (f : Flown w book flown) where
-  chain_flew : (top x : ℕ) (chain : List Segment) → Chained g w book top x chain → (t : Segment) → In t chain → In t flown
-  chain_flew top x [] h t is = absurd is
-  chain_flew top x (s ∷ chain) h t (inl e) = subst (λ z. In z flown) (sym (e ∙ h.2)) (f.all h.0 h.1)
-  chain_flew top x (s ∷ chain) h t (inr is) = chain_flew top h.0 chain h.5 t is
+  chain_flew : (highest x : ℕ) (chain : List Segment) → Chained g w book highest x chain → (t : Segment) → In t chain → In t flown
+  chain_flew highest x [] h t is = absurd is
+  chain_flew highest x (s ∷ chain) h t (inl e) = subst (λ z. In z flown) (sym (e ∙ h.2)) (f.all h.0 h.1)
+  chain_flew highest x (s ∷ chain) h t (inr is) = chain_flew highest h.0 chain h.5 t is
 
   one_flew : (flight : FlightState) (inc seq x : ℕ) (noted : ℕ → ℕ) → Flying g book flight inc seq (w.booked x) x noted → In flight.segment flown
   one_flew flight inc seq x noted h = subst (λ z. In z flown) (sym h.segment) (f.all x h.is_booked)

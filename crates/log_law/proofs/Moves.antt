@@ -107,7 +107,7 @@ module _ (k : Below) (g : Setting) (n : Net) (h : View g n) where
       pub sends : m.sent ≡ new ++ n.sent
       pub shown : AllShown g t.world t.later hellos new
       pub filed : (name : SegName) → In name m.filed → IsFiled g t.world name
-      pub top : (t.world.end ≡ 0) ⊎ In (name_of g t.world.end) m.filed
+      pub highest : (t.world.end ≡ 0) ⊎ In (name_of g t.world.end) m.filed
       pub fallen : is_down m.owner ≡ true → t.world.spanning ≡ h.w.spanning
       pub steady : is_serving m.owner ≡ false → Steady h.w t.world
 
@@ -141,7 +141,7 @@ module _ (k : Below) (g : Setting) (n : Net) (h : View g n) where
       asked = λ a is. at (λ o. (a.inc ≤ o.incarnation) × (a.low ≤ o.low)) (v.asked a is);
       filed = v.filed;
       calm = λ none. t.frame.calm none (h.calm none);
-      top = v.top;
+      highest = v.highest;
       gone = λ name is.
           (let d = h.gone name (subst (In name) v.keeps.dropped is) in
           record { number = d.number; named = d.named; dropped = later_goes.dropped d.number d.dropped });
@@ -167,7 +167,7 @@ module _ (k : Below) (g : Setting) (n : Net) (h : View g n) where
     -- the end is filed, where what the log files is
     pub topped : (names : List SegName) → ((name : SegName) → In name n.filed → In name names)
         → ((name : SegName) → In name (log_filed g.log outs) → In name names) → (t.world.end ≡ 0) ⊎ In (name_of g t.world.end) names
-    topped names old new = by t.end_follows h.top
+    topped names old new = by t.end_follows h.highest
       where
         by : EndFollows g h.w t.world outs → (h.w.end ≡ 0) ⊎ In (name_of g h.w.end) n.filed → (t.world.end ≡ 0) ⊎ In (name_of g t.world.end) names
         by (inl e) (inl none) = inl (e ∙ none)

@@ -83,7 +83,7 @@ module _ (k : Below) (g : Setting) (n : Net) (h : View g n) where
       sends = refl;
       shown = packets_shown g goes.world goes.later h.hellos served.outs goes.said;
       filed = filed_said g goes.world goes.later served.outs n.filed goes.said (filed_still k g n h Now served.outs goes);
-      top = topped k g n h Now served.outs goes (log_filed g.log served.outs ++ n.filed)
+      highest = topped k g n h Now served.outs goes (log_filed g.log served.outs ++ n.filed)
           (λ name among. in_right (log_filed g.log served.outs) n.filed name among) (λ name among. in_left (log_filed g.log served.outs) n.filed name among);
       fallen = λ down. contrary down;
       steady = λ serving. contrary (sym serving);
@@ -134,7 +134,7 @@ module _ (k : Below) (g : Setting) (n : Net) (h : View g n) where
       sends = refl;
       shown = packets_shown g t.world t.later h.hellos d.outs t.said;
       filed = filed_said g t.world t.later d.outs n.filed t.said (filed_still k g n h P d.outs t);
-      top = topped k g n h P d.outs t (log_filed g.log d.outs ++ n.filed) (λ name among. in_right (log_filed g.log d.outs) n.filed name among)
+      highest = topped k g n h P d.outs t (log_filed g.log d.outs ++ n.filed) (λ name among. in_right (log_filed g.log d.outs) n.filed name among)
           (λ name among. in_left (log_filed g.log d.outs) n.filed name among);
       fallen = λ down. contrary down;
       steady = λ serving. steady k h.w t.world h.reached t.steps (let p = there.0.phase in omega arith) (let p = there.0.phase in omega arith)
@@ -154,7 +154,7 @@ module _ (k : Below) (g : Setting) (n : Net) (h : View g n) where
       sends = refl;
       shown = packets_shown g t.world t.later h.hellos d.outs t.said;
       filed = filed_said g t.world t.later d.outs (names_of chain ++ n.filed) t.said (chain_said g t.world chain n.filed v.1 (filed_still k g n h P d.outs t));
-      top = topped k g n h P d.outs t (log_filed g.log d.outs ++ (names_of chain ++ n.filed))
+      highest = topped k g n h P d.outs t (log_filed g.log d.outs ++ (names_of chain ++ n.filed))
           (λ name among. in_right (log_filed g.log d.outs) (names_of chain ++ n.filed) name (in_right (names_of chain) n.filed name among))
           (λ name among. in_left (log_filed g.log d.outs) (names_of chain ++ n.filed) name among);
       fallen = λ down. contrary down;
@@ -195,7 +195,7 @@ module _ (k : Below) (g : Setting) (n : Net) (h : View g n) where
     sends = refl;
     shown = tt;
     filed = filed_still k g n h (λ v later. v.phase ≡ 0) [] crash;
-    top = h.top;
+    highest = h.highest;
     fallen = λ down. refl;
     steady = λ serving. record { served = refl; head = refl; booked = λ x booked boot. booked };
   })
@@ -225,7 +225,7 @@ module _ (k : Below) (g : Setting) (n : Net) (h : View g n) where
       asked = λ a among. (let b = h.asked a among in let c = b.0 in (omega arith, b.1));
       filed = λ name among. h.filed name among;
       calm = h.calm;
-      top = h.top;
+      highest = h.highest;
       dropped = h.dropped;
       gone = λ name among. (let d = h.gone name among in record { number = d.number; named = d.named; dropped = d.dropped });
     };

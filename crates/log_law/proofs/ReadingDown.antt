@@ -46,36 +46,36 @@ use Rattle.log_law.proofs.Wholeness.{seen}
 
 module _ (g : Setting) (w : State) (book : ℕ → Segment) where
   -- its numbers
-  chain_numbers : Book g w book → (top x : ℕ) (ts : List Segment) → Chained g w book top x ts → EndsAt top ts
-  chain_numbers paged top x [] h = tt
-  chain_numbers paged top x (t ∷ ts) h = (
+  chain_numbers : Book g w book → (highest x : ℕ) (ts : List Segment) → Chained g w book highest x ts → EndsAt highest ts
+  chain_numbers paged highest x [] h = tt
+  chain_numbers paged highest x (t ∷ ts) h = (
     let e : t.name.seq ≡ g.seq_of h.0 = ap (λ (z : Segment). z.name.seq) h.2 ∙ ap (λ (z : SegName). z.seq) (paged h.0 h.1).named in
         let a = h.4 in omega arith,
-    chain_numbers paged top h.0 ts h.5,
+    chain_numbers paged highest h.0 ts h.5,
   )
 
   module _ (seqs : w.seq_of ≡ g.seq_of) (i : Invariant w) (reading : w.phase ≡ 2) where
     -- each link of it is of an earlier boot
-    earlier : (top x : ℕ) (ts : List Segment) → Chained g w book top x ts → 0 < x → w.incarnation_of x < w.incarnation
-    earlier top x [] h some =
+    earlier : (highest x : ℕ) (ts : List Segment) → Chained g w book highest x ts → 0 < x → w.incarnation_of x < w.incarnation
+    earlier highest x [] h some =
         let e : x ≡ w.base = h in
         subst (λ y. w.incarnation_of y < w.incarnation) (sym e)
         (i.shelf.priors.base_boot (let p = reading in omega arith) (let p = reading in omega arith) (subst (λ y. 0 < y) e some))
-    earlier top x (t ∷ ts) h some =
-        let up = earlier top h.0 ts h.5 (i.shelf.texts.booked_name h.0 h.1) in
+    earlier highest x (t ∷ ts) h some =
+        let up = earlier highest h.0 ts h.5 (i.shelf.texts.booked_name h.0 h.1) in
         let e : w.prior_of h.0 ≡ x = h.3 in
         let b : w.incarnation_of (w.prior_of h.0) ≤ w.incarnation_of h.0 = i.shelf.priors.prior_boot h.0 h.1 (subst (λ y. 0 < y) (sym e) some) in
         let f : w.incarnation_of (w.prior_of h.0) ≡ w.incarnation_of x = ap w.incarnation_of e in
         omega arith
 
     -- where it names no segment before it, it is short
-    pub short : (top : ℕ) (ts : List Segment) → w.opening_seq ≡ top + 1 → Chained g w book top 0 ts → top < w.read_low + length ts
-    short top [] opens h =
+    pub short : (highest : ℕ) (ts : List Segment) → w.opening_seq ≡ highest + 1 → Chained g w book highest 0 ts → highest < w.read_low + length ts
+    short highest [] opens h =
         let p = i.shelf.priors.no_base (let z = reading in omega arith) (let z = reading in omega arith) (sym h) in
         let q = i.shelf.horizons.pick_before (let z = reading in omega arith) (let z = reading in omega arith) in
         omega arith
-    short top (t ∷ ts) opens h =
-        let boot = earlier top h.0 ts h.5 (i.shelf.texts.booked_name h.0 h.1) in
+    short highest (t ∷ ts) opens h =
+        let boot = earlier highest h.0 ts h.5 (i.shelf.texts.booked_name h.0 h.1) in
         let a : w.seq_of h.0 ≤ w.low_when_booked h.0 = i.shelf.priors.no_prior h.0 h.1 h.3 in
         let b : w.low_when_booked h.0 ≤ w.begin_low = i.shelf.horizons.low_before h.0 h.1 boot in
         let c = i.shelf.horizons.pick_after (let z = reading in omega arith) (let z = reading in omega arith) in
@@ -186,7 +186,7 @@ module _ (k : Below) (g : Setting) (none : g.doubts ≡ false) (n : Net) (m : Mo
 
     -- it was filed in an earlier boot, so it isn't the one that was filed now
     not_the_end : u.filed f.number ≡ 1 → u.seq_of f.number ≡ u.head → 0 < u.head → ⊥
-    not_the_end still top some =
+    not_the_end still highest some =
         let before = k.protocol.head was a.view.reached (a.view.calm none) in
         let after = k.protocol.head u then.view.reached (then.view.calm none) in
         let b : was.incarnation_of f.number ≤ was.served = before.line_boot f.number f.filed in
@@ -194,7 +194,7 @@ module _ (k : Below) (g : Setting) (none : g.doubts ≡ false) (n : Net) (m : Mo
         let q = (feeding.after k g none n a.view chain s i is o then serves files same_low).0.phase in
         let c : was.served < was.incarnation = (k.protocol.owner was a.view.reached).opening (omega arith) (omega arith) in
         let d : u.incarnation ≡ u.served = (k.protocol.owner u then.view.reached).serving q in
-        let e : u.line u.head ≡ f.number = ap u.line (sym top) ∙ after.filed_line f.number still in
+        let e : u.line u.head ≡ f.number = ap u.line (sym highest) ∙ after.filed_line f.number still in
         let h : u.incarnation_of (u.line u.head) ≡ u.served = after.head_boot some in
         let j : u.incarnation_of f.number ≡ was.incarnation_of f.number =
         ap (λ t. t f.number) then.view.fixed.incarnation_of ∙ sym (ap (λ t. t f.number) a.view.fixed.incarnation_of) in
@@ -262,7 +262,7 @@ reopens_behind k g n o none m (Serves v deed some came) calm ends c t it name am
 reopens_behind k g n o none m (Bars v l pass) calm ends c t it name among = contrary (sym (ap is_serving it) ∙ ends.1)
 reopens_behind k g n o none m (Lists v) calm ends c t it name among = contrary (sym (ap is_serving it) ∙ ends.1)
 reopens_behind k g n o none m (Hears v generation up reached) calm ends c t it name among = contrary (sym (ap is_serving it) ∙ ends.1)
-reopens_behind k g n o none m (Raises low top up is below) calm ends c t it name among = contrary (sym (ap is_serving it) ∙ ends.1)
+reopens_behind k g n o none m (Raises low highest up is below) calm ends c t it name among = contrary (sym (ap is_serving it) ∙ ends.1)
 reopens_behind k g n o none m (Publishes map whole) calm ends c t it name among = contrary (sym (ap is_serving it) ∙ ends.1)
 reopens_behind k g n o none m (Welcomes inc ask news map is low whole) calm ends c t it name among = contrary (sym (ap is_serving it) ∙ ends.1)
 reopens_behind k g n o none m (Drops lists meta is listed below) calm ends c t it name among = contrary (sym (ap is_serving it) ∙ ends.1)

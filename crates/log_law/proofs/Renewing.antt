@@ -86,7 +86,7 @@ module _ (k : Below) (g : Setting) (n : Net) (h : View g n) (m : GroupMapState) 
       asked = λ a among. (let b = h.asked a among in let c = b.0 in (omega arith, b.1));
       filed = λ name among. h.filed name among;
       calm = λ none. contrary (sym none ∙ doubts);
-      top = inl refl;
+      highest = inl refl;
       dropped = h.dropped;
       gone = λ name among. (let d = h.gone name among in record { number = d.number; named = d.named; dropped = d.dropped });
     };

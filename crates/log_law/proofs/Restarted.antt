@@ -36,11 +36,11 @@ in_names (t ∷ ts) name (inl e) = (t, inl refl, sym e)
 in_names (t ∷ ts) name (inr is) = let z = in_names ts name is in (z.0, inr z.1, z.2)
 
 -- what was read back is booked
-in_book : (g : Setting) (w : State) (book : ℕ → Segment) (top x : ℕ) (ts : List Segment) → Chained g w book top x ts → (t : Segment) → In t ts
+in_book : (g : Setting) (w : State) (book : ℕ → Segment) (highest x : ℕ) (ts : List Segment) → Chained g w book highest x ts → (t : Segment) → In t ts
     → (y : ℕ) × (w.booked y ≡ 1) × (t ≡ book y)
-in_book g w book top x [] c t is = absurd is
-in_book g w book top x (b ∷ bs) c t (inl e) = (c.0, c.1, e ∙ c.2)
-in_book g w book top x (b ∷ bs) c t (inr is) = in_book g w book top c.0 bs c.5 t is
+in_book g w book highest x [] c t is = absurd is
+in_book g w book highest x (b ∷ bs) c t (inl e) = (c.0, c.1, e ∙ c.2)
+in_book g w book highest x (b ∷ bs) c t (inr is) = in_book g w book highest c.0 bs c.5 t is
 
 module _ (k : Below) (g : Setting) (n : Net) (none : g.doubts ≡ false) (m : Moment g n) (chain : List Segment) (s : LogState) (i : Input)
     (is : n.owner ≡ Writing chain s) where
@@ -147,7 +147,7 @@ a_restart_files_the_tail k g n o none m (Serves v deed some came) calm ends name
 a_restart_files_the_tail k g n o none m (Bars v l pass) calm ends name among = inl among
 a_restart_files_the_tail k g n o none m (Lists v) calm ends name among = inl among
 a_restart_files_the_tail k g n o none m (Hears v generation up reached) calm ends name among = inl among
-a_restart_files_the_tail k g n o none m (Raises low top up is below) calm ends name among = inl among
+a_restart_files_the_tail k g n o none m (Raises low highest up is below) calm ends name among = inl among
 a_restart_files_the_tail k g n o none m (Publishes map whole) calm ends name among = inl among
 a_restart_files_the_tail k g n o none m (Welcomes inc ask news map is low whole) calm ends name among = inl among
 a_restart_files_the_tail k g n o none m (Drops lists meta is listed below) calm ends name among = inl among

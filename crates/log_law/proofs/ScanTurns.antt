@@ -51,16 +51,16 @@ asked_more inc low (Fetch server name ask ∷ os) hellos a is = asked_more inc l
 asked_more inc low (Chain segments end prior ∷ os) hellos a is = asked_more inc low os hellos a is
 asked_more inc low (Lost name ∷ os) hellos a is = asked_more inc low os hellos a is
 
-asked_past : (inc low top high : ℕ) (outs : List Out) (hellos : List Asked) → inc ≤ top → low ≤ high
-    → ((a : Asked) → In a hellos → (a.inc ≤ top) × (a.low ≤ high)) → (a : Asked) → In a (asked_by inc low outs hellos) → (a.inc ≤ top) × (a.low ≤ high)
-asked_past inc low top high [] hellos i l old a is = old a is
-asked_past inc low top high (Hello ask ∷ os) hellos i l old a (inl e) =
+asked_past : (inc low highest high : ℕ) (outs : List Out) (hellos : List Asked) → inc ≤ highest → low ≤ high
+    → ((a : Asked) → In a hellos → (a.inc ≤ highest) × (a.low ≤ high)) → (a : Asked) → In a (asked_by inc low outs hellos) → (a.inc ≤ highest) × (a.low ≤ high)
+asked_past inc low highest high [] hellos i l old a is = old a is
+asked_past inc low highest high (Hello ask ∷ os) hellos i l old a (inl e) =
     (let x = ap (λ (z : Asked). z.inc) e in let b = i in omega arith, let x = ap (λ (z : Asked). z.low) e in let b = l in omega arith)
-asked_past inc low top high (Hello ask ∷ os) hellos i l old a (inr is) = asked_past inc low top high os hellos i l old a is
-asked_past inc low top high (Fence server ∷ os) hellos i l old a is = asked_past inc low top high os hellos i l old a is
-asked_past inc low top high (Fetch server name ask ∷ os) hellos i l old a is = asked_past inc low top high os hellos i l old a is
-asked_past inc low top high (Chain segments end prior ∷ os) hellos i l old a is = asked_past inc low top high os hellos i l old a is
-asked_past inc low top high (Lost name ∷ os) hellos i l old a is = asked_past inc low top high os hellos i l old a is
+asked_past inc low highest high (Hello ask ∷ os) hellos i l old a (inr is) = asked_past inc low highest high os hellos i l old a is
+asked_past inc low highest high (Fence server ∷ os) hellos i l old a is = asked_past inc low highest high os hellos i l old a is
+asked_past inc low highest high (Fetch server name ask ∷ os) hellos i l old a is = asked_past inc low highest high os hellos i l old a is
+asked_past inc low highest high (Chain segments end prior ∷ os) hellos i l old a is = asked_past inc low highest high os hellos i l old a is
+asked_past inc low highest high (Lost name ∷ os) hellos i l old a is = asked_past inc low highest high os hellos i l old a is
 
 -- what an opening sends is shown, with these questions and more
 scan_shown : (g : Setting) (w : State) (book : ℕ → Segment) (inc low : ℕ) (outs : List Out) (hellos all : List Asked) → inc ≤ w.incarnation
@@ -217,7 +217,7 @@ module _ (k : Below) (g : Setting) (n : Net) (h : View g n) (s : ScanState) (i :
     shown = scan_shown g t.world t.later n.inc t.world.low d.outs h.hellos hellos (let e = incs in omega arith)
         (λ a among. subst (λ inc. In a (asked_by inc t.world.low d.outs h.hellos)) (sym incs) among);
     filed = filed_still k g n h P [] t;
-    top = topped k g n h P [] t n.filed (λ name among. among) (λ name among. absurd among);
+    highest = topped k g n h P [] t n.filed (λ name among. among) (λ name among. absurd among);
     fallen = λ down. contrary down;
     steady = λ serving. on_steady;
   })
@@ -277,7 +277,7 @@ module _ (k : Below) (g : Setting) (n : Net) (h : View g n) (s : ScanState) (i :
       sends = refl;
       shown = packets_shown g e.world e.later hellos first.outs e.said;
       filed = filed_said g e.world e.later first.outs n.filed e.said (filed_still k g (scans_on n s d) on Q first.outs e);
-      top = topped k g (scans_on n s d) on Q first.outs e (log_filed g.log first.outs ++ n.filed)
+      highest = topped k g (scans_on n s d) on Q first.outs e (log_filed g.log first.outs ++ n.filed)
           (λ name among. in_right (log_filed g.log first.outs) n.filed name among) (λ name among. in_left (log_filed g.log first.outs) n.filed name among);
       fallen = λ down. contrary down;
       steady = λ serving. steady k t.world e.world on.reached e.steps phase_after.0 phase_after.1 (let p = e.shows.phase in omega arith)

@@ -76,8 +76,8 @@ module _ (k : Below) (g : Setting) (n : Net) (h : View g n) where
         (same g h.w u h.book t.apart (λ o. a.inc ≤ o.incarnation) (h.asked a is).0, (let b = (h.asked a is).1 in let up = t.apart.low in omega arith));
     filed = λ name is. same g h.w u h.book t.apart (λ o. (x : ℕ) × (name ≡ name_of g x) × (o.filed x ≡ 1)) (h.filed name (subst (In name) t.rests.filed is));
     calm = λ none. same g h.w u h.book t.apart (λ o. o.clean ≡ 1) (h.calm none);
-    top = same g h.w u h.book t.apart (λ o. (o.end ≡ 0) ⊎ In (name_of g o.end) m.filed)
-        (subst (λ names. (h.w.end ≡ 0) ⊎ In (name_of g h.w.end) names) (sym t.rests.filed) h.top);
+    highest = same g h.w u h.book t.apart (λ o. (o.end ≡ 0) ⊎ In (name_of g o.end) m.filed)
+        (subst (λ names. (h.w.end ≡ 0) ⊎ In (name_of g h.w.end) names) (sym t.rests.filed) h.highest);
     dropped = t.dropped;
     gone = λ name is. ⊎_elim (λ old. (let d = h.gone name old in record { number = d.number; named = d.named; dropped = t.apart.dropped d.number d.dropped }))
         (λ new_one. new_one) (t.gone name is);

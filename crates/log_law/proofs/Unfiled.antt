@@ -23,7 +23,7 @@ use Rattle.segment_format.specs.declared.segment.Item.{Item}
 use Rattle.segment_format.specs.declared.segment.Segment.{Segment}
 use Rattle.xfs_base.proofs.Booleans.{by_test, contrary}
 use Rattle.xfs_base.specs.Limits.{segment_blocks}
-use Rattle.xfs_base.specs.Steps.{after, still}
+use Rattle.xfs_base.specs.Steps.{saying, still}
 use Rattle.xfs_base.specs.declared.segment.LogId.{LogId}
 use Rattle.xfs_base.specs.declared.segment.Prior.{Prior}
 use Rattle.xfs_base.specs.declared.segment.SegName.{SegName}
@@ -72,7 +72,7 @@ module _ (l : LogId) where
   settled_turns : (s : LogState) (f : FlightState) → s.dirty ≡ [] → Turned (settled s f)
   unfolding settled if_full
   settled_turns s f clear =
-      subst (λ b. Turned (after (Settled (end_from f.segment) (rows_of f.segment) ∷ []) (cond b (sealed (landed s f)) (still (landed s f)))))
+      subst (λ b. Turned (saying (Settled (end_from f.segment) (rows_of f.segment) ∷ []) (cond b (sealed (landed s f)) (still (landed s f)))))
       (sym (ap (λ xs. nat_le segment_blocks (length xs)) clear)) (inr refl)
 
   follows : (s : LogState) (f : FlightState) → s.dirty ≡ [] → (fate : Fate) → Turned (followed s f fate)

@@ -128,6 +128,6 @@ pub record View (g : Setting) (n : Net) : Type 0 where
   -- in a log of which no restart is doubtful the line is trusted
   pub calm : g.doubts ≡ false → w.clean ≡ 1
   -- the end is filed
-  pub top : (w.end ≡ 0) ⊎ In (name_of g w.end) n.filed
+  pub highest : (w.end ≡ 0) ⊎ In (name_of g w.end) n.filed
   pub dropped : (x : ℕ) → (w.dropped x ≡ 0) ⊎ In (name_of g x) n.dropped
   pub gone : (name : SegName) → In name n.dropped → DropSeen g w name

@@ -73,23 +73,23 @@ module _ (k : Below) (g : Setting) (n : Net) (h : View g n) (chain : List Segmen
   pass_is : (y : ℕ) → h.w.booked y ≡ 1 → (h.book y).name.pass ≡ (name_of g y).pass
   pass_is y booked = ap (λ (z : SegName). z.pass) (h.paged y booked).named
 
-  follows : (top y : ℕ) (ts : List Segment) → h.w.booked y ≡ 1 → Chained g h.w h.book top y ts → FollowsOn (h.book y) (ts ++ f.segment ∷ [])
-  follows top y [] booked last = (
+  follows : (highest y : ℕ) (ts : List Segment) → h.w.booked y ≡ 1 → Chained g h.w h.book highest y ts → FollowsOn (h.book y) (ts ++ f.segment ∷ [])
+  follows highest y [] booked last = (
     ap (λ (p : Prior). p.pass) next.prior
         ∙ (passes g s.end.pass s.end.seq y (some y booked) (sym (last ∙ shown.0.base)) ∙ sym (pass_is y booked)),
     tt,
   )
-  follows top y (t ∷ ts) booked c =
+  follows highest y (t ∷ ts) booked c =
       let page = h.paged c.0 c.1 in
       let link : (h.book c.0).prior.pass ≡ (h.book y).name.pass =
       passes g (h.book c.0).prior.pass ((h.book c.0).name.seq - 1) y (some y booked) (sym page.after ∙ c.3) ∙ sym (pass_is y booked) in (
         subst (λ (z : Segment). z.prior.pass ≡ (h.book y).name.pass) (sym c.2) link,
-        subst (λ (z : Segment). FollowsOn z (ts ++ f.segment ∷ [])) (sym c.2) (follows top c.0 ts c.1 c.5),
+        subst (λ (z : Segment). FollowsOn z (ts ++ f.segment ∷ [])) (sym c.2) (follows highest c.0 ts c.1 c.5),
       )
 
-  linked : (top x : ℕ) (ts : List Segment) → Chained g h.w h.book top x ts → AreLinked (ts ++ f.segment ∷ [])
-  linked top x [] c = tt
-  linked top x (t ∷ ts) c = subst (λ (z : Segment). FollowsOn z (ts ++ f.segment ∷ [])) (sym c.2) (follows top c.0 ts c.1 c.5)
+  linked : (highest x : ℕ) (ts : List Segment) → Chained g h.w h.book highest x ts → AreLinked (ts ++ f.segment ∷ [])
+  linked highest x [] c = tt
+  linked highest x (t ∷ ts) c = subst (λ (z : Segment). FollowsOn z (ts ++ f.segment ∷ [])) (sym c.2) (follows highest c.0 ts c.1 c.5)
 
   pub is_linked : AreLinked (chain ++ f.segment ∷ [])
   is_linked = linked s.end.seq shown.0.read.next chain shown.0.read.chained

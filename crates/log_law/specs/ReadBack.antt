@@ -18,8 +18,8 @@ use Rattle.log_law.specs.Restarts.{EndsRestart, IsSureRun}
 
 -- the numbers of these segments rise one by one, up to this one
 abbrev pub EndsAt : ℕ → List Segment → Type 0
-EndsAt top [] = Unit {0}
-EndsAt top (s ∷ segments) = (s.name.seq + length segments ≡ top) × EndsAt top segments
+EndsAt highest [] = Unit {0}
+EndsAt highest (s ∷ segments) = (s.name.seq + length segments ≡ highest) × EndsAt highest segments
 
 -- The chain that is told is without a gap from its end down to this horizon, which isn't beyond the least one.
 pub record ReadsDown (n : Net) (low : ℕ) (t : Told) : Type 0 where

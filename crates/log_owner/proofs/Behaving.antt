@@ -46,7 +46,7 @@ use Rattle.wire_msg.specs.declared.storage.Stored.{Stored}
 use Rattle.xfs_base.proofs.Booleans.{by_test}
 use Rattle.xfs_base.specs.declared.node.NodeId.{NodeId}
 use Rattle.xfs_base.specs.declared.segment.End.{End}
-use Rattle.xfs_base.specs.Steps.{Stepped, steps, after, still}
+use Rattle.xfs_base.specs.Steps.{Stepped, steps, saying, still}
 
 -- ---- lists of effects
 
@@ -69,7 +69,7 @@ asked_so : (owner : Owner) (q : Questions) (m : Moved) → Moves owner m → Beh
 asked_so owner q m b = record { does = b.does; stays_its = b.stays_its }
 
 -- what was sent before is what it may do too
-moves_after : (owner : Owner) (outs : List Effect) (m : Moved) → AllByRecursion (MayDo owner) outs → Moves owner m → Moves owner (after outs m)
+moves_after : (owner : Owner) (outs : List Effect) (m : Moved) → AllByRecursion (MayDo owner) outs → Moves owner m → Moves owner (saying outs m)
 moves_after owner outs m all b = record { does = all_append (MayDo owner) outs m.outs all b.does; stays_its = b.stays_its }
 
 dropped : (o : Opening) (q : Questions) → Behaves o.known.owner (drops o q)
@@ -130,7 +130,7 @@ step_so : (k : Known) (q : Questions) (s : Scanning) (r : Stepped ScanState Out)
 step_so k q s r =
     let sent : Stepped Sent Effect = scanned k.owner r.state.opening.low s.asked q r.outs in
     let next : Scanning = record { scan = r.state; asked = sent.state.asked } in
-    asked_so k.owner sent.state.questions (after sent.outs (follows k next sent.state.ended))
+    asked_so k.owner sent.state.questions (saying sent.outs (follows k next sent.state.ended))
     (moves_after k.owner sent.outs (follows k next sent.state.ended)
     (all_steps (said k.owner r.state.opening.low) (MayDo k.owner) (may_be_said k.owner r.state.opening.low)
     (record { asked = s.asked; questions = q; ended = None }) r.outs)

@@ -54,7 +54,7 @@ use Rattle.wire_msg.specs.declared.storage.Missing.{Missing}
 use Rattle.wire_msg.specs.declared.storage.Stored.{Stored}
 use Rattle.xfs_base.specs.declared.node.NodeId.{NodeId}
 use Rattle.xfs_base.specs.declared.segment.End.{End}
-use Rattle.xfs_base.specs.Steps.{Stepped, still, after, steps}
+use Rattle.xfs_base.specs.Steps.{Stepped, still, saying, steps}
 
 -- where an opening stands after an event, the questions of the node, and what the event has the node do
 pub record Went : Type 0 where
@@ -141,7 +141,7 @@ opens k s None = still (at_log k s)
 opens k s (Some end) = record { state = progress.Opened (opened k s end); outs = files k.owner.log s.chain end }
 
 abbrev pub logged : Known → Settling → Stepped LogState LogOut → Moved
-logged k s r = (let w = written r.outs in after w.outs (opens k (record s { log = r.state }) w.state))
+logged k s r = (let w = written r.outs in saying w.outs (opens k (record s { log = r.state }) w.state))
 
 -- the log takes an input
 unfoldable pub writes : Known → Settling → LogIn → Moved
@@ -174,7 +174,7 @@ follows k s (Some (Lost seg)) = record { state = progress.Lost seg; outs = Lose 
 
 -- what the scan says is sent, and then comes what is next
 abbrev pub told : Known → ScanState → Stepped Sent Effect → Went
-told k s r = asking r.state.questions (after r.outs (follows k (record { scan = s; asked = r.state.asked }) r.state.ended))
+told k s r = asking r.state.questions (saying r.outs (follows k (record { scan = s; asked = r.state.asked }) r.state.ended))
 
 abbrev pub stepped : Known → Questions → Scanning → Stepped ScanState Out → Went
 stepped k q s r = told k r.state (scanned k.owner r.state.opening.low s.asked q r.outs)

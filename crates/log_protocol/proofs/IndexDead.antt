@@ -62,7 +62,7 @@ record Beaten (w : IndexState) (l q b : ℕ) : Type 0 where
 
 counted_beaten : (w : IndexState) (e l q : ℕ) → CanCount w e l q → IndexRows w → IndexBounds w → IndexJoins w → IndexDead w → w.joined.version ≤ w.version l q
     → Beaten w l q (w.index e).seq
-counted_beaten w e l q can rows bounds joins dead top =
+counted_beaten w e l q can rows bounds joins dead highest =
     let on = dead.told_active e l q can.told in
     let j = joins.each e on in
     let some = dead.told_some e l q can.told in
@@ -201,7 +201,7 @@ new_block_index_dead cleaner = grind (arith, nat_tests)
 -- who is active no earlier than the count names the row only where a newer version is filed
 stays_not : (w : IndexState) (l q e : ℕ) → IndexJoins w → IndexDead w → 0 < w.dead_at l q → w.dead_at l q ≤ e → w.active e ≡ 1 → (w.index e).log ≡ l
     → (w.index e).seq ≡ q → w.joined.version ≤ w.version l q → ⊥
-stays_not w l q e joins dead counted from on same_l same_q top = go (eq-or-lt_of_le from)
+stays_not w l q e joins dead counted from on same_l same_q highest = go (eq-or-lt_of_le from)
   where
     told : w.told (w.dead_at l q) l q ≡ 1
     told = dead.dead_told l q counted
@@ -209,10 +209,10 @@ stays_not w l q e joins dead counted from on same_l same_q top = go (eq-or-lt_of
     go : (w.dead_at l q ≡ e) ⊎ (w.dead_at l q < e) → ⊥
     go (inl s) = dead.told_elsewhere e l q (ap (λ z. w.told z l q) (sym s) ∙ told) same_l same_q
     go (inr before) =
-        let a = dead.beater_polled l q e counted top before (dead.active_promised e on) in
+        let a = dead.beater_polled l q e counted highest before (dead.active_promised e on) in
         let b = dead.active_reported e on in
         not_named w (w.applied e) (w.index e) l q w.cleaner (w.beater l q) (joins.each e on) (omega arith) (dead.told_some (w.dead_at l q) l q told)
-        (dead.beater_version l q counted top) (dead.beater_hop l q counted top) (dead.beater_seq l q counted top) same_l same_q
+        (dead.beater_version l q counted highest) (dead.beater_hop l q counted highest) (dead.beater_seq l q counted highest) same_l same_q
 
 pub stays : (w : IndexState) (l q e : ℕ) → IndexJoins w → IndexDead w → 0 < w.dead_at l q → w.dead_at l q ≤ e → w.active e ≡ 1 → (w.index e).log ≡ l
     → (w.index e).seq ≡ q → w.version l q < w.joined.version

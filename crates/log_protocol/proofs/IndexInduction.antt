@@ -49,11 +49,11 @@ index_is_join_always w run = let i = index_always w run in record { all = i.rows
 pub cleaning_loses_nothing_always : (w : IndexState) → IndexReached w → CleaningLosesNothing w
 cleaning_loses_nothing_always w run l q dropped some same_log same_seq =
     let i = index_always w run in
-    let top = i.rows.joined in
+    let highest = i.rows.joined in
     let dead = i.beaten.dead_beaten l q (i.beaten.dropped_dead l q dropped) in
     let a = i.beaten.below_version l q dead in
-    let r = top.its_version (omega arith) in
-    let s = top.its_hop (omega arith) in
+    let r = highest.its_version (omega arith) in
+    let s = highest.its_hop (omega arith) in
     let f : w.version w.joined.log w.joined.seq ≡ w.version l q = ap (λ z. w.version z w.joined.seq) same_log ∙ ap (w.version l) same_seq in
     let g : w.hop w.joined.log w.joined.seq ≡ w.hop l q = ap (λ z. w.hop z w.joined.seq) same_log ∙ ap (w.hop l) same_seq in
     let z = i.beaten.below_seq l q dead some (omega arith) (omega arith) in

@@ -29,7 +29,7 @@ one_text_always w reached = let t = (always w reached).shelf.texts in record { h
 pub one_line_always : (w : State) → Reached w → w.clean ≡ 1 → OneLine w
 one_line_always w reached clean = let i = always w reached in let l = i.line clean in record {
   no_two = λ x y fx fy e. sym (l.filed_line x fx) ∙ (ap w.line e ∙ l.filed_line y fy);
-  no_gap = λ q some top. (w.line q, l.line_filed q some top, l.line_seq q some top);
+  no_gap = λ q some highest. (w.line q, l.line_filed q some highest, l.line_seq q some highest);
   linked = λ x y fx fy e above. let b = i.shelf.horizons.line_past in let c = l.filed_head x fx in
       let d = l.line_prior (w.seq_of y) (omega arith) (omega arith) in
       ap w.prior_of (sym (ap w.line e ∙ l.filed_line x fx)) ∙ (d ∙ l.filed_line y fy);
@@ -56,6 +56,6 @@ adopts_one_always w reached clean path lowest q writing read beyond below some =
 pub feed_whole_always : (w : State) → Reached w → w.clean ≡ 1 → w.phase ≡ 4 → FeedWhole w
 feed_whole_always w reached clean serving = let i = always w reached in let l = i.line clean in record {
   covered = i.shelf.horizons.feed_covered serving;
-  filed = λ q above top. let e = l.feed_line q serving above top in
-      (subst (λ x. w.filed x ≡ 1) (sym e) (l.line_filed q (omega arith) top), ap w.seq_of e ∙ l.line_seq q (omega arith) top);
+  filed = λ q above highest. let e = l.feed_line q serving above highest in
+      (subst (λ x. w.filed x ≡ 1) (sym e) (l.line_filed q (omega arith) highest), ap w.seq_of e ∙ l.line_seq q (omega arith) highest);
 }

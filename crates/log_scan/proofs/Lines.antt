@@ -48,11 +48,11 @@ linked_more log e [] s linked name some = (name, some, tt)
 linked_more log e (t ∷ ss) s linked name some = (linked.0, linked.1, linked_more log (end_below t) ss s linked.2 name some)
 
 -- no segment has a number above the end's
-none_above : (log : LogId) (top : ℕ) (e : End) (ss : List Segment) → e.seq ≤ top → AreLinked log e ss → AllByRecursion (λ s. s.name.seq ≤ top) ss
-none_above log top e [] le linked = tt
-none_above log top e (s ∷ ss) le linked =
+none_above : (log : LogId) (highest : ℕ) (e : End) (ss : List Segment) → e.seq ≤ highest → AreLinked log e ss → AllByRecursion (λ s. s.name.seq ≤ highest) ss
+none_above log highest e [] le linked = tt
+none_above log highest e (s ∷ ss) le linked =
     let number : s.name.seq ≡ e.seq = ap (λ (n : SegName). n.seq) linked.0 in
-    (omega (arith, number, le), none_above log top (end_below s) ss (omega (arith, number, le)) linked.2)
+    (omega (arith, number, le), none_above log highest (end_below s) ss (omega (arith, number, le)) linked.2)
 
 all_append : {X : Type 0} (P : X → Type 0) (xs ys : List X) → AllByRecursion P xs → AllByRecursion P ys → AllByRecursion P (xs ++ ys)
 all_append P [] ys all more = more

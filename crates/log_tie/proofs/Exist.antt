@@ -142,13 +142,13 @@ whole log seq =
     nought k below = omega arith
 
 past : (v : ℕ) → present_at the_map v ≤ 1
-past v = either (has_server the_map v) (slice_index (1 ∷ 1 ∷ 1 ∷ []) (v - 1)) (most (v - 1))
+past v = either (has_server the_map v) (slice_index (1 ∷ 1 ∷ 1 ∷ []) (v - 1)) (limit (v - 1))
   where
-    most : (k : ℕ) → slice_index (1 ∷ 1 ∷ 1 ∷ []) k ≤ 1
-    most zero = omega arith
-    most (suc zero) = omega arith
-    most (suc (suc zero)) = omega arith
-    most (suc (suc (suc k))) = omega arith
+    limit : (k : ℕ) → slice_index (1 ∷ 1 ∷ 1 ∷ []) k ≤ 1
+    limit zero = omega arith
+    limit (suc zero) = omega arith
+    limit (suc (suc zero)) = omega arith
+    limit (suc (suc (suc k))) = omega arith
 
     either : (t : Bool) (n : ℕ) → n ≤ 1 → cond t n 0 ≤ 1
     either true n h = h
@@ -163,7 +163,7 @@ only id g is = by (1 == id) is
     by false e = contrary (ap is_some e)
 
 three : IsCut 3 1
-three = record { some = omega arith; few = omega arith; least = omega arith; most = omega arith }
+three = record { some = omega arith; few = omega arith; least = omega arith; limit = omega arith }
 
 pub whole_map : WholeMap setting (λ v. 1) the_map
 whole_map = record {

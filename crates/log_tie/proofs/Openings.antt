@@ -4,7 +4,7 @@ use Rattle.std.proofs.lemmas.Bool.Decides.{nat_tests}
 use Rattle.xfs_base.specs.declared.segment.End.{End}
 use Rattle.xfs_base.specs.declared.segment.SegName.{SegName}
 use Rattle.xfs_base.specs.Limits.{segment_blocks}
-use Rattle.xfs_base.specs.Steps.{still, after}
+use Rattle.xfs_base.specs.Steps.{still, saying}
 use Rattle.xfs_base.proofs.Booleans.{contrary, and_first, by_test as pick}
 use Rattle.segment_format.specs.declared.segment.Segment.{Segment}
 use Rattle.segment_format.specs.Rows.{rows_of}
@@ -68,38 +68,38 @@ path_read w lowest picked cut = record {
     deeper q below = omega arith
 
 module _ (g : Setting) where
-  pub back_chained : (w : State) (book : ℕ → Segment) (top x : ℕ) (ts : List Segment) → Chained g w book top x ts → x ≡ back w (length ts)
-  back_chained w book top x [] h = h
-  back_chained w book top x (t ∷ ts) h = sym h.3 ∙ ap w.prior_of (back_chained w book top h.0 ts h.5)
+  pub back_chained : (w : State) (book : ℕ → Segment) (highest x : ℕ) (ts : List Segment) → Chained g w book highest x ts → x ≡ back w (length ts)
+  back_chained w book highest x [] h = h
+  back_chained w book highest x (t ∷ ts) h = sym h.3 ∙ ap w.prior_of (back_chained w book highest h.0 ts h.5)
 
   -- what is booked stays so, with its segment
   abbrev Grown : State → State → (ℕ → Segment) → (ℕ → Segment) → Type 0
   Grown w v book later = (x : ℕ) → w.booked x ≡ 1 → (v.booked x ≡ 1) × (later x ≡ book x)
 
   -- a chain stands while the book grows and the base stays
-  chained_on : (w v : State) (book later : ℕ → Segment) (top x : ℕ) (ts : List Segment) → Grown w v book later → Book g w book → Book g v later
-      → v.base ≡ w.base → Chained g w book top x ts → Chained g v later top x ts
-  chained_on w v book later top x [] by pages more base h = h ∙ sym base
-  chained_on w v book later top x (t ∷ ts) by pages more base h = (
+  chained_on : (w v : State) (book later : ℕ → Segment) (highest x : ℕ) (ts : List Segment) → Grown w v book later → Book g w book → Book g v later
+      → v.base ≡ w.base → Chained g w book highest x ts → Chained g v later highest x ts
+  chained_on w v book later highest x [] by pages more base h = h ∙ sym base
+  chained_on w v book later highest x (t ∷ ts) by pages more base h = (
     h.0,
     (by h.0 h.1).0,
     h.2 ∙ sym (by h.0 h.1).1,
     (more h.0 (by h.0 h.1).0).after ∙ (ap (λ (z : Segment). point g (z.name.seq - 1) z.prior.pass) (by h.0 h.1).1 ∙ (sym (pages h.0 h.1).after ∙ h.3)),
     h.4,
-    chained_on w v book later top h.0 ts by pages more base h.5,
+    chained_on w v book later highest h.0 ts by pages more base h.5,
   )
 
-  shown_on : (w v : State) (book later : ℕ → Segment) (top : ℕ) (ts : List Segment) → Grown w v book later → Book g w book → Book g v later → v.base ≡ w.base
+  shown_on : (w v : State) (book later : ℕ → Segment) (highest : ℕ) (ts : List Segment) → Grown w v book later → Book g w book → Book g v later → v.base ≡ w.base
       → v.opening_seq ≡ w.opening_seq → v.pick_low ≡ w.pick_low → v.read_low ≡ w.read_low
-      → ChainShown g w book top ts → ChainShown g v later top ts
-  shown_on w v book later top ts by pages more base opening low read c = record {
+      → ChainShown g w book highest ts → ChainShown g v later highest ts
+  shown_on w v book later highest ts by pages more base opening low read c = record {
     opening = opening ∙ c.opening;
     lowest = c.lowest;
     picked = let p = c.picked in omega arith;
     cut = let k = c.cut in omega arith;
     from = c.from;
     next = c.next;
-    chained = chained_on w v book later top c.next ts by pages more base c.chained;
+    chained = chained_on w v book later highest c.next ts by pages more base c.chained;
     bottom = ⊎_elim inl (λ b. inr (let e = read in omega arith)) c.bottom;
   }
 
@@ -124,11 +124,11 @@ module _ (g : Setting) where
       by false false false t a b c = contrary b
       by false false true false a b c = contrary c
 
-  chain_filed : (w : State) (book : ℕ → Segment) (fixed : Fixed g w) (paged : Book g w book) (lowest sure top x : ℕ) (ts : List Segment)
-      → w.opening_seq ≡ top + 1 → AllFrom lowest ts → Chained g w book top x ts → AllFiled g (serves w (path w) lowest sure) ts
-  chain_filed w book fixed paged lowest sure top x [] opening from h = tt
-  chain_filed w book fixed paged lowest sure top x (t ∷ ts) opening from h =
-      ((h.0, named, serves_files w lowest sure h.0 above below there), chain_filed w book fixed paged lowest sure top h.0 ts opening from.1 h.5)
+  chain_filed : (w : State) (book : ℕ → Segment) (fixed : Fixed g w) (paged : Book g w book) (lowest sure highest x : ℕ) (ts : List Segment)
+      → w.opening_seq ≡ highest + 1 → AllFrom lowest ts → Chained g w book highest x ts → AllFiled g (serves w (path w) lowest sure) ts
+  chain_filed w book fixed paged lowest sure highest x [] opening from h = tt
+  chain_filed w book fixed paged lowest sure highest x (t ∷ ts) opening from h =
+      ((h.0, named, serves_files w lowest sure h.0 above below there), chain_filed w book fixed paged lowest sure highest h.0 ts opening from.1 h.5)
     where
       named : t.name ≡ name_of g h.0
       named = ap (λ (z : Segment). z.name) h.2 ∙ (paged h.0 h.1).named
@@ -143,7 +143,7 @@ module _ (g : Setting) where
       depth = let a = h.4 in let b : w.seq_of h.0 ≡ g.seq_of h.0 = ap (λ k. k h.0) fixed.seq_of in omega arith
 
       there : path w (w.seq_of h.0) ≡ h.0
-      there = ap (back w) depth ∙ sym (back_chained w book top h.0 ts h.5)
+      there = ap (back w) depth ∙ sym (back_chained w book highest h.0 ts h.5)
 
       below : w.seq_of h.0 < w.opening_seq
       below = let a = h.4 in let b : w.seq_of h.0 ≡ g.seq_of h.0 = ap (λ k. k h.0) fixed.seq_of in omega arith
@@ -387,8 +387,8 @@ module _ (g : Setting) (chain : List Segment) where
         lands = ap (λ ds. cond (nat_le segment_blocks (length ds)) (log.sealed (log.landed s f)) (still (log.landed s f))) h.clear
 
         settling : Goes g w book (λ v later. Serves g v later (log.landed s f) × AllFiled g v chain) (Settled (end_from f.segment) (rows_of f.segment) ∷ [])
-            → To w book (after (Settled (end_from f.segment) (rows_of f.segment) ∷ []) (log.if_full (log.landed s f)))
-        settling t = subst (λ (d : log.Done). To w book (after (Settled (end_from f.segment) (rows_of f.segment) ∷ []) d)) (sym lands)
+            → To w book (saying (Settled (end_from f.segment) (rows_of f.segment) ∷ []) (log.if_full (log.landed s f)))
+        settling t = subst (λ (d : log.Done). To w book (saying (Settled (end_from f.segment) (rows_of f.segment) ∷ []) d)) (sym lands)
             (record {
               world = t.world;
               later = t.later;
@@ -407,10 +407,10 @@ module _ (g : Setting) (chain : List Segment) where
     looks_goes before s f was h flying =
         by_test (log.can_follow s f (fate_of s.groups f)) _ _ (λ t. follows_goes s f h flying) (λ t premise. nothing before was)
 
-    chained_same : (stores : List StorePacket) (top x : ℕ) (ts : List Segment) → Chained g w book top x ts
-        → Chained g (record w { stores = stores }) book top x ts
-    chained_same stores top x [] c = c
-    chained_same stores top x (t ∷ ts) c = (c.0, c.1, c.2, c.3, c.4, chained_same stores top c.0 ts c.5)
+    chained_same : (stores : List StorePacket) (highest x : ℕ) (ts : List Segment) → Chained g w book highest x ts
+        → Chained g (record w { stores = stores }) book highest x ts
+    chained_same stores highest x [] c = c
+    chained_same stores highest x (t ∷ ts) c = (c.0, c.1, c.2, c.3, c.4, chained_same stores highest c.0 ts c.5)
 
     tick_goes : (s : LogState) → WritingShown g w book chain s → To w book (log.on_tick s)
     unfolding log.on_tick

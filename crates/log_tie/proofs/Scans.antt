@@ -139,9 +139,9 @@ module _ (g : Setting) (w : State) (book : ℕ → Segment) (hellos : List Asked
         → Gathering g learned book (record o { groups = Some m }) bound ls
     gathering_there o bound ls k = record { phase = k.phase; phantom = phantom_there k.phantom; mapped = mapped_there; kept = kept_there bound ls k.kept }
 
-    chained_there : (top x : ℕ) (ts : List Segment) → Chained g w book top x ts → Chained g learned book top x ts
-    chained_there top x [] h = h
-    chained_there top x (t ∷ ts) h = (h.0, h.1, h.2, h.3, h.4, chained_there top h.0 ts h.5)
+    chained_there : (highest x : ℕ) (ts : List Segment) → Chained g w book highest x ts → Chained g learned book highest x ts
+    chained_there highest x [] h = h
+    chained_there highest x (t ∷ ts) h = (h.0, h.1, h.2, h.3, h.4, chained_there highest h.0 ts h.5)
 
     reading_there : (o : Opening) (b : Backward) → ReadingShown g w book o b → ReadingShown g learned book (record o { groups = Some m }) b
     reading_there o b h =
@@ -213,9 +213,9 @@ module _ (g : Setting) (w : State) (book : ℕ → Segment) (hellos : List Asked
           grouped = h.grouped;
         }
           where
-            chained_cut : (top x : ℕ) (ts : List Segment) → Chained g w book top x ts → Chained g cut book top x ts
-            chained_cut top x [] h = h
-            chained_cut top x (t ∷ ts) h = (h.0, h.1, h.2, h.3, h.4, chained_cut top h.0 ts h.5)
+            chained_cut : (highest x : ℕ) (ts : List Segment) → Chained g w book highest x ts → Chained g cut book highest x ts
+            chained_cut highest x [] h = h
+            chained_cut highest x (t ∷ ts) h = (h.0, h.1, h.2, h.3, h.4, chained_cut highest h.0 ts h.5)
 
         cut_framed : Framed g cut book hellos risen
         cut_framed = record { log = f.log; inc = f.inc; horizon = risen_known; asked = f.asked }
@@ -450,7 +450,7 @@ module _ (g : Setting) (w : State) (book : ℕ → Segment) (hellos : List Asked
       }
 
       every_one : length (awaited o.groups longer) ≡ 0 → (u : ℕ) → 0 < u → u < suc g.servers → has_list u longer ≡ true
-      every_one none u some top =
+      every_one none u some highest =
           listed_then (nat_le 1 u) (nat_le u (server_count o.groups)) (has_list u longer) (test_le 1 u (omega arith))
           (test_le u (server_count o.groups) (let b = count in omega arith))
           (none_filtered (awaits o.groups longer) (range_with_len 1 (server_count o.groups)) u none

@@ -3,7 +3,7 @@ use Rattle.std.proofs.Common.{◌≡◌, ℕ, zero, suc, ◌⊎◌, Bool, true, 
 use Rattle.std.specs.Prelude.{slice_set}
 use Rattle.std.proofs.lemmas.Bool.Decides.{nat_tests}
 use Rattle.xfs_base.specs.declared.segment.SegName.{SegName}
-use Rattle.xfs_base.specs.Steps.{still, after}
+use Rattle.xfs_base.specs.Steps.{still, saying}
 use Rattle.segment_format.specs.declared.segment.Item.{Item}
 use Rattle.segment_format.specs.declared.segment.Segment.{Segment}
 use Rattle.log_protocol.specs.State.{State, new_log, Names}
@@ -196,7 +196,7 @@ module _ (g : Setting) where
             t.shows.flight in absurd (omega arith)
 
         settling : Goes g w book (ServesAs after_it) (Settled (end_from f.segment) (rows_of f.segment) ∷ [])
-            → To w book (after (Settled (end_from f.segment) (rows_of f.segment) ∷ []) (log.if_full after_it))
+            → To w book (saying (Settled (end_from f.segment) (rows_of f.segment) ∷ []) (log.if_full after_it))
         settling t = goes_through g (ServesAs (log.if_full after_it).state) (ServesAs after_it) w book _ _ t
             (λ x is. ⊎_elim (λ old. old) (λ e. nothing_flies t x is e) (t.fresh x is))
             (full_goes t.world t.later (fixed_by g w t.world fixed t.frame.others) t.paged

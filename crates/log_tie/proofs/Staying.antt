@@ -69,9 +69,9 @@ module _ (g : Setting) (w u : State) (book : ℕ → Segment) (hellos : List Ask
   gathering_stays o bound more ls up k =
       record { phase = phase_same 1 k.phase; phantom = phantom_stays k.phantom; mapped = mapped_stays o k.mapped; kept = kept_stays bound more ls up k.kept }
 
-  chained_stays : (top x : ℕ) (ts : List Segment) → Chained g w book top x ts → Chained g u book top x ts
-  chained_stays top x [] h = same (λ o. x ≡ o.base) h
-  chained_stays top x (t ∷ ts) h = (h.0, same (λ o. o.booked h.0 ≡ 1) h.1, h.2, same (λ o. o.prior_of h.0 ≡ x) h.3, h.4, chained_stays top h.0 ts h.5)
+  chained_stays : (highest x : ℕ) (ts : List Segment) → Chained g w book highest x ts → Chained g u book highest x ts
+  chained_stays highest x [] h = same (λ o. x ≡ o.base) h
+  chained_stays highest x (t ∷ ts) h = (h.0, same (λ o. o.booked h.0 ≡ 1) h.1, h.2, same (λ o. o.prior_of h.0 ≡ x) h.3, h.4, chained_stays highest h.0 ts h.5)
 
   reading_stays : (o : Opening) (b : Backward) → ReadingShown g w book o b → ReadingShown g u book o b
   reading_stays o b h = record {

@@ -18,8 +18,8 @@ use Rattle.log_tie.specs.Rounds.{IsGrouped}
 
 -- What was read back, the lowest first, as links down from the base: x is the name before them.
 abbrev pub Chained : Setting → State → (ℕ → Segment) → ℕ → ℕ → List Segment → Type 0
-Chained g w book top x [] = x ≡ w.base
-Chained g w book top x (t ∷ ts) = (y : ℕ) × (w.booked y ≡ 1) × (t ≡ book y) × (w.prior_of y ≡ x) × (g.seq_of y + length ts ≡ top) × Chained g w book top y ts
+Chained g w book highest x [] = x ≡ w.base
+Chained g w book highest x (t ∷ ts) = (y : ℕ) × (w.booked y ≡ 1) × (t ≡ book y) × (w.prior_of y ≡ x) × (g.seq_of y + length ts ≡ highest) × Chained g w book highest y ts
 
 -- none is below this number
 abbrev pub AllFrom : ℕ → List Segment → Type 0
@@ -27,16 +27,16 @@ AllFrom lowest [] = Unit {0}
 AllFrom lowest (t ∷ ts) = (lowest ≤ t.name.seq) × AllFrom lowest ts
 
 -- A chain that stands on the base, read from a number that the pick allowed and at least down to the horizon that was taken last.
-pub record ChainShown (g : Setting) (w : State) (book : ℕ → Segment) (top : ℕ) (chain : List Segment) : Type 0 where
-  pub opening : w.opening_seq ≡ top + 1
+pub record ChainShown (g : Setting) (w : State) (book : ℕ → Segment) (highest : ℕ) (chain : List Segment) : Type 0 where
+  pub opening : w.opening_seq ≡ highest + 1
   pub lowest : ℕ
   pub picked : w.pick_low ≤ lowest
   pub cut : lowest ≤ w.read_low
   pub from : AllFrom lowest chain
   pub next : ℕ
-  pub chained : Chained g w book top next chain
+  pub chained : Chained g w book highest next chain
   -- it ends where no segment is named, or below the horizon that was taken last
-  pub bottom : (next ≡ 0) ⊎ (top < w.read_low + length chain)
+  pub bottom : (next ≡ 0) ⊎ (highest < w.read_low + length chain)
 
 -- all is read back, and the owner has this map
 pub record ReadShown (g : Setting) (w : State) (book : ℕ → Segment) (start : End) (chain : List Segment) (groups : GroupMapState) : Type 0 where

@@ -33,12 +33,12 @@ use Rattle.log_scan.specs.Transition.{Done, goes, stays}
 
 -- no question to the registry has a number above this one
 abbrev pub AllAskedBy : ℕ → List Out → Type 0
-AllAskedBy top [] = Unit {0}
-AllAskedBy top (Hello ask ∷ outs) = (ask ≤ top) × AllAskedBy top outs
-AllAskedBy top (Fence server ∷ outs) = AllAskedBy top outs
-AllAskedBy top (Fetch server name ask ∷ outs) = AllAskedBy top outs
-AllAskedBy top (Chain segments end prior ∷ outs) = AllAskedBy top outs
-AllAskedBy top (Lost name ∷ outs) = AllAskedBy top outs
+AllAskedBy highest [] = Unit {0}
+AllAskedBy highest (Hello ask ∷ outs) = (ask ≤ highest) × AllAskedBy highest outs
+AllAskedBy highest (Fence server ∷ outs) = AllAskedBy highest outs
+AllAskedBy highest (Fetch server name ask ∷ outs) = AllAskedBy highest outs
+AllAskedBy highest (Chain segments end prior ∷ outs) = AllAskedBy highest outs
+AllAskedBy highest (Lost name ∷ outs) = AllAskedBy highest outs
 
 pub record Follows (o : Opening) (d : Done) : Type 0 where
   pub ask : o.ask ≤ d.state.opening.ask
@@ -46,13 +46,13 @@ pub record Follows (o : Opening) (d : Done) : Type 0 where
   pub groups : d.state.opening.groups ≡ o.groups
   pub asked : AllAskedBy d.state.opening.ask d.outs
 
-asked_fetches : (top ask : ℕ) (name : SegName) (servers : List ℕ) → AllAskedBy top (map (λ server. Fetch server name ask) servers)
-asked_fetches top ask name [] = tt
-asked_fetches top ask name (s ∷ ss) = asked_fetches top ask name ss
+asked_fetches : (highest ask : ℕ) (name : SegName) (servers : List ℕ) → AllAskedBy highest (map (λ server. Fetch server name ask) servers)
+asked_fetches highest ask name [] = tt
+asked_fetches highest ask name (s ∷ ss) = asked_fetches highest ask name ss
 
-asked_fences : (top : ℕ) (servers : List ℕ) → AllAskedBy top (map (λ server. Fence server) servers)
-asked_fences top [] = tt
-asked_fences top (s ∷ ss) = asked_fences top ss
+asked_fences : (highest : ℕ) (servers : List ℕ) → AllAskedBy highest (map (λ server. Fence server) servers)
+asked_fences highest [] = tt
+asked_fences highest (s ∷ ss) = asked_fences highest ss
 
 stays_so : (o : Opening) (stage : Stage) → Follows o (stays o stage)
 stays_so o stage = record { ask = omega arith; log = refl; groups = refl; asked = tt }

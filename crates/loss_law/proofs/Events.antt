@@ -44,14 +44,14 @@ log_says g n o (log_out.Send f m ∷ outs) more all = (tt, log_says g n o outs m
 log_says g n o (log_out.Settled end rows ∷ outs) more all = log_says g n o outs more all
 
 -- the questions of a scan, whoever the owner is then
-scan_says : (g : Setting) (n o : Net) (inc top : ℕ) (outs : List scan_outs.Out) → inc ≤ o.inc → ((ask : ℕ) → ask ≤ top → AskedBy ask o.owner)
-    → AllAskedBy top outs → AllSayNew g n o (scan_packets inc outs)
-scan_says g n o inc top [] i by all = tt
-scan_says g n o inc top (scan_out.Hello ask ∷ outs) i by all = ((i, λ e. by ask all.0), scan_says g n o inc top outs i by all.1)
-scan_says g n o inc top (scan_out.Fence server ∷ outs) i by all = (tt, scan_says g n o inc top outs i by all)
-scan_says g n o inc top (scan_out.Fetch server name ask ∷ outs) i by all = scan_says g n o inc top outs i by all
-scan_says g n o inc top (scan_out.Chain segments end prior ∷ outs) i by all = scan_says g n o inc top outs i by all
-scan_says g n o inc top (scan_out.Lost name ∷ outs) i by all = scan_says g n o inc top outs i by all
+scan_says : (g : Setting) (n o : Net) (inc highest : ℕ) (outs : List scan_outs.Out) → inc ≤ o.inc → ((ask : ℕ) → ask ≤ highest → AskedBy ask o.owner)
+    → AllAskedBy highest outs → AllSayNew g n o (scan_packets inc outs)
+scan_says g n o inc highest [] i by all = tt
+scan_says g n o inc highest (scan_out.Hello ask ∷ outs) i by all = ((i, λ e. by ask all.0), scan_says g n o inc highest outs i by all.1)
+scan_says g n o inc highest (scan_out.Fence server ∷ outs) i by all = (tt, scan_says g n o inc highest outs i by all)
+scan_says g n o inc highest (scan_out.Fetch server name ask ∷ outs) i by all = scan_says g n o inc highest outs i by all
+scan_says g n o inc highest (scan_out.Chain segments end prior ∷ outs) i by all = scan_says g n o inc highest outs i by all
+scan_says g n o inc highest (scan_out.Lost name ∷ outs) i by all = scan_says g n o inc highest outs i by all
 
 fragment_says : (g : Setting) (n o : Net) (found : Option Fragment) → AllSayNew g n o (fragment_told found)
 fragment_says g n o None = tt

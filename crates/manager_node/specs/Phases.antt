@@ -15,7 +15,7 @@ use Rattle.version_model.specs.declared.answer.Answer.{Answer}
 use Rattle.version_model.specs.declared.answer.Answer.TheVariants as answer
 use Rattle.version_model.specs.declared.work.Work.{Work}
 use Rattle.version_model.specs.declared.work.Work.TheVariants as work
-use Rattle.xfs_base.specs.Steps.{Stepped, still, after}
+use Rattle.xfs_base.specs.Steps.{Stepped, still, saying}
 use Rattle.manager_node.specs.declared.beginning.Wish.{Wish}
 use Rattle.manager_node.specs.declared.beginning.Wish.TheVariants.{Crash, Restart, Checkpoint}
 use Rattle.manager_node.specs.declared.phase.Phase.{Phase}

@@ -24,6 +24,6 @@ live_in-most seg (r ∷ rs) =
 
 pub has_few : (index : List (BlockId × Entry)) (applied : List ℕ) → MayStart index applied → (seg : SegName) → live_in seg index < 2 ^ 32
 has_few index applied may seg =
-    let most : live_in seg index ≤ length index = live_in-most seg index in
+    let limit : live_in seg index ≤ length index = live_in-most seg index in
     let few : length index ≤ u32_end = may.few in
     omega arith

@@ -31,7 +31,7 @@ use Rattle.wire_msg.specs.declared.storage.Stored.{Stored}
 use Rattle.xfs_base.specs.declared.node.NodeId.TheVariants.{Registry}
 use Rattle.xfs_base.specs.declared.segment.End.{End}
 use Rattle.xfs_base.specs.declared.segment.SegRef.{SegRef}
-use Rattle.xfs_base.specs.Steps.{Stepped, still, after, steps}
+use Rattle.xfs_base.specs.Steps.{Stepped, still, saying, steps}
 use Rattle.manager_serving.specs.declared.checkpointing.Checkpointing.{Checkpointing}
 use Rattle.manager_serving.specs.declared.serving.Serving.{Serving}
 
@@ -94,7 +94,7 @@ filed s end = Does (Filed (name_of (log_of s.lasting.number) end)) ∷ []
 
 -- a segment of a checkpoint is settled
 unfoldable pub on_settled : Serving → End → Done
-on_settled s end = after (filed s end) (writer_takes s (input.Settled end))
+on_settled s end = saying (filed s end) (writer_takes s (input.Settled end))
 
 unfoldable pub log_says : Serving → LogOut → Done
 log_says s (log_out.Send fragment member) = gives s (store fragment member ∷ [])

@@ -36,7 +36,7 @@ use Rattle.xfs_base.specs.declared.node.NodeId.{NodeId}
 use Rattle.xfs_base.specs.declared.node.NodeId.TheVariants.{Client, Manager, Server, Cleaner, Registry}
 use Rattle.xfs_base.specs.declared.segment.End.{End}
 use Rattle.xfs_base.specs.declared.segment.LogId.{LogId}
-use Rattle.xfs_base.specs.Steps.{Stepped, still, after}
+use Rattle.xfs_base.specs.Steps.{Stepped, still, saying}
 use Rattle.manager_serving.specs.Checkpoints.{Done, gives, writes, on_stored, on_ckpt_ack, tells_again}
 use Rattle.manager_serving.specs.declared.serving.Serving.{Serving}
 
@@ -75,7 +75,7 @@ serving_room s =
 
 -- what is done after this
 abbrev pub and_then : Done → (Serving → Done) → Done
-and_then d f = after d.outs (f d.state)
+and_then d f = saying d.outs (f d.state)
 
 abbrev pub with_slots : Serving → table.Done → Done
 with_slots s d = record { state = record s { slots = d.state }; outs = d.outs }

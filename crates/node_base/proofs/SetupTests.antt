@@ -12,8 +12,8 @@ use Rattle.group_map.specs.Sizes.{IsParity, is_group_size}
 use Rattle.group_map.specs.WellFormed.{IsServer}
 use Rattle.node_base.specs.Setups.{IsSetup, is_within, are_distinct, is_group, has_nodes, has_groups, is_setup}
 
-within : (least most n : ℕ) → is_within least most n ≡ true → (least ≤ n) × (n ≤ most)
-within least most n h = (leb-true least n (and_first _ _ h), leb-true n most (and_second _ _ h))
+within : (least limit n : ℕ) → is_within least limit n ≡ true → (least ≤ n) × (n ≤ limit)
+within least limit n h = (leb-true least n (and_first _ _ h), leb-true n limit (and_second _ _ h))
 
 -- neither of two holds where one or the other does not
 first_fails : (a b : Bool) → (a || b) ≡ false → a ≡ false

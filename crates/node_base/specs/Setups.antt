@@ -22,7 +22,7 @@ pub record IsSetup (setup : Setup) : Type 0 where
 -- ---- the same as a test
 
 abbrev pub is_within : ℕ → ℕ → ℕ → Bool
-is_within least most n = nat_le least n && nat_le n most
+is_within least limit n = nat_le least n && nat_le n limit
 
 abbrev pub are_distinct : List ℕ → Bool
 are_distinct [] = true

@@ -78,10 +78,10 @@ fn is_sized(parity: u8, size: usize) -> bool
     is_within(1, 2, usize::from(parity)) && usize::from(parity) + 2 <= size && size <= 8
 }
 
-fn is_within(least: usize, most: usize, number: usize) -> bool
-    ensures { result ≡ is_within least most number }
+fn is_within(least: usize, limit: usize, number: usize) -> bool
+    ensures { result ≡ is_within least limit number }
 {
-    least <= number && number <= most
+    least <= number && number <= limit
 }
 
 fn are_distinct(numbers: &[u8]) -> bool

@@ -11,8 +11,8 @@ pub(crate) const LANES: usize = 32;
 fn doubled_lanes(of: u8x32) -> u8x32
     ensures { result ≡ map doubled of }
 {
-    let top = of & u8x32::splat(128);
-    let leaves = top.simd_eq(u8x32::splat(128));
+    let highest = of & u8x32::splat(128);
+    let leaves = highest.simd_eq(u8x32::splat(128));
     (of + of) ^ leaves.select(u8x32::splat(0x1D), u8x32::splat(0))
 }
 

@@ -1,4 +1,4 @@
-pub mod Ranks
+pub mod Progress
 pub mod Deletes
 pub mod Nodes
 pub mod Spans

@@ -37,24 +37,24 @@ pub repeat_step : (text piece whole : List ℕ) (count i : ℕ) → i < count �
 repeat_step text piece whole count i l e =
     append_assoc text piece (repeat (count - (i + 1)) piece) ∙ ap (λ x. text ++ x) (sym (repeat_more count i piece l)) ∙ e
 
-pub repeat_over : (text piece whole : List ℕ) (count i most : ℕ) → i < count → text ++ repeat (count - i) piece ≡ whole → most < length text + length piece
-    → within most whole ≡ Err TooLong
-repeat_over text piece whole count i most l e m =
+pub repeat_over : (text piece whole : List ℕ) (count i limit : ℕ) → i < count → text ++ repeat (count - i) piece ≡ whole → limit < length text + length piece
+    → within limit whole ≡ Err TooLong
+repeat_over text piece whole count i limit l e m =
     let f : whole ≡ (text ++ piece) ++ repeat (count - (i + 1)) piece = sym (repeat_step text piece whole count i l e) in
     let g : length whole ≡ (length text + length piece) + length (repeat (count - (i + 1)) piece) =
     ap length f ∙ length-append (text ++ piece) (repeat (count - (i + 1)) piece)
     ∙ ap (λ x. x + length (repeat (count - (i + 1)) piece)) (length-append text piece) in
-    long (length whole) most (omega (arith, g, m))
+    long (length whole) limit (omega (arith, g, m))
   where
-    long : (n most : ℕ) → most < n → (if nat_le n most then good whole else bad TooLong) ≡ Err TooLong
-    long n most h = let t : nat_le n most ≡ false = grind (arith, nat_tests, h) in rw t refl
+    long : (n limit : ℕ) → limit < n → (if nat_le n limit then good whole else bad TooLong) ≡ Err TooLong
+    long n limit h = let t : nat_le n limit ≡ false = grind (arith, nat_tests, h) in rw t refl
 
-pub repeat_done : (text piece whole : List ℕ) (count i most : ℕ) → count ≤ i → text ++ repeat (count - i) piece ≡ whole → length text ≤ most
-    → within most whole ≡ Ok text
-repeat_done text piece whole count i most l e m =
+pub repeat_done : (text piece whole : List ℕ) (count i limit : ℕ) → count ≤ i → text ++ repeat (count - i) piece ≡ whole → length text ≤ limit
+    → within limit whole ≡ Ok text
+repeat_done text piece whole count i limit l e m =
     let z : count - i ≡ 0 = omega arith in
     let f : text ≡ whole = sym (append-nil text) ∙ ap (λ k. text ++ repeat k piece) (sym z) ∙ e in
-    let t : nat_le (length text) most ≡ true = grind (arith, nat_tests, m) in
+    let t : nat_le (length text) limit ≡ true = grind (arith, nat_tests, m) in
     rw (← f) (rw t refl)
 
 -- names of a path
@@ -113,8 +113,8 @@ pub repeat_kept : (text piece new whole : List ℕ) (count i : ℕ) → i < coun
     → new ++ repeat (count - (i + 1)) piece ≡ whole
 repeat_kept text piece new whole count i l e g = ap (λ x. x ++ repeat (count - (i + 1)) piece) g ∙ repeat_step text piece whole count i l e
 
-pub short_more : (text piece new : List ℕ) (most : ℕ) → new ≡ text ++ piece → length text + length piece ≤ most → length new ≤ most
-short_more text piece new most g l =
+pub short_more : (text piece new : List ℕ) (limit : ℕ) → new ≡ text ++ piece → length text + length piece ≤ limit → length new ≤ limit
+short_more text piece new limit g l =
     let h : length new ≡ length text + length piece = ap length g ∙ length-append text piece in
     omega (arith, h, l)
 
@@ -160,6 +160,6 @@ nothing_empty (suc n) t r h f g =
     let s : length (repeat (suc n) t) ≡ length t + length (repeat n t) = length-append t (repeat n t) in
     test_of (length (repeat (suc n) t)) r (λ e. repeat_empty (suc n) t (f e)) (λ e. g (omega (arith, s, e)))
 
-pub none_within : (most : ℕ) (text : List ℕ) → length text ≡ 0 → judge BadText TooLong (is_short most) (Some text) ≡ good []
-none_within most [] e = let t : nat_le 0 most ≡ true = grind (arith, nat_tests) in rw t refl
-none_within most (b ∷ text) e = absurd (omega (arith, e))
+pub none_within : (limit : ℕ) (text : List ℕ) → length text ≡ 0 → judge BadText TooLong (is_short limit) (Some text) ≡ good []
+none_within limit [] e = let t : nat_le 0 limit ≡ true = grind (arith, nat_tests) in rw t refl
+none_within limit (b ∷ text) e = absurd (omega (arith, e))

@@ -14,7 +14,7 @@ use Rattle.script_text.specs.declared.setup_lines.Said.{Said}
 use Rattle.script_text.specs.declared.setup_lines.Said.TheVariants as said
 use Rattle.script_text.specs.Words.{first, behind, is_end}
 use Rattle.script_text.specs.Script.{SaysNumber, AreDifferent, IsGroup, NamesGroup, AddsGroup, AddsActs, AddsSetup, is_setup_word}
-use Rattle.script_text.specs.Reading.{number_in, number_for, if_new, new_server, servers_from, enough_for, group_of, saying, or_else, group_said, acts_said, said_at, behind_said}
+use Rattle.script_text.specs.Reading.{number_in, number_for, if_new, new_server, servers_from, enough_for, group_of, said_as, or_else, group_said, acts_said, said_at, behind_said}
 use Rattle.script_text.proofs.Pieces.{number_read, number_spelled}
 
 -- lines of a name and a number
@@ -224,7 +224,7 @@ group_given servers ws g (i, inl (p, e)) = rw e (servers_given servers 1 g p i)
 group_given servers ws g (i, inr (p, e)) = rw e (servers_given servers 2 g p i)
 
 -- what is said of something that is there
-saying_some : {X : Type 0} (f : X → Said) (o : Option X) (s : Said) → saying f o ≡ Some s → (x : X) × (o ≡ Some x) × (s ≡ f x)
+saying_some : {X : Type 0} (f : X → Said) (o : Option X) (s : Said) → said_as f o ≡ Some s → (x : X) × (o ≡ Some x) × (s ≡ f x)
 saying_some f None s e = absurd (grind (arith, e))
 saying_some f (Some x) s e = (x, refl, same (f x) s e)
   where
@@ -237,7 +237,7 @@ group_said_read p ws s e = at_test (nat_lt (length p.setup.groups) 8) refl e
     lt_true : (a b : ℕ) → nat_lt a b ≡ true → a < b
     lt_true a b e = grind (arith, nat_tests, e)
 
-    at_test : (t : Bool) → nat_lt (length p.setup.groups) 8 ≡ t → (if t then saying said.Group (group_of p.setup.servers ws) else None) ≡ Some s
+    at_test : (t : Bool) → nat_lt (length p.setup.groups) 8 ≡ t → (if t then said_as said.Group (group_of p.setup.servers ws) else None) ≡ Some s
         → AddsGroup p ws (behind_said p s)
     at_test true f g =
         let a = saying_some said.Group (group_of p.setup.servers ws) s g in
@@ -247,7 +247,7 @@ group_said_read p ws s e = at_test (nat_lt (length p.setup.groups) 8) refl e
 group_said_given : (p q : Place) (ws : List (List ℕ)) → AddsGroup p ws q → (s : Said) × (group_said p.setup ws ≡ Some s) × (q ≡ behind_said p s)
 group_said_given p q ws (g, n, few, e) =
     let t : nat_lt (length p.setup.groups) 8 ≡ true = lt_test _ _ few in
-    (said.Group g, rw t (ap (λ o. saying said.Group o) (group_given p.setup.servers ws g n)), e)
+    (said.Group g, rw t (ap (λ o. said_as said.Group o) (group_given p.setup.servers ws g n)), e)
   where
     lt_test : (a b : ℕ) → a < b → nat_lt a b ≡ true
     lt_test a b e = grind (arith, nat_tests, e)
@@ -273,15 +273,15 @@ acts_said_read p ws s e = at_tests (bytes_eq (first ws) (codes "acts")) (is_end 
 acts_said_given : (p q : Place) (ws : List (List ℕ)) → AddsActs p ws q → (s : Said) × (acts_said ws ≡ Some s) × (q ≡ behind_said p s)
 acts_said_given p q ws (e, f) = (said.Acts, rw e refl, f)
 
-number_said_read : (name : List ℕ) (a b : ℕ) (f : ℕ → Said) (ws : List (List ℕ)) (s : Said) → saying f (number_for name a b ws) ≡ Some s
+number_said_read : (name : List ℕ) (a b : ℕ) (f : ℕ → Said) (ws : List (List ℕ)) (s : Said) → said_as f (number_for name a b ws) ≡ Some s
     → (n : ℕ) × SaysNumber name a b ws n × (s ≡ f n)
 number_said_read name a b f ws s e =
     let r = saying_some f (number_for name a b ws) s e in
     (r.0, for_read name a b r.0 ws r.1, r.2)
 
 number_said_given : (name : List ℕ) (a b n : ℕ) (f : ℕ → Said) (ws : List (List ℕ)) → b < 2 ^ 32 → SaysNumber name a b ws n
-    → saying f (number_for name a b ws) ≡ Some (f n)
-number_said_given name a b n f ws l g = ap (λ o. saying f o) (for_given name a b n ws l g)
+    → said_as f (number_for name a b ws) ≡ Some (f n)
+number_said_given name a b n f ws l g = ap (λ o. said_as f o) (for_given name a b n ws l g)
 
 or_some : (a b : Option Said) (s : Said) → or_else a b ≡ Some s → (a ≡ Some s) ⊎ ((a ≡ None) × (b ≡ Some s))
 or_some None b s e = inr (refl, e)
@@ -299,18 +299,18 @@ said_read stage.Servers p ws s e =
     let r = number_said_read (codes "servers") 3 12 said.Servers ws s e in (r.0, r.1, ap (behind_said p) r.2)
 said_read stage.FirstGroup p ws s e = group_said_read p ws s e
 said_read stage.Groups p ws s e =
-    at_group (or_some (group_said p.setup ws) (or_else (saying said.Cache (number_for (codes "cache") 1 1024 ws)) (acts_said ws)) s e)
+    at_group (or_some (group_said p.setup ws) (or_else (said_as said.Cache (number_for (codes "cache") 1 1024 ws)) (acts_said ws)) s e)
   where
-    at_cache : (saying said.Cache (number_for (codes "cache") 1 1024 ws) ≡ Some s)
-        ⊎ ((saying said.Cache (number_for (codes "cache") 1 1024 ws) ≡ None) × (acts_said ws ≡ Some s)) → AddsSetup stage.Groups p ws (behind_said p s)
+    at_cache : (said_as said.Cache (number_for (codes "cache") 1 1024 ws) ≡ Some s)
+        ⊎ ((said_as said.Cache (number_for (codes "cache") 1 1024 ws) ≡ None) × (acts_said ws ≡ Some s)) → AddsSetup stage.Groups p ws (behind_said p s)
     at_cache (inl x) = let r = number_said_read (codes "cache") 1 1024 said.Cache ws s x in inr (inl (r.0, r.1, ap (behind_said p) r.2))
     at_cache (inr x) = inr (inr (acts_said_read p ws s x.1))
 
     at_group : (group_said p.setup ws ≡ Some s)
-        ⊎ ((group_said p.setup ws ≡ None) × (or_else (saying said.Cache (number_for (codes "cache") 1 1024 ws)) (acts_said ws) ≡ Some s))
+        ⊎ ((group_said p.setup ws ≡ None) × (or_else (said_as said.Cache (number_for (codes "cache") 1 1024 ws)) (acts_said ws) ≡ Some s))
         → AddsSetup stage.Groups p ws (behind_said p s)
     at_group (inl x) = inl (group_said_read p ws s x)
-    at_group (inr x) = at_cache (or_some (saying said.Cache (number_for (codes "cache") 1 1024 ws)) (acts_said ws) s x.1)
+    at_group (inr x) = at_cache (or_some (said_as said.Cache (number_for (codes "cache") 1 1024 ws)) (acts_said ws) s x.1)
 said_read stage.Cached p ws s e = acts_said_read p ws s e
 said_read stage.Items p ws s e = absurd (grind (arith, e))
 
@@ -326,8 +326,8 @@ no_group_said : (p : Place) (ws : List (List ℕ)) (v : List ℕ) → first ws �
     → group_said p.setup ws ≡ None
 no_group_said p ws v e f g = at_test (nat_lt (length p.setup.groups) 8)
   where
-    at_test : (t : Bool) → (if t then saying said.Group (group_of p.setup.servers ws) else None) ≡ None
-    at_test true = ap (λ o. saying said.Group o) (group_word p.setup.servers ws v e f g)
+    at_test : (t : Bool) → (if t then said_as said.Group (group_of p.setup.servers ws) else None) ≡ None
+    at_test true = ap (λ o. said_as said.Group o) (group_word p.setup.servers ws v e f g)
     at_test false = refl
 
 not_cache : (ws : List (List ℕ)) (v : List ℕ) → first ws ≡ v → bytes_eq v (codes "cache") ≡ false → number_for (codes "cache") 1 1024 ws ≡ None
@@ -344,12 +344,12 @@ said_given stage.Servers p q ws (n, g, e) = (said.Servers n, number_said_given (
 said_given stage.FirstGroup p q ws a = group_said_given p q ws a
 said_given stage.Groups p q ws (inl a) =
     let r = group_said_given p q ws a in
-    (r.0, ap (λ o. or_else o (or_else (saying said.Cache (number_for (codes "cache") 1 1024 ws)) (acts_said ws))) r.1, r.2)
+    (r.0, ap (λ o. or_else o (or_else (said_as said.Cache (number_for (codes "cache") 1 1024 ws)) (acts_said ws))) r.1, r.2)
 said_given stage.Groups p q ws (inr (inl (n, g, e))) =
     let a = number_said_given (codes "cache") 1 1024 n said.Cache ws (omega arith) g in
     let b = no_group_said p ws (codes "cache") (ap first g.0) refl refl in (
       said.Cache n,
-      ap (λ o. or_else o (or_else (saying said.Cache (number_for (codes "cache") 1 1024 ws)) (acts_said ws))) b
+      ap (λ o. or_else o (or_else (said_as said.Cache (number_for (codes "cache") 1 1024 ws)) (acts_said ws))) b
           ∙ ap (λ o. or_else o (acts_said ws)) a,
       e,
     )
@@ -358,8 +358,8 @@ said_given stage.Groups p q ws (inr (inr a)) =
     let b = no_group_said p ws (codes "acts") (ap first a.0) refl refl in
     let d = not_cache ws (codes "acts") (ap first a.0) refl in (
       r.0,
-      ap (λ o. or_else o (or_else (saying said.Cache (number_for (codes "cache") 1 1024 ws)) (acts_said ws))) b
-          ∙ ap (λ o. or_else (saying said.Cache o) (acts_said ws)) d ∙ r.1,
+      ap (λ o. or_else o (or_else (said_as said.Cache (number_for (codes "cache") 1 1024 ws)) (acts_said ws))) b
+          ∙ ap (λ o. or_else (said_as said.Cache o) (acts_said ws)) d ∙ r.1,
       r.2,
     )
 said_given stage.Cached p q ws a = acts_said_given p q ws a

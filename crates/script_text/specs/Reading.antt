@@ -56,11 +56,11 @@ number_of word =
 
 -- a number within a range
 abbrev pub in_range : ℕ → ℕ → Option ℕ → Option ℕ
-in_range least most None = None
-in_range least most (Some n) = if nat_le least n && nat_le n most then Some n else None
+in_range least limit None = None
+in_range least limit (Some n) = if nat_le least n && nat_le n limit then Some n else None
 
 abbrev pub number_in : ℕ → ℕ → List ℕ → Option ℕ
-number_in least most word = in_range least most (number_of word)
+number_in least limit word = in_range least limit (number_of word)
 
 -- a raw index number
 abbrev pub if_raw : Option ℕ → Option ℕ
@@ -169,13 +169,13 @@ text_parts (b ∷ word) = if b == 34 then with_count 1 (text_from mark.Plain wor
 
 -- a text is within a limit
 abbrev pub is_short : ℕ → List ℕ → Bool
-is_short most text = nat_le (length text) most
+is_short limit text = nat_le (length text) limit
 
 abbrev pub within : ℕ → List ℕ → Result (List ℕ) Kind
-within most text = if is_short most text then Ok text else Err TooLong
+within limit text = if is_short limit text then Ok text else Err TooLong
 
 abbrev pub within_repeat : ℕ → Repeated → Result (List ℕ) Kind
-within_repeat most p = within most (repeat p.count p.text)
+within_repeat limit p = within limit (repeat p.count p.text)
 
 -- a text, which may be empty or not
 abbrev pub some_text : Bool → Option Repeated → Option (List ℕ)
@@ -188,7 +188,7 @@ text_in may_be_empty word = some_text may_be_empty (text_parts word)
 
 -- a text within a limit
 abbrev pub read_text : Bool → ℕ → List ℕ → Result (List ℕ) Kind
-read_text may_be_empty most word = judge BadText TooLong (is_short most) (text_in may_be_empty word)
+read_text may_be_empty limit word = judge BadText TooLong (is_short limit) (text_in may_be_empty word)
 
 -- the names of a path
 abbrev pub names_of : List ℕ → Option (List (List ℕ))
@@ -212,7 +212,7 @@ spelled_by part.Client word = number_behind 99 word
 spelled_by part.Manager word = number_behind 109 word
 spelled_by part.Server word = number_behind 115 word
 spelled_by part.Board word = number_behind 98 word
-spelled_by (part.Number least most) word = number_in least most word
+spelled_by (part.Number least limit) word = number_in least limit word
 spelled_by part.Raw word = raw_in word
 spelled_by part.Path word = names_of word
 spelled_by part.BlockText word = text_in false word
@@ -228,7 +228,7 @@ is_within c part.Client n = is_one_of c.setup.clients n
 is_within c part.Manager n = is_one_of c.setup.managers n
 is_within c part.Server n = is_one_of c.setup.servers n
 is_within c part.Board n = is_one_of 3 n
-is_within c (part.Number least most) n = true
+is_within c (part.Number least limit) n = true
 is_within c part.Raw n = true
 is_within c part.Path names = are_few names
 is_within c part.BlockText text = is_short (min 8192 c.room) text
@@ -275,8 +275,8 @@ read_item c ws =
 
 -- the number that a line of the setup gives to a name
 abbrev pub number_for : List ℕ → ℕ → ℕ → List (List ℕ) → Option ℕ
-number_for name least most ws =
-    if bytes_eq (first ws) name && not (is_end (behind ws)) && is_end (behind (behind ws)) then number_in least most (first (behind ws)) else None
+number_for name least limit ws =
+    if bytes_eq (first ws) name && not (is_end (behind ws)) && is_end (behind (behind ws)) then number_in least limit (first (behind ws)) else None
 
 -- a server of so many that is none of these
 abbrev pub if_new : List ℕ → Option ℕ → Option ℕ
@@ -306,27 +306,27 @@ group_of servers ws =
     else None
 
 -- what a line of the setup says, where it may stand
-abbrev pub saying : {X : Type 0} → (X → Said) → Option X → Option Said
-saying f None = None
-saying f (Some x) = Some (f x)
+abbrev pub said_as : {X : Type 0} → (X → Said) → Option X → Option Said
+said_as f None = None
+said_as f (Some x) = Some (f x)
 
 abbrev pub or_else : Option Said → Option Said → Option Said
 or_else None other = other
 or_else (Some s) other = Some s
 
 abbrev pub group_said : Setup → List (List ℕ) → Option Said
-group_said setup ws = if nat_lt (length setup.groups) 8 then saying said.Group (group_of setup.servers ws) else None
+group_said setup ws = if nat_lt (length setup.groups) 8 then said_as said.Group (group_of setup.servers ws) else None
 
 abbrev pub acts_said : List (List ℕ) → Option Said
 acts_said ws = if bytes_eq (first ws) (codes "acts") && is_end (behind ws) then Some said.Acts else None
 
 abbrev pub said_at : Stage → Setup → List (List ℕ) → Option Said
-said_at stage.Version setup ws = saying (λ n. said.Version) (number_for (codes "xfs") 1 1 ws)
-said_at stage.Clients setup ws = saying said.Clients (number_for (codes "clients") 1 8 ws)
-said_at stage.Managers setup ws = saying said.Managers (number_for (codes "managers") 1 4 ws)
-said_at stage.Servers setup ws = saying said.Servers (number_for (codes "servers") 3 12 ws)
+said_at stage.Version setup ws = said_as (λ n. said.Version) (number_for (codes "xfs") 1 1 ws)
+said_at stage.Clients setup ws = said_as said.Clients (number_for (codes "clients") 1 8 ws)
+said_at stage.Managers setup ws = said_as said.Managers (number_for (codes "managers") 1 4 ws)
+said_at stage.Servers setup ws = said_as said.Servers (number_for (codes "servers") 3 12 ws)
 said_at stage.FirstGroup setup ws = group_said setup ws
-said_at stage.Groups setup ws = or_else (group_said setup ws) (or_else (saying said.Cache (number_for (codes "cache") 1 1024 ws)) (acts_said ws))
+said_at stage.Groups setup ws = or_else (group_said setup ws) (or_else (said_as said.Cache (number_for (codes "cache") 1 1024 ws)) (acts_said ws))
 said_at stage.Cached setup ws = acts_said ws
 said_at stage.Items setup ws = None
 

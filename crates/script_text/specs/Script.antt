@@ -71,7 +71,7 @@ IsBadItem c ws k =
 
 -- a line of the setup that gives a number of these to a name
 abbrev pub SaysNumber : List ℕ → ℕ → ℕ → List (List ℕ) → ℕ → Type 0
-SaysNumber name least most ws n = (ws ≡ name ∷ decimal n ∷ []) × (least ≤ n) × (n ≤ most)
+SaysNumber name least limit ws n = (ws ≡ name ∷ decimal n ∷ []) × (least ≤ n) × (n ≤ limit)
 
 -- no two of these are the same
 abbrev pub AreDifferent : List ℕ → Type 0

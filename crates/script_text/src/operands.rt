@@ -59,11 +59,11 @@ pub fn board(line: &[u8]) -> Result<u8, LineError>
 }
 
 /// The number behind the first two words, at least and at most this.
-pub fn number_behind(least: u32, most: u32, line: &[u8]) -> Result<u32, LineError>
-    ensures { Answers result (or_fault BadNumber (number_in least most (first (behind (behind (words line.now)))))) }
+pub fn number_behind(least: u32, limit: u32, line: &[u8]) -> Result<u32, LineError>
+    ensures { Answers result (or_fault BadNumber (number_in least limit (first (behind (behind (words line.now)))))) }
 {
     let mut words = operands(line);
-    read_number(least, most, &mut words)
+    read_number(least, limit, &mut words)
 }
 
 /// The path behind the first two words.

@@ -10,14 +10,14 @@ use crate::{Kind, LineError};
 use xfs_base::Ino;
 
 /// The number that a word writes, at least and at most this.
-pub fn number_in(least: u32, most: u32, word: &[u8]) -> Option<u32>
-    ensures exact { result ≡ number_in least most word.now }
-    ensures range { IfSome result (λ n. (least ≤ n) × (n ≤ most)) }
+pub fn number_in(least: u32, limit: u32, word: &[u8]) -> Option<u32>
+    ensures exact { result ≡ number_in least limit word.now }
+    ensures range { IfSome result (λ n. (least ≤ n) × (n ≤ limit)) }
 {
     match number_of(word) {
         None => None,
         Some(number) => {
-            if least <= number && number <= most {
+            if least <= number && number <= limit {
                 Some(number)
             } else {
                 None
@@ -58,11 +58,11 @@ fn number_behind(letter: u8, word: &[u8]) -> Option<u32>
 }
 
 /// Takes a number, at least and at most this.
-pub fn read_number(least: u32, most: u32, words: &mut Words) -> Result<u32, LineError>
-    ensures read { Answers result (or_fault BadNumber (number_in least most (first words.old))) }
+pub fn read_number(least: u32, limit: u32, words: &mut Words) -> Result<u32, LineError>
+    ensures read { Answers result (or_fault BadNumber (number_in least limit (first words.old))) }
     ensures left { words.new ≡ behind words.old }
 {
-    match number_in(least, most, words.next()) {
+    match number_in(least, limit, words.next()) {
         None => Err(LineError::Bad(Kind::BadNumber)),
         Some(number) => Ok(number),
     }

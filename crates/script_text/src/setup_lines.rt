@@ -3,7 +3,7 @@ ghost use Rattle.std.specs.Prelude.{◌≡◌, ◌≤◌, ◌==◌, [], codes, I
 ghost use Rattle.std.specs.List.{list_any};
 ghost use Rattle.script_text.specs.Words.{words, first, behind};
 ghost use Rattle.script_text.specs.Script.{is_setup_word};
-ghost use Rattle.script_text.specs.Reading.{number_for, new_server, servers_from, enough_for, group_of, group_said, acts_said, saying, said_at};
+ghost use Rattle.script_text.specs.Reading.{number_for, new_server, servers_from, enough_for, group_of, group_said, acts_said, said_as, said_at};
 
 use crate::part::number_in;
 use crate::stage::Stage;
@@ -31,9 +31,9 @@ pub enum Said {
 }
 
 /// The number that a line gives to a name.
-fn number_for(name: &[u8], least: u32, most: u32, line: &[u8]) -> Option<u32>
-    ensures exact { result ≡ number_for name.now least most (words line.now) }
-    ensures range { IfSome result (λ n. n ≤ most) }
+fn number_for(name: &[u8], least: u32, limit: u32, line: &[u8]) -> Option<u32>
+    ensures exact { result ≡ number_for name.now least limit (words line.now) }
+    ensures range { IfSome result (λ n. n ≤ limit) }
 {
     let mut words = Words::of(line);
     if !is(words.next(), name) || words.is_end() {
@@ -43,7 +43,7 @@ fn number_for(name: &[u8], least: u32, most: u32, line: &[u8]) -> Option<u32>
     if !words.is_end() {
         return None;
     }
-    number_in(least, most, number)
+    number_in(least, limit, number)
 }
 
 /// Whether one of these numbers is this one.
@@ -143,7 +143,7 @@ fn acts_said(line: &[u8]) -> Option<Said>
 
 /// The number of a line that gives one to `cache`.
 fn cache_said(line: &[u8]) -> Option<Said>
-    ensures { result ≡ saying (λ n. Said.Cache n) (number_for (codes "cache") 1 1024 (words line.now)) }
+    ensures { result ≡ said_as (λ n. Said.Cache n) (number_for (codes "cache") 1 1024 (words line.now)) }
 {
     match number_for(b"cache", 1, 1024, line) {
         None => None,

@@ -174,14 +174,14 @@ fn text_parts(alloc: Global, word: &[u8]) -> Mem<Option<Repeated>>
 }
 
 /// The text so often, within a limit.
-fn repeat_within(alloc: Global, most: usize, parts: &Repeated) -> Result<Text, LineError>
-    ensures { Answers result (within_repeat most parts.now) }
+fn repeat_within(alloc: Global, limit: usize, parts: &Repeated) -> Result<Text, LineError>
+    ensures { Answers result (within_repeat limit parts.now) }
 {
     let piece = parts.text.as_bytes();
     let count = parts.count;
     let mut text = Text::new(alloc);
     for _ in 0..count {
-        if text.len() + piece.len() > most {
+        if text.len() + piece.len() > limit {
             return Err(LineError::Bad(Kind::TooLong));
         }
         text.add(piece)?;
@@ -200,42 +200,42 @@ fn is_nothing(parts: &Repeated) -> bool
 }
 
 /// The text so often, which adds bytes, within a limit.
-fn some_text(alloc: Global, most: usize, parts: &Repeated) -> Result<Text, LineError>
-    ensures { Answers result (judge BadText TooLong (is_short most) (some_text false (Some parts.now))) }
+fn some_text(alloc: Global, limit: usize, parts: &Repeated) -> Result<Text, LineError>
+    ensures { Answers result (judge BadText TooLong (is_short limit) (some_text false (Some parts.now))) }
 {
     if is_nothing(parts) {
         return Err(LineError::Bad(Kind::BadText));
     }
-    repeat_within(alloc, most, parts)
+    repeat_within(alloc, limit, parts)
 }
 
 /// The text so often, within a limit; no copy is made of one without a byte.
-fn any_text(alloc: Global, most: usize, parts: &Repeated) -> Result<Text, LineError>
-    ensures { Answers result (judge BadText TooLong (is_short most) (some_text true (Some parts.now))) }
+fn any_text(alloc: Global, limit: usize, parts: &Repeated) -> Result<Text, LineError>
+    ensures { Answers result (judge BadText TooLong (is_short limit) (some_text true (Some parts.now))) }
 {
     if is_nothing(parts) {
         return Ok(Text::new(alloc));
     }
-    repeat_within(alloc, most, parts)
+    repeat_within(alloc, limit, parts)
 }
 
 /// Takes a text: the rest of the line.
 pub fn read_text(
     alloc: Global,
     may_be_empty: bool,
-    most: usize,
+    limit: usize,
     words: &mut Words,
 ) -> Result<Text, LineError>
-    ensures read { Answers result (read_text may_be_empty most (joined 32 words.old)) }
+    ensures read { Answers result (read_text may_be_empty limit (joined 32 words.old)) }
     ensures left { words.new ≡ [] }
 {
     match text_parts(alloc, words.rest())? {
         None => Err(LineError::Bad(Kind::BadText)),
         Some(parts) => {
             if may_be_empty {
-                any_text(alloc, most, &parts)
+                any_text(alloc, limit, &parts)
             } else {
-                some_text(alloc, most, &parts)
+                some_text(alloc, limit, &parts)
             }
         }
     }

@@ -177,7 +177,7 @@ can_rise-at more usage (r ∷ rs) seg room some =
 pub room_fits : (usage : List (SegName × ℕ)) (rows : List (BlockId × Entry)) → has_room (length rows) usage rows ≡ true → Fits usage rows
 room_fits usage rows room = λ seg some.
     let can : length rows ≤ 2 ^ 32 - 1 - count_of usage seg = can_rise-at (length rows) usage rows seg room some in
-    let most : live_in seg rows ≤ length rows = live_in-most seg rows in
+    let limit : live_in seg rows ≤ length rows = live_in-most seg rows in
     omega arith
 
 -- ---- from nothing, and over all

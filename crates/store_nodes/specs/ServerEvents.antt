@@ -24,7 +24,7 @@ use Rattle.xfs_base.specs.declared.node.NodeId.TheVariants.{Server, Registry}
 use Rattle.xfs_base.specs.declared.segment.LogId.{LogId}
 use Rattle.xfs_base.specs.declared.setup.Setup.{Setup}
 use Rattle.xfs_base.specs.Segments.{pass_cmp}
-use Rattle.xfs_base.specs.Steps.{still, after}
+use Rattle.xfs_base.specs.Steps.{still, saying}
 use Rattle.node_base.specs.declared.effects.Effect.{Effect}
 use Rattle.node_base.specs.declared.effects.Effect.TheVariants.{Send, Answer}
 use Rattle.node_base.specs.Asking.{next_ask, drawn}
@@ -222,7 +222,7 @@ hello_again node (Some ask) = hello_of node.shelf ask ∷ []
 
 -- what is unanswered is said again
 unfoldable pub on_tick : Node → Done
-on_tick node = after (hello_again node node.hello) (rebuilds node input.Tick)
+on_tick node = saying (hello_again node node.hello) (rebuilds node input.Tick)
 
 abbrev pub on_event : Node → Do → Done
 on_event node Begin = on_begin node

@@ -15,6 +15,6 @@ module _ (ps : List (Option (List ℕ))) (text : List ℕ) (bytes : IsBytes text
       let count = length ps - parity in
       let part = part_of (length text) count in
       ap (λ (fs : List (List ℕ)). take (length text) (concat fs))
-      (pieces_back part count ps (omega (arith, cut.most)) parity (pieces count part text) cut.some cut.few (length-pieces count part text)
+      (pieces_back part count ps (omega (arith, cut.limit)) parity (pieces count part text) cut.some cut.few (length-pieces count part text)
       (pieces_long count part text) (pieces_bytes count part text bytes) are few)
       ∙ text_of_pieces count text (omega (arith, cut.least))

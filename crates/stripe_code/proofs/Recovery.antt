@@ -3,13 +3,13 @@ use Rattle.std.proofs.Common.{◌≡◌, ℕ, ◌≤◌, zero, suc, List, [], �
 use Rattle.stripe_code.specs.Joined.{excess}
 
 pub few_missing : (parity : ℕ) → 1 ≤ parity → parity ≤ 2 → (gone : List ℕ) → excess parity gone ≡ None → length gone ≤ parity
-few_missing zero some most gone none = absurd (omega arith)
-few_missing (suc zero) some most [] none = omega arith
-few_missing (suc zero) some most (a ∷ []) none = omega arith
-few_missing (suc zero) some most (a ∷ b ∷ []) none = cc
-few_missing (suc zero) some most (a ∷ b ∷ c ∷ rest) none = cc
-few_missing (suc (suc zero)) some most [] none = omega arith
-few_missing (suc (suc zero)) some most (a ∷ []) none = omega arith
-few_missing (suc (suc zero)) some most (a ∷ b ∷ []) none = omega arith
-few_missing (suc (suc zero)) some most (a ∷ b ∷ c ∷ rest) none = cc
-few_missing (suc (suc (suc n))) some most gone none = absurd (omega arith)
+few_missing zero some limit gone none = absurd (omega arith)
+few_missing (suc zero) some limit [] none = omega arith
+few_missing (suc zero) some limit (a ∷ []) none = omega arith
+few_missing (suc zero) some limit (a ∷ b ∷ []) none = cc
+few_missing (suc zero) some limit (a ∷ b ∷ c ∷ rest) none = cc
+few_missing (suc (suc zero)) some limit [] none = omega arith
+few_missing (suc (suc zero)) some limit (a ∷ []) none = omega arith
+few_missing (suc (suc zero)) some limit (a ∷ b ∷ []) none = omega arith
+few_missing (suc (suc zero)) some limit (a ∷ b ∷ c ∷ rest) none = cc
+few_missing (suc (suc (suc n))) some limit gone none = absurd (omega arith)

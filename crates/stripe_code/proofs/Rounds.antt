@@ -137,15 +137,15 @@ round_parts r ps is e =
     (subst (λ (qs : List (Option (List ℕ))). HasLengths (part_of len (count_of r)) qs) (sym e) (round_lengths r is))
 
 few_excess : (parity : ℕ) → 1 ≤ parity → parity ≤ 2 → (gone : List ℕ) → length gone ≤ parity → excess parity gone ≡ None
-few_excess zero some most gone few = absurd (omega arith)
-few_excess (suc zero) some most [] few = refl
-few_excess (suc zero) some most (a ∷ []) few = refl
-few_excess (suc zero) some most (a ∷ b ∷ rest) few = absurd (omega arith)
-few_excess (suc (suc zero)) some most [] few = refl
-few_excess (suc (suc zero)) some most (a ∷ []) few = refl
-few_excess (suc (suc zero)) some most (a ∷ b ∷ []) few = refl
-few_excess (suc (suc zero)) some most (a ∷ b ∷ c ∷ rest) few = absurd (omega arith)
-few_excess (suc (suc (suc n))) some most gone few = absurd (omega arith)
+few_excess zero some limit gone few = absurd (omega arith)
+few_excess (suc zero) some limit [] few = refl
+few_excess (suc zero) some limit (a ∷ []) few = refl
+few_excess (suc zero) some limit (a ∷ b ∷ rest) few = absurd (omega arith)
+few_excess (suc (suc zero)) some limit [] few = refl
+few_excess (suc (suc zero)) some limit (a ∷ []) few = refl
+few_excess (suc (suc zero)) some limit (a ∷ b ∷ []) few = refl
+few_excess (suc (suc zero)) some limit (a ∷ b ∷ c ∷ rest) few = absurd (omega arith)
+few_excess (suc (suc (suc n))) some limit gone few = absurd (omega arith)
 
 none_more : (a b n : ℕ) → a + b ≡ n → suc a + b ≡ suc n
 none_more a b n e = omega arith

@@ -7,7 +7,7 @@ pub record IsCut (n parity : ℕ) : Type 0 where
   pub some : 1 ≤ parity
   pub few : parity ≤ 2
   pub least : parity + 2 ≤ n
-  pub most : n ≤ 8
+  pub limit : n ≤ 8
 
 -- how long each fragment is: the length of the text divided by the number of pieces, rounded up
 abbrev pub part_of : ℕ → ℕ → ℕ

@@ -15,7 +15,7 @@ use Rattle.xfs_base.specs.declared.token.Mode.{Mode}
 use Rattle.xfs_base.specs.declared.token.Mode.TheVariants.{Copy}
 use Rattle.xfs_base.specs.declared.token.Stamp.{Stamp}
 use Rattle.xfs_base.specs.Blocks.{block_cmp, slot_of}
-use Rattle.xfs_base.specs.Steps.{still, steps, after}
+use Rattle.xfs_base.specs.Steps.{still, steps, saying}
 use Rattle.xfs_base.proofs.BlockOrder.{block_cmp_total}
 use Rattle.xfs_base.specs.Modes.{is_own}
 use Rattle.xfs_base.specs.Stamps.{is_later}
@@ -92,7 +92,7 @@ module _ (opens : BlockId → Type 0) (s : TokensState) (p : IsSound s) where
       let same : (asked_for.state.epochs ≡ s.epochs) × ((held_of asked_for.state.blocks block).stamp ≡ (held_of s.blocks block).stamp) = refetch-same s block in
       let two : Follows opens asked_for.state given.state = give-follows opens asked_for.state one.sound block stamp keep
       (promised ∙ sym (ap (λ es. epoch_of es (slot_of block.ino.0)) same.0)) (ap (is_later stamp) same.1 ∙ above) in
-      by_test (λ (d : Done). Follows opens s d.state) (can_refetch s block) (after asked_for.outs given) (still s)
+      by_test (λ (d : Done). Follows opens s d.state) (can_refetch s block) (saying asked_for.outs given) (still s)
       (λ t. follows_through opens s asked_for.state given.state one two)
       (λ t. follows_still opens s p)
 

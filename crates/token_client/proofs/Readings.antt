@@ -5,7 +5,7 @@ use Rattle.xfs_base.specs.declared.entry.Entry.{Entry}
 use Rattle.xfs_base.specs.declared.token.Mode.{Mode}
 use Rattle.xfs_base.specs.declared.token.Mode.TheVariants.{Copy}
 use Rattle.xfs_base.specs.declared.token.Stamp.{Stamp}
-use Rattle.xfs_base.specs.Steps.{still, after, steps}
+use Rattle.xfs_base.specs.Steps.{still, saying, steps}
 use Rattle.xfs_base.proofs.StepLoops.{steps_keep}
 use Rattle.xfs_base.specs.Stamps.{is_later}
 use Rattle.xfs_base.proofs.Booleans.{contrary, by_test, and_second}
@@ -96,7 +96,7 @@ unfolding recalled_above
 recalled_above-core s block stamp keep dirty =
     let one : Done = refetch s block in
     let same : core_in one.state block ≡ core_in s block = refetch-core s block in
-    by_test (λ (d : Done). core_in d.state block ≡ core_in s block) (can_refetch s block) (after one.outs (give one.state block stamp keep)) (still s)
+    by_test (λ (d : Done). core_in d.state block ≡ core_in s block) (can_refetch s block) (saying one.outs (give one.state block stamp keep)) (still s)
     (λ t. give-core one.state block stamp keep (ap is_dirty same ∙ dirty) ∙ same) (λ t. refl)
 
 recalled_again-core : (s : TokensState) (block : BlockId) (stamp : Stamp) → core_in (recalled_again s block stamp).state block ≡ core_in s block

@@ -35,9 +35,9 @@ unheld_is_unowned Nothing h = refl
 unheld_is_unowned Copy h = refl
 unheld_is_unowned Own h = h
 
-nothing_above : (epoch : ℕ) (at : Stamp) (giving : Option Giving) → is_none giving ≡ true → IsGivingAbove epoch at giving
-nothing_above epoch at None h = tt
-nothing_above epoch at (Some giving) h = contrary h
+nothing_above : (epoch : ℕ) (stamp : Stamp) (giving : Option Giving) → is_none giving ≡ true → IsGivingAbove epoch stamp giving
+nothing_above epoch stamp None h = tt
+nothing_above epoch stamp (Some giving) h = contrary h
 
 -- a block with a want asks, and one with a fetch
 pub asks_by_want : (h : Held) → is_some h.want ≡ true → is_asking h ≡ true
@@ -118,7 +118,7 @@ module _ (epoch : ℕ) (h : Held) (p : IsSoundBlock epoch h) where
       (λ d. own) p.giving_above (λ v. contrary (sym v ∙ own_is_held h.mode own))
 
   pub version_settled-sound : (ver : ℕ) → nat_lt h.settled ver ≡ true → nat_le ver h.ver ≡ true → IsSoundBlock epoch (version_settled h ver)
-  version_settled-sound ver more most =
+  version_settled-sound ver more limit =
       let was : is_dirty h ≡ true = grind (arith, nat_tests) in
       let below : ver ≤ h.ver = grind (arith, nat_tests) in
       sound epoch (version_settled h ver) p.asks_unowned p.asks_ungiven p.fetch_unheld below (λ d. p.dirty_owned was) p.giving_above p.unheld_valueless

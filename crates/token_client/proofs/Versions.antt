@@ -9,7 +9,7 @@ use Rattle.xfs_base.specs.declared.token.Mode.TheVariants.{Nothing, Copy}
 use Rattle.xfs_base.specs.declared.token.Stamp.{Stamp}
 use Rattle.xfs_base.specs.Modes.{is_held}
 use Rattle.xfs_base.specs.Stamps.{is_later}
-use Rattle.xfs_base.specs.Steps.{still, after, steps}
+use Rattle.xfs_base.specs.Steps.{still, saying, steps}
 use Rattle.xfs_base.proofs.Booleans.{contrary, by_test, and_first, and_second}
 use Rattle.xfs_base.proofs.StepLoops.{steps_keep}
 use Rattle.token_client.specs.declared.held.Held.{Held}
@@ -78,7 +78,7 @@ recalled-keeps s block stamp keep =
     let given : Done = give (refetch s block).state block stamp keep in
     by_test K (is_promised s block stamp) (recalled s block stamp keep) (still s)
     (λ _. by_test K (is_later stamp (held_of s.blocks block).stamp) (recalled_above s block stamp keep) (recalled_again s block stamp)
-    (λ _. by_test K (can_refetch s block) (after (refetch s block).outs given) (still s)
+    (λ _. by_test K (can_refetch s block) (saying (refetch s block).outs given) (still s)
     (λ _ b. give-keeps (refetch s block).state block stamp keep b ∙ refetch-keeps s block b) (λ _ b. refl))
     (λ _. by_test K (was_answered (held_of s.blocks block) stamp) (record { state = s; outs = Gave block stamp ∷ [] }) (still s) (λ _ b. refl) (λ _ b. refl)))
     (λ _ b. refl)

@@ -19,8 +19,8 @@ use Rattle.token_client.specs.Transition.{transition}
 
 -- a put-off recall is of this epoch, and later than the stamp
 abbrev pub IsGivingAbove : ℕ → Stamp → Option Giving → Type 0
-IsGivingAbove epoch at None = Unit {0}
-IsGivingAbove epoch at (Some giving) = (giving.stamp.epoch ≡ epoch) × (is_later giving.stamp at ≡ true)
+IsGivingAbove epoch stamp None = Unit {0}
+IsGivingAbove epoch stamp (Some giving) = (giving.stamp.epoch ≡ epoch) × (is_later giving.stamp stamp ≡ true)
 
 -- What holds of each block, whose slot is promised to this epoch.
 pub record IsSoundBlock (epoch : ℕ) (h : Held) : Type 0 where

@@ -9,7 +9,7 @@ use Rattle.xfs_base.specs.declared.token.Mode.{Mode}
 use Rattle.xfs_base.specs.declared.token.Mode.TheVariants.{Copy}
 use Rattle.xfs_base.specs.declared.token.Stamp.{Stamp}
 use Rattle.xfs_base.specs.Blocks.{slot_of}
-use Rattle.xfs_base.specs.Steps.{Stepped, still, after, steps}
+use Rattle.xfs_base.specs.Steps.{Stepped, still, saying, steps}
 use Rattle.xfs_base.specs.Modes.{same_mode, is_own}
 use Rattle.xfs_base.specs.Stamps.{is_later}
 use Rattle.xfs_base.specs.Limits.{u32_end}
@@ -105,7 +105,7 @@ can_refetch s block = is_none (held_of s.blocks block).fetch || nat_lt s.req u32
 unfoldable pub recalled_above : TokensState → BlockId → Stamp → Bool → Done
 recalled_above s block stamp keep =
     if can_refetch s block
-    then after (refetch s block).outs (give (refetch s block).state block stamp keep)
+    then saying (refetch s block).outs (give (refetch s block).state block stamp keep)
     else still s
 
 -- whether a recall was answered before, and nothing is being given

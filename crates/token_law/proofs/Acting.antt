@@ -205,7 +205,7 @@ syncs_true members part b n v apart c pos less up clean = go (nat_lt 0 version) 
         let is : version ≡ suc g.place = let e = g.is in omega arith in
         let settles = shown.settled in
         let known = shown.version in
-        let most = upto (held_of (n.tokens c).blocks b).settled (held_of (n.tokens c).blocks b).ver (clean b) in
+        let limit = upto (held_of (n.tokens c).blocks b).settled (held_of (n.tokens c).blocks b).ver (clean b) in
         record {
           serving = shown.serving;
           clean = omega arith;

@@ -133,14 +133,14 @@ covers_here : Covers n5.books example_block 1 1 (slot.entry_at z1 example_block)
 unfolding indexed merged
 covers_here = record {
   later = omega arith;
-  rows = λ q. most q;
+  rows = λ q. limit q;
   source = inr (inr (1, 1, record { filed = omega arith; some = omega arith; row = refl; absent = λ none. absurd (cc); place = same_place }));
 }
   where
-    most : (q : ℕ) → q ≤ 1 → (said n5.books 1 q example_block).version ≤ 1
-    most zero below = omega arith
-    most (suc zero) below = omega arith
-    most (suc (suc q)) below = absurd (omega arith)
+    limit : (q : ℕ) → q ≤ 1 → (said n5.books 1 q example_block).version ≤ 1
+    limit zero below = omega arith
+    limit (suc zero) below = omega arith
+    limit (suc (suc q)) below = absurd (omega arith)
 
 -- of another block it learns nothing
 nothing_of : (k : BlockId) → same_block example_block k ≡ false → entry_of deltas k ≡ no_entry
@@ -152,15 +152,15 @@ nothing_of k differs = ap (λ t. unwrap_or (cond t (Some entry) None) no_entry) 
 
 covers_there : (k : BlockId) → same_block example_block k ≡ false → Covers n5.books k 1 1 (slot.entry_at z1 k) (entry_of (indexed_all z1.index deltas).rows k)
 unfolding indexed merged
-covers_there k differs = record { later = omega arith; rows = λ q. most q; source = inl (nothing_of k differs) }
+covers_there k differs = record { later = omega arith; rows = λ q. limit q; source = inl (nothing_of k differs) }
   where
     row : (row_in rows k).version ≡ 0
     row = ap (λ t. (if t then record { version = 1; value = example_value } else nothing_said).version) differs
 
-    most : (q : ℕ) → q ≤ 1 → (said n5.books 1 q k).version ≤ (entry_of (indexed_all z1.index deltas).rows k).ver
-    most zero below = omega arith
-    most (suc zero) below = let none = row in omega arith
-    most (suc (suc q)) below = absurd (omega arith)
+    limit : (q : ℕ) → q ≤ 1 → (said n5.books 1 q k).version ≤ (entry_of (indexed_all z1.index deltas).rows k).ver
+    limit zero below = omega arith
+    limit (suc zero) below = let none = row in omega arith
+    limit (suc (suc q)) below = absurd (omega arith)
 
 deltas_cover : DeltasCover 1 n5.books z1 (record { 0 = 1 }) 1 deltas
 deltas_cover = record { filed = omega arith; each = λ k inside. go k (same_block example_block k) refl }

@@ -202,7 +202,7 @@ files_true members part b n v c s pos less up sound flies same =
     let w = v.world in
     let row = ap (λ e. (w.rows c (suc e)).version) (v.kept.ends c) ∙ ap (λ (r : abstract.Row). r.version) (v.kept.says c (suc (n.books.end c))) in
     let shown = shown_up true members part b n v c pos less up in
-    let most = (flights_new w (always members w v.steps) c (let m = v.many in omega arith)).held shown.serving in
+    let limit = (flights_new w (always members w v.steps) c (let m = v.many in omega arith)).held shown.serving in
     let ver = shown.version in
     settled_view true members part b n v c (said n.books c (suc (n.books.end c)) b).version w.flight w.rows s (filed n.books c) pos less up sound v.steps v.acts
     (record { in_flight = flown b n.books w c v.kept flies })

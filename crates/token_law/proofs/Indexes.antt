@@ -58,7 +58,7 @@ module _ (b : BlockId) (k : Books) (w : World) (seen : Kept b k w) where
   covers_of l upto old new index filed c = record {
     filed_end = let e = seen.ends l in omega arith;
     old = let i = ap (λ (e : abstract.Entry). e.version) index in let later = c.later in omega arith;
-    rows = λ q most. let r = ap (λ (r : abstract.Row). r.version) (seen.says l q) in let x = c.rows q most in omega arith;
+    rows = λ q limit. let r = ap (λ (r : abstract.Row). r.version) (seen.says l q) in let x = c.rows q limit in omega arith;
     source = ⊎_elim (λ same. inl (ap entry_seen same ∙ sym index)) (λ made. inr (filed_of new made)) c.source;
   }
 
@@ -73,7 +73,7 @@ module _ (b : BlockId) (k : Books) (w : World) (seen : Kept b k w) where
         (λ c other. let f = filed c (positive c other) in let a = seen.ends c in omega arith);
     source = filed_of e source;
     rows = put_each (λ c x. (q : ℕ) → q ≤ x → (w.rows c q).version ≤ e.ver) applied 0 (w.end 0) (λ q _. let none = empty.rows q in omega arith)
-        (λ c other q most. let r = ap (λ (r : abstract.Row). r.version) (seen.says c q) in let x = rows c q (positive c other) most in omega arith);
+        (λ c other q limit. let r = ap (λ (r : abstract.Row). r.version) (seen.says c q) in let x = rows c q (positive c other) limit in omega arith);
   }
     where
       positive : (c : ℕ) → (c ≡ 0 → ⊥) → 0 < c

@@ -167,7 +167,7 @@ flights_are_newer members part n b m c is some l q filed =
     let other = ap (λ (r : abstract.Row). r.version) (v.kept.says l q) in
     let end = v.kept.ends l in
     let above = (flights_new w whole c (let many = v.many in let within = is.within in omega arith)).above (omega arith) in
-    let most = (join_is_join w whole).upper l q (omega arith) in
+    let limit = (join_is_join w whole).upper l q (omega arith) in
     omega arith
 
 pub grants_are_of_the_newest : GrantsAreOfTheNewest
@@ -181,5 +181,5 @@ grants_are_of_the_newest members part n b m c is up stamp inc req mode entry sen
     let told = acceptable_joins w whole _ may.1.sent may.1.live in
     let row = ap (λ (r : abstract.Row). r.version) (v.kept.says l q) in
     let end = v.kept.ends l in
-    let most = (join_is_join w whole).upper l q (omega arith) in
+    let limit = (join_is_join w whole).upper l q (omega arith) in
     omega arith

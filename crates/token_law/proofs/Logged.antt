@@ -98,7 +98,7 @@ module _ (members : ℕ) where
   whole_sealed k l rows once i = record {
     beyond = put_each_two (λ m t f. (q : ℕ) → k.end m + flag t < q → f q ≡ []) k.flying k.rows l true (put (k.rows l) (suc (k.end l)) rows)
         (put_each (λ q xs. k.end l + 1 < q → xs ≡ []) (k.rows l) (suc (k.end l)) rows (λ past. absurd (omega arith))
-        (λ q other past. i.beyond l q (let most = flag_most (k.flying l) in omega arith))) (λ m other. i.beyond m);
+        (λ q other past. i.beyond l q (let limit = flag_most (k.flying l) in omega arith))) (λ m other. i.beyond m);
     once = put_each (λ m f. (q : ℕ) → m < members → AreOnce (f q)) k.rows l (put (k.rows l) (suc (k.end l)) rows)
         (put_each (λ q xs. l < members → AreOnce xs) (k.rows l) (suc (k.end l)) rows once (λ q other. i.once l q)) (λ m other. i.once m);
     first = first_on k l rows i.first;
@@ -107,7 +107,7 @@ module _ (members : ℕ) where
   pub whole_filed : (k : Books) (l : ℕ) → BooksWhole members k → BooksWhole members (filed k l)
   whole_filed k l i = record {
     beyond = put_each_two (λ m t e. (q : ℕ) → e + flag t < q → k.rows m q ≡ []) k.flying k.end l false (suc (k.end l))
-        (λ q past. i.beyond l q (let most = flag_most (k.flying l) in omega arith)) (λ m other. i.beyond m);
+        (λ q past. i.beyond l q (let limit = flag_most (k.flying l) in omega arith)) (λ m other. i.beyond m);
     once = i.once;
     first = i.first;
   }
@@ -116,7 +116,7 @@ module _ (members : ℕ) where
   whole_discarded k l i = record {
     beyond = put_each_two (λ m t f. (q : ℕ) → k.end m + flag t < q → f q ≡ []) k.flying k.rows l false (put (k.rows l) (suc (k.end l)) [])
         (put_each (λ q xs. k.end l + 0 < q → xs ≡ []) (k.rows l) (suc (k.end l)) [] (λ past. refl)
-        (λ q other past. i.beyond l q (let most = flag_most (k.flying l) in let more = one_more (k.end l) q past other in omega arith)))
+        (λ q other past. i.beyond l q (let limit = flag_most (k.flying l) in let more = one_more (k.end l) q past other in omega arith)))
         (λ m other. i.beyond m);
     once = put_each (λ m f. (q : ℕ) → m < members → AreOnce (f q)) k.rows l (put (k.rows l) (suc (k.end l)) [])
         (put_each (λ q xs. l < members → AreOnce xs) (k.rows l) (suc (k.end l)) [] (λ within. tt) (λ q other. i.once l q)) (λ m other. i.once m);

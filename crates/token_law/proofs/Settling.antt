@@ -43,7 +43,7 @@ record OneOfTwo (h : Held) (first then_ : ℕ) : Type 0 where
   is : settled_by (settled_by h first) then_ ≡ settled_by h ver
 
 one_of_two : (h : Held) (first then_ : ℕ) → then_ ≤ h.ver → OneOfTwo h first then_
-one_of_two h first then_ most = go (is_settled_by h first) refl
+one_of_two h first then_ limit = go (is_settled_by h first) refl
   where
     both : (a m n k : ℕ) → (nat_lt a m && nat_le m k) ≡ true → (nat_lt m n && nat_le n k) ≡ true → (nat_lt a n && nat_le n k) ≡ true
     both a m n k p q = grind (arith, nat_tests)
@@ -54,7 +54,7 @@ one_of_two h first then_ most = go (is_settled_by h first) refl
     later : (t : Bool) → (nat_lt first then_ && nat_le then_ h.ver) ≡ t → is_settled_by h first ≡ true → OneOfTwo h first then_
     later true news is = record {
       ver = then_;
-      below = most;
+      below = limit;
       is = ap (λ t. settled_by (if t then version_settled h first else h) then_) is
           ∙ ap (λ t. if t then version_settled h then_ else version_settled h first) news
           ∙ sym (ap (λ t. if t then version_settled h then_ else h) (both h.settled first then_ h.ver is news));
@@ -69,7 +69,7 @@ one_of_two h first then_ most = go (is_settled_by h first) refl
 
     go : (t : Bool) → is_settled_by h first ≡ t → OneOfTwo h first then_
     go true is = later (nat_lt first then_ && nat_le then_ h.ver) refl is
-    go false is = record { ver = then_; below = most; is = ap (λ t. settled_by (if t then version_settled h first else h) then_) is }
+    go false is = record { ver = then_; below = limit; is = ap (λ t. settled_by (if t then version_settled h first else h) then_) is }
 
 module _ (b : BlockId) where
   pub settled_here : (s : TokensState) (ver : ℕ) → local_of (client.on_settled s b ver).state b ≡ once_settled (local_of s b) ver
@@ -146,7 +146,7 @@ module _ (b : BlockId) where
       ap (λ (x : BlockId). local_of (client.on_settled s x row.version).state b) (sym (same_block_exact k b same)) ∙ settled_here s row.version in
       let held : held_of u.blocks b ≡ settled_by (held_of s.blocks b) row.version = ap (λ (l : Local). l.held) now in
       let kept : (settled_by (held_of s.blocks b) row.version).ver ≡ (held_of s.blocks b).ver = stays (held_of s.blocks b) row.version in
-      let most = d.below in
+      let limit = d.below in
       let one = one_of_two (held_of s.blocks b) row.version d.ver (let h = ap (λ (x : Held). x.ver) held in omega arith) in
       record {
         ver = one.ver;
@@ -158,7 +158,7 @@ module _ (b : BlockId) where
       let same = settled_there s k row.version other in
       record {
         ver = d.ver;
-        below = let h = ap (λ (l : Local). l.held.ver) same in let most = d.below in omega arith;
+        below = let h = ap (λ (l : Local). l.held.ver) same in let limit = d.below in omega arith;
         is = d.is ∙ settled_here u d.ver ∙ ap (λ (l : Local). once_settled l d.ver) same ∙ sym (settled_here s d.ver);
       })
     where

@@ -74,7 +74,7 @@ module _ (logs : Bool) (members part : ℕ) (n : Net) (i : Good logs members par
       (one_numbers e v.world.epoch)
     where
       below : (a c : ℕ) → a ≤ c → (a ≡ c → ⊥) → a < c
-      below a c most other =
+      below a c limit other =
           elim (nat_lt a c) as (λ t. nat_lt a c ≡ t → a < c)
           [ true ↦ λ h. grind (arith, nat_tests) | false ↦ λ h. absurd (other (grind (arith, nat_tests))) ] refl
 
@@ -136,8 +136,8 @@ module _ (logs : Bool) (members part : ℕ) (n : Net) (i : Good logs members par
       less : (a c : ℕ) → nat_lt a c ≡ true → a < c
       less a c h = grind (arith, nat_tests)
 
-      most : (a c : ℕ) → nat_lt a c ≡ false → c ≤ a
-      most a c h = grind (arith, nat_tests)
+      limit : (a c : ℕ) → nat_lt a c ≡ false → c ≤ a
+      limit a c h = grind (arith, nat_tests)
 
       below : (a c : ℕ) → a ≤ c → (a ≡ c → ⊥) → a < c
       below a c p other =
@@ -185,7 +185,7 @@ module _ (logs : Bool) (members part : ℕ) (n : Net) (i : Good logs members par
       at b inside v false h =
           let other : epoch ≡ v.world.epoch → ⊥ = λ same. taken v.slot none v.slot (ap n.slots same ∙ v.reigns) in
           stale_view logs members part b n v epoch (slot.started epoch index (all_reported rows order) applied) []
-          (below epoch v.world.epoch (most v.world.epoch epoch h) other) refl (λ p is. absurd is)
+          (below epoch v.world.epoch (limit v.world.epoch epoch h) other) refl (λ p is. absurd is)
 
   -- a client returns, with empty segments behind what it found
   pub returned_view : (b : BlockId) → is_in_slot part b ≡ true → Premise logs (BooksWhole members n.books)

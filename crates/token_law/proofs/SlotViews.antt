@@ -28,11 +28,11 @@ module _ (logs : Bool) (members part : ℕ) (b : BlockId) (n : Net) (v : View lo
 
   pub told_carried : (u : World) (outs : List tellings.Out) → AllTold b u outs → (p : Packet) → In p (slot_packets outs) → Carried logs part b u p
   told_carried u [] told_ p is = absurd is
-  told_carried u (telling.Grant client_ block at inc req mode entry ∷ os) told_ p is =
+  told_carried u (telling.Grant client_ block stamp inc req mode entry ∷ os) told_ p is =
       ⊎_elim (λ e. subst (Carried logs part b u) (sym e) told_.0) (λ r. told_carried u os told_.1 p r) is
-  told_carried u (telling.Forward passer block at client_ inc req ver ∷ os) told_ p is =
+  told_carried u (telling.Forward passer block stamp client_ inc req ver ∷ os) told_ p is =
       ⊎_elim (λ e. subst (Carried logs part b u) (sym e) told_.0) (λ r. told_carried u os told_.1 p r) is
-  told_carried u (telling.Recall client_ block at keep ∷ os) told_ p is =
+  told_carried u (telling.Recall client_ block stamp keep ∷ os) told_ p is =
       ⊎_elim (λ e. subst (Carried logs part b u) (sym e) told_.0) (λ r. told_carried u os told_.1 p r) is
   told_carried u (telling.Applied log upto_ ∷ os) told_ p is = told_carried u os told_.1 p is
   told_carried u (telling.Live entry ∷ os) told_ p is = told_carried u os told_.1 p is
@@ -80,17 +80,17 @@ module _ (logs : Bool) (members part : ℕ) (b : BlockId) (n : Net) (v : View lo
   pub stale_carried : (epoch turn last : ℕ) (outs : List tellings.Out) → epoch < w.epoch → CountsTurns epoch turn outs last → (p : Packet)
       → In p (slot_packets outs) → Carried logs part b w p
   stale_carried epoch turn last [] old turns p is = absurd is
-  stale_carried epoch turn last (telling.Grant client_ block at inc req mode entry ∷ os) old turns p is =
+  stale_carried epoch turn last (telling.Grant client_ block stamp inc req mode entry ∷ os) old turns p is =
       ⊎_elim (λ e. subst (Carried logs part b w) (sym e)
       (λ _. let at_epoch = ap (λ (x : Stamp). x.epoch) turns.0 in let at_turn = ap (λ (x : Stamp). x.turn) turns.0 in
       record { low = omega arith; some = omega arith; offered = λ reigns. absurd (omega arith) }))
       (λ r. stale_carried epoch (turn + 1) last os old turns.1 p r) is
-  stale_carried epoch turn last (telling.Forward passer block at client_ inc req ver ∷ os) old turns p is =
+  stale_carried epoch turn last (telling.Forward passer block stamp client_ inc req ver ∷ os) old turns p is =
       ⊎_elim (λ e. subst (Carried logs part b w) (sym e)
       (λ _. let at_epoch = ap (λ (x : Stamp). x.epoch) turns.0 in let at_turn = ap (λ (x : Stamp). x.turn) turns.0 in
       (record { ver = ver; hop = 0; place = None }, refl, record { low = omega arith; some = omega arith; offered = λ reigns. absurd (omega arith) })))
       (λ r. stale_carried epoch (turn + 1) last os old turns.1 p r) is
-  stale_carried epoch turn last (telling.Recall client_ block at keep ∷ os) old turns p is =
+  stale_carried epoch turn last (telling.Recall client_ block stamp keep ∷ os) old turns p is =
       ⊎_elim (λ e. subst (Carried logs part b w) (sym e)
       (λ _. let at_epoch = ap (λ (x : Stamp). x.epoch) turns.0 in let at_turn = ap (λ (x : Stamp). x.turn) turns.0 in
       record { low = omega arith; some = omega arith; recalled = λ reigns. absurd (omega arith) }))

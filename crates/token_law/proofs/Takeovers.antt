@@ -49,23 +49,23 @@ use Rattle.token_law.proofs.Views.{setting, ClientShown, some_one, Supplies, Car
 pub carried_rise : (logs : Bool) (part : ℕ) (b : BlockId) (w : World) (epoch : ℕ) (report : ℕ → packets.Report) (applied : ℕ → ℕ) (e : abstract_entry.Entry)
     (p : Packet) → w.epoch < epoch → Carried logs part b w p → Carried logs part b (takeover.activates w epoch report applied e) p
 carried_rise logs part b w epoch report applied e (WantSent c inc req again block mode end) later h = h
-carried_rise logs part b w epoch report applied e (GrantSent c block at inc req mode entry) later h = λ is. let k = h is in let low =
+carried_rise logs part b w epoch report applied e (GrantSent c block stamp inc req mode entry) later h = λ is. let k = h is in let low =
     k.low in record { low = omega arith; some = k.some; offered = λ reigns. absurd (omega arith) }
-carried_rise logs part b w epoch report applied e (RecallSent c block at keep) later h = λ is. let k = h is in let low =
+carried_rise logs part b w epoch report applied e (RecallSent c block stamp keep) later h = λ is. let k = h is in let low =
     k.low in record { low = omega arith; some = k.some; recalled = λ reigns. absurd (omega arith) }
 carried_rise logs part b w epoch report applied e (GaveSent c block stamp end) later h =
     (h.0, λ is. let low = (h.1 is).0 in (omega arith, λ reigns. absurd (omega arith)))
-carried_rise logs part b w epoch report applied e (ForwardSent passer c block at inc req ver) later h = λ is. let k = h is in let low =
+carried_rise logs part b w epoch report applied e (ForwardSent passer c block stamp inc req ver) later h = λ is. let k = h is in let low =
     k.2.low in (k.0, k.1, record { low = omega arith; some = k.2.some; offered = λ reigns. absurd (omega arith) })
-carried_rise logs part b w epoch report applied e (SupplySent c block at inc req ver value) later h = λ is.
+carried_rise logs part b w epoch report applied e (SupplySent c block stamp inc req ver value) later h = λ is.
     let k = h is in
     let low = k.2.low in (
       k.0,
       k.1,
       record { low = omega arith; some = k.2.some; offered = λ reigns. absurd (omega arith) },
-      owed logs (Supplies at.epoch ver value (takeover.activates w epoch report applied e)) (λ _ reigns. absurd (omega arith)),
+      owed logs (Supplies stamp.epoch ver value (takeover.activates w epoch report applied e)) (λ _ reigns. absurd (omega arith)),
     )
-carried_rise logs part b w epoch report applied e (ReportSent c at rows end) later h = h
+carried_rise logs part b w epoch report applied e (ReportSent c entered rows end) later h = h
 
 pub nothing_in_order : InOrder []
 unfolding IsStrictlySortedBy
@@ -215,7 +215,7 @@ module _ (logs : Bool) (members part : ℕ) (b : BlockId) (n : Net) (v : View lo
       owed_both logs (Kept b n.books old × CleanerEmpty old) (Gathered members part n.books index applied ends) (IndexGathered now report upto entry)
       (λ known g. gathered_of b n.books now known.0 report (applied_of applied) (entry_of (indexed_all nothing_indexed index).rows b)
       (record { end = known.1.end; flight = known.1.flight; rows = known.1.rows; applied = known.1.applied; written = known.1.written }) refl
-      (λ c pos less. let within : c < members = let m = v.many in omega arith in let e = (hears c).end pos within in let most = g.reported c pos within in
+      (λ c pos less. let within : c < members = let m = v.many in omega arith in let e = (hears c).end pos within in let limit = g.reported c pos within in
       omega arith)
       g.filed (g.source b inside) (g.rows b inside))
       (owed_both logs (Kept b n.books old) (CleanerEmpty old) (Kept b n.books old × CleanerEmpty old) (λ k e. (k, e)) v.kept
@@ -290,7 +290,7 @@ module _ (logs : Bool) (members part : ℕ) (b : BlockId) (n : Net) (v : View lo
           ap (λ k. mode_number (held_of (blocks k) b).mode) none in omega arith
       covered c within (inr some) =
           let mode = (hears c).mode within in
-          let most = reports_believed part blocks order b c (λ d. (hears d).sorted) inside (all c (positive c some) within) in
+          let limit = reports_believed part blocks order b c (λ d. (hears d).sorted) inside (all c (positive c some) within) in
           subst (λ xs. (report c).mode ≤ share_of (all_believed [] xs) b c) (sym beliefs_are) (omega arith)
         where
           positive : (c : ℕ) → (c ≡ 0 → ⊥) → 0 < c

@@ -101,14 +101,14 @@ Supplies epoch ver value w = epoch ≡ w.epoch → IsValue ver value w.join_vers
 -- a sent packet was sent there, where it speaks of the block; a report says what a client held
 abbrev pub Carried : Bool → ℕ → BlockId → World → Packet → Type 0
 Carried logs part b w (WantSent c inc req again block mode end) = (0 < c) × (block ≡ b → In (want_seen (slot.want_of c block inc req again mode) end) w.wants)
-Carried logs part b w (GrantSent c block at inc req mode entry) = block ≡ b → SentOffer c w at inc req mode (entry_seen entry)
-Carried logs part b w (RecallSent c block at keep) = block ≡ b → SentRecall c w at keep
+Carried logs part b w (GrantSent c block stamp inc req mode entry) = block ≡ b → SentOffer c w stamp inc req mode (entry_seen entry)
+Carried logs part b w (RecallSent c block stamp keep) = block ≡ b → SentRecall c w stamp keep
 Carried logs part b w (GaveSent c block stamp end) =
     (0 < c) × (block ≡ b → (stamp.epoch ≤ w.epoch) × (stamp.epoch ≡ w.epoch → In (record { client = c; stamp = stamp.turn; end = end }) w.gaves))
-Carried logs part b w (ForwardSent passer c block at inc req ver) =
-    block ≡ b → (entry : Entry) × (entry.ver ≡ ver) × SentOffer c w at inc req Copy (entry_seen entry)
-Carried logs part b w (SupplySent c block at inc req ver value) =
-    block ≡ b → (entry : Entry) × (entry.ver ≡ ver) × SentOffer c w at inc req Copy (entry_seen entry) × Premise logs (Supplies at.epoch ver value w)
+Carried logs part b w (ForwardSent passer c block stamp inc req ver) =
+    block ≡ b → (entry : Entry) × (entry.ver ≡ ver) × SentOffer c w stamp inc req Copy (entry_seen entry)
+Carried logs part b w (SupplySent c block stamp inc req ver value) =
+    block ≡ b → (entry : Entry) × (entry.ver ≡ ver) × SentOffer c w stamp inc req Copy (entry_seen entry) × Premise logs (Supplies stamp.epoch ver value w)
 Carried logs part b w (ReportSent c epoch rows end) =
     (blocks : List (BlockId × Held)) × InOrder blocks × (rows ≡ held_in part blocks)
     × In (record { client = c; epoch = epoch; mode = mode_number (held_of blocks b).mode; end = end }) w.reports
@@ -169,18 +169,18 @@ supplied_on epoch ver value w v same lasts h = λ is.
 
 pub carried_on : (logs : Bool) (part : ℕ) (b : BlockId) (w v : World) (p : Packet) → Grows logs w v → Carried logs part b w p → Carried logs part b v p
 carried_on logs part b w v (WantSent c inc req again block mode end) g h = (h.0, λ is. g.wants _ (h.1 is))
-carried_on logs part b w v (GrantSent c block at inc req mode entry) g h = λ is. offer_on c w v at inc req mode (entry_seen entry) g.epoch g.offers (h is)
-carried_on logs part b w v (RecallSent c block at keep) g h = λ is. recall_on c w v at keep g.epoch g.recalls (h is)
+carried_on logs part b w v (GrantSent c block stamp inc req mode entry) g h = λ is. offer_on c w v stamp inc req mode (entry_seen entry) g.epoch g.offers (h is)
+carried_on logs part b w v (RecallSent c block stamp keep) g h = λ is. recall_on c w v stamp keep g.epoch g.recalls (h is)
 carried_on logs part b w v (GaveSent c block stamp end) g h =
     (h.0, λ is. let k = h.1 is in let e = g.epoch in let low = k.0 in (omega arith, λ of_epoch. g.gaves _ (k.1 (of_epoch ∙ e))))
-carried_on logs part b w v (ForwardSent passer c block at inc req ver) g h = λ is. let k =
-    h is in (k.0, k.1, offer_on c w v at inc req Copy (entry_seen k.0) g.epoch g.offers k.2)
-carried_on logs part b w v (SupplySent c block at inc req ver value) g h = λ is.
+carried_on logs part b w v (ForwardSent passer c block stamp inc req ver) g h = λ is. let k =
+    h is in (k.0, k.1, offer_on c w v stamp inc req Copy (entry_seen k.0) g.epoch g.offers k.2)
+carried_on logs part b w v (SupplySent c block stamp inc req ver value) g h = λ is.
     let k = h is in (
       k.0,
       k.1,
-      offer_on c w v at inc req Copy (entry_seen k.0) g.epoch g.offers k.2,
-      owed_both logs (Lasts w v) (Supplies at.epoch ver value w) (Supplies at.epoch ver value v) (supplied_on at.epoch ver value w v g.epoch) g.lasts k.3,
+      offer_on c w v stamp inc req Copy (entry_seen k.0) g.epoch g.offers k.2,
+      owed_both logs (Lasts w v) (Supplies stamp.epoch ver value w) (Supplies stamp.epoch ver value v) (supplied_on stamp.epoch ver value w v g.epoch) g.lasts k.3,
     )
 carried_on logs part b w v (ReportSent c epoch rows end) g h = (h.0, h.1, h.2, g.reports _ h.3)
 

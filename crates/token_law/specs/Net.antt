@@ -72,9 +72,9 @@ client_packets c inc end (output.Ready block ∷ os) = client_packets c inc end 
 -- what the slot sends
 abbrev pub slot_packets : List tellings.Out → List Packet
 slot_packets [] = []
-slot_packets (telling.Grant client block at inc req mode entry ∷ os) = GrantSent client block at inc req mode entry ∷ slot_packets os
-slot_packets (telling.Forward passer block at client inc req ver ∷ os) = ForwardSent passer client block at inc req ver ∷ slot_packets os
-slot_packets (telling.Recall client block at keep ∷ os) = RecallSent client block at keep ∷ slot_packets os
+slot_packets (telling.Grant client block stamp inc req mode entry ∷ os) = GrantSent client block stamp inc req mode entry ∷ slot_packets os
+slot_packets (telling.Forward passer block stamp client inc req ver ∷ os) = ForwardSent passer client block stamp inc req ver ∷ slot_packets os
+slot_packets (telling.Recall client block stamp keep ∷ os) = RecallSent client block stamp keep ∷ slot_packets os
 slot_packets (telling.Applied log upto ∷ os) = slot_packets os
 slot_packets (telling.Live entry ∷ os) = slot_packets os
 slot_packets (telling.Dead ∷ os) = slot_packets os

@@ -176,8 +176,8 @@ ready_none applied (a ∷ rest) c ready waits =
     waits
 
 pub not_more : (n : ℕ) → (2 < n → ⊥) → n ≤ 2
-not_more n most =
-    elim (nat_lt 2 n) as (λ t. nat_lt 2 n ≡ t → n ≤ 2) [ true ↦ λ more. absurd (most (grind (arith, nat_tests))) | false ↦ λ _. grind (arith, nat_tests) ] refl
+not_more n limit =
+    elim (nat_lt 2 n) as (λ t. nat_lt 2 n ≡ t → n ≤ 2) [ true ↦ λ more. absurd (limit (grind (arith, nat_tests))) | false ↦ λ _. grind (arith, nat_tests) ] refl
 
 pub no_first : (cs : List ℕ) (c : ℕ) → (length cs == 0) ≡ true → Contains cs c → ⊥
 no_first [] c none has = contains_nothing c has
@@ -268,7 +268,7 @@ awaits-given s job client block stamp end sound is c apart more =
     (λ x. less s.beliefs h (holder job.want.block x) (not (is_own job.want.mode)) sound.sorted) (sound.awaits block job is) c apart more)
   where
     clash : (n : ℕ) → 2 < n → n ≤ 2 → ⊥
-    clash n more most = omega arith
+    clash n more limit = omega arith
 
 -- who is not awaited leaves room
 pub leaves_room : (bs : List (Holder × Bool)) (applied : List ℕ) (job : Job) → AwaitsAll bs job → is_ready applied job.awaited ≡ true → LeavesRoom bs job.want

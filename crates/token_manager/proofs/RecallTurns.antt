@@ -30,7 +30,7 @@ use Rattle.token_manager.proofs.JobsBarGrants.{Waiting, after_removal, was_there
 given-later : (epoch turn last : ℕ) (awaited : List Awaited) → turn ≤ last → All (IsGivenOut epoch turn) awaited → All (IsGivenOut epoch last) awaited
 given-later epoch turn last awaited less =
     All-weaker (IsGivenOut epoch turn) (IsGivenOut epoch last)
-    (λ a g. record { of_epoch = g.of_epoch; from_1 = g.from_1; upto = let most : a.stamp.turn ≤ turn = g.upto in omega arith }) awaited
+    (λ a g. record { of_epoch = g.of_epoch; from_1 = g.from_1; upto = let limit : a.stamp.turn ≤ turn = g.upto in omega arith }) awaited
 
 given-recalls : (epoch turn last : ℕ) (keep : Bool) (clients : List ℕ) → turn + length clients ≤ last
     → All (IsGivenOut epoch last) (recalls epoch turn keep clients)

@@ -5,7 +5,7 @@ use Rattle.std.specs.BTreeMap.{insert_entry}
 use Rattle.std.specs.Ordering.{is_eq}
 use Rattle.xfs_base.specs.Blocks.{block_cmp}
 use Rattle.xfs_base.specs.Segments.{seg_cmp}
-use Rattle.xfs_base.specs.Steps.{Stepped, still, after, steps}
+use Rattle.xfs_base.specs.Steps.{Stepped, still, saying, steps}
 use Rattle.xfs_base.specs.declared.block.BlockId.{BlockId}
 use Rattle.xfs_base.specs.declared.entry.Entry.{Entry}
 use Rattle.xfs_base.specs.declared.entry.Place.{Place}
@@ -155,7 +155,7 @@ with_deltas s log upto rows = record s { index = indexed_all s.index rows; appli
 -- the log learns how much is applied, and then the wants that need wait no longer are answered, in order
 -- of blocks
 abbrev pub apply : SlotState → LogId → ℕ → List (BlockId × Entry) → Done
-apply s log upto rows = after (Applied log upto ∷ []) (steps finished_at (with_deltas s log upto rows) (ready_blocks s.jobs (applied_upto s.applied log upto)))
+apply s log upto rows = saying (Applied log upto ∷ []) (steps finished_at (with_deltas s log upto rows) (ready_blocks s.jobs (applied_upto s.applied log upto)))
 
 -- whether turns are left for the wants that would be answered, and counts can rise by the rows
 abbrev pub can_apply : SlotState → LogId → ℕ → List (BlockId × Entry) → Bool

@@ -8,7 +8,7 @@ use Rattle.std.proofs.lemmas.Map.Views.{tells_apart}
 use Rattle.xfs_base.specs.declared.block.BlockId.{BlockId}
 use Rattle.xfs_base.specs.declared.token.Stamp.{Stamp}
 use Rattle.xfs_base.specs.Blocks.{block_cmp}
-use Rattle.xfs_base.specs.Steps.{still, after, steps}
+use Rattle.xfs_base.specs.Steps.{still, saying, steps}
 use Rattle.xfs_base.specs.declared.entry.Entry.{Entry}
 use Rattle.xfs_base.specs.declared.entry.Place.{Place}
 use Rattle.xfs_base.specs.declared.segment.LogId.{LogId}
@@ -57,7 +57,7 @@ use Rattle.xfs_base.proofs.Booleans.{by_test}
 
 -- what is applied of a log rises where its deltas are taken
 rising : (applied : ℕ → ℕ) (c upto : ℕ) → applied c ≤ upto → (d : ℕ) → applied d ≤ put applied c upto d
-rising applied c upto most = put_each (λ d n. applied d ≤ n) applied c upto most (λ d other. omega arith)
+rising applied c upto limit = put_each (λ d n. applied d ≤ n) applied c upto limit (λ d other. omega arith)
 
 -- and is what the slot has applied
 applied_put : (w : World) (s : SlotState) (b : BlockId) (log : LogId) (upto : ℕ) → Manages b s w → 0 < log.0 → log.0 - 1 < length s.applied → (d : ℕ) → 0 < d
@@ -142,7 +142,7 @@ module _ (logs : Bool) (b : BlockId) where
       (λ r. by_finished_at (Runs logs b w) s b (runs_nowhere logs b w s m) (λ job is. let_go-runs w s job sound m is (r job is)))
       (λ k other _. by_finished_at (Runs logs b w) s k (runs_nowhere logs b w s m) (λ job is. let_go-there w s k job sound m other is)) block ready
 
-  runs_through : (w : World) (s : SlotState) (d e : Done) (t : Runs logs b w d) → Runs logs b t.world e → Runs logs b w (after d.outs e)
+  runs_through : (w : World) (s : SlotState) (d e : Done) (t : Runs logs b w d) → Runs logs b t.world e → Runs logs b w (saying d.outs e)
   runs_through w s d e t u =
       record {
         world = u.world;
@@ -175,7 +175,7 @@ module _ (logs : Bool) (b : BlockId) where
       → Runs logs b w (on_deltas s log first upto rows)
   takes_deltas w s log first upto rows sound m known covers =
       by_deltas_known (Runs logs b w) s log first upto rows (runs_nowhere logs b w s m) (saying (Applied log (applied_of s.applied log.0) ∷ []) (tt, tt))
-      (λ some most.
+      (λ some limit.
       let e = entry_seen (entry_of (indexed_all s.index rows).rows b) in
       let v = manages.applies w log.0 upto e in
       let u = with_deltas s log upto rows in

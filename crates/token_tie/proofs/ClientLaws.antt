@@ -92,9 +92,9 @@ pub owns_and_declines : OwnsAndDeclines
 owns_and_declines logs g end w s stamp inc req entry r sent t = takes.owns_and_declines logs g end w s r stamp inc req entry sent t
 
 -- what is settled, whether or not it is news
-now_settled : (settled ver most : ℕ) → ver ≤ most → (t : Bool) → (nat_lt settled ver && nat_le ver most) ≡ t → max settled ver ≡ cond t ver settled
-now_settled settled ver most below true h = grind (arith, nat_tests)
-now_settled settled ver most below false h = grind (arith, nat_tests)
+now_settled : (settled ver limit : ℕ) → ver ≤ limit → (t : Bool) → (nat_lt settled ver && nat_le ver limit) ≡ t → max settled ver ≡ cond t ver settled
+now_settled settled ver limit below true h = grind (arith, nat_tests)
+now_settled settled ver limit below false h = grind (arith, nat_tests)
 
 module _ (logs : Bool) (g : Setting) (end : ℕ) (w : World) (s : TokensState) (ver : ℕ) (r : Ready logs g end w s) where
   abbrev h : Held
@@ -126,13 +126,13 @@ module _ (logs : Bool) (g : Setting) (end : ℕ) (w : World) (s : TokensState) (
       → Shows g w.epoch (local_of (on_settled s g.block ver).state g.block) ((settles w g.client).client g.client)
   unfolding on_settled
   settled_shown row below =
-      let most : y.settled ≡ max h.settled ver = λ i. max (r.shows.settled i) (row i) in
+      let limit : y.settled ≡ max h.settled ver = λ i. max (r.shows.settled i) (row i) in
       subst (Shows g w.epoch (local_of (on_settled s g.block ver).state g.block)) (sym (put_here w.client g.client y))
       (by_test (λ (d : Done). Shows g w.epoch (local_of d.state g.block) y) (is_settled_by h ver) (still (with_held s g.block (version_settled h ver)))
       (still s)
       (λ t. subst (λ k. Shows g w.epoch (record l { held = k }) y) (sym (held_of-put_itself g.block (version_settled h ver) s.blocks))
-      (shown ver (most ∙ now_settled h.settled ver h.ver below true t)))
-      (λ t. shown h.settled (most ∙ now_settled h.settled ver h.ver below false t)))
+      (shown ver (limit ∙ now_settled h.settled ver h.ver below true t)))
+      (λ t. shown h.settled (limit ∙ now_settled h.settled ver h.ver below false t)))
 
 pub settles_blocks : SettlesBlocks
 settles_blocks logs g end w s ver r may flying row below = (Settles g.client may flying, settled_shown logs g end w s ver r row below)

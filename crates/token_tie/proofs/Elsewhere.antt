@@ -10,7 +10,7 @@ use Rattle.xfs_base.specs.declared.token.Mode.{Mode}
 use Rattle.xfs_base.specs.declared.token.Mode.TheVariants.{Copy}
 use Rattle.xfs_base.specs.declared.token.Stamp.{Stamp}
 use Rattle.xfs_base.specs.Blocks.{block_cmp}
-use Rattle.xfs_base.specs.Steps.{still, after}
+use Rattle.xfs_base.specs.Steps.{still, saying}
 use Rattle.token_client.specs.declared.held.Held.{Held}
 use Rattle.token_client.specs.declared.held.Wanted.{Wanted}
 use Rattle.token_client.specs.declared.output.Out.{Out}
@@ -61,7 +61,7 @@ module _ (g : Setting) where
   pub apart_still : (s : TokensState) → Apart s (still s)
   apart_still s = record { rises = omega arith; same = refl; quiet = λ end w. tt }
 
-  pub apart_through : (s : TokensState) (d e : Done) → Apart s d → Apart d.state e → Apart s (after d.outs e)
+  pub apart_through : (s : TokensState) (d e : Done) → Apart s d → Apart d.state e → Apart s (saying d.outs e)
   apart_through s d e p q = record {
     rises = let a = p.rises in let b = q.rises in omega arith;
     same = q.same ∙ ap (λ (l : Local). record l { req = e.state.req }) p.same;
@@ -143,7 +143,7 @@ module _ (g : Setting) where
     on_recalled-apart s stamp keep =
         by_test (Apart s) (is_promised s block stamp) (recalled s block stamp keep) (still s)
         (λ t. by_test (Apart s) (is_later stamp (held_of s.blocks block).stamp) (recalled_above s block stamp keep) (recalled_again s block stamp)
-        (λ t. by_test (Apart s) (can_refetch s block) (after (refetch s block).outs (give (refetch s block).state block stamp keep)) (still s)
+        (λ t. by_test (Apart s) (can_refetch s block) (saying (refetch s block).outs (give (refetch s block).state block stamp keep)) (still s)
         (λ t. apart_through s (refetch s block) _ (refetch-apart s) (give-apart (refetch s block).state stamp keep)) (λ t. apart_still s))
         (λ t. by_test (Apart s) (was_answered (held_of s.blocks block) stamp) (record { state = s; outs = Gave block stamp ∷ [] }) (still s)
         (λ t. record { rises = omega arith; same = refl; quiet = λ end w. (λ is. absurd (other is), tt) }) (λ t. apart_still s)))

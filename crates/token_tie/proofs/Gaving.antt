@@ -237,8 +237,8 @@ module _ (logs : Bool) where
     paid = put_each (λ d n. (n ≤ w.applied d) ⊎ ((0 < d) × Named rows d n)) w.owed client (max (w.owed client) end) (mine (nat_le (w.owed client) end) refl)
         (λ d other. ⊎_elim inl (λ h. inr (h.0, named_on keeps s.epoch w.awaited w.keep w.recalls client stamp end job.awaited d (w.owed d) h.1)) (waits.paid d))
       where
-        most : (a e : ℕ) → nat_le a e ≡ true → max a e ≤ e
-        most a e h = grind (arith, nat_tests)
+        limit : (a e : ℕ) → nat_le a e ≡ true → max a e ≤ e
+        limit a e h = grind (arith, nat_tests)
 
         least : (a e : ℕ) → nat_le a e ≡ false → a ≡ max a e
         least a e h = grind (arith, nat_tests)
@@ -249,7 +249,7 @@ module _ (logs : Bool) where
             inr (
               some,
               named_new keeps s.epoch w.awaited w.keep w.recalls client stamp end job.awaited (max (w.owed client) end) any
-                  (most (w.owed client) end h),
+                  (limit (w.owed client) end h),
             )
         mine false h = subst (λ n. (n ≤ w.applied client) ⊎ ((0 < client) × Named rows client n)) (least (w.owed client) end h)
             (⊎_elim inl (λ p. inr (some, named_on keeps s.epoch w.awaited w.keep w.recalls client stamp end job.awaited client (w.owed client) p.1))

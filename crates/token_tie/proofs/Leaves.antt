@@ -129,7 +129,7 @@ module _ (logs : Bool) (g : Setting) (end : ℕ) (w : World) where
       → To (record l { held = asked_again l.held v }) (Want g.block v.req (v.again + 1) v.mode ∷ [])
   asks_again-goes l v s is settled =
       let open_ : WantShown (Some v) here.want here.request = subst (λ o. WantShown o here.want here.request) is s.want in
-      let most = some_rank v.mode open_.2 in let named = open_.0 in
+      let limit = some_rank v.mode open_.2 in let named = open_.0 in
       acts_by logs g end w (asks_again w g.client end) [] _ _ here (AsksAgain g.client end (record { open_want = omega arith }) settled)
       refl (sym (put_back w.client g.client)) refl (λ p here. inr here) (λ y here. here)
       (record {

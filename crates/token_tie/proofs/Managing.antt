@@ -66,12 +66,12 @@ recall_on client w v stamp keep epoch grows s = record { low = let a = s.low in 
 -- what was said stays said
 pub told_on : (b : BlockId) (w v : World) (outs : List Out) → ByManager w v → AllTold b w outs → AllTold b v outs
 told_on b w v [] by h = tt
-told_on b w v (Grant client block at inc req mode entry ∷ os) by h =
-    (λ is. offer_on client w v at inc req mode _ (ap (λ (u : World). u.epoch) by.others) by.offers (h.0 is), told_on b w v os by h.1)
-told_on b w v (Forward passer block at client inc req ver ∷ os) by h =
-    (λ is. let t = h.0 is in (t.0, t.1, offer_on client w v at inc req Copy _ (ap (λ (u : World). u.epoch) by.others) by.offers t.2), told_on b w v os by h.1)
-told_on b w v (Recall client block at keep ∷ os) by h =
-    (λ is. recall_on client w v at keep (ap (λ (u : World). u.epoch) by.others) by.recalls (h.0 is), told_on b w v os by h.1)
+told_on b w v (Grant client block stamp inc req mode entry ∷ os) by h =
+    (λ is. offer_on client w v stamp inc req mode _ (ap (λ (u : World). u.epoch) by.others) by.offers (h.0 is), told_on b w v os by h.1)
+told_on b w v (Forward passer block stamp client inc req ver ∷ os) by h =
+    (λ is. let t = h.0 is in (t.0, t.1, offer_on client w v stamp inc req Copy _ (ap (λ (u : World). u.epoch) by.others) by.offers t.2), told_on b w v os by h.1)
+told_on b w v (Recall client block stamp keep ∷ os) by h =
+    (λ is. recall_on client w v stamp keep (ap (λ (u : World). u.epoch) by.others) by.recalls (h.0 is), told_on b w v os by h.1)
 told_on b w v (Applied log upto ∷ os) by h = (tt, told_on b w v os by h.1)
 told_on b w v (Live entry ∷ os) by h = (tt, told_on b w v os by h.1)
 told_on b w v (Dead ∷ os) by h = (tt, told_on b w v os by h.1)
@@ -106,7 +106,7 @@ asker_has : (bs : List (Holder × Bool)) (ask : Wanted) (n : ℕ) → is_nothing
     → max n (mode_number ask.mode) ≤ share_of (want_met bs ask) ask.block ask.client
 asker_has bs ask n something less =
     let h = holder ask.block ask.client in
-    let most : manager.share (belief bs h) ≤ 2 = most_rank (belief bs h) in
+    let limit : manager.share (belief bs h) ≤ 2 = most_rank (belief bs h) in
     let named : mode_number ask.mode ≡ wanted_share ask.mode = rank_wanted ask.mode something in
     let itself = λ (t : Bool) (es : List (Holder × Bool)). lookup-insert_entry holder_cmp_total h h t es
     ∙ ap (λ c. cond c (Some t) (belief es h)) (holder_laws.refl h) in

@@ -2,7 +2,7 @@
 use Rattle.std.proofs.Common.{◌≡◌, ℕ, ◌+◌, ◌-◌, ◌^◌, ◌==◌, ◌≤◌, Bool, true, false, ◌&&◌, ◌||◌, [], ◌∷◌, Option, Some, None, is_some, is_none, refl, sym, ap, subst, ◌∙◌, arith, nat_lt}
 use Rattle.xfs_base.specs.declared.token.Mode.TheVariants.{Copy}
 use Rattle.xfs_base.specs.declared.token.Stamp.{Stamp}
-use Rattle.xfs_base.specs.Steps.{still, after}
+use Rattle.xfs_base.specs.Steps.{still, saying}
 use Rattle.token_client.specs.declared.held.Held.{Held}
 use Rattle.token_client.specs.declared.output.Out.TheVariants.{Want, Gave, Flush}
 use Rattle.token_client.specs.Held.{is_dirty, asked, unfetched, put_off, given_up}
@@ -93,8 +93,8 @@ module _ (logs : Bool) (g : Setting) (end : ℕ) where
         let now : held_of u.blocks g.block ≡ asked (unfetched h) (s.req + 1) Copy =
         held_of-put_itself g.block mine dropped.blocks ∙ ap (λ (k : Held). asked k (s.req + 1) Copy) gone in
         let outs = Want g.block (s.req + 1) 0 Copy ∷ [] in
-        let Given : Done → Type 0 = λ (d : Done). At (after d.outs (give d.state g.block stamp keep)) in
-        by_test At (can_refetch s g.block) (after (refetch s g.block).outs (give (refetch s g.block).state g.block stamp keep)) (still s)
+        let Given : Done → Type 0 = λ (d : Done). At (saying d.outs (give d.state g.block stamp keep)) in
+        by_test At (can_refetch s g.block) (saying (refetch s g.block).outs (give (refetch s g.block).state g.block stamp keep)) (still s)
         (λ room. by_test Given (is_some h.fetch) (new_want dropped g.block Copy) (still s)
         (λ some. by_test Given (nat_lt s.req (2 ^ 32 - 1)) (record { state = u; outs = outs }) (still dropped)
         (λ _.

@@ -12,7 +12,7 @@ use Rattle.xfs_base.specs.declared.token.Stamp.{Stamp}
 use Rattle.std.proofs.lemmas.Map.Views.{tells_apart}
 use Rattle.xfs_base.specs.Blocks.{block_cmp}
 use Rattle.xfs_base.proofs.BlockOrder.{block_cmp_exact}
-use Rattle.xfs_base.specs.Steps.{still, after}
+use Rattle.xfs_base.specs.Steps.{still, saying}
 use Rattle.token_client.specs.declared.held.Fetch.{Fetch}
 use Rattle.token_client.specs.declared.held.Held.{Held}
 use Rattle.token_client.specs.declared.held.Wanted.{Wanted}
@@ -202,9 +202,9 @@ module _ (logs : Bool) (g : Setting) (end : ℕ) where
         let free : may_write (held_of u.blocks g.block) ≡ true =
         ap may_write now ∙ all_three true (is_none h.giving) (nat_lt entry.ver (2 ^ 64 - 1)) refl (ungiven stamp inc req Own t) room in
         let acts = WroteBlock g.client (g.number value) ∷ [] in
-        by_test (λ (d : Done). Acted logs g end w acts (after d.outs (on_wrote d.state g.block value))) (accepts s g.block stamp inc req Own)
+        by_test (λ (d : Done). Acted logs g end w acts (saying d.outs (on_wrote d.state g.block value))) (accepts s g.block stamp inc req Own)
         (record { state = u; outs = Ready g.block ∷ [] }) (still s)
-        (λ _. by_test (λ (d : Done). Acted logs g end w acts (after (Ready g.block ∷ []) d)) (may_write (held_of u.blocks g.block))
+        (λ _. by_test (λ (d : Done). Acted logs g end w acts (saying (Ready g.block ∷ []) d)) (may_write (held_of u.blocks g.block))
         (still (with_held u g.block (written (held_of u.blocks g.block) value))) (still u)
         (λ _. acts_lifted w acts u (written (held_of u.blocks g.block) value) s.req _
         (subst (λ k. Acts logs g end w acts (record l { held = written k value }) (Ready g.block ∷ [])) (sym now)
@@ -225,9 +225,9 @@ module _ (logs : Bool) (g : Setting) (end : ℕ) where
         let u = with_held s g.block mine in
         let now : held_of u.blocks g.block ≡ mine = held_of-put_itself g.block mine s.blocks in
         let free : may_evict (held_of u.blocks g.block) ≡ true = ap may_evict now ∙ ap not (clean_itself entry.ver) in
-        by_test (λ (d : Done). At (after d.outs (on_evict d.state g.block))) (accepts s g.block stamp inc req Own)
+        by_test (λ (d : Done). At (saying d.outs (on_evict d.state g.block))) (accepts s g.block stamp inc req Own)
         (record { state = u; outs = Ready g.block ∷ [] }) (still s)
-        (λ _. by_test (λ (d : Done). At (after (Ready g.block ∷ []) d)) (may_evict (held_of u.blocks g.block))
+        (λ _. by_test (λ (d : Done). At (saying (Ready g.block ∷ []) d)) (may_evict (held_of u.blocks g.block))
         (still (with_held u g.block (let_go (held_of u.blocks g.block)))) (still u)
         (λ _. lifted w u (let_go (held_of u.blocks g.block)) s.req _
         (subst (λ k. Goes logs g end w (record l { held = let_go k }) (Ready g.block ∷ [])) (sym now)

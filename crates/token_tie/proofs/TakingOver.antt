@@ -257,7 +257,7 @@ module _ (b : BlockId) (c : ℕ) (n : ℕ) where
 
   one-most : (bs : List (Holder × Bool)) (x : BlockId × ℕ × Mode) → (x.0 ≡ b → x.1 ≡ c → mode_number x.2 ≤ n) → share_of bs b c ≤ n → share_of (believed bs x) b c ≤ n
   unfolding believed
-  one-most bs x most less =
+  one-most bs x limit less =
       let q = holder b c in
       let k = holder x.0 x.1 in
       by_test (λ (rows : List (Holder × Bool)). manager.share (belief rows q) ≤ n) (is_nothing x.2) bs (insert_entry holder_cmp bs k (is_own x.2))
@@ -268,13 +268,13 @@ module _ (b : BlockId) (c : ℕ) (n : ℕ) where
           → manager.share (cond t (Some (is_own x.2)) (belief bs (holder b c))) ≤ n
       at true same some =
           let one : holder b c ≡ holder x.0 x.1 = tells_apart holder_cmp_exact (holder b c) (holder x.0 x.1) same in
-          let a = most (sym (ap (λ (h : Holder). h.block) one)) (sym (ap (λ (h : Holder). h.client) one)) in
+          let a = limit (sym (ap (λ (h : Holder). h.block) one)) (sym (ap (λ (h : Holder). h.client) one)) in
           let i = believed_rank x.2 some in omega arith
       at false apart some = less
 
   most-believed : (bs : List (Holder × Bool)) (xs : List (BlockId × ℕ × Mode)) → Most xs → share_of bs b c ≤ n → share_of (all_believed bs xs) b c ≤ n
-  most-believed bs [] most less = less
-  most-believed bs (x ∷ xs) most less = most-believed (believed bs x) xs most.1 (one-most bs x most.0 less)
+  most-believed bs [] limit less = less
+  most-believed bs (x ∷ xs) limit less = most-believed (believed bs x) xs limit.1 (one-most bs x limit.0 less)
 
   most_both : (xs ys : List (BlockId × ℕ × Mode)) → Most xs → Most ys → Most (xs ++ ys)
   most_both [] ys h k = k

@@ -7,7 +7,7 @@ use Rattle.xfs_base.specs.declared.token.Mode.{Mode}
 use Rattle.xfs_base.specs.declared.token.Mode.TheVariants.{Nothing, Copy, Own}
 use Rattle.xfs_base.specs.declared.token.Stamp.{Stamp}
 use Rattle.xfs_base.specs.Blocks.{same_block}
-use Rattle.xfs_base.specs.Steps.{after}
+use Rattle.xfs_base.specs.Steps.{saying}
 use Rattle.xfs_base.specs.Limits.{u64_end}
 use Rattle.token_client.specs.declared.input.In as inputs
 use Rattle.token_client.specs.declared.input.In.TheVariants.{Need, Granted, Supplied, Forwarded, Recalled, Wrote, Settled, Fetched, Evict, Reask, Quit, Promise, Tick}
@@ -78,7 +78,7 @@ TakesInputs =
 -- a grant to own, and the write of the waiting call
 abbrev pub granted_and_wrote : TokensState → Stamp → ℕ → ℕ → BlockId → Entry → Option (List ℕ) → Done
 granted_and_wrote s stamp inc req block entry value =
-    after (on_granted s block stamp inc req Own entry).outs (on_wrote (on_granted s block stamp inc req Own entry).state block value)
+    saying (on_granted s block stamp inc req Own entry).outs (on_wrote (on_granted s block stamp inc req Own entry).state block value)
 
 -- An accepted grant to own, with the write that it was wanted for, is one step.
 abbrev pub OwnsAndWrites : Type 0
@@ -91,7 +91,7 @@ OwnsAndWrites =
 -- a grant to own, let go unwritten
 abbrev pub granted_and_evicted : TokensState → Stamp → ℕ → ℕ → BlockId → Entry → Done
 granted_and_evicted s stamp inc req block entry =
-    after (on_granted s block stamp inc req Own entry).outs (on_evict (on_granted s block stamp inc req Own entry).state block)
+    saying (on_granted s block stamp inc req Own entry).outs (on_evict (on_granted s block stamp inc req Own entry).state block)
 
 abbrev pub OwnsAndDeclines : Type 0
 OwnsAndDeclines =

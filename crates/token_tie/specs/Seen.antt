@@ -42,7 +42,7 @@ abbrev pub stamp_seen : Stamp → abstract_stamps.Stamp
 stamp_seen s = record { epoch = s.epoch; turn = s.turn }
 
 abbrev pub node_seen : ℕ → Stamp → Node
-node_seen promised at = record { promised = promised; stamp = stamp_seen at }
+node_seen promised stamp = record { promised = promised; stamp = stamp_seen stamp }
 
 abbrev pub placed_of : Option Place → ℕ
 placed_of None = 0

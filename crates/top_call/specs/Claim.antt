@@ -67,7 +67,7 @@ IsInput command r input = IsRead (reads command) r input
 
 -- at most 1,048,577 bytes were read
 abbrev pub ReadsAtMost : Reading → ℕ → Type 0
-ReadsAtMost r most = (bytes : List ℕ) × (length bytes ≤ most) × Consumes r.before r.after bytes
+ReadsAtMost r bound = (bytes : List ℕ) × (length bytes ≤ bound) × Consumes r.before r.after bytes
 
 abbrev pub verdict_status : Verdict → ℕ
 verdict_status (Legal count) = 0

@@ -34,12 +34,12 @@ pub struct Drawn {
 }
 
 /// The number of a word, at most this.
-fn number_within(most: u32, word: &String) -> Option<u32>
-    ensures { result ≡ number_in 0 most (string_bytes word.now) }
+fn number_within(limit: u32, word: &String) -> Option<u32>
+    ensures { result ≡ number_in 0 limit (string_bytes word.now) }
 {
     match number_of(word.as_bytes()) {
         None => None,
-        Some(number) => { if number <= most { Some(number) } else { None } }
+        Some(number) => { if number <= limit { Some(number) } else { None } }
     }
 }
 

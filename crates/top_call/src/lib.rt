@@ -3,7 +3,6 @@
 #![tactic(auto)]
 
 pub mod command;
-pub mod input;
 pub mod memory_sink;
 pub mod memory_source;
 pub mod one_thread;
@@ -11,6 +10,7 @@ pub mod outcome;
 pub mod output;
 pub mod outside;
 pub mod spoken;
+pub mod whole_input;
 
 pub use memory_sink::MemSink;
 pub use memory_source::MemSource;

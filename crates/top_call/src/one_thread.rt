@@ -11,9 +11,9 @@ ghost use Rattle.top_call.specs.Input.{limit};
 ghost use Rattle.top_call.specs.Spoken.{refused_text, verdict_text};
 
 use crate::command::{Command, Drawn, read_words};
-use crate::input::{InputError, read_input};
 use crate::output::write_output;
 use crate::outside::{Sink, Source};
+use crate::whole_input::{InputError, read_input};
 use crate::{Outcome, spoken};
 use audit::audit;
 use play::play;

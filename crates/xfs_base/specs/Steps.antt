@@ -12,10 +12,10 @@ module _ {S O : Type 0} where
   still s = record { state = s; outs = [] }
 
   -- the same step, with these outs before its own
-  abbrev pub after : List O → Stepped S O → Stepped S O
-  after outs r = record { state = r.state; outs = outs ++ r.outs }
+  abbrev pub saying : List O → Stepped S O → Stepped S O
+  saying outs r = record { state = r.state; outs = outs ++ r.outs }
 
   -- one step for each item, in order
   abbrev pub steps : {A : Type 0} → (S → A → Stepped S O) → S → List A → Stepped S O
   steps step s [] = still s
-  steps step s (x ∷ xs) = after (step s x).outs (steps step (step s x).state xs)
+  steps step s (x ∷ xs) = saying (step s x).outs (steps step (step s x).state xs)

@@ -3,11 +3,11 @@
 #![tactic(auto)]
 
 pub mod host;
-pub mod top;
+pub mod calls;
 
 pub use core_world::AnyNode;
 pub use host::{StdSink, StdSource};
-pub use top::{solo, xfs};
+pub use calls::{solo, xfs};
 pub use top_call::{MemSink, MemSource, Outcome, Sink, Source};
 pub use world_base::{Estate, Event, World};
 pub use xfs_base::{Failed, Gate, OpenGate};

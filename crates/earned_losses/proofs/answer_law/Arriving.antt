@@ -43,7 +43,7 @@ use Rattle.xfs_base.proofs.Booleans.{by_test}
 use Rattle.xfs_base.specs.declared.news.SlotNews.{SlotNews}
 use Rattle.xfs_base.specs.declared.node.NodeId.{NodeId}
 use Rattle.xfs_base.specs.declared.node.NodeId.TheVariants as node
-use Rattle.xfs_base.specs.Steps.{after, steps, still}
+use Rattle.xfs_base.specs.Steps.{saying, steps, still}
 use Rattle.earned_losses.proofs.answer_law.Following.{Goes, Kept, IsOpen, ends_kept, first_goes, follows_go, from_goes, hands_go, itself, loses_go, plainly, reading_kept, stays, steps_go, takes_back_goes, then_goes, then_kept, writes_go}
 use Rattle.earned_losses.proofs.answer_law.Items.{same}
 use Rattle.earned_losses.proofs.answer_law.Telling.{AllPlain, IsPlain, all_flat_map, all_map, all_pushed_plain, told_append, told_plain}
@@ -177,7 +177,7 @@ unfolding takes_news
 takes_news_goes s news =
     let t : Serving = record s { maps = taken s.maps news } in
     let d : Done = steps hears t news.slots in
-    from_goes s t (after d.outs (regroups d.state (is_older s.maps news) news.groups)) (record { calls = λ well. well; number = refl; items = same _ })
+    from_goes s t (saying d.outs (regroups d.state (is_older s.maps news) news.groups)) (record { calls = λ well. well; number = refl; items = same _ })
     (then_goes t d (regroups d.state (is_older s.maps news) news.groups) (steps_go hears hears_goes t news.slots)
     (regroups_goes d.state (is_older s.maps news) news.groups))
 

@@ -70,9 +70,9 @@ take_next (x ∷ xs) (suc count) event is = ap (λ ys. x ∷ ys) (take_next xs c
 -- ---- items
 
 -- it knows of so many that have begun, the one that waits among them
-pub record Within (most : ℕ) (items : Items) : Type 0 where
-  pub begun : items.begun ≤ most
-  pub waits : (number : ℕ) → items.unanswered ≡ Some number → number ≤ most
+pub record Within (limit : ℕ) (items : Items) : Type 0 where
+  pub begun : items.begun ≤ limit
+  pub waits : (number : ℕ) → items.unanswered ≡ Some number → number ≤ limit
 
 next_is : (items : Items) (number : ℕ) → next_item items ≡ Some number → number ≡ items.begun + 1
 next_is items number =
@@ -115,8 +115,8 @@ module _ (past : List Event) (event : Event) where
       by (inl e) = (let more = more_now (node_of event) in let low = w.begun in omega arith)
       by (inr p) = (let more = begins_now p.0 in let low = w.begun in let is = p.1 in omega arith)
 
-pub nothing_within : (items : Items) → items.begun ≡ 0 → items.unanswered ≡ None → (most : ℕ) → Within most items
-nothing_within items none idle most = record { begun = omega arith; waits = λ number is. absurd (no_item number (sym idle ∙ is)) }
+pub nothing_within : (items : Items) → items.begun ≡ 0 → items.unanswered ≡ None → (limit : ℕ) → Within limit items
+nothing_within items none idle limit = record { begun = omega arith; waits = λ number is. absurd (no_item number (sym idle ∙ is)) }
   where
     no_item : (number : ℕ) → None ≡ Some number → ⊥
     no_item number is = cc

@@ -29,7 +29,7 @@ use Rattle.xfs_base.proofs.Booleans.{by_test}
 use Rattle.xfs_base.specs.declared.block.BlockId.{BlockId}
 use Rattle.xfs_base.specs.declared.token.Mode.TheVariants.{Copy, Own}
 use Rattle.xfs_base.specs.Modes.{is_nothing}
-use Rattle.xfs_base.specs.Steps.{after}
+use Rattle.xfs_base.specs.Steps.{saying}
 use Rattle.earned_losses.proofs.answer_law.Following.{Goes, IsOpen, Kept, from_goes, hands_go, itself, notes_gone_kept, plainly, seals_go, stays, then_goes, writes_go}
 use Rattle.earned_losses.proofs.answer_law.Items.{same, same_answered}
 use Rattle.earned_losses.proofs.answer_law.Plans.{BeginsWell, GoingWell, after_well, call_well}
@@ -144,7 +144,7 @@ upto_goes zero s well = stays s s (itself s)
 upto_goes (suc k) s well =
     let r : Ran = runs_once s in
     let g : Goes s r.done = once_goes s well in
-    by_test (Goes s) r.goes (after r.done.outs (runs_upto k r.done.state)) r.done
+    by_test (Goes s) r.goes (saying r.done.outs (runs_upto k r.done.state)) r.done
     (λ _. then_goes s r.done (runs_upto k r.done.state) g (upto_goes k r.done.state (g.kept.calls well))) (λ _. g)
 
 pub runs_go : (s : Serving) → CallsWell s.call → Goes s (runs s)
@@ -174,10 +174,10 @@ begins_goes s number (Some going) well good =
     let t : Serving = record s { lasting = record s.lasting { items = waiting s.lasting.items number } } in
     let d : Done = goes_on t going in
     let a : Goes t d = goes_on_goes t going good in
-    let b : Goes t (after d.outs (runs d.state)) = then_goes t d (runs d.state) a (runs_go d.state (a.kept.calls well)) in
+    let b : Goes t (saying d.outs (runs d.state)) = then_goes t d (runs d.state) a (runs_go d.state (a.kept.calls well)) in
     record {
       well = b.kept.calls well;
-      told = told_by (IsOpen t) (λ n. number ≡ n) (λ n is. one_number number n is) [] (after d.outs (runs d.state)).outs b.told;
+      told = told_by (IsOpen t) (λ n. number ≡ n) (λ n is. one_number number n is) [] (saying d.outs (runs d.state)).outs b.told;
       number_is = b.kept.number;
       begun = b.kept.items.begun;
       waits = λ n is. inr (one_number number n (b.kept.items.waits n is));

@@ -30,7 +30,7 @@ use Rattle.wire_msg.specs.declared.packet.Do.TheVariants.{Begin, Deliver, Tick}
 use Rattle.wire_msg.specs.declared.packet.Packet.{Packet}
 use Rattle.xfs_base.proofs.Booleans.{by_test}
 use Rattle.xfs_base.specs.declared.node.NodeId.TheVariants as nodes
-use Rattle.xfs_base.specs.Steps.{after, still}
+use Rattle.xfs_base.specs.Steps.{saying, still}
 use Rattle.earned_losses.proofs.answer_law.Emptying as emptied
 use Rattle.earned_losses.proofs.answer_law.Items as counting
 use Rattle.earned_losses.proofs.answer_law.Openings as openly
@@ -98,7 +98,7 @@ module _ (l : Lasting) (o : openings.Opening) (what : Do) where
   opened_so w plain so settles = by w.progress so
     where
       by : (p : Progress) → openly.SaysLoss p w.effects
-          → Turned (Opening l o) what (after w.effects (after_opening (record l { questions = w.questions }) p))
+          → Turned (Opening l o) what (saying w.effects (after_opening (record l { questions = w.questions }) p))
       by (progress.Opening r) h = record {
         items = counting.same_goes l.items l.items what (counting.same l.items);
         told = told_plain I [] (w.effects ++ []) (all_append IsPlain w.effects [] plain tt);

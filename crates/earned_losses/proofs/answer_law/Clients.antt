@@ -32,7 +32,7 @@ use Rattle.wire_msg.specs.declared.packet.Do.TheVariants.{Begin, Deliver, Tick}
 use Rattle.wire_msg.specs.declared.packet.Packet.{Packet}
 use Rattle.xfs_base.proofs.Booleans.{by_test}
 use Rattle.xfs_base.specs.declared.node.NodeId.TheVariants as nodes
-use Rattle.xfs_base.specs.Steps.{after, still}
+use Rattle.xfs_base.specs.Steps.{saying, still}
 use Rattle.earned_losses.proofs.answer_law.Arriving.{packet_goes, tick_goes}
 use Rattle.earned_losses.proofs.answer_law.Calling.{opens_go, runs_go}
 use Rattle.earned_losses.proofs.answer_law.Following.{Goes, IsOpen, then_goes}
@@ -98,7 +98,7 @@ module _ (l : Lasting) (o : openings.Opening) (capacity : ℕ) (what : Do) where
   opened_so w plain so settles = by w.progress so
     where
       by : (p : Progress) → openly.SaysLoss p w.effects
-          → Turned (Opening l o) what (after w.effects (after_opening (record l { questions = w.questions }) capacity p))
+          → Turned (Opening l o) what (saying w.effects (after_opening (record l { questions = w.questions }) capacity p))
       by (progress.Opening r) h = record {
         well = tt;
         number = refl;
@@ -239,7 +239,7 @@ begin_turned servers p well = by (next_item (items_in p)) refl
 -- ---- packets and time
 
 runs_then : (s : Serving) (what : Do) (d : Done) → CallsWell s.call → Goes s d → Turned (Serves s) what (then_runs d)
-runs_then s what d well g = served s what (after d.outs (runs d.state)) well (then_goes s d (runs d.state) g (runs_go d.state (g.kept.calls well)))
+runs_then s what d well g = served s what (saying d.outs (runs d.state)) well (then_goes s d (runs d.state) g (runs_go d.state (g.kept.calls well)))
 
 deliver_turned : (capacity : ℕ) (p : Phase) (packet : Packet) → GoesWell p → Turned p (Deliver packet) (on_deliver capacity p packet)
 unfolding on_deliver

@@ -60,7 +60,7 @@ use Rattle.xfs_base.specs.declared.node.NodeId.TheVariants as node
 use Rattle.xfs_base.specs.declared.segment.End.{End}
 use Rattle.xfs_base.specs.declared.segment.SegName.{SegName}
 use Rattle.xfs_base.specs.declared.segment.SegRef.{SegRef}
-use Rattle.xfs_base.specs.Steps.{after, steps, still}
+use Rattle.xfs_base.specs.Steps.{saying, steps, still}
 use Rattle.earned_losses.proofs.answer_law.Items.{Same, same, same_answered, same_then}
 use Rattle.earned_losses.proofs.answer_law.Telling.{AllQuiet, IsQuiet, all_append, all_flat_map, all_map, all_pushed_quiet, answers_quiet}
 
@@ -81,13 +81,13 @@ rests e = stays e e (same (items_of e))
 from_goes : (e f : Emptying) (d : Done) → Same (items_of e) (items_of f) → Goes f d → Goes e d
 from_goes e f d is g = record { items = same_then (items_of e) (items_of f) (items_of d.state) is g.items; quiet = g.quiet }
 
-then_goes : (e : Emptying) (d x : Done) → Goes e d → Goes d.state x → Goes e (after d.outs x)
+then_goes : (e : Emptying) (d x : Done) → Goes e d → Goes d.state x → Goes e (saying d.outs x)
 then_goes e d x a b = record {
   items = same_then (items_of e) (items_of d.state) (items_of x.state) a.items b.items;
   quiet = all_append IsQuiet d.outs x.outs a.quiet b.quiet;
 }
 
-first_goes : (e : Emptying) (outs : List Effect) (x : Done) → AllQuiet outs → Goes e x → Goes e (after outs x)
+first_goes : (e : Emptying) (outs : List Effect) (x : Done) → AllQuiet outs → Goes e x → Goes e (saying outs x)
 first_goes e outs x quiet g = record { items = g.items; quiet = all_append IsQuiet outs x.outs quiet g.quiet }
 
 steps_go : {A : Type 0} (step : Emptying → A → Done) → ((e : Emptying) (x : A) → Goes e (step e x)) → (e : Emptying) (xs : List A)
@@ -280,7 +280,7 @@ unfolding emptying.begins_job emptying.promises_all
 begins_go e number count =
     let f : Emptying = emptying.with_new_job e number count in
     let d : Done = steps emptying.promises_slot f (range_with_len 0 8) in
-    let g : Goes f (after d.outs (jobs.cleans d.state input.Tick)) =
+    let g : Goes f (saying d.outs (jobs.cleans d.state input.Tick)) =
     then_goes f d (jobs.cleans d.state input.Tick) (steps_go emptying.promises_slot promise_goes f (range_with_len 0 8)) (cleans_go d.state input.Tick) in
     record { begun = g.items.begun; waits = λ n is. inr (one_number number n (g.items.waits n is)); quiet = g.quiet }
 
@@ -369,8 +369,8 @@ takes_news_goes e news =
     let a : Done = emptying.job_regrouped f newer news.groups in
     let b : Done = emptying.hears_slots a.state news.slots in
     let c : Done = emptying.log_regrouped b.state newer news.groups in
-    from_goes e f (after a.outs (after b.outs c)) (same (items_of e))
-    (then_goes f a (after b.outs c) (if_goes newer f _ (cleans_go f (input.Maps news.groups)))
+    from_goes e f (saying a.outs (saying b.outs c)) (same (items_of e))
+    (then_goes f a (saying b.outs c) (if_goes newer f _ (cleans_go f (input.Maps news.groups)))
     (then_goes a.state b c (slots_go a.state news.slots) (if_goes newer b.state _ (writes_go b.state (log_in.Maps news.groups)))))
 
 news_goes : (e : Emptying) (news : News) → Goes e (emptying.on_news e news)
@@ -423,6 +423,6 @@ tick_goes e =
     let j : Done = jobs.cleans e input.Tick in
     let l : Done = emptying.writes j.state log_in.Tick in
     let pushed : List Effect = pushes_all l.state.promised.managers l.state.feed in
-    then_goes e j (after l.outs (record { state = l.state; outs = pushed })) (cleans_go e input.Tick)
+    then_goes e j (saying l.outs (record { state = l.state; outs = pushed })) (cleans_go e input.Tick)
     (then_goes j.state l (record { state = l.state; outs = pushed }) (writes_go j.state log_in.Tick)
     (record { items = same (items_of l.state); quiet = all_pushed_quiet l.state.promised.managers l.state.feed }))

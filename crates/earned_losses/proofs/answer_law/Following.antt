@@ -51,7 +51,7 @@ use Rattle.xfs_base.specs.declared.token.Mode.{Mode}
 use Rattle.xfs_base.specs.declared.token.Mode.TheVariants.{Copy}
 use Rattle.xfs_base.specs.declared.token.Stamp.{Stamp}
 use Rattle.xfs_base.specs.Modes.{is_held, is_nothing, same_mode}
-use Rattle.xfs_base.specs.Steps.{after, steps, still}
+use Rattle.xfs_base.specs.Steps.{saying, steps, still}
 use Rattle.earned_losses.proofs.answer_law.Items.{Same, same, same_answered, same_then}
 use Rattle.earned_losses.proofs.answer_law.Telling.{AllPlain, IsPlain, Told, all_append, all_flat_map, all_map, all_pushed_plain, pushed_plain, told_append, told_by, told_plain, told_then}
 use Rattle.earned_losses.specs.answer_law.Calls.{CallsWell}
@@ -92,14 +92,14 @@ pub from_goes : (s t : Serving) (d : Done) → Kept s t → Goes t d → Goes s 
 from_goes s t d k g =
     record { kept = then_kept s t d.state k g.kept; told = told_by (IsOpen t) (IsOpen s) k.items.waits [] d.outs g.told }
 
-pub then_goes : (s : Serving) (d x : Done) → Goes s d → Goes d.state x → Goes s (after d.outs x)
+pub then_goes : (s : Serving) (d x : Done) → Goes s d → Goes d.state x → Goes s (saying d.outs x)
 then_goes s d x a b = record {
   kept = then_kept s d.state x.state a.kept b.kept;
   told = told_append (IsOpen s) [] d.outs x.outs a.told (told_by (IsOpen d.state) (IsOpen s) a.kept.items.waits [] x.outs b.told);
 }
 
 -- what is said first is plain
-pub first_goes : (s : Serving) (outs : List Effect) (x : Done) → AllPlain outs → Goes s x → Goes s (after outs x)
+pub first_goes : (s : Serving) (outs : List Effect) (x : Done) → AllPlain outs → Goes s x → Goes s (saying outs x)
 first_goes s outs x plain a =
     record { kept = a.kept; told = told_append (IsOpen s) [] outs x.outs (told_plain (IsOpen s) [] outs plain) a.told }
 

@@ -43,7 +43,7 @@ use Rattle.wire_msg.specs.declared.storage.Stored.{Stored}
 use Rattle.xfs_base.proofs.Booleans.{by_test}
 use Rattle.xfs_base.specs.declared.node.NodeId.{NodeId}
 use Rattle.xfs_base.specs.declared.segment.End.{End}
-use Rattle.xfs_base.specs.Steps.{after, steps, still}
+use Rattle.xfs_base.specs.Steps.{saying, steps, still}
 use Rattle.earned_losses.proofs.answer_law.Telling.{AllPlain, IsPlain, NoAnswer, in_behind}
 
 -- ---- it answers nothing
@@ -80,7 +80,7 @@ WentSo w = SaysLoss w.progress w.effects
 abbrev MovedSo : Moved → Type 0
 MovedSo m = SaysLoss m.state m.outs
 
-said_after : (outs : List Effect) (m : Moved) → MovedSo m → MovedSo (after outs m)
+said_after : (outs : List Effect) (m : Moved) → MovedSo m → MovedSo (saying outs m)
 said_after outs m so = by m.state m.outs so
   where
     by : (p : Progress) (more : List Effect) → SaysLoss p more → SaysLoss p (outs ++ more)

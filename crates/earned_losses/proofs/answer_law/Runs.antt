@@ -46,10 +46,10 @@ use Rattle.earned_losses.specs.answer_law.Runs.{LostAnswersAreSaid}
 
 -- a client or the cleaner of this name: its call ends well, and the items of which it knows have begun
 abbrev Stands : NodeId → ℕ → AnyNode → Type 0
-Stands name most (any.Client c) =
-    (nodes.Client (lasting_of c.phase).number ≡ name) × (GoesWell c.phase × Within most (lasting_of c.phase).items)
-Stands name most (any.Cleaner c) = (nodes.Cleaner ≡ name) × Within most (cleaning.lasting_of c.phase).items
-Stands name most _ = Unit {0}
+Stands name limit (any.Client c) =
+    (nodes.Client (lasting_of c.phase).number ≡ name) × (GoesWell c.phase × Within limit (lasting_of c.phase).items)
+Stands name limit (any.Cleaner c) = (nodes.Cleaner ≡ name) × Within limit (cleaning.lasting_of c.phase).items
+Stands name limit _ = Unit {0}
 
 abbrev AllStand : Cluster → List Event → List AnyNode → Type 0
 AllStand k past xs = (name : NodeId) (x : AnyNode) → node_in xs (place_of k name) ≡ Some x → Stands name (begins_of name past) x

@@ -25,21 +25,21 @@ some_slot : 0 < 8
 some_slot = omega arith
 
 pub calls_read_what_was_filed : Below → CallsReadWhatWasFiled
-calls_read_what_was_filed below e ok run count none c some most item segment x =
+calls_read_what_was_filed below e ok run count none c some limit item segment x =
     let base = below.setting.0 in
     let lines = below.lines base e ok run in
     let texts = below.texts base e ok lines in
     let stands = below.moments base below.setting.1 e ok run lines texts count none in
-    let block = below.blocks e ok run c some most count x.reading x.is in
+    let block = below.blocks e ok run c some limit count x.reading x.is in
     subst (λ (ref : SegRef). WasFiled e count ref.name) x.of
     (was_filed base e run lines texts (first_of base e lines texts) count (stands.joints 0 some_slot) c x.reading x.is block.0 block.1)
 
 pub calls_read_what_is_stored : Below → CallsReadWhatIsStored
-calls_read_what_is_stored below e ok run count none c some most item segment x kept =
+calls_read_what_is_stored below e ok run count none c some limit item segment x kept =
     let base = below.setting.0 in
     let lines = below.lines base e ok run in
     let texts = below.texts base e ok lines in
     let stands = below.moments base below.setting.1 e ok run lines texts count none in
-    let block = below.blocks e ok run c some most count x.reading x.is in
+    let block = below.blocks e ok run c some limit count x.reading x.is in
     subst (λ (ref : SegRef). NotDeleted (moment e count) ref.name → IsStoredAs e count ref) x.of
     (is_stored base e run lines texts (first_of base e lines texts) count (stands.joints 0 some_slot) c x.reading x.is block.0 block.1 below.stored) kept

@@ -120,10 +120,10 @@ module _ (base : Setting) (e : Estate AnyNode) (run : IsRun any_step any_start e
   s = joint.idx.net.filed.segment r.target.seg.name.log.0 r.target.seg.name.seq
 
   h : HasLog base e lines texts 0 first l
-  h = filed_log base e lines texts 0 first count joint l q lies.some lies.most
+  h = filed_log base e lines texts 0 first count joint l q lies.some lies.limit
 
   most_there : q ≤ joint.idx.net.filed.head (log_by h.role)
-  most_there = subst (λ x. q ≤ joint.idx.net.filed.head x) (sym h.is) lies.most
+  most_there = subst (λ x. q ≤ joint.idx.net.filed.head x) (sym h.is) lies.limit
 
   flown_there : tables.In s ((lines h.role h.there).at count).net.flown
   flown_there =

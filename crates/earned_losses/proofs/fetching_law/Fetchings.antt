@@ -89,9 +89,9 @@ module _ (s : Serving) (what : Do) (o : Option ReadingState) (own its : NodeId) 
   said_lost (Does a ∷ outs) all (inr is) = said_lost outs all.1 is
 
 -- a Grant that is taken doesn't answer a want before these
-not_both : (b : BlockId) (life top epoch : ℕ) (s : TokensState) → Later b life top epoch s → (g : Grant)
-    → accepts s g.block g.stamp g.inc g.req g.mode ≡ true → (g.inc ≡ life → epoch ≤ g.stamp.epoch → g.req ≤ top) → b ≡ g.block → ⊥
-not_both b life top epoch s l g taken before here =
+not_both : (b : BlockId) (life highest epoch : ℕ) (s : TokensState) → Later b life highest epoch s → (g : Grant)
+    → accepts s g.block g.stamp g.inc g.req g.mode ≡ true → (g.inc ≡ life → epoch ≤ g.stamp.epoch → g.req ≤ highest) → b ≡ g.block → ⊥
+not_both b life highest epoch s l g taken before here =
     let promised : is_promised s g.block g.stamp ≡ true = and_first (is_promised s g.block g.stamp) (g.inc == s.inc) (and_first
     (is_promised s g.block g.stamp && (g.inc == s.inc)) (is_answer (held_of s.blocks g.block) g.stamp g.req g.mode) taken) in
     let same_life : (g.inc == s.inc) ≡ true = and_second (is_promised s g.block g.stamp) (g.inc == s.inc) (and_first
@@ -104,7 +104,7 @@ not_both b life top epoch s l g taken before here =
     (let at = equal (epoch_of s.epochs (slot_of g.block.ino.0)) g.stamp.epoch promised in
     let low = subst (λ (x : BlockId). epoch ≤ epoch_of s.epochs (slot_of x.ino.0)) here l.promised in omega arith))
   where
-    later_wants : (o : Option Wanted) → Above b life top epoch o → is_wanted o g.req g.mode ≡ true → g.req ≤ top → ⊥
+    later_wants : (o : Option Wanted) → Above b life highest epoch o → is_wanted o g.req g.mode ≡ true → g.req ≤ highest → ⊥
     later_wants None above none low = contrary none
     later_wants (Some w) above same low =
         let number = equal w.req g.req (and_first (w.req == g.req) (same_mode w.mode g.mode) same) in
@@ -149,7 +149,7 @@ module _ (base : Setting) (e : Estate AnyNode) (run : IsRun any_step any_start e
         let g : Grant = d.confirms.grant in
         let y : Renewed e c x.at count g.block =
         x.renewed (record { item = d.confirms.place.item; block = g.block }) (ap (λ (t : Target). t.block) d.confirms.reads) in
-        let l : Later g.block y.life y.top y.epoch s.tokens = y.later s serves in
+        let l : Later g.block y.life y.highest y.epoch s.tokens = y.later s serves in
         record {
           reading = d.was;
           is_read = read;
@@ -161,10 +161,10 @@ module _ (base : Setting) (e : Estate AnyNode) (run : IsRun any_step any_start e
           second = x.torn.second;
           in_order = x.torn.follows;
           before = (let a = x.torn.ends in let b = x.until in omega arith);
-          reads = λ k since most. h.reads k (let a = x.torn.begins in omega arith) most;
+          reads = λ k since limit. h.reads k (let a = x.torn.begins in omega arith) limit;
           torn = λ kept. x.torn.torn (subst (NotDeleted (moment e x.torn.second)) d.named kept);
           asked_after = λ among.
-              not_both g.block y.life y.top y.epoch s.tokens l g d.accepted
+              not_both g.block y.life y.highest y.epoch s.tokens l g d.accepted
               (λ life heard. y.before d.confirms.packet g (sent_on e x.torn.second x.at x.torn.ends d.confirms.packet among)
               (gets_it d.confirms.packet d.confirms.delivers) d.confirms.is refl life heard) refl;
         }
@@ -225,13 +225,13 @@ pub record Below : Type 0 where
   pub nodes : NodeLaws
 
 pub fetches_lose : Below → FetchesLossesEarned
-fetches_lose below e ok run c some most count event is own s serves name among =
-    lost_earned below.setting e run (below.lines below.setting e ok run) c (some, most)
+fetches_lose below e ok run c some limit count event is own s serves name among =
+    lost_earned below.setting e run (below.lines below.setting e ok run) c (some, limit)
     (λ drawn rises count v p m sent from to tells. below.answers e ok run (nodes.Client c) drawn rises count v p m sent from to tells)
     (λ count t there b p m. grants_are_asked below.nodes e ok run count b c t there p m) below.groups count event is own s serves name among
 
 pub calls_read_blocks : Below → CallsReadBlocks
-calls_read_blocks below e ok run c some most count r is =
-    reads_block below.setting e run (below.lines below.setting e ok run) c (some, most)
+calls_read_blocks below e ok run c some limit count r is =
+    reads_block below.setting e run (below.lines below.setting e ok run) c (some, limit)
     (λ drawn rises count v p m sent from to tells. below.answers e ok run (nodes.Client c) drawn rises count v p m sent from to tells)
     (λ count t there b p m. grants_are_asked below.nodes e ok run count b c t there p m) below.groups count r is

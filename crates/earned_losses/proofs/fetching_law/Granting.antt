@@ -186,7 +186,7 @@ module _ (s : Serving) (fresh : s.lasting.questions.last < next_ask s.lasting.qu
     loses_turns doubted block = record {
       draws = inl last_is;
       maps = inl rests.maps;
-      wants = λ k inc top epoch l. takes_on t.tokens (input.Quit block) k inc top epoch (rests.wants k inc top epoch l);
+      wants = λ k inc highest epoch l. takes_on t.tokens (input.Quit block) k inc highest epoch (rests.wants k inc highest epoch l);
       opens = λ some. contrary (sym some);
       reading = λ r read. absurd (let clash : None ≡ Some r = read in cc);
       says = (

@@ -51,7 +51,7 @@ use Rattle.xfs_base.specs.declared.news.SlotNews.{SlotNews}
 use Rattle.xfs_base.specs.declared.node.NodeId.{NodeId}
 use Rattle.xfs_base.specs.declared.node.NodeId.TheVariants as node
 use Rattle.xfs_base.specs.Limits.{u32_end}
-use Rattle.xfs_base.specs.Steps.{still, after, steps}
+use Rattle.xfs_base.specs.Steps.{still, saying, steps}
 use Rattle.earned_losses.proofs.fetching_law.Quiet.{AllQuiet, Goes, IsQuiet, Rests, all_pushed_quiet, answered_quiet, asks_again, ends_rest, first_goes, follows_go, from_goes, hands_go, itself, stays, steps_go, takes_back_goes, then_rests}
 use Rattle.earned_losses.proofs.fetching_law.Wants.{Anew, same_wants, takes_on}
 use Rattle.earned_losses.proofs.fetching_law.Working.{writes_go}
@@ -353,7 +353,7 @@ module _ (s : Serving) (fresh : s.lasting.questions.last < next_ask s.lasting.qu
     says = (tt, tt);
   }
 
-  pub packet_turns : Turns s (Deliver packet) (after (on_packet s packet).outs (runs (on_packet s packet).state))
+  pub packet_turns : Turns s (Deliver packet) (saying (on_packet s packet).outs (runs (on_packet s packet).state))
   unfolding on_packet
   packet_turns =
       then_run s (Deliver packet) (on_packet s packet)
@@ -365,7 +365,7 @@ fetched_again : (s : Serving) (o : Option ReadingState) → AllSay s Tick o (fet
 fetched_again s None = tt
 fetched_again s (Some r) = fetches_say s Tick r
 
-pub time_turns : (s : Serving) → Turns s Tick (after (on_tick s).outs (runs (on_tick s).state))
+pub time_turns : (s : Serving) → Turns s Tick (saying (on_tick s).outs (runs (on_tick s).state))
 unfolding on_tick
 time_turns s =
     let w : Done = hands s input.Tick in
@@ -387,7 +387,7 @@ time_turns s =
     again_as : (s : Serving) (w l : Done) → Turns s Tick (gives w.state (w.outs ++ fetches_again (reading_in w.state.call))) → Goes w.state l
         → Turns s Tick (gives l.state (w.outs ++ (fetches_again (reading_in w.state.call) ++ (l.outs ++ pushes_all l.state.managers l.state.feed))))
     again_as s w l b g =
-        let c : Turns s Tick (after (w.outs ++ fetches_again (reading_in w.state.call)) (gives l.state (l.outs ++ pushes_all l.state.managers l.state.feed))) =
+        let c : Turns s Tick (saying (w.outs ++ fetches_again (reading_in w.state.call)) (gives l.state (l.outs ++ pushes_all l.state.managers l.state.feed))) =
         turn_goes s Tick (gives w.state (w.outs ++ fetches_again (reading_in w.state.call)))
         (gives l.state (l.outs ++ pushes_all l.state.managers l.state.feed)) b
         (record {

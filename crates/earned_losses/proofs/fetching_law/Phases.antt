@@ -34,7 +34,7 @@ use Rattle.version_model.specs.declared.work.Work.TheVariants as work
 use Rattle.wire_msg.specs.declared.packet.Do.{Do}
 use Rattle.wire_msg.specs.declared.packet.Do.TheVariants.{Begin, Deliver, Tick}
 use Rattle.wire_msg.specs.declared.packet.Packet.{Packet}
-use Rattle.xfs_base.specs.Steps.{still, after}
+use Rattle.xfs_base.specs.Steps.{still, saying}
 use Rattle.earned_losses.proofs.fetching_law.Packets.{packet_turns, time_turns}
 use Rattle.earned_losses.proofs.fetching_law.Quiet.{AllQuiet, IsQuiet, answered_quiet}
 use Rattle.earned_losses.proofs.fetching_law.Turning.{AllSay, Comes, Draws, NewMaps, Turns, all_quiet_say, itself_turns}
@@ -122,13 +122,13 @@ module _ (s : Serving) (waits : WaitsFor s) where
 
     module _ (t : Serving) (outs : List Effect) (quiet : AllQuiet outs) (questions : t.lasting.questions ≡ s.lasting.questions) (maps : t.maps ≡ s.maps)
         (wants : Lasts s.tokens t.tokens) (unread : reading_in t.call ≡ None) (opens : is_none t.call ≡ false → is_some t.lasting.items.unanswered ≡ true) where
-      run_so : Goes_so (after outs (runs t))
+      run_so : Goes_so (saying outs (runs t))
       run_so =
           let b : RunsOn t (runs t) = runs_run t in
           record {
             draws = inl (ap (λ (q : Questions). q.last) (b.runs.questions ∙ questions));
             maps = inl (b.runs.maps ∙ maps);
-            wants = λ k inc top epoch l. b.runs.wants k inc top epoch (wants k inc top epoch l);
+            wants = λ k inc highest epoch l. b.runs.wants k inc highest epoch (wants k inc highest epoch l);
             waits = still_open b.runs.ends;
             reading = λ r read. absurd (nothing b.runs.ends r read);
             says = all_append _ outs (runs t).outs (all_quiet_say s Begin _ outs quiet) (all_quiet_say s Begin _ (runs t).outs b.quiet);
@@ -153,7 +153,7 @@ module _ (s : Serving) (waits : WaitsFor s) where
         by None is = refl
         by (Some call) is = contrary is
 
-    going_so : (going : Going) → GoingNew going → Goes_so (after (goes_on waiting_on going).outs (runs (goes_on waiting_on going).state))
+    going_so : (going : Going) → GoingNew going → Goes_so (saying (goes_on waiting_on going).outs (runs (goes_on waiting_on going).state))
     unfolding goes_on
     going_so (On call) new = run_so (record waiting_on { call = Some call }) [] tt refl refl (same_wants s.tokens) new (λ some. refl)
     going_so (Ends a) new =

@@ -49,7 +49,7 @@ use Rattle.xfs_base.specs.declared.token.Mode.TheVariants.{Copy}
 use Rattle.xfs_base.specs.declared.token.Stamp.{Stamp}
 use Rattle.xfs_base.specs.Limits.{u32_end}
 use Rattle.xfs_base.specs.Modes.{is_nothing, same_mode}
-use Rattle.xfs_base.specs.Steps.{still, after, steps}
+use Rattle.xfs_base.specs.Steps.{still, saying, steps}
 use Rattle.earned_losses.proofs.fetching_law.Wants.{Anew, Lasts, asked_anew, same_wants, takes_on}
 
 -- ---- what is said
@@ -101,7 +101,7 @@ then_rests s t u a b = record {
   maps = b.maps ∙ a.maps;
   call = b.call ∙ a.call;
   reading = less_then (reading_in s.call) (reading_in t.call) (reading_in u.call) a.reading b.reading;
-  wants = λ k inc top epoch l. b.wants k inc top epoch (a.wants k inc top epoch l);
+  wants = λ k inc highest epoch l. b.wants k inc highest epoch (a.wants k inc highest epoch l);
 }
 
 pub record Goes (s : Serving) (d : Done) : Type 0 where
@@ -111,7 +111,7 @@ pub record Goes (s : Serving) (d : Done) : Type 0 where
 pub stays : (s t : Serving) → Rests s t → Goes s (still t)
 stays s t r = record { rests = r; quiet = tt }
 
-pub then_goes : (s : Serving) (d x : Done) → Goes s d → Goes d.state x → Goes s (after d.outs x)
+pub then_goes : (s : Serving) (d x : Done) → Goes s d → Goes d.state x → Goes s (saying d.outs x)
 then_goes s d x a b = record { rests = then_rests s d.state x.state a.rests b.rests; quiet = all_append IsQuiet d.outs x.outs a.quiet b.quiet }
 
 -- from one that is as it was
@@ -119,7 +119,7 @@ pub from_goes : (s t : Serving) (d : Done) → Rests s t → Goes t d → Goes s
 from_goes s t d r g = record { rests = then_rests s t d.state r g.rests; quiet = g.quiet }
 
 -- what is said first is quiet
-pub first_goes : (s : Serving) (outs : List Effect) (x : Done) → AllQuiet outs → Goes s x → Goes s (after outs x)
+pub first_goes : (s : Serving) (outs : List Effect) (x : Done) → AllQuiet outs → Goes s x → Goes s (saying outs x)
 first_goes s outs x none a = record { rests = a.rests; quiet = all_append IsQuiet outs x.outs none a.quiet }
 
 pub steps_go : {A : Type 0} (step : Serving → A → Done) → ((s : Serving) (x : A) → Goes s (step s x)) → (s : Serving) (xs : List A) → Goes s (steps step s xs)

@@ -55,7 +55,7 @@ use Rattle.earned_losses.proofs.fetching_law.Turning.{Begins, Comes, Resumes, To
 
 -- at most the next number is this one, or at most this one
 pub last_or_before : (k count : ℕ) → k ≤ suc count → (k ≡ suc count) ⊎ (k ≤ count)
-last_or_before k count most = by (nat_lt count k) refl
+last_or_before k count limit = by (nat_lt count k) refl
   where
     by : (t : Bool) → nat_lt count k ≡ t → (k ≡ suc count) ⊎ (k ≤ count)
     by true more = inl (grind (arith, nat_tests))
@@ -99,11 +99,11 @@ module _ (e : Estate AnyNode) (c : ℕ) where
   -- a Grant of the block that the client could take now was not sent yet at a moment
   pub record Renewed (at count : ℕ) (b : BlockId) : Type 0 where
     pub life : ℕ
-    pub top : ℕ
+    pub highest : ℕ
     pub epoch : ℕ
-    pub later : (s : Serving) → serving_at e c count ≡ Some s → Later b life top epoch s.tokens
+    pub later : (s : Serving) → serving_at e c count ≡ Some s → Later b life highest epoch s.tokens
     pub before : (p : Packet) (m : Grant) → In p (moment e at).sent → p.to ≡ reader → p.body ≡ body.Grant m → m.block ≡ b → m.inc ≡ life
-        → epoch ≤ m.stamp.epoch → m.req ≤ top
+        → epoch ≤ m.stamp.epoch → m.req ≤ highest
 
   -- two rounds have missed the segment, and the place of the block was asked for again since
   pub record Doubt (since count : ℕ) (target : Target) : Type 0 where
@@ -132,8 +132,8 @@ module _ (e : Estate AnyNode) (c : ℕ) where
     -- wants that were renewed are so still
     abbrev WantsOn : Type 0
     WantsOn =
-        (b : BlockId) (life top epoch : ℕ) → ((s : Serving) → serving_at e c count ≡ Some s → Later b life top epoch s.tokens)
-        → (t : Serving) → serving_at e c (suc count) ≡ Some t → Later b life top epoch t.tokens
+        (b : BlockId) (life highest epoch : ℕ) → ((s : Serving) → serving_at e c count ≡ Some s → Later b life highest epoch s.tokens)
+        → (t : Serving) → serving_at e c (suc count) ≡ Some t → Later b life highest epoch t.tokens
 
     doubt_on : WantsOn → (since : ℕ) (target : Target) → Doubt since count target → Doubt since (suc count) target
     doubt_on on since target d = record {
@@ -142,9 +142,9 @@ module _ (e : Estate AnyNode) (c : ℕ) where
       torn = d.torn;
       renewed = λ x block. (let r = d.renewed x block in record {
         life = r.life;
-        top = r.top;
+        highest = r.highest;
         epoch = r.epoch;
-        later = on x.block r.life r.top r.epoch r.later;
+        later = on x.block r.life r.highest r.epoch r.later;
         before = r.before;
       });
     }
@@ -159,10 +159,10 @@ module _ (e : Estate AnyNode) (c : ℕ) where
       since = h.since;
       item = h.item;
       begins = (let a = h.begins in omega arith);
-      reads = λ k since most.
+      reads = λ k since limit.
           ⊎_elim (λ last. subst (λ n. ReadsAt e c n h.item r.target.seg) (sym last)
           (record { reading = r; is = is; of = refl; its_item = same h.item (h.reads count h.begins (omega arith)).its_item }))
-          (λ before. subst (λ (x : Target). ReadsAt e c k h.item x.seg) (sym target) (h.reads k since before)) (last_or_before k count most);
+          (λ before. subst (λ (x : Target). ReadsAt e c k h.item x.seg) (sym target) (h.reads k since before)) (last_or_before k count limit);
       block = h.block;
       looks = ap (λ (x : Target). x.block) target ∙ h.looks;
       so = so;
@@ -181,7 +181,7 @@ module _ (e : Estate AnyNode) (c : ℕ) where
     pub aside : serving_at e c (suc count) ≡ serving_at e c count → ((p : Packet) → In p new → p.from ≡ reader → ⊥) → AllReads count → AllReads (suc count)
     aside same others all r is =
         let before : what_is_read (serving_at e c count) ≡ Some r = sym (ap what_is_read same) ∙ is in
-        stays_so (λ b life top epoch was t there. was t (sym same ∙ there)) r (all r before) (λ item opens. ap open_item same ∙ opens) is
+        stays_so (λ b life highest epoch was t there. was t (sym same ∙ there)) r (all r before) (λ item opens. ap open_item same ∙ opens) is
         (λ p m late from asks number. absurd (others p late from))
 
     -- ---- its own event
@@ -199,8 +199,8 @@ module _ (e : Estate AnyNode) (c : ℕ) where
       one_serving x y e = cc
 
       wants_on : WantsOn
-      wants_on b life top epoch was u there =
-          subst (λ (x : Serving). Later b life top epoch x.tokens) (one_serving t u (sym is_there ∙ there)) (wants b life top epoch (was s was_there))
+      wants_on b life highest epoch was u there =
+          subst (λ (x : Serving). Later b life highest epoch x.tokens) (one_serving t u (sym is_there ∙ there)) (wants b life highest epoch (was s was_there))
 
       read_before : (was : ReadingState) → reading_in s.call ≡ Some was → Reads count was
       read_before was is = all was (ap what_is_read was_there ∙ is)
@@ -245,7 +245,7 @@ module _ (e : Estate AnyNode) (c : ℕ) where
               (subst (StageTrue e reader h.since count x.was.ask (on_answer x.was x.groups x.ask x.server x.told).state) doubted so.stage);
           renewed = λ at block. record {
             life = s.tokens.inc;
-            top = s.tokens.req;
+            highest = s.tokens.req;
             epoch = epoch_of s.tokens.epochs (slot_of at.block.ino.0);
             later = λ u there.
                 subst (λ (y : Serving). Anew s.tokens at.block y.tokens) (one_serving t u (sym is_there ∙ there)) (x.again again at block);
@@ -315,7 +315,7 @@ module _ (e : Estate AnyNode) (c : ℕ) where
               since = suc count;
               item = item;
               begins = omega arith;
-              reads = λ k since most.
+              reads = λ k since limit.
                   let same : suc count ≡ k = omega arith in
                   subst (λ n. ReadsAt e c n item r.target.seg) same
                   (record { reading = r; is = now_read; of = refl; its_item = ap open_item is_there ∙ now_open });

@@ -35,7 +35,7 @@ use Rattle.wire_msg.specs.declared.registry.News.{News}
 use Rattle.xfs_base.specs.Blocks.{slot_of}
 use Rattle.xfs_base.specs.declared.node.NodeId.TheVariants as node
 use Rattle.xfs_base.specs.declared.segment.SegName.{SegName}
-use Rattle.xfs_base.specs.Steps.{still, after}
+use Rattle.xfs_base.specs.Steps.{still, saying}
 use Rattle.earned_losses.specs.fetching_law.Fetchings.{BringsGone, Confirms}
 use Rattle.earned_losses.proofs.fetching_law.Quiet.{AllQuiet, Goes, IsQuiet, Less, NotLost, NoFetch, itself}
 use Rattle.earned_losses.proofs.fetching_law.Wants.{Anew, Lasts}
@@ -242,11 +242,11 @@ module _ (s : Serving) (what : Do) where
     maps_then (inr n) = inr (record { news = n.news; packet = n.packet; delivers = n.delivers; bears = n.bears; now = b.runs.maps ∙ n.now })
 
     -- its call runs on
-    pub turn_runs : Turns (after d.outs x)
+    pub turn_runs : Turns (saying d.outs x)
     turn_runs = record {
       draws = subst Draws (sym same_last) a.draws;
       maps = maps_then a.maps;
-      wants = λ k inc top epoch l. b.runs.wants k inc top epoch (a.wants k inc top epoch l);
+      wants = λ k inc highest epoch l. b.runs.wants k inc highest epoch (a.wants k inc highest epoch l);
       opens = runs_open b.runs.ends;
       reading = λ r is.
           subst (λ last. Comes x.state.tokens last r) (sym same_last)
@@ -257,8 +257,8 @@ module _ (s : Serving) (what : Do) where
     }
 
   -- what is quiet goes on
-  pub turn_goes : (d x : Done) → Turns d → Goes d.state x → Turns (after d.outs x)
+  pub turn_goes : (d x : Done) → Turns d → Goes d.state x → Turns (saying d.outs x)
   turn_goes d x a g = turn_runs d a x (record { runs = rests_run d.state x.state g.rests; quiet = g.quiet })
 
-  pub then_run : (d : Done) → Turns d → Turns (after d.outs (runs d.state))
+  pub then_run : (d : Done) → Turns d → Turns (saying d.outs (runs d.state))
   then_run d a = turn_runs d a (runs d.state) (runs_run d.state)

@@ -25,7 +25,7 @@ use Rattle.xfs_base.specs.declared.token.Stamp.{Stamp}
 use Rattle.xfs_base.specs.Limits.{u32_end}
 use Rattle.xfs_base.specs.Modes.{is_own, is_held}
 use Rattle.xfs_base.specs.Stamps.{is_later}
-use Rattle.xfs_base.specs.Steps.{still, after, steps}
+use Rattle.xfs_base.specs.Steps.{still, saying, steps}
 
 at_most : (a b : ℕ) → nat_le a b ≡ true → a ≤ b
 at_most a b h = grind (arith, nat_tests)
@@ -38,11 +38,11 @@ epoch_rises (x ∷ xs) zero epoch (suc other) less = omega arith
 epoch_rises (x ∷ xs) (suc slot) epoch zero less = omega arith
 epoch_rises (x ∷ xs) (suc slot) epoch (suc other) less = epoch_rises xs slot epoch other less
 
-module _ (b : BlockId) (inc top epoch : ℕ) where
+module _ (b : BlockId) (inc highest epoch : ℕ) where
   -- a want, where there is one, has a later number
   abbrev pub Above : Option Wanted → Type 0
   Above None = Unit {0}
-  Above (Some w) = top < w.req
+  Above (Some w) = highest < w.req
 
   -- so it is of the block
   abbrev At : BlockId → Held → Type 0
@@ -50,7 +50,7 @@ module _ (b : BlockId) (inc top epoch : ℕ) where
 
   pub record Later (s : TokensState) : Type 0 where
     pub life : s.inc ≡ inc
-    pub counted : top ≤ s.req
+    pub counted : highest ≤ s.req
     pub promised : epoch ≤ epoch_of s.epochs (slot_of b.ino.0)
     pub want : (q : BlockId) → q ≡ b → Above (held_of s.blocks q).want
 
@@ -142,7 +142,7 @@ module _ (b : BlockId) (inc top epoch : ℕ) where
   above_so : (s : TokensState) (block : BlockId) (stamp : Stamp) (keep : Bool) → Later s → Keeps (recalled_above s block stamp keep)
   unfolding recalled_above
   above_so s block stamp keep l =
-      by_test Keeps (can_refetch s block) (after (refetch s block).outs (give (refetch s block).state block stamp keep)) (still s)
+      by_test Keeps (can_refetch s block) (saying (refetch s block).outs (give (refetch s block).state block stamp keep)) (still s)
       (λ t. give_so (refetch s block).state block stamp keep (refetch_so s block l)) (λ t. l)
 
   again_so : (s : TokensState) (block : BlockId) (stamp : Stamp) → Later s → Keeps (recalled_again s block stamp)
@@ -266,19 +266,19 @@ module _ (b : BlockId) (inc top epoch : ℕ) where
 
 -- whatever was so of the wants of a block is so
 abbrev pub Lasts : TokensState → TokensState → Type 0
-Lasts s t = (b : BlockId) (inc top epoch : ℕ) → Later b inc top epoch s → Later b inc top epoch t
+Lasts s t = (b : BlockId) (inc highest epoch : ℕ) → Later b inc highest epoch s → Later b inc highest epoch t
 
 pub same_wants : (s : TokensState) → Lasts s s
-same_wants s b inc top epoch l = l
+same_wants s b inc highest epoch l = l
 
 pub takes_on : (s : TokensState) (i : In) → Lasts s (transition s i).state
-takes_on s i b inc top epoch l = later_taken b inc top epoch s i l
+takes_on s i b inc highest epoch l = later_taken b inc highest epoch s i l
 
 pub granted_on : (s : TokensState) (block : BlockId) (stamp : Stamp) (mode : Mode) (entry : Entry)
     → Lasts s (with_held s block (grant_taken (held_of s.blocks block) stamp mode entry))
-granted_on s block stamp mode entry b inc top epoch l =
-    put_so b inc top epoch s block (grant_taken (held_of s.blocks block) stamp mode entry)
-    (taken_so b inc top epoch (held_of s.blocks block) block stamp mode entry) l
+granted_on s block stamp mode entry b inc highest epoch l =
+    put_so b inc highest epoch s block (grant_taken (held_of s.blocks block) stamp mode entry)
+    (taken_so b inc highest epoch (held_of s.blocks block) block stamp mode entry) l
 
 -- what is asked again has a later number, as long as the block is fetched
 module _ (s : TokensState) (block : BlockId) where

@@ -42,7 +42,7 @@ use Rattle.xfs_base.specs.declared.entry.Entry.{Entry}
 use Rattle.xfs_base.specs.declared.segment.End.{End}
 use Rattle.xfs_base.specs.declared.token.Mode.TheVariants.{Copy, Own}
 use Rattle.xfs_base.specs.Modes.{is_held, is_nothing}
-use Rattle.xfs_base.specs.Steps.{still, after, steps}
+use Rattle.xfs_base.specs.Steps.{still, saying, steps}
 use Rattle.earned_losses.proofs.fetching_law.Wants.{Lasts, same_wants, takes_on}
 use Rattle.earned_losses.proofs.fetching_law.Quiet.{AllQuiet, Goes, IsQuiet, Less, Rests, all_pushed_quiet, answered_quiet, first_goes, fold_rests, from_goes, hands_go, itself, less_then, notes_clean_rests, notes_gone_rests, seals_go, stays, steps_go, takes_back_goes, then_goes, then_rests}
 
@@ -225,7 +225,7 @@ then_runs : (s t u : Serving) → Runs s t → Runs t u → Runs s u
 then_runs s t u a b = record {
   questions = b.questions ∙ a.questions;
   maps = b.maps ∙ a.maps;
-  wants = λ k inc top epoch l. b.wants k inc top epoch (a.wants k inc top epoch l);
+  wants = λ k inc highest epoch l. b.wants k inc highest epoch (a.wants k inc highest epoch l);
   ends = ends_then s t u a b.ends;
 }
 
@@ -294,7 +294,7 @@ turns_run : (k : ℕ) (s : Serving) → ((t : Serving) → RunsOn t (runs_upto k
 unfolding runs_upto
 turns_run k s rest p =
     let r : Ran = runs_once s in
-    by_test (RunsOn s) r.goes (after r.done.outs (runs_upto k r.done.state)) r.done
+    by_test (RunsOn s) r.goes (saying r.done.outs (runs_upto k r.done.state)) r.done
     (λ _. let q : RunsOn r.done.state (runs_upto k r.done.state) = rest r.done.state in
     record {
       runs = then_runs s r.done.state (runs_upto k r.done.state).state p.runs q.runs;

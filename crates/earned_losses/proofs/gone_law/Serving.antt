@@ -45,7 +45,7 @@ use Rattle.xfs_base.proofs.Booleans.{by_test}
 use Rattle.xfs_base.specs.declared.news.SlotNews.{SlotNews}
 use Rattle.xfs_base.specs.declared.node.NodeId.{NodeId}
 use Rattle.xfs_base.specs.declared.segment.LogId.{LogId}
-use Rattle.xfs_base.specs.Steps.{Stepped, after, steps, still}
+use Rattle.xfs_base.specs.Steps.{Stepped, saying, steps, still}
 use Rattle.earned_losses.proofs.gone_law.Breaking.{Ends, found_goes, missing_goes, rests_go, want_goes}
 use Rattle.earned_losses.proofs.gone_law.Slots.{AllPlain, IsPlain, TableKept, TableRests, asked_plain, asks_rest, check_rests, cleaned_kept, deltas_rest, gaves_rest, heard_rest, named_kept, recalls_rest, regroups_rest, reports_rest, same_table}
 use Rattle.earned_losses.proofs.taking_law.Frames.{all_append, all_flat_map}
@@ -58,7 +58,7 @@ Rests s d = TableRests s.slots d.state.slots d.outs
 pub rests_still : (s : Serving) → Rests s (still s)
 rests_still s = same_table s.slots
 
-pub rests_then : (s : Serving) (d e : Done) → Rests s d → Rests d.state e → Rests s (after d.outs e)
+pub rests_then : (s : Serving) (d e : Done) → Rests s d → Rests d.state e → Rests s (saying d.outs e)
 rests_then s d e a b =
     record { kept = λ k epoch name is. a.kept k epoch name (b.kept k epoch name is); plain = all_append IsPlain d.outs e.outs a.plain b.plain }
 
@@ -181,7 +181,7 @@ unfolding on_newer regroups
 newer_rests s clients news =
     let a : Done = with_asker s (table.regroups_all news.groups (asker_of s)) in
     let b : Done = hears_slots a.state clients news.slots in
-    let ab : Done = after a.outs b in
+    let ab : Done = saying a.outs b in
     rests_then s ab (writes ab.state (log_in.Maps news.groups))
     (rests_then s a b (regroups_rest news.groups (asker_of s)) (slots_rest a.state clients news.slots)) (writes_rest ab.state (log_in.Maps news.groups))
 
@@ -257,11 +257,11 @@ unfolding on_tick recalls_again asks_again
 tick_rests s =
     let a : Done = recalls_again s in
     let b : Done = asks_again a.state true in
-    let ab : Done = after a.outs b in
+    let ab : Done = saying a.outs b in
     let c : Done = asks_again ab.state false in
-    let abc : Done = after ab.outs c in
+    let abc : Done = saying ab.outs c in
     let d : Done = writes abc.state log_in.Tick in
-    let abcd : Done = after abc.outs d in
+    let abcd : Done = saying abc.outs d in
     rests_then s abcd (tells_again abcd.state)
     (rests_then s abc d
     (rests_then s ab c (rests_then s a b (recalls_rest s.slots) (asks_rest true (asker_of a.state))) (asks_rest false (asker_of ab.state)))

@@ -44,13 +44,13 @@ use Rattle.earned_losses.specs.keeping_law.Grants.{GrantTells, IfGrant, Managers
 pub record ByManager (k : Cluster) (from : NodeId) : Type 0 where
   pub number : ℕ
   pub some : 0 < number
-  pub most : number ≤ k.managers
+  pub limit : number ≤ k.managers
   pub is : from ≡ Manager number
 
 module _ (k : Cluster) (part : ℕ) (s : Scene) (m : Grant) where
   grants_by : (from to : NodeId) → SentBy k part s from to (body.Grant m) → ByManager k from
   grants_by (Client c) to h = absurd h.2
-  grants_by (Manager j) to h = record { number = j; some = h.0; most = h.1; is = refl }
+  grants_by (Manager j) to h = record { number = j; some = h.0; limit = h.1; is = refl }
   grants_by (Server v) to h = absurd h
   grants_by Cleaner to h = absurd h
   grants_by Registry to h = absurd h
@@ -83,7 +83,7 @@ module _ (laws : NodeLaws) (grants : ManagersGrantWhatTheyHold) (base : Setting)
   pub record GrantedAt (count : ℕ) (m : Grant) : Type 0 where
     pub number : ℕ
     pub some : 0 < number
-    pub most : number ≤ k.managers
+    pub limit : number ≤ k.managers
     pub manager : ManagerNode
     pub there : node_in (moment e count).nodes (place_of k (Manager number)) ≡ Some (any.Manager manager)
     pub tells : GrantTells manager.phase m
@@ -104,11 +104,11 @@ module _ (laws : NodeLaws) (grants : ManagersGrantWhatTheyHold) (base : Setting)
     is : node ≡ any.Manager manager
     waits : WaitsInPlace manager.phase
 
-  module _ (count j : ℕ) (some : 0 < j) (most : j ≤ k.managers) (node : AnyNode)
+  module _ (count j : ℕ) (some : 0 < j) (limit : j ≤ k.managers) (node : AnyNode)
       (there : node_in (moment e count).nodes (place_of k (Manager j)) ≡ Some node) (of_0 : 0 < 8) (of_1 : 1 < 8) where
     node_is : (part : ℕ) (of_eight : part < 8) → node ≡ any.Manager ((scene count part of_eight).manager j)
     node_is part of_eight =
-        one_node node (any.Manager ((scene count part of_eight).manager j)) (sym there ∙ (stands count part of_eight).placed.managers j some most)
+        one_node node (any.Manager ((scene count part of_eight).manager j)) (sym there ∙ (stands count part of_eight).placed.managers j some limit)
 
     waiting : IsWaiting node
     waiting =
@@ -119,9 +119,9 @@ module _ (laws : NodeLaws) (grants : ManagersGrantWhatTheyHold) (base : Setting)
           manager = x;
           is = node_is 0 of_0;
           waits = waits_in (members k 0) (members k 1) j (scene count 0 of_0).net (scene count 1 of_1).net x.phase
-              ((stands count 0 of_0).managers j some most).agrees
+              ((stands count 0 of_0).managers j some limit).agrees
               (subst (λ (z : ManagerNode). ManagerAgrees (members k 1) 1 (scene count 1 of_1).net j z.phase) same
-              ((stands count 1 of_1).managers j some most).agrees);
+              ((stands count 1 of_1).managers j some limit).agrees);
         }
 
   module _ (p : Packet) (m : Grant) (is_grant : p.body ≡ body.Grant m) (before count : ℕ) (s : SentIn e p before count) where
@@ -158,12 +158,12 @@ module _ (laws : NodeLaws) (grants : ManagersGrantWhatTheyHold) (base : Setting)
     granted_by b =
         let name : node_of s.event ≡ Manager b.number = sym from_it ∙ b.is in
         let x : IsWaiting t.node =
-        waiting s.at b.number b.some b.most t.node (subst (λ n. node_in w.nodes (place_of k n) ≡ Some t.node) name stood) (omega arith) (omega arith) in
+        waiting s.at b.number b.some b.limit t.node (subst (λ n. node_in w.nodes (place_of k n) ≡ Some t.node) name stood) (omega arith) (omega arith) in
         let then : AnyNode = (any_step t.node (what_of s.event)).node in
         record {
           number = b.number;
           some = b.some;
-          most = b.most;
+          limit = b.limit;
           manager = (manager_step x.manager (what_of s.event)).node;
           there = ap (λ ns. node_in ns (place_of k (Manager b.number))) t.nodes_are
               ∙ (subst (λ n. node_in (slice_set w.nodes t.place then) (place_of k n) ≡ Some then) name

@@ -56,10 +56,10 @@ module _ (k : Cluster) (part : ℕ) (texts : Texts) (first : ℕ → ℕ → Seg
 
   pub managed_there : (j : ℕ) → 0 < j → j ≤ k.managers → (manager : ManagerNode) → node_in nodes (place_of k (Manager j)) ≡ Some (any.Manager manager)
       → (z : SlotState) → active_in (slot_in part manager.phase) ≡ Some z → s.net.slots z.epoch ≡ Some z
-  managed_there j some most manager there z is =
+  managed_there j some limit manager there z is =
       let same : s.manager j ≡ manager =
-      same_manager (s.manager j) manager (one_node (any.Manager (s.manager j)) (any.Manager manager) (sym (st.placed.managers j some most) ∙ there)) in
-      phase_there (s.manager j).phase (st.managers j some most) z (subst (λ (x : ManagerNode). active_in (slot_in part x.phase) ≡ Some z) (sym same) is)
+      same_manager (s.manager j) manager (one_node (any.Manager (s.manager j)) (any.Manager manager) (sym (st.placed.managers j some limit) ∙ there)) in
+      phase_there (s.manager j).phase (st.managers j some limit) z (subst (λ (x : ManagerNode). active_in (slot_in part x.phase) ≡ Some z) (sym same) is)
 
   pub was_to_be_deleted : (t : tokens.Scene) (p : Packet) (m : Delete) → In p sent → tokens.Fact k part t p → p.body ≡ body.Delete m
       → tables.In m.name s.net.deleted

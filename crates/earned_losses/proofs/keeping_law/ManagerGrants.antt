@@ -55,7 +55,7 @@ use Rattle.manager_node.specs.Events.{manager_step}
 use Rattle.node_base.specs.declared.effects.Effect.TheVariants.{Send, Answer, Lose, Does}
 use Rattle.node_base.specs.Effects.{packet_of, packets_of}
 use Rattle.wire_msg.specs.declared.tokens.Grant.{Grant}
-use Rattle.xfs_base.specs.Steps.{after}
+use Rattle.xfs_base.specs.Steps.{saying}
 use Rattle.earned_losses.specs.keeping_law.Grants.{GrantTells, IfGrant, ManagersGrantWhatTheyHold, WaitsInPlace}
 use Rattle.earned_losses.proofs.keeping_law.Saying.{AllSay, Says, answers_say, steps_say}
 use Rattle.earned_losses.proofs.keeping_law.SlotSays.{asks_say, checks_say, hears_say, recalls_say, regroups_say, reports_say, takes_say, usages_say}
@@ -63,7 +63,7 @@ use Rattle.earned_losses.proofs.keeping_law.SlotGrants.{deltas_tell, gaves_tell,
 
 -- of each Grant that is sent this is so
 module _ (A : Grant → Type 0) where
-  says_after : (outs : List Effect) (d : Done) → AllSay A outs → AllSay A d.outs → AllSay A (after outs d).outs
+  says_after : (outs : List Effect) (d : Done) → AllSay A outs → AllSay A d.outs → AllSay A (saying outs d).outs
   says_after outs d first then_so = all_append (Says A) outs d.outs first then_so
 
   -- ---- the log

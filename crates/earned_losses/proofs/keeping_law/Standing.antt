@@ -111,12 +111,12 @@ module _ (below : Below) (base : Setting) (apart : TellsApart base) (e : Estate 
     abbrev after : ℕ
     after = suc s.at
 
-    most : after ≤ count
-    most = (let less = s.until in omega arith)
+    limit : after ≤ count
+    limit = (let less = s.until in omega arith)
 
     abbrev then : Joint base e lines texts part first after
     then =
-        let undoubted : NoDoubtfulRestart e after = λ r n less. none r n (let high = most in omega arith) in
+        let undoubted : NoDoubtfulRestart e after = λ r n less. none r n (let high = limit in omega arith) in
         (below.moments base apart e setup run lines texts after undoubted).joints part (slot_below m.block.ino.0)
 
     abbrev now : Joint base e lines texts part first count
@@ -141,7 +141,7 @@ module _ (below : Below) (base : Setting) (apart : TellsApart base) (e : Estate 
 
     there : then.idx.net.slots slot.epoch ≡ Some slot
     there =
-        managed_there cl part texts.text first (moment e after).nodes (moment e after).sent then.idx then.index_stands granted.number granted.some granted.most
+        managed_there cl part texts.text first (moment e after).nodes (moment e after).sent then.idx then.index_stands granted.number granted.some granted.limit
         granted.manager granted.there slot granted.tells.managed
 
     -- the client has promised its epoch, and no later one
@@ -151,7 +151,7 @@ module _ (below : Below) (base : Setting) (apart : TellsApart base) (e : Estate 
     reigns : (d : ℕ) (t : SlotState) → then.idx.net.slots d ≡ Some t → d ≤ slot.epoch
     reigns d t is =
         let low : d ≤ epoch_of a.tokens.epochs part =
-        promised_later below.nodes below.promised e run part (slot_below m.block.ino.0) after count most then.tok
+        promised_later below.nodes below.promised e run part (slot_below m.block.ino.0) after count limit then.tok
         (unlogged part cl (moment e after).nodes (moment e after).sent (moment e after).acts then.tok then.tokens_stand) d
         (λ free. nobody (then.slots d free)) m.block (itself part) c a.tokens a.serves in
         let same = promised_is in
@@ -180,7 +180,7 @@ module _ (below : Below) (base : Setting) (apart : TellsApart base) (e : Estate 
     has : has_block m.block f place.seg.name ≡ true
     has =
         block_there (f.segment place.seg.name.log.0 place.seg.name.seq) m.block m.entry place a.leads
-        (then.tells place.seg.name.log.0 place.seg.name.seq lies.some lies.most).places lies.says
+        (then.tells place.seg.name.log.0 place.seg.name.seq lies.some lies.limit).places lies.says
 
     -- ---- the client, and the Grant to it
 
@@ -200,8 +200,8 @@ module _ (below : Below) (base : Setting) (apart : TellsApart base) (e : Estate 
     -- ---- a newer version that is filed
 
     module _ (l q : ℕ) (some : 0 < q) (high : q ≤ f.head l) (newer : m.entry.ver < (join (rows_of (f.segment l q)) m.block).ver) where
-      still : IsStill base e lines texts part first below.give after count most (below.undoubted base e lines count none) then now l q
-      still = filed_still base e lines texts part first below.give after count most (below.undoubted base e lines count none) then now l q some high
+      still : IsStill base e lines texts part first below.give after count limit (below.undoubted base e lines count none) then now l q
+      still = filed_still base e lines texts part first below.give after count limit (below.undoubted base e lines count none) then now l q some high
 
       nine : (0 < l) × (l ≤ 9)
       nine = one_of_nine f filed l q some high
@@ -210,8 +210,8 @@ module _ (below : Below) (base : Setting) (apart : TellsApart base) (e : Estate 
       version_is : (said now.tok.net.books l q m.block).version ≡ (join (rows_of (f.segment l q)) m.block).ver
       version_is =
           let t : Segment = h.segment l q in
-          let tells : TellsOnce t = now.tells l q some still.most in
-          ap (λ rows. (row_in rows m.block).version) (now.books.rows l q nine.0 nine.1 some still.most)
+          let tells : TellsOnce t = now.tells l q some still.limit in
+          ap (λ rows. (row_in rows m.block).version) (now.books.rows l q nine.0 nine.1 some still.limit)
           ∙ ((rows_are_entries t m.block tells.plain tells.versioned).version ∙ ap (λ (x : Segment). (join (rows_of x) m.block).ver) still.same)
 
       told_newest : (said now.tok.net.books l q m.block).version ≤ m.entry.ver
@@ -220,7 +220,7 @@ module _ (below : Below) (base : Setting) (apart : TellsApart base) (e : Estate 
           below.newest (members cl part) part (with_promise 1 now.tok.net) m.block (record { run = now.tokens_stand.runs; inside = itself part }) c x.client
           x.up m.stamp m.inc m.req m.mode m.entry granted_there
           (subst (λ (t : TokensState). accepts t m.block m.stamp m.inc m.req m.mode ≡ true) (sym x.tokens) a.accepted) l q
-          (let end = now.books.end l nine.0 nine.1 in let within = still.most in omega arith)
+          (let end = now.books.end l nine.0 nine.1 in let within = still.limit in omega arith)
 
       not_newer : ⊥
       not_newer = (let same = version_is in let low = told_newest in omega arith)

@@ -53,18 +53,18 @@ module _ (base : Setting) (e : Estate AnyNode) (lines : HasLines base e) (texts 
     h = now.idx.net.filed
 
     pub record IsStill (l q : ℕ) : Type 0 where
-      pub most : q ≤ h.head l
+      pub limit : q ≤ h.head l
       pub same : h.segment l q ≡ f.segment l q
 
     of_log : (r : Role) (there : There base e lines texts part first r) → renews r ≡ false → (q : ℕ) → 0 < q → q ≤ f.head (log_by r) → IsStill (log_by r) q
-    of_log r there keeps q some most =
+    of_log r there keeps q some limit =
         let l = log_by r in
         let its = then.lined r there keeps in
         let other = now.lined r there keeps in
         let on = log_grown r there count later low in
         let name : SegName = (f.segment l q).name in
-        let filed = on.filed name (its.lined.filed q some most) in
-        let number : name.seq ≡ q = its.lined.seq q some most in
+        let filed = on.filed name (its.lined.filed q some limit) in
+        let number : name.seq ≡ q = its.lined.seq q some limit in
         let within : q ≤ h.head l = (let place = (other.all name filed).1 in omega arith) in
         let one : name ≡ (h.segment l q).name =
         subst (λ x. name ≡ (h.segment l x).name) number
@@ -72,12 +72,12 @@ module _ (base : Setting) (e : Estate AnyNode) (lines : HasLines base e) (texts 
         name filed)
         in
         record {
-          most = within;
+          limit = within;
           same = sym (texts.flown r there later (h.segment l q) (other.lined.flown q some within))
-              ∙ (ap texts.text (sym one) ∙ texts.flown r there count (f.segment l q) (its.lined.flown q some most));
+              ∙ (ap texts.text (sym one) ∙ texts.flown r there count (f.segment l q) (its.lined.flown q some limit));
         }
 
     pub filed_still : (l q : ℕ) → 0 < q → q ≤ f.head l → IsStill l q
-    filed_still l q some most =
-        let has : HasLog base e lines texts part first l = filed_log base e lines texts part first count then l q some most in
-        subst (λ x. q ≤ f.head x → IsStill x q) has.is (λ within. of_log has.role has.there has.keeps q some within) most
+    filed_still l q some limit =
+        let has : HasLog base e lines texts part first l = filed_log base e lines texts part first count then l q some limit in
+        subst (λ x. q ≤ f.head x → IsStill x q) has.is (λ within. of_log has.role has.there has.keeps q some within) limit

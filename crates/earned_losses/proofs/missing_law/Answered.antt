@@ -53,10 +53,10 @@ no_more l m n a b = omega arith
 
 -- numbers that never fall from one count to the next never fall
 pub never_falls : (number : ℕ → ℕ) → ((count : ℕ) → number count ≤ number (suc count)) → (from to : ℕ) → from ≤ to → number from ≤ number to
-never_falls number rises from zero most = at_most (number from) (number 0) (ap number (nothing_below from most))
-never_falls number rises from (suc to) most =
+never_falls number rises from zero limit = at_most (number from) (number 0) (ap number (nothing_below from limit))
+never_falls number rises from (suc to) limit =
     ⊎_elim (λ same. at_most (number from) (number (suc to)) (ap number same))
-    (λ below. no_more (number from) (number to) (number (suc to)) (never_falls number rises from to below) (rises to)) (last_or_before from to most)
+    (λ below. no_more (number from) (number to) (number (suc to)) (never_falls number rises from to below) (rises to)) (last_or_before from to limit)
 
 module _ (base : Setting) (e : Estate AnyNode) (run : IsRun any_step any_start e.script e.events e.world) (lines : HasLines base e) (reader : NodeId) where
   abbrev k_of : Cluster
@@ -202,7 +202,7 @@ module _ (base : Setting) (e : Estate AnyNode) (run : IsRun any_step any_start e
           asks = t.asks;
           name = t.name;
           ask = t.ask;
-          told = λ k most undrawn. record {
+          told = λ k limit undrawn. record {
             at = t.at;
             since = told_since count v m t k undrawn;
             until = t.before;

@@ -113,9 +113,9 @@ module _ (e : Estate AnyNode) where
   sent_next count p is = (let g = grown count in subst (In p) (sym g.is) (in_before (moment e count).sent g.new p is))
 
   pub sent_on : (from to : ℕ) → from ≤ to → (p : Packet) → In p (moment e from).sent → In p (moment e to).sent
-  sent_on from zero most p is = subst (λ k. In p (moment e k).sent) (nothing_below from most) is
-  sent_on from (suc to) most p is =
-      ⊎_elim (λ same. subst (λ k. In p (moment e k).sent) same is) (λ below. sent_next to p (sent_on from to below p is)) (last_or_before from to most)
+  sent_on from zero limit p is = subst (λ k. In p (moment e k).sent) (nothing_below from limit) is
+  sent_on from (suc to) limit p is =
+      ⊎_elim (λ same. subst (λ k. In p (moment e k).sent) same is) (λ below. sent_next to p (sent_on from to below p is)) (last_or_before from to limit)
 
   -- ---- what was deleted
 
@@ -128,9 +128,9 @@ module _ (e : Estate AnyNode) where
     pub named : delete.name ≡ name
 
   pub deleted_on : (from to : ℕ) → from ≤ to → (name : SegName) → Deleted from name → Deleted to name
-  deleted_on from to most name d = record {
+  deleted_on from to limit name d = record {
     packet = d.packet;
-    among = sent_on from to most d.packet d.among;
+    among = sent_on from to limit d.packet d.among;
     delete = d.delete;
     tells = d.tells;
     named = d.named;
@@ -140,10 +140,10 @@ module _ (e : Estate AnyNode) where
   none_deleted count name kept d = kept d.packet d.delete (in_was (moment e count).sent d.packet d.among) d.tells d.named
 
   pub kept_before : (from to : ℕ) → from ≤ to → (name : SegName) → NotDeleted (moment e to) name → NotDeleted (moment e from) name
-  kept_before from to most name kept packet m sent tells named =
+  kept_before from to limit name kept packet m sent tells named =
       none_deleted to name kept (record {
         packet = packet;
-        among = sent_on from to most packet (was_sent (moment e from).sent packet sent);
+        among = sent_on from to limit packet (was_sent (moment e from).sent packet sent);
         delete = m;
         tells = tells;
         named = named;
@@ -240,9 +240,9 @@ module _ (e : Estate AnyNode) where
         }
 
     pub shelf_on : (from to v : ℕ) → from ≤ to → (s : ShelfState) → shelf_at (moment e from) v ≡ Some s → ShelfAt to v s
-    shelf_on from zero v most s is = shelf_same_at from 0 v s is (nothing_below from most)
-    shelf_on from (suc to) v most s is =
-        ⊎_elim (shelf_same_at from (suc to) v s is) (λ below. shelf_further to v s (shelf_on from to v below s is)) (last_or_before from to most)
+    shelf_on from zero v limit s is = shelf_same_at from 0 v s is (nothing_below from limit)
+    shelf_on from (suc to) v limit s is =
+        ⊎_elim (shelf_same_at from (suc to) v s is) (λ below. shelf_further to v s (shelf_on from to v below s is)) (last_or_before from to limit)
 
     -- a server that missed a segment at two moments, in one generation, lacks it at each between, where no server was told to delete it
     pub lacks_between : (since middle drawn count v generation : ℕ) (name : SegName) → MissedIn e since middle v generation name

@@ -130,7 +130,7 @@ module _ (e : Estate AnyNode) where
 
     stage_later : (since count later number : ℕ) (r : ReadingState) → count ≤ later → (stage : rounds.Stage) → StageTrue since count number r stage
         → StageTrue since later number r stage
-    stage_later since count later number r most stand.Asking t = record {
+    stage_later since count later number r limit stand.Asking t = record {
       middle = t.middle;
       drawn = t.drawn;
       begins = t.begins;
@@ -143,15 +143,15 @@ module _ (e : Estate AnyNode) where
       asked = t.asked;
       told = so_on (λ v generation. MissedIn e t.drawn count v generation r.target.seg.name)
           (λ v generation. MissedIn e t.drawn later v generation r.target.seg.name)
-          (λ v generation m. missed_wider t.drawn count t.drawn later v generation r.target.seg.name (omega arith) most m) r.round.answers t.told;
+          (λ v generation m. missed_wider t.drawn count t.drawn later v generation r.target.seg.name (omega arith) limit m) r.round.answers t.told;
     }
-    stage_later since count later number r most stand.Between t = record {
+    stage_later since count later number r limit stand.Between t = record {
       middle = t.middle;
       begins = t.begins;
       until = (let a = t.until in omega arith);
       kept = t.kept;
     }
-    stage_later since count later number r most stand.Doubted t = record {
+    stage_later since count later number r limit stand.Doubted t = record {
       first = t.first;
       second = t.second;
       begins = t.begins;
@@ -159,14 +159,14 @@ module _ (e : Estate AnyNode) where
       ends = (let a = t.ends in omega arith);
       torn = t.torn;
     }
-    stage_later since count later number r most stand.Over t = tt
+    stage_later since count later number r limit stand.Over t = tt
 
     -- what was true stays so
     pub reading_later : (since count later number : ℕ) (r : ReadingState) → count ≤ later → ReadingTrue since count number r → ReadingTrue since later number r
-    reading_later since count later number r most t = record {
+    reading_later since count later number r limit t = record {
       servers = t.servers;
       parity = t.parity;
-      stage = stage_later since count later number r most r.stage t.stage;
+      stage = stage_later since count later number r limit r.stage t.stage;
     }
 
     -- what is sent in the event at a count, by this number, is of this segment
@@ -198,9 +198,9 @@ module _ (e : Estate AnyNode) where
     -- what is told by a question that is out was so since each moment at which it was not drawn
     pub told_of : (count number v : ℕ) (name : SegName) (m : Missing) → IsOut count number name → Answers e reader count v m → m.ask ≡ number → (k : ℕ)
         → k ≤ count → last_at e reader k < number → MissedIn e k count v m.generation name
-    told_of count number v name m out a same k most undrawn =
+    told_of count number v name m out a same k limit undrawn =
         subst (MissedIn e k count v m.generation) (out.fetched a.packet a.fetch a.among a.asker a.asks (sym a.ask ∙ same))
-        (a.told k most (let x = same in omega arith))
+        (a.told k limit (let x = same in omega arith))
 
     -- ---- a reading begins
 

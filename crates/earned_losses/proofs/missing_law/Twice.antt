@@ -22,7 +22,7 @@ use Rattle.earned_losses.specs.missing_law.Missed.{AreOfMembers, MissedIn, Pairs
 
 module _ (e : Estate AnyNode) (run : IsRun any_step any_start e.script e.events e.world) (segment : SegRef) (since middle drawn count : ℕ)
     (before now : List (ℕ × ℕ)) (first : Each (λ p. MissedIn e since middle p.0 p.1 segment.name) before)
-    (second : Each (λ p. MissedIn e drawn count p.0 p.1 segment.name) now) (most : drawn ≤ count) (kept : NotDeleted (moment e count) segment.name)
+    (second : Each (λ p. MissedIn e drawn count p.0 p.1 segment.name) now) (limit : drawn ≤ count) (kept : NotDeleted (moment e count) segment.name)
     (at : ℕ) (after : middle ≤ at) (until : at ≤ drawn) where
   abbrev lack : ℕ → Bool
   lack v = lacks (shelf_at (moment e at) v) segment.name
@@ -56,7 +56,7 @@ module _ (e : Estate AnyNode) (run : IsRun any_step any_start e.script e.events 
         group = group;
         striped = is;
         torn = (let a = many in let b : length both ≤ count_by (λ (k : Member). lack k.server) group.members = fewer in let c = equal in omega arith);
-        kept = kept_before e at count (let a = until in let b = most in omega arith) segment.name kept;
+        kept = kept_before e at count (let a = until in let b = limit in omega arith) segment.name kept;
       }
 
 -- ---- as a law

@@ -219,7 +219,7 @@ module _ (laws : NodeLaws) (e : Estate AnyNode) (setup : IsSetup e.script.setup)
     by_name : (n : NodeId) (p : ℕ) (x : AnyNode) → place_of k n ≡ Some p → Here n ≡ Some x → Acts x → (acting ≡ n) × ReadsNow n
     by_name (nodes.Client c) p x placed at is =
         let b = behind 0 k.clients c p placed in
-        let less : c < members k 0 = (let most = b.within in omega arith) in
+        let less : c < members k 0 = (let limit = b.within in omega arith) in
         let stood = st.placed.clients c b.some less in
         client_says c (b.some, b.within) (now.client c) stood (st.clients c b.some less).1.asks
         (one_of (nodes.Client c) x (any.Client (now.client c)) at stood is)

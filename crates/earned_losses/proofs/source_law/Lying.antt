@@ -83,10 +83,10 @@ one_among P (y ∷ xs) x all (inr later) = one_among P xs x all.1 later
 -- ---- one log has one owner
 
 below_nine : (c clients : ℕ) → c ≤ clients → clients + 1 ≤ 9 → c ≡ 9 → ⊥
-below_nine c clients most few is = omega arith
+below_nine c clients limit few is = omega arith
 
 below_managers : (c clients l : ℕ) → c ≤ clients → clients + 1 ≤ 9 → 9 < l → l ≡ c → ⊥
-below_managers c clients l most few high is = omega arith
+below_managers c clients l limit few high is = omega arith
 
 same_role : (clients managers : ℕ) → clients + 1 ≤ 9 → (a b : Role) → IsThere clients managers a → IsThere clients managers b → renews b ≡ false
     → log_by a ≡ log_by b → a ≡ b
@@ -274,13 +274,13 @@ module _ (laws : Laws) (base : Setting) (e : Estate AnyNode) (run : IsRun any_st
 
     module _ (f : ReadsFiled (joint.idx.net.filed) source) where
       h : HasLog base e lines texts slot first f.log
-      h = filed_log base e lines texts slot first count joint f.log f.seq f.some f.most
+      h = filed_log base e lines texts slot first count joint f.log f.seq f.some f.limit
 
       abbrev s : Segment
       s = joint.idx.net.filed.segment f.log f.seq
 
       most_there : f.seq ≤ joint.idx.net.filed.head (log_by h.role)
-      most_there = subst (λ x. f.seq ≤ joint.idx.net.filed.head x) (sym h.is) f.most
+      most_there = subst (λ x. f.seq ≤ joint.idx.net.filed.head x) (sym h.is) f.limit
 
       flown_there : tables.In (joint.idx.net.filed.segment f.log f.seq) ((lines h.role h.there).at count).net.flown
       flown_there =
@@ -298,7 +298,7 @@ module _ (laws : Laws) (base : Setting) (e : Estate AnyNode) (run : IsRun any_st
           (joint.acted h.role h.there h.keeps f.seq f.some most_there)
 
       its_log : (joint.idx.net.filed.segment f.log f.seq).name.log.0 ≡ f.log
-      its_log = ((filed_known base e lines texts slot first count joint).filed.each f.log f.seq f.some f.most).log
+      its_log = ((filed_known base e lines texts slot first count joint).filed.each f.log f.seq f.some f.limit).log
 
       same_log : log_by h.role ≡ log_by refers.of.role
       same_log = h.is ∙ (sym its_log ∙ (ap (λ (n : SegName). n.log.0) (sym f.named) ∙ ap (λ (x : LogId). x.0) refers.of.own))

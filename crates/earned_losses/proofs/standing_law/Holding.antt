@@ -175,7 +175,7 @@ module _ (base : Setting) (e : Estate AnyNode) (lines : HasLines base e) (texts 
       by None none = absurd (none_serves (sym (ap (λ o. serving_of (node_in (moment e count).nodes o)) none) ∙ at))
       by (Some p) there =
           let f = behind 0 cl.clients c p there in
-          let less : c < members cl part = (let most = f.within in omega arith) in
+          let less : c < members cl part = (let limit = f.within in omega arith) in
           record {
             some = f.some;
             less = less;

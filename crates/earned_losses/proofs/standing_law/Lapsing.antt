@@ -89,9 +89,9 @@ away_holds_not (phase.Away other) epoch name e is h = h
 away_holds_not (phase.Broken other seg) epoch name e is h = h
 
 -- in the life in which it was at an epoch, or in a later one, a manager takes no slot over in that epoch anew
-none_anew : (c : Cluster) (part most j : ℕ) (n : Net) (p : Phase) (what : Do) (w : Went_to) → ManagerGoes false (members c part) part most j n p what w
+none_anew : (c : Cluster) (part limit j : ℕ) (n : Net) (p : Phase) (what : Do) (w : Went_to) → ManagerGoes false (members c part) part limit j n p what w
     → (e life : ℕ) → PastAt c part p life e → (lasting_of w.state).inc ≡ life → (HeldAt (slot_in part p) e → ⊥) → HeldAt (slot_in part w.state) e → ⊥
-none_anew c part most j n p what w go e life past same apart held = ⊎_elim (λ was. apart was.0) (λ new. by p refl new.1 past) (go.taken e held)
+none_anew c part limit j n p what w go e life past same apart held = ⊎_elim (λ was. apart was.0) (λ new. by p refl new.1 past) (go.taken e held)
   where
     serves : is_serving w.state ≡ true
     serves = held_serves part w.state e held
@@ -246,7 +246,7 @@ module _ (law : ManagerEventGoes) (base : Setting) (e : Estate AnyNode) (run : I
           held_by : IsManaged cl part d.tok epoch → ⊥
           held_by m =
               let held = managed_held (slot_in part (d.tok.manager m.manager).phase) epoch m.managed in
-              let its = ((d.tokens_stand.managers m.manager m.some m.most).owns epoch held).0 in
+              let its = ((d.tokens_stand.managers m.manager m.some m.limit).owns epoch held).0 in
               let same : m.manager ≡ j = sym its ∙ ((f.since.given epoch within).0 ∙ lord) in
               apart (subst (λ i. HeldAt (slot_in part (d.tok.manager i).phase) epoch) same held)
 
@@ -278,7 +278,7 @@ module _ (law : ManagerEventGoes) (base : Setting) (e : Estate AnyNode) (run : I
           let held : HeldAt (slot_in part (b.tok.manager j).phase) epoch = subst (λ p. HeldAt p epoch) (slot_there count b) was in
           let s = sees count b in
           let own = s.owns epoch held in
-          on free begun low own.0 (let known = held_known (slot_in part (b.tok.manager j).phase) epoch held in let top = s.within in omega arith)
+          on free begun low own.0 (let known = held_known (slot_in part (b.tok.manager j).phase) epoch held in let highest = s.within in omega arith)
           (inr (own.1, held_been cl part (b.tok.manager j).phase epoch held))
           (away_holds_not (slot_in part (d.tok.manager j).phase) epoch name epoch (sym (slot_there (suc count) d) ∙ broken))
 

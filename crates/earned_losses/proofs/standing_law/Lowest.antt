@@ -55,7 +55,7 @@ module _ (news : SlotNews) where
   pub record OfLog (source : Source) : Type 0 where
     pub log : ℕ
     pub some : 0 < log
-    pub most : log ≤ 9
+    pub limit : log ≤ 9
     pub own : source.seg.name.log.0 ≡ log
     pub low : source.low ≡ horizon_at news.horizon log
 
@@ -73,7 +73,7 @@ module _ (news : SlotNews) where
   leads_down source s o named = record {
     log = o.log;
     some = o.some;
-    most = o.most;
+    limit = o.limit;
     own = ap (λ (n : SegName). n.log.0) named ∙ o.own;
     low = o.low;
   }
@@ -91,10 +91,10 @@ module _ (news : SlotNews) where
       (inl (record { ref = ref; among = among ref (inl refl); is = refl }), all_parts parts (λ x later. among x (inr later)))
 
   log_lies : (reports : List Report) (l : ℕ) → 0 < l → l ≤ 9 → AllByRecursion Lies (log_sources news.horizon reports l)
-  log_lies reports l some most =
+  log_lies reports l some limit =
       by_test (AllByRecursion Lies) (nat_le (horizon_at news.horizon l) (end_of reports l).seq)
       (log_source l (horizon_at news.horizon l) (end_of reports l) ∷ []) []
-      (λ within. (inr (record { log = l; some = some; most = most; own = refl; low = refl }), tt)) (λ _. tt)
+      (λ within. (inr (record { log = l; some = some; limit = limit; own = refl; low = refl }), tt)) (λ _. tt)
 
   sources_lie : (reports : List Report) → AllByRecursion (λ (r : Report). Unit {0}) reports → AllByRecursion Lies (sources_of news reports)
   sources_lie reports any =
@@ -123,7 +123,7 @@ module _ (part : ℕ) (texts : Texts) (n : Net) (epoch : ℕ) (take : TakeState)
   pub record IsLow (source : Source) : Type 0 where
     pub log : ℕ
     pub some : 0 < log
-    pub most : log ≤ 9
+    pub limit : log ≤ 9
     pub own : source.seg.name.log.0 ≡ log
     pub low : of_log (n.horizon epoch) log ≡ source.low
 
@@ -131,10 +131,10 @@ module _ (part : ℕ) (texts : Texts) (n : Net) (epoch : ℕ) (take : TakeState)
   low_so source o = record {
     log = o.log;
     some = o.some;
-    most = o.most;
+    limit = o.limit;
     own = o.own;
     low = ap (λ x. of_log (n.horizon x) o.log) (sym taking.at)
-        ∙ (sym (ap (λ (h : List ℕ). of_log h o.log) taking.known.horizon) ∙ (of_log_in taking.news.horizon o.log o.some o.most ∙ sym o.low));
+        ∙ (sym (ap (λ (h : List ℕ). of_log h o.log) taking.known.horizon) ∙ (of_log_in taking.news.horizon o.log o.some o.limit ∙ sym o.low));
   }
 
   pub part_or_low : (p : Present) → take.present ≡ Some p → ReadsPart take.news.parts p.source ⊎ IsLow p.source

@@ -204,14 +204,14 @@ module _ (below : Below) (e : Estate AnyNode) (setup : IsSetup e.script.setup) (
     -- what is filed is at the horizon of its log or above
     no_filed : ReadsFiled then.idx.net.filed reads.source → ⊥
     no_filed f =
-        let h : HasLog base e lines texts part first f.log = filed_log base e lines texts part first at then f.log f.seq f.some f.most in
+        let h : HasLog base e lines texts part first f.log = filed_log base e lines texts part first at then f.log f.seq f.some f.limit in
         let of_its : reads.source.seg.name.log.0 ≡ f.log =
-        ap (λ (n : SegName). n.log.0) f.named ∙ ((filed_known base e lines texts part first at then).filed.each f.log f.seq f.some f.most).log in
+        ap (λ (n : SegName). n.log.0) f.named ∙ ((filed_known base e lines texts part first at then).filed.each f.log f.seq f.some f.limit).log in
         let own : name.log ≡ record { 0 = log_by h.role } =
         same_log name.log (record { 0 = log_by h.role }) (ap (λ (n : SegName). n.log.0) named_is ∙ (of_its ∙ sym h.is)) in
         let gone = deleted_below base e lines h.role h.there count board
         (registry_seen base e lines texts part first count (both_of base e lines texts part first count now) h.role h.there) name own p d among is same in
-        let nine = one_of_nine then.idx.net.filed (filed_known base e lines texts part first at then).filed f.log f.seq f.some f.most in
+        let nine = one_of_nine then.idx.net.filed (filed_known base e lines texts part first at then).filed f.log f.seq f.some f.limit in
         let low : least_horizon (log_by h.role) (all_news board) ≤ of_log (now.idx.net.horizon epoch) (log_by h.role) =
         polled_low below.managed below.promised true (k base e lines texts part first) part texts.text first (moment e count).nodes
         (moment e count).sent (moment e count).acts now.tok now.idx of_eight both epoch bound lapsed_now.begun (log_by h.role)

@@ -84,8 +84,8 @@ module _ (base : Setting) (e : Estate AnyNode) (run : IsRun any_step any_start e
     (is_there : IsThere e.script.setup.clients e.script.setup.managers (OfManager j)) (came : (k : ℕ) → ReadingsCame e.world (moment e k)) (count : ℕ)
     (event : Event) where
   deletes_so : (at : ℕ) → at ≤ count → (name : SegName) → Deleted e at name → Deletes name (moment e count).sent
-  deletes_so at most name d =
-      (d.packet, sent_on e at count most d.packet d.among, d.tells ∙ ap (λ (n : SegName). body.Delete (record { name = n })) d.named)
+  deletes_so at limit name d =
+      (d.packet, sent_on e at count limit d.packet d.among, d.tells ∙ ap (λ (n : SegName). body.Delete (record { name = n })) d.named)
 
   module _ (new : List Packet) (acts : List Act) (u : Turned base e run lines j is_there count event new acts) (name : SegName) (k : ℕ)
       (l : LostFrom (IsNamed e) (CameBy e j count) (slot_in k u.node.phase) name) where

@@ -34,7 +34,7 @@ use Rattle.manager_parts.specs.SlotTable as table
 use Rattle.manager_parts.specs.SlotTable.{Table, begin_at, cleaned_at, next_active}
 use Rattle.manager_serving.specs.Serving.{asks_for_maps, on_check, on_deltas, on_gave, on_usage_ask, on_want, recalls_again, with_slots}
 use Rattle.node_base.specs.declared.effects.Effect.TheVariants.{Answer as Answers}
-use Rattle.xfs_base.specs.Steps.{Stepped, after, steps, still}
+use Rattle.xfs_base.specs.Steps.{Stepped, saying, steps, still}
 use Rattle.earned_losses.proofs.taking_law.Frames.{all_append, all_flat_map}
 use Rattle.earned_losses.proofs.taking_law.Quiet.{Alike, AllQuiet, IsQuiet, TableRests, answers_quiet, checks_alone, cleaned_alike, deltas_alone, gaves_alone, named_alike, recalls_alone, usage_alone, wants_alone}
 
@@ -49,7 +49,7 @@ pub record Rests (s : Serving) (d : Done) : Type 0 where
 pub rests_still : (s : Serving) → Rests s (still s)
 rests_still s = record { alike = λ k x is. is; up = omega arith; maps = refl; number = refl; does = tt }
 
-pub rests_then : (s : Serving) (d e : Done) → Rests s d → Rests d.state e → Rests s (after d.outs e)
+pub rests_then : (s : Serving) (d e : Done) → Rests s d → Rests d.state e → Rests s (saying d.outs e)
 rests_then s d e a b = record {
   alike = λ k x is. a.alike k x (b.alike k x is);
   up = (let x = a.up in let y = b.up in omega arith);

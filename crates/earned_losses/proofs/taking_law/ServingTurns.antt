@@ -39,7 +39,7 @@ use Rattle.xfs_base.proofs.Booleans.{and_second, by_test}
 use Rattle.xfs_base.specs.declared.news.SlotNews.{SlotNews}
 use Rattle.xfs_base.specs.declared.node.NodeId.{NodeId}
 use Rattle.xfs_base.specs.Limits.{u32_end}
-use Rattle.xfs_base.specs.Steps.{after, still}
+use Rattle.xfs_base.specs.Steps.{saying, still}
 use Rattle.earned_losses.proofs.taking_law.QuietServing.{Rests, ack_rests, asks_maps-rests, check_rests, checkpoint_rests, deltas_rest, gave_rests, recalls_rest, rests_still, tells_rest, usage_rests, want_rests, writes_rest}
 use Rattle.earned_losses.proofs.taking_law.SlotReads.{PresentFrom, ReadingFrom, TakingFrom}
 use Rattle.earned_losses.proofs.taking_law.SlotTurns.{TakingFine}
@@ -124,7 +124,7 @@ module _ (Named : ℕ → Group → Type 0) (Came : ℕ → ℕ → Told → Typ
       maps = subst (λ (m : Maps). MapsNamed Named m.groups) (sym r.maps) so.maps;
     }
 
-    pub goes_then : (outs : List Effect) (d e : Done) → Goes (outs ++ d.outs) e → Goes outs (after d.outs e)
+    pub goes_then : (outs : List Effect) (d e : Done) → Goes (outs ++ d.outs) e → Goes outs (saying d.outs e)
     goes_then outs d e so = subst (ServesSo e.state) (append_assoc outs d.outs e.outs) so
 
     asks_go : (s : Serving) (outs : List Effect) (d : Asks) → ServesSo s outs → After Named Came start first outs d → Goes outs (with_asker s d)
@@ -152,7 +152,7 @@ module _ (Named : ℕ → Group → Type 0) (Came : ℕ → ℕ → Told → Typ
         let one : Goes outs a = asks_go s outs (table.regroups_all news.groups (asker_of s)) so r.0 in
         let b : Done = hears_slots a.state clients news.slots in
         let two : Goes (outs ++ a.outs) b = slots_go a.state clients news.slots (outs ++ a.outs) one (let k = r.1 in omega arith) in
-        let ab : Done = after a.outs b in
+        let ab : Done = saying a.outs b in
         let both : Goes outs ab = goes_then outs a b two in
         let c : Done = writes ab.state (log_input.Maps news.groups) in
         goes_then outs ab c (quiet_goes ab.state (outs ++ ab.outs) c (writes_rest ab.state (log_input.Maps news.groups)) both)

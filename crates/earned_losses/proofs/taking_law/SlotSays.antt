@@ -233,7 +233,7 @@ module _ (L : SegName → Type 0) where
 
       by_settled : (f : Asked) (p : Questions) → own ≡ f.own → q.last ≤ p.last → p.last ≤ q.last + 1 → f.ask ≤ p.last
           → (((f.own ≡ t.fetches.own) × (f.ask ≡ t.fetches.ask)) ⊎ ((f.own ≡ t.fetches.own → ⊥) × (q.last < f.ask))) → Goes f p
-      by_settled f p is up few most number =
+      by_settled f p is up few limit number =
           let h = settled_so slot t f p.last (λ other more k. one_own t.take.present name other own more asks k ∙ is) f p outs refl refl refl all in
           let last = h.last_is in
           record {
@@ -250,10 +250,10 @@ module _ (L : SegName → Type 0) where
           asked_so = subst (AsksFor t.take.present name) is asks
 
           so : (last : ℕ) → f.ask ≤ last → NumberSo t q last f.ask
-          so last most = (most, ⊎_elim (λ old. inl ((name, subst (AsksFor t.take.present name) old.0 asked_so), old.1)) (λ new. inr new.1) number)
+          so last limit = (limit, ⊎_elim (λ old. inl ((name, subst (AsksFor t.take.present name) old.0 asked_so), old.1)) (λ new. inr new.1) number)
 
           said : {last : ℕ} → (x : SlotPhase) → StillAsks t f x → f.ask ≤ last → PhaseSaid t q (out.Fetch server name own ∷ outs) last x
-          said (phase.Taking y) h most = record {
+          said (phase.Taking y) h limit = record {
             epoch = h.0;
             take = h.1.0;
             number = (let a = h.1.1.1 in omega arith);
@@ -264,9 +264,9 @@ module _ (L : SegName → Type 0) where
                   (λ new. inr (λ e. new.0 (sym h.1.1.0 ∙ e), let a = h.1.1.1 in let b = new.1 in omega arith)) number;
             });
           }
-          said (phase.Away epoch) h most = tt
-          said (phase.Active a) h most = tt
-          said (phase.Broken epoch seg) h most = tt
+          said (phase.Away epoch) h limit = tt
+          said (phase.Active a) h limit = tt
+          said (phase.Broken epoch seg) h limit = tt
 
       first_asks : Goes (asked_as t.fetches q own) (drawn_for t.fetches q own)
       first_asks = by (own == t.fetches.own) refl

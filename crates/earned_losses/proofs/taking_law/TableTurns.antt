@@ -234,7 +234,7 @@ module _ (Named : ℕ → Group → Type 0) (Came : ℕ → ℕ → Told → Typ
 
   -- with so many steps more the numbers come to no more than this, which is below their end
   abbrev IsLeft : ℕ → ℕ → ℕ → Type 0
-  IsLeft most n last = (last + n ≤ most) × (most < u32_end)
+  IsLeft limit n last = (last + n ≤ limit) × (limit < u32_end)
 
   abbrev HasRoom : ℕ → ℕ → Type 0
   HasRoom n last = last < u32_end

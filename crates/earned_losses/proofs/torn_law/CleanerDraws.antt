@@ -2,7 +2,7 @@
 use Rattle.std.proofs.Common.{◌≡◌, ℕ, ◌≤◌, ◌==◌, ◌&&◌, Bool, nat_lt, List, [], ◌∷◌, Option, Some, None, is_some, refl, arith}
 use Rattle.std.specs.List.{range_with_len}
 use Rattle.xfs_base.proofs.Booleans.{by_test}
-use Rattle.xfs_base.specs.Steps.{still, after}
+use Rattle.xfs_base.specs.Steps.{still, saying}
 use Rattle.xfs_base.specs.declared.block.BlockId.{BlockId}
 use Rattle.xfs_base.specs.declared.entry.Entry.{Entry}
 use Rattle.xfs_base.specs.declared.news.SlotNews.{SlotNews}
@@ -75,7 +75,7 @@ unfolding settles
 settles_so e end rows h =
     let f : Emptying = fed e end rows in
     first_goes (last_in e) (Does (Filed (name_of cleaner_log end)) ∷ pushes_all f.promised.managers f.feed) (cleans f input.Moved)
-    (λ top. (tt, all_pushed_none f.promised.managers f.feed top)) (cleans_so f input.Moved (moved_so (last_in e) e.job h))
+    (λ highest. (tt, all_pushed_none f.promised.managers f.feed highest)) (cleans_so f input.Moved (moved_so (last_in e) e.job h))
 
 writes_one_so : (e : Emptying) (o : LogOut) → At e → Goes (last_in e) (writes_one e o)
 unfolding writes_one
@@ -137,7 +137,7 @@ polled_so : (e : Emptying) (manager : ℕ) (p : Poll) → At e → Goes (last_in
 polled_so e manager p h =
     by_test (Goes (last_in e)) (nat_lt p.epoch (epoch_of e.promised p.slot)) (still e) (reports e manager p) (λ _. still_so e h)
     (λ _. first_goes (last_in e) (Send (node.Manager manager) _ ∷ []) (cleans (promises e p.slot p.epoch manager) (input.Promise p.slot p.epoch))
-    (λ top. (tt, tt)) (told_so e p.slot p.epoch manager h))
+    (λ highest. (tt, tt)) (told_so e p.slot p.epoch manager h))
 
 on_poll_so : (e : Emptying) (from : NodeId) (p : Poll) → At e → Goes (last_in e) (on_poll e from p)
 unfolding on_poll
@@ -177,7 +177,7 @@ takes_news_so e news h =
     let b : Done = hears_slots a.state news.slots in
     let ga : Goes (last_in e) a = job_regrouped_so t newer news.groups h in
     let gb : Goes (last_in a.state) b = hears_slots_so a.state news.slots ga.reads in
-    then_goes (last_in e) a (after b.outs (log_regrouped b.state newer news.groups)) ga
+    then_goes (last_in e) a (saying b.outs (log_regrouped b.state newer news.groups)) ga
     (then_goes (last_in a.state) b (log_regrouped b.state newer news.groups) gb (log_regrouped_so b.state newer news.groups gb.reads))
 
 on_news_so : (e : Emptying) (news : News) → At e → Goes (last_in e) (on_news e news)
@@ -202,7 +202,7 @@ unfolding on_welcome
 on_welcome_so e m h =
     let d : Done = takes_news e m.news in
     let a = takes_news_so e m.news h in
-    by_test (Goes (last_in e)) ((m.inc == e.lasting.inc) && fits e.maps m.news) (after d.outs (welcomes d.state m)) (still e)
+    by_test (Goes (last_in e)) ((m.inc == e.lasting.inc) && fits e.maps m.news) (saying d.outs (welcomes d.state m)) (still e)
     (λ _. then_goes (last_in e) d (welcomes d.state m) a (welcomes_so d.state m a.reads)) (λ _. still_so e h)
 
 -- ---- packets and time
@@ -236,7 +236,7 @@ tick_so e h =
     let a : Goes (last_in e) j = cleans_so e input.Tick h in
     let b : Goes (last_in j.state) l = writes_so j.state log_in.Tick a.reads in
     let last : Done = record { state = l.state; outs = pushes_all l.state.promised.managers l.state.feed } in
-    then_goes (last_in e) j (after l.outs last) a
+    then_goes (last_in e) j (saying l.outs last) a
     (then_goes (last_in j.state) l last b
     (record { up = omega arith; reads = b.reads; does = all_pushed_none l.state.promised.managers l.state.feed (last_in l.state) }))
 
@@ -272,7 +272,7 @@ opened_up : (l : Lasting) (w : Went) → WentUp l.questions.last w → Draws l.q
 unfolding after_opening
 opened_up l w u = by_progress w.progress
   where
-    by_progress : (p : Progress) → Draws l.questions.last (after w.effects (after_opening (record l { questions = w.questions }) p))
+    by_progress : (p : Progress) → Draws l.questions.last (saying w.effects (after_opening (record l { questions = w.questions }) p))
     by_progress (progress.Opening o) = record { up = u.up; serves = tt; does = all_append (UpTo w.questions.last) w.effects [] u.does tt }
     by_progress (progress.Opened r) = record {
       up = u.up;

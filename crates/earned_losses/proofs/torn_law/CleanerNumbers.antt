@@ -1,7 +1,7 @@
 -- The cleaner that serves asks servers for fragments by numbers of questions that it drew.
 use Rattle.std.proofs.Common.{ℕ, ◌≤◌, Bool, true, false, List, [], ◌∷◌, Option, Some, None, arith}
 use Rattle.xfs_base.proofs.Booleans.{by_test}
-use Rattle.xfs_base.specs.Steps.{still, after, steps}
+use Rattle.xfs_base.specs.Steps.{still, saying, steps}
 use Rattle.xfs_base.specs.declared.block.BlockId.{BlockId}
 use Rattle.xfs_base.specs.declared.entry.Entry.{Entry}
 use Rattle.xfs_base.specs.declared.entry.Place.{Place}
@@ -66,14 +66,14 @@ pub record Goes (last : ℕ) (d : Done) : Type 0 where
 pub still_so : (e : Emptying) → At e → Goes (last_in e) (still e)
 still_so e h = record { up = omega arith; reads = h; does = tt }
 
-pub then_goes : (last : ℕ) (d x : Done) → Goes last d → Goes (last_in d.state) x → Goes last (after d.outs x)
+pub then_goes : (last : ℕ) (d x : Done) → Goes last d → Goes (last_in d.state) x → Goes last (saying d.outs x)
 then_goes last d x a b = record {
   up = (let p = a.up in let q = b.up in omega arith);
   reads = b.reads;
   does = all_append (UpTo (last_in x.state)) d.outs x.outs (all_more (last_in d.state) (last_in x.state) b.up d.outs a.does) b.does;
 }
 
-pub first_goes : (last : ℕ) (outs : List Effect) (x : Done) → ((top : ℕ) → AllUpTo top outs) → Goes last x → Goes last (after outs x)
+pub first_goes : (last : ℕ) (outs : List Effect) (x : Done) → ((highest : ℕ) → AllUpTo highest outs) → Goes last x → Goes last (saying outs x)
 first_goes last outs x none a =
     record { up = a.up; reads = a.reads; does = all_append (UpTo (last_in x.state)) outs x.outs (none (last_in x.state)) a.does }
 
@@ -184,9 +184,9 @@ read_begun e seg h =
 
 -- ---- what the node does for it
 
-stored_none : (top : ℕ) (o : LogOut) → AllUpTo top (stored o)
-stored_none top (log_out.Send fragment member) = (tt, tt)
-stored_none top (log_out.Settled end rows) = tt
+stored_none : (highest : ℕ) (o : LogOut) → AllUpTo highest (stored o)
+stored_none highest (log_out.Send fragment member) = (tt, tt)
+stored_none highest (log_out.Settled end rows) = tt
 
 put_so : (e : Emptying) (i : LogIn) → At e → Goes (last_in e) (puts e i)
 unfolding puts
@@ -211,9 +211,9 @@ dropped_so : (last : ℕ) (hand : Option Hand) → HandUp last hand → HandUp l
 dropped_so last None h = tt
 dropped_so last (Some hand) h = h
 
-drops_none : (is_first : Bool) (name : SegName) (top : ℕ) → AllUpTo top (drops is_first name)
-drops_none true name top = (tt, tt)
-drops_none false name top = tt
+drops_none : (is_first : Bool) (name : SegName) (highest : ℕ) → AllUpTo highest (drops is_first name)
+drops_none true name highest = (tt, tt)
+drops_none false name highest = tt
 
 segment_deleted : (e : Emptying) (job : Option Job) (server : ℕ) (name : SegName) → HandUp (last_in e) (hand_of job) → At e
     → Goes (last_in e) (deletes e job server name)

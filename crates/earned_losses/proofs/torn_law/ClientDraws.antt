@@ -1,7 +1,7 @@
 -- Whatever happens to a client, it asks servers for fragments by numbers of questions that it drew.
 use Rattle.std.proofs.Common.{ℕ, ◌≤◌, [], ◌∷◌, ◌++◌, Option, Some, None, is_some, arith}
 use Rattle.xfs_base.proofs.Booleans.{by_test}
-use Rattle.xfs_base.specs.Steps.{still, after}
+use Rattle.xfs_base.specs.Steps.{still, saying}
 use Rattle.client_node.specs.declared.client.Client.{Client}
 use Rattle.client_node.specs.declared.phase.Phase.TheVariants.{Down, Opening, Serving as Serves}
 use Rattle.client_node.specs.declared.phase.Phase.{Phase}
@@ -68,7 +68,7 @@ serving_up last d g = record { up = g.up; serves = g.reads; does = g.does }
 opened_up : (l : Lasting) (capacity : ℕ) (w : Went) → WentUp l.questions.last w → Draws l.questions.last (opened_on l capacity w)
 opened_up l capacity w u = by_progress w.progress
   where
-    by_progress : (p : Progress) → Draws l.questions.last (after w.effects (after_opening (record l { questions = w.questions }) capacity p))
+    by_progress : (p : Progress) → Draws l.questions.last (saying w.effects (after_opening (record l { questions = w.questions }) capacity p))
     by_progress (progress.Opening o) = record { up = u.up; serves = tt; does = all_append (UpTo w.questions.last) w.effects [] u.does tt }
     by_progress (progress.Opened r) = record {
       up = u.up;
@@ -87,10 +87,10 @@ opened_up l capacity w u = by_progress w.progress
 
 -- ---- an item begins
 
-crashed_none : (l : Lasting) (number top : ℕ) → AllUpTo top (answers_unanswered (begun l.items).unanswered answer.Cut ++ Answer number answer.Done ∷ [])
-crashed_none l number top =
-    all_append (UpTo top) (answers_unanswered (begun l.items).unanswered answer.Cut) (Answer number answer.Done ∷ [])
-    (answered_none (begun l.items).unanswered answer.Cut top) (tt, tt)
+crashed_none : (l : Lasting) (number highest : ℕ) → AllUpTo highest (answers_unanswered (begun l.items).unanswered answer.Cut ++ Answer number answer.Done ∷ [])
+crashed_none l number highest =
+    all_append (UpTo highest) (answers_unanswered (begun l.items).unanswered answer.Cut) (Answer number answer.Done ∷ [])
+    (answered_none (begun l.items).unanswered answer.Cut highest) (tt, tt)
 
 down_up : (servers : ℕ) (l : Lasting) (number : ℕ) (wanted : Option Work)
     → Draws l.questions.last (item_begins servers (with_begun (Down l)) number (wish_of wanted))

@@ -53,23 +53,23 @@ use Rattle.xfs_base.specs.declared.segment.SegName.{SegName}
 use Rattle.xfs_base.specs.declared.token.Mode.TheVariants.{Copy}
 use Rattle.xfs_base.specs.declared.token.Stamp.{Stamp}
 use Rattle.xfs_base.specs.Modes.{is_nothing, same_mode}
-use Rattle.xfs_base.specs.Steps.{still, after, steps}
+use Rattle.xfs_base.specs.Steps.{still, saying, steps}
 
 -- ---- numbers
 
 abbrev pub BodyUpTo : ℕ → Body → Type 0
-BodyUpTo top (body.Fetch m) = m.ask ≤ top
-BodyUpTo top _ = Unit {0}
+BodyUpTo highest (body.Fetch m) = m.ask ≤ highest
+BodyUpTo highest _ = Unit {0}
 
 -- a fetch is asked by a number no later than this
 abbrev pub UpTo : ℕ → Effect → Type 0
-UpTo top (Send to said) = BodyUpTo top said
-UpTo top (Answer item a) = Unit {0}
-UpTo top (Lose seg) = Unit {0}
-UpTo top (Does act) = Unit {0}
+UpTo highest (Send to said) = BodyUpTo highest said
+UpTo highest (Answer item a) = Unit {0}
+UpTo highest (Lose seg) = Unit {0}
+UpTo highest (Does act) = Unit {0}
 
 abbrev pub AllUpTo : ℕ → List Effect → Type 0
-AllUpTo top outs = AllByRecursion (UpTo top) outs
+AllUpTo highest outs = AllByRecursion (UpTo highest) outs
 
 body_more : (a b : ℕ) → a ≤ b → (said : Body) → BodyUpTo a said → BodyUpTo b said
 body_more a b less (body.Fetch m) h = omega arith
@@ -120,7 +120,7 @@ rests last s h = record { up = (let a = h.same in omega arith); reads = h.reads;
 pub says : (s : Serving) (outs : List Effect) → At s → AllUpTo (last_in s) outs → Goes (last_in s) (gives s outs)
 says s outs h all = record { up = omega arith; reads = h; does = all }
 
-pub then_goes : (last : ℕ) (d x : Done) → Goes last d → Goes (last_in d.state) x → Goes last (after d.outs x)
+pub then_goes : (last : ℕ) (d x : Done) → Goes last d → Goes (last_in d.state) x → Goes last (saying d.outs x)
 then_goes last d x a b = record {
   up = (let p = a.up in let q = b.up in omega arith);
   reads = b.reads;
@@ -128,7 +128,7 @@ then_goes last d x a b = record {
 }
 
 -- what is said first bears no fetch
-pub first_goes : (last : ℕ) (outs : List Effect) (x : Done) → ((top : ℕ) → AllUpTo top outs) → Goes last x → Goes last (after outs x)
+pub first_goes : (last : ℕ) (outs : List Effect) (x : Done) → ((highest : ℕ) → AllUpTo highest outs) → Goes last x → Goes last (saying outs x)
 first_goes last outs x none a =
     record { up = a.up; reads = a.reads; does = all_append (UpTo (last_in x.state)) outs x.outs (none (last_in x.state)) a.does }
 
@@ -154,24 +154,24 @@ fold_stays last f each s (x ∷ xs) h = fold_stays last f each (f s x) xs (each 
 
 -- ---- what bears no fetch
 
-pub pushed_none : (managers : Managers) (feed : FeedState) (slot top : ℕ) → AllUpTo top (pushes managers feed slot)
-pushed_none managers feed slot top = all_map (UpTo top) (range managers) one (pushed feed slot)
+pub pushed_none : (managers : Managers) (feed : FeedState) (slot highest : ℕ) → AllUpTo highest (pushes managers feed slot)
+pushed_none managers feed slot highest = all_map (UpTo highest) (range managers) one (pushed feed slot)
   where
-    one : (x : Range_out) → UpTo top (range managers x)
+    one : (x : Range_out) → UpTo highest (range managers x)
     one (Range slot first upto rows) = tt
 
-pub all_pushed_none : (managers : Managers) (feed : FeedState) (top : ℕ) → AllUpTo top (pushes_all managers feed)
-all_pushed_none managers feed top = all_map (UpTo top) (range managers) one (ticked feed)
+pub all_pushed_none : (managers : Managers) (feed : FeedState) (highest : ℕ) → AllUpTo highest (pushes_all managers feed)
+all_pushed_none managers feed highest = all_map (UpTo highest) (range managers) one (ticked feed)
   where
-    one : (x : Range_out) → UpTo top (range managers x)
+    one : (x : Range_out) → UpTo highest (range managers x)
     one (Range slot first upto rows) = tt
 
-pub answered_none : (item : Option ℕ) (a : Answered) (top : ℕ) → AllUpTo top (answers_unanswered item a)
-answered_none item a top = answers_send (UpTo top) (λ number said. tt) item a
+pub answered_none : (item : Option ℕ) (a : Answered) (highest : ℕ) → AllUpTo highest (answers_unanswered item a)
+answered_none item a highest = answers_send (UpTo highest) (λ number said. tt) item a
 
-stored_none : (top : ℕ) (o : LogOut) → AllUpTo top (stored o)
-stored_none top (log_out.Send fragment member) = (tt, tt)
-stored_none top (log_out.Settled end rows) = tt
+stored_none : (highest : ℕ) (o : LogOut) → AllUpTo highest (stored o)
+stored_none highest (log_out.Send fragment member) = (tt, tt)
+stored_none highest (log_out.Settled end rows) = tt
 
 -- ---- the reading of the open call
 
@@ -279,10 +279,10 @@ reads_so s block place h =
 
 -- ---- what the tokens say
 
-wants_none : (s : Serving) (block : BlockId) (req again top : ℕ) (mode : _) → AllUpTo top (wants s block req again mode)
-wants_none s block req again top mode =
-    all_append (UpTo top) (cond (again == 0) (deltas s block) []) _
-    (by_test (AllUpTo top) (again == 0) (deltas s block) [] (λ _. pushed_none s.managers s.feed _ top) (λ _. tt)) (tt, tt)
+wants_none : (s : Serving) (block : BlockId) (req again highest : ℕ) (mode : _) → AllUpTo highest (wants s block req again mode)
+wants_none s block req again highest mode =
+    all_append (UpTo highest) (cond (again == 0) (deltas s block) []) _
+    (by_test (AllUpTo highest) (again == 0) (deltas s block) [] (λ _. pushed_none s.managers s.feed _ highest) (λ _. tt)) (tt, tt)
 
 follows_one_so : (s : Serving) (o : outputs.Out) → At s → Goes (last_in s) (follows_one s o)
 unfolding follows_one

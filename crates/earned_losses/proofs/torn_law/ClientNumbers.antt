@@ -85,7 +85,7 @@ use Rattle.xfs_base.specs.declared.node.NodeId.TheVariants as node
 use Rattle.xfs_base.specs.declared.segment.End.{End}
 use Rattle.xfs_base.specs.declared.token.Mode.TheVariants.{Copy, Own}
 use Rattle.xfs_base.specs.Modes.{is_held, is_nothing, is_own}
-use Rattle.xfs_base.specs.Steps.{still, after, steps}
+use Rattle.xfs_base.specs.Steps.{still, saying, steps}
 use Rattle.earned_losses.proofs.torn_law.ClientFetches.{AllUpTo, At, Goes, ReadsUpTo, Stays, UpTo, all_more, all_pushed_none, answered_none, ends_so, first_goes, follows_so, hands_so, last_in, last_up, loses_so, notes_clean_so, notes_gone_so, read_so, rests, says, seals_so, stays_at, steps_go, takes_back_so, then_goes}
 
 still_so : (s : Serving) → At s → Goes (last_in s) (still s)
@@ -128,7 +128,7 @@ settles_so s end rows h =
     let a : Goes (last_in fed) (steps gives_if_clean fed (dirty_in s.tokens.blocks)) =
     steps_go gives_if_clean gives_if_clean_so fed (dirty_in s.tokens.blocks) kept.reads in
     first_goes (last_in s) (Does (Filed (name_of (log_of s.lasting) end)) ∷ pushes_all fed.managers fed.feed)
-    (steps gives_if_clean fed (dirty_in s.tokens.blocks)) (λ top. (tt, all_pushed_none fed.managers fed.feed top))
+    (steps gives_if_clean fed (dirty_in s.tokens.blocks)) (λ highest. (tt, all_pushed_none fed.managers fed.feed highest))
     (record { up = (let p = kept.same in let q = a.up in omega arith); reads = a.reads; does = a.does })
 
 writes_one_so : (s : Serving) (o : LogOut) → At s → Goes (last_in s) (writes_one s o)
@@ -155,7 +155,7 @@ MadeSo : ℕ → Made → Type 0
 MadeSo last m = Goes last m.done
 
 -- what is acted first is no fetch
-acted_so : (last : ℕ) (d : Done) (e : Effect) → ((top : ℕ) → UpTo top e) → Goes last d → Goes last (gives d.state (e ∷ d.outs))
+acted_so : (last : ℕ) (d : Done) (e : Effect) → ((highest : ℕ) → UpTo highest e) → Goes last d → Goes last (gives d.state (e ∷ d.outs))
 acted_so last d e none a = record { up = a.up; reads = a.reads; does = (none (last_in d.state), a.does) }
 
 gets_so : (s : Serving) (block : BlockId) → At s → MadeSo (last_in s) (gets s block)
@@ -168,7 +168,7 @@ changes_so : (s : Serving) (block : BlockId) (value : Option (List ℕ)) → At 
 unfolding changes MadeSo
 changes_so s block value h =
     let i : LogIn = log_in.Put block (record { ver = (held_at (wrote s block value) block).ver; hop = 0; place = None }) value in
-    acted_so (last_in s) (writes (wrote s block value) i) _ (λ top. tt) (writes_so (wrote s block value) i h)
+    acted_so (last_in s) (writes (wrote s block value) i) _ (λ highest. tt) (writes_so (wrote s block value) i h)
 
 lets_go_so : (s : Serving) (block : BlockId) → At s → Stays (last_in s) (lets_go s block)
 lets_go_so s block h =
@@ -276,7 +276,7 @@ turns_so : (k : ℕ) (s : Serving) → ((t : Serving) → At t → Goes (last_in
 unfolding runs_upto
 turns_so k s rest p =
     let r : Ran = runs_once s in
-    by_test (Goes (last_in s)) r.goes (after r.done.outs (runs_upto k r.done.state)) r.done
+    by_test (Goes (last_in s)) r.goes (saying r.done.outs (runs_upto k r.done.state)) r.done
     (λ _. then_goes (last_in s) r.done (runs_upto k r.done.state) p (rest r.done.state p.reads)) (λ _. p)
 
 runs_upto_so : (k : ℕ) (s : Serving) → At s → Goes (last_in s) (runs_upto k s)
@@ -300,13 +300,13 @@ on_supply_so : (s : Serving) (m : Supply) → At s → Goes (last_in s) (on_supp
 unfolding on_supply
 on_supply_so s m h = hands_so s (input.Supplied m.block m.stamp m.inc m.req m.ver m.value) h
 
-supplies_none : (f : Forward) (top : ℕ) (o : outputs.Out) → AllUpTo top (supplies f o)
-supplies_none f top (output.Supply block ver value) = (tt, tt)
-supplies_none f top (output.Want block req again mode) = tt
-supplies_none f top (output.Gave block stamp) = tt
-supplies_none f top (output.Flush block) = tt
-supplies_none f top (output.Read block place) = tt
-supplies_none f top (output.Ready block) = tt
+supplies_none : (f : Forward) (highest : ℕ) (o : outputs.Out) → AllUpTo highest (supplies f o)
+supplies_none f highest (output.Supply block ver value) = (tt, tt)
+supplies_none f highest (output.Want block req again mode) = tt
+supplies_none f highest (output.Gave block stamp) = tt
+supplies_none f highest (output.Flush block) = tt
+supplies_none f highest (output.Read block place) = tt
+supplies_none f highest (output.Ready block) = tt
 
 on_forward_so : (s : Serving) (f : Forward) → At s → Goes (last_in s) (on_forward s f)
 unfolding on_forward
@@ -316,9 +316,9 @@ on_forward_so s f h = record {
   does = all_flat_map (UpTo (last_in s)) (supplies f) (supplies_none f (last_in s)) (client.on_forwarded s.tokens f.block f.stamp f.ver).outs;
 }
 
-again_none : (s : Serving) (r : Recall) (top : ℕ) (outs : List outputs.Out) → AllUpTo top (again s r outs)
-again_none s r top [] = tt
-again_none s r top (o ∷ outs) = (tt, tt)
+again_none : (s : Serving) (r : Recall) (highest : ℕ) (outs : List outputs.Out) → AllUpTo highest (again s r outs)
+again_none s r highest [] = tt
+again_none s r highest (o ∷ outs) = (tt, tt)
 
 on_recall_so : (s : Serving) (r : Recall) → At s → Goes (last_in s) (on_recall s r)
 unfolding on_recall
@@ -412,7 +412,7 @@ unfolding polled
 polled_so s manager p h =
     let kept = promises s p.slot p.epoch manager in
     by_test (Goes (last_in s)) (may_report s p) (reports p.slot p.epoch kept) (still s)
-    (λ _. first_goes (last_in s) (report kept.state p.slot p.epoch ∷ []) (follows kept.state kept.outs) (λ top. (tt, tt))
+    (λ _. first_goes (last_in s) (report kept.state p.slot p.epoch ∷ []) (follows kept.state kept.outs) (λ highest. (tt, tt))
     (followed_so s p.slot p.epoch manager h)) (λ _. still_so s h)
 
 on_poll_so : (s : Serving) (from : NodeId) (p : Poll) → At s → Goes (last_in s) (on_poll s from p)
@@ -467,10 +467,10 @@ body_so s from _ h = still_so s h
 more_reads : (s : Serving) → At s → ReadsUpTo (drawn s.lasting.questions).last (reading_in s.call)
 more_reads s h = reads_more (last_in s) (drawn s.lasting.questions).last (last_up (last_in s)) (reading_in s.call) h
 
-then_run : (last : ℕ) (d : Done) → Goes last d → Goes last (after d.outs (runs d.state))
+then_run : (last : ℕ) (d : Done) → Goes last d → Goes last (saying d.outs (runs d.state))
 then_run last d a = then_goes last d (runs d.state) a (runs_so d.state a.reads)
 
-pub packet_so : (s : Serving) (p : Packet) → At s → Goes (last_in s) (after (on_packet s p).outs (runs (on_packet s p).state))
+pub packet_so : (s : Serving) (p : Packet) → At s → Goes (last_in s) (saying (on_packet s p).outs (runs (on_packet s p).state))
 unfolding on_packet asks_for_maps
 packet_so s p h =
     then_run (last_in s) (on_packet s p)
@@ -481,7 +481,7 @@ again_so : (last : ℕ) (r : Option ReadingState) → ReadsUpTo last r → AllUp
 again_so last None h = tt
 again_so last (Some r) h = all_map (UpTo last) (fetch r.target.seg.name r.ask) (λ server. h) (to_ask r)
 
-pub time_so : (s : Serving) → At s → Goes (last_in s) (after (on_tick s).outs (runs (on_tick s).state))
+pub time_so : (s : Serving) → At s → Goes (last_in s) (saying (on_tick s).outs (runs (on_tick s).state))
 unfolding on_tick
 time_so s h =
     let w : Done = hands s input.Tick in

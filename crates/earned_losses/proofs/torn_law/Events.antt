@@ -104,7 +104,7 @@ module _ (base : Setting) (e : Estate AnyNode) (lines : HasLines base e) (r : Ro
   torn_now count opens segment reads torn = record {
     at = count;
     before = omega arith;
-    opens = λ k since most. subst (λ j. is_some (scan_at e r j) ≡ true) (omega arith) opens;
+    opens = λ k since limit. subst (λ j. is_some (scan_at e r j) ≡ true) (omega arith) opens;
     reads = reads;
     torn = torn;
   }
@@ -113,8 +113,8 @@ module _ (base : Setting) (e : Estate AnyNode) (lines : HasLines base e) (r : Ro
   torn_on count opens segment t = record {
     at = t.at;
     before = (let a = t.before in omega arith);
-    opens = λ k since most.
-        ⊎_elim (λ same. subst (λ j. is_some (scan_at e r j) ≡ true) (sym same) opens) (λ below. t.opens k since below) (last_or_before k count most);
+    opens = λ k since limit.
+        ⊎_elim (λ same. subst (λ j. is_some (scan_at e r j) ≡ true) (sym same) opens) (λ below. t.opens k since below) (last_or_before k count limit);
     reads = t.reads;
     torn = t.torn;
   }

@@ -52,13 +52,13 @@ number_up a q own small = number_by (own == a.own) a.ask q small
 for_more : (a : Asked) (q : Questions) (own : ℕ) → q.last ≤ (drawn_for a q own).last
 for_more a q own = by_test (λ (p : Questions). q.last ≤ p.last) (own == a.own) q (drawn q) (λ t. omega arith) (λ t. last_up q.last)
 
-record Up (last top : ℕ) (outs : List Effect) : Type 0 where
-  up : last ≤ top
-  does : AllUpTo top outs
+record Up (last highest : ℕ) (outs : List Effect) : Type 0 where
+  up : last ≤ highest
+  does : AllUpTo highest outs
 
 -- what is said first bears a number that was drawn
-one_first : (low last top : ℕ) (e : Effect) (outs : List Effect) → low ≤ last → Up last top outs → (last ≤ top → UpTo top e) → Up low top (e ∷ outs)
-one_first low last top e outs less u is = record { up = (let a = u.up in omega arith); does = (is u.up, u.does) }
+one_first : (low last highest : ℕ) (e : Effect) (outs : List Effect) → low ≤ last → Up last highest outs → (last ≤ highest → UpTo highest e) → Up low highest (e ∷ outs)
+one_first low last highest e outs less u is = record { up = (let a = u.up in omega arith); does = (is u.up, u.does) }
 
 said_up : (owner : Owner) (low : ℕ) (a : Asked) (q : Questions) (e : _) (outs : List Out) → a.ask ≤ q.last
     → Up q.last (steps (said owner low) (record { asked = a; questions = q; ended = e }) outs).state.questions.last
@@ -86,9 +86,9 @@ abbrev pub StageUp : ℕ → Stage → Type 0
 StageUp last (stage.Scanning s) = s.asked.ask ≤ last
 StageUp last (stage.Settling s) = Unit {0}
 
-quiet_up : (top : ℕ) (to : NodeId) (b : Body) → NotFetch b → UpTo top (Send to b)
-quiet_up top to (body.Fetch m) none = absurd none
-quiet_up top to _ none = tt
+quiet_up : (highest : ℕ) (to : NodeId) (b : Body) → NotFetch b → UpTo highest (Send to b)
+quiet_up highest to (body.Fetch m) none = absurd none
+quiet_up highest to _ none = tt
 
 module _ (q : Questions) where
   abbrev W : Went → Type 0

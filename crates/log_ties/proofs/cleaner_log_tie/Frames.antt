@@ -16,7 +16,7 @@ use Rattle.wire_msg.specs.declared.registry.Welcome.{Welcome}
 use Rattle.xfs_base.specs.declared.node.NodeId.{NodeId}
 use Rattle.xfs_base.specs.declared.node.NodeId.TheVariants.{Client, Manager, Server, Cleaner, Registry}
 use Rattle.xfs_base.specs.declared.segment.SegName.{SegName}
-use Rattle.xfs_base.specs.Steps.{still, after, steps}
+use Rattle.xfs_base.specs.Steps.{still, saying, steps}
 use Rattle.cleaner_emptying.specs.declared.emptying.Emptying.{Emptying}
 use Rattle.cleaner_emptying.specs.Jobs.{Done}
 use Rattle.cleaner_parts.specs.declared.job.Job.{Job}
@@ -260,7 +260,7 @@ module _ (g : Setting) where
   pub stays : (w : Scene) (e : Emptying) → Stands g w e → Gone w (still e)
   stays w e stands = at_once w e [] stands tt
 
-  pub and_then : (w : Scene) (d e : Done) (p : Gone w d) → Gone p.next e → Gone w (after d.outs e)
+  pub and_then : (w : Scene) (d e : Done) (p : Gone w d) → Gone p.next e → Gone w (saying d.outs e)
   and_then w d e p q = record {
     next = q.next;
     grown = grows_on w p.next q.next p.grown q.grown;
@@ -271,7 +271,7 @@ module _ (g : Setting) where
   }
 
   -- what is seen at once, and then the rest
-  pub after_these : (w : Scene) (outs : List Effect) (e : Done) → AllDone w outs → Gone w e → Gone w (after outs e)
+  pub after_these : (w : Scene) (outs : List Effect) (e : Done) → AllDone w outs → Gone w e → Gone w (saying outs e)
   after_these w outs e does q = record {
     next = q.next;
     grown = q.grown;

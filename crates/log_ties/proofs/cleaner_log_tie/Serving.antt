@@ -11,7 +11,7 @@ use Rattle.xfs_base.specs.declared.node.NodeId.TheVariants as node
 use Rattle.xfs_base.specs.declared.segment.End.{End}
 use Rattle.xfs_base.specs.declared.segment.LogId.{LogId}
 use Rattle.xfs_base.specs.declared.segment.SegName.{SegName}
-use Rattle.xfs_base.specs.Steps.{still, after, steps}
+use Rattle.xfs_base.specs.Steps.{still, saying, steps}
 use Rattle.group_map.specs.GroupMapState.{GroupMapState}
 use Rattle.client_log.specs.declared.input.In.TheVariants as log_in
 use Rattle.client_log.specs.declared.output.Out.{Out as LogOut}
@@ -289,7 +289,7 @@ module _ (g : Setting) (is : g.log ≡ cleaner_log) where
       let pa : Goes w a = job_hears_groups w with_maps newer news.groups (record { lasts = h.lasts; log = h.log; written = h.written; job = h.job }) in
       let pb : Goes pa.next b = slots_heard pa.next a.state news.slots pa.stands in
       let pc : Goes pb.next c = log_hears_groups pb.next b.state newer news.groups pb.stands (pb.grown.sent _ (pa.grown.sent _ came)) fit in
-      and_then g w a (after b.outs c) pa (and_then g pa.next b c pb pc)
+      and_then g w a (saying b.outs c) pa (and_then g pa.next b c pb pc)
 
   news_heard : (w : Scene) (e : Emptying) (news : News) → Stands g w e → In (MapSent news.groups) w.net.sent → MapFits news.groups → Goes w (on_news e news)
   news_heard w e news h came fit = by_test (Goes w) (fits e.maps news) (takes_news e news) (still e) (λ t. news_taken w e news h came fit) (λ t. stays g w e h)
@@ -316,7 +316,7 @@ module _ (g : Setting) (is : g.log ≡ cleaner_log) where
   unfolding on_welcome
   welcome_heard w e m h seen fit =
       let d : Done = takes_news e m.news in
-      by_test (Goes w) ((m.inc == e.lasting.inc) && fits e.maps m.news) (after d.outs (welcomes d.state m)) (still e)
+      by_test (Goes w) ((m.inc == e.lasting.inc) && fits e.maps m.news) (saying d.outs (welcomes d.state m)) (still e)
       (λ t. let p : Goes w d = news_taken w e m.news h seen.map fit in
       and_then g w d (welcomes d.state m) p (job_welcomed p.next d.state m p.stands (let a = seen.low in let b = p.grown.low in omega arith)))
       (λ t. stays g w e h)
@@ -386,5 +386,5 @@ module _ (g : Setting) (is : g.log ≡ cleaner_log) where
       let r : Done = record { state = l.state; outs = pushes_all l.state.promised.managers l.state.feed } in
       let pj : Goes w j = job_in_time g is w e room h in
       let pl : Goes pj.next l = time_written pj.next j.state pj.stands in
-      and_then g w j (after l.outs r) pj
+      and_then g w j (saying l.outs r) pj
       (and_then g pj.next l r pl (at_once g pl.next l.state r.outs pl.stands (deltas_pushed pl.next l.state.promised.managers l.state.feed)))

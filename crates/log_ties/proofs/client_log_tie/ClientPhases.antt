@@ -44,7 +44,7 @@ use Rattle.wire_msg.specs.declared.packet.Packet as wire
 use Rattle.xfs_base.proofs.Booleans.{by_test, and_first, and_second, contrary}
 use Rattle.xfs_base.specs.declared.segment.LogId.{LogId}
 use Rattle.xfs_base.specs.Limits.{u32_end}
-use Rattle.xfs_base.specs.Steps.{still, after}
+use Rattle.xfs_base.specs.Steps.{still, saying}
 use Rattle.log_protocol.specs.Tables.{In, put}
 use Rattle.log_tie.specs.Setting.{Setting}
 use Rattle.log_law.specs.Net.{Net}
@@ -273,7 +273,7 @@ module _ (g : Setting) (c : ℕ) (is : g.log ≡ record { 0 = c }) (small : is_l
         by_progress : (p : Progress) → ProgressSeen g c t.next x.questions.last p
             → (IsLost g c p → (t.next.net.flown ≡ w.net.flown) × ((t.next.net.filed ≡ w.net.filed) × (is_serving t.next.net.owner ≡ false)))
             → ProgressAsks p x.questions.last
-            → Goes (after x.effects (after_opening (record l { questions = x.questions }) capacity p))
+            → Goes (saying x.effects (after_opening (record l { questions = x.questions }) capacity p))
         by_progress (progress.Opening o) shows lost asks = record {
           next = t.next;
           grown = t.grown;
@@ -333,7 +333,7 @@ module _ (g : Setting) (c : ℕ) (is : g.log ≡ record { 0 = c }) (small : is_l
   stands : (s : Serving) → ClientAgrees g c w (Serves s) → StaysWritten s.log → AtServing s
   stands s sees written = record { lasts = sees.0; sees = sees.1; written = written }
 
-  crashes_serving : (s : Serving) (number : ℕ) → ClientAgrees g c w (Serves s) → Goes (after (falls s ∷ []) (crashed s.lasting number))
+  crashes_serving : (s : Serving) (number : ℕ) → ClientAgrees g c w (Serves s) → Goes (saying (falls s ∷ []) (crashed s.lasting number))
   crashes_serving s number sees =
       falls_so (record s.lasting { items = answered s.lasting.items }) (falls s ∷ (crashed s.lasting number).outs) sees.0
       (λ v. All-cons (ClientDoes g c v) (falls s) (crashed s.lasting number).outs tt (crash_said s.lasting number v))

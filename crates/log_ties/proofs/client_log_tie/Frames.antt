@@ -15,7 +15,7 @@ use Rattle.wire_msg.specs.declared.body.Body.TheVariants as body
 use Rattle.wire_msg.specs.declared.registry.Welcome.{Welcome}
 use Rattle.xfs_base.specs.declared.node.NodeId.{NodeId}
 use Rattle.xfs_base.specs.declared.node.NodeId.TheVariants.{Client, Manager, Server, Cleaner, Registry}
-use Rattle.xfs_base.specs.Steps.{still, after, steps}
+use Rattle.xfs_base.specs.Steps.{still, saying, steps}
 use Rattle.fragment_store.specs.ShelfState.{ShelfState}
 use Rattle.log_protocol.specs.Tables.{In}
 use Rattle.log_tie.specs.Setting.{Setting}
@@ -236,7 +236,7 @@ module _ (g : Setting) (c : ℕ) where
   goes_seen w s outs h seen = record { next = w; grown = grown_still g w; stands = h; does = seen; boot = refl; puts = took_nothing PutsOwn w.net }
 
   -- one thing follows another, in a world that grew
-  pub goes_on_in : (w : Scene) (d e : Done) → Goes w d → ((v : Scene) → Grown g w v → At v d.state → Goes v e) → Goes w (after d.outs e)
+  pub goes_on_in : (w : Scene) (d e : Done) → Goes w d → ((v : Scene) → Grown g w v → At v d.state → Goes v e) → Goes w (saying d.outs e)
   goes_on_in w d e p f =
       let q : Goes p.next e = f p.next p.grown p.stands in
       record {
@@ -250,7 +250,7 @@ module _ (g : Setting) (c : ℕ) where
             took_both PutsOwn w.net p.next.net q.next.net s a (q.puts (state_after s a.inputs) a.serves);
       }
 
-  pub goes_on : (w : Scene) (d e : Done) → Goes w d → ((v : Scene) → At v d.state → Goes v e) → Goes w (after d.outs e)
+  pub goes_on : (w : Scene) (d e : Done) → Goes w d → ((v : Scene) → At v d.state → Goes v e) → Goes w (saying d.outs e)
   goes_on w d e p f = goes_on_in w d e p (λ v grown h. f v h)
 
   pub goes_from : (w v : Scene) (d : Done) → Grown g w v → v.net.inc ≡ w.net.inc
@@ -271,7 +271,7 @@ module _ (g : Setting) (c : ℕ) where
       → Goes w (gives s (d.outs ++ outs))
   goes_and_gives w d s outs p f plain = goes_on w d (gives s outs) p (λ v h. goes_plain v s outs (f v h) plain)
 
-  pub goes_after : (w : Scene) (outs : List Effect) (d : Done) → Plain outs → Goes w d → Goes w (after outs d)
+  pub goes_after : (w : Scene) (outs : List Effect) (d : Done) → Plain outs → Goes w d → Goes w (saying outs d)
   goes_after w outs d plain p = record {
     next = p.next;
     grown = p.grown;

@@ -4,7 +4,7 @@ use Rattle.std.specs.Prelude.{All}
 use Rattle.std.proofs.lemmas.List.Elements.{All-nil, All-cons, All-append}
 use Rattle.xfs_base.specs.declared.segment.End.{End}
 use Rattle.xfs_base.specs.declared.segment.SegName.{SegName}
-use Rattle.xfs_base.specs.Steps.{still, after, steps}
+use Rattle.xfs_base.specs.Steps.{still, saying, steps}
 use Rattle.segment_format.specs.declared.segment.Segment.{Segment}
 use Rattle.group_map.specs.GroupMapState.{GroupMapState}
 use Rattle.std.specs.List.{AllByRecursion}
@@ -117,7 +117,7 @@ module _ (g : Setting) (c : ℕ) where
 
     went_aloft : (f : Flew w s.chain s.low its life q.last d) → Aloft f.next s.chain s.low d → WentTo w its life (asking q (logged k s d))
     went_aloft f a =
-        subst (λ (o : Option End). WentTo w its life (asking q (after (written d.outs).outs (opens k then_is o)))) (sym a.flies.quiet)
+        subst (λ (o : Option End). WentTo w its life (asking q (saying (written d.outs).outs (opens k then_is o)))) (sym a.flies.quiet)
         (record {
           next = f.next;
           grown = f.grown;
@@ -142,7 +142,7 @@ module _ (g : Setting) (c : ℕ) where
 
     went_down : (f : Flew w s.chain s.low its life q.last d) → Landed f.next s.chain d → WentTo w its life (asking q (logged k s d))
     went_down f a =
-        subst (λ (o : Option End). WentTo w its life (asking q (after (written d.outs).outs (opens k then_is o)))) (sym a.lands.told)
+        subst (λ (o : Option End). WentTo w its life (asking q (saying (written d.outs).outs (opens k then_is o)))) (sym a.lands.told)
         (record {
           next = f.next;
           grown = f.grown;

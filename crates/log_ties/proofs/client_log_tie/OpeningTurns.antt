@@ -7,7 +7,7 @@ use Rattle.xfs_base.specs.declared.segment.End.{End}
 use Rattle.xfs_base.specs.declared.segment.Prior.{Prior}
 use Rattle.xfs_base.specs.declared.segment.SegName.{SegName}
 use Rattle.xfs_base.specs.Limits.{segment_blocks}
-use Rattle.xfs_base.specs.Steps.{still, after}
+use Rattle.xfs_base.specs.Steps.{still, saying}
 use Rattle.xfs_base.proofs.Booleans.{by_test}
 use Rattle.segment_format.specs.declared.segment.Item.{Item}
 use Rattle.segment_format.specs.Rows.{rows_of}
@@ -83,7 +83,7 @@ not_full s clear = ap (λ xs. nat_le segment_blocks (length xs)) clear
 settled_lands : (s : LogState) (f : FlightState) → s.dirty ≡ [] → Lands (settled s f)
 unfolding settled if_full wrote_one
 settled_lands s f clear =
-    subst (λ b. Lands (after (Settled (end_from f.segment) (rows_of f.segment) ∷ []) (cond b (sealed (landed s f)) (still (landed s f)))))
+    subst (λ b. Lands (saying (Settled (end_from f.segment) (rows_of f.segment) ∷ []) (cond b (sealed (landed s f)) (still (landed s f)))))
     (sym (not_full s clear))
     (record { end = end_from f.segment; told = refl; rows = rows_of f.segment; outs = refl; landed = refl })
 

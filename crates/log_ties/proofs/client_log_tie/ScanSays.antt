@@ -9,7 +9,7 @@ use Rattle.xfs_base.specs.declared.segment.LogId.{LogId}
 use Rattle.xfs_base.specs.declared.segment.Prior.{Prior}
 use Rattle.xfs_base.specs.declared.segment.SegName.{SegName}
 use Rattle.xfs_base.specs.Limits.{u32_end}
-use Rattle.xfs_base.specs.Steps.{still, after}
+use Rattle.xfs_base.specs.Steps.{still, saying}
 use Rattle.segment_format.specs.declared.segment.Segment.{Segment}
 use Rattle.group_map.specs.GroupMapState.{GroupMapState}
 use Rattle.client_log.specs.declared.input.In.TheVariants as log_in
@@ -138,29 +138,29 @@ module _ (g : Setting) (c : ℕ) where
     -- ---- servers are fenced or asked
 
     abbrev pub IsRest : ℕ → Out → Type 0
-    IsRest most (Hello own) = ⊥
-    IsRest most (Fence server) = Unit {0}
-    IsRest most (Fetch server name own) = own ≤ most
-    IsRest most (Chain segments end prior) = ⊥
-    IsRest most (Lost name) = ⊥
+    IsRest limit (Hello own) = ⊥
+    IsRest limit (Fence server) = Unit {0}
+    IsRest limit (Fetch server name own) = own ≤ limit
+    IsRest limit (Chain segments end prior) = ⊥
+    IsRest limit (Lost name) = ⊥
 
-    rest_tells_none : (most : ℕ) (outs : List Out) → AllByRecursion (IsRest most) outs → chain_in outs ≡ None
-    rest_tells_none most [] all = refl
-    rest_tells_none most (Hello own ∷ outs) all = absurd all.0
-    rest_tells_none most (Fence server ∷ outs) all = rest_tells_none most outs all.1
-    rest_tells_none most (Fetch server name own ∷ outs) all = rest_tells_none most outs all.1
-    rest_tells_none most (Chain segments end prior ∷ outs) all = absurd all.0
-    rest_tells_none most (Lost name ∷ outs) all = absurd all.0
+    rest_tells_none : (limit : ℕ) (outs : List Out) → AllByRecursion (IsRest limit) outs → chain_in outs ≡ None
+    rest_tells_none limit [] all = refl
+    rest_tells_none limit (Hello own ∷ outs) all = absurd all.0
+    rest_tells_none limit (Fence server ∷ outs) all = rest_tells_none limit outs all.1
+    rest_tells_none limit (Fetch server name own ∷ outs) all = rest_tells_none limit outs all.1
+    rest_tells_none limit (Chain segments end prior ∷ outs) all = absurd all.0
+    rest_tells_none limit (Lost name ∷ outs) all = absurd all.0
 
-    record Rests (most : ℕ) (a : Asked) (p : Questions) : Type 0 where
-      asks : AsksServers w.asked a most
-      past : a.own ≤ most
+    record Rests (limit : ℕ) (a : Asked) (p : Questions) : Type 0 where
+      asks : AsksServers w.asked a limit
+      past : a.own ≤ limit
       number : a.ask ≤ p.last
       more : q.last ≤ p.last
 
-    numbered_rests : (most : ℕ) (a : Asked) (p : Questions) (own : ℕ) → own ≤ most → Rests most a p → Rests most (asked_as a p own) (drawn_for a p own)
-    numbered_rests most a p own small r =
-        by_outcome (λ b. Rests most (record { own = own; ask = cond b a.ask (next_ask p) }) (cond b p (drawn p)))
+    numbered_rests : (limit : ℕ) (a : Asked) (p : Questions) (own : ℕ) → own ≤ limit → Rests limit a p → Rests limit (asked_as a p own) (drawn_for a p own)
+    numbered_rests limit a p own small r =
+        by_outcome (λ b. Rests limit (record { own = own; ask = cond b a.ask (next_ask p) }) (cond b p (drawn p)))
         (own == a.own)
         (λ t. record {
           asks = ⊎_elim (λ e. inl (equal own a.own t ∙ e)) (λ e. inr e) r.asks;
@@ -176,35 +176,35 @@ module _ (g : Setting) (c : ℕ) where
         })
 
     -- and the end of the scan isn't told
-    record Rested (most low : ℕ) (a : Asked) (p : Questions) (outs : List Out) : Type 0 where
+    record Rested (limit low : ℕ) (a : Asked) (p : Questions) (outs : List Out) : Type 0 where
       none : (scanned k.owner low a p outs).state.ended ≡ None
-      rests : Rests most (scanned k.owner low a p outs).state.asked (scanned k.owner low a p outs).state.questions
+      rests : Rests limit (scanned k.owner low a p outs).state.asked (scanned k.owner low a p outs).state.questions
 
-    said_rests : (most low : ℕ) (a : Asked) (p : Questions) (outs : List Out) → AllByRecursion (IsRest most) outs → Rests most a p → Rested most low a p outs
+    said_rests : (limit low : ℕ) (a : Asked) (p : Questions) (outs : List Out) → AllByRecursion (IsRest limit) outs → Rests limit a p → Rested limit low a p outs
     unfolding said
-    said_rests most low a p [] all r = record { none = refl; rests = r }
-    said_rests most low a p (Hello own ∷ outs) all r = absurd all.0
-    said_rests most low a p (Fence server ∷ outs) all r = (let i = said_rests most low a p outs all.1 r in record { none = i.none; rests = i.rests })
-    said_rests most low a p (Fetch server name own ∷ outs) all r =
-        let i = said_rests most low (asked_as a p own) (drawn_for a p own) outs all.1 (numbered_rests most a p own all.0 r) in
+    said_rests limit low a p [] all r = record { none = refl; rests = r }
+    said_rests limit low a p (Hello own ∷ outs) all r = absurd all.0
+    said_rests limit low a p (Fence server ∷ outs) all r = (let i = said_rests limit low a p outs all.1 r in record { none = i.none; rests = i.rests })
+    said_rests limit low a p (Fetch server name own ∷ outs) all r =
+        let i = said_rests limit low (asked_as a p own) (drawn_for a p own) outs all.1 (numbered_rests limit a p own all.0 r) in
         record { none = i.none; rests = i.rests }
-    said_rests most low a p (Chain segments end prior ∷ outs) all r = absurd all.0
-    said_rests most low a p (Lost name ∷ outs) all r = absurd all.0
+    said_rests limit low a p (Chain segments end prior ∷ outs) all r = absurd all.0
+    said_rests limit low a p (Lost name ∷ outs) all r = absurd all.0
 
-    rest_seen : (v : Scene) (most low : ℕ) (a : Asked) (p : Questions) (outs : List Out) → AllByRecursion (IsRest most) outs
+    rest_seen : (v : Scene) (limit low : ℕ) (a : Asked) (p : Questions) (outs : List Out) → AllByRecursion (IsRest limit) outs
         → ((x : Packet) → In x (scan_packets w.net.inc outs) → In x v.net.sent) → All (ClientDoes g c v) (scanned k.owner low a p outs).outs
     unfolding said
-    rest_seen v most low a p [] all sent = All-nil (ClientDoes g c v)
-    rest_seen v most low a p (Hello own ∷ outs) all sent = absurd all.0
-    rest_seen v most low a p (Fence server ∷ outs) all sent =
+    rest_seen v limit low a p [] all sent = All-nil (ClientDoes g c v)
+    rest_seen v limit low a p (Hello own ∷ outs) all sent = absurd all.0
+    rest_seen v limit low a p (Fence server ∷ outs) all sent =
         All-cons (ClientDoes g c v) (fence k.owner server) (scanned k.owner low a p outs).outs
         (λ own. (refl, subst (λ inc. In (FenceSent server inc) v.net.sent) (sym h.inc) (sent _ (inl refl))), h.log)
-        (rest_seen v most low a p outs all.1 (λ x among. sent x (inr among)))
-    rest_seen v most low a p (Fetch server name own ∷ outs) all sent =
+        (rest_seen v limit low a p outs all.1 (λ x among. sent x (inr among)))
+    rest_seen v limit low a p (Fetch server name own ∷ outs) all sent =
         All-cons (ClientDoes g c v) _ (scanned k.owner low (asked_as a p own) (drawn_for a p own) outs).outs tt
-        (rest_seen v most low (asked_as a p own) (drawn_for a p own) outs all.1 sent)
-    rest_seen v most low a p (Chain segments end prior ∷ outs) all sent = absurd all.0
-    rest_seen v most low a p (Lost name ∷ outs) all sent = absurd all.0
+        (rest_seen v limit low (asked_as a p own) (drawn_for a p own) outs all.1 sent)
+    rest_seen v limit low a p (Chain segments end prior ∷ outs) all sent = absurd all.0
+    rest_seen v limit low a p (Lost name ∷ outs) all sent = absurd all.0
 
     pub rest_goes : (o : Opening) (st : Stage) (outs : List Out) → AllByRecursion (IsRest o.ask) outs → k.maps.groups ≡ o.groups
         → AsksServers w.asked s.asked o.ask
@@ -216,7 +216,7 @@ module _ (g : Setting) (c : ℕ) where
         let x : Rested o.ask o.low s.asked q outs =
         said_rests o.ask o.low s.asked q outs rest (record { asks = asks; past = past; number = h.number; more = omega arith }) in
         let v : Scene = on d w.asked in
-        subst (λ e. WentTo g c w its life (asking r.state.questions (after r.outs (follows k (record { scan = d.state; asked = r.state.asked }) e))))
+        subst (λ e. WentTo g c w its life (asking r.state.questions (saying r.outs (follows k (record { scan = d.state; asked = r.state.asked }) e))))
         (sym x.none)
         (record {
           next = v;
@@ -252,7 +252,7 @@ module _ (g : Setting) (c : ℕ) where
         → AsksAt t (record { own = o.ask; ask = number }) o.ask st → ((j : ℕ) → (w.asked j ≡ Unasked → ⊥) → t j ≡ w.asked j) → t number ≡ OfOpening o.ask
         → ((j : ℕ) → next.last < j → t j ≡ Unasked) → number ≤ next.last → Happens g w.net (scans_on w.net s.scan (scan.goes o st (Hello o.ask ∷ [])))
         → WentTo g c w its life
-        (asking next (after (hello k.owner.inc number ∷ [])
+        (asking next (saying (hello k.owner.inc number ∷ [])
         (still (at_scan k (record { scan = record { opening = o; stage = st }; asked = record { own = o.ask; ask = number } })))))
     greets o st number next t groups some asks keeps here fresh low happens =
         let d : scan.Done = scan.goes o st (Hello o.ask ∷ []) in
@@ -293,7 +293,7 @@ module _ (g : Setting) (c : ℕ) where
         by_outcome
         (λ b. WentTo g c w its life
         (asking (cond b q (drawn q))
-        (after (hello k.owner.inc (cond b s.asked.ask (next_ask q)) ∷ [])
+        (saying (hello k.owner.inc (cond b s.asked.ask (next_ask q)) ∷ [])
         (still (at_scan k (record { scan = record { opening = o; stage = st }; asked = record { own = o.ask; ask = cond b s.asked.ask (next_ask q) } }))))))
         (o.ask == s.asked.own)
         (λ t. greets o st s.asked.ask q w.asked groups some

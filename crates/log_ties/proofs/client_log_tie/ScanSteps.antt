@@ -66,10 +66,10 @@ module _ (g : Setting) (c : ℕ) (w : Scene) (its life : ℕ) (k : Known) (q : Q
 
   -- ---- the chain is read
 
-  all_fetch : (r : ReadingState) (most : ℕ) (servers : List ℕ) → r.ask ≤ most
-      → AllByRecursion (says.IsRest g c w its life k q s h most) (map (λ server. Fetch server r.target.seg.name r.ask) servers)
-  all_fetch r most [] small = tt
-  all_fetch r most (server ∷ servers) small = (small, all_fetch r most servers small)
+  all_fetch : (r : ReadingState) (limit : ℕ) (servers : List ℕ) → r.ask ≤ limit
+      → AllByRecursion (says.IsRest g c w its life k q s h limit) (map (λ server. Fetch server r.target.seg.name r.ask) servers)
+  all_fetch r limit [] small = tt
+  all_fetch r limit (server ∷ servers) small = (small, all_fetch r limit servers small)
 
   -- a round is on
   fetches_go : (o : Opening) (b : Backward) (r : ReadingState) → Stood o → Servers o.ask → r.stage ≡ reading.Asking → r.ask ≤ o.ask
@@ -171,9 +171,9 @@ module _ (g : Setting) (c : ℕ) (w : Scene) (its life : ℕ) (k : Known) (q : Q
 
   -- ---- a list
 
-  all_fence : (most : ℕ) (servers : List ℕ) → AllByRecursion (says.IsRest g c w its life k q s h most) (scan.fences servers)
-  all_fence most [] = tt
-  all_fence most (server ∷ servers) = (tt, all_fence most servers)
+  all_fence : (limit : ℕ) (servers : List ℕ) → AllByRecursion (says.IsRest g c w its life k q s h limit) (scan.fences servers)
+  all_fence limit [] = tt
+  all_fence limit (server ∷ servers) = (tt, all_fence limit servers)
 
   fences_go : (o : Opening) (lists : List Listing) (servers : List ℕ) → Stood o → Servers o.ask → Takes (scan.goes o (Gathers lists) (scan.fences servers))
   fences_go o lists servers at asks =

@@ -27,7 +27,7 @@ use Rattle.xfs_base.specs.declared.block.BlockId.{BlockId}
 use Rattle.xfs_base.specs.declared.token.Mode.{Mode}
 use Rattle.xfs_base.specs.declared.token.Mode.TheVariants.{Copy, Own}
 use Rattle.xfs_base.specs.Modes.{is_nothing}
-use Rattle.xfs_base.specs.Steps.{after}
+use Rattle.xfs_base.specs.Steps.{saying}
 use Rattle.log_tie.specs.Setting.{Setting}
 use Rattle.log_ties.specs.client_log_tie.Owner.{Scene}
 use Rattle.log_ties.proofs.client_log_tie.Fitting.{written_as, put_is_fit, put_is_own}
@@ -143,7 +143,7 @@ module _ (g : Setting) (c : ℕ) (is : g.log ≡ record { 0 = c }) where
   unfolding runs_upto
   turns_from w k s rest p =
       let r : Ran = runs_once s in
-      by_test (λ (d : Done). Goes w d) r.goes (after r.done.outs (runs_upto k r.done.state)) r.done
+      by_test (λ (d : Done). Goes w d) r.goes (saying r.done.outs (runs_upto k r.done.state)) r.done
       (λ t. frames.goes_on g c w r.done (runs_upto k r.done.state) p rest) (λ t. p)
 
   runs_upto_so : (k : ℕ) (w : Scene) (s : Serving) → At w s → Goes w (runs_upto k s)

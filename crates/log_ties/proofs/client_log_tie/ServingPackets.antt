@@ -47,7 +47,7 @@ use Rattle.xfs_base.specs.declared.news.SlotNews.{SlotNews}
 use Rattle.xfs_base.specs.declared.node.NodeId.{NodeId}
 use Rattle.xfs_base.specs.declared.node.NodeId.TheVariants as node
 use Rattle.xfs_base.specs.Modes.{is_own}
-use Rattle.xfs_base.specs.Steps.{Stepped, still, after, steps}
+use Rattle.xfs_base.specs.Steps.{Stepped, still, saying, steps}
 use Rattle.log_protocol.specs.Tables.{In, put}
 use Rattle.log_tie.specs.Setting.{Setting}
 use Rattle.log_law.specs.Net.Packet.{MapSent}
@@ -272,7 +272,7 @@ module _ (g : Setting) (c : ℕ) (is : g.log ≡ record { 0 = c }) where
 
   -- what is done, and then the open call runs
   abbrev pub and_runs : Done → Done
-  and_runs d = after d.outs (runs d.state)
+  and_runs d = saying d.outs (runs d.state)
 
   pub runs_after : (w : Scene) (d : Done) → Goes w d → Goes w (and_runs d)
   runs_after w d p = frames.goes_on g c w d (runs d.state) p (λ v h. calls.runs_so g c is v d.state h)

@@ -12,7 +12,7 @@ use Rattle.wire_msg.specs.declared.body.Body.TheVariants as body
 use Rattle.wire_msg.specs.declared.storage.Store as stores
 use Rattle.xfs_base.specs.declared.node.NodeId.{NodeId}
 use Rattle.xfs_base.specs.declared.node.NodeId.TheVariants.{Client, Manager, Server, Cleaner, Registry}
-use Rattle.xfs_base.specs.Steps.{still, after, steps}
+use Rattle.xfs_base.specs.Steps.{still, saying, steps}
 use Rattle.log_tie.specs.Setting.{Setting}
 use Rattle.log_ties.proofs.node_log_tie.Lists.{all_append, all_weaker}
 use Rattle.log_ties.specs.node_log_tie.Sight.{AskedBy, BodySeen, StoreSeen}
@@ -133,7 +133,7 @@ module _ (g : Setting) (j : ℕ) where
   stays w s stands = at_once w s [] stands tt
 
   -- one thing follows another
-  pub goes_on : (w : Scene) (d e : Done) (p : Goes w d) → Goes p.next e → Goes w (after d.outs e)
+  pub goes_on : (w : Scene) (d e : Done) (p : Goes w d) → Goes p.next e → Goes w (saying d.outs e)
   goes_on w d e p q = record {
     next = q.next;
     grown = grown_on g w p.next q.next p.grown q.grown;
@@ -141,7 +141,7 @@ module _ (g : Setting) (j : ℕ) where
     does = all_append (ManagerDoes q.next) d.outs e.outs (all_more p.next q.next q.grown d.outs p.does) q.does;
   }
 
-  pub goes_after : (w : Scene) (outs : List Effect) (e : Done) → AllDone w outs → Goes w e → Goes w (after outs e)
+  pub goes_after : (w : Scene) (outs : List Effect) (e : Done) → AllDone w outs → Goes w e → Goes w (saying outs e)
   goes_after w outs e does q = record {
     next = q.next;
     grown = q.grown;

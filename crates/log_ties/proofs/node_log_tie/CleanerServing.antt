@@ -10,7 +10,7 @@ use Rattle.xfs_base.specs.declared.news.SlotNews.{SlotNews}
 use Rattle.xfs_base.specs.declared.node.NodeId.{NodeId}
 use Rattle.xfs_base.specs.declared.node.NodeId.TheVariants as node
 use Rattle.xfs_base.specs.declared.segment.End.{End}
-use Rattle.xfs_base.specs.Steps.{still, after}
+use Rattle.xfs_base.specs.Steps.{still, saying}
 use Rattle.group_map.specs.GroupMapState.{GroupMapState}
 use Rattle.client_log.specs.declared.input.In.{In as LogIn}
 use Rattle.client_log.specs.declared.input.In.TheVariants as log_in
@@ -185,7 +185,7 @@ module _ (g : Setting) (owner : Asker) (other : g.log ≡ cleaner_log → ⊥) (
       let wa : Goes n a = job_hears_groups n with_maps newer news.groups (record { log = seen.log; job = seen.job }) in
       let wb : Goes wa.next b = slots_heard wa.next a.state news.slots wa.seen in
       let wc : Goes wb.next c = log_hears_groups wb.next b.state newer news.groups wb.seen in
-      and_then g owner n a (after b.outs c) wa (and_then g owner wa.next b c wb wc)
+      and_then g owner n a (saying b.outs c) wa (and_then g owner wa.next b c wb wc)
 
   news_heard : (n : Net) (e : Emptying) (news : News) → EmptyingSeen g n e → Goes n (on_news e news)
   news_heard n e news seen = by_test (Goes n) (fits e.maps news) (takes_news e news) (still e) (λ t. news_taken n e news seen) (λ t. stays g owner n e seen)
@@ -210,7 +210,7 @@ module _ (g : Setting) (owner : Asker) (other : g.log ≡ cleaner_log → ⊥) (
   unfolding on_welcome
   welcome_heard n e m seen low =
       let d : Done = takes_news e m.news in
-      by_test (Goes n) ((m.inc == e.lasting.inc) && fits e.maps m.news) (after d.outs (welcomes d.state m)) (still e)
+      by_test (Goes n) ((m.inc == e.lasting.inc) && fits e.maps m.news) (saying d.outs (welcomes d.state m)) (still e)
       (λ t. let w : Goes n d = news_taken n e m.news seen in
       and_then g owner n d (welcomes d.state m) w
       (job_welcomed w.next d.state m w.seen (let l = run_later g n w.next w.drop.runs in let a = l.low in omega arith)))
@@ -249,7 +249,7 @@ module _ (g : Setting) (owner : Asker) (other : g.log ≡ cleaner_log → ⊥) (
       let l : Done = writes j.state log_in.Tick in
       let wj : Goes n j = job_goes_on g owner other away n e input.Tick seen tt in
       let wl : Goes wj.next l = log_takes wj.next j.state log_in.Tick wj.seen in
-      and_then g owner n j (after l.outs (record { state = l.state; outs = pushes_all l.state.promised.managers l.state.feed })) wj
+      and_then g owner n j (saying l.outs (record { state = l.state; outs = pushes_all l.state.promised.managers l.state.feed })) wj
       (and_then g owner wj.next l (record { state = l.state; outs = pushes_all l.state.promised.managers l.state.feed }) wl
       (at_once g owner wl.next l.state (pushes_all l.state.promised.managers l.state.feed) wl.seen
       (deltas_pushed wl.next l.state.promised.managers l.state.feed)))

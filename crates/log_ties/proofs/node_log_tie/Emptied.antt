@@ -7,7 +7,7 @@ use Rattle.xfs_base.specs.declared.node.NodeId.{NodeId}
 use Rattle.xfs_base.specs.declared.node.NodeId.TheVariants.{Cleaner}
 use Rattle.xfs_base.specs.declared.segment.SegName.{SegName}
 use Rattle.xfs_base.specs.declared.segment.SegRef.{SegRef}
-use Rattle.xfs_base.specs.Steps.{still, after, steps}
+use Rattle.xfs_base.specs.Steps.{still, saying, steps}
 use Rattle.node_base.specs.declared.effects.Effect.{Effect}
 use Rattle.node_base.specs.declared.effects.Effect.TheVariants.{Send, Answer, Lose, Does}
 use Rattle.node_base.specs.Effects.{act_of, acts_of, packet_of, packets_of}
@@ -163,7 +163,7 @@ module _ (g : Setting) (owner : Asker) where
   pub stays : (n : Net) (e : Emptying) → EmptyingSeen g n e → Emptied n (still e)
   stays n e seen = at_once n e [] seen tt
 
-  pub and_then : (n : Net) (d e : Done) (w : Emptied n d) → Emptied w.next e → Emptied n (after d.outs e)
+  pub and_then : (n : Net) (d e : Done) (w : Emptied n d) → Emptied w.next e → Emptied n (saying d.outs e)
   and_then n d e w x = record {
     next = x.next;
     drop = then_drop n w.next x.next w.drop x.drop;
@@ -173,7 +173,7 @@ module _ (g : Setting) (owner : Asker) where
   }
 
   -- effects that are seen at once, and then the rest
-  pub after_these : (n : Net) (outs : List Effect) (e : Done) → AllByRecursion (CleanerDoes n) outs → Emptied n e → Emptied n (after outs e)
+  pub after_these : (n : Net) (outs : List Effect) (e : Done) → AllByRecursion (CleanerDoes n) outs → Emptied n e → Emptied n (saying outs e)
   after_these n outs e does x = record {
     next = x.next;
     drop = x.drop;

@@ -14,7 +14,7 @@ use Rattle.xfs_base.specs.declared.segment.SegName.{SegName}
 use Rattle.xfs_base.specs.Limits.{u32_end}
 use Rattle.xfs_base.specs.Segments.{pass_cmp}
 use Rattle.xfs_base.specs.Stamps.{is_greater}
-use Rattle.xfs_base.specs.Steps.{still, after}
+use Rattle.xfs_base.specs.Steps.{still, saying}
 use Rattle.fragment_store.proofs.Names.{one_name}
 use Rattle.fragment_store.specs.Calls.{store_refused, kept, on_fence as fenced_at, on_delete as without, on_fill, on_lose as lost, on_list as listed_on}
 use Rattle.fragment_store.specs.declared.store_error.StoreError.{StoreError}
@@ -94,7 +94,7 @@ module _ (g : Setting) (owner : Asker) (v : ℕ) where
   stays n node seen = went_still n node [] seen tt
 
   -- what was done before, and then the rest
-  pub went_then : (n : Net) (d e : Done) (w : Went n d) → Went w.next e → Went n (after d.outs e)
+  pub went_then : (n : Net) (d e : Done) (w : Went n d) → Went w.next e → Went n (saying d.outs e)
   went_then n d e w x = record {
     next = x.next;
     runs = runs_on g n w.next x.next w.runs x.runs;
@@ -108,7 +108,7 @@ module _ (g : Setting) (owner : Asker) (v : ℕ) where
   }
 
   -- effects that are seen at once, and then the rest
-  pub went_after : (n : Net) (outs : List Effect) (e : Done) → AllByRecursion (EffectSeen g owner n (Server v)) outs → Went n e → Went n (after outs e)
+  pub went_after : (n : Net) (outs : List Effect) (e : Done) → AllByRecursion (EffectSeen g owner n (Server v)) outs → Went n e → Went n (saying outs e)
   went_after n outs e does x = record {
     next = x.next;
     runs = x.runs;

@@ -107,8 +107,8 @@ module _ (m : GroupMapState) (ok : IsGroupMap m) where
     size =
         let fits : is_group_size group.parity (length group.members) ≡ true = stripe.size in
         let least : group.parity + 2 ≤ length group.members = grind (arith, nat_tests) in
-        let most : length group.members ≤ 8 = grind (arith, nat_tests) in
-        (omega arith, record { some = stripe.one_or_two.0; few = stripe.one_or_two.1; least = least; most = most })
+        let limit : length group.members ≤ 8 = grind (arith, nat_tests) in
+        (omega arith, record { some = stripe.one_or_two.0; few = stripe.one_or_two.1; least = least; limit = limit })
 
   module _ (g : Setting) (servers : m.servers ≡ g.servers) (named : NamesGroups g m) where
     chosen_is_stripe : (group : Group) → group_of m group.id ≡ Some group → group.current ≡ true → IsStripe g m group

@@ -66,43 +66,43 @@ for_new a q own less room =
     by_test (λ (p : Questions). q.last + 1 ≤ p.last) (own == a.own) q (drawn q) (λ t. absurd (apart own a.own less t)) (λ t. last_drawn q.last room)
 
 -- what is left where a scan said so much: it asked by no later number, and none of the node's is lost
-record Left (most : ℕ) (q : Questions) (a : Asked) (p : Questions) : Type 0 where
-  past : a.own ≤ most
+record Left (limit : ℕ) (q : Questions) (a : Asked) (p : Questions) : Type 0 where
+  past : a.own ≤ limit
   more : q.last ≤ p.last
 
-said_left : (owner : Owner) (low most : ℕ) (a : Asked) (q : Questions) (e : _) (outs : List Out) → AllByRecursion (UpTo most) outs → a.own ≤ most
+said_left : (owner : Owner) (low limit : ℕ) (a : Asked) (q : Questions) (e : _) (outs : List Out) → AllByRecursion (UpTo limit) outs → a.own ≤ limit
     → (start : Questions) → start.last ≤ q.last
-    → Left most start (steps (said owner low) (record { asked = a; questions = q; ended = e }) outs).state.asked
+    → Left limit start (steps (said owner low) (record { asked = a; questions = q; ended = e }) outs).state.asked
     (steps (said owner low) (record { asked = a; questions = q; ended = e }) outs).state.questions
 unfolding said
-said_left owner low most a q e [] up past start more = record { past = past; more = more }
-said_left owner low most a q e (Hello own ∷ outs) up past start more =
-    said_left owner low most (asked_as a q own) (drawn_for a q own) e outs up.1 up.0 start (let m = for_more a q own in omega arith)
-said_left owner low most a q e (Fence server ∷ outs) up past start more = said_left owner low most a q e outs up.1 past start more
-said_left owner low most a q e (Fetch server name own ∷ outs) up past start more =
-    said_left owner low most (asked_as a q own) (drawn_for a q own) e outs up.1 up.0 start (let m = for_more a q own in omega arith)
-said_left owner low most a q e (Chain segments end prior ∷ outs) up past start more = said_left owner low most a q _ outs up.1 past start more
-said_left owner low most a q e (Lost name ∷ outs) up past start more = said_left owner low most a q _ outs up.1 past start more
+said_left owner low limit a q e [] up past start more = record { past = past; more = more }
+said_left owner low limit a q e (Hello own ∷ outs) up past start more =
+    said_left owner low limit (asked_as a q own) (drawn_for a q own) e outs up.1 up.0 start (let m = for_more a q own in omega arith)
+said_left owner low limit a q e (Fence server ∷ outs) up past start more = said_left owner low limit a q e outs up.1 past start more
+said_left owner low limit a q e (Fetch server name own ∷ outs) up past start more =
+    said_left owner low limit (asked_as a q own) (drawn_for a q own) e outs up.1 up.0 start (let m = for_more a q own in omega arith)
+said_left owner low limit a q e (Chain segments end prior ∷ outs) up past start more = said_left owner low limit a q _ outs up.1 past start more
+said_left owner low limit a q e (Lost name ∷ outs) up past start more = said_left owner low limit a q _ outs up.1 past start more
 
 -- where the first thing is asked by a new question, one more of the node's is drawn
-said_draws : (owner : Owner) (low most : ℕ) (a : Asked) (q : Questions) (e : _) (outs : List Out) → AllByRecursion (UpTo most) outs → AsksBy most outs
-    → a.own < most
+said_draws : (owner : Owner) (low limit : ℕ) (a : Asked) (q : Questions) (e : _) (outs : List Out) → AllByRecursion (UpTo limit) outs → AsksBy limit outs
+    → a.own < limit
     → has_room q.last ≡ true → q.last + 1 ≤ (steps (said owner low) (record { asked = a; questions = q; ended = e }) outs).state.questions.last
 unfolding said
-said_draws owner low most a q e [] up asks less room = absurd asks
-said_draws owner low most a q e (Hello own ∷ outs) up asks less room =
-    let l = said_left owner low most (asked_as a q own) (drawn_for a q own) e outs up.1 up.0 (drawn_for a q own) (omega arith) in
+said_draws owner low limit a q e [] up asks less room = absurd asks
+said_draws owner low limit a q e (Hello own ∷ outs) up asks less room =
+    let l = said_left owner low limit (asked_as a q own) (drawn_for a q own) e outs up.1 up.0 (drawn_for a q own) (omega arith) in
     let d = for_new a q own (omega arith) room in
     let m = l.more in
     omega arith
-said_draws owner low most a q e (Fence server ∷ outs) up asks less room = absurd asks
-said_draws owner low most a q e (Fetch server name own ∷ outs) up asks less room =
-    let l = said_left owner low most (asked_as a q own) (drawn_for a q own) e outs up.1 up.0 (drawn_for a q own) (omega arith) in
+said_draws owner low limit a q e (Fence server ∷ outs) up asks less room = absurd asks
+said_draws owner low limit a q e (Fetch server name own ∷ outs) up asks less room =
+    let l = said_left owner low limit (asked_as a q own) (drawn_for a q own) e outs up.1 up.0 (drawn_for a q own) (omega arith) in
     let d = for_new a q own (omega arith) room in
     let m = l.more in
     omega arith
-said_draws owner low most a q e (Chain segments end prior ∷ outs) up asks less room = absurd asks
-said_draws owner low most a q e (Lost name ∷ outs) up asks less room = absurd asks
+said_draws owner low limit a q e (Chain segments end prior ∷ outs) up asks less room = absurd asks
+said_draws owner low limit a q e (Lost name ∷ outs) up asks less room = absurd asks
 
 -- ---- a step of the scan
 
@@ -124,14 +124,14 @@ module _ (owner : Owner) (q : Questions) (s : Scanning) (room : has_room q.last 
   new_few : (d : scan.Done) (groups : Option GroupMapState) → s.scan.opening.ask ≤ q.last → New s.scan.opening.ask groups d → AfterStep d
   new_few d groups small x =
       let past = h.past in
-      let most : ℕ = s.scan.opening.ask + 1 in
-      let l = said_left owner d.state.opening.low most s.asked q None d.outs x.outs (omega arith) q (omega arith) in
+      let limit : ℕ = s.scan.opening.ask + 1 in
+      let l = said_left owner d.state.opening.low limit s.asked q None d.outs x.outs (omega arith) q (omega arith) in
       let m = l.more in
       let p = l.past in
       let e = x.last in
       record {
         few =
-            ⊎_elim (λ asks. inl (let b = said_draws owner d.state.opening.low most s.asked q None d.outs x.outs asks (omega arith) room in omega arith))
+            ⊎_elim (λ asks. inl (let b = said_draws owner d.state.opening.low limit s.asked q None d.outs x.outs asks (omega arith) room in omega arith))
             (λ v. inr (v, omega arith)) x.draws;
         past = omega arith;
         reads = subst (λ n. PastStage n d.state.stage) (sym x.last) x.reads;

@@ -38,20 +38,20 @@ use Rattle.log_ties.specs.opening_law.Questions.{WaitsInVain, PastReading, PastS
 
 -- by no later question than this
 abbrev pub UpTo : ℕ → Out → Type 0
-UpTo most (Hello own) = own ≤ most
-UpTo most (Fence server) = Unit {0}
-UpTo most (Fetch server name own) = own ≤ most
-UpTo most (Chain segments end prior) = Unit {0}
-UpTo most (Lost name) = Unit {0}
+UpTo limit (Hello own) = own ≤ limit
+UpTo limit (Fence server) = Unit {0}
+UpTo limit (Fetch server name own) = own ≤ limit
+UpTo limit (Chain segments end prior) = Unit {0}
+UpTo limit (Lost name) = Unit {0}
 
 -- the first thing that is said is asked by this question
 abbrev pub AsksBy : ℕ → List Out → Type 0
-AsksBy most [] = ⊥
-AsksBy most (Hello own ∷ outs) = own ≡ most
-AsksBy most (Fetch server name own ∷ outs) = own ≡ most
-AsksBy most (Fence server ∷ outs) = ⊥
-AsksBy most (Chain segments end prior ∷ outs) = ⊥
-AsksBy most (Lost name ∷ outs) = ⊥
+AsksBy limit [] = ⊥
+AsksBy limit (Hello own ∷ outs) = own ≡ limit
+AsksBy limit (Fetch server name own ∷ outs) = own ≡ limit
+AsksBy limit (Fence server ∷ outs) = ⊥
+AsksBy limit (Chain segments end prior ∷ outs) = ⊥
+AsksBy limit (Lost name ∷ outs) = ⊥
 
 -- by the last question or an earlier one
 pub record Old (ask : ℕ) (groups : Option GroupMapState) (d : Done) : Type 0 where
@@ -73,12 +73,12 @@ Says ask groups d = Old ask groups d ⊎ New ask groups d
 
 -- ---- readings
 
-all_up : {X : Type 0} (most : ℕ) (f : X → Out) → ((x : X) → UpTo most (f x)) → (xs : List X) → AllByRecursion (UpTo most) (map f xs)
-all_up most f each [] = tt
-all_up most f each (x ∷ xs) = (each x, all_up most f each xs)
+all_up : {X : Type 0} (limit : ℕ) (f : X → Out) → ((x : X) → UpTo limit (f x)) → (xs : List X) → AllByRecursion (UpTo limit) (map f xs)
+all_up limit f each [] = tt
+all_up limit f each (x ∷ xs) = (each x, all_up limit f each xs)
 
-fetches_up : (most : ℕ) (r : ReadingState) → r.ask ≤ most → AllByRecursion (UpTo most) (scan.fetches r)
-fetches_up most r small = all_up most (λ server. Fetch server r.target.seg.name r.ask) (λ server. small) (to_ask r)
+fetches_up : (limit : ℕ) (r : ReadingState) → r.ask ≤ limit → AllByRecursion (UpTo limit) (scan.fetches r)
+fetches_up limit r small = all_up limit (λ server. Fetch server r.target.seg.name r.ask) (λ server. small) (to_ask r)
 
 -- a round that begins asks its servers
 begins_asking : (target : Target) (ask : ℕ) (kept : List (ℕ × ℕ)) (n parity : ℕ) (servers : List ℕ)
@@ -187,8 +187,8 @@ fenced_so o Over l past = rests o Over tt
 
 -- ---- time
 
-fences_up : (most : ℕ) (servers : List ℕ) → AllByRecursion (UpTo most) (scan.fences servers)
-fences_up most servers = all_up most (λ server. Fence server) (λ server. tt) servers
+fences_up : (limit : ℕ) (servers : List ℕ) → AllByRecursion (UpTo limit) (scan.fences servers)
+fences_up limit servers = all_up limit (λ server. Fence server) (λ server. tt) servers
 
 again_up : (o : Opening) (r : Option ReadingState) → PastReading o.ask r → AllByRecursion (UpTo o.ask) (scan.asked_again o r)
 again_up o None past = (omega arith, tt)

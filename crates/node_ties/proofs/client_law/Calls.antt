@@ -26,7 +26,7 @@ use Rattle.xfs_base.specs.declared.block.BlockId.{BlockId}
 use Rattle.xfs_base.specs.declared.token.Mode.{Mode}
 use Rattle.xfs_base.specs.declared.token.Mode.TheVariants.{Nothing, Copy, Own}
 use Rattle.xfs_base.specs.Modes.{is_held, is_nothing}
-use Rattle.xfs_base.specs.Steps.{after, still}
+use Rattle.xfs_base.specs.Steps.{saying, still}
 use Rattle.xfs_base.proofs.Booleans.{and_second, by_test, contrary, not_true}
 use Rattle.xfs_base.proofs.Orders.{not_later_itself}
 use Rattle.node_ties.specs.node_tie.Asks.{needed, needed_by}
@@ -262,7 +262,7 @@ module _ (A : BlockId → Type 0) (M : GroupMapState → Type 0) (B : Fact) (P :
   runs_upto-both (suc n) s p =
       let r : Ran = runs_once s in
       let q : Both r.done.state = runs_once-both s p in
-      by_test (λ (d : client.Done). Both d.state) r.goes (after r.done.outs (runs_upto n r.done.state)) r.done (λ t. runs_upto-both n r.done.state q) (λ t. q)
+      by_test (λ (d : client.Done). Both d.state) r.goes (saying r.done.outs (runs_upto n r.done.state)) r.done (λ t. runs_upto-both n r.done.state q) (λ t. q)
 
   runs_upto-fresh : (n : ℕ) (s : Serving) → 0 < n → Sound s → IsFresh Q s → Both (runs_upto n s).state
   unfolding runs_upto
@@ -270,7 +270,7 @@ module _ (A : BlockId → Type 0) (M : GroupMapState → Type 0) (B : Fact) (P :
   runs_upto-fresh (suc n) s some sound f =
       let r : Ran = runs_once s in
       let q : Both r.done.state = runs_once-fresh s sound f in
-      by_test (λ (d : client.Done). Both d.state) r.goes (after r.done.outs (runs_upto n r.done.state)) r.done (λ t. runs_upto-both n r.done.state q) (λ t. q)
+      by_test (λ (d : client.Done). Both d.state) r.goes (saying r.done.outs (runs_upto n r.done.state)) r.done (λ t. runs_upto-both n r.done.state q) (λ t. q)
 
   -- the open call runs
   pub runs-keeps : (s : Serving) → Sound s → KeptOrFresh A M B P Q k s → At (P 0) (runs s).state

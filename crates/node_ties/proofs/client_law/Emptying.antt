@@ -47,7 +47,7 @@ use Rattle.xfs_base.specs.declared.node.NodeId.{NodeId}
 use Rattle.xfs_base.specs.declared.segment.End.{End}
 use Rattle.xfs_base.specs.declared.segment.SegName.{SegName}
 use Rattle.xfs_base.specs.Limits.{segment_blocks}
-use Rattle.xfs_base.specs.Steps.{after, steps, still}
+use Rattle.xfs_base.specs.Steps.{saying, steps, still}
 
 -- ---- what the log says
 
@@ -99,7 +99,7 @@ module _ (l : LogState) (empty : l.dirty ≡ []) where
     settled_empties : Empties (settled l f)
     unfolding settled if_full wrote_one
     settled_empties =
-        by_test (λ (d : log.Done). Empties (after (log_out.Settled (log.end_from f.segment) (rows_of f.segment) ∷ []) d)) (is_full (landed l f))
+        by_test (λ (d : log.Done). Empties (saying (log_out.Settled (log.end_from f.segment) (rows_of f.segment) ∷ []) d)) (is_full (landed l f))
         (sealed (landed l f)) (still (landed l f))
         (λ x. contrary (sym (ap (λ (cs : List _). nat_le segment_blocks (length cs)) empty) ∙ and_second (is_idle (landed l f)) _ x))
         (λ x. record { dirty = empty; landed = λ some. refl })

@@ -36,7 +36,7 @@ use Rattle.xfs_base.specs.declared.entry.Entry.{Entry}
 use Rattle.xfs_base.specs.declared.segment.End.{End}
 use Rattle.xfs_base.specs.Modes.{is_held, is_own}
 use Rattle.xfs_base.specs.Stamps.{is_later}
-use Rattle.xfs_base.specs.Steps.{after, steps, still}
+use Rattle.xfs_base.specs.Steps.{saying, steps, still}
 use Rattle.xfs_base.proofs.BlockOrder.{block_cmp_exact}
 use Rattle.xfs_base.proofs.Booleans.{and_first, and_second, by_test, contrary, or_first}
 use Rattle.xfs_base.proofs.Members.{contains_cases, contains_first, contains_nothing, contains_rest}
@@ -204,7 +204,7 @@ module _ (s : Serving) (sound : Sound s) (block : BlockId) (g : Giving) (is : (h
   given-ungiven = by_test (λ (f : Held). is_none f.giving ≡ true) (g.keep && is_held now.mode) _ _ (λ x. refl) (λ x. refl)
 
   gave-ungiven : IsUngiven
-      (after asked_for.outs (record { state = with_held asked_for.state block (given_up now g.stamp g.keep); outs = Gave block g.stamp ∷ [] }))
+      (saying asked_for.outs (record { state = with_held asked_for.state block (given_up now g.stamp g.keep); outs = Gave block g.stamp ∷ [] }))
   unfolding follows follows_one
   gave-ungiven =
       subst (λ (v : Serving). is_none (held_at v block).giving ≡ true)
@@ -216,8 +216,8 @@ module _ (s : Serving) (sound : Sound s) (block : BlockId) (g : Giving) (is : (h
   recalled-ungiven =
       by_test IsUngiven (is_promised s.tokens block g.stamp) (recalled s.tokens block g.stamp g.keep) (still s.tokens)
       (λ x. by_test IsUngiven (is_later g.stamp h.stamp) (recalled_above s.tokens block g.stamp g.keep) (recalled_again s.tokens block g.stamp)
-      (λ y. by_test IsUngiven (can_refetch s.tokens block) (after asked_for.outs (give asked_for.state block g.stamp g.keep)) (still s.tokens)
-      (λ z. by_test (λ (d : Done). IsUngiven (after asked_for.outs d)) (is_dirty now)
+      (λ y. by_test IsUngiven (can_refetch s.tokens block) (saying asked_for.outs (give asked_for.state block g.stamp g.keep)) (still s.tokens)
+      (λ z. by_test (λ (d : Done). IsUngiven (saying asked_for.outs d)) (is_dirty now)
       (record { state = with_held asked_for.state block (put_off now g.stamp g.keep); outs = Flush block ∷ [] })
       (record { state = with_held asked_for.state block (given_up now g.stamp g.keep); outs = Gave block g.stamp ∷ [] })
       (λ w. contrary (sym now_clean ∙ w)) (λ w. gave-ungiven))

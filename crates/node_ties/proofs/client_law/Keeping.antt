@@ -29,7 +29,7 @@ use Rattle.xfs_base.specs.declared.token.Mode.TheVariants.{Nothing, Copy, Own}
 use Rattle.xfs_base.specs.declared.token.Stamp.{Stamp}
 use Rattle.xfs_base.specs.Modes.{is_held, is_nothing}
 use Rattle.xfs_base.specs.Stamps.{is_later}
-use Rattle.xfs_base.specs.Steps.{after, still}
+use Rattle.xfs_base.specs.Steps.{saying, still}
 use Rattle.xfs_base.proofs.Booleans.{and_second, by_test, contrary}
 use Rattle.xfs_base.proofs.Orders.{not_later_back, not_later_itself}
 use Rattle.node_ties.proofs.client_law.Quiet.{GoesQuietly, IsQuiet, IsSilent, quiet_itself, quiet_still, refetch-quiet, refetch-stamp}
@@ -206,7 +206,7 @@ module _ (P : Fact) (k : TakesKeep P) where
           (λ t. record { mode = refl; ver = refl; settled = refl; stamp = not_later_itself now.stamp })
 
       back-put_off : is_dirty now ≡ true
-          → Back (after asked_for.outs (record { state = with_held asked_for.state block (put_off now stamp keep); outs = Flush block ∷ [] }))
+          → Back (saying asked_for.outs (record { state = with_held asked_for.state block (put_off now stamp keep); outs = Flush block ∷ [] }))
       unfolding follows follows_one
       back-put_off dirty =
           let g : Held = put_off now stamp keep in
@@ -233,7 +233,7 @@ module _ (P : Fact) (k : TakesKeep P) where
           (λ t. gone none clean (record { mode = refl; ver = refl; settled = refl; stamp = rises; giving = λ x. contrary x }))
 
       back-given : is_later now.stamp stamp ≡ false → is_dirty now ≡ false
-          → Back (after asked_for.outs (record { state = with_held asked_for.state block (given_up now stamp keep); outs = Gave block stamp ∷ [] }))
+          → Back (saying asked_for.outs (record { state = with_held asked_for.state block (given_up now stamp keep); outs = Gave block stamp ∷ [] }))
       unfolding follows follows_one
       back-given rises clean =
           let u : Serving = with_block (given_up now stamp keep) in
@@ -244,8 +244,8 @@ module _ (P : Fact) (k : TakesKeep P) where
       back-above later =
           let rises : is_later now.stamp stamp ≡ false =
           ap (λ a. is_later a stamp) (refetch-stamp s.tokens block) ∙ not_later_back (held_of s.tokens.blocks block).stamp stamp later in
-          by_test Back (can_refetch s.tokens block) (after asked_for.outs (give asked_for.state block stamp keep)) (still s.tokens)
-          (λ t. by_test (λ (d : Done). Back (after asked_for.outs d)) (is_dirty now)
+          by_test Back (can_refetch s.tokens block) (saying asked_for.outs (give asked_for.state block stamp keep)) (still s.tokens)
+          (λ t. by_test (λ (d : Done). Back (saying asked_for.outs d)) (is_dirty now)
           (record { state = with_held asked_for.state block (put_off now stamp keep); outs = Flush block ∷ [] })
           (record { state = with_held asked_for.state block (given_up now stamp keep); outs = Gave block stamp ∷ [] }) back-put_off (back-given rises))
           (λ t. back-quiet (still s.tokens) (quiet_still s.tokens))

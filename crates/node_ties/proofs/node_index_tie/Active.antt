@@ -87,7 +87,7 @@ module _ (part : ℕ) (texts : Texts) (asked : Questions) (brought : Brought) (d
   stands_same n a t same k = record {
     epoch = same.epoch;
     nine = ap (λ (x : List ℕ). length x) same.applied ∙ k.nine;
-    short = λ l some most. subst (λ x. applied_of x l < u32_end) (sym same.applied) (k.short l some most);
+    short = λ l some limit. subst (λ x. applied_of x l < u32_end) (sym same.applied) (k.short l some limit);
     pages = subst (λ (x : Indexed). Paged part texts n desk a.slot.epoch (pages_of x) a.parts) (sym same.index) k.pages;
   }
 
@@ -136,8 +136,8 @@ module _ (part : ℕ) (texts : Texts) (asked : Questions) (brought : Brought) (d
       (λ t same. record {
         epoch = same.epoch;
         nine = ap (λ (x : List ℕ). length x) same.applied ∙ length-set a.slot.applied (of.0 - 1) m.upto ∙ k.nine;
-        short = λ l some most. subst (λ x. applied_of x l < u32_end) (sym same.applied)
-            (short_put a.slot.applied (of.0 - 1) m.upto l k.nine within known.short (k.short l some most));
+        short = λ l some limit. subst (λ x. applied_of x l < u32_end) (sym same.applied)
+            (short_put a.slot.applied (of.0 - 1) m.upto l k.nine within known.short (k.short l some limit));
         pages = subst (λ p. Paged part texts n desk a.slot.epoch p a.parts) (sym (ap pages_of same.index ∙ pages-indexed_all a.slot.index m.rows))
             (paged_put part texts n desk a.slot.epoch (pages_of a.slot.index) a.parts m.rows known.fit k.pages);
       })

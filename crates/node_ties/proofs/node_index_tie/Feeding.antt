@@ -111,7 +111,7 @@ module _ (part : ℕ) (n : Net) (l : ℕ) (feed : FeedState) (k : FeedSeen part 
         (n.filed.segment l (suc head)))
 
     old_rows : (q : ℕ) → q ≤ head → rows_at later l q ≡ rows_at n.filed l q
-    old_rows q most = rows_stay n.filed later l q (more_is_filed n.filed l s) most
+    old_rows q limit = rows_stay n.filed later l q (more_is_filed n.filed l s) limit
 
     no_rows : (q : ℕ) → suc head < q → rows_at later l q ≡ []
     no_rows q past = second_of (nat_lt 0 q && nat_le q (later.head l)) (rows_of (later.segment l q)) [] (let h = new_head in grind (arith, nat_tests, h))

@@ -5,7 +5,7 @@ use Rattle.std.specs.Prelude.{nat_le, length}
 use Rattle.xfs_base.specs.Limits.{segment_blocks}
 use Rattle.segment_format.specs.Rows.{rows_of}
 use Rattle.xfs_base.proofs.Booleans.{by_test}
-use Rattle.xfs_base.specs.Steps.{still, after}
+use Rattle.xfs_base.specs.Steps.{still, saying}
 use Rattle.xfs_base.specs.declared.block.BlockId.{BlockId}
 use Rattle.xfs_base.specs.declared.entry.Entry.{Entry}
 use Rattle.xfs_base.specs.declared.segment.SegName.{SegName}
@@ -103,7 +103,7 @@ module _ (s : LogState) where
       sends = all_send _;
     })
     followed_went Settle =
-        subst (λ b. Went (after (Settled (end_from g.segment) (rows_of g.segment) ∷ []) (cond b (sealed (landed t g)) (still (landed t g)))))
+        subst (λ b. Went (saying (Settled (end_from g.segment) (rows_of g.segment) ∷ []) (cond b (sealed (landed t g)) (still (landed t g)))))
         (sym (not_full (landed t g) (dirty ∙ nothing_waits)))
         (inr (record {
           old = f;

@@ -168,21 +168,21 @@ module _ (part : ℕ) (texts : Texts) (asked : Questions) (brought : Brought) (d
     horizon = ap n.horizon (sym k.at) ∙ sym k.known.horizon
 
     ends : (l : ℕ) → 0 < l → l ≤ 9 → of_log k.news.horizon l ≤ (end_of later.reports l).seq → IsEnd n.filed l (end_of later.reports l)
-    ends l some most = of_end part n t.epoch later.reports known l (λ end. of_log k.news.horizon l ≤ end.seq → IsEnd n.filed l end)
-        (λ low. absurd (let h = k.known.from_one l some most in omega arith))
-        (λ end e. subst (λ (h : List ℕ). 0 < of_log h l → of_log h l ≤ end.seq → IsEnd n.filed l end) horizon e.filed (k.known.from_one l some most))
+    ends l some limit = of_end part n t.epoch later.reports known l (λ end. of_log k.news.horizon l ≤ end.seq → IsEnd n.filed l end)
+        (λ low. absurd (let h = k.known.from_one l some limit in omega arith))
+        (λ end e. subst (λ (h : List ℕ). 0 < of_log h l → of_log h l ≤ end.seq → IsEnd n.filed l end) horizon e.filed (k.known.from_one l some limit))
 
     linked : (l : ℕ) → 0 < l → l ≤ 9 → Linked n.filed l (of_log k.news.horizon l) (end_of later.reports l).seq
-    linked l some most = of_end part n t.epoch later.reports known l (λ end. Linked n.filed l (of_log k.news.horizon l) end.seq)
+    linked l some limit = of_end part n t.epoch later.reports known l (λ end. Linked n.filed l (of_log k.news.horizon l) end.seq)
         (λ q low high. absurd (omega arith)) (λ end e. subst (λ (h : List ℕ). 0 < of_log h l → Linked n.filed l (of_log h l) end.seq) horizon e.linked
-        (k.known.from_one l some most))
+        (k.known.from_one l some limit))
 
     short : (l : ℕ) → 0 < l → l ≤ 9 → applied_at k.news.horizon later.reports l < u32_end
-    short l some most =
+    short l some limit =
         let last : (end_of later.reports l).seq < u32_end = of_end part n t.epoch later.reports known l (λ end. end.seq < u32_end) (omega arith)
         (λ end e. e.short) in
         let low = k.known.short l in
-        let at = of_log_in k.news.horizon l some most in
+        let at = of_log_in k.news.horizon l some limit in
         max_less (end_of later.reports l).seq (horizon_at k.news.horizon l - 1) u32_end last (omega arith)
 
     module _ (hands : Hands later (transition t.take given).outs) where
@@ -237,11 +237,11 @@ module _ (part : ℕ) (texts : Texts) (asked : Questions) (brought : Brought) (d
           (fit_by_all part texts (after_input course given).read.whole read.whole)))
 
       slot_short : (l : ℕ) → 0 < l → l ≤ 9 → applied_in_slot applied l < u32_end
-      slot_short l some most =
+      slot_short l some limit =
           let r = (after_input course given).state.reports in
           let at : applied_in_slot applied l ≡ applied_at k.news.horizon r l = ap (λ xs. applied_in_slot xs l) over.applied_to ∙ sym
-          (of_log_in (applied_of k.news.horizon r) l some most) ∙ applied_in k.news.horizon r l some most in
-          subst (λ x. x < u32_end) (sym at) (subst (λ (s : TakeState). applied_at k.news.horizon s.reports l < u32_end) is_course (short l some most))
+          (of_log_in (applied_of k.news.horizon r) l some limit) ∙ applied_in k.news.horizon r l some limit in
+          subst (λ x. x < u32_end) (sym at) (subst (λ (s : TakeState). applied_at k.news.horizon s.reports l < u32_end) is_course (short l some limit))
 
       -- the slot that it hands out becomes active in the small world
       pub starts : Happens part (held_in part texts) n (with_slot n later.news.epoch

@@ -4,7 +4,7 @@ use Rattle.std.specs.Prelude.{unwrap_or}
 use Rattle.std.specs.List.{slice_get}
 use Rattle.std.proofs.lemmas.Bool.{eqb-true}
 use Rattle.xfs_base.proofs.Booleans.{by_test}
-use Rattle.xfs_base.specs.Steps.{still, after}
+use Rattle.xfs_base.specs.Steps.{still, saying}
 use Rattle.xfs_base.specs.declared.news.SlotNews.{SlotNews}
 use Rattle.xfs_base.specs.declared.node.NodeId.{NodeId}
 use Rattle.xfs_base.specs.declared.node.NodeId.TheVariants.{Client, Manager, Server, Cleaner, Registry}
@@ -353,7 +353,7 @@ module _ (part : ℕ) (texts : Texts) (questions : Questions) (exists : part < 8
     newer_serves calm n s clients news number agrees filed text gets names =
         let a = serving.regroups s news.groups in
         let b = serving.hears_slots a.state clients news.slots in
-        let c = after a.outs b in
+        let c = saying a.outs b in
         serves_then part texts questions exists brought n s c (node.writes b.state (log_input.Maps news.groups))
         (sees_then part texts questions brought n (phase_at s.slots part) (phase_at a.state.slots part) (phase_at b.state.slots part) a.outs b.outs
         (λ m. Owed m a.state (epoch_of (phase_at s.slots part)) news.slots) (λ m. ServingAgrees part texts m b.state)

@@ -52,7 +52,7 @@ fit_each f l fit (q ∷ qs) = (fit q, fit_each f l fit qs)
 
 -- ---- what is told
 
-module _ (part : ℕ) (n : Net) (l : ℕ) (some : 0 < l) (most : l ≤ 9) (feed : FeedState) (k : FeedSeen part n l feed) (managers : Managers) where
+module _ (part : ℕ) (n : Net) (l : ℕ) (some : 0 < l) (limit : l ≤ 9) (feed : FeedState) (k : FeedSeen part n l feed) (managers : Managers) where
   fits : (slot : ℕ) → RowsFit (rows_after slot (acked_of feed slot) feed.filed)
   fits slot =
       let filed : feed.filed ≡ map (fed_at n.filed l) (range_with_len (suc k.base) (n.filed.head l - k.base)) = ap (λ (s : FeedState). s.filed) k.is ∙
@@ -69,7 +69,7 @@ module _ (part : ℕ) (n : Net) (l : ℕ) (some : 0 < l) (most : l ≤ 9) (feed 
       → DeltasKnown part n l (record { slot = slot; first = acked_of feed slot + 1; upto = feed.end; rows = rows_after slot (acked_of feed slot) feed.filed })
   known slot input given ours = record {
     tells = λ b inside. ranges_tell b n.filed l k.base k.inputs input slot (acked_of feed slot + 1) feed.end
-        (rows_after slot (acked_of feed slot) feed.filed) some most k.fed (inside ∙ sym ours)
+        (rows_after slot (acked_of feed slot) feed.filed) some limit k.fed (inside ∙ sym ours)
         (subst (λ (s : FeedState). Contains (transition s input).outs
         (Range slot (acked_of feed slot + 1) feed.end (rows_after slot (acked_of feed slot) feed.filed))) k.is given);
     fit = fits slot;
@@ -101,9 +101,9 @@ module _ (part : ℕ) (n : Net) (l : ℕ) (some : 0 < l) (most : l ≤ 9) (feed 
       (all_both (OwnerDoes part n l) (pushes managers feed slot) (map (range managers) (flat_map (pushed feed) slots)) (told slot) (told_each slots))
 
 pub owners_tell : OwnersTell
-owners_tell part n l feed managers some most k = record {
-  one = λ slot. All-from_recursion (OwnerDoes part n l) (pushes managers feed slot) (told part n l some most feed k managers slot);
-  each = All-from_recursion (OwnerDoes part n l) (pushes_all managers feed) (told_each part n l some most feed k managers (range_with_len 0 8));
+owners_tell part n l feed managers some limit k = record {
+  one = λ slot. All-from_recursion (OwnerDoes part n l) (pushes managers feed slot) (told part n l some limit feed k managers slot);
+  each = All-from_recursion (OwnerDoes part n l) (pushes_all managers feed) (told_each part n l some limit feed k managers (range_with_len 0 8));
 }
 
 -- ---- acknowledgements and new epochs

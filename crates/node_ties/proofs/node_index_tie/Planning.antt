@@ -88,8 +88,8 @@ each_log f (suc (suc (suc (suc (suc (suc (suc (suc (suc k))))))))) h = absurd (o
 
 -- it begins, in each log, where what the slot has applied ends
 horizon_next : (s : SlotState) → ((l : ℕ) → 0 < l → l ≤ 9 → applied_of s.applied l < u32_end) → IsNext s (horizon_of s)
-horizon_next s short l some most = of_log_in (horizon_of s) l some most ∙ each_log (next_of s) (l - 1) (omega arith) ∙ ap (next_of s) (before l some) ∙
-    risen_is (applied_of s.applied l) (short l some most)
+horizon_next s short l some limit = of_log_in (horizon_of s) l some limit ∙ each_log (next_of s) (l - 1) (omega arith) ∙ ap (next_of s) (before l some) ∙
+    risen_is (applied_of s.applied l) (short l some limit)
   where
     before : (k : ℕ) → 0 < k → suc (k - 1) ≡ k
     before k h = omega arith

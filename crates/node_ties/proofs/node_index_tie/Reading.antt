@@ -100,7 +100,7 @@ module _ (part : ℕ) (texts : Texts) where
 
   -- it is the filed segment of its name
   its_text : (f : Filed) → AreTexts texts f → (s : Segment) → IsRead part texts s → IsItsText f s
-  its_text f filed s read l q some most same = read.text ∙ ap texts same ∙ sym (filed l q some most)
+  its_text f filed s read l q some limit same = read.text ∙ ap texts same ∙ sym (filed l q some limit)
 
   pub its_texts : (f : Filed) → AreTexts texts f → (chains : List (List Segment)) → AllByRecursion (AllByRecursion (IsRead part texts)) chains
       → AllByRecursion (AllByRecursion (IsItsText f)) chains

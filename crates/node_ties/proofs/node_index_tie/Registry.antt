@@ -219,7 +219,7 @@ module _ (part : ℕ) (below : part < 8) (r : RegistryNode) (eight : length r.bo
 
 -- a list by log has of a log what stands at its place
 of_log_at : (xs : List ℕ) (l : ℕ) → 0 < l → l ≤ 9 → of_log xs l ≡ slice_index xs (l - 1)
-of_log_at xs l some most = of_log_in xs l some most
+of_log_at xs l some limit = of_log_in xs l some limit
 
 each_place : (P : ℕ → Bool) → list_all P places ≡ true → (k : ℕ) → k < 9 → P k ≡ true
 each_place P h zero low = and_first (P 0) _ h
@@ -242,11 +242,11 @@ each_place P h (suc (suc (suc (suc (suc (suc (suc (suc (suc k))))))))) low = abs
 
 -- none of its numbers is lower
 rises_by : (kept horizon : List ℕ) → no_lower kept horizon ≡ true → (l : ℕ) → 0 < l → l ≤ 9 → of_log kept l ≤ of_log horizon l
-rises_by kept horizon is l some most =
+rises_by kept horizon is l some limit =
     let all : none_lower kept horizon ≡ true = and_second (length horizon == 9) (none_lower kept horizon) is in
     let one = each_place (λ place. nat_le (slice_index kept place) (slice_index horizon place)) all (l - 1) (omega arith) in
-    let a = of_log_at kept l some most in
-    let b = of_log_at horizon l some most in
+    let a = of_log_at kept l some limit in
+    let b = of_log_at horizon l some limit in
     let c : slice_index kept (l - 1) ≤ slice_index horizon (l - 1) = within (slice_index kept (l - 1)) (slice_index horizon (l - 1)) one in
     omega arith
   where
@@ -341,8 +341,8 @@ module _ (part : ℕ) (below : part < 8) (texts : Texts) (n : Net) (r : Registry
       let h = one.m.horizon in
       let ps = one.m.parts in
       let sent = subst (λ e. In (CheckpointDone e h ps) n.sent) (sym same) known.sent in
-      let rises : (l : ℕ) → 0 < l → l ≤ 9 → of_log (n.horizon n.epoch) l ≤ of_log h l = λ l some most. subst (λ (k : List ℕ). of_log k l ≤ of_log h l)
-      agrees.horizon (rises_by (horizon_at r.board.checkpoints part) h one.covers l some most) in
+      let rises : (l : ℕ) → 0 < l → l ≤ 9 → of_log (n.horizon n.epoch) l ≤ of_log h l = λ l some limit. subst (λ (k : List ℕ). of_log k l ≤ of_log h l)
+      agrees.horizon (rises_by (horizon_at r.board.checkpoints part) h one.covers l some limit) in
       let m : Net = record n { horizon = λ e. cond (nat_lt e n.epoch) (n.horizon e) h; parts = λ e. cond (nat_lt e n.epoch) (n.parts e) ps } in
       let now : (e : ℕ) → n.epoch ≤ e → m.horizon e ≡ h = λ e from. second_of (nat_lt e n.epoch) (n.horizon e) h (not_less_is e n.epoch from) in
       let now_parts : (e : ℕ) → n.epoch ≤ e → m.parts e ≡ ps = λ e from. second_of (nat_lt e n.epoch) (n.parts e) ps (not_less_is e n.epoch from) in
@@ -356,7 +356,7 @@ module _ (part : ℕ) (below : part < 8) (texts : Texts) (n : Net) (r : Registry
         later_horizon = λ e from. now e from ∙ sym at;
         later_parts = λ e from. now_parts e from ∙ sym at_parts;
         is = subst IsHorizon (sym at) (record {
-          from_one = λ l some most. let low = agrees.is.from_one l some most in let up = rises l some most in omega
+          from_one = λ l some limit. let low = agrees.is.from_one l some limit in let up = rises l some limit in omega
               arith;
           short = known.short;
         });
@@ -431,8 +431,8 @@ eight_at P is (suc (suc (suc (suc (suc (suc (suc (suc k)))))))) low = absurd (om
 
 first_horizon : IsHorizon (1 ∷ 1 ∷ 1 ∷ 1 ∷ 1 ∷ 1 ∷ 1 ∷ 1 ∷ 1 ∷ [])
 first_horizon = record {
-  from_one = λ l some most. let a = of_log_in nine_ones l some most in let b = one_at (l - 1) (omega arith) in omega arith;
-  short = by_log (λ l. of_log nine_ones l ≤ u32_end) (λ l some most. let a = of_log_in nine_ones l some most in let b = one_at (l - 1) (omega arith) in omega
+  from_one = λ l some limit. let a = of_log_in nine_ones l some limit in let b = one_at (l - 1) (omega arith) in omega arith;
+  short = by_log (λ l. of_log nine_ones l ≤ u32_end) (λ l some limit. let a = of_log_in nine_ones l some limit in let b = one_at (l - 1) (omega arith) in omega
       arith) (λ l out. let a = of_log_out nine_ones l out in omega arith);
 }
 

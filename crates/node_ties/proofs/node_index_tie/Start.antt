@@ -59,7 +59,7 @@ module _ (part : ℕ) (texts : Texts) (any : ℕ → ℕ → Segment) where
   first_is desk idle = record {
     there = refl;
     nine = refl;
-    short = λ l some most. let none = none_applied (l - 1) in omega arith;
+    short = λ l some limit. let none = none_applied (l - 1) in omega arith;
     pages = Covered [] tt refl (λ w is of at. some_none w (sym is ∙ idle));
   }
 

@@ -37,7 +37,7 @@ module _ (part : ℕ) (texts : Texts) (n m : Net) (held : SlotPhase) (t : Passes
           let first : of_log (n.horizon epoch) log ≤ q = subst (λ (h : List ℕ). of_log h log ≤ q) same low in
           let above : 0 < of_log (n.horizon epoch) log = old some in
           let end_filed = k.filed above (omega arith) in
-          let most = end_filed.filed in
+          let limit = end_filed.filed in
           ap (λ (s : Segment). s.prior.pass) (t.filed.segment log (suc q) (omega arith) (omega arith)) ∙ k.linked above q first high ∙ sym
           (ap (λ (s : Segment). s.name.pass) (t.filed.segment log q (omega arith) (omega arith)));
       short = k.short;
@@ -52,7 +52,7 @@ module _ (part : ℕ) (texts : Texts) (n m : Net) (held : SlotPhase) (t : Passes
         end_is : 0 < of_log (n.horizon epoch) log → of_log (n.horizon epoch) log ≤ end.seq → IsEnd m.filed log end
         end_is some low =
             let e = k.filed some low in
-            let most = e.filed in
+            let limit = e.filed in
             record {
               filed = let up = t.filed.head log in omega arith;
               named = e.named ∙ sym

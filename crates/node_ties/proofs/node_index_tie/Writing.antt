@@ -5,7 +5,7 @@ use Rattle.std.proofs.lemmas.Bool.{eqb-true}
 use Rattle.std.proofs.lemmas.Bool.Decides.{nat_tests}
 use Rattle.std.proofs.lemmas.List.{append-nil, take-append-drop, nil_from_length}
 use Rattle.xfs_base.proofs.Booleans.{by_test}
-use Rattle.xfs_base.specs.Steps.{Stepped, after, steps}
+use Rattle.xfs_base.specs.Steps.{Stepped, saying, steps}
 use Rattle.xfs_base.specs.declared.segment.SegRef.{SegRef}
 use Rattle.checkpoint.specs.declared.output.Out.{Out}
 use Rattle.checkpoint.specs.declared.output.Out.TheVariants as out
@@ -84,7 +84,7 @@ module _ (part : ℕ) (texts : Texts) (questions : Questions) (exists : part < 8
 
   -- a step, and another
   pub serves_then : (n : Net) (s : Serving) (d e : Done) → Serves n s d → ((m : Net) → Grows n m → ServingAgrees part texts m d.state → Serves m d.state e)
-      → Serves n s (after d.outs e)
+      → Serves n s (saying d.outs e)
   serves_then n s d e h f =
       sees_then part texts questions brought n (phase_at s.slots part) (phase_at d.state.slots part) (phase_at e.state.slots part) d.outs e.outs
       (λ m. ServingAgrees part texts m d.state) (λ m. ServingAgrees part texts m e.state) h f

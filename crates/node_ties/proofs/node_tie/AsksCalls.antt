@@ -26,7 +26,7 @@ use Rattle.xfs_base.specs.declared.block.BlockId.{BlockId}
 use Rattle.xfs_base.specs.declared.token.Mode.{Mode}
 use Rattle.xfs_base.specs.declared.token.Mode.TheVariants.{Nothing, Copy, Own}
 use Rattle.xfs_base.specs.Modes.{allows, is_held, is_nothing, is_own}
-use Rattle.xfs_base.specs.Steps.{after}
+use Rattle.xfs_base.specs.Steps.{saying}
 use Rattle.xfs_base.proofs.Booleans.{by_test, and_first, contrary}
 use Rattle.node_ties.specs.node_tie.Asks.{AsksForCall, needed, needed_by}
 use Rattle.node_ties.proofs.node_tie.AsksBlock.{Need, WantSuits}
@@ -213,7 +213,7 @@ runs_upto-asks zero s p = p
 runs_upto-asks (suc n) s p =
     let r : Ran = runs_once s in
     let q : AsksForCall r.done.state = runs_once-asks s p in
-    by_test (λ (d : Done). AsksForCall d.state) r.goes (after r.done.outs (runs_upto n r.done.state)) r.done (λ t. runs_upto-asks n r.done.state q) (λ t. q)
+    by_test (λ (d : Done). AsksForCall d.state) r.goes (saying r.done.outs (runs_upto n r.done.state)) r.done (λ t. runs_upto-asks n r.done.state q) (λ t. q)
 
 -- the open call runs
 pub runs-asks : (s : Serving) → AsksForCall s → AsksForCall (runs s).state

@@ -8,7 +8,7 @@ use Rattle.xfs_base.specs.declared.token.Mode.TheVariants.{Copy}
 use Rattle.xfs_base.specs.declared.token.Stamp.{Stamp}
 use Rattle.xfs_base.specs.Modes.{allows, is_held}
 use Rattle.xfs_base.specs.Stamps.{is_later}
-use Rattle.xfs_base.specs.Steps.{still, after, steps}
+use Rattle.xfs_base.specs.Steps.{still, saying, steps}
 use Rattle.xfs_base.proofs.Booleans.{by_test, and_first, and_second, not_true}
 use Rattle.token_client.specs.declared.held.Held.{Held}
 use Rattle.token_client.specs.declared.held.Wanted.{Wanted}
@@ -209,7 +209,7 @@ module _ (n : Need) where
         let two : Done = give one.state block stamp keep in
         let first : GoesOn n one = refetch-goes_on s sound p block in
         let second : GoesOn n two = give-goes_on one.state first.suits block stamp keep in
-        by_test (GoesOn n) (can_refetch s block) (after one.outs two) (still s)
+        by_test (GoesOn n) (can_refetch s block) (saying one.outs two) (still s)
         (λ t. record { suits = second.suits; quiet = each_append IsQuiet one.outs two.outs first.quiet second.quiet }) (λ t. stays s sound p)
 
     pub on_recalled-goes_on : (block : BlockId) (stamp : Stamp) (keep : Bool) → GoesOn n (on_recalled s block stamp keep)

@@ -46,7 +46,7 @@ use Rattle.xfs_base.specs.declared.news.SlotNews.{SlotNews}
 use Rattle.xfs_base.specs.declared.node.NodeId.{NodeId}
 use Rattle.xfs_base.specs.declared.node.NodeId.TheVariants as node
 use Rattle.xfs_base.specs.declared.segment.End.{End}
-use Rattle.xfs_base.specs.Steps.{after, still, steps}
+use Rattle.xfs_base.specs.Steps.{saying, still, steps}
 use Rattle.node_ties.specs.node_tie.Sight.{CleanerSends}
 use Rattle.node_ties.specs.node_tie.StoreEvents.{Says, AllSay}
 use Rattle.node_ties.specs.node_tie.CleanerEvents.{Bounded}
@@ -57,7 +57,7 @@ use Rattle.node_ties.proofs.node_tie.StoreFrames.{all_append, all_map, all_weake
 up_to : (a b c : ℕ) → a ≤ b → b ≤ c → a ≤ c
 up_to a b c h g = omega arith
 
-module _ (part most : ℕ) (small : part < 8) where
+module _ (part limit : ℕ) (small : part < 8) where
   -- the epoch of the slot that it has promised
   abbrev pub At : Emptying → ℕ
   At e = slot_epoch e.promised.epochs part
@@ -65,7 +65,7 @@ module _ (part most : ℕ) (small : part < 8) where
   -- it has promised eight slots, this one within the bound
   pub record Bears (e : Emptying) : Type 0 where
     pub eight : length e.promised.epochs ≡ 8
-    pub within : At e ≤ most
+    pub within : At e ≤ limit
 
   pub record ServesOn (e : Emptying) (d : Done) : Type 0 where
     pub says : AllSay (CleanerSends part (At d.state) e.lasting.inc) d.outs
@@ -127,14 +127,14 @@ module _ (part most : ℕ) (small : part < 8) where
     rises = subst (λ (p : Promised). At e ≤ slot_epoch p.epochs part) (sym j.promised) (omega arith);
     bears = record {
       eight = ap (λ (p : Promised). length p.epochs) j.promised ∙ b.eight;
-      within = subst (λ (p : Promised). slot_epoch p.epochs part ≤ most) (sym j.promised) b.within;
+      within = subst (λ (p : Promised). slot_epoch p.epochs part ≤ limit) (sym j.promised) b.within;
     };
   }
 
   serves_still : (e : Emptying) → Bears e → ServesOn e (still e)
   serves_still e b = record { says = tt; inc = refl; rises = omega arith; bears = b }
 
-  serves_then : (e : Emptying) (a b : Done) → ServesOn e a → (Bears a.state → ServesOn a.state b) → ServesOn e (after a.outs b)
+  serves_then : (e : Emptying) (a b : Done) → ServesOn e a → (Bears a.state → ServesOn a.state b) → ServesOn e (saying a.outs b)
   serves_then e a b x more =
       let y = more x.bears in
       record {
@@ -157,7 +157,7 @@ module _ (part most : ℕ) (small : part < 8) where
       serves_then e (step e x) (steps step (step e x).state xs) (each e x all.0 b) (λ c. serves_steps step P each (step e x).state xs all.1 c)
 
   -- what is said first
-  serves_said : (e : Emptying) (outs : List Effect) (d : Done) → AllSay (JobSends e.lasting.inc) outs → Bears e → ServesOn e d → ServesOn e (after outs d)
+  serves_said : (e : Emptying) (outs : List Effect) (d : Done) → AllSay (JobSends e.lasting.inc) outs → Bears e → ServesOn e d → ServesOn e (saying outs d)
   serves_said e outs d said b x =
       serves_then e (record { state = e; outs = outs }) d
       (serves_same e (record { state = e; outs = outs }) b (record { says = said; inc = refl; promised = refl })) (λ _. x)
@@ -181,7 +181,7 @@ module _ (part most : ℕ) (small : part < 8) where
   job_begun e number count =
       let f : Emptying = with_new_job e number count in
       let d : Done = steps promises_slot f (range_with_len 0 8) in
-      job_from e f (after d.outs (cleans d.state input.Tick)) refl refl
+      job_from e f (saying d.outs (cleans d.state input.Tick)) refl refl
       (job_then f d (cleans d.state input.Tick) (job_steps promises_slot slot_promised f (range_with_len 0 8)) (job_goes_on d.state input.Tick))
 
   cleaning_so : (e : Emptying) (number count : ℕ) → JobDoes e (on_clean e number count)
@@ -234,19 +234,19 @@ module _ (part most : ℕ) (small : part < 8) where
   kept_promise e news = promised_to (renews e news.slot news.epoch).promised news.slot news.epoch news.manager
 
   -- a promise within the bounds is kept
-  promise_kept : (e : Emptying) (news : SlotNews) → Bears e → (news.slot ≡ part → (At e ≤ news.epoch) × (news.epoch ≤ most))
-      → Bounded part (At e) most (kept_promise e news)
+  promise_kept : (e : Emptying) (news : SlotNews) → Bears e → (news.slot ≡ part → (At e ≤ news.epoch) × (news.epoch ≤ limit))
+      → Bounded part (At e) limit (kept_promise e news)
   promise_kept e news b within =
-      subst (λ (p : Promised). Bounded part (At e) most (promised_to p news.slot news.epoch news.manager)) (sym (renewed e news.slot news.epoch).promised)
-      (promise_keeps part (At e) most small e.promised news within (record { eight = b.eight; rises = omega arith; within = b.within }))
+      subst (λ (p : Promised). Bounded part (At e) limit (promised_to p news.slot news.epoch news.manager)) (sym (renewed e news.slot news.epoch).promised)
+      (promise_keeps part (At e) limit small e.promised news within (record { eight = b.eight; rises = omega arith; within = b.within }))
 
   -- and of the slot it is this one
-  promise_is : (e : Emptying) (news : SlotNews) → Bears e → (news.slot ≡ part) → news.epoch ≤ most → news.epoch ≤ slot_epoch (kept_promise e news).epochs part
+  promise_is : (e : Emptying) (news : SlotNews) → Bears e → (news.slot ≡ part) → news.epoch ≤ limit → news.epoch ≤ slot_epoch (kept_promise e news).epochs part
   promise_is e news b same within =
-      (subst (λ (p : Promised). Bounded part news.epoch most (promised_to p news.slot news.epoch news.manager)) (sym (renewed e news.slot news.epoch).promised)
-      (promise_here part news.epoch most small e.promised news b.eight same (λ _. (omega arith, within)))).rises
+      (subst (λ (p : Promised). Bounded part news.epoch limit (promised_to p news.slot news.epoch news.manager)) (sym (renewed e news.slot news.epoch).promised)
+      (promise_here part news.epoch limit small e.promised news b.eight same (λ _. (omega arith, within)))).rises
 
-  promised_so : (e : Emptying) (news : SlotNews) → Bears e → (news.slot ≡ part → (At e ≤ news.epoch) × (news.epoch ≤ most))
+  promised_so : (e : Emptying) (news : SlotNews) → Bears e → (news.slot ≡ part → (At e ≤ news.epoch) × (news.epoch ≤ limit))
       → ServesOn e (still (promises e news.slot news.epoch news.manager))
   unfolding promises
   promised_so e news b within =
@@ -256,7 +256,7 @@ module _ (part most : ℕ) (small : part < 8) where
   abbrev news_of : ℕ → Poll → SlotNews
   news_of manager m = record { slot = m.slot; epoch = m.epoch; manager = manager; parts = []; horizon = [] }
 
-  reported : (e : Emptying) (manager : ℕ) (m : Poll) → Bears e → (m.slot ≡ part → (At e ≤ m.epoch) × (m.epoch ≤ most)) → ServesOn e (reports e manager m)
+  reported : (e : Emptying) (manager : ℕ) (m : Poll) → Bears e → (m.slot ≡ part → (At e ≤ m.epoch) × (m.epoch ≤ limit)) → ServesOn e (reports e manager m)
   unfolding promises
   reported e manager m b within =
       let f : Emptying = promises e m.slot m.epoch manager in
@@ -270,7 +270,7 @@ module _ (part most : ℕ) (small : part < 8) where
   not_below : (k n : ℕ) → nat_lt k n ≡ false → n ≤ k
   not_below k n t = grind (arith, nat_tests)
 
-  poll_taken : (e : Emptying) (manager : ℕ) (m : Poll) → Bears e → (m.slot ≡ part → m.epoch ≤ most) → ServesOn e (polled e manager m)
+  poll_taken : (e : Emptying) (manager : ℕ) (m : Poll) → Bears e → (m.slot ≡ part → m.epoch ≤ limit) → ServesOn e (polled e manager m)
   poll_taken e manager m b within =
       by_test (ServesOn e) (nat_lt m.epoch (epoch_of e.promised m.slot)) (still e) (reports e manager m) (λ t. serves_still e b)
       (λ t. reported e manager m b (λ same. (
@@ -279,7 +279,7 @@ module _ (part most : ℕ) (small : part < 8) where
         within same,
       )))
 
-  poll_heard : (e : Emptying) (from : NodeId) (m : Poll) → Bears e → (m.slot ≡ part → m.epoch ≤ most) → ServesOn e (on_poll e from m)
+  poll_heard : (e : Emptying) (from : NodeId) (m : Poll) → Bears e → (m.slot ≡ part → m.epoch ≤ limit) → ServesOn e (on_poll e from m)
   unfolding on_poll
   poll_heard e (node.Manager manager) m b within = poll_taken e manager m b within
   poll_heard e (node.Client n) m b within = serves_still e b
@@ -290,7 +290,7 @@ module _ (part most : ℕ) (small : part < 8) where
   -- ---- the maps
 
   abbrev Low : SlotNews → Type 0
-  Low news = news.slot ≡ part → news.epoch ≤ most
+  Low news = news.slot ≡ part → news.epoch ≤ limit
 
   slot_heard : (e : Emptying) (news : SlotNews) → Low news → Bears e → ServesOn e (hears_slot e news)
   unfolding hears_slot
@@ -329,8 +329,8 @@ module _ (part most : ℕ) (small : part < 8) where
       let with_maps : Emptying = record e { maps = taken e.maps news } in
       let a : Done = job_regrouped with_maps newer news.groups in
       let b : Done = hears_slots a.state news.slots in
-      serves_from e with_maps (after a.outs (after b.outs (log_regrouped b.state newer news.groups))) refl refl bears
-      (λ c. serves_then with_maps a (after b.outs (log_regrouped b.state newer news.groups))
+      serves_from e with_maps (saying a.outs (saying b.outs (log_regrouped b.state newer news.groups))) refl refl bears
+      (λ c. serves_then with_maps a (saying b.outs (log_regrouped b.state newer news.groups))
       (serves_same with_maps a c (job_hears_groups with_maps newer news.groups))
       (λ d. serves_then a.state b (log_regrouped b.state newer news.groups) (slots_heard a.state news.slots low d)
       (λ f. serves_same b.state (log_regrouped b.state newer news.groups) f (log_hears_groups b.state newer news.groups))))
@@ -361,7 +361,7 @@ module _ (part most : ℕ) (small : part < 8) where
 
   -- what the world owes a packet that comes to one that serves
   abbrev pub Owed : Body → Type 0
-  Owed (body.Poll m) = m.slot ≡ part → m.epoch ≤ most
+  Owed (body.Poll m) = m.slot ≡ part → m.epoch ≤ limit
   Owed (body.MapNews m) = AllByRecursion Low m.slots
   Owed (body.Welcome m) = AllByRecursion Low m.news.slots
   Owed _ = Unit {0}
@@ -396,7 +396,7 @@ module _ (part most : ℕ) (small : part < 8) where
   time_so e =
       let j : Done = cleans e input.Tick in
       let l : Done = writes j.state log_in.Tick in
-      job_then e j (after l.outs (record { state = l.state; outs = pushes_all l.state.promised.managers l.state.feed })) (job_goes_on e input.Tick)
+      job_then e j (saying l.outs (record { state = l.state; outs = pushes_all l.state.promised.managers l.state.feed })) (job_goes_on e input.Tick)
       (job_then j.state l (record { state = l.state; outs = pushes_all l.state.promised.managers l.state.feed }) (log_takes j.state log_in.Tick)
       (record { says = deltas_pushed l.state.lasting.inc l.state.promised.managers l.state.feed; inc = refl; promised = refl }))
 

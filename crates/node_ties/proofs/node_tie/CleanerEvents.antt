@@ -45,7 +45,7 @@ use Rattle.wire_msg.specs.declared.packet.Packet.{Packet}
 use Rattle.xfs_base.proofs.Booleans.{by_test, and_first, and_second}
 use Rattle.xfs_base.specs.declared.news.SlotNews.{SlotNews}
 use Rattle.xfs_base.specs.Limits.{u32_end}
-use Rattle.xfs_base.specs.Steps.{after, still}
+use Rattle.xfs_base.specs.Steps.{saying, still}
 use Rattle.node_ties.specs.node_tie.CleanerEvents.{Bounded, CleanerDoes, CleanerGets, CleanerGoes, CleanerOwed, CleanerStands, CleanerStarts, CleanerTakes, OpensLater, OpensSo, ServesSo}
 use Rattle.node_ties.specs.node_tie.ClientEvents.{AwaitsFirst}
 use Rattle.node_ties.specs.node_tie.Sight.{CleanerSends}
@@ -66,9 +66,9 @@ raised l number room = above l.inc room
     above : (k : ℕ) → has_room k ≡ true → k < cond (nat_lt k u32_end) (k + 1) k
     above k r = grind (arith, nat_tests)
 
-module _ (part promised most : ℕ) (small : part < 8) (low : promised ≤ most) where
+module _ (part promised limit : ℕ) (small : part < 8) (low : promised ≤ limit) where
   abbrev Goes : Phase → Went_to → Type 0
-  Goes p w = CleanerGoes part promised most p w.state w.outs
+  Goes p w = CleanerGoes part promised limit p w.state w.outs
 
   -- what it does, in any incarnation that is none above this one
   abbrev AllDone : ℕ → ℕ → List Effect → Type 0
@@ -92,9 +92,9 @@ module _ (part promised most : ℕ) (small : part < 8) (low : promised ≤ most)
 
   -- ---- where nothing new is promised
 
-  goes_same : (p q : Phase) (outs : List Effect) → CleanerStands part promised most q → AllDone promised (lasting_of q).inc outs
+  goes_same : (p q : Phase) (outs : List Effect) → CleanerStands part promised limit q → AllDone promised (lasting_of q).inc outs
       → (lasting_of p).inc ≤ (lasting_of q).inc → OpensLater p q
-      → CleanerGoes part promised most p q outs
+      → CleanerGoes part promised limit p q outs
   goes_same p q outs stands done later begins = record {
     next = promised;
     rises = omega arith;
@@ -111,7 +111,7 @@ module _ (part promised most : ℕ) (small : part < 8) (low : promised ≤ most)
   begins_same (Opening l o) = tt
   begins_same (Serves e) = tt
 
-  goes_still : (p : Phase) → CleanerStands part promised most p → Goes p (still p)
+  goes_still : (p : Phase) → CleanerStands part promised limit p → Goes p (still p)
   goes_still p stands = goes_same p p [] stands tt (omega arith) (begins_same p)
 
   crashed_done : (life : ℕ) (item : Option ℕ) (number : ℕ) → AllDone promised life (answers_unanswered item answer.Cut ++ Answer number answer.Done ∷ [])
@@ -141,8 +141,8 @@ module _ (part promised most : ℕ) (small : part < 8) (low : promised ≤ most)
 
   -- ---- one that opens its log
 
-  module _ (l : Lasting) (o : openings.Opening) (stands : OpensSo part promised most l o) where
-    opening_answers : (number : ℕ) (a : AnAnswer) → CleanerGoes part promised most (Opening l o) (Opening (begun_life l) o) (Answer number a ∷ [])
+  module _ (l : Lasting) (o : openings.Opening) (stands : OpensSo part promised limit l o) where
+    opening_answers : (number : ℕ) (a : AnAnswer) → CleanerGoes part promised limit (Opening l o) (Opening (begun_life l) o) (Answer number a ∷ [])
     opening_answers number a =
         goes_same (Opening l o) (Opening (begun_life l) o) (Answer number a ∷ []) (record { owner = stands.owner; promises = stands.promises }) (tt, tt)
         (omega arith) tt
@@ -160,11 +160,11 @@ module _ (part promised most : ℕ) (small : part < 8) (low : promised ≤ most)
     opening_begun (Some number) = opening_wished number (wish_at (begun_life l).items number)
 
     abbrev Kept : Promised → Type 0
-    Kept p = Bounded part promised most p
+    Kept p = Bounded part promised limit p
 
     -- it serves again
     came_back : (questions : Questions) (effects : List Effect) (r : Opened) → ((now : ℕ) → AllDone now l.inc effects) → Kept r.promised
-        → Goes (Opening l o) (after effects (back (record l { questions = questions }) r))
+        → Goes (Opening l o) (saying effects (back (record l { questions = questions }) r))
     came_back questions effects r done kept =
         let now : ℕ = epoch_of r.promised.epochs part in
         let said : List Effect = pushes_all r.promised.managers r.feed ++ answers_unanswered l.items.unanswered answer.Done in
@@ -177,8 +177,8 @@ module _ (part promised most : ℕ) (small : part < 8) (low : promised ≤ most)
               (done_append now l.inc effects said (done now)
               (done_append now l.inc (pushes_all r.promised.managers r.feed) (answers_unanswered l.items.unanswered answer.Done)
               (done_said now l.inc (pushes_all r.promised.managers r.feed)
-              (emptying.all_job part most small now l.inc (pushes_all r.promised.managers r.feed)
-              (emptying.deltas_pushed part most small l.inc r.promised.managers r.feed)))
+              (emptying.all_job part limit small now l.inc (pushes_all r.promised.managers r.feed)
+              (emptying.deltas_pushed part limit small l.inc r.promised.managers r.feed)))
               (done_answers now l.inc l.items.unanswered answer.Done)));
           later = omega arith;
           begins = tt;
@@ -198,7 +198,7 @@ module _ (part promised most : ℕ) (small : part < 8) (low : promised ≤ most)
 
     ends_so : (questions : Questions) (effects : List Effect) (p : Progress) → ((now : ℕ) → AllDone now l.inc effects) → IsOf o.known.owner p
         → promising.Holds Kept p
-        → Goes (Opening l o) (after effects (after_opening (record l { questions = questions }) p))
+        → Goes (Opening l o) (saying effects (after_opening (record l { questions = questions }) p))
     unfolding after_opening
     ends_so questions effects (progress.Opening q) done its kept =
         goes_same (Opening l o) (Opening (record l { questions = questions }) q) (effects ++ [])
@@ -220,25 +220,25 @@ module _ (part promised most : ℕ) (small : part < 8) (low : promised ≤ most)
     own = (let is = stands.owner in omega arith)
 
     -- a Welcome promises within the bounds
-    brings_so : (b : Body) → CleanerGets part promised most (Opening l o) b → has_logs b ≡ true → promising.Brings Kept o b
+    brings_so : (b : Body) → CleanerGets part promised limit (Opening l o) b → has_logs b ≡ true → promising.Brings Kept o b
     brings_so (body.Welcome w) gets logs = λ meant.
         let formed : (are_from 0 w.news.slots && list_all is_slot_news w.news.slots) ≡ true = and_second (length w.news.slots == 8)
         (are_from 0 w.news.slots && list_all is_slot_news w.news.slots) logs in
         let incs : w.inc ≡ l.inc = same w.inc o.known.owner.inc (and_first (w.inc == o.known.owner.inc) (fits o.known.maps w.news) meant) ∙ stands.owner in
-        client_opening.welcome_promises part promised most small w.news.slots
+        client_opening.welcome_promises part promised limit small w.news.slots
         (same (length w.news.slots) 8 (and_first (length w.news.slots == 8) (are_from 0 w.news.slots && list_all is_slot_news w.news.slots) logs))
         (and_first (are_from 0 w.news.slots) (list_all is_slot_news w.news.slots) formed)
         (each w.news.slots (recursion_from_All (λ (x : SlotNews). x.slot ≡ part → promised ≤ x.epoch) w.news.slots (gets.1 incs))
-        (recursion_from_All (λ (x : SlotNews). x.slot ≡ part → x.epoch ≤ most) w.news.slots gets.0))
+        (recursion_from_All (λ (x : SlotNews). x.slot ≡ part → x.epoch ≤ limit) w.news.slots gets.0))
       where
         each : (slots : List SlotNews) → AllByRecursion (λ (x : SlotNews). x.slot ≡ part → promised ≤ x.epoch) slots
-            → AllByRecursion (λ (x : SlotNews). x.slot ≡ part → x.epoch ≤ most) slots
-            → AllByRecursion (client_opening.Says part promised most small) slots
+            → AllByRecursion (λ (x : SlotNews). x.slot ≡ part → x.epoch ≤ limit) slots
+            → AllByRecursion (client_opening.Says part promised limit small) slots
         each [] rises within = tt
         each (x ∷ slots) rises within = (λ is. (rises.0 is, within.0 is), each slots rises.1 within.1)
     brings_so _ gets logs = tt
 
-    opening_packet : (packet : Packet) → CleanerGets part promised most (Opening l o) packet.body → has_logs packet.body ≡ true
+    opening_packet : (packet : Packet) → CleanerGets part promised limit (Opening l o) packet.body → has_logs packet.body ≡ true
         → Goes (Opening l o) (opened_on l (opening.on_packet o l.questions packet))
     opening_packet packet gets logs =
         went_so (opening.on_packet o l.questions packet)
@@ -252,17 +252,17 @@ module _ (part promised most : ℕ) (small : part < 8) (low : promised ≤ most)
 
   -- ---- one that serves
 
-  module _ (e : Emptying) (stands : ServesSo part promised most e) where
+  module _ (e : Emptying) (stands : ServesSo part promised limit e) where
     abbrev begun_emptying : Emptying
     begun_emptying = record e { lasting = begun_life e.lasting }
 
-    bears : (f : Emptying) → f.promised ≡ e.promised → emptying.Bears part most small f
+    bears : (f : Emptying) → f.promised ≡ e.promised → emptying.Bears part limit small f
     bears f is = record {
       eight = ap (λ (p : Promised). length p.epochs) is ∙ stands.eight;
-      within = subst (λ (p : Promised). epoch_of p.epochs part ≤ most) (sym is) (let k = stands.is in omega arith);
+      within = subst (λ (p : Promised). epoch_of p.epochs part ≤ limit) (sym is) (let k = stands.is in omega arith);
     }
 
-    serves_so : (f : Emptying) → f.lasting.inc ≡ e.lasting.inc → f.promised ≡ e.promised → (d : Done) → emptying.ServesOn part most small f d
+    serves_so : (f : Emptying) → f.lasting.inc ≡ e.lasting.inc → f.promised ≡ e.promised → (d : Done) → emptying.ServesOn part limit small f d
         → Goes (Serves e) (serves_on d)
     serves_so f inc is d x = record {
       next = epoch_of d.state.promised.epochs part;
@@ -287,41 +287,41 @@ module _ (part promised most : ℕ) (small : part < 8) (low : promised ≤ most)
         goes_same (Serves e) (Serves begun_emptying) (Answer number answer.Up ∷ []) (record { eight = stands.eight; is = stands.is }) (tt, tt) (omega arith) tt
     serving_wished number (Clean count) =
         serves_so begun_emptying refl refl (on_clean begun_emptying number count)
-        (emptying.cleaning_wished part most small begun_emptying number count (bears begun_emptying refl))
+        (emptying.cleaning_wished part limit small begun_emptying number count (bears begun_emptying refl))
 
     serving_begun : (item : Option ℕ) → Goes (Serves e) (serving_at begun_emptying item)
     serving_begun None = goes_same (Serves e) (Serves begun_emptying) [] (record { eight = stands.eight; is = stands.is }) tt (omega arith) tt
     serving_begun (Some number) = serving_wished number (wish_at begun_emptying.lasting.items number)
 
-    owed_there : (b : Body) → CleanerGets part promised most (Serves e) b → emptying.Owed part most small b
+    owed_there : (b : Body) → CleanerGets part promised limit (Serves e) b → emptying.Owed part limit small b
     owed_there (body.Poll m) gets = gets
-    owed_there (body.MapNews m) gets = recursion_from_All (λ (x : SlotNews). x.slot ≡ part → x.epoch ≤ most) m.slots gets
-    owed_there (body.Welcome m) gets = recursion_from_All (λ (x : SlotNews). x.slot ≡ part → x.epoch ≤ most) m.news.slots gets.0
+    owed_there (body.MapNews m) gets = recursion_from_All (λ (x : SlotNews). x.slot ≡ part → x.epoch ≤ limit) m.slots gets
+    owed_there (body.Welcome m) gets = recursion_from_All (λ (x : SlotNews). x.slot ≡ part → x.epoch ≤ limit) m.news.slots gets.0
     owed_there _ gets = tt
 
-    serving_packet : (packet : Packet) → CleanerGets part promised most (Serves e) packet.body → Goes (Serves e) (serves_on (on_packet e packet))
+    serving_packet : (packet : Packet) → CleanerGets part promised limit (Serves e) packet.body → Goes (Serves e) (serves_on (on_packet e packet))
     serving_packet packet gets =
-        serves_so e refl refl (on_packet e packet) (emptying.packet_heard part most small e packet (owed_there packet.body gets) (bears e refl))
+        serves_so e refl refl (on_packet e packet) (emptying.packet_heard part limit small e packet (owed_there packet.body gets) (bears e refl))
 
     serving_time : Goes (Serves e) (serves_on (on_tick e))
-    serving_time = serves_so e refl refl (on_tick e) (emptying.time_passes part most small e (bears e refl))
+    serving_time = serves_so e refl refl (on_tick e) (emptying.time_passes part limit small e (bears e refl))
 
   -- ---- the events
 
-  begins_so : (servers : ℕ) (p : Phase) → CleanerStands part promised most p → has_room (lasting_of p).inc ≡ true → Goes p (on_begin servers p)
+  begins_so : (servers : ℕ) (p : Phase) → CleanerStands part promised limit p → has_room (lasting_of p).inc ≡ true → Goes p (on_begin servers p)
   unfolding on_begin
   begins_so servers (Down l) stands room = down_begun l servers (next_item l.items) room
   begins_so servers (Opening l o) stands room = opening_begun l o stands (next_item l.items)
   begins_so servers (Serves e) stands room = serving_begun e stands (next_item e.lasting.items)
 
-  heard : (p : Phase) (packet : Packet) → CleanerStands part promised most p → CleanerGets part promised most p packet.body → has_logs packet.body ≡ true
+  heard : (p : Phase) (packet : Packet) → CleanerStands part promised limit p → CleanerGets part promised limit p packet.body → has_logs packet.body ≡ true
       → Goes p (hears p packet)
   unfolding hears
   heard (Down l) packet stands gets logs = goes_still (Down l) stands
   heard (Opening l o) packet stands gets logs = opening_packet l o stands packet gets logs
   heard (Serves e) packet stands gets logs = serving_packet e stands packet gets
 
-  delivered : (peers : Peers) (p : Phase) (packet : Packet) → CleanerStands part promised most p → CleanerGets part promised most p packet.body
+  delivered : (peers : Peers) (p : Phase) (packet : Packet) → CleanerStands part promised limit p → CleanerGets part promised limit p packet.body
       → Goes p (on_deliver peers p packet)
   unfolding on_deliver
   delivered peers p packet stands gets =
@@ -330,7 +330,7 @@ module _ (part promised most : ℕ) (small : part < 8) (low : promised ≤ most)
       (and_first (has_logs packet.body) _ (and_second (has_node peers packet.from) _ t)))
       (λ t. goes_still p stands)
 
-  ticked : (p : Phase) → CleanerStands part promised most p → Goes p (on_time p)
+  ticked : (p : Phase) → CleanerStands part promised limit p → Goes p (on_time p)
   unfolding on_time
   ticked (Down l) stands = goes_still (Down l) stands
   ticked (Opening l o) stands = opening_time l o stands
@@ -341,7 +341,7 @@ module _ (part promised most : ℕ) (small : part < 8) (low : promised ≤ most)
   room_of (Opening l o) room = and_first (has_room l.inc) (has_room l.questions.last) (and_first (lasting_room l) (opening.opening_room o) room)
   room_of (Serves e) room = and_first (has_room e.lasting.inc) (has_room e.lasting.questions.last) (and_first (lasting_room e.lasting) _ room)
 
-  happened : (peers : Peers) (p : Phase) (what : Do) → phase_room p ≡ true → CleanerStands part promised most p → CleanerOwed part promised most p what
+  happened : (peers : Peers) (p : Phase) (what : Do) → phase_room p ≡ true → CleanerStands part promised limit p → CleanerOwed part promised limit p what
       → Goes p (happens peers p what)
   happened peers p Begin room stands owed = begins_so peers.servers p stands (room_of p room)
   happened peers p (Deliver packet) room stands owed = delivered peers p packet stands owed
@@ -361,14 +361,14 @@ first_epoch (suc (suc (suc (suc (suc (suc (suc (suc k)))))))) h = absurd (omega 
 
 -- whatever happens to the cleaner
 pub cleaner_takes : CleanerTakes
-cleaner_takes logs members part promised most n small low few adopted cleaner what stands owed copies told =
-    let goes : CleanerGoes part promised most cleaner.phase (takes cleaner.peers cleaner.phase what).state (takes cleaner.peers cleaner.phase what).outs =
-    by_test (λ (w : Went_to). CleanerGoes part promised most cleaner.phase w.state w.outs) (phase_room cleaner.phase) (happens cleaner.peers cleaner.phase what)
+cleaner_takes logs members part promised limit n small low few adopted cleaner what stands owed copies told =
+    let goes : CleanerGoes part promised limit cleaner.phase (takes cleaner.peers cleaner.phase what).state (takes cleaner.peers cleaner.phase what).outs =
+    by_test (λ (w : Went_to). CleanerGoes part promised limit cleaner.phase w.state w.outs) (phase_room cleaner.phase) (happens cleaner.peers cleaner.phase what)
     (still cleaner.phase)
-    (λ room. happened part promised most small low cleaner.peers cleaner.phase what room stands owed)
-    (λ room. goes_still part promised most small low cleaner.phase stands) in
+    (λ room. happened part promised limit small low cleaner.peers cleaner.phase what room stands owed)
+    (λ room. goes_still part promised limit small low cleaner.phase stands) in
     (goes, cleaner_runs logs members part n few adopted cleaner what copies told goes.next _ goes.does)
 
 pub cleaner_starts : CleanerStarts
-cleaner_starts part most small setup works =
+cleaner_starts part limit small setup works =
     (record { eight = refl; is = first_epoch part small }, record { seen = record { end = refl; flying = refl; flight = tt }; waits = tt; job = tt })

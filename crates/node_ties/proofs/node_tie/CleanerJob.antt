@@ -38,7 +38,7 @@ use Rattle.xfs_base.specs.declared.entry.Entry.{Entry}
 use Rattle.xfs_base.specs.declared.entry.Place.{Place}
 use Rattle.xfs_base.specs.declared.segment.SegName.{SegName}
 use Rattle.xfs_base.specs.declared.segment.SegRef.{SegRef}
-use Rattle.xfs_base.specs.Steps.{after, still, steps}
+use Rattle.xfs_base.specs.Steps.{saying, still, steps}
 use Rattle.node_ties.specs.node_tie.Sight.{CleanerSends}
 use Rattle.node_ties.specs.node_tie.StoreEvents.{Says, AllSay}
 use Rattle.node_ties.proofs.node_tie.StoreFrames.{all_append, all_map, all_flat_map, answers_say}
@@ -55,7 +55,7 @@ pub record JobDoes (e : Emptying) (d : Done) : Type 0 where
   pub promised : d.state.promised ≡ e.promised
 
 -- one step after another
-pub job_then : (e : Emptying) (a b : Done) → JobDoes e a → JobDoes a.state b → JobDoes e (after a.outs b)
+pub job_then : (e : Emptying) (a b : Done) → JobDoes e a → JobDoes a.state b → JobDoes e (saying a.outs b)
 job_then e a b x y = record {
   says = all_append (Says (JobSends e.lasting.inc)) a.outs b.outs x.says (subst (λ life. AllSay (JobSends life) b.outs) x.inc y.says);
   inc = y.inc ∙ x.inc;

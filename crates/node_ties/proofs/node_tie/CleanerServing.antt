@@ -5,7 +5,7 @@ use Rattle.xfs_base.proofs.Booleans.{by_test}
 use Rattle.xfs_base.specs.declared.news.SlotNews.{SlotNews}
 use Rattle.xfs_base.specs.declared.node.NodeId.{NodeId}
 use Rattle.xfs_base.specs.declared.node.NodeId.TheVariants as node
-use Rattle.xfs_base.specs.Steps.{still, after, steps}
+use Rattle.xfs_base.specs.Steps.{still, saying, steps}
 use Rattle.client_log.specs.declared.input.In.{In as LogIn}
 use Rattle.client_log.specs.declared.input.In.TheVariants as log_in
 use Rattle.client_log.specs.declared.output.Out.{Out as LogOut}
@@ -177,7 +177,7 @@ module _ (members part : ℕ) (few : members ≤ its_log) where
   unfolding on_welcome
   welcome_heard k e m h =
       let d : Done = takes_news e m.news in
-      by_test (GoesTo k) ((m.inc == e.lasting.inc) && fits e.maps m.news) (after d.outs (welcomes d.state m)) (still e)
+      by_test (GoesTo k) ((m.inc == e.lasting.inc) && fits e.maps m.news) (saying d.outs (welcomes d.state m)) (still e)
       (λ t. let p = news_taken k e m.news h in and_then members part few k d.state (welcomes d.state m).state p (job_welcomed p.next d.state m p.copies))
       (λ t. as_was k e h)
 

@@ -13,7 +13,7 @@ use Rattle.xfs_base.specs.declared.token.Mode.TheVariants.{Nothing, Copy}
 use Rattle.xfs_base.specs.declared.token.Stamp.{Stamp}
 use Rattle.xfs_base.specs.Modes.{is_own, is_held}
 use Rattle.xfs_base.specs.Stamps.{is_later}
-use Rattle.xfs_base.specs.Steps.{still, steps, after}
+use Rattle.xfs_base.specs.Steps.{still, steps, saying}
 use Rattle.token_client.specs.declared.held.Fetch.{Fetch}
 use Rattle.token_client.specs.declared.held.Giving.{Giving}
 use Rattle.token_client.specs.declared.held.Held.{Held}
@@ -218,7 +218,7 @@ module _ (P : BlockId → Option Giving → Type 0) (E : List ℕ → Type 0) (Q
           → Bears s → Bears (recalled_above s block stamp keep).state
       unfolding recalled_above
       recalled_above-bears s block stamp keep sent h =
-          by_test (λ (d : Done). Bears d.state) (can_refetch s block) (after (refetch s block).outs (give (refetch s block).state block stamp keep)) (still s)
+          by_test (λ (d : Done). Bears d.state) (can_refetch s block) (saying (refetch s block).outs (give (refetch s block).state block stamp keep)) (still s)
           (λ t. give-bears (refetch s block).state block stamp keep sent (refetch-bears s block h)) (λ t. h)
 
       recalled_again-bears : (s : TokensState) (block : BlockId) (stamp : Stamp) → Bears s → Bears (recalled_again s block stamp).state

@@ -40,7 +40,7 @@ use Rattle.xfs_base.specs.declared.block.BlockId.{BlockId}
 use Rattle.xfs_base.specs.declared.token.Mode.{Mode}
 use Rattle.xfs_base.specs.declared.token.Mode.TheVariants.{Nothing, Copy, Own}
 use Rattle.xfs_base.specs.Modes.{is_held, is_nothing}
-use Rattle.xfs_base.specs.Steps.{still, after}
+use Rattle.xfs_base.specs.Steps.{still, saying}
 use Rattle.node_ties.specs.node_tie.ClientLogs.{IsUnsettled}
 use Rattle.node_ties.specs.node_tie.LogRows.{told, rows_flown, rows_waiting}
 use Rattle.node_ties.proofs.node_tie.ClientFrames as frames
@@ -51,17 +51,17 @@ use Rattle.node_ties.proofs.node_tie.ClientUnsettled.{AllUnsettled, nothing_dirt
 use Rattle.node_ties.proofs.node_tie.ClientWrites as writing
 use Rattle.node_ties.proofs.node_tie.SmallWorld.{premise_by}
 
-module _ (logs : Bool) (members part most c life room top : ℕ) (pos : 0 < c) (less : c < members) where
+module _ (logs : Bool) (members part limit c life room highest : ℕ) (pos : 0 < c) (less : c < members) where
   abbrev At : Net → Serving → Type 0
-  At n s = frames.At logs members part most c life room top n s
+  At n s = frames.At logs members part limit c life room highest n s
 
   abbrev Goes : Net → Done → Type 0
-  Goes n d = frames.Goes logs members part most c life room top n d
+  Goes n d = frames.Goes logs members part limit c life room highest n d
 
   -- ---- calls on blocks
 
   needs_so : (n : Net) (s : Serving) (block : BlockId) (mode : Mode) → At n s → Goes n (needs s block mode).done
-  needs_so n s block mode h = tokens.hands_own logs members part most c life room top pos less n s (input.Need block mode) tt (λ u. refl) tt h
+  needs_so n s block mode h = tokens.hands_own logs members part limit c life room highest pos less n s (input.Need block mode) tt (λ u. refl) tt h
 
   -- what is held is read
   got_so : (n : Net) (s : Serving) (block : BlockId) → is_nothing (held_at s block).mode ≡ false → At n s → Goes n (got s block (held_at s block)).done
@@ -95,10 +95,10 @@ module _ (logs : Bool) (members part most c life room top : ℕ) (pos : 0 < c) (
       by_value (Some value) is some =
           let t : Serving = record s { cache = touched s.cache block } in
           let a : Act = Read s.lasting.number block (held_at s block).ver (value_of (held_at s block)) in
-          frames.goes_acting logs members part most c life room top n (nets.acted n (a ∷ [])) a (still t) tt
+          frames.goes_acting logs members part limit c life room highest n (nets.acted n (a ∷ [])) a (still t) tt
           (subst (λ (x : Act). frames.Grown logs members part c n (nets.acted n (x ∷ [])) (x ∷ [])) (act_is value is) (grown value is))
-          (frames.goes_still logs members part most c life room top (nets.acted n (a ∷ [])) t
-          (frames.stands_acted logs members part most c life room top n (a ∷ []) s.tokens s.log s.lasting.number s.lasting.inc h))
+          (frames.goes_still logs members part limit c life room highest (nets.acted n (a ∷ [])) t
+          (frames.stands_acted logs members part limit c life room highest n (a ∷ []) s.tokens s.log s.lasting.number s.lasting.inc h))
 
   gets_so : (n : Net) (s : Serving) (block : BlockId) → At n s → Goes n (gets s block).done
   unfolding gets
@@ -108,7 +108,7 @@ module _ (logs : Bool) (members part most c life room top : ℕ) (pos : 0 < c) (
 
   -- once the tokens have the write, and it waits, the log may be sealed
   abbrev pub Written : Net → Serving → BlockId → Option (List ℕ) → Type 0
-  Written n s block value = putting.Written logs members part most c life room top pos less n s.tokens s.log s.lasting.number s.lasting.inc block value
+  Written n s block value = putting.Written logs members part limit c life room highest pos less n s.tokens s.log s.lasting.number s.lasting.inc block value
 
   pub changes_after : (n : Net) (s : Serving) (block : BlockId) (value : Option (List ℕ)) → (m : Net)
       → frames.Grown logs members part c n m (Wrote c block value ∷ []) → s.lasting.number ≡ c
@@ -117,15 +117,15 @@ module _ (logs : Bool) (members part most c life room top : ℕ) (pos : 0 < c) (
   unfolding changes
   changes_after n s block value m grown number h =
       let w : Serving = wrote s block value in
-      frames.goes_acting logs members part most c life room top n m (Wrote s.lasting.number block value) (put_of w block value) tt
+      frames.goes_acting logs members part limit c life room highest n m (Wrote s.lasting.number block value) (put_of w block value) tt
       (subst (λ k. frames.Grown logs members part c n m (Wrote k block value ∷ [])) (sym number) grown)
-      (writing.puts_from logs members part most c life room top pos less m w block (record { ver = (held_at w block).ver; hop = 0; place = None }) value h)
+      (writing.puts_from logs members part limit c life room highest pos less m w block (record { ver = (held_at w block).ver; hop = 0; place = None }) value h)
 
   changes_so : (n : Net) (s : Serving) (block : BlockId) (value : Option (List ℕ)) → may_write (held_at s block) ≡ true → At n s
       → Goes n (changes s block value).done
   changes_so n s block value may h =
       let k : Written n s block value =
-      putting.written_so logs members part most c life room top pos less n s.tokens s.log s.lasting.number s.lasting.inc block value may h in
+      putting.written_so logs members part limit c life room highest pos less n s.tokens s.log s.lasting.number s.lasting.inc block value may h in
       changes_after n s block value k.next k.grown h.number_is k.stands
 
   -- once the tokens have let it go
@@ -133,16 +133,16 @@ module _ (logs : Bool) (members part most c life room top : ℕ) (pos : 0 < c) (
       → Goes n (still (notes_gone (record s { tokens = (client.on_evict s.tokens block).state }) block))
   gone_from n s block h =
       let t : Serving = record s { tokens = (client.on_evict s.tokens block).state } in
-      frames.goes_still logs members part most c life room top n (notes_gone t block)
-      (tokens.notes_gone_so logs members part most c life room top pos less n t block h)
+      frames.goes_still logs members part limit c life room highest n (notes_gone t block)
+      (tokens.notes_gone_so logs members part limit c life room highest pos less n t block h)
 
   lets_go_so : (n : Net) (s : Serving) (block : BlockId) → At n s → Goes n (still (lets_go s block))
   lets_go_so n s block h =
       let t : Serving = record s { tokens = (client.on_evict s.tokens block).state } in
       by_test (λ (u : Serving). Goes n (still u)) (is_none (held_at s block).value) (notes_gone t block) s
-      (λ is. frames.goes_on logs members part most c life room top n (still t) (still (notes_gone t block))
-      (tokens.acts_so logs members part most c life room top pos less n s (input.Evict block) tt (λ u. refl) tt h) (λ m k. gone_from m s block k))
-      (λ is. frames.goes_still logs members part most c life room top n s h)
+      (λ is. frames.goes_on logs members part limit c life room highest n (still t) (still (notes_gone t block))
+      (tokens.acts_so logs members part limit c life room highest pos less n s (input.Evict block) tt (λ u. refl) tt h) (λ m k. gone_from m s block k))
+      (λ is. frames.goes_still logs members part limit c life room highest n s h)
 
   changes_if_fits_so : (n : Net) (s : Serving) (block : BlockId) (value : Option (List ℕ)) → may_write (held_at s block) ≡ true → At n s
       → Goes n (changes_if_fits s block value).done
@@ -176,7 +176,7 @@ module _ (logs : Bool) (members part most c life room top : ℕ) (pos : 0 < c) (
       subst AllClean (sym h.tokens)
       (clean_then s.log.dirty s.log.flight (none_waits s.log.dirty (and_second (is_none s.log.flight) (length s.log.dirty == 0) settled))
       (none_flies s.log.flight (and_first (is_none s.log.flight) (length s.log.dirty == 0) settled)) p))
-      (all_known logs members part most c life room top s.log s.tokens h.bears.held)
+      (all_known logs members part limit c life room highest s.log s.tokens h.bears.held)
     where
       none_waits : (dirty : List (BlockId × Change)) → (length dirty == 0) ≡ true → dirty ≡ []
       none_waits [] is = refl
@@ -201,19 +201,19 @@ module _ (logs : Bool) (members part most c life room top : ℕ) (pos : 0 < c) (
       by_test (λ (es : List Effect). Goes n (gives s es)) (is_settled s) (Does (Synced s.lasting.number) ∷ []) []
       (λ t.
       let a : Act = Synced s.lasting.number in
-      frames.goes_acting logs members part most c life room top n (nets.acted n (a ∷ [])) a (still s) tt
+      frames.goes_acting logs members part limit c life room highest n (nets.acted n (a ∷ [])) a (still s) tt
       (frames.grown_acting logs members part c n (a ∷ [])
       (subst (λ k. Happens logs members part n (nets.acted n (Synced k ∷ []))) (sym h.number_is) (Syncs c pos less h.up (all_clean n s t h))))
-      (frames.goes_still logs members part most c life room top (nets.acted n (a ∷ [])) s
-      (frames.stands_acted logs members part most c life room top n (a ∷ []) s.tokens s.log s.lasting.number s.lasting.inc h)))
-      (λ t. frames.goes_still logs members part most c life room top n s h)
+      (frames.goes_still logs members part limit c life room highest (nets.acted n (a ∷ [])) s
+      (frames.stands_acted logs members part limit c life room highest n (a ∷ []) s.tokens s.log s.lasting.number s.lasting.inc h)))
+      (λ t. frames.goes_still logs members part limit c life room highest n s h)
 
   syncs_so : (n : Net) (s : Serving) → At n s → Goes n (syncs s).done
   unfolding syncs
   syncs_so n s h =
       let d : Done = seals s in
-      frames.goes_on logs members part most c life room top n d (gives d.state (synced_acts d.state))
-      (tokens.seals_so logs members part most c life room top pos less n s s.log.end.seq refl h).goes (λ m k. synced_so m d.state k)
+      frames.goes_on logs members part limit c life room highest n d (gives d.state (synced_acts d.state))
+      (tokens.seals_so logs members part limit c life room highest pos less n s s.log.end.seq refl h).goes (λ m k. synced_so m d.state k)
 
   makes_so : (n : Net) (s : Serving) (call : BlockCall) → At n s → Goes n (makes s call).done
   unfolding makes
@@ -226,24 +226,24 @@ module _ (logs : Bool) (members part most c life room top : ℕ) (pos : 0 < c) (
 
   pub goes_on_so : (n : Net) (s : Serving) (going : Going) → At n s → Goes n (goes_on s going)
   unfolding goes_on
-  goes_on_so n s (On call) h = frames.goes_still logs members part most c life room top n (record s { call = Some call }) h
+  goes_on_so n s (On call) h = frames.goes_still logs members part limit c life room highest n (record s { call = Some call }) h
   goes_on_so n s (Ends answer) h =
-      frames.goes_plain logs members part most c life room top n (record s { lasting = record s.lasting { items = answered s.lasting.items } })
+      frames.goes_plain logs members part limit c life room highest n (record s { lasting = record s.lasting { items = answered s.lasting.items } })
       (answers_unanswered s.lasting.items.unanswered answer) h
       (tokens.plain_answers part c life s.lasting.items.unanswered answer)
 
   answers_call_so : (n : Net) (s : Serving) (call : Call) (answer : Option BlockAnswer) → At n s → Goes n (answers_call s call answer).done
-  answers_call_so n s call None h = frames.goes_still logs members part most c life room top n (record s { call = Some call }) h
+  answers_call_so n s call None h = frames.goes_still logs members part limit c life room highest n (record s { call = Some call }) h
   answers_call_so n s call (Some a) h = goes_on_so n s (after_answer call.plan a) h
 
   -- what was made is told to the call
   pub ran_so : (n : Net) (call : Call) (made : Made) → Goes n made.done → Goes n (ran call made).done
   ran_so n call made p =
-      frames.goes_on logs members part most c life room top n made.done (answers_call made.done.state call made.answer).done p
+      frames.goes_on logs members part limit c life room highest n made.done (answers_call made.done.state call made.answer).done p
       (λ m k. answers_call_so m made.done.state call made.answer k)
 
   runs_call_so : (n : Net) (s : Serving) (call : Option Call) → At n s → Goes n (runs_call s call).done
-  runs_call_so n s None h = frames.goes_still logs members part most c life room top n s h
+  runs_call_so n s None h = frames.goes_still logs members part limit c life room highest n s h
   runs_call_so n s (Some call) h = ran_so n call (makes (record s { call = None }) call.step) (makes_so n (record s { call = None }) call.step h)
 
   runs_once_so : (n : Net) (s : Serving) → At n s → Goes n (runs_once s).done
@@ -256,12 +256,12 @@ module _ (logs : Bool) (members part most c life room top : ℕ) (pos : 0 < c) (
   unfolding runs_upto
   turns_from n k s rest p =
       let r : Ran = runs_once s in
-      by_test (λ (d : Done). Goes n d) r.goes (after r.done.outs (runs_upto k r.done.state)) r.done
-      (λ t. frames.goes_on logs members part most c life room top n r.done (runs_upto k r.done.state) p (λ m h. rest m r.done.state h)) (λ t. p)
+      by_test (λ (d : Done). Goes n d) r.goes (saying r.done.outs (runs_upto k r.done.state)) r.done
+      (λ t. frames.goes_on logs members part limit c life room highest n r.done (runs_upto k r.done.state) p (λ m h. rest m r.done.state h)) (λ t. p)
 
   runs_upto_so : (k : ℕ) (n : Net) (s : Serving) → At n s → Goes n (runs_upto k s)
   unfolding runs_upto
-  runs_upto_so zero n s h = frames.goes_still logs members part most c life room top n s h
+  runs_upto_so zero n s h = frames.goes_still logs members part limit c life room highest n s h
   runs_upto_so (suc k) n s h = turns_from n k s (λ m t. runs_upto_so k m t) (runs_once_so n s h)
 
   -- the open call runs, from its first turn on

@@ -24,20 +24,20 @@ use Rattle.node_ties.proofs.node_tie.ClientUnsettled.{AllUnsettled, rows_settled
 use Rattle.node_ties.proofs.node_tie.SmallWorld.{premise, premise_by, premise_both}
 
 -- the small world goes on to a net in which this segment is in flight
-record Ready (logs : Bool) (members part most c life room top : ℕ) (n : Net) (t : TokensState) (l : LogState) (number inc : ℕ) (rows : Rows) : Type 0 where
+record Ready (logs : Bool) (members part limit c life room highest : ℕ) (n : Net) (t : TokensState) (l : LogState) (number inc : ℕ) (rows : Rows) : Type 0 where
   next : Net
   grown : frames.Grown logs members part c n next []
-  stands : frames.Stands logs members part most c life room top next t l number inc
+  stands : frames.Stands logs members part limit c life room highest next t l number inc
   flies : Premise logs (next.books.flying c ≡ true)
   rows_are : next.books.rows c (suc (next.books.end c)) ≡ rows
 
-ready : (logs : Bool) (members part most c life room top : ℕ) → 0 < c → c < members
+ready : (logs : Bool) (members part limit c life room highest : ℕ) → 0 < c → c < members
     → (n : Net) (t : TokensState) (l : LogState) (f : FlightState) (number inc : ℕ)
-    → frames.Stands logs members part most c life room top n t (record l { flight = Some f }) number inc
-    → Ready logs members part most c life room top n t (record l { flight = Some f }) number inc (rows_told f.segment.items)
-ready true members part most c life room top pos less n t l f number inc h =
+    → frames.Stands logs members part limit c life room highest n t (record l { flight = Some f }) number inc
+    → Ready logs members part limit c life room highest n t (record l { flight = Some f }) number inc (rows_told f.segment.items)
+ready true members part limit c life room highest pos less n t l f number inc h =
     record { next = n; grown = grown_still true members part c n; stands = h; flies = h.logged.seen.flying; rows_are = h.logged.said }
-ready false members part most c life room top pos less n t l f number inc h = record {
+ready false members part limit c life room highest pos less n t l f number inc h = record {
   next = record n { books = sealed n.books c (rows_told f.segment.items) };
   grown = record {
     runs = On Begun (Seals c (rows_told f.segment.items) pos less h.up tt tt);
@@ -62,9 +62,9 @@ ready false members part most c life room top pos less n t l f number inc h = re
   rows_are = said_now n.books c (rows_told f.segment.items);
 }
 
-module _ (logs : Bool) (members part most c life room top : ℕ) (pos : 0 < c) (less : c < members) (n : Net) (t : TokensState) (l : LogState) (f : FlightState)
+module _ (logs : Bool) (members part limit c life room highest : ℕ) (pos : 0 < c) (less : c < members) (n : Net) (t : TokensState) (l : LogState) (f : FlightState)
     (number inc : ℕ)
-    (h : frames.Stands logs members part most c life (room + 1) top n t (record l { flight = Some f }) number inc) where
+    (h : frames.Stands logs members part limit c life (room + 1) highest n t (record l { flight = Some f }) number inc) where
   abbrev flown : LogState
   flown = record l { flight = Some f }
 
@@ -72,7 +72,7 @@ module _ (logs : Bool) (members part most c life room top : ℕ) (pos : 0 < c) (
   rows = rows_told f.segment.items
 
   abbrev Flies : Type 0
-  Flies = Ready logs members part most c life (room + 1) top n t flown number inc rows
+  Flies = Ready logs members part limit c life (room + 1) highest n t flown number inc rows
 
   -- in that net it is filed
   module _ (r : Flies) where
@@ -88,8 +88,8 @@ module _ (logs : Bool) (members part most c life room top : ℕ) (pos : 0 < c) (
         ∙ ap (λ (u : TokensState). all_settled u (k.rows c (suc (k.end c)))) r.stands.tokens
         ∙ ap (all_settled t) r.rows_are
 
-    valued : Bears (Sent part c r.next.sent) (Promised part most) (λ b h. IsValued h) life (all_settled t rows)
-    valued = all_settled-bears (Sent part c r.next.sent) (Promised part most) life t rows (record {
+    valued : Bears (Sent part c r.next.sent) (Promised part limit) (λ b h. IsValued h) life (all_settled t rows)
+    valued = all_settled-bears (Sent part c r.next.sent) (Promised part limit) life t rows (record {
       life_is = r.stands.bears.life_is;
       promised = r.stands.bears.promised;
       giving = r.stands.bears.giving;
@@ -99,7 +99,7 @@ module _ (logs : Bool) (members part most c life room top : ℕ) (pos : 0 < c) (
     unsettled : Premise logs (AllUnsettled (all_settled t rows) (row_in (rows_waiting l)) (row_in []))
     unsettled = premise_both logs
         (λ (p : AllUnsettled t (row_in (rows_waiting l)) (row_in rows)) (x : LogStands k c flown). rows_settled t (row_in (rows_waiting l)) rows x.flies_once p)
-        (all_known logs members part most c life room top flown t r.stands.bears.held) r.stands.logged
+        (all_known logs members part limit c life room highest flown t r.stands.bears.held) r.stands.logged
 
     logged : Premise logs (LogStands (filed k c) c (log.landed l f))
     logged = premise_by logs (λ (x : LogStands k c flown). record {
@@ -119,15 +119,15 @@ module _ (logs : Bool) (members part most c life room top : ℕ) (pos : 0 < c) (
         next : (e : ℕ) → suc e < suc (suc e)
         next e = omega arith
 
-    numbers : Premise logs (HasNumbers f.segment.name.seq room top)
+    numbers : Premise logs (HasNumbers f.segment.name.seq room highest)
     numbers = premise_both logs
-        (λ (x : LogStands k c flown) (left : HasNumbers l.end.seq (room + 1) top).
+        (λ (x : LogStands k c flown) (left : HasNumbers l.end.seq (room + 1) highest).
         record { below = upto f.segment.name.seq l.end.seq x.seen.flight.0 left.below; next = left.next }) r.stands.logged r.stands.numbers
       where
-        upto : (seq end : ℕ) → seq ≡ suc end → end + (room + 1) ≤ top → seq + room ≤ top
+        upto : (seq end : ℕ) → seq ≡ suc end → end + (room + 1) ≤ highest → seq + room ≤ highest
         upto seq end is low = omega (arith, is, low)
 
-    files : frames.Passes logs members part most c life room top n (all_settled t rows) (log.landed l f) number inc
+    files : frames.Passes logs members part limit c life room highest n (all_settled t rows) (log.landed l f) number inc
     files = record {
       next = after_filing;
       grown = grown_on logs members part c n r.next after_filing [] [] r.grown (record {
@@ -159,5 +159,5 @@ module _ (logs : Bool) (members part most c life room top : ℕ) (pos : 0 < c) (
       };
     }
 
-  pub filed_passes : frames.Passes logs members part most c life room top n (all_settled t rows) (log.landed l f) number inc
-  filed_passes = files (ready logs members part most c life (room + 1) top pos less n t l f number inc h)
+  pub filed_passes : frames.Passes logs members part limit c life room highest n (all_settled t rows) (log.landed l f) number inc
+  filed_passes = files (ready logs members part limit c life (room + 1) highest pos less n t l f number inc h)

@@ -26,22 +26,22 @@ use Rattle.xfs_base.specs.declared.entry.Entry.{Entry}
 use Rattle.xfs_base.specs.declared.segment.End.{End}
 use Rattle.xfs_base.specs.declared.token.Stamp.{Stamp}
 use Rattle.xfs_base.specs.Modes.{is_held}
-use Rattle.xfs_base.specs.Steps.{still, after, steps}
+use Rattle.xfs_base.specs.Steps.{still, saying, steps}
 use Rattle.node_ties.specs.node_tie.Sight.{SentOf}
 use Rattle.node_ties.proofs.node_tie.ClientFrames as frames
 use Rattle.node_ties.proofs.node_tie.ClientTaking as taking
 use Rattle.node_ties.proofs.node_tie.ClientTokens as tokens
 
-module _ (logs : Bool) (members part most c life room top : ℕ) (pos : 0 < c) (less : c < members) where
+module _ (logs : Bool) (members part limit c life room highest : ℕ) (pos : 0 < c) (less : c < members) where
   abbrev At : Net → Serving → Type 0
-  At n s = frames.At logs members part most c life room top n s
+  At n s = frames.At logs members part limit c life room highest n s
 
   abbrev Goes : Net → Done → Type 0
-  Goes n d = frames.Goes logs members part most c life room top n d
+  Goes n d = frames.Goes logs members part limit c life room highest n d
 
   -- a recall that was sent, or is of another slot, may be taken
   pub recall_may : (n : Net) (l : LogState) (block : BlockId) (stamp : Stamp) (keep : Bool) → SentOf part n.sent block (RecallSent c block stamp keep)
-      → taking.MayTake logs members part most c life room top n l (input.Recalled block stamp keep)
+      → taking.MayTake logs members part limit c life room highest n l (input.Recalled block stamp keep)
   recall_may n l block stamp keep sent = record { happens = λ end serves. by_slot end serves (is_in_slot part block) refl; allowed = sent }
     where
       by_slot : (end : ℕ) → IsServing logs members n c end → (t : Bool) → is_in_slot part block ≡ t
@@ -55,20 +55,20 @@ module _ (logs : Bool) (members part most c life room top : ℕ) (pos : 0 < c) (
   unfolding keeps_clean
   keeps_clean_so n s row h =
       by_test (λ (t : Serving). Goes n (still t)) (not (is_dirty (held_at s row.0)) && is_held (held_at s row.0).mode) (notes_clean s row.0) s
-      (λ t. tokens.notes_clean_so logs members part most c life room top pos less n s row.0 h)
-      (λ t. frames.goes_still logs members part most c life room top n s h)
+      (λ t. tokens.notes_clean_so logs members part limit c life room highest pos less n s row.0 h)
+      (λ t. frames.goes_still logs members part limit c life room highest n s h)
 
   gives_up_so : (n : Net) (s : Serving) (block : BlockId) (g : Option Giving) → frames.Sent part c n.sent block g → At n s
       → Goes n (gives_up s block g)
-  gives_up_so n s block None sent h = frames.goes_still logs members part most c life room top n s h
-  gives_up_so n s block (Some g) sent h = tokens.takes_back_so logs members part most c life room top pos less n s block g.stamp g.keep
+  gives_up_so n s block None sent h = frames.goes_still logs members part limit c life room highest n s h
+  gives_up_so n s block (Some g) sent h = tokens.takes_back_so logs members part limit c life room highest pos less n s block g.stamp g.keep
       (recall_may n s.log block g.stamp g.keep sent) h
 
   gives_if_clean_so : (n : Net) (s : Serving) (block : BlockId) → At n s → Goes n (gives_if_clean s block)
   unfolding gives_if_clean
   gives_if_clean_so n s block h =
       by_test (λ (d : Done). Goes n d) (is_dirty (held_at s block)) (still s) (gives_up s block (held_at s block).giving)
-      (λ t. frames.goes_still logs members part most c life room top n s h) (λ t. gives_up_so n s block (held_at s block).giving (h.bears.giving block) h)
+      (λ t. frames.goes_still logs members part limit c life room highest n s h) (λ t. gives_up_so n s block (held_at s block).giving (h.bears.giving block) h)
 
   -- once the versions of a segment are settled
   pub settles_from : (n : Net) (s : Serving) (end : End) (rows : List (BlockId × Entry)) → At n (fold notes_settled s rows) → Goes n (settles s end rows)
@@ -79,8 +79,8 @@ module _ (logs : Bool) (members part most c life room top : ℕ) (pos : 0 < c) (
       let fed : Serving = feeds kept end rows in
       let given : Done = steps gives_if_clean fed (dirty_in s.tokens.blocks) in
       let said : List Effect = Does (Filed (name_of (log_of s.lasting) end)) ∷ pushes_all fed.managers fed.feed in
-      frames.goes_on logs members part most c life room top n (still kept) (after said given)
-      (frames.goes_fold logs members part most c life room top keeps_clean keeps_clean_so n noted rows h)
-      (λ m k. frames.goes_after logs members part most c life room top m fed said given
+      frames.goes_on logs members part limit c life room highest n (still kept) (saying said given)
+      (frames.goes_fold logs members part limit c life room highest keeps_clean keeps_clean_so n noted rows h)
+      (λ m k. frames.goes_after logs members part limit c life room highest m fed said given
       (All-cons (frames.May part c life) _ _ tt (tokens.plain_pushes_all part c life fed.managers fed.feed)) k
-      (λ o i. frames.goes_steps logs members part most c life room top gives_if_clean gives_if_clean_so o fed (dirty_in s.tokens.blocks) i))
+      (λ o i. frames.goes_steps logs members part limit c life room highest gives_if_clean gives_if_clean_so o fed (dirty_in s.tokens.blocks) i))

@@ -28,7 +28,7 @@ use Rattle.xfs_base.specs.declared.block.BlockId.{BlockId}
 use Rattle.xfs_base.specs.declared.node.NodeId.{NodeId}
 use Rattle.xfs_base.specs.declared.node.NodeId.TheVariants.{Client, Manager, Server, Cleaner, Registry}
 use Rattle.xfs_base.specs.Limits.{u32_end}
-use Rattle.xfs_base.specs.Steps.{still, after, steps}
+use Rattle.xfs_base.specs.Steps.{still, saying, steps}
 use Rattle.node_ties.specs.node_tie.ClientLogs.{AreVersions, NothingBeyond, IsUnsettled}
 use Rattle.node_ties.specs.node_tie.LogRows.{LogSeen, rows_flown, rows_waiting}
 use Rattle.node_ties.specs.node_tie.Sight.{SameLog, IsNoFall, ClientDoes, ClientSends, SupplySeen}
@@ -168,9 +168,9 @@ module _ (logs : Bool) (members part c : ℕ) where
 -- ---- a client that serves
 
 -- so many numbers are left behind this one up to the top, which isn't the last
-pub record HasNumbers (end room top : ℕ) : Type 0 where
-  pub below : end + room ≤ top
-  pub next : top < u32_end
+pub record HasNumbers (end room highest : ℕ) : Type 0 where
+  pub below : end + room ≤ highest
+  pub next : highest < u32_end
 
 -- how its log stands in the books, by itself
 pub record LogStands (k : Books) (c : ℕ) (l : LogState) : Type 0 where
@@ -187,18 +187,18 @@ abbrev pub Sent : ℕ → ℕ → List Packet → BlockId → Option Giving → 
 Sent part c sent block None = Unit {0}
 Sent part c sent block (Some g) = is_in_slot part block ≡ true → In (RecallSent c block g.stamp g.keep) sent
 
-pub record Promised (part most : ℕ) (epochs : List ℕ) : Type 0 where
+pub record Promised (part limit : ℕ) (epochs : List ℕ) : Type 0 where
   pub eight : length epochs ≡ 8
-  pub within : epoch_of epochs part ≤ most
+  pub within : epoch_of epochs part ≤ limit
 
 -- a block that is held has a value; and of it just what is dirty waits, or is in flight
 abbrev pub Known : Bool → LogState → BlockId → Held → Type 0
 Known logs l b h = IsValued h × Premise logs (IsUnsettled h (row_in (rows_waiting l) b) (row_in (rows_flown l.flight) b))
 
-module _ (logs : Bool) (members part most c life room top : ℕ) where
+module _ (logs : Bool) (members part limit c life room highest : ℕ) where
   -- what the tokens bear, beside this log
   abbrev pub Bear : List Packet → LogState → TokensState → Type 0
-  Bear sent l t = Bears (Sent part c sent) (Promised part most) (Known logs l) life t
+  Bear sent l t = Bears (Sent part c sent) (Promised part limit) (Known logs l) life t
 
   -- the client of these tokens, this log, this number and this incarnation stands in the net; so many segments may still be settled, up to this number
   pub record Stands (n : Net) (t : TokensState) (l : LogState) (number inc : ℕ) : Type 0 where
@@ -209,7 +209,7 @@ module _ (logs : Bool) (members part most c life room top : ℕ) where
     pub sound : IsSound t
     pub bears : Bear n.sent l t
     pub logged : Premise logs (LogStands n.books c l)
-    pub numbers : Premise logs (HasNumbers l.end.seq room top)
+    pub numbers : Premise logs (HasNumbers l.end.seq room highest)
 
   abbrev pub At : Net → Serving → Type 0
   At n s = Stands n s.tokens s.log s.lasting.number s.lasting.inc
@@ -266,7 +266,7 @@ module _ (logs : Bool) (members part most c life room top : ℕ) where
   }
 
   -- one thing follows another, in a world of more packets
-  pub goes_on_in : (n : Net) (d e : Done) → Goes n d → ((m : Net) → Within n.sent m.sent → At m d.state → Goes m e) → Goes n (after d.outs e)
+  pub goes_on_in : (n : Net) (d e : Done) → Goes n d → ((m : Net) → Within n.sent m.sent → At m d.state → Goes m e) → Goes n (saying d.outs e)
   goes_on_in n d e p f =
       let q : Goes p.next e = f p.next p.grown.grows p.stands in
       record {
@@ -279,7 +279,7 @@ module _ (logs : Bool) (members part most c life room top : ℕ) where
       }
 
   -- one thing follows another
-  pub goes_on : (n : Net) (d e : Done) → Goes n d → ((m : Net) → At m d.state → Goes m e) → Goes n (after d.outs e)
+  pub goes_on : (n : Net) (d e : Done) → Goes n d → ((m : Net) → At m d.state → Goes m e) → Goes n (saying d.outs e)
   goes_on n d e p f = goes_on_in n d e p (λ m w h. f m h)
 
   -- what goes on from a net that grew
@@ -288,7 +288,7 @@ module _ (logs : Bool) (members part most c life room top : ℕ) where
       record { next = p.next; grown = grown_on logs members part c n m p.next [] (acts_of (Client c) d.outs) grown p.grown; stands = p.stands; does = p.does }
 
   -- what goes on from a net that grew by an act of its
-  pub goes_acting : (n m : Net) (a : Act) (d : Done) → IsNoFall a → Grown logs members part c n m (a ∷ []) → Goes m d → Goes n (after (Does a ∷ []) d)
+  pub goes_acting : (n m : Net) (a : Act) (d : Done) → IsNoFall a → Grown logs members part c n m (a ∷ []) → Goes m d → Goes n (saying (Does a ∷ []) d)
   goes_acting n m a d no_fall grown p = record {
     next = p.next;
     grown = grown_on logs members part c n m p.next (a ∷ []) (acts_of (Client c) d.outs) grown p.grown;
@@ -303,11 +303,11 @@ module _ (logs : Bool) (members part most c life room top : ℕ) where
 
   pub goes_after_in : (n : Net) (s : Serving) (outs : List Effect) (d : Done) → Plain part c life outs → At n s
       → ((m : Net) → Within n.sent m.sent → At m s → Goes m d)
-      → Goes n (after outs d)
+      → Goes n (saying outs d)
   goes_after_in n s outs d plain h f = goes_on_in n (gives s outs) d (goes_plain n s outs h plain) f
 
   pub goes_after : (n : Net) (s : Serving) (outs : List Effect) (d : Done) → Plain part c life outs → At n s → ((m : Net) → At m s → Goes m d)
-      → Goes n (after outs d)
+      → Goes n (saying outs d)
   goes_after n s outs d plain h f = goes_after_in n s outs d plain h (λ m w k. f m k)
 
   -- a list of steps
@@ -323,10 +323,10 @@ module _ (logs : Bool) (members part most c life room top : ℕ) where
   goes_fold f one n s (x ∷ xs) h = goes_on n (still (f s x)) (still (fold f (f s x) xs)) (one n s x h) (λ m k. goes_fold f one m (f s x) xs k)
 
 -- so many segments may be settled, where the numbers allow it
-pub stands_upto : (logs : Bool) (members part most c life room rest top : ℕ) (n : Net) (t : TokensState) (l : LogState) (number inc : ℕ)
-    → Premise logs (HasNumbers l.end.seq rest top) → Stands logs members part most c life room top n t l number inc
-    → Stands logs members part most c life rest top n t l number inc
-stands_upto logs members part most c life room rest top n t l number inc numbers h = record {
+pub stands_upto : (logs : Bool) (members part limit c life room rest highest : ℕ) (n : Net) (t : TokensState) (l : LogState) (number inc : ℕ)
+    → Premise logs (HasNumbers l.end.seq rest highest) → Stands logs members part limit c life room highest n t l number inc
+    → Stands logs members part limit c life rest highest n t l number inc
+stands_upto logs members part limit c life room rest highest n t l number inc numbers h = record {
   up = h.up;
   tokens = h.tokens;
   number_is = h.number_is;
@@ -338,11 +338,11 @@ stands_upto logs members part most c life room rest top n t l number inc numbers
 }
 
 -- fewer may be
-pub stands_less : (logs : Bool) (members part most c life room top : ℕ) (n : Net) (t : TokensState) (l : LogState) (number inc : ℕ)
-    → Stands logs members part most c life (room + 1) top n t l number inc → Stands logs members part most c life room top n t l number inc
-stands_less logs members part most c life room top n t l number inc h =
-    stands_upto logs members part most c life (room + 1) room top n t l number inc
-    (premise_by logs (λ (k : HasNumbers l.end.seq (room + 1) top). record { below = less l.end.seq k.below; next = k.next }) h.numbers) h
+pub stands_less : (logs : Bool) (members part limit c life room highest : ℕ) (n : Net) (t : TokensState) (l : LogState) (number inc : ℕ)
+    → Stands logs members part limit c life (room + 1) highest n t l number inc → Stands logs members part limit c life room highest n t l number inc
+stands_less logs members part limit c life room highest n t l number inc h =
+    stands_upto logs members part limit c life (room + 1) room highest n t l number inc
+    (premise_by logs (λ (k : HasNumbers l.end.seq (room + 1) highest). record { below = less l.end.seq k.below; next = k.next }) h.numbers) h
   where
-    less : (end : ℕ) → end + (room + 1) ≤ top → end + room ≤ top
+    less : (end : ℕ) → end + (room + 1) ≤ highest → end + room ≤ highest
     less end h = omega (arith, h)

@@ -75,22 +75,22 @@ said_again s block stamp keep same =
     not_later : (a b : Stamp) → is_stamp a b ≡ true → is_later b a ≡ false
     not_later a b h = grind (arith, nat_tests)
 
-module _ (logs : Bool) (members part most c life room top : ℕ) (pos : 0 < c) (less : c < members) where
+module _ (logs : Bool) (members part limit c life room highest : ℕ) (pos : 0 < c) (less : c < members) where
   abbrev At : Net → Serving → Type 0
-  At n s = frames.At logs members part most c life room top n s
+  At n s = frames.At logs members part limit c life room highest n s
 
   abbrev Goes : Net → Done → Type 0
-  Goes n d = frames.Goes logs members part most c life room top n d
+  Goes n d = frames.Goes logs members part limit c life room highest n d
 
   still_so : (n : Net) (s : Serving) → At n s → Goes n (still s)
-  still_so n s h = frames.goes_still logs members part most c life room top n s h
+  still_so n s h = frames.goes_still logs members part limit c life room highest n s h
 
   -- ---- tokens
 
   pub on_supply_so : (n : Net) (s : Serving) (p : Supply) → At n s → SentOf part n.sent p.block (SupplySent c p.block p.stamp p.inc p.req p.ver p.value)
       → Goes n (on_supply s p)
   unfolding on_supply
-  on_supply_so n s p h sent = tokens.hands_so logs members part most c life room top pos less n s (input.Supplied p.block p.stamp p.inc p.req p.ver p.value)
+  on_supply_so n s p h sent = tokens.hands_so logs members part limit c life room highest pos less n s (input.Supplied p.block p.stamp p.inc p.req p.ver p.value)
       (record { happens = λ end serves. by_slot end serves (is_in_slot part p.block) refl; allowed = tt }) h
     where
       by_slot : (end : ℕ) → IsServing logs members n c end → (t : Bool) → is_in_slot part p.block ≡ t
@@ -102,7 +102,7 @@ module _ (logs : Bool) (members part most c life room top : ℕ) (pos : 0 < c) (
   supplied_so : (n : Net) (s : Serving) (f : Forward) (value : Option (Option (List ℕ))) → At n s
       → SentOf part n.sent f.block (ForwardSent c f.to f.block f.stamp f.inc f.req f.ver) → client.serves s.tokens f.block f.stamp f.ver ≡ true
       → (held_of s.tokens.blocks f.block).value ≡ value → Goes n (supplied_by s f (record { state = s.tokens; outs = client.supplies f.block f.ver value }))
-  supplied_so n s f None h sent serves is = frames.goes_still logs members part most c life room top n s h
+  supplied_so n s f None h sent serves is = frames.goes_still logs members part limit c life room highest n s h
   supplied_so n s f (Some value) h sent serves is = by_slot (is_in_slot part f.block) refl
     where
       by_slot : (t : Bool) → is_in_slot part f.block ≡ t
@@ -122,7 +122,7 @@ module _ (logs : Bool) (members part most c life room top : ℕ) (pos : 0 < c) (
               acts = (frames.grown_still logs members part c n).acts;
               own = (frames.grown_still logs members part c n).own;
             };
-            stands = taking.stands_more logs members part most c life room top n next.sent s.tokens s.log s.lasting.number s.lasting.inc (λ x k. inr k) h;
+            stands = taking.stands_more logs members part limit c life room highest n next.sent s.tokens s.log s.lasting.number s.lasting.inc (λ x k. inr k) h;
             does = All-cons (ClientDoes part next.sent c life) _ [] (λ inside. inl refl) (All-nil (ClientDoes part next.sent c life));
           }
       by_slot false is_in = record {
@@ -139,36 +139,36 @@ module _ (logs : Bool) (members part most c life room top : ℕ) (pos : 0 < c) (
       by_test (λ (d : client.Done). Goes n (supplied_by s f d)) (client.serves s.tokens f.block f.stamp f.ver)
       (record { state = s.tokens; outs = client.supplies f.block f.ver (held_of s.tokens.blocks f.block).value }) (still s.tokens)
       (λ t. supplied_so n s f (held_of s.tokens.blocks f.block).value h sent t refl)
-      (λ t. frames.goes_still logs members part most c life room top n s h)
+      (λ t. frames.goes_still logs members part limit c life room highest n s h)
 
   again_so : (n : Net) (s : Serving) (r : Recall) (outs : List outputs.Out) → SaysAgain r.block r.stamp outs
       → frames.Within (client_packets c life s.log.end.seq outs) n.sent → At n s → Goes n (gives s (again s r outs))
-  again_so n s r _ Silent seen h = frames.goes_still logs members part most c life room top n s h
+  again_so n s r _ Silent seen h = frames.goes_still logs members part limit c life room highest n s h
   again_so n s r _ Again seen h =
-      frames.goes_said logs members part most c life room top n s (gave s r.block r.stamp) refl h
+      frames.goes_said logs members part limit c life room highest n s (gave s r.block r.stamp) refl h
       (λ inside. seen (GaveSent c r.block r.stamp s.log.end.seq) (inl refl))
 
   pub on_recall_so : (n : Net) (s : Serving) (r : Recall) → At n s → SentOf part n.sent r.block (RecallSent c r.block r.stamp r.keep) → Goes n (on_recall s r)
   unfolding on_recall
   on_recall_so n s r h sent =
-      let may : taking.MayTake logs members part most c life room top n s.log (input.Recalled r.block r.stamp r.keep) =
-      flights.recall_may logs members part most c life room top pos less n s.log r.block r.stamp r.keep sent in
+      let may : taking.MayTake logs members part limit c life room highest n s.log (input.Recalled r.block r.stamp r.keep) =
+      flights.recall_may logs members part limit c life room highest pos less n s.log r.block r.stamp r.keep sent in
       let d : client.Done = client.on_recalled s.tokens r.block r.stamp r.keep in
       let t : Serving = record s { tokens = d.state } in
       by_test (λ (x : Done). Goes n x) (is_stamp (held_at s r.block).stamp r.stamp) (says_again s r d) (takes_back s r.block r.stamp r.keep)
       (λ is.
-      let k : taking.Taken logs members part most c life room top n s.log s.log.end.seq s.lasting.number s.lasting.inc d [] =
-      taking.takes logs members part most c life room top n s.tokens s.log s.lasting.number s.lasting.inc
+      let k : taking.Taken logs members part limit c life room highest n s.log s.log.end.seq s.lasting.number s.lasting.inc d [] =
+      taking.takes logs members part limit c life room highest n s.tokens s.log s.lasting.number s.lasting.inc
       (input.Recalled r.block r.stamp r.keep) pos less h may in
-      frames.goes_from logs members part most c life room top n k.next (says_again s r d) k.grown
+      frames.goes_from logs members part limit c life room highest n k.next (says_again s r d) k.grown
       (again_so k.next t r d.outs (said_again s.tokens r.block r.stamp r.keep is) k.seen k.stands))
-      (λ is. tokens.takes_back_so logs members part most c life room top pos less n s r.block r.stamp r.keep may h)
+      (λ is. tokens.takes_back_so logs members part limit c life room highest pos less n s r.block r.stamp r.keep may h)
 
   pub on_gone_so : (n : Net) (s : Serving) (g : Gone) → At n s → Goes n (on_gone s g)
   unfolding on_gone
   on_gone_so n s g h =
       by_test (λ (d : Done). Goes n d) (is_gone s g) (loses s g.block g.seg) (still s)
-      (λ t. (tokens.loses_so logs members part most c life room top pos less n s s.log.end.seq g.block g.seg refl h).goes) (λ t. still_so n s h)
+      (λ t. (tokens.loses_so logs members part limit c life room highest pos less n s s.log.end.seq g.block g.seg refl h).goes) (λ t. still_so n s h)
 
   pub on_ack_so : (n : Net) (s : Serving) (a : DeltaAck) → At n s → Goes n (still (on_ack s a))
   unfolding on_ack
@@ -179,21 +179,21 @@ module _ (logs : Bool) (members part most c life room top : ℕ) (pos : 0 < c) (
   -- ---- fragments
 
   pub on_stored_so : (n : Net) (s : Serving) (m : Stored) → At n s
-      → ((f : FlightState) → s.log.flight ≡ Some f → frames.At logs members part most c life (room + 1) top n s) → Goes n (on_stored s m)
-  on_stored_so n s m h more = writing.acks_so logs members part most c life room top pos less n s h more m.name m.index m.generation
+      → ((f : FlightState) → s.log.flight ≡ Some f → frames.At logs members part limit c life (room + 1) highest n s) → Goes n (on_stored s m)
+  on_stored_so n s m h more = writing.acks_so logs members part limit c life room highest pos less n s h more m.name m.index m.generation
 
   -- what is read ends the fetch, where the world brings what the segment there says
   read_so : (n : Net) (s : Serving) (block : BlockId) (value : Option (List ℕ)) → Premise logs (ReadsThere n.books s.tokens block value) → At n s
       → Goes n (hands s (input.Fetched block value))
   read_so n s block value brings h =
-      tokens.hands_so logs members part most c life room top pos less n s (input.Fetched block value) (record {
+      tokens.hands_so logs members part limit c life room highest pos less n s (input.Fetched block value) (record {
         happens = λ end serves. Fetches c end block value serves (premise_by logs
             (λ (r : ReadsThere n.books s.tokens block value). subst (λ (t : TokensState). ReadsThere n.books t block value) (sym h.tokens) r) brings);
         allowed = tt;
       }) h
 
   ends_fetch_so : (n : Net) (s : Serving) (at : BlockAt) (x : Next) → Premise logs (BringsRead n.books s (Some at) x) → At n s → Goes n (ends_fetch s at x)
-  ends_fetch_so n s at next.Again brings h = tokens.hands_own logs members part most c life room top pos less n s (input.Reask at.block) tt (λ u. refl) tt h
+  ends_fetch_so n s at next.Again brings h = tokens.hands_own logs members part limit c life room highest pos less n s (input.Reask at.block) tt (λ u. refl) tt h
   ends_fetch_so n s at (next.Read segment) brings h = read_so n s at.block (value_at segment at.item) brings h
   ends_fetch_so n s at next.Wait brings h = still_so n s h
   ends_fetch_so n s at next.Ask brings h = still_so n s h
@@ -235,7 +235,7 @@ module _ (logs : Bool) (members part most c life room top : ℕ) (pos : 0 < c) (
   pub asks_for_maps_so : (n : Net) (s : Serving) → At n s → Goes n (asks_for_maps s)
   unfolding asks_for_maps
   asks_for_maps_so n s h =
-      frames.goes_plain logs members part most c life room top n (record s { lasting = record s.lasting { questions = drawn s.lasting.questions } })
+      frames.goes_plain logs members part limit c life room highest n (record s { lasting = record s.lasting { questions = drawn s.lasting.questions } })
       (hello s.lasting.inc (next_ask s.lasting.questions) ∷ []) h
       (All-cons (frames.May part c life) (hello s.lasting.inc (next_ask s.lasting.questions)) [] (let e : s.lasting.inc ≡ life = h.inc_is in omega arith)
       (All-nil (frames.May part c life)))

@@ -47,7 +47,7 @@ use Rattle.wire_msg.specs.declared.packet.Packet as wire
 use Rattle.xfs_base.proofs.Booleans.{and_first, and_second, contrary}
 use Rattle.xfs_base.specs.declared.news.SlotNews.{SlotNews}
 use Rattle.xfs_base.specs.declared.node.NodeId.TheVariants.{Client}
-use Rattle.xfs_base.specs.Steps.{after}
+use Rattle.xfs_base.specs.Steps.{saying}
 use Rattle.node_ties.specs.node_tie.ClientEvents.{AwaitsFirst, Raises, SeesOpening, ClientStands, GetsBody, ClientGets, EndsInTime, ClientGoes}
 use Rattle.node_ties.specs.node_tie.CleanerEvents.{Bounded}
 use Rattle.node_ties.specs.node_tie.ClientLogs.{EndsSo, LogAgrees, NothingBeyond, ReopensSo}
@@ -82,31 +82,31 @@ premise_three : (logs : Bool) {P Q R S : Type 0} → (P → Q → R → S) → P
 premise_three true f p q r = f p q r
 premise_three false f p q r = tt
 
-module _ (logs : Bool) (members part most c : ℕ) (small : part < 8) (pos : 0 < c) (less : c < members) (n : Net) where
+module _ (logs : Bool) (members part limit c : ℕ) (small : part < 8) (pos : 0 < c) (less : c < members) (n : Net) where
   abbrev Goes : Phase → Went_to → Type 0
-  Goes p w = ClientGoes logs members part most c n p w.state w.outs
+  Goes p w = ClientGoes logs members part limit c n p w.state w.outs
 
   -- ---- one that opens its log
 
-  module _ (l : Lasting) (o : openings.Opening) (sees : SeesOpening logs part c n l o) (h : ClientStands part most c n (Opening l o)) where
+  module _ (l : Lasting) (o : openings.Opening) (sees : SeesOpening logs part c n l o) (h : ClientStands part limit c n (Opening l o)) where
     abbrev Kept : Promised → Type 0
-    Kept p = Bounded part (epoch_of (n.tokens c).epochs part) most p
+    Kept p = Bounded part (epoch_of (n.tokens c).epochs part) limit p
 
     crashed_plain : (life : ℕ) (unanswered : Option ℕ) (number : ℕ)
         → frames.Plain part c life (answers_unanswered unanswered answer.Cut ++ Answers number answer.Done ∷ [])
     crashed_plain life unanswered number = All-append (frames.May part c life) (answers_unanswered unanswered answer.Cut) (Answers number answer.Done ∷ [])
-        (tokens.plain_answers part c life unanswered answer.Cut) (answered_one logs members part most c small pos less n life number answer.Done)
+        (tokens.plain_answers part c life unanswered answer.Cut) (answered_one logs members part limit c small pos less n life number answer.Done)
 
     opening_answers : (number : ℕ) (a : Answer) → Goes (Opening l o) (answers (Opening (record l { items = begun l.items }) o) number a)
     opening_answers number a =
-        stays_so logs members part most c small pos less n (Opening l o) (Opening (record l { items = begun l.items }) o) (Answers number a ∷ [])
+        stays_so logs members part limit c small pos less n (Opening l o) (Opening (record l { items = begun l.items }) o) (Answers number a ∷ [])
         (record { up = sees.up; number = sees.number; inc = sees.inc; owner = sees.owner; promised = sees.promised; beyond = sees.beyond }) h.within h.promises
         (omega arith) tt tt (premise logs refl)
-        (answered_one logs members part most c small pos less n l.inc number a)
+        (answered_one logs members part limit c small pos less n l.inc number a)
 
     pub opening_begins_so : (number : ℕ) (w : Option Work) → Goes (Opening l o) (opening_begins (record l { items = begun l.items }) o number (wish_of w))
     opening_begins_so number (Some (work.Crash node)) =
-        stays_so logs members part most c small pos less n (Opening l o) (crashed (record l { items = begun l.items }) number).state
+        stays_so logs members part limit c small pos less n (Opening l o) (crashed (record l { items = begun l.items }) number).state
         (crashed (record l { items = begun l.items }) number).outs
         (record { up = sees.up; number = sees.number; inc = (let k : (n.tokens c).inc < l.inc = sees.inc in omega arith); beyond = sees.beyond }) h.within tt
         (omega arith) tt tt (premise logs refl)
@@ -119,7 +119,7 @@ module _ (logs : Bool) (members part most c : ℕ) (small : part < 8) (pos : 0 <
     opens_so : promising.Opens Kept o
     opens_so = both sees.promised h.promises
       where
-        both : AwaitsFirst o.stage ⊎ Raises logs part c n o → AwaitsFirst o.stage ⊎ (epoch_of o.known.promised.epochs part ≤ most) → promising.Opens Kept o
+        both : AwaitsFirst o.stage ⊎ Raises logs part c n o → AwaitsFirst o.stage ⊎ (epoch_of o.known.promised.epochs part ≤ limit) → promising.Opens Kept o
         both (inl is) within = inl (awaits_there o.stage is)
         both (inr raises) (inl is) = inl (awaits_there o.stage is)
         both (inr raises) (inr within) = inr (record { eight = raises.epochs; rises = raises.rises; within = within })
@@ -181,7 +181,7 @@ module _ (logs : Bool) (members part most c : ℕ) (small : part < 8) (pos : 0 <
       ends_so : Premise logs (r.log.end.seq ≡ (books (count_of logs n.books n.acts c r ended)).end c)
       ends_so = end_of logs n.books n.acts c r ended (adopts before.acts c r.chain) adopted_same
 
-      back_so : Goes (Opening l o) (after effects (back (record l { questions = q }) capacity r))
+      back_so : Goes (Opening l o) (saying effects (back (record l { questions = q }) capacity r))
       back_so =
           let k : ℕ = count_of logs n.books n.acts c r ended in
           let said : List Effect = Does (Back l.number r.chain) ∷ rest in
@@ -211,7 +211,7 @@ module _ (logs : Bool) (members part most c : ℕ) (small : part < 8) (pos : 0 <
             does = all_did part c n n.sent l.inc now (effects ++ said)
                 (All-append (ClientDoes part n.sent c l.inc) effects said (frames.plain_does part c l.inc n.sent effects plain)
                 (All-cons (ClientDoes part n.sent c l.inc) _ _ tt (frames.plain_does part c l.inc n.sent rest plain_rest)));
-            within = subst (λ (t : TokensState). epoch_of t.epochs part ≤ most) (sym (put_here n.tokens c fresh)) kept.within;
+            within = subst (λ (t : TokensState). epoch_of t.epochs part ≤ limit) (sym (put_here n.tokens c fresh)) kept.within;
             promises = tt;
             later = omega arith;
             begins = tt;
@@ -249,9 +249,9 @@ module _ (logs : Bool) (members part most c : ℕ) (small : part < 8) (pos : 0 <
         plain = plain_does part c l.inc o.known.owner sees.owner w.effects b.does
 
         by_progress : (p : Progress) → IsOf o.known.owner p → promising.Holds Kept p → Premise logs (EndsSo n.books n.acts c p)
-            → Goes (Opening l o) (after w.effects (after_opening (record l { questions = w.questions }) capacity p))
+            → Goes (Opening l o) (saying w.effects (after_opening (record l { questions = w.questions }) capacity p))
         by_progress (progress.Opening q) its kept ended =
-            stays_so logs members part most c small pos less n (Opening l o) (Opening (record l { questions = w.questions }) q) (w.effects ++ [])
+            stays_so logs members part limit c small pos less n (Opening l o) (Opening (record l { questions = w.questions }) q) (w.effects ++ [])
             (record {
               up = sees.up;
               number = sees.number;
@@ -267,43 +267,43 @@ module _ (logs : Bool) (members part most c : ℕ) (small : part < 8) (pos : 0 <
             raises q (inl is) = inl (awaits_here q.stage is)
             raises q (inr k) = inr (record { epochs = k.eight; rises = k.rises })
 
-            within : (q : openings.Opening) → promising.Opens Kept q → AwaitsFirst q.stage ⊎ (epoch_of q.known.promised.epochs part ≤ most)
+            within : (q : openings.Opening) → promising.Opens Kept q → AwaitsFirst q.stage ⊎ (epoch_of q.known.promised.epochs part ≤ limit)
             within q (inl is) = inl (awaits_here q.stage is)
             within q (inr k) = inr k.within
         by_progress (progress.Opened r) its kept ended = back_so w.questions capacity w.effects r plain kept ended
         by_progress (progress.Lost seg) its kept ended =
-            stays_so logs members part most c small pos less n (Opening l o) (Down (record l { questions = w.questions; items = answered l.items }))
+            stays_so logs members part limit c small pos less n (Opening l o) (Down (record l { questions = w.questions; items = answered l.items }))
             (w.effects ++ answers_unanswered l.items.unanswered (answer.Lost seg))
             (record { up = sees.up; number = sees.number; inc = (let k : (n.tokens c).inc < l.inc = sees.inc in omega arith); beyond = sees.beyond })
             h.within tt (omega arith) tt tt (premise logs refl)
             (All-append (frames.May part c l.inc) w.effects _ plain (tokens.plain_answers part c l.inc l.items.unanswered (answer.Lost seg)))
 
     -- a Welcome promises within the bounds
-    brings_so : (b : Body) → GetsBody part most c n (Opening l o) b → has_logs b ≡ true → promising.Brings Kept o b
+    brings_so : (b : Body) → GetsBody part limit c n (Opening l o) b → has_logs b ≡ true → promising.Brings Kept o b
     brings_so (body.Welcome w) gets known = λ meant.
         let formed : (are_from 0 w.news.slots && list_all is_slot_news w.news.slots) ≡ true = and_second (length w.news.slots == 8)
         (are_from 0 w.news.slots && list_all is_slot_news w.news.slots) known in
         let incs : w.inc ≡ l.inc = same w.inc o.known.owner.inc (and_first (w.inc == o.known.owner.inc) (fits o.known.maps w.news) meant) ∙ sees.owner in
-        welcome_promises part (epoch_of (n.tokens c).epochs part) most small w.news.slots
+        welcome_promises part (epoch_of (n.tokens c).epochs part) limit small w.news.slots
         (same (length w.news.slots) 8 (and_first (length w.news.slots == 8) (are_from 0 w.news.slots && list_all is_slot_news w.news.slots) known))
         (and_first (are_from 0 w.news.slots) (list_all is_slot_news w.news.slots) formed)
         (each w.news.slots (recursion_from_All (λ (x : SlotNews). x.slot ≡ part → epoch_of (n.tokens c).epochs part ≤ x.epoch) w.news.slots (gets.1 incs))
-        (recursion_from_All (λ (x : SlotNews). x.slot ≡ part → x.epoch ≤ most) w.news.slots gets.0))
+        (recursion_from_All (λ (x : SlotNews). x.slot ≡ part → x.epoch ≤ limit) w.news.slots gets.0))
       where
         each : (slots : List SlotNews) → AllByRecursion (λ (x : SlotNews). x.slot ≡ part → epoch_of (n.tokens c).epochs part ≤ x.epoch) slots
-            → AllByRecursion (λ (x : SlotNews). x.slot ≡ part → x.epoch ≤ most) slots
-            → AllByRecursion (Says part (epoch_of (n.tokens c).epochs part) most small) slots
+            → AllByRecursion (λ (x : SlotNews). x.slot ≡ part → x.epoch ≤ limit) slots
+            → AllByRecursion (Says part (epoch_of (n.tokens c).epochs part) limit small) slots
         each [] rises within = tt
         each (x ∷ slots) rises within = (λ is. (rises.0 is, within.0 is), each slots rises.1 within.1)
     brings_so _ gets known = tt
 
-    pub opening_packet : (capacity : ℕ) (packet : wire.Packet) → ClientGets logs part most c n (Opening l o) packet → has_logs packet.body ≡ true
+    pub opening_packet : (capacity : ℕ) (packet : wire.Packet) → ClientGets logs part limit c n (Opening l o) packet → has_logs packet.body ≡ true
         → Goes (Opening l o) (opened_on l capacity (opening.on_packet o l.questions packet))
     opening_packet capacity packet gets known =
         went_so capacity (opening.on_packet o l.questions packet) (behaving.packet_so o l.questions packet)
         (promising.packet_so Kept o l.questions packet opens_so (brings_so packet.body gets.brings known)) gets.reads
 
-    pub opening_time : (capacity : ℕ) → Premise logs (EndsInTime part most c n (Opening l o))
+    pub opening_time : (capacity : ℕ) → Premise logs (EndsInTime part limit c n (Opening l o))
         → Goes (Opening l o) (opened_on l capacity (opening.on_tick o l.questions))
     opening_time capacity ended =
         went_so capacity (opening.on_tick o l.questions) (behaving.tick_so o l.questions) (promising.tick_so Kept o l.questions opens_so) ended

@@ -31,7 +31,7 @@ use Rattle.xfs_base.specs.declared.token.Mode.{Mode}
 use Rattle.xfs_base.specs.declared.token.Mode.TheVariants.{Nothing, Copy, Own}
 use Rattle.xfs_base.specs.declared.token.Stamp.{Stamp}
 use Rattle.xfs_base.specs.Modes.{is_own, same_mode}
-use Rattle.xfs_base.specs.Steps.{still, after, steps}
+use Rattle.xfs_base.specs.Steps.{still, saying, steps}
 use Rattle.node_ties.specs.node_tie.Asks.{needed, needed_by, AsksForCall}
 use Rattle.node_ties.specs.node_tie.Sight.{SentOf}
 use Rattle.node_ties.proofs.node_tie.ClientBlocks as blocks
@@ -40,21 +40,21 @@ use Rattle.node_ties.proofs.node_tie.ClientOwned as owning
 use Rattle.node_ties.proofs.node_tie.ClientOwned.{block_in, call_needs, mode_in, no_call_needs, owned_so, refused}
 use Rattle.node_ties.proofs.node_tie.ClientTokens as tokens
 
-module _ (logs : Bool) (members part most c life room top : ℕ) (pos : 0 < c) (less : c < members) where
+module _ (logs : Bool) (members part limit c life room highest : ℕ) (pos : 0 < c) (less : c < members) where
   abbrev At : Net → Serving → Type 0
-  At n s = frames.At logs members part most c life room top n s
+  At n s = frames.At logs members part limit c life room highest n s
 
   abbrev Goes : Net → Done → Type 0
-  Goes n d = frames.Goes logs members part most c life room top n d
+  Goes n d = frames.Goes logs members part limit c life room highest n d
 
   -- what is done, and then the open call runs
   abbrev pub and_runs : Done → Done
-  and_runs d = after d.outs (runs d.state)
+  and_runs d = saying d.outs (runs d.state)
 
   pub runs_after : (n : Net) (d : Done) → Goes n d → Goes n (and_runs d)
   runs_after n d p =
-      frames.goes_on logs members part most c life room top n d (runs d.state) p
-      (λ m k. blocks.runs_so logs members part most c life room top pos less m d.state k)
+      frames.goes_on logs members part limit c life room highest n d (runs d.state) p
+      (λ m k. blocks.runs_so logs members part limit c life room highest pos less m d.state k)
 
   -- ---- a grant to own is accepted
 
@@ -75,24 +75,24 @@ module _ (logs : Bool) (members part most c life room top : ℕ) (pos : 0 < c) (
     known = (owned_so s.tokens block stamp inc req entry taken).known
 
     may : may_write (held_of granted.state.blocks block) ≡ true
-    may = owning.may logs members part most c life room top pos less n s h asks block stamp inc req entry sent below taken
+    may = owning.may logs members part limit c life room highest pos less n s h asks block stamp inc req entry sent below taken
 
     -- it is written
     writes_it : (value : Option (List ℕ)) → Goes n (changes running block value).done
     writes_it value =
-        let k : owning.Written logs members part most c life room top pos less n s h asks block stamp inc req entry sent below taken value =
-        owning.written logs members part most c life room top pos less n s h asks block stamp inc req entry sent below taken value in
-        blocks.changes_after logs members part most c life room top pos less n running block value k.next k.grown h.number_is k.stands
+        let k : owning.Written logs members part limit c life room highest pos less n s h asks block stamp inc req entry sent below taken value =
+        owning.written logs members part limit c life room highest pos less n s h asks block stamp inc req entry sent below taken value in
+        blocks.changes_after logs members part limit c life room highest pos less n running block value k.next k.grown h.number_is k.stands
 
     -- it is let go
     lets_it_go : Goes n (changed running block).done
     lets_it_go =
-        let k : owning.Gone logs members part most c life room top pos less n s h asks block stamp inc req entry sent below taken =
-        owning.let_gone logs members part most c life room top pos less n s h asks block stamp inc req entry sent below taken in
+        let k : owning.Gone logs members part limit c life room highest pos less n s h asks block stamp inc req entry sent below taken =
+        owning.let_gone logs members part limit c life room highest pos less n s h asks block stamp inc req entry sent below taken in
         let gone : Serving = notes_gone (record running { tokens = (client.on_evict granted.state block).state }) block in
         by_test (λ (t : Serving). Goes n (still t)) (is_none (held_at running block).value) gone running
-        (λ is. frames.goes_from logs members part most c life room top n k.next (still gone) k.grown
-        (blocks.gone_from logs members part most c life room top pos less k.next running block k.stands))
+        (λ is. frames.goes_from logs members part limit c life room highest n k.next (still gone) k.grown
+        (blocks.gone_from logs members part limit c life room highest pos less k.next running block k.stands))
         (λ is. contrary (sym is ∙ ap (λ (g : Held). is_none g.value) known))
 
     writes_if_fits : (value : Option (List ℕ)) → Goes n (changes_if_fits running block value).done
@@ -133,7 +133,7 @@ module _ (logs : Bool) (members part most c life room top : ℕ) (pos : 0 < c) (
         let kept : Call = record call { reading = kept_while granted.state call.reading } in
         let now : owner.call ≡ Some kept = ap (λ (k : Option Call). call_with k (kept_while granted.state (reading_in k))) is in
         subst (λ (k : Option Call). Goes n (runs_call owner k).done) (sym now)
-        (blocks.ran_so logs members part most c life room top pos less n kept (makes running kept.step) (makes_it call.step e))
+        (blocks.ran_so logs members part limit c life room highest pos less n kept (makes running kept.step) (makes_it call.step e))
 
     -- it stays out of the cache
     uncached : notes_copy owner block ≡ owner
@@ -145,7 +145,7 @@ module _ (logs : Bool) (members part most c life room top : ℕ) (pos : 0 < c) (
     owns_so =
         subst (λ outs. Goes n (and_runs (steps follows_one owner outs))) (sym (owned_so s.tokens block stamp inc req entry taken).outs_are)
         (subst (λ t. Goes n (and_runs (still t))) (sym uncached)
-        (blocks.runs_from logs members part most c life room top pos less n owner (runs_it s.call refl (call_needs s asks block stamp inc req Own taken))))
+        (blocks.runs_from logs members part limit c life room highest pos less n owner (runs_it s.call refl (call_needs s asks block stamp inc req Own taken))))
 
   -- ---- any grant
 
@@ -157,14 +157,14 @@ module _ (logs : Bool) (members part most c life room top : ℕ) (pos : 0 < c) (
   refused_so n s h block stamp inc req mode entry is =
       subst (λ (d : client.Done). Goes n (follows (ends_reading (record s { tokens = d.state })) d.outs))
       (sym (refused s.tokens block stamp inc req mode entry is))
-      (tokens.follows_so logs members part most c life room top pos less n (ends_reading s) [] h tt)
+      (tokens.follows_so logs members part limit c life room highest pos less n (ends_reading s) [] h tt)
 
   -- one of a copy, of the slot or of another
   copy_so : (n : Net) (s : Serving) → At n s → (block : BlockId) (stamp : Stamp) (inc req : ℕ) (entry : Entry)
       → SentOf part n.sent block (GrantSent c block stamp inc req Copy entry) → Goes n (and_runs (hands s (input.Granted block stamp inc req Copy entry)))
   copy_so n s h block stamp inc req entry sent =
       runs_after n (hands s (input.Granted block stamp inc req Copy entry))
-      (tokens.hands_so logs members part most c life room top pos less n s (input.Granted block stamp inc req Copy entry)
+      (tokens.hands_so logs members part limit c life room highest pos less n s (input.Granted block stamp inc req Copy entry)
       (record { happens = λ end serves. by_slot end serves (is_in_slot part block) refl; allowed = λ own g q. contrary own }) h)
     where
       by_slot : (end : ℕ) → IsServing logs members n c end → (t : Bool) → is_in_slot part block ≡ t
@@ -201,5 +201,5 @@ module _ (logs : Bool) (members part most c life room top : ℕ) (pos : 0 < c) (
   on_grant_so n s g h asks sent =
       by_test (λ (d : Done). Goes n (and_runs d)) (is_own g.mode && not (has_long_room g.entry.ver)) (still s)
       (hands s (input.Granted g.block g.stamp g.inc g.req g.mode g.entry))
-      (λ t. runs_after n (still s) (frames.goes_still logs members part most c life room top n s h))
+      (λ t. runs_after n (still s) (frames.goes_still logs members part limit c life room highest n s h))
       (λ t. granted_so n s h asks g.block g.stamp g.inc g.req g.mode g.entry sent t)

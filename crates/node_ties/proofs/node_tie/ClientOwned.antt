@@ -141,9 +141,9 @@ refused s block stamp inc req mode entry is = ap
           entry.place ∷ [];
     }) (still s)) is
 
-module _ (logs : Bool) (members part most c life room top : ℕ) (pos : 0 < c) (less : c < members) where
+module _ (logs : Bool) (members part limit c life room highest : ℕ) (pos : 0 < c) (less : c < members) where
   abbrev At : Net → Serving → Type 0
-  At n s = frames.At logs members part most c life room top n s
+  At n s = frames.At logs members part limit c life room highest n s
 
   -- ---- a grant to own is accepted
 
@@ -161,13 +161,13 @@ module _ (logs : Bool) (members part most c life room top : ℕ) (pos : 0 < c) (
 
     -- it bears the same, but for what is known of the block, which has no value
     abbrev Borne : TokensState → Type 0
-    Borne t = Bears (frames.Sent part c n.sent) (frames.Promised part most) (λ b g. Unit {0}) life t
+    Borne t = Bears (frames.Sent part c n.sent) (frames.Promised part limit) (λ b g. Unit {0}) life t
 
-    borne : (t : TokensState) → IsSound t → (i : inputs.In) → Allowed (frames.Sent part c n.sent) (frames.Promised part most) (λ b g. Unit {0}) life i → Borne t
+    borne : (t : TokensState) → IsSound t → (i : inputs.In) → Allowed (frames.Sent part c n.sent) (frames.Promised part limit) (λ b g. Unit {0}) life i → Borne t
         → Borne (client.transition t i).state
     borne t sound i allowed k =
-        transition-bears (frames.Sent part c n.sent) (frames.Promised part most) (λ b g. Unit {0}) life no_fact
-        (taking.none_sent logs members part most c life room top n.sent) t sound i allowed k
+        transition-bears (frames.Sent part c n.sent) (frames.Promised part limit) (λ b g. Unit {0}) life no_fact
+        (taking.none_sent logs members part limit c life room highest n.sent) t sound i allowed k
 
     granted_bears : Borne granted.state
     granted_bears =
@@ -197,7 +197,7 @@ module _ (logs : Bool) (members part most c life room top : ℕ) (pos : 0 < c) (
         others_known (λ b g. IsUnsettled g (row_in (rows_waiting s.log) b) (row_in (rows_flown s.log.flight) b))
         (stays_clean (row_in (rows_waiting s.log) block) (row_in (rows_flown s.log.flight) block) (held_of s.tokens.blocks block)
         (owned (held_of s.tokens.blocks block) stamp entry.ver) (asked_clean s.tokens h.sound block stamp inc req Own taken) (itself_clean entry.ver) (p block))
-        (λ b other. p b)) (all_known logs members part most c life room top s.log s.tokens h.bears.held)
+        (λ b other. p b)) (all_known logs members part limit c life room highest s.log s.tokens h.bears.held)
 
     pub may : may_write (held_of granted.state.blocks block) ≡ true
     may = ap may_write known ∙ ap (λ t. t && nat_lt entry.ver (2 ^ 64 - 1)) (ungiven s asks block stamp inc req Own taken) ∙ below
@@ -214,12 +214,12 @@ module _ (logs : Bool) (members part most c life room top : ℕ) (pos : 0 < c) (
     waiting value = log.waits s.log block (change_of (wrote value) block value)
 
     abbrev pub Written : Option (List ℕ) → Type 0
-    Written value = putting.Written logs members part most c life room top pos less n granted.state s.log s.lasting.number s.lasting.inc block value
+    Written value = putting.Written logs members part limit c life room highest pos less n granted.state s.log s.lasting.number s.lasting.inc block value
 
     wrote_sound : (value : Option (List ℕ)) → IsSound (wrote value)
     wrote_sound value = (transition-follows (λ b. Unit {0}) granted.state granted_sound (input.Wrote block value) (λ b k. tt)).sound
 
-    wrote_bears : (value : Option (List ℕ)) → frames.Bear logs members part most c life room top n.sent (waiting value) (wrote value)
+    wrote_bears : (value : Option (List ℕ)) → frames.Bear logs members part limit c life room highest n.sent (waiting value) (wrote value)
     wrote_bears value =
         let k : Borne (wrote value) = borne granted.state granted_sound (input.Wrote block value) (λ g q. tt) granted_bears in
         record {
@@ -234,13 +234,13 @@ module _ (logs : Bool) (members part most c life room top : ℕ) (pos : 0 < c) (
         waits_stands logs block value n.books c s.log (change_of (wrote value) block value) (written_some granted.state block value may) h.logged
 
     serving : IsServing logs members n c s.log.end.seq
-    serving = taking.is_serving logs members part most c life room top n s.tokens s.log s.lasting.number s.lasting.inc pos less h
+    serving = taking.is_serving logs members part limit c life room highest n s.tokens s.log s.lasting.number s.lasting.inc pos less h
 
     written_inside : is_in_slot part block ≡ true → (value : Option (List ℕ)) → Written value
     written_inside inside value =
-        let k : taking.Taken logs members part most c life room top n (waiting value) s.log.end.seq s.lasting.number s.lasting.inc
+        let k : taking.Taken logs members part limit c life room highest n (waiting value) s.log.end.seq s.lasting.number s.lasting.inc
         (granted_and_wrote s.tokens stamp inc req block entry value) (Wrote c block value ∷ []) =
-        taking.acting logs members part most c life room top n (waiting value) s.log.end.seq s.lasting.number s.lasting.inc
+        taking.acting logs members part limit c life room highest n (waiting value) s.log.end.seq s.lasting.number s.lasting.inc
         (granted_and_wrote s.tokens stamp inc req block entry value) (Wrote c block value ∷ [])
         (n.acts ++ Wrote c block value ∷ []) h.up h.number_is h.inc_is h.numbers refl
         (subst (λ (t : TokensState). Happens logs members part n
@@ -277,12 +277,12 @@ module _ (logs : Bool) (members part most c life room top : ℕ) (pos : 0 < c) (
 
       written_outside : (value : Option (List ℕ)) → Written value
       written_outside value =
-          let k : taking.Taken logs members part most c life room top outside (waiting value) s.log.end.seq s.lasting.number s.lasting.inc
+          let k : taking.Taken logs members part limit c life room highest outside (waiting value) s.log.end.seq s.lasting.number s.lasting.inc
           (client.on_wrote granted.state block value) (Wrote c block value ∷ []) =
-          taking.acting logs members part most c life room top outside (waiting value) s.log.end.seq s.lasting.number s.lasting.inc
+          taking.acting logs members part limit c life room highest outside (waiting value) s.log.end.seq s.lasting.number s.lasting.inc
           (client.on_wrote granted.state block value)
           (Wrote c block value ∷ []) (n.acts ++ Wrote c block value ∷ []) h.up h.number_is h.inc_is h.numbers refl happens (wrote_sound value)
-          (taking.bears_more logs members part most c life room top n.sent outside.sent outside_grown.grows (waiting value) (wrote value) (wrote_bears value))
+          (taking.bears_more logs members part limit c life room highest n.sent outside.sent outside_grown.grows (waiting value) (wrote value) (wrote_bears value))
           (wrote_stands value) in
           record {
             next = k.next;
@@ -317,7 +317,7 @@ module _ (logs : Bool) (members part most c life room top : ℕ) (pos : 0 < c) (
     gone = (client.on_evict granted.state block).state
 
     abbrev pub Gone : Type 0
-    Gone = frames.Passes logs members part most c life room top n gone s.log s.lasting.number s.lasting.inc
+    Gone = frames.Passes logs members part limit c life room highest n gone s.log s.lasting.number s.lasting.inc
 
     clean : is_dirty (held_of granted.state.blocks block) ≡ false
     clean = ap is_dirty known ∙ itself_clean entry.ver
@@ -346,16 +346,16 @@ module _ (logs : Bool) (members part most c life room top : ℕ) (pos : 0 < c) (
     gone_sound : IsSound gone
     gone_sound = (transition-follows (λ b. Unit {0}) granted.state granted_sound (input.Evict block) (λ b k. tt)).sound
 
-    gone_bears : frames.Bear logs members part most c life room top n.sent s.log gone
+    gone_bears : frames.Bear logs members part limit c life room highest n.sent s.log gone
     gone_bears =
         let k : Borne gone = borne granted.state granted_sound (input.Evict block) tt granted_bears in
         record { life_is = k.life_is; promised = k.promised; giving = k.giving; held = gone_known }
 
     gone_inside : is_in_slot part block ≡ true → Gone
     gone_inside inside =
-        let k : taking.Taken logs members part most c life room top n s.log s.log.end.seq s.lasting.number s.lasting.inc
+        let k : taking.Taken logs members part limit c life room highest n s.log s.log.end.seq s.lasting.number s.lasting.inc
         (granted_and_evicted s.tokens stamp inc req block entry) [] =
-        taking.taken logs members part most c life room top n s.tokens s.log s.lasting.number s.lasting.inc
+        taking.taken logs members part limit c life room highest n s.tokens s.log s.lasting.number s.lasting.inc
         (granted_and_evicted s.tokens stamp inc req block entry) h
         (subst (λ (t : TokensState). Happens logs members part n (after_client n c s.log.end.seq (granted_and_evicted t stamp inc req block entry))) h.tokens
         (Declines c s.log.end.seq block stamp inc req entry serving (sent inside) accepts_here)) gone_sound gone_bears in
@@ -363,15 +363,15 @@ module _ (logs : Bool) (members part most c life room top : ℕ) (pos : 0 < c) (
 
     gone_outside : is_in_slot part block ≡ false → Gone
     gone_outside other =
-        let k : taking.Taken logs members part most c life room top outside s.log s.log.end.seq s.lasting.number s.lasting.inc
+        let k : taking.Taken logs members part limit c life room highest outside s.log s.log.end.seq s.lasting.number s.lasting.inc
         (client.on_evict granted.state block) [] =
-        taking.acting logs members part most c life room top outside s.log s.log.end.seq s.lasting.number s.lasting.inc (client.on_evict granted.state block) []
+        taking.acting logs members part limit c life room highest outside s.log s.log.end.seq s.lasting.number s.lasting.inc (client.on_evict granted.state block) []
         (n.acts ++ []) h.up h.number_is h.inc_is h.numbers refl
         (subst (λ (u : TokensState). Happens logs members part outside
         (record (after_client outside c s.log.end.seq (client.on_evict u block)) { acts = n.acts ++ [] })) (outside_tokens other)
         (Acts c s.log.end.seq (input.Evict block) (outside_serving other) tt))
         gone_sound
-        (taking.bears_more logs members part most c life room top n.sent outside.sent (outside_grown other).grows s.log gone gone_bears) h.logged in
+        (taking.bears_more logs members part limit c life room highest n.sent outside.sent (outside_grown other).grows s.log gone gone_bears) h.logged in
         record {
           next = k.next;
           grown = frames.grown_on logs members part c n outside k.next [] [] (outside_grown other) k.grown;

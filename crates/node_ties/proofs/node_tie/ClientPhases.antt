@@ -40,7 +40,7 @@ use Rattle.wire_msg.specs.declared.packet.Do.TheVariants.{Begin, Deliver, Tick}
 use Rattle.wire_msg.specs.declared.packet.Packet as wire
 use Rattle.xfs_base.proofs.Booleans.{by_test, and_first, and_second}
 use Rattle.xfs_base.specs.declared.node.NodeId.TheVariants.{Client as AClient}
-use Rattle.xfs_base.specs.Steps.{still, after}
+use Rattle.xfs_base.specs.Steps.{still, saying}
 use Rattle.node_ties.specs.node_tie.ClientEvents.{SeesServing, ClientAgrees, ClientStands, ClientGets, EndsInTime, ClientDid, ClientGoes, ClientOwed, ClientTakes, IsTaken}
 use Rattle.node_ties.specs.node_tie.ClientLogs.{LogAgrees}
 use Rattle.node_ties.proofs.node_tie.ClientBooks.{onward_still, put_here, put_there, same_log}
@@ -65,13 +65,13 @@ wants_have_room s room =
     and_first (has_room s.tokens.req) (log_room s.log && tokens_room s)
     (and_second (has_room s.maps.version) (has_room s.tokens.req && (log_room s.log && tokens_room s)) room)
 
-module _ (logs : Bool) (members part most c : ℕ) (small : part < 8) (pos : 0 < c) (less : c < members) (n : Net) where
+module _ (logs : Bool) (members part limit c : ℕ) (small : part < 8) (pos : 0 < c) (less : c < members) (n : Net) where
   abbrev Goes : Phase → Went_to → Type 0
-  Goes p w = ClientGoes logs members part most c n p w.state w.outs
+  Goes p w = ClientGoes logs members part limit c n p w.state w.outs
 
   -- ---- one that serves
 
-  module _ (s : Serving) (sees : SeesServing logs part c n s) (h : ClientStands part most c n (Serves s)) where
+  module _ (s : Serving) (sees : SeesServing logs part c n s) (h : ClientStands part limit c n (Serves s)) where
     -- its next item is begun
     abbrev begun_serving : Serving
     begun_serving = record s { lasting = record s.lasting { items = begun s.lasting.items } }
@@ -124,7 +124,7 @@ module _ (logs : Bool) (members part most c : ℕ) (small : part < 8) (pos : 0 <
       low : (n.tokens c).inc ≤ s.lasting.inc
       low = (let e : (n.tokens c).inc ≡ s.lasting.inc = ap (λ (t : TokensState). t.inc) sees.tokens ∙ sees.inc in omega arith)
 
-      crashed_so : Goes (Serves s) (after (falls begun_serving ∷ []) (crashed begun_serving.lasting number))
+      crashed_so : Goes (Serves s) (saying (falls begun_serving ∷ []) (crashed begun_serving.lasting number))
       crashed_so = record {
         next = next;
         runs = grown.runs;
@@ -153,22 +153,22 @@ module _ (logs : Bool) (members part most c : ℕ) (small : part < 8) (pos : 0 <
 
     -- where the numbers of its log are not near their end, it stands as it is seen
     module _ (room : has_room s.log.end.seq ≡ true) where
-      stands : serving.MayBegin logs members part most c s.lasting.inc (serving.top logs members part most c n s) n s
-      stands = serving.stands logs members part most c n s sees h room
+      stands : serving.MayBegin logs members part limit c s.lasting.inc (serving.highest logs members part limit c n s) n s
+      stands = serving.stands logs members part limit c n s sees h room
 
-      begun_stands : serving.MayBegin logs members part most c s.lasting.inc (serving.top logs members part most c n s) n begun_serving
+      begun_stands : serving.MayBegin logs members part limit c s.lasting.inc (serving.highest logs members part limit c n s) n begun_serving
       begun_stands = record { here = stands.here; more = stands.more }
 
       serving_answers : (number : ℕ) (a : Answer) → Goes (Serves s) (answers (Serves begun_serving) number a)
       serving_answers number a =
-          serving.serves_on_so logs members part most c n s sees (gives begun_serving (Answers number a ∷ []))
-          (serving.says_so logs members part most c s.lasting.inc
-          (serving.top logs members part most c n s) small pos less n begun_serving number a begun_stands)
+          serving.serves_on_so logs members part limit c n s sees (gives begun_serving (Answers number a ∷ []))
+          (serving.says_so logs members part limit c s.lasting.inc
+          (serving.highest logs members part limit c n s) small pos less n begun_serving number a begun_stands)
 
       serving_calls : (number : ℕ) → Goes (Serves s) (serves_on (opens begun_serving number))
-      serving_calls number = serving.serves_on_so logs members part most c n s sees (opens begun_serving number)
-          (serving.opens_so logs members part most c s.lasting.inc
-          (serving.top logs members part most c n s) small pos less n begun_serving number begun_stands)
+      serving_calls number = serving.serves_on_so logs members part limit c n s sees (opens begun_serving number)
+          (serving.opens_so logs members part limit c s.lasting.inc
+          (serving.highest logs members part limit c n s) small pos less n begun_serving number begun_stands)
 
       serving_begins_so : (number : ℕ) (w : Option Work) → Goes (Serves s) (serving_begins begun_serving number (wish_of w))
       serving_begins_so number (Some (work.Crash node)) = crashed_so number
@@ -176,56 +176,56 @@ module _ (logs : Bool) (members part most c : ℕ) (small : part < 8) (pos : 0 <
       serving_begins_so number (Some _) = serving_calls number
       serving_begins_so number None = serving_calls number
 
-      serving_packet : (packet : wire.Packet) → ClientGets logs part most c n (Serves s) packet → has_room s.tokens.req ≡ true
+      serving_packet : (packet : wire.Packet) → ClientGets logs part limit c n (Serves s) packet → has_room s.tokens.req ≡ true
           → Goes (Serves s) (then_runs (packets.on_packet s packet))
       serving_packet packet gets wants =
-          serving.serves_on_so logs members part most c n s sees
-          (serving.and_runs logs members part most c s.lasting.inc (serving.top logs members part most c n s) small pos less (packets.on_packet s packet))
-          (serving.packet_so logs members part most c s.lasting.inc
-          (serving.top logs members part most c n s) small pos less n s packet gets h.asks wants stands)
+          serving.serves_on_so logs members part limit c n s sees
+          (serving.and_runs logs members part limit c s.lasting.inc (serving.highest logs members part limit c n s) small pos less (packets.on_packet s packet))
+          (serving.packet_so logs members part limit c s.lasting.inc
+          (serving.highest logs members part limit c n s) small pos less n s packet gets h.asks wants stands)
 
       serving_time : Goes (Serves s) (then_runs (packets.on_tick s))
       serving_time =
-          serving.serves_on_so logs members part most c n s sees
-          (serving.and_runs logs members part most c s.lasting.inc (serving.top logs members part most c n s) small pos less (packets.on_tick s))
-          (serving.time_so logs members part most c s.lasting.inc (serving.top logs members part most c n s) small pos less n s stands)
+          serving.serves_on_so logs members part limit c n s sees
+          (serving.and_runs logs members part limit c s.lasting.inc (serving.highest logs members part limit c n s) small pos less (packets.on_tick s))
+          (serving.time_so logs members part limit c s.lasting.inc (serving.highest logs members part limit c n s) small pos less n s stands)
 
   -- ---- the events
 
-  still_so : (p : Phase) → ClientAgrees logs part c n p → ClientStands part most c n p → Goes p (still p)
-  still_so p sees h = staying.still_so logs members part most c small pos less n p sees h
+  still_so : (p : Phase) → ClientAgrees logs part c n p → ClientStands part limit c n p → Goes p (still p)
+  still_so p sees h = staying.still_so logs members part limit c small pos less n p sees h
 
-  begin_so : (servers number : ℕ) (p : Phase) → ClientAgrees logs part c n p → ClientStands part most c n p → has_room (lasting_of p).inc ≡ true
+  begin_so : (servers number : ℕ) (p : Phase) → ClientAgrees logs part c n p → ClientStands part limit c n p → has_room (lasting_of p).inc ≡ true
       → phase_room p ≡ true
       → Goes p (item_begins servers (with_begun p) number (wish_at (lasting_of (with_begun p)) number))
   begin_so servers number (Down l) sees h later room =
-      staying.down_begins_so logs members part most c small pos less n l sees h servers number (work_at (begun l.items) number) later
+      staying.down_begins_so logs members part limit c small pos less n l sees h servers number (work_at (begun l.items) number) later
   begin_so servers number (Opening l o) sees h later room =
-      opening.opening_begins_so logs members part most c small pos less n l o sees h number (work_at (begun l.items) number)
+      opening.opening_begins_so logs members part limit c small pos less n l o sees h number (work_at (begun l.items) number)
   begin_so servers number (Serves s) sees h later room = serving_begins_so s sees h (log_has_room s room) number (work_at (begun s.lasting.items) number)
 
-  item_so : (servers : ℕ) (p : Phase) (next : Option ℕ) → ClientAgrees logs part c n p → ClientStands part most c n p → has_room (lasting_of p).inc ≡ true
+  item_so : (servers : ℕ) (p : Phase) (next : Option ℕ) → ClientAgrees logs part c n p → ClientStands part limit c n p → has_room (lasting_of p).inc ≡ true
       → phase_room p ≡ true → Goes p (begins_item servers p next)
   item_so servers p None sees h later room = still_so p sees h
   item_so servers p (Some number) sees h later room = begin_so servers number p sees h later room
 
-  on_begin_so : (servers : ℕ) (p : Phase) → ClientAgrees logs part c n p → ClientStands part most c n p → has_room (lasting_of p).inc ≡ true
+  on_begin_so : (servers : ℕ) (p : Phase) → ClientAgrees logs part c n p → ClientStands part limit c n p → has_room (lasting_of p).inc ≡ true
       → phase_room p ≡ true
       → Goes p (on_begin servers p)
   unfolding on_begin
   on_begin_so servers p sees h later room = item_so servers p (next_item (lasting_of p).items) sees h later room
 
-  on_deliver_so : (capacity : ℕ) (p : Phase) (packet : wire.Packet) → ClientAgrees logs part c n p → ClientStands part most c n p
-      → ClientGets logs part most c n p packet → has_logs packet.body ≡ true → phase_room p ≡ true
+  on_deliver_so : (capacity : ℕ) (p : Phase) (packet : wire.Packet) → ClientAgrees logs part c n p → ClientStands part limit c n p
+      → ClientGets logs part limit c n p packet → has_logs packet.body ≡ true → phase_room p ≡ true
       → Goes p (on_deliver capacity p packet)
   unfolding on_deliver
   on_deliver_so capacity (Down l) packet sees h gets known room = still_so (Down l) sees h
   on_deliver_so capacity (Opening l o) packet sees h gets known room =
-      opening.opening_packet logs members part most c small pos less n l o sees h capacity packet gets known
+      opening.opening_packet logs members part limit c small pos less n l o sees h capacity packet gets known
   on_deliver_so capacity (Serves s) packet sees h gets known room = serving_packet s sees h (log_has_room s room) packet gets (wants_have_room s room)
 
-  delivers_so : (peers : Peers) (capacity : ℕ) (p : Phase) (packet : wire.Packet) → ClientAgrees logs part c n p → ClientStands part most c n p
-      → (is_well_formed peers packet ≡ true → ClientGets logs part most c n p packet) → phase_room p ≡ true → Goes p (delivers peers capacity p packet)
+  delivers_so : (peers : Peers) (capacity : ℕ) (p : Phase) (packet : wire.Packet) → ClientAgrees logs part c n p → ClientStands part limit c n p
+      → (is_well_formed peers packet ≡ true → ClientGets logs part limit c n p packet) → phase_room p ≡ true → Goes p (delivers peers capacity p packet)
   delivers_so peers capacity p packet sees h gets room =
       by_test (λ (w : Went_to). Goes p w) (is_well_formed peers packet) (on_deliver capacity p packet) (still p)
       (λ t. on_deliver_so capacity p packet sees h (gets t)
@@ -233,18 +233,18 @@ module _ (logs : Bool) (members part most c : ℕ) (small : part < 8) (pos : 0 <
       room)
       (λ t. still_so p sees h)
 
-  on_time_so : (capacity : ℕ) (p : Phase) → ClientAgrees logs part c n p → ClientStands part most c n p → Premise logs (EndsInTime part most c n p)
+  on_time_so : (capacity : ℕ) (p : Phase) → ClientAgrees logs part c n p → ClientStands part limit c n p → Premise logs (EndsInTime part limit c n p)
       → phase_room p ≡ true → Goes p (on_time capacity p)
   unfolding on_time
   on_time_so capacity (Down l) sees h ends room = still_so (Down l) sees h
-  on_time_so capacity (Opening l o) sees h ends room = opening.opening_time logs members part most c small pos less n l o sees h capacity ends
+  on_time_so capacity (Opening l o) sees h ends room = opening.opening_time logs members part limit c small pos less n l o sees h capacity ends
   on_time_so capacity (Serves s) sees h ends room = serving_time s sees h (log_has_room s room)
 
   one_packet : (a b : wire.Packet) → Deliver a ≡ Deliver b → a ≡ b
   one_packet a b same = cc
 
-  happens_so : (client : Client) (what : Do) → ClientAgrees logs part c n client.phase → ClientStands part most c n client.phase
-      → (IsTaken client what → ClientOwed logs part most c n client.phase what) → client_room client ≡ true → Goes client.phase (happens client what)
+  happens_so : (client : Client) (what : Do) → ClientAgrees logs part c n client.phase → ClientStands part limit c n client.phase
+      → (IsTaken client what → ClientOwed logs part limit c n client.phase what) → client_room client ≡ true → Goes client.phase (happens client what)
   happens_so client what sees h owed room = by_event what refl (λ formed. owed (record { room = room; formed = formed }))
     where
       later : has_room (lasting_of client.phase).inc ≡ true
@@ -258,7 +258,7 @@ module _ (logs : Bool) (members part most c : ℕ) (small : part < 8) (pos : 0 <
       Formed : Do → Type 0
       Formed x = (q : wire.Packet) → x ≡ Deliver q → is_well_formed client.peers q ≡ true
 
-      by_event : (x : Do) → what ≡ x → (Formed x → ClientOwed logs part most c n client.phase x) → Goes client.phase (happens client x)
+      by_event : (x : Do) → what ≡ x → (Formed x → ClientOwed logs part limit c n client.phase x) → Goes client.phase (happens client x)
       by_event Begin is owed = on_begin_so client.peers.servers client.phase sees h later inside
       by_event (Deliver packet) is owed =
           delivers_so client.peers client.cache client.phase packet sees h
@@ -267,7 +267,7 @@ module _ (logs : Bool) (members part most c : ℕ) (small : part < 8) (pos : 0 <
 
 -- an event is taken where no counter is near its end, and changes nothing else
 pub client_takes : ClientTakes
-client_takes logs members part most c small pos less n client what sees h owed =
-    by_test (λ (w : Went_to). ClientGoes logs members part most c n client.phase w.state w.outs) (client_room client) (happens client what) (still client.phase)
-    (λ room. happens_so logs members part most c small pos less n client what sees h owed room)
-    (λ room. still_so logs members part most c small pos less n client.phase sees h)
+client_takes logs members part limit c small pos less n client what sees h owed =
+    by_test (λ (w : Went_to). ClientGoes logs members part limit c n client.phase w.state w.outs) (client_room client) (happens client what) (still client.phase)
+    (λ room. happens_so logs members part limit c small pos less n client what sees h owed room)
+    (λ room. still_so logs members part limit c small pos less n client.phase sees h)

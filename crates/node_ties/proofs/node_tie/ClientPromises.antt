@@ -189,28 +189,28 @@ all_heard-log : (s : Serving) (slots : List SlotNews) → (steps hears s slots).
 all_heard-log s [] = refl
 all_heard-log s (news ∷ slots) = all_heard-log (hears s news).state slots ∙ hears-log s news
 
-module _ (logs : Bool) (members part most c life room top : ℕ) (small : part < 8) (pos : 0 < c) (less : c < members) where
+module _ (logs : Bool) (members part limit c life room highest : ℕ) (small : part < 8) (pos : 0 < c) (less : c < members) where
   abbrev At : Net → Serving → Type 0
-  At n s = frames.At logs members part most c life room top n s
+  At n s = frames.At logs members part limit c life room highest n s
 
   abbrev Goes : Net → Done → Type 0
-  Goes n d = frames.Goes logs members part most c life room top n d
+  Goes n d = frames.Goes logs members part limit c life room highest n d
 
   still_so : (n : Net) (s : Serving) → At n s → Goes n (still s)
-  still_so n s h = frames.goes_still logs members part most c life room top n s h
+  still_so n s h = frames.goes_still logs members part limit c life room highest n s h
 
   -- ---- a promise
 
   -- the tokens take the promise
   abbrev Promises : Net → Serving → ℕ → ℕ → Type 0
   Promises n s slot epoch =
-      taking.Taken logs members part most c life room top n s.log s.log.end.seq s.lasting.number s.lasting.inc (client.on_promise s.tokens slot epoch) []
+      taking.Taken logs members part limit c life room highest n s.log s.log.end.seq s.lasting.number s.lasting.inc (client.on_promise s.tokens slot epoch) []
 
-  promise_taken : (n : Net) (s : Serving) (slot epoch : ℕ) → (slot ≡ part → epoch ≤ most) → At n s → Promises n s slot epoch
+  promise_taken : (n : Net) (s : Serving) (slot epoch : ℕ) → (slot ≡ part → epoch ≤ limit) → At n s → Promises n s slot epoch
   promise_taken n s slot epoch fits h =
-      taking.takes logs members part most c life room top n s.tokens s.log s.lasting.number s.lasting.inc (input.Promise slot epoch) pos less h
-      (taking.may_act logs members part most c life room top n s.log (input.Promise slot epoch) tt (λ u. refl)
-      (taking.promise_may logs members part most c life room top small slot epoch fits))
+      taking.takes logs members part limit c life room highest n s.tokens s.log s.lasting.number s.lasting.inc (input.Promise slot epoch) pos less h
+      (taking.may_act logs members part limit c life room highest n s.log (input.Promise slot epoch) tt (λ u. refl)
+      (taking.promise_may logs members part limit c life room highest small slot epoch fits))
 
   -- what the feed does first changes nothing that is seen
   by_renewed : (P : Serving → Type 0) (s : Serving) (slot epoch : ℕ) → P (record s { feed = new_epoch s.feed slot }) → P s → P (renews s slot epoch)
@@ -219,16 +219,16 @@ module _ (logs : Bool) (members part most c life room top : ℕ) (small : part <
       (λ t. same)
 
   -- what the tokens say of a promise is done
-  promised_by_so : (n : Net) (s : Serving) (slot epoch manager : ℕ) → (slot ≡ part → epoch ≤ most) → At n s
+  promised_by_so : (n : Net) (s : Serving) (slot epoch manager : ℕ) → (slot ≡ part → epoch ≤ limit) → At n s
       → Goes n (follows (promised_by s slot epoch manager).state (promised_by s slot epoch manager).outs)
   promised_by_so n s slot epoch manager fits h =
       let p : Stepped Serving outputs.Out = promised_by s slot epoch manager in
       let k : Promises n s slot epoch = promise_taken n s slot epoch fits h in
-      frames.goes_from logs members part most c life room top n k.next (follows p.state p.outs) k.grown
-      (tokens.follows_so logs members part most c life room top pos less k.next p.state p.outs k.stands
-      (taking.outs_seen logs members part most c life room top k.next.sent s.log.end.seq p.outs k.seen))
+      frames.goes_from logs members part limit c life room highest n k.next (follows p.state p.outs) k.grown
+      (tokens.follows_so logs members part limit c life room highest pos less k.next p.state p.outs k.stands
+      (taking.outs_seen logs members part limit c life room highest k.next.sent s.log.end.seq p.outs k.seen))
 
-  promised_in_so : (n : Net) (s : Serving) (news : SlotNews) → (news.slot ≡ part → news.epoch ≤ most) → At n s → Goes n (promised_in s news)
+  promised_in_so : (n : Net) (s : Serving) (news : SlotNews) → (news.slot ≡ part → news.epoch ≤ limit) → At n s → Goes n (promised_in s news)
   unfolding promises
   promised_in_so n s news fits h =
       by_renewed (λ (t : Serving). Goes n (follows (promised_by t news.slot news.epoch news.manager).state
@@ -239,7 +239,7 @@ module _ (logs : Bool) (members part most c life room top : ℕ) (small : part <
   -- ---- a report
 
   -- it is of the promised epoch
-  reports_so : (n : Net) (s : Serving) (slot epoch manager : ℕ) → (slot ≡ part → epoch ≤ most) → slot < 8 → client.may_promise s.tokens slot epoch ≡ true
+  reports_so : (n : Net) (s : Serving) (slot epoch manager : ℕ) → (slot ≡ part → epoch ≤ limit) → slot < 8 → client.may_promise s.tokens slot epoch ≡ true
       → At n s → Goes n (reports slot epoch (promised_by s slot epoch manager))
   reports_so n s slot epoch manager fits low may h =
       let p : Stepped Serving outputs.Out = promised_by s slot epoch manager in
@@ -249,7 +249,7 @@ module _ (logs : Bool) (members part most c life room top : ℕ) (small : part <
       let grown : frames.Grown logs members part c m next [] = record {
         runs = On Begun
             (Reports c s.log.end.seq
-            (taking.is_serving logs members part most c life room top m p.state.tokens s.log s.lasting.number s.lasting.inc pos less k.stands));
+            (taking.is_serving logs members part limit c life room highest m p.state.tokens s.log s.lasting.number s.lasting.inc pos less k.stands));
         others = λ d other. (refl, refl);
         slots = λ e. refl;
         grows = λ x i. inr i;
@@ -257,20 +257,20 @@ module _ (logs : Bool) (members part most c life room top : ℕ) (small : part <
         acts = (frames.grown_still logs members part c m).acts;
         own = (frames.grown_still logs members part c m).own;
       } in
-      let said : frames.Goes logs members part most c life room top m (record { state = p.state; outs = report p.state slot epoch ∷ [] }) = record {
+      let said : frames.Goes logs members part limit c life room highest m (record { state = p.state; outs = report p.state slot epoch ∷ [] }) = record {
         next = next;
         grown = grown;
-        stands = taking.stands_more logs members part most c life room top m next.sent p.state.tokens s.log s.lasting.number s.lasting.inc
+        stands = taking.stands_more logs members part limit c life room highest m next.sent p.state.tokens s.log s.lasting.number s.lasting.inc
             (λ x i. inr i) k.stands;
         does = All-cons (ClientDoes part next.sent c life) (report p.state slot epoch) [] (λ is. inl (reported m k.stands.tokens is))
             (All-nil (ClientDoes part next.sent c life));
       } in
-      frames.goes_from logs members part most c life room top n m (reports slot epoch p) k.grown
-      (frames.goes_on_in logs members part most c life room top m (record { state = p.state; outs = report p.state slot epoch ∷ [] })
+      frames.goes_from logs members part limit c life room highest n m (reports slot epoch p) k.grown
+      (frames.goes_on_in logs members part limit c life room highest m (record { state = p.state; outs = report p.state slot epoch ∷ [] })
       (follows p.state p.outs) said
-      (λ o w i. tokens.follows_so logs members part most c life room top pos less o p.state p.outs i
-      (taking.outs_more logs members part most c life room top m.sent o.sent w s.log.end.seq p.outs
-      (taking.outs_seen logs members part most c life room top m.sent s.log.end.seq p.outs k.seen))))
+      (λ o w i. tokens.follows_so logs members part limit c life room highest pos less o p.state p.outs i
+      (taking.outs_more logs members part limit c life room highest m.sent o.sent w s.log.end.seq p.outs
+      (taking.outs_seen logs members part limit c life room highest m.sent s.log.end.seq p.outs k.seen))))
     where
       reported : (m : Net) → m.tokens c ≡ (client.on_promise s.tokens slot epoch).state → slot ≡ part
           → ReportSent c epoch (held_in slot (client.on_promise s.tokens slot epoch).state.blocks) s.log.end.seq
@@ -281,7 +281,7 @@ module _ (logs : Bool) (members part most c life room top : ℕ) (small : part <
           ∙ ap (λ k. ReportSent c (epoch_of t.epochs k) (held_in k t.blocks) s.log.end.seq) is
           ∙ ap (λ (u : TokensState). ReportSent c (epoch_of u.epochs part) (held_in part u.blocks) s.log.end.seq) (sym same)
 
-  polled_so : (n : Net) (s : Serving) (manager : ℕ) (p : Poll) → PollSeen part n.sent most p → AsksForCall s → has_room s.tokens.req ≡ true → At n s
+  polled_so : (n : Net) (s : Serving) (manager : ℕ) (p : Poll) → PollSeen part n.sent limit p → AsksForCall s → has_room s.tokens.req ≡ true → At n s
       → Goes n (polled s manager p)
   unfolding polled promises
   polled_so n s manager p fits asks room h =
@@ -297,7 +297,7 @@ module _ (logs : Bool) (members part most c life room top : ℕ) (small : part <
       is_low : (k : ℕ) → nat_lt k 8 ≡ true → k < 8
       is_low k t = grind (arith, nat_tests)
 
-  pub on_poll_so : (n : Net) (s : Serving) (from : NodeId) (p : Poll) → PollSeen part n.sent most p → AsksForCall s → has_room s.tokens.req ≡ true → At n s
+  pub on_poll_so : (n : Net) (s : Serving) (from : NodeId) (p : Poll) → PollSeen part n.sent limit p → AsksForCall s → has_room s.tokens.req ≡ true → At n s
       → Goes n (on_poll s from p)
   on_poll_so n s (node.Manager manager) p fits asks room h = polled_so n s manager p fits asks room h
   on_poll_so n s (node.Client k) p fits asks room h = still_so n s h
@@ -307,47 +307,47 @@ module _ (logs : Bool) (members part most c life room top : ℕ) (small : part <
 
   -- ---- news
 
-  hears_so : (n : Net) (s : Serving) (news : SlotNews) → (news.slot ≡ part → news.epoch ≤ most) → At n s → Goes n (hears s news)
+  hears_so : (n : Net) (s : Serving) (news : SlotNews) → (news.slot ≡ part → news.epoch ≤ limit) → At n s → Goes n (hears s news)
   unfolding hears
   hears_so n s news fits h = by_test (λ (d : Done). Goes n d) (is_news s news) (promised_in s news) (still s) (λ t. promised_in_so n s news fits h)
       (λ t. still_so n s h)
 
-  all_heard : (n : Net) (s : Serving) (slots : List SlotNews) → AllByRecursion (λ news. news.slot ≡ part → news.epoch ≤ most) slots → At n s
+  all_heard : (n : Net) (s : Serving) (slots : List SlotNews) → AllByRecursion (λ news. news.slot ≡ part → news.epoch ≤ limit) slots → At n s
       → Goes n (steps hears s slots)
   all_heard n s [] fits h = still_so n s h
-  all_heard n s (news ∷ slots) fits h = frames.goes_on logs members part most c life room top n (hears s news) (steps hears (hears s news).state slots)
+  all_heard n s (news ∷ slots) fits h = frames.goes_on logs members part limit c life room highest n (hears s news) (steps hears (hears s news).state slots)
       (hears_so n s news fits.0 h) (λ m k. all_heard m (hears s news).state slots fits.1 k)
 
   -- newer groups may settle what is in flight
   abbrev pub More : Net → Serving → Type 0
-  More n s = (f : FlightState) → s.log.flight ≡ Some f → frames.At logs members part most c life (room + 1) top n s
+  More n s = (f : FlightState) → s.log.flight ≡ Some f → frames.At logs members part limit c life (room + 1) highest n s
 
   regroups_so : (n : Net) (s : Serving) (newer : Bool) (groups : GroupMapState) → At n s → More n s → Goes n (regroups s newer groups)
   regroups_so n s newer groups h more =
       by_test (λ (d : Done). Goes n d) newer (writes s (log_in.Maps groups)) (still s)
-      (λ t. writing.maps_so logs members part most c life room top pos less n s h more groups) (λ t. still_so n s h)
+      (λ t. writing.maps_so logs members part limit c life room highest pos less n s h more groups) (λ t. still_so n s h)
 
-  takes_news_so : (n : Net) (s : Serving) (news : News) → NewsWithin part most c n news.slots → At n s → More n s → Goes n (takes_news s news)
+  takes_news_so : (n : Net) (s : Serving) (news : News) → NewsWithin part limit c n news.slots → At n s → More n s → Goes n (takes_news s news)
   unfolding takes_news
   takes_news_so n s news fits h more =
       let t : Serving = record s { maps = taken s.maps news } in
       let d : Done = steps hears t news.slots in
-      frames.goes_on logs members part most c life room top n d (regroups d.state (is_older s.maps news) news.groups)
-      (all_heard n t news.slots (recursion_from_All (λ (x : SlotNews). x.slot ≡ part → x.epoch ≤ most) news.slots fits) h)
+      frames.goes_on logs members part limit c life room highest n d (regroups d.state (is_older s.maps news) news.groups)
+      (all_heard n t news.slots (recursion_from_All (λ (x : SlotNews). x.slot ≡ part → x.epoch ≤ limit) news.slots fits) h)
       (λ m k. regroups_so m d.state (is_older s.maps news) news.groups k (more_then m d.state (all_heard-log t news.slots) k))
     where
       more_then : (m : Net) (u : Serving) → u.log ≡ s.log → At m u → More m u
       more_then m u same k f is =
-          frames.stands_upto logs members part most c life room (room + 1) top m u.tokens u.log u.lasting.number u.lasting.inc
+          frames.stands_upto logs members part limit c life room (room + 1) highest m u.tokens u.log u.lasting.number u.lasting.inc
           (premise_by logs
-          (λ (x : frames.HasNumbers s.log.end.seq (room + 1) top). subst (λ (l : LogState). frames.HasNumbers l.end.seq (room + 1) top) (sym same) x)
+          (λ (x : frames.HasNumbers s.log.end.seq (room + 1) highest). subst (λ (l : LogState). frames.HasNumbers l.end.seq (room + 1) highest) (sym same) x)
           (more f (ap (λ (l : LogState). l.flight) (sym same) ∙ is)).numbers) k
 
-  pub on_news_so : (n : Net) (s : Serving) (news : News) → NewsWithin part most c n news.slots → At n s → More n s → Goes n (on_news s news)
+  pub on_news_so : (n : Net) (s : Serving) (news : News) → NewsWithin part limit c n news.slots → At n s → More n s → Goes n (on_news s news)
   on_news_so n s news within h more =
       by_test (λ (d : Done). Goes n d) (fits s.maps news) (takes_news s news) (still s) (λ t. takes_news_so n s news within h more) (λ t. still_so n s h)
 
-  pub on_welcome_so : (n : Net) (s : Serving) (w : Welcome) → NewsWithin part most c n w.news.slots → At n s → More n s → Goes n (on_welcome s w)
+  pub on_welcome_so : (n : Net) (s : Serving) (w : Welcome) → NewsWithin part limit c n w.news.slots → At n s → More n s → Goes n (on_welcome s w)
   unfolding on_welcome
   on_welcome_so n s w within h more =
       by_test (λ (d : Done). Goes n d) (w.inc == s.lasting.inc) (on_news s w.news) (still s) (λ t. on_news_so n s w.news within h more) (λ t. still_so n s h)

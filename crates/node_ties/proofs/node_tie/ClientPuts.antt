@@ -101,26 +101,26 @@ module _ (logs : Bool) (block : BlockId) (value : Option (List ℕ)) where
               unsettled_then b,
         )) (λ is. contrary (sym is ∙ may))
 
-module _ (logs : Bool) (members part most c life room top : ℕ) (pos : 0 < c) (less : c < members) where
+module _ (logs : Bool) (members part limit c life room highest : ℕ) (pos : 0 < c) (less : c < members) where
   -- the net in which the block is written, and its version waits
   pub record Written (n : Net) (t : TokensState) (l : LogState) (number inc : ℕ) (block : BlockId) (value : Option (List ℕ)) : Type 0 where
     pub next : Net
     pub grown : frames.Grown logs members part c n next (Wrote c block value ∷ [])
-    pub stands : frames.Stands logs members part most c life room top next (client.on_wrote t block value).state
+    pub stands : frames.Stands logs members part limit c life room highest next (client.on_wrote t block value).state
         (waits l block (change_of (client.on_wrote t block value).state block value)) number inc
 
   pub written_so : (n : Net) (t : TokensState) (l : LogState) (number inc : ℕ) (block : BlockId) (value : Option (List ℕ))
       → may_write (held_of t.blocks block) ≡ true
-      → frames.Stands logs members part most c life room top n t l number inc → Written n t l number inc block value
+      → frames.Stands logs members part limit c life room highest n t l number inc → Written n t l number inc block value
   written_so n t l number inc block value may h =
       let d : client.Done = client.on_wrote t block value in
       let m : LogState = waits l block (change_of d.state block value) in
-      let plain : Bears (Sent part c n.sent) (Promised part most) (λ b g. Unit {0}) life d.state =
-      transition-bears (Sent part c n.sent) (Promised part most) (λ b g. Unit {0}) life no_fact
-      (taking.none_sent logs members part most c life room top n.sent) t h.sound (input.Wrote block value) (λ g q. tt)
+      let plain : Bears (Sent part c n.sent) (Promised part limit) (λ b g. Unit {0}) life d.state =
+      transition-bears (Sent part c n.sent) (Promised part limit) (λ b g. Unit {0}) life no_fact
+      (taking.none_sent logs members part limit c life room highest n.sent) t h.sound (input.Wrote block value) (λ g q. tt)
       (record { life_is = h.bears.life_is; promised = h.bears.promised; giving = h.bears.giving; held = λ b. tt }) in
-      let k : taking.Taken logs members part most c life room top n m l.end.seq number inc d (Wrote c block value ∷ []) =
-      taking.acting logs members part most c life room top n m l.end.seq number inc d (Wrote c block value ∷ [])
+      let k : taking.Taken logs members part limit c life room highest n m l.end.seq number inc d (Wrote c block value ∷ []) =
+      taking.acting logs members part limit c life room highest n m l.end.seq number inc d (Wrote c block value ∷ [])
       (n.acts ++ Wrote c block value ∷ []) h.up h.number_is h.inc_is
       h.numbers refl happens
       (transition-follows (λ b. Unit {0}) t h.sound (input.Wrote block value) (λ b k. tt)).sound
@@ -129,7 +129,7 @@ module _ (logs : Bool) (members part most c life room top : ℕ) (pos : 0 < c) (
         promised = plain.promised;
         giving = plain.giving;
         held = written_known logs block value t l h.sound may (λ b other. (h.bears.held b).0)
-            (all_known logs members part most c life room top l t h.bears.held);
+            (all_known logs members part limit c life room highest l t h.bears.held);
       })
       (waits_stands logs block value n.books c l (change_of d.state block value) (written_some t block value may) h.logged) in
       record { next = k.next; grown = k.grown; stands = k.stands }
@@ -142,4 +142,4 @@ module _ (logs : Bool) (members part most c life room top : ℕ) (pos : 0 < c) (
           (subst (λ (u : TokensState). Happens logs members part n
           (record (after_client n c l.end.seq (client.on_wrote u block value)) { acts = n.acts ++ acts_by c u (input.Wrote block value) }))
           h.tokens
-          (Acts c l.end.seq (input.Wrote block value) (taking.is_serving logs members part most c life room top n t l number inc pos less h) tt))
+          (Acts c l.end.seq (input.Wrote block value) (taking.is_serving logs members part limit c life room highest n t l number inc pos less h) tt))

@@ -88,12 +88,12 @@ pub notes_settled_are : (s : Serving) (segment : Segment)
     → fold notes_settled s (filter_map (row_of segment) segment.items) ≡ record s { tokens = all_settled s.tokens (rows_told segment.items) }
 notes_settled_are s segment = noted s segment segment.items segment.items
 
-module _ (logs : Bool) (members part most c life room top : ℕ) where
+module _ (logs : Bool) (members part limit c life room highest : ℕ) where
   abbrev Stands : Net → TokensState → LogState → ℕ → ℕ → Type 0
-  Stands n t l number inc = frames.Stands logs members part most c life room top n t l number inc
+  Stands n t l number inc = frames.Stands logs members part limit c life room highest n t l number inc
 
   abbrev Passes : Net → TokensState → LogState → ℕ → ℕ → Type 0
-  Passes n t l number inc = frames.Passes logs members part most c life room top n t l number inc
+  Passes n t l number inc = frames.Passes logs members part limit c life room highest n t l number inc
 
   -- of all blocks just what is dirty waits, or is in flight
   pub all_known : (l : LogState) (t : TokensState) → ((b : BlockId) → Known logs l b (held_of t.blocks b))
@@ -130,7 +130,7 @@ module _ (logs : Bool) (members part most c life room top : ℕ) where
       waits_some = subst AreVersions (sym waits) k.waits_some;
       flies_some = subst AreVersions (sym flies) k.flies_some;
     }) seen h.logged;
-    numbers = premise_by logs (λ (k : HasNumbers l.end.seq room top). subst (λ (e : End). HasNumbers e.seq room top) (sym end) k) h.numbers;
+    numbers = premise_by logs (λ (k : HasNumbers l.end.seq room highest). subst (λ (e : End). HasNumbers e.seq room highest) (sym end) k) h.numbers;
   }
 
   -- the same content flies, by this attempt

@@ -36,7 +36,7 @@ use Rattle.wire_msg.specs.declared.packet.Packet.{Packet}
 use Rattle.xfs_base.proofs.Booleans.{by_test}
 use Rattle.xfs_base.specs.declared.block.BlockId.{BlockId}
 use Rattle.xfs_base.specs.Limits.{u32_end}
-use Rattle.xfs_base.specs.Steps.{still, after}
+use Rattle.xfs_base.specs.Steps.{still, saying}
 use Rattle.node_ties.specs.node_tie.Asks.{AsksForCall}
 use Rattle.node_ties.specs.node_tie.ClientEvents.{SeesServing, ClientStands, GetsBody, ServingReads, ClientGets, ClientGoes}
 use Rattle.node_ties.specs.node_tie.ClientLogs.{FiledStay, LogAgrees, end_upto}
@@ -56,65 +56,65 @@ use Rattle.node_ties.proofs.node_tie.ClientWrites as writing
 use Rattle.node_ties.proofs.node_tie.SmallWorld.{premise, premise_by, premise_both}
 
 -- how it stands before an event: what is in flight may be settled
-pub record MayBegin (logs : Bool) (members part most c life top : ℕ) (n : Net) (s : Serving) : Type 0 where
-  pub here : frames.At logs members part most c life 0 top n s
-  pub more : (f : FlightState) → s.log.flight ≡ Some f → frames.At logs members part most c life 1 top n s
+pub record MayBegin (logs : Bool) (members part limit c life highest : ℕ) (n : Net) (s : Serving) : Type 0 where
+  pub here : frames.At logs members part limit c life 0 highest n s
+  pub more : (f : FlightState) → s.log.flight ≡ Some f → frames.At logs members part limit c life 1 highest n s
 
-module _ (logs : Bool) (members part most c life top : ℕ) (small : part < 8) (pos : 0 < c) (less : c < members) where
+module _ (logs : Bool) (members part limit c life highest : ℕ) (small : part < 8) (pos : 0 < c) (less : c < members) where
   abbrev At : Net → Serving → Type 0
-  At n s = frames.At logs members part most c life 0 top n s
+  At n s = frames.At logs members part limit c life 0 highest n s
 
   abbrev Goes : Net → Done → Type 0
-  Goes n d = frames.Goes logs members part most c life 0 top n d
+  Goes n d = frames.Goes logs members part limit c life 0 highest n d
 
   abbrev Before : Net → Serving → Type 0
-  Before n s = MayBegin logs members part most c life top n s
+  Before n s = MayBegin logs members part limit c life highest n s
 
   -- what is done, and then the open call runs
   abbrev pub and_runs : Done → Done
-  and_runs d = after d.outs (runs d.state)
+  and_runs d = saying d.outs (runs d.state)
 
   runs_after : (n : Net) (d : Done) → Goes n d → Goes n (and_runs d)
-  runs_after n d p = own.runs_after logs members part most c life 0 top pos less n d p
+  runs_after n d p = own.runs_after logs members part limit c life 0 highest pos less n d p
 
   -- nothing is done but that the open call runs
   just_runs : (n : Net) (s : Serving) → Before n s → Goes n (and_runs (still s))
-  just_runs n s h = runs_after n (still s) (frames.goes_still logs members part most c life 0 top n s h.here)
+  just_runs n s h = runs_after n (still s) (frames.goes_still logs members part limit c life 0 highest n s h.here)
 
   -- ---- packets
 
-  body_so : (n : Net) (s : Serving) (p : Packet) (b : Body) → GetsBody part most c n (Serves s) b → Premise logs (ServingReads part most c n s p b)
+  body_so : (n : Net) (s : Serving) (p : Packet) (b : Body) → GetsBody part limit c n (Serves s) b → Premise logs (ServingReads part limit c n s p b)
       → AsksForCall s
       → has_room s.tokens.req ≡ true → Before n s → Goes n (and_runs (on_body s p.from b))
-  body_so n s p (body.Grant m) gets reads asks room h = own.on_grant_so logs members part most c life 0 top pos less n s m h.here asks gets
+  body_so n s p (body.Grant m) gets reads asks room h = own.on_grant_so logs members part limit c life 0 highest pos less n s m h.here asks gets
   body_so n s p (body.Supply m) gets reads asks room h =
-      runs_after n _ (hearing.on_supply_so logs members part most c life 0 top pos less n s m h.here gets)
+      runs_after n _ (hearing.on_supply_so logs members part limit c life 0 highest pos less n s m h.here gets)
   body_so n s p (body.Forward m) gets reads asks room h =
-      runs_after n _ (hearing.on_forward_so logs members part most c life 0 top pos less n s m h.here gets)
+      runs_after n _ (hearing.on_forward_so logs members part limit c life 0 highest pos less n s m h.here gets)
   body_so n s p (body.Recall m) gets reads asks room h =
-      runs_after n _ (hearing.on_recall_so logs members part most c life 0 top pos less n s m h.here gets)
-  body_so n s p (body.Gone m) gets reads asks room h = runs_after n _ (hearing.on_gone_so logs members part most c life 0 top pos less n s m h.here)
-  body_so n s p (body.DeltaAck m) gets reads asks room h = runs_after n _ (hearing.on_ack_so logs members part most c life 0 top pos less n s m h.here)
+      runs_after n _ (hearing.on_recall_so logs members part limit c life 0 highest pos less n s m h.here gets)
+  body_so n s p (body.Gone m) gets reads asks room h = runs_after n _ (hearing.on_gone_so logs members part limit c life 0 highest pos less n s m h.here)
+  body_so n s p (body.DeltaAck m) gets reads asks room h = runs_after n _ (hearing.on_ack_so logs members part limit c life 0 highest pos less n s m h.here)
   body_so n s p (body.Poll m) gets reads asks room h =
-      runs_after n _ (promising.on_poll_so logs members part most c life 0 top small pos less n s p.from m gets asks room h.here)
-  body_so n s p (body.Stored m) gets reads asks room h = runs_after n _ (hearing.on_stored_so logs members part most c life 0 top pos less n s m h.here h.more)
+      runs_after n _ (promising.on_poll_so logs members part limit c life 0 highest small pos less n s p.from m gets asks room h.here)
+  body_so n s p (body.Stored m) gets reads asks room h = runs_after n _ (hearing.on_stored_so logs members part limit c life 0 highest pos less n s m h.here h.more)
   body_so n s p (body.Fragment m) gets reads asks room h =
-      runs_after n _ (hearing.on_found_so logs members part most c life 0 top pos less n s p.from m reads h.here)
+      runs_after n _ (hearing.on_found_so logs members part limit c life 0 highest pos less n s p.from m reads h.here)
   body_so n s p (body.Missing m) gets reads asks room h =
-      runs_after n _ (hearing.on_missing_so logs members part most c life 0 top pos less n s p.from m reads h.here)
+      runs_after n _ (hearing.on_missing_so logs members part limit c life 0 highest pos less n s p.from m reads h.here)
   body_so n s p (body.MapNews m) gets reads asks room h =
-      runs_after n _ (promising.on_news_so logs members part most c life 0 top small pos less n s m gets h.here h.more)
+      runs_after n _ (promising.on_news_so logs members part limit c life 0 highest small pos less n s m gets h.here h.more)
   body_so n s p (body.Welcome m) gets reads asks room h =
-      runs_after n _ (promising.on_welcome_so logs members part most c life 0 top small pos less n s m gets.0 h.here h.more)
+      runs_after n _ (promising.on_welcome_so logs members part limit c life 0 highest small pos less n s m gets.0 h.here h.more)
   body_so n s p _ gets reads asks room h = just_runs n s h
 
-  pub packet_so : (n : Net) (s : Serving) (p : Packet) → ClientGets logs part most c n (Serves s) p → AsksForCall s → has_room s.tokens.req ≡ true → Before n s
+  pub packet_so : (n : Net) (s : Serving) (p : Packet) → ClientGets logs part limit c n (Serves s) p → AsksForCall s → has_room s.tokens.req ≡ true → Before n s
       → Goes n (and_runs (on_packet s p))
   unfolding on_packet
   packet_so n s p gets asks room h =
       by_test (λ (d : Done). Goes n (and_runs d)) (names_known s.maps p.body) (on_body s p.from p.body) (asks_for_maps s)
       (λ t. body_so n s p p.body gets.brings gets.reads asks room h)
-      (λ t. runs_after n (asks_for_maps s) (hearing.asks_for_maps_so logs members part most c life 0 top pos less n s h.here))
+      (λ t. runs_after n (asks_for_maps s) (hearing.asks_for_maps_so logs members part limit c life 0 highest pos less n s h.here))
 
   -- ---- time
 
@@ -129,12 +129,12 @@ module _ (logs : Bool) (members part most c life top : ℕ) (small : part < 8) (
       let l : Done = writes w.state log_in.Tick in
       let fetched : List Effect = fetches_again (reading_in w.state.call) in
       let pushed : List Effect = pushes_all l.state.managers l.state.feed in
-      frames.goes_on logs members part most c life 0 top n w (gives l.state (fetched ++ (l.outs ++ pushed)))
-      (tokens.hands_own logs members part most c life 0 top pos less n s input.Tick tt (λ u. refl) tt h.here)
-      (λ m k. frames.goes_after logs members part most c life 0 top m w.state fetched (gives l.state (l.outs ++ pushed))
+      frames.goes_on logs members part limit c life 0 highest n w (gives l.state (fetched ++ (l.outs ++ pushed)))
+      (tokens.hands_own logs members part limit c life 0 highest pos less n s input.Tick tt (λ u. refl) tt h.here)
+      (λ m k. frames.goes_after logs members part limit c life 0 highest m w.state fetched (gives l.state (l.outs ++ pushed))
       (plain_again (reading_in w.state.call)) k
-      (λ o i. frames.goes_and_gives logs members part most c life 0 top o l l.state pushed
-      (writing.ticks_so logs members part most c life 0 top pos less o w.state i)
+      (λ o i. frames.goes_and_gives logs members part limit c life 0 highest o l l.state pushed
+      (writing.ticks_so logs members part limit c life 0 highest pos less o w.state i)
       (λ x y. y) (tokens.plain_pushes_all part c life l.state.managers l.state.feed)))
 
   pub time_so : (n : Net) (s : Serving) → Before n s → Goes n (and_runs (on_tick s))
@@ -143,14 +143,14 @@ module _ (logs : Bool) (members part most c life top : ℕ) (small : part < 8) (
   -- ---- items
 
   pub says_so : (n : Net) (s : Serving) (number : ℕ) (a : Answer) → Before n s → Goes n (gives s (Answers number a ∷ []))
-  says_so n s number a h = frames.goes_plain logs members part most c life 0 top n s (Answers number a ∷ []) h.here
+  says_so n s number a h = frames.goes_plain logs members part limit c life 0 highest n s (Answers number a ∷ []) h.here
       (All-cons (frames.May part c life) (Answers number a) [] tt (All-nil (frames.May part c life)))
 
   begins_so : (n : Net) (s : Serving) (number : ℕ) (going : Option Going) → Before n s → Goes n (begins_call s number going)
   begins_so n s number None h = says_so n s number answer.Done h
   begins_so n s number (Some going) h =
       let d : Done = goes_on (record s { lasting = record s.lasting { items = waiting s.lasting.items number } }) going in
-      runs_after n d (blocks.goes_on_so logs members part most c life 0 top pos less n
+      runs_after n d (blocks.goes_on_so logs members part limit c life 0 highest pos less n
       (record s { lasting = record s.lasting { items = waiting s.lasting.items number } }) going h.here)
 
   pub opens_so : (n : Net) (s : Serving) (number : ℕ) → Before n s → Goes n (opens s number)
@@ -184,13 +184,13 @@ filed_stay k m c flight on flies low = record { rises = on.rises; upto = low; ro
     by_flight None flies low q upto = on.past q (below q (m.end c) (k.end c) upto low)
     by_flight (Some f) flies low q upto = by_end flies low q upto (nat_le q (k.end c)) refl
 
-module _ (logs : Bool) (members part most c : ℕ) (n : Net) (s : Serving) where
-  abbrev pub top : ℕ
-  top = end_upto s.log.end.seq s.log.flight
+module _ (logs : Bool) (members part limit c : ℕ) (n : Net) (s : Serving) where
+  abbrev pub highest : ℕ
+  highest = end_upto s.log.end.seq s.log.flight
 
   -- it stands as it is seen, where the numbers of its log are not near their end
-  stands_so : (room : ℕ) → SeesServing logs part c n s → ClientStands part most c n (Serves s) → s.log.end.seq + room ≤ top → top < u32_end
-      → frames.At logs members part most c s.lasting.inc room top n s
+  stands_so : (room : ℕ) → SeesServing logs part c n s → ClientStands part limit c n (Serves s) → s.log.end.seq + room ≤ highest → highest < u32_end
+      → frames.At logs members part limit c s.lasting.inc room highest n s
   stands_so room sees h below next = record {
     up = sees.up;
     tokens = sees.tokens;
@@ -199,7 +199,7 @@ module _ (logs : Bool) (members part most c : ℕ) (n : Net) (s : Serving) where
     sound = h.asks.sound;
     bears = record {
       life_is = sees.inc;
-      promised = record { eight = sees.epochs; within = subst (λ (t : TokensState). epoch_of t.epochs part ≤ most) sees.tokens h.within };
+      promised = record { eight = sees.epochs; within = subst (λ (t : TokensState). epoch_of t.epochs part ≤ limit) sees.tokens h.within };
       giving = λ b. by_giving b (held_of s.tokens.blocks b).giving refl;
       held = λ b. (sees.valued b, premise_by logs (λ (g : LogAgrees n.books c s.tokens s.log). g.unsettled.each b) sees.logged);
     };
@@ -219,8 +219,8 @@ module _ (logs : Bool) (members part most c : ℕ) (n : Net) (s : Serving) where
       by_giving b None is = tt
       by_giving b (Some g) is = λ inside. sees.giving b g inside is
 
-  pub stands : SeesServing logs part c n s → ClientStands part most c n (Serves s) → has_room s.log.end.seq ≡ true
-      → MayBegin logs members part most c s.lasting.inc top n s
+  pub stands : SeesServing logs part c n s → ClientStands part limit c n (Serves s) → has_room s.log.end.seq ≡ true
+      → MayBegin logs members part limit c s.lasting.inc highest n s
   stands sees h room = record {
     here = stands_so 0 sees h (upto s.log.end.seq s.log.flight) (inside s.log.end.seq s.log.flight room);
     more = λ f is. stands_so 1 sees h (one_more s.log.end.seq s.log.flight f is) (inside s.log.end.seq s.log.flight room);
@@ -241,7 +241,7 @@ module _ (logs : Bool) (members part most c : ℕ) (n : Net) (s : Serving) where
       inside end (Some f) r = grind (arith, nat_tests)
 
   -- and is seen as it stands
-  pub sees : (m : Net) (t : Serving) → frames.At logs members part most c s.lasting.inc 0 top m t → SeesServing logs part c m t
+  pub sees : (m : Net) (t : Serving) → frames.At logs members part limit c s.lasting.inc 0 highest m t → SeesServing logs part c m t
   sees m t h = record {
     up = h.up;
     tokens = h.tokens;
@@ -256,29 +256,29 @@ module _ (logs : Bool) (members part most c : ℕ) (n : Net) (s : Serving) where
           said = x.said;
           beyond = x.beyond;
           unsettled = record { waits_once = x.waits_once; flies_once = x.flies_once; waits_some = x.waits_some; flies_some = x.flies_some; each = p };
-        }) h.logged (all_known logs members part most c s.lasting.inc 0 top t.log t.tokens h.bears.held);
+        }) h.logged (all_known logs members part limit c s.lasting.inc 0 highest t.log t.tokens h.bears.held);
   }
 
   -- what was filed stays
-  log_goes : SeesServing logs part c n s → (d : Done) (p : frames.Goes logs members part most c s.lasting.inc 0 top n d)
+  log_goes : SeesServing logs part c n s → (d : Done) (p : frames.Goes logs members part limit c s.lasting.inc 0 highest n d)
       → Premise logs (FiledStay n.books p.next.books c s.log.flight)
   log_goes before d p =
       premise_both logs
       (λ (g : LogAgrees n.books c s.tokens s.log) (f : LogAgrees n.books c s.tokens s.log → FiledStay n.books p.next.books c s.log.flight). f g) before.logged
       (premise_both logs
-      (λ (on : Onward n.books p.next.books c) (low : p.next.books.end c ≤ top) (g : LogAgrees n.books c s.tokens s.log).
+      (λ (on : Onward n.books p.next.books c) (low : p.next.books.end c ≤ highest) (g : LogAgrees n.books c s.tokens s.log).
       filed_stay n.books p.next.books c s.log.flight on g.seen.flying
       (subst (λ e. p.next.books.end c ≤ end_upto e s.log.flight) (sym g.seen.end) low)) p.grown.own
       (premise_both logs
-      (λ (x : frames.LogStands p.next.books c d.state.log) (k : frames.HasNumbers d.state.log.end.seq 0 top). within
+      (λ (x : frames.LogStands p.next.books c d.state.log) (k : frames.HasNumbers d.state.log.end.seq 0 highest). within
       (p.next.books.end c) d.state.log.end.seq x.seen.end k.below)
       p.stands.logged p.stands.numbers))
     where
-      within : (a b : ℕ) → a ≡ b → b + 0 ≤ top → a ≤ top
+      within : (a b : ℕ) → a ≡ b → b + 0 ≤ highest → a ≤ highest
       within a b is low = omega (arith, is, low)
 
-  pub serves_on_so : SeesServing logs part c n s → (d : Done) → frames.Goes logs members part most c s.lasting.inc 0 top n d
-      → ClientGoes logs members part most c n (Serves s) (Serves d.state) d.outs
+  pub serves_on_so : SeesServing logs part c n s → (d : Done) → frames.Goes logs members part limit c s.lasting.inc 0 highest n d
+      → ClientGoes logs members part limit c n (Serves s) (Serves d.state) d.outs
   serves_on_so before d p = record {
     next = p.next;
     runs = p.grown.runs;
@@ -291,7 +291,7 @@ module _ (logs : Bool) (members part most c : ℕ) (n : Net) (s : Serving) where
     log = log_goes before d p;
     does = all_did part c n p.next.sent d.state.lasting.inc (Serves d.state) d.outs
         (subst (λ k. All (ClientDoes part p.next.sent c k) d.outs) (sym p.stands.inc_is) p.does);
-    within = subst (λ (t : TokensState). epoch_of t.epochs part ≤ most) (sym p.stands.tokens) p.stands.bears.promised.within;
+    within = subst (λ (t : TokensState). epoch_of t.epochs part ≤ limit) (sym p.stands.tokens) p.stands.bears.promised.within;
     promises = tt;
     later = (let e : d.state.lasting.inc ≡ s.lasting.inc = p.stands.inc_is in omega arith);
     begins = tt;

@@ -11,7 +11,7 @@ none_given : (g : Giving) {A : Type 0} → None ≡ Some g → A
 none_given g is = absurd (cc)
 
 pub client_starts : ClientStarts
-client_starts logs part most c small low setup works = record {
+client_starts logs part limit c small low setup works = record {
   agrees = record {
     up = refl;
     tokens = refl;
@@ -33,6 +33,6 @@ client_starts logs part most c small low setup works = record {
       };
     });
   };
-  within = All-get_or (λ (k : ℕ). k ≤ most) (opening.tokens c).epochs part 0 small (All-replicate (λ (k : ℕ). k ≤ most) 8 1 low);
+  within = All-get_or (λ (k : ℕ). k ≤ limit) (opening.tokens c).epochs part 0 small (All-replicate (λ (k : ℕ). k ≤ limit) 8 1 low);
   promises = tt;
 }

@@ -44,9 +44,9 @@ raised l number room = above l.inc room
     above : (k : ℕ) → has_room k ≡ true → k < cond (nat_lt k u32_end) (k + 1) k
     above k r = grind (arith, nat_tests)
 
-module _ (logs : Bool) (members part most c : ℕ) (small : part < 8) (pos : 0 < c) (less : c < members) (n : Net) where
+module _ (logs : Bool) (members part limit c : ℕ) (small : part < 8) (pos : 0 < c) (less : c < members) (n : Net) where
   abbrev Goes : Phase → Went_to → Type 0
-  Goes p w = ClientGoes logs members part most c n p w.state w.outs
+  Goes p w = ClientGoes logs members part limit c n p w.state w.outs
 
   -- ---- where the small world stands still
 
@@ -75,9 +75,9 @@ module _ (logs : Bool) (members part most c : ℕ) (small : part < 8) (pos : 0 <
     logged = h.logged;
   }
 
-  pub stays_so : (p q : Phase) (outs : List Effect) → ClientAgrees logs part c n q → epoch_of (n.tokens c).epochs part ≤ most → PromisesWithin part most q
+  pub stays_so : (p q : Phase) (outs : List Effect) → ClientAgrees logs part c n q → epoch_of (n.tokens c).epochs part ≤ limit → PromisesWithin part limit q
       → (lasting_of p).inc ≤ (lasting_of q).inc → BeginsLater p q → SaysBack c outs p q → Premise logs (LogGoes n n.books c outs p q)
-      → frames.Plain part c (lasting_of q).inc outs → ClientGoes logs members part most c n p q outs
+      → frames.Plain part c (lasting_of q).inc outs → ClientGoes logs members part limit c n p q outs
   stays_so p q outs agrees within promises later begins back log plain =
       let grown : frames.Grown logs members part c n (acted n (acts_of (Client c) outs)) (acts_of (Client c) outs) =
       frames.grown_saying logs members part c n (acts_of (Client c) outs) (frames.plain_acts part c (lasting_of q).inc outs plain) in
@@ -114,7 +114,7 @@ module _ (logs : Bool) (members part most c : ℕ) (small : part < 8) (pos : 0 <
   log_same (Opening l o) = refl
   log_same (Serves s) = record { rises = omega arith; upto = end_within n.books c s.log.flight; rows = λ q upto. refl }
 
-  pub still_so : (p : Phase) → ClientAgrees logs part c n p → ClientStands part most c n p → Goes p (still p)
+  pub still_so : (p : Phase) → ClientAgrees logs part c n p → ClientStands part limit c n p → Goes p (still p)
   still_so p agrees h = stays_so p p [] agrees h.within h.promises (omega arith) (begins_same p) (back_same p []) (premise logs (log_same p))
       (All-nil (frames.May part c (lasting_of p).inc))
 
@@ -123,7 +123,7 @@ module _ (logs : Bool) (members part most c : ℕ) (small : part < 8) (pos : 0 <
 
   -- ---- one that is down
 
-  module _ (l : Lasting) (sees : SeesDown logs part c n l) (h : ClientStands part most c n (Down l)) where
+  module _ (l : Lasting) (sees : SeesDown logs part c n l) (h : ClientStands part limit c n (Down l)) where
     restarted_so : (servers number : ℕ) → has_room l.inc ≡ true → Goes (Down l) (restarted servers (next_life (record l { items = begun l.items }) number))
     restarted_so servers number room =
         let life : Lasting = next_life (record l { items = begun l.items }) number in

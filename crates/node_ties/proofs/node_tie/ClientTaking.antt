@@ -57,12 +57,12 @@ known_stays logs l = record {
       (λ x. ap is_some value ∙ q.0 held, premise_by logs (stays_same (row_in (rows_waiting l) b) (row_in (rows_flown l.flight) b) h g ver settled value) q.1);
 }
 
-module _ (logs : Bool) (members part most c life room top : ℕ) where
+module _ (logs : Bool) (members part limit c life room highest : ℕ) where
   abbrev Stands : Net → TokensState → LogState → ℕ → ℕ → Type 0
-  Stands n t l number inc = frames.Stands logs members part most c life room top n t l number inc
+  Stands n t l number inc = frames.Stands logs members part limit c life room highest n t l number inc
 
   abbrev Bear : List Packet → LogState → TokensState → Type 0
-  Bear sent l t = frames.Bear logs members part most c life room top sent l t
+  Bear sent l t = frames.Bear logs members part limit c life room highest sent l t
 
   -- what was sent still is
   pub bears_more : (sent more : List Packet) → Within sent more → (l : LogState) (t : TokensState) → Bear sent l t → Bear more l t
@@ -102,7 +102,7 @@ module _ (logs : Bool) (members part most c life room top : ℕ) where
 
   -- an input is taken, with these acts
   pub acting : (n : Net) (m : LogState) (end number inc : ℕ) (d : client.Done) (done acts : List Act) → n.up c ≡ true → number ≡ c → inc ≡ life
-      → Premise logs (frames.HasNumbers m.end.seq room top) → acts ≡ n.acts ++ done
+      → Premise logs (frames.HasNumbers m.end.seq room highest) → acts ≡ n.acts ++ done
       → Happens logs members part n (record (after_client n c end d) { acts = acts }) → IsSound d.state → Bear n.sent m d.state
       → Premise logs (LogStands n.books c m) → Taken n m end number inc d done
   acting n m end number inc d done acts up number_is inc_is numbers are happens sound bears logged =
@@ -140,7 +140,7 @@ module _ (logs : Bool) (members part most c life room top : ℕ) where
   -- an input may be taken
   pub record MayTake (n : Net) (l : LogState) (i : inputs.In) : Type 0 where
     pub happens : (end : ℕ) → IsServing logs members n c end → Happens logs members part n (after_client n c end (client.transition (n.tokens c) i))
-    pub allowed : Allowed (Sent part c n.sent) (Promised part most) (Known logs l) life i
+    pub allowed : Allowed (Sent part c n.sent) (Promised part limit) (Known logs l) life i
 
   pub none_sent : (sent : List Packet) (b : BlockId) → Sent part c sent b None
   none_sent sent b = tt
@@ -153,11 +153,11 @@ module _ (logs : Bool) (members part most c life room top : ℕ) where
       (subst (λ u. Happens logs members part n (after_client n c l.end.seq (client.transition u i))) h.tokens
       (may.happens l.end.seq (is_serving n t l number inc pos less h)))
       (transition-follows (λ b. Unit {0}) t h.sound i (λ b k. tt)).sound
-      (transition-bears (Sent part c n.sent) (Promised part most) (Known logs l) life (known_stays logs l) (none_sent n.sent) t h.sound i may.allowed h.bears)
+      (transition-bears (Sent part c n.sent) (Promised part limit) (Known logs l) life (known_stays logs l) (none_sent n.sent) t h.sound i may.allowed h.bears)
 
   -- of its own accord, where nothing is acted
   pub may_act : (n : Net) (l : LogState) (i : inputs.In) → IsOwnAct i → ((u : TokensState) → acts_by c u i ≡ [])
-      → Allowed (Sent part c n.sent) (Promised part most) (Known logs l) life i → MayTake n l i
+      → Allowed (Sent part c n.sent) (Promised part limit) (Known logs l) life i → MayTake n l i
   may_act n l i own silent allowed = record {
     happens = λ end serves.
         subst (λ (acts : List Act). Happens logs members part n (record (after_client n c end (client.transition (n.tokens c) i)) { acts = acts }))
@@ -203,8 +203,8 @@ module _ (logs : Bool) (members part most c life room top : ℕ) where
   -- ---- promises
 
   -- a promise within the bound may be made
-  pub promise_may : part < 8 → (slot epoch : ℕ) → (slot ≡ part → epoch ≤ most) → (epochs : List ℕ) → Promised part most epochs
-      → Promised part most (slice_set epochs slot epoch)
+  pub promise_may : part < 8 → (slot epoch : ℕ) → (slot ≡ part → epoch ≤ limit) → (epochs : List ℕ) → Promised part limit epochs
+      → Promised part limit (slice_set epochs slot epoch)
   promise_may small slot epoch fits epochs h = record { eight = length-set epochs slot epoch ∙ h.eight; within = by_slot (slot == part) refl }
     where
       same : (n m : ℕ) → (n == m) ≡ true → n ≡ m
@@ -213,10 +213,10 @@ module _ (logs : Bool) (members part most c life room top : ℕ) where
       apart : (n m : ℕ) → (n == m) ≡ false → m ≡ n → ⊥
       apart n m t = grind (arith, nat_tests)
 
-      by_slot : (t : Bool) → (slot == part) ≡ t → epoch_of (slice_set epochs slot epoch) part ≤ most
+      by_slot : (t : Bool) → (slot == part) ≡ t → epoch_of (slice_set epochs slot epoch) part ≤ limit
       by_slot true is =
           let here : slot ≡ part = same slot part is in
           let inside : part < length epochs = (let e : length epochs ≡ 8 = h.eight in omega arith) in
-          subst (λ k. epoch_of (slice_set epochs k epoch) part ≤ most) (sym here)
-          (subst (λ m. m ≤ most) (sym (get_or-set_same epochs part epoch 0 inside)) (fits here))
-      by_slot false is = subst (λ m. m ≤ most) (sym (get_or-set_other epochs slot part epoch 0 (apart slot part is))) h.within
+          subst (λ k. epoch_of (slice_set epochs k epoch) part ≤ limit) (sym here)
+          (subst (λ m. m ≤ limit) (sym (get_or-set_same epochs part epoch 0 inside)) (fits here))
+      by_slot false is = subst (λ m. m ≤ limit) (sym (get_or-set_other epochs slot part epoch 0 (apart slot part is))) h.within

@@ -95,12 +95,12 @@ module _ (part c life : ℕ) where
   plain_stored (log_out.Send fragment member ∷ outs) = All-cons (frames.May part c life) _ (flat_map stored outs) tt (plain_stored outs)
   plain_stored (log_out.Settled end rows ∷ outs) = plain_stored outs
 
-module _ (logs : Bool) (members part most c life room top : ℕ) (pos : 0 < c) (less : c < members) where
+module _ (logs : Bool) (members part limit c life room highest : ℕ) (pos : 0 < c) (less : c < members) where
   abbrev At : Net → Serving → Type 0
-  At n s = frames.At logs members part most c life room top n s
+  At n s = frames.At logs members part limit c life room highest n s
 
   abbrev Goes : Net → Done → Type 0
-  Goes n d = frames.Goes logs members part most c life room top n d
+  Goes n d = frames.Goes logs members part limit c life room highest n d
 
   -- what goes on, and leaves the end of the log
   pub record Logged (n : Net) (end : ℕ) (d : Done) : Type 0 where
@@ -110,12 +110,12 @@ module _ (logs : Bool) (members part most c life room top : ℕ) (pos : 0 < c) (
   -- ---- what the tokens take of the client's own accord
 
   pub acts_so : (n : Net) (s : Serving) (i : inputs.In) → IsOwnAct i → ((u : TokensState) → acts_by c u i ≡ [])
-      → Allowed (frames.Sent part c n.sent) (frames.Promised part most) (frames.Known logs s.log) life i → At n s
+      → Allowed (frames.Sent part c n.sent) (frames.Promised part limit) (frames.Known logs s.log) life i → At n s
       → Goes n (still (record s { tokens = (client.transition s.tokens i).state }))
   acts_so n s i own silent allowed h =
-      let k : taking.Taken logs members part most c life room top n s.log s.log.end.seq s.lasting.number s.lasting.inc (client.transition s.tokens i) [] =
-      taking.takes logs members part most c life room top n s.tokens s.log s.lasting.number s.lasting.inc i pos less h
-      (taking.may_act logs members part most c life room top n s.log i own silent allowed) in
+      let k : taking.Taken logs members part limit c life room highest n s.log s.log.end.seq s.lasting.number s.lasting.inc (client.transition s.tokens i) [] =
+      taking.takes logs members part limit c life room highest n s.tokens s.log s.lasting.number s.lasting.inc i pos less h
+      (taking.may_act logs members part limit c life room highest n s.log i own silent allowed) in
       record { next = k.next; grown = k.grown; stands = k.stands; does = All-nil (ClientDoes part k.next.sent c life) }
 
   -- ---- the cache
@@ -127,7 +127,7 @@ module _ (logs : Bool) (members part most c life room top : ℕ) (pos : 0 < c) (
   pub notes_clean_so : (n : Net) (s : Serving) (block : BlockId) → At n s → Goes n (still (notes_clean s block))
   unfolding notes_clean
   notes_clean_so n s block h =
-      frames.goes_fold logs members part most c life room top evicts evicts_so n (record s { cache = (cleaned s.cache block).state })
+      frames.goes_fold logs members part limit c life room highest evicts evicts_so n (record s { cache = (cleaned s.cache block).state })
       (cleaned s.cache block).outs h
 
   evicts_end : (s : Serving) (outs : List cache_out.Out) → (fold evicts s outs).log ≡ s.log
@@ -149,7 +149,7 @@ module _ (logs : Bool) (members part most c life room top : ℕ) (pos : 0 < c) (
   notes_copy_so n s end block e h =
       by_test (λ (t : Serving). Logged n end (still t)) (same_mode (held_of s.tokens.blocks block).mode Copy) (notes_clean s block) s
       (λ t. record { goes = notes_clean_so n s block h; end_is = ap (λ (l : LogState). l.end.seq) (notes_clean_end s block) ∙ e })
-      (λ t. record { goes = frames.goes_still logs members part most c life room top n s h; end_is = e })
+      (λ t. record { goes = frames.goes_still logs members part limit c life room highest n s h; end_is = e })
 
   -- ---- the log
 
@@ -163,11 +163,11 @@ module _ (logs : Bool) (members part most c life room top : ℕ) (pos : 0 < c) (
   unfolding seals
   seals_so n s end e h =
       let r : log.Done = log.on_seal s.log in
-      let k : frames.Passes logs members part most c life room top n s.tokens r.state s.lasting.number s.lasting.inc =
-      on_seal_passes logs members part most c life room top pos less n s.tokens s.log s.lasting.number s.lasting.inc h in
+      let k : frames.Passes logs members part limit c life room highest n s.tokens r.state s.lasting.number s.lasting.inc =
+      on_seal_passes logs members part limit c life room highest pos less n s.tokens s.log s.lasting.number s.lasting.inc h in
       record {
-        goes = frames.goes_from logs members part most c life room top n k.next (seals s) k.grown
-            (frames.goes_plain logs members part most c life room top k.next (record s { log = r.state }) (flat_map stored r.outs) k.stands
+        goes = frames.goes_from logs members part limit c life room highest n k.next (seals s) k.grown
+            (frames.goes_plain logs members part limit c life room highest k.next (record s { log = r.state }) (flat_map stored r.outs) k.stands
             (plain_stored part c life r.outs));
         end_is = ap (λ x. x.seq) (seal_end s.log) ∙ e;
       }
@@ -185,14 +185,14 @@ module _ (logs : Bool) (members part most c life room top : ℕ) (pos : 0 < c) (
       } in
       let outs : List Effect = Lose seg ∷ answers_unanswered s.lasting.items.unanswered (Lost seg) in
       record {
-        goes = frames.goes_and_gives logs members part most c life room top n (still quit) t outs (acts_so n s (input.Quit block) tt (λ u. refl) tt h)
+        goes = frames.goes_and_gives logs members part limit c life room highest n (still quit) t outs (acts_so n s (input.Quit block) tt (λ u. refl) tt h)
             (λ m k. k)
             (All-cons (frames.May part c life) _ _ tt (plain_answers part c life s.lasting.items.unanswered (Lost seg)));
         end_is = e;
       }
 
   still_so : (n : Net) (s : Serving) (end : ℕ) → s.log.end.seq ≡ end → At n s → Logged n end (still s)
-  still_so n s end e h = record { goes = frames.goes_still logs members part most c life room top n s h; end_is = e }
+  still_so n s end e h = record { goes = frames.goes_still logs members part limit c life room highest n s h; end_is = e }
 
   loses_at_so : (n : Net) (s : Serving) (end : ℕ) (at : Option BlockAt) (seg : SegName) → s.log.end.seq ≡ end → At n s → Logged n end (loses_at s at seg)
   loses_at_so n s end None seg e h = still_so n s end e h
@@ -204,7 +204,7 @@ module _ (logs : Bool) (members part most c life room top : ℕ) (pos : 0 < c) (
   begins_over_so n s end target (Some group) e h =
       let r : ReadingState = begun target group (next_ask s.lasting.questions) in
       record {
-        goes = frames.goes_plain logs members part most c life room top n (with_reading (draws s) (Some r)) (fetches r) h (plain_fetches part c life r);
+        goes = frames.goes_plain logs members part limit c life room highest n (with_reading (draws s) (Some r)) (fetches r) h (plain_fetches part c life r);
         end_is = e;
       }
 
@@ -215,7 +215,7 @@ module _ (logs : Bool) (members part most c life room top : ℕ) (pos : 0 < c) (
   confirmed_next_so : (n : Net) (s : Serving) (end : ℕ) (r : ReadingState) (x : Next) → s.log.end.seq ≡ end → At n s → Logged n end (confirmed_next s r x)
   confirmed_next_so n s end r next.Lost e h = loses_at_so n s end r.target.block r.target.seg.name e h
   confirmed_next_so n s end r next.Ask e h = record
-      { goes = frames.goes_plain logs members part most c life room top n (with_reading s (Some r)) (fetches r) h (plain_fetches part c life r); end_is = e }
+      { goes = frames.goes_plain logs members part limit c life room highest n (with_reading s (Some r)) (fetches r) h (plain_fetches part c life r); end_is = e }
   confirmed_next_so n s end r next.Wait e h = still_so n (with_reading s (Some r)) end e h
   confirmed_next_so n s end r next.Again e h = still_so n (with_reading s (Some r)) end e h
   confirmed_next_so n s end r (next.Read segment) e h = still_so n (with_reading s (Some r)) end e h
@@ -256,13 +256,13 @@ module _ (logs : Bool) (members part most c life room top : ℕ) (pos : 0 < c) (
   one_said : (n : Net) (s : Serving) (end : ℕ) (before : List Effect) (e : Effect) → s.log.end.seq ≡ end → At n s → Plain part c life before
       → acts_of (Client c) (e ∷ []) ≡ [] → ClientDoes part n.sent c life e → Logged n end (gives s (before ++ e ∷ []))
   one_said n s end before e log h plain silent seen = record {
-    goes = frames.goes_after_in logs members part most c life room top n s before (gives s (e ∷ [])) plain h
-        (λ m w k. frames.goes_said logs members part most c life room top m s e silent k (frames.does_more part c life n.sent m.sent w e seen));
+    goes = frames.goes_after_in logs members part limit c life room highest n s before (gives s (e ∷ [])) plain h
+        (λ m w k. frames.goes_said logs members part limit c life room highest m s e silent k (frames.does_more part c life n.sent m.sent w e seen));
     end_is = log;
   }
 
   follows_one_so : (n : Net) (s : Serving) (end : ℕ) (o : outputs.Out) → s.log.end.seq ≡ end → At n s
-      → taking.OutSeen logs members part most c life room top n.sent end o
+      → taking.OutSeen logs members part limit c life room highest n.sent end o
       → Logged n end (follows_one s o)
   unfolding follows_one
   follows_one_so n s end (output.Want block req again mode) e h seen =
@@ -278,38 +278,38 @@ module _ (logs : Bool) (members part most c life room top : ℕ) (pos : 0 < c) (
   follows_one_so n s end (output.Supply block ver value) e h seen = still_so n s end e h
 
   follows_all : (n : Net) (s : Serving) (end : ℕ) (outs : List outputs.Out) → s.log.end.seq ≡ end → At n s
-      → taking.OutsSeen logs members part most c life room top n.sent end outs → Goes n (steps follows_one s outs)
-  follows_all n s end [] e h seen = frames.goes_still logs members part most c life room top n s h
+      → taking.OutsSeen logs members part limit c life room highest n.sent end outs → Goes n (steps follows_one s outs)
+  follows_all n s end [] e h seen = frames.goes_still logs members part limit c life room highest n s h
   follows_all n s end (o ∷ outs) e h seen =
       let one : Logged n end (follows_one s o) = follows_one_so n s end o e h seen.0 in
-      frames.goes_on_in logs members part most c life room top n (follows_one s o) (steps follows_one (follows_one s o).state outs) one.goes
+      frames.goes_on_in logs members part limit c life room highest n (follows_one s o) (steps follows_one (follows_one s o).state outs) one.goes
       (λ m w k. follows_all m (follows_one s o).state end outs one.end_is k
-      (taking.outs_more logs members part most c life room top n.sent m.sent w end outs seen.1))
+      (taking.outs_more logs members part limit c life room highest n.sent m.sent w end outs seen.1))
 
   -- what the tokens gave out, and was sent, is done
-  pub follows_so : (n : Net) (s : Serving) (outs : List outputs.Out) → At n s → taking.OutsSeen logs members part most c life room top n.sent s.log.end.seq outs
+  pub follows_so : (n : Net) (s : Serving) (outs : List outputs.Out) → At n s → taking.OutsSeen logs members part limit c life room highest n.sent s.log.end.seq outs
       → Goes n (follows s outs)
   unfolding follows
   follows_so n s outs h seen = follows_all n s s.log.end.seq outs refl h seen
 
   -- an input that may be taken is handed to the tokens
-  pub hands_so : (n : Net) (s : Serving) (i : inputs.In) → taking.MayTake logs members part most c life room top n s.log i → At n s → Goes n (hands s i)
+  pub hands_so : (n : Net) (s : Serving) (i : inputs.In) → taking.MayTake logs members part limit c life room highest n s.log i → At n s → Goes n (hands s i)
   unfolding hands
   hands_so n s i may h =
       let r : client.Done = client.transition s.tokens i in
       let t : Serving = ends_reading (record s { tokens = r.state }) in
-      let k : taking.Taken logs members part most c life room top n s.log s.log.end.seq s.lasting.number s.lasting.inc r [] =
-      taking.takes logs members part most c life room top n s.tokens s.log s.lasting.number s.lasting.inc i pos less h may in
-      frames.goes_from logs members part most c life room top n k.next (follows t r.outs) k.grown
-      (follows_so k.next t r.outs k.stands (taking.outs_seen logs members part most c life room top k.next.sent s.log.end.seq r.outs k.seen))
+      let k : taking.Taken logs members part limit c life room highest n s.log s.log.end.seq s.lasting.number s.lasting.inc r [] =
+      taking.takes logs members part limit c life room highest n s.tokens s.log s.lasting.number s.lasting.inc i pos less h may in
+      frames.goes_from logs members part limit c life room highest n k.next (follows t r.outs) k.grown
+      (follows_so k.next t r.outs k.stands (taking.outs_seen logs members part limit c life room highest k.next.sent s.log.end.seq r.outs k.seen))
 
   -- one of the client's own accord
   pub hands_own : (n : Net) (s : Serving) (i : inputs.In) → IsOwnAct i → ((u : TokensState) → acts_by c u i ≡ [])
-      → Allowed (frames.Sent part c n.sent) (frames.Promised part most) (frames.Known logs s.log) life i → At n s → Goes n (hands s i)
-  hands_own n s i own silent allowed h = hands_so n s i (taking.may_act logs members part most c life room top n s.log i own silent allowed) h
+      → Allowed (frames.Sent part c n.sent) (frames.Promised part limit) (frames.Known logs s.log) life i → At n s → Goes n (hands s i)
+  hands_own n s i own silent allowed h = hands_so n s i (taking.may_act logs members part limit c life room highest n s.log i own silent allowed) h
 
   pub takes_back_so : (n : Net) (s : Serving) (block : BlockId) (stamp : Stamp) (keep : Bool)
-      → taking.MayTake logs members part most c life room top n s.log (input.Recalled block stamp keep) → At n s → Goes n (takes_back s block stamp keep)
+      → taking.MayTake logs members part limit c life room highest n s.log (input.Recalled block stamp keep) → At n s → Goes n (takes_back s block stamp keep)
   unfolding takes_back
   takes_back_so n s block stamp keep may h =
       let d : Done = hands s (input.Recalled block stamp keep) in

@@ -33,7 +33,7 @@ use Rattle.xfs_base.specs.declared.entry.Entry.{Entry}
 use Rattle.xfs_base.specs.declared.segment.End.{End}
 use Rattle.xfs_base.specs.declared.segment.SegName.{SegName}
 use Rattle.xfs_base.specs.Limits.{segment_blocks, u32_end}
-use Rattle.xfs_base.specs.Steps.{still, after, steps}
+use Rattle.xfs_base.specs.Steps.{still, saying, steps}
 use Rattle.node_ties.specs.node_tie.LogRows.{rows_told}
 use Rattle.node_ties.proofs.node_tie.ClientFiling.{filed_passes}
 use Rattle.node_ties.proofs.node_tie.ClientFlights.{settles_from}
@@ -66,26 +66,26 @@ if_full-sends : (l : LogState) → AllByRecursion IsSend (log.if_full l).outs
 unfolding log.if_full
 if_full-sends l = by_test (λ (d : log.Done). AllByRecursion IsSend d.outs) (log.is_full l) (log.sealed l) (still l) (λ t. sealed-sends l) (λ t. tt)
 
-module _ (logs : Bool) (members part most c life room top : ℕ) (pos : 0 < c) (less : c < members) where
+module _ (logs : Bool) (members part limit c life room highest : ℕ) (pos : 0 < c) (less : c < members) where
   abbrev At : Net → Serving → Type 0
-  At n s = frames.At logs members part most c life room top n s
+  At n s = frames.At logs members part limit c life room highest n s
 
   abbrev Goes : Net → Done → Type 0
-  Goes n d = frames.Goes logs members part most c life room top n d
+  Goes n d = frames.Goes logs members part limit c life room highest n d
 
   sends_so : (n : Net) (s : Serving) (outs : List Out) → AllByRecursion IsSend outs → At n s → Goes n (steps writes_one s outs)
   unfolding writes_one
-  sends_so n s [] all h = frames.goes_still logs members part most c life room top n s h
+  sends_so n s [] all h = frames.goes_still logs members part limit c life room highest n s h
   sends_so n s (Send fragment member ∷ outs) all h =
-      frames.goes_after logs members part most c life room top n s (store fragment member ∷ []) (steps writes_one s outs)
+      frames.goes_after logs members part limit c life room highest n s (store fragment member ∷ []) (steps writes_one s outs)
       (All-cons (frames.May part c life) (store fragment member) [] tt (All-nil (frames.May part c life))) h (λ m k. sends_so m s outs all.1 k)
   sends_so n s (Settled end rows ∷ outs) all h = absurd all.0
 
   seals_again_so : (n : Net) (s : Serving) (settling : Bool) → At n s → Goes n (seals_again s settling)
   seals_again_so n s settling h =
       by_test (λ (d : Done). Goes n d) (settling && is_giving s.tokens) (seals s) (still s)
-      (λ t. (tokens.seals_so logs members part most c life room top pos less n s s.log.end.seq refl h).goes)
-      (λ t. frames.goes_still logs members part most c life room top n s h)
+      (λ t. (tokens.seals_so logs members part limit c life room highest pos less n s s.log.end.seq refl h).goes)
+      (λ t. frames.goes_still logs members part limit c life room highest n s h)
 
   -- what the log did is done
   abbrev Wrote : Net → Serving → log.Done → Type 0
@@ -96,7 +96,7 @@ module _ (logs : Bool) (members part most c life room top : ℕ) (pos : 0 < c) (
   writes_from n s i p =
       let r : log.Done = log.transition s.log i in
       let d : Done = steps writes_one (record s { log = r.state }) r.outs in
-      frames.goes_on logs members part most c life room top n d (seals_again d.state (list_any is_settling r.outs)) p
+      frames.goes_on logs members part limit c life room highest n d (seals_again d.state (list_any is_settling r.outs)) p
       (λ m k. seals_again_so m d.state (list_any is_settling r.outs) k)
 
   -- it changed without a trace, and sends fragments
@@ -106,9 +106,9 @@ module _ (logs : Bool) (members part most c life room top : ℕ) (pos : 0 < c) (
   -- a full log is sealed
   if_full_so : (n : Net) (s : Serving) (l : LogState) → At n (record s { log = l }) → Wrote n s (log.if_full l)
   if_full_so n s l h =
-      let k : frames.Passes logs members part most c life room top n s.tokens (log.if_full l).state s.lasting.number s.lasting.inc =
-      if_full_passes logs members part most c life room top pos less n s.tokens l s.lasting.number s.lasting.inc h in
-      frames.goes_from logs members part most c life room top n k.next
+      let k : frames.Passes logs members part limit c life room highest n s.tokens (log.if_full l).state s.lasting.number s.lasting.inc =
+      if_full_passes logs members part limit c life room highest pos less n s.tokens l s.lasting.number s.lasting.inc h in
+      frames.goes_from logs members part limit c life room highest n k.next
       (steps writes_one (record s { log = (log.if_full l).state }) (log.if_full l).outs) k.grown
       (only_sends k.next s (log.if_full l) (if_full-sends l) k.stands)
 
@@ -120,14 +120,14 @@ module _ (logs : Bool) (members part most c life room top : ℕ) (pos : 0 < c) (
   put_so n s block change h =
       let m : LogState = log.waits s.log block change in
       by_test (λ (r : log.Done). Wrote n s r) (log.can_go_on m) (log.if_full m) (still s.log) (λ t. if_full_so n s m h)
-      (λ t. frames.goes_still logs members part most c life room top n s
-      (stands_any logs members part most c life room top n s.tokens m s.log s.lasting.number s.lasting.inc
-      (premise_by logs (λ (left : frames.HasNumbers m.end.seq room top). absurd (stuck m t left)) h.numbers) h))
+      (λ t. frames.goes_still logs members part limit c life room highest n s
+      (stands_any logs members part limit c life room highest n s.tokens m s.log s.lasting.number s.lasting.inc
+      (premise_by logs (λ (left : frames.HasNumbers m.end.seq room highest). absurd (stuck m t left)) h.numbers) h))
     where
-      has_room : (end : ℕ) → end + room ≤ top → top < u32_end → nat_lt end u32_end ≡ true
+      has_room : (end : ℕ) → end + room ≤ highest → highest < u32_end → nat_lt end u32_end ≡ true
       has_room end low last = grind (arith, nat_tests)
 
-      stuck : (m : LogState) → log.can_go_on m ≡ false → frames.HasNumbers m.end.seq room top → ⊥
+      stuck : (m : LogState) → log.can_go_on m ≡ false → frames.HasNumbers m.end.seq room highest → ⊥
       stuck m t left = contrary (sym t ∙ or_second (not (log.is_full m)) (log.has_next m.end.seq) (has_room m.end.seq left.below left.next))
 
   -- what waits already is written, once the tokens and the log have it
@@ -139,15 +139,15 @@ module _ (logs : Bool) (members part most c life room top : ℕ) (pos : 0 < c) (
 
   -- so many segments and one more may still be settled
   abbrev Before : Net → TokensState → LogState → ℕ → ℕ → Type 0
-  Before n t l number inc = frames.Stands logs members part most c life (room + 1) top n t l number inc
+  Before n t l number inc = frames.Stands logs members part limit c life (room + 1) highest n t l number inc
 
   module _ (n : Net) (s : Serving) (l : LogState) (f : FlightState) (h : Before n s.tokens (record l { flight = Some f }) s.lasting.number s.lasting.inc) where
     -- the same content flies, by this attempt
     flies_so : (g : FlightState) → g.segment.items ≡ f.segment.items → g.segment.name.seq ≡ f.segment.name.seq
         → At n (record s { log = record l { flight = Some g } })
     flies_so g items seq =
-        reflown logs members part most c life room top n s.tokens l f g s.lasting.number s.lasting.inc items seq
-        (frames.stands_less logs members part most c life room top n s.tokens (record l { flight = Some f }) s.lasting.number s.lasting.inc h)
+        reflown logs members part limit c life room highest n s.tokens l f g s.lasting.number s.lasting.inc items seq
+        (frames.stands_less logs members part limit c life room highest n s.tokens (record l { flight = Some f }) s.lasting.number s.lasting.inc h)
 
     restriped_so : Wrote n s (log.restriped l f)
     unfolding log.restriped log.launched log.all_sends
@@ -162,19 +162,19 @@ module _ (logs : Bool) (members part most c life room top : ℕ) (pos : 0 < c) (
         let rows : List (BlockId × Entry) = rows_of f.segment in
         let full : log.Done = log.if_full (log.landed l f) in
         let behind : Serving = record s { log = full.state } in
-        let filed : frames.Passes logs members part most c life room top n (all_settled s.tokens (rows_told f.segment.items))
+        let filed : frames.Passes logs members part limit c life room highest n (all_settled s.tokens (rows_told f.segment.items))
         (log.landed l f) s.lasting.number s.lasting.inc =
-        filed_passes logs members part most c life room top pos less n s.tokens l f s.lasting.number s.lasting.inc h in
-        let k : frames.Passes logs members part most c life room top filed.next
+        filed_passes logs members part limit c life room highest pos less n s.tokens l f s.lasting.number s.lasting.inc h in
+        let k : frames.Passes logs members part limit c life room highest filed.next
         (all_settled s.tokens (rows_told f.segment.items)) full.state s.lasting.number s.lasting.inc =
-        if_full_passes logs members part most c life room top pos less filed.next (all_settled s.tokens (rows_told f.segment.items))
+        if_full_passes logs members part limit c life room highest pos less filed.next (all_settled s.tokens (rows_told f.segment.items))
         (log.landed l f) s.lasting.number
         s.lasting.inc filed.stands in
         let settling : Done = settles behind end rows in
-        frames.goes_from logs members part most c life room top n k.next (after settling.outs (steps writes_one settling.state full.outs))
+        frames.goes_from logs members part limit c life room highest n k.next (saying settling.outs (steps writes_one settling.state full.outs))
         (frames.grown_on logs members part c n filed.next k.next [] [] filed.grown k.grown)
-        (frames.goes_on logs members part most c life room top k.next settling (steps writes_one settling.state full.outs)
-        (settles_from logs members part most c life room top pos less k.next behind end rows
+        (frames.goes_on logs members part limit c life room highest k.next settling (steps writes_one settling.state full.outs)
+        (settles_from logs members part limit c life room highest pos less k.next behind end rows
         (subst (At k.next) (sym (notes_settled_are behind f.segment)) k.stands))
         (λ m i. sends_so m settling.state full.outs (if_full-sends (log.landed l f)) i))
 
@@ -182,12 +182,12 @@ module _ (logs : Bool) (members part most c life room top : ℕ) (pos : 0 < c) (
         → Wrote n s (cond (log.can_follow l f fate) (log.followed l f fate) (still before))
     followed_so before q Restripe =
         by_test (λ (r : log.Done). Wrote n s r) (log.can_follow l f Restripe) (log.restriped l f) (still before) (λ t. restriped_so)
-        (λ t. frames.goes_still logs members part most c life room top n (record s { log = before }) q)
+        (λ t. frames.goes_still logs members part limit c life room highest n (record s { log = before }) q)
     followed_so before q Settle =
         by_test (λ (r : log.Done). Wrote n s r) (log.can_follow l f Settle) (log.settled l f) (still before) (λ t. settled_so)
-        (λ t. frames.goes_still logs members part most c life room top n (record s { log = before }) q)
+        (λ t. frames.goes_still logs members part limit c life room highest n (record s { log = before }) q)
     followed_so before q Wait =
-        frames.goes_still logs members part most c life room top n (record s { log = record l { flight = Some f } }) (flies_so f refl refl)
+        frames.goes_still logs members part limit c life room highest n (record s { log = record l { flight = Some f } }) (flies_so f refl refl)
 
     looked_so : (before : LogState) → At n (record s { log = before }) → Wrote n s (log.looked_at before l f)
     unfolding log.looked_at
@@ -197,7 +197,7 @@ module _ (logs : Bool) (members part most c life room top : ℕ) (pos : 0 < c) (
 
   module _ (n : Net) (s : Serving) (here : At n s) where
     still_logged : Wrote n s (still s.log)
-    still_logged = frames.goes_still logs members part most c life room top n s here
+    still_logged = frames.goes_still logs members part limit c life room highest n s here
 
     abbrev ticked : Option FlightState → log.Done
     ticked None = still s.log
@@ -226,7 +226,7 @@ module _ (logs : Bool) (members part most c life room top : ℕ) (pos : 0 < c) (
       acked_so name index generation (Some f) is =
           by_test (λ (r : log.Done). Wrote n s r) (flights.is_of f name index generation) (log.looked_at s.log s.log (flights.noting f index)) (still s.log)
           (λ t. looked_so n s s.log (flights.noting f index)
-          (reflown logs members part most c life (room + 1) top n s.tokens s.log f (flights.noting f index) s.lasting.number s.lasting.inc refl refl (flying f is))
+          (reflown logs members part limit c life (room + 1) highest n s.tokens s.log f (flights.noting f index) s.lasting.number s.lasting.inc refl refl (flying f is))
           s.log here)
           (λ t. still_logged)
 
@@ -236,11 +236,11 @@ module _ (logs : Bool) (members part most c life room top : ℕ) (pos : 0 < c) (
 
       mapped_so : (groups : GroupMapState) (o : Option FlightState) → s.log.flight ≡ o → Wrote n s (mapped groups o)
       mapped_so groups None is =
-          frames.goes_still logs members part most c life room top n (record s { log = record s.log { groups = groups } })
-          (regrouped logs members part most c life room top n s.tokens s.log groups s.lasting.number s.lasting.inc here)
+          frames.goes_still logs members part limit c life room highest n (record s { log = record s.log { groups = groups } })
+          (regrouped logs members part limit c life room highest n s.tokens s.log groups s.lasting.number s.lasting.inc here)
       mapped_so groups (Some f) is =
           looked_so n s (record s.log { groups = groups }) f
-          (regrouped logs members part most c life (room + 1) top n s.tokens (record s.log { flight = Some f }) groups s.lasting.number s.lasting.inc
+          (regrouped logs members part limit c life (room + 1) highest n s.tokens (record s.log { flight = Some f }) groups s.lasting.number s.lasting.inc
           (flying f is)) s.log here
 
       pub acks_so : (name : SegName) (index generation : ℕ) → Goes n (writes s (log_in.Acked name index generation))

@@ -77,4 +77,4 @@ tells_all all within (c ∷ cs) before first at is = tells_more all within c.0 c
 
 -- the items of so few changes say what the changes do
 pub rows_told_of : (cs : List (BlockId × Change)) → length cs ≤ segment_blocks → rows_told (items_of 0 cs) ≡ map told cs
-rows_told_of cs few = tells_all (items_of 0 cs) (let most = items_length 0 cs in omega arith) cs 0 [] refl refl
+rows_told_of cs few = tells_all (items_of 0 cs) (let limit = items_length 0 cs in omega arith) cs 0 [] refl refl

@@ -49,10 +49,10 @@ put_there f c x d other = grind (arith, nat_tests)
 pub some_none : {X : Type 0} (x : X) → Some x ≡ None → ⊥
 some_none x h = cc
 
-module _ (logs : Bool) (members part most life : ℕ) where
+module _ (logs : Bool) (members part limit life : ℕ) where
   -- what the slot says is sent, where the small world has it sent
   said_seen : (n : Net) (k epoch : ℕ) (outs : List Out) → ((x : Packet) → In x (slot_packets outs) → In x n.sent)
-      → AllDone logs members part most life n (flat_map (said k epoch) outs)
+      → AllDone logs members part limit life n (flat_map (said k epoch) outs)
   unfolding said
   said_seen n k epoch [] all = tt
   said_seen n k epoch (out.Grant client block stamp inc req mode entry ∷ os) all = (λ inside. all _ (inl refl), said_seen n k epoch os (λ x is. all x (inr is)))
@@ -67,7 +67,7 @@ module _ (logs : Bool) (members part most life : ℕ) where
 
   -- what another slot says is of no block of the slot
   said_other : (n : Net) (k epoch : ℕ) (outs : List Out) → (k ≡ part → ⊥) → AllSpeakOf k outs
-      → AllDone logs members part most life n (flat_map (said k epoch) outs)
+      → AllDone logs members part limit life n (flat_map (said k epoch) outs)
   unfolding said
   said_other n k epoch [] other all = tt
   said_other n k epoch (out.Grant client block stamp inc req mode entry ∷ os) other all =
@@ -83,16 +83,16 @@ module _ (logs : Bool) (members part most life : ℕ) where
   -- what an event of the slot makes of the small world
   pub record Event (n : Net) (p q : SlotPhase) (outs : List Effect) : Type 0 where
     pub next : Net
-    pub moves : Moves logs members part most life n next p q outs
+    pub moves : Moves logs members part limit life n next p q outs
     pub agrees : PhaseAgrees members part next q
 
-  pub event_staying : (n : Net) (p q : SlotPhase) (outs : List Effect) → Stays logs members part most life n p q outs → PhaseAgrees members part n q
+  pub event_staying : (n : Net) (p q : SlotPhase) (outs : List Effect) → Stays logs members part limit life n p q outs → PhaseAgrees members part n q
       → Event n p q outs
-  event_staying n p q outs t agrees = record { next = n; moves = moves_of logs members part most life n p q outs t; agrees = agrees }
+  event_staying n p q outs t agrees = record { next = n; moves = moves_of logs members part limit life n p q outs t; agrees = agrees }
 
   -- the same phase, and something is sent
-  pub event_same : (n : Net) (p : SlotPhase) (outs : List Effect) → PhaseAgrees members part n p → AllDone logs members part most life n outs → Event n p p outs
-  event_same n p outs agrees done = event_staying n p p outs (stays_same logs members part most life n p outs done) agrees
+  pub event_same : (n : Net) (p : SlotPhase) (outs : List Effect) → PhaseAgrees members part n p → AllDone logs members part limit life n outs → Event n p p outs
+  event_same n p outs agrees done = event_staying n p p outs (stays_same logs members part limit life n p outs done) agrees
 
   -- any manager of the slot in the small world can take the input
   abbrev pub CanTake : Net → Input → Type 0
@@ -213,7 +213,7 @@ module _ (logs : Bool) (members part most life : ℕ) where
 
   -- ---- a check, and a count: nothing changes
 
-  pub checks_done : (n : Net) (check : Check) (epoch : ℕ) (outs : List Out) → AllDone logs members part most life n (flat_map (check_said check epoch) outs)
+  pub checks_done : (n : Net) (check : Check) (epoch : ℕ) (outs : List Out) → AllDone logs members part limit life n (flat_map (check_said check epoch) outs)
   unfolding check_said
   checks_done n check epoch [] = tt
   checks_done n check epoch (out.Grant client block stamp inc req mode entry ∷ os) = (tt, checks_done n check epoch os)
@@ -230,14 +230,14 @@ module _ (logs : Bool) (members part most life : ℕ) where
   check_same (phase.Taking t) check = refl
   check_same (phase.Broken epoch seg) check = refl
 
-  pub check_done : (n : Net) (p : SlotPhase) (check : Check) → AllDone logs members part most life n (on_check p check).outs
+  pub check_done : (n : Net) (p : SlotPhase) (check : Check) → AllDone logs members part limit life n (on_check p check).outs
   unfolding on_check
   check_done n (phase.Active a) check = checks_done n check a.slot.epoch (slot.transition a.slot (check_input check)).outs
   check_done n (phase.Away epoch) check = tt
   check_done n (phase.Taking t) check = tt
   check_done n (phase.Broken epoch seg) check = tt
 
-  pub usage_done : (n : Net) (p : SlotPhase) (asked : UsageAsk) → AllDone logs members part most life n (on_usage_ask p asked)
+  pub usage_done : (n : Net) (p : SlotPhase) (asked : UsageAsk) → AllDone logs members part limit life n (on_usage_ask p asked)
   unfolding on_usage_ask
   usage_done n (phase.Active a) asked = (tt, tt)
   usage_done n (phase.Away epoch) asked = tt
@@ -248,7 +248,7 @@ module _ (logs : Bool) (members part most life : ℕ) where
 
   pub record Other (n : Net) (k : ℕ) (q : SlotPhase) (outs : List Effect) : Type 0 where
     pub agrees : OtherAgrees k q
-    pub does : AllDone logs members part most life n outs
+    pub does : AllDone logs members part limit life n outs
 
   pub other_takes : (n : Net) (k : ℕ) (p : SlotPhase) (given : Input) → (k ≡ part → ⊥) → IsInputOf k given → OtherAgrees k p
       → Other n k (takes p k given).state (takes p k given).outs

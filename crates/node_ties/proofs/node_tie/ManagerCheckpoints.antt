@@ -3,7 +3,7 @@ use Rattle.std.proofs.Common.{◌≡◌, ℕ, Bool, ◌==◌, ◌<◌, List, [],
 use Rattle.std.specs.Prelude.{fold}
 use Rattle.std.specs.List.{flat_map}
 use Rattle.xfs_base.proofs.Booleans.{by_test}
-use Rattle.xfs_base.specs.Steps.{Stepped, still, after, steps}
+use Rattle.xfs_base.specs.Steps.{Stepped, still, saying, steps}
 use Rattle.xfs_base.specs.declared.segment.End.{End}
 use Rattle.checkpoint.specs.declared.input.In.{In as WriterIn}
 use Rattle.checkpoint.specs.declared.input.In.TheVariants as writer_in
@@ -35,7 +35,7 @@ use Rattle.node_ties.specs.node_tie.ManagerEvents.{phase_at, TableAgrees}
 use Rattle.node_ties.proofs.node_tie.ManagerMoves.{AllDone, Stays, stays_same, stays_then}
 use Rattle.node_ties.proofs.node_tie.ManagerTables.{TableStays, table_cleans, table_names}
 
-module _ (logs : Bool) (members part most life : ℕ) (exists : part < 8) (n : Net) where
+module _ (logs : Bool) (members part limit life : ℕ) (exists : part < 8) (n : Net) where
   abbrev Agrees : Table → Type 0
   Agrees t = TableAgrees members part n t
 
@@ -43,39 +43,39 @@ module _ (logs : Bool) (members part most life : ℕ) (exists : part < 8) (n : N
   pub record Quiet (j inc : ℕ) (t : Table) (d : Done) : Type 0 where
     pub number : d.state.lasting.number ≡ j
     pub lives : d.state.lasting.inc ≡ inc
-    pub stays : Stays logs members part most life n (phase_at t part) (phase_at d.state.slots part) d.outs
+    pub stays : Stays logs members part limit life n (phase_at t part) (phase_at d.state.slots part) d.outs
     pub agrees : TableAgrees members part n d.state.slots
 
   abbrev pub Of : Serving → Done → Type 0
   Of s d = Quiet s.lasting.number s.lasting.inc s.slots d
 
   quiet_saying : (j inc : ℕ) (s : Serving) (outs : List Effect) → s.lasting.number ≡ j → s.lasting.inc ≡ inc → Agrees s.slots
-      → AllDone logs members part most life n outs → Quiet j inc s.slots (record { state = s; outs = outs })
+      → AllDone logs members part limit life n outs → Quiet j inc s.slots (record { state = s; outs = outs })
   quiet_saying j inc s outs number life_ agrees done = record {
     number = number;
     lives = life_;
-    stays = stays_same logs members part most life n
+    stays = stays_same logs members part limit life n
         (phase_at s.slots part) outs done;
     agrees = agrees;
   }
 
-  pub quiet_then : (j inc : ℕ) (t : Table) (d e : Done) → Quiet j inc t d → Of d.state e → Quiet j inc t (after d.outs e)
+  pub quiet_then : (j inc : ℕ) (t : Table) (d e : Done) → Quiet j inc t d → Of d.state e → Quiet j inc t (saying d.outs e)
   quiet_then j inc t d e h k = record {
     number = k.number ∙ h.number;
     lives = k.lives ∙ h.lives;
-    stays = stays_then logs members part most life n (phase_at t part) (phase_at d.state.slots part)
+    stays = stays_then logs members part limit life n (phase_at t part) (phase_at d.state.slots part)
         (phase_at e.state.slots part) d.outs e.outs h.stays k.stays;
     agrees = k.agrees;
   }
 
   -- the table has changed otherwise than the small world sees
   quiet_changed : (s r : Serving) (outs : List Effect) → r.lasting.number ≡ s.lasting.number → r.lasting.inc ≡ s.lasting.inc
-      → TableStays logs members part most life exists n s.slots r.slots → AllDone logs members part most life n outs → Of s (record { state = r; outs = outs })
+      → TableStays logs members part limit life exists n s.slots r.slots → AllDone logs members part limit life n outs → Of s (record { state = r; outs = outs })
   quiet_changed s r outs number life_ h done = record {
     number = number;
     lives = life_;
-    stays = stays_then logs members part most life n (phase_at s.slots part) (phase_at r.slots part) (phase_at r.slots part) [] outs h.stays
-        (stays_same logs members part most life n (phase_at r.slots part) outs done);
+    stays = stays_then logs members part limit life n (phase_at s.slots part) (phase_at r.slots part) (phase_at r.slots part) [] outs h.stays
+        (stays_same logs members part limit life n (phase_at r.slots part) outs done);
     agrees = h.agrees;
   }
 
@@ -87,7 +87,7 @@ module _ (logs : Bool) (members part most life : ℕ) (exists : part < 8) (n : N
 
   -- ---- what the writer says
 
-  stored_done : (outs : List LogOut) → AllDone logs members part most life n (flat_map stored outs)
+  stored_done : (outs : List LogOut) → AllDone logs members part limit life n (flat_map stored outs)
   unfolding stored
   stored_done [] = tt
   stored_done (log_out.Send fragment member ∷ os) = (tt, stored_done os)
@@ -102,7 +102,7 @@ module _ (logs : Bool) (members part most life : ℕ) (exists : part < 8) (n : N
   quiet_registers : (s : Serving) (done : CkptDone) → Agrees s.slots → Of s (registers s done)
   unfolding registers
   quiet_registers s done agrees = quiet_changed s (registers s done).state (registers s done).outs refl refl
-      (table_names logs members part most life exists n s.slots done.slot done.epoch done.parts agrees) (tt, tt)
+      (table_names logs members part limit life exists n s.slots done.slot done.epoch done.parts agrees) (tt, tt)
 
   quiet_says : (s : Serving) (o : Out) → Agrees s.slots → Of s (says s o)
   unfolding says
@@ -139,7 +139,7 @@ module _ (logs : Bool) (members part most life : ℕ) (exists : part < 8) (n : N
 
   -- ---- one slot after the other
 
-  pub answers_done : (o : Option ℕ) (a : Answer) → AllDone logs members part most life n (answers_unanswered o a)
+  pub answers_done : (o : Option ℕ) (a : Answer) → AllDone logs members part limit life n (answers_unanswered o a)
   answers_done None a = tt
   answers_done (Some number) a = (tt, tt)
 
@@ -154,7 +154,7 @@ module _ (logs : Bool) (members part most life : ℕ) (exists : part < 8) (n : N
   quiet_begins : (s : Serving) (slot : ℕ) → Agrees s.slots → Of s (begins_slot s slot)
   unfolding begins_slot
   quiet_begins s slot agrees =
-      let h = table_cleans logs members part most life exists n s.slots slot agrees in
+      let h = table_cleans logs members part limit life exists n s.slots slot agrees in
       let r : Serving = record s { slots = cleaned_at s.slots slot } in
       quiet_then s.lasting.number s.lasting.inc s.slots (still r) (writes_slot r (begin_at s.slots slot)) (quiet_changed s r [] refl refl h tt)
       (quiet_writes_slot r (begin_at s.slots slot) h.agrees)
@@ -197,10 +197,10 @@ module _ (logs : Bool) (members part most life : ℕ) (exists : part < 8) (n : N
   unfolding tells_again
   quiet_tells s agrees = quiet_saying s.lasting.number s.lasting.inc s (told_again s.checkpoint) refl refl agrees (by s.checkpoint)
     where
-      by_done : (o : Option CkptDone) → AllDone logs members part most life n (done_again o)
+      by_done : (o : Option CkptDone) → AllDone logs members part limit life n (done_again o)
       by_done None = tt
       by_done (Some done) = (tt, tt)
 
-      by : (o : Option Checkpointing) → AllDone logs members part most life n (told_again o)
+      by : (o : Option Checkpointing) → AllDone logs members part limit life n (told_again o)
       by None = tt
       by (Some job) = by_done job.done

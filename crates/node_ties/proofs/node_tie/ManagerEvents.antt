@@ -61,20 +61,20 @@ taking_is (phase.Broken epoch seg) e h = absurd h
 nothing_enters : {A : Type 0} (n : Net) (e : ℕ) (z : SlotState) → n.slots e ≡ Some z → n.slots e ≡ None → A
 nothing_enters n e z some none = absurd (some_none z (sym some ∙ none))
 
-module _ (logs : Bool) (members part most j : ℕ) (n : Net) where
-  all_of : (life : ℕ) (outs : List Effect) → AllDone logs members part most life n outs → All (ManagerDoes part n.sent most life) outs
-  all_of life outs h = All-from_recursion (ManagerDoes part n.sent most life) outs h
+module _ (logs : Bool) (members part limit j : ℕ) (n : Net) where
+  all_of : (life : ℕ) (outs : List Effect) → AllDone logs members part limit life n outs → All (ManagerDoes part n.sent limit life) outs
+  all_of life outs h = All-from_recursion (ManagerDoes part n.sent limit life) outs h
 
   -- what it acts changes no history, and is done last
   abbrev done : Net → List Effect → Net
   done m outs = acted m (acts_of (Manager j) outs)
 
-  done_runs : (life : ℕ) (m : Net) (outs : List Effect) → Runs logs members part n m → AllDone logs members part most life m outs
+  done_runs : (life : ℕ) (m : Net) (outs : List Effect) → Runs logs members part n m → AllDone logs members part limit life m outs
       → Runs logs members part n (done m outs)
   done_runs life m outs runs does =
       runs_through n m (done m outs) runs
       (says_all logs members part m (acts_of (Manager j) outs)
-      (neutral_acts (Manager j) (DoesAt logs members part most life m) (λ a neutral. neutral) outs does))
+      (neutral_acts (Manager j) (DoesAt logs members part limit life m) (λ a neutral. neutral) outs does))
 
   done_agrees : (m : Net) (outs : List Effect) (p : Phase) → ManagerAgrees members part m j p → ManagerAgrees members part (done m outs) j p
   done_agrees m outs p agrees = manager_on members part m (done m outs) (λ x is. is) (omega arith) j p (λ e held. refl) agrees
@@ -84,7 +84,7 @@ module _ (logs : Bool) (members part most j : ℕ) (n : Net) where
 
   -- it is down
   to_down : (p : Phase) (what : Do) (kept : Kept) (outs : List Effect) → kept.number ≡ j → kept.inc ≡ (lasting_of p).inc
-      → AllDone logs members part most kept.inc n outs → ManagerGoes logs members part most j n p what (record { state = Down kept; outs = outs })
+      → AllDone logs members part limit kept.inc n outs → ManagerGoes logs members part limit j n p what (record { state = Down kept; outs = outs })
   to_down p what kept outs number lives does = record {
     next = done n outs;
     runs = done_runs kept.inc n outs Begun does;
@@ -108,8 +108,8 @@ module _ (logs : Bool) (members part most j : ℕ) (n : Net) where
 
   -- it awaits its Welcome
   to_waiting : (p : Phase) (what : Do) (kept : Kept) (hello : ℕ) (outs : List Effect) → kept.number ≡ j → (lasting_of p).inc ≤ kept.inc
-      → (is_waiting p ≡ false → (lasting_of p).inc < kept.inc) → AllDone logs members part most kept.inc n outs
-      → ManagerGoes logs members part most j n p what (record { state = Waiting kept hello; outs = outs })
+      → (is_waiting p ≡ false → (lasting_of p).inc < kept.inc) → AllDone logs members part limit kept.inc n outs
+      → ManagerGoes logs members part limit j n p what (record { state = Waiting kept hello; outs = outs })
   to_waiting p what kept hello outs number later new does = record {
     next = done n outs;
     runs = done_runs kept.inc n outs Begun does;
@@ -131,19 +131,19 @@ module _ (logs : Bool) (members part most j : ℕ) (n : Net) where
     lives = inr refl;
   }
 
-module _ (logs : Bool) (members part most j : ℕ) (exists : part < 8) (n : Net) where
+module _ (logs : Bool) (members part limit j : ℕ) (exists : part < 8) (n : Net) where
   -- it serves on
   to_serving : (s : Serving) (what : Do) (d : Done) → s.lasting.number ≡ j
-      → WentOf logs members part most s.lasting.inc exists j (λ e. Names part j e what) n s d
-      → ManagerGoes logs members part most j n (Serves s) what (serves d)
+      → WentOf logs members part limit s.lasting.inc exists j (λ e. Names part j e what) n s d
+      → ManagerGoes logs members part limit j n (Serves s) what (serves d)
   to_serving s what d number h = record {
-    next = done logs members part most j n h.next d.outs;
-    runs = done_runs logs members part most j n s.lasting.inc h.next d.outs h.goes.runs h.goes.does;
-    agrees = done_agrees logs members part most j n h.next d.outs (Serves d.state) (record { number = h.numbered ∙ number; table = h.agrees });
+    next = done logs members part limit j n h.next d.outs;
+    runs = done_runs logs members part limit j n s.lasting.inc h.next d.outs h.goes.runs h.goes.does;
+    agrees = done_agrees logs members part limit j n h.next d.outs (Serves d.state) (record { number = h.numbered ∙ number; table = h.agrees });
     tokens = h.goes.tokens;
     up = h.goes.up;
     books = h.goes.books;
-    acts = done_acts logs members part most j n h.next d.outs h.goes.acts;
+    acts = done_acts logs members part limit j n h.next d.outs h.goes.acts;
     slots = h.goes.slots;
     entered = λ e z some none. let t = h.goes.entered e z some none in let at = taking_is (phase_at s.slots part) e t.0 in let up = h.goes.rises in
         (t.0, refl, omega arith, t.1);
@@ -151,121 +151,121 @@ module _ (logs : Bool) (members part most j : ℕ) (exists : part < 8) (n : Net)
     rises = λ _ _. h.goes.rises;
     within = h.within;
     grows = h.goes.grows;
-    does = subst (λ life. All (ManagerDoes part h.next.sent most life) d.outs) (sym h.lives)
-        (All-from_recursion (ManagerDoes part h.next.sent most s.lasting.inc) d.outs h.goes.does);
+    does = subst (λ life. All (ManagerDoes part h.next.sent limit life) d.outs) (sym h.lives)
+        (All-from_recursion (ManagerDoes part h.next.sent limit s.lasting.inc) d.outs h.goes.does);
     later = let same = h.lives in omega arith;
     restarts = λ is. contrary is;
     opens = λ _ is. contrary (sym is);
     lives = inl h.lives;
   }
 
-  serves_on : (s : Serving) (what : Do) (d : Done) → s.lasting.number ≡ j → epoch_of (phase_at s.slots part) ≤ most
-      → Of logs members part most s.lasting.inc exists n s d → ManagerGoes logs members part most j n (Serves s) what (serves d)
+  serves_on : (s : Serving) (what : Do) (d : Done) → s.lasting.number ≡ j → epoch_of (phase_at s.slots part) ≤ limit
+      → Of logs members part limit s.lasting.inc exists n s d → ManagerGoes logs members part limit j n (Serves s) what (serves d)
   serves_on s what d number low h =
-      to_serving s what d number (went_serving logs members part most s.lasting.inc exists j (λ e. Names part j e what) n s d low h)
+      to_serving s what d number (went_serving logs members part limit s.lasting.inc exists j (λ e. Names part j e what) n s d low h)
 
   -- nothing is made of the event
-  to_itself : (p : Phase) (what : Do) → ManagerAgrees members part n j p → epoch_in part p ≤ most → ManagerGoes logs members part most j n p what (still p)
-  to_itself (Down kept) what agrees low = to_down logs members part most j n (Down kept) what kept [] agrees refl tt
-  to_itself (Waiting kept hello) what agrees low = to_waiting logs members part most j n (Waiting kept hello) what kept hello [] agrees (omega arith)
+  to_itself : (p : Phase) (what : Do) → ManagerAgrees members part n j p → epoch_in part p ≤ limit → ManagerGoes logs members part limit j n p what (still p)
+  to_itself (Down kept) what agrees low = to_down logs members part limit j n (Down kept) what kept [] agrees refl tt
+  to_itself (Waiting kept hello) what agrees low = to_waiting logs members part limit j n (Waiting kept hello) what kept hello [] agrees (omega arith)
       (λ is. contrary (sym is)) tt
   to_itself (Serves s) what agrees low =
-      serves_on s what (still s) agrees.number low (serves_quiet logs members part most s.lasting.inc exists n s.lasting.number s.lasting.inc s.slots (still s)
-      (record { number = refl; lives = refl; stays = stays_same logs members part most s.lasting.inc n (phase_at s.slots part) [] tt; agrees = agrees.table }))
+      serves_on s what (still s) agrees.number low (serves_quiet logs members part limit s.lasting.inc exists n s.lasting.number s.lasting.inc s.slots (still s)
+      (record { number = refl; lives = refl; stays = stays_same logs members part limit s.lasting.inc n (phase_at s.slots part) [] tt; agrees = agrees.table }))
 
   -- ---- crash and restart
 
   crash_goes : (p : Phase) (what : Do) (kept : Kept) (number : ℕ) → kept.number ≡ j → kept.inc ≡ (lasting_of p).inc
-      → ManagerGoes logs members part most j n p what (crashes kept number)
+      → ManagerGoes logs members part limit j n p what (crashes kept number)
   unfolding crashes
   crash_goes p what kept number is_j later =
-      to_down logs members part most j n p what (with_answer kept) _ is_j later
-      (all_both (DoesAt logs members part most kept.inc n) (answers_unanswered kept.items.unanswered answer.Cut) (Answers number answer.Done ∷ [])
-      (answers_done logs members part most kept.inc exists n kept.items.unanswered answer.Cut) (tt, tt))
+      to_down logs members part limit j n p what (with_answer kept) _ is_j later
+      (all_both (DoesAt logs members part limit kept.inc n) (answers_unanswered kept.items.unanswered answer.Cut) (Answers number answer.Done ∷ [])
+      (answers_done logs members part limit kept.inc exists n kept.items.unanswered answer.Cut) (tt, tt))
 
   rises_by_one : (inc : ℕ) → has_room inc ≡ true → inc < risen inc
   rises_by_one inc h = grind (arith, nat_tests)
 
   restart_goes : (p : Phase) (what : Do) (kept : Kept) (number : ℕ) → kept.number ≡ j → (lasting_of p).inc ≤ kept.inc → has_room kept.inc ≡ true
-      → ManagerGoes logs members part most j n p what (restarts kept number)
+      → ManagerGoes logs members part limit j n p what (restarts kept number)
   unfolding restarts
   restart_goes p what kept number is_j later room =
       let up = rises_by_one kept.inc room in
-      to_waiting logs members part most j n p what _ _ _ is_j (omega arith) (λ _. omega arith) (tt, ((omega arith), tt))
+      to_waiting logs members part limit j n p what _ _ _ is_j (omega arith) (λ _. omega arith) (tt, ((omega arith), tt))
 
   -- ---- the next item
 
   down_goes : (p : Phase) (kept : Kept) (number : ℕ) (o : Option Work) → kept.number ≡ j → kept.inc ≡ (lasting_of p).inc → has_room kept.inc ≡ true
-      → ManagerGoes logs members part most j n p Begin (down_wish kept number (wish_at o))
-  down_goes p kept number None is_j later room = to_down logs members part most j n p Begin kept _ is_j later (tt, tt)
+      → ManagerGoes logs members part limit j n p Begin (down_wish kept number (wish_at o))
+  down_goes p kept number None is_j later room = to_down logs members part limit j n p Begin kept _ is_j later (tt, tt)
   down_goes p kept number (Some (work.Restart node)) is_j later room = restart_goes p Begin kept number is_j (omega arith) room
-  down_goes p kept number (Some _) is_j later room = to_down logs members part most j n p Begin kept _ is_j later (tt, tt)
+  down_goes p kept number (Some _) is_j later room = to_down logs members part limit j n p Begin kept _ is_j later (tt, tt)
 
   waiting_goes : (p : Phase) (kept : Kept) (hello number : ℕ) (o : Option Work) → kept.number ≡ j → kept.inc ≡ (lasting_of p).inc → is_waiting p ≡ true
-      → ManagerGoes logs members part most j n p Begin (waiting_wish kept hello number (wish_at o))
-  waiting_goes p kept hello number None is_j later was = to_waiting logs members part most j n p Begin kept hello _ is_j (omega arith)
+      → ManagerGoes logs members part limit j n p Begin (waiting_wish kept hello number (wish_at o))
+  waiting_goes p kept hello number None is_j later was = to_waiting logs members part limit j n p Begin kept hello _ is_j (omega arith)
       (λ no. contrary (sym no ∙ was)) (tt, tt)
   waiting_goes p kept hello number (Some (work.Crash node)) is_j later was = crash_goes p Begin kept number is_j later
-  waiting_goes p kept hello number (Some _) is_j later was = to_waiting logs members part most j n p Begin kept hello _ is_j (omega arith)
+  waiting_goes p kept hello number (Some _) is_j later was = to_waiting logs members part limit j n p Begin kept hello _ is_j (omega arith)
       (λ no. contrary (sym no ∙ was)) (tt, tt)
 
   -- it serves on, with what it is to do changed
-  serving_answers : (s : Serving) (items : Kept) (outs : List Effect) → s.lasting.number ≡ j → epoch_of (phase_at s.slots part) ≤ most
-      → TableAgrees members part n s.slots → items.number ≡ s.lasting.number → items.inc ≡ s.lasting.inc → AllDone logs members part most s.lasting.inc n outs
-      → ManagerGoes logs members part most j n (Serves s) Begin (record { state = Serves (record s { lasting = items }); outs = outs })
+  serving_answers : (s : Serving) (items : Kept) (outs : List Effect) → s.lasting.number ≡ j → epoch_of (phase_at s.slots part) ≤ limit
+      → TableAgrees members part n s.slots → items.number ≡ s.lasting.number → items.inc ≡ s.lasting.inc → AllDone logs members part limit s.lasting.inc n outs
+      → ManagerGoes logs members part limit j n (Serves s) Begin (record { state = Serves (record s { lasting = items }); outs = outs })
   serving_answers s items outs is_j low agrees number lives done =
       serves_on s Begin (record { state = record s { lasting = items }; outs = outs }) is_j low
-      (serves_quiet logs members part most s.lasting.inc exists n s.lasting.number s.lasting.inc s.slots _
-      (record { number = number; lives = lives; stays = stays_same logs members part most s.lasting.inc n (phase_at s.slots part) outs done; agrees = agrees }))
+      (serves_quiet logs members part limit s.lasting.inc exists n s.lasting.number s.lasting.inc s.slots _
+      (record { number = number; lives = lives; stays = stays_same logs members part limit s.lasting.inc n (phase_at s.slots part) outs done; agrees = agrees }))
 
-  serving_goes : (s : Serving) (number : ℕ) (o : Option Work) → s.lasting.number ≡ j → epoch_of (phase_at s.slots part) ≤ most
+  serving_goes : (s : Serving) (number : ℕ) (o : Option Work) → s.lasting.number ≡ j → epoch_of (phase_at s.slots part) ≤ limit
       → TableAgrees members part n s.slots
-      → ManagerGoes logs members part most j n (Serves s) Begin (serving_wish (record s { lasting = with_begun s.lasting }) number (wish_at o))
+      → ManagerGoes logs members part limit j n (Serves s) Begin (serving_wish (record s { lasting = with_begun s.lasting }) number (wish_at o))
   serving_goes s number o is_j low agrees = by o
     where
-      checkpoint : ManagerGoes logs members part most j n (Serves s) Begin (serves (on_checkpoint (record s { lasting = with_begun s.lasting }) number))
+      checkpoint : ManagerGoes logs members part limit j n (Serves s) Begin (serves (on_checkpoint (record s { lasting = with_begun s.lasting }) number))
       checkpoint =
           let r : Serving = record s { lasting = with_begun s.lasting } in
           serves_on s Begin (on_checkpoint r number) is_j low
-          (serves_quiet logs members part most s.lasting.inc exists n s.lasting.number s.lasting.inc s.slots (on_checkpoint r number)
-          (quiet_checkpoint logs members part most s.lasting.inc exists n r number agrees))
+          (serves_quiet logs members part limit s.lasting.inc exists n s.lasting.number s.lasting.inc s.slots (on_checkpoint r number)
+          (quiet_checkpoint logs members part limit s.lasting.inc exists n r number agrees))
 
-      by : (o : Option Work) → ManagerGoes logs members part most j n (Serves s) Begin
+      by : (o : Option Work) → ManagerGoes logs members part limit j n (Serves s) Begin
           (serving_wish (record s { lasting = with_begun s.lasting }) number (wish_at o))
       by None = checkpoint
       by (Some (work.Crash node)) = crash_goes (Serves s) Begin (with_begun s.lasting) number is_j refl
       by (Some (work.Restart node)) = serving_answers s (with_begun s.lasting) _ is_j low agrees refl refl (tt, tt)
       by (Some _) = checkpoint
 
-  begin_goes : (p : Phase) → ManagerAgrees members part n j p → epoch_in part p ≤ most → phase_has_room p ≡ true
-      → ManagerGoes logs members part most j n p Begin (on_begin p)
+  begin_goes : (p : Phase) → ManagerAgrees members part n j p → epoch_in part p ≤ limit → phase_has_room p ≡ true
+      → ManagerGoes logs members part limit j n p Begin (on_begin p)
   unfolding begin_down begin_waiting begin_serving
   begin_goes (Down kept) agrees low room = by (next_item kept.items)
     where
-      by : (o : Option ℕ) → ManagerGoes logs members part most j n (Down kept) Begin (down_item (with_begun kept) o)
-      by None = to_down logs members part most j n (Down kept) Begin (with_begun kept) [] agrees refl tt
+      by : (o : Option ℕ) → ManagerGoes logs members part limit j n (Down kept) Begin (down_item (with_begun kept) o)
+      by None = to_down logs members part limit j n (Down kept) Begin (with_begun kept) [] agrees refl tt
       by (Some number) = down_goes (Down kept) (with_begun kept) number (work_at (with_begun kept).items number) agrees refl
           (and_first (has_room kept.inc) (has_room kept.questions.last) room)
   begin_goes (Waiting kept hello) agrees low room = by (next_item kept.items)
     where
-      by : (o : Option ℕ) → ManagerGoes logs members part most j n (Waiting kept hello) Begin (waiting_item (with_begun kept) hello o)
-      by None = to_waiting logs members part most j n (Waiting kept hello) Begin (with_begun kept) hello [] agrees (omega arith) (λ is. contrary (sym is)) tt
+      by : (o : Option ℕ) → ManagerGoes logs members part limit j n (Waiting kept hello) Begin (waiting_item (with_begun kept) hello o)
+      by None = to_waiting logs members part limit j n (Waiting kept hello) Begin (with_begun kept) hello [] agrees (omega arith) (λ is. contrary (sym is)) tt
       by (Some number) = waiting_goes (Waiting kept hello) (with_begun kept) hello number (work_at (with_begun kept).items number) agrees refl refl
   begin_goes (Serves s) agrees low room = by (next_item s.lasting.items)
     where
-      by : (o : Option ℕ) → ManagerGoes logs members part most j n (Serves s) Begin (serving_item (record s { lasting = with_begun s.lasting }) o)
+      by : (o : Option ℕ) → ManagerGoes logs members part limit j n (Serves s) Begin (serving_item (record s { lasting = with_begun s.lasting }) o)
       by None = serving_answers s (with_begun s.lasting) [] agrees.number low agrees.table refl refl tt
       by (Some number) = serving_goes s number (work_at (with_begun s.lasting).items number) agrees.number low agrees.table
 
   -- ---- time
 
-  time_goes : (p : Phase) → ManagerAgrees members part n j p → epoch_in part p ≤ most → ManagerGoes logs members part most j n p Tick (on_time p)
+  time_goes : (p : Phase) → ManagerAgrees members part n j p → epoch_in part p ≤ limit → ManagerGoes logs members part limit j n p Tick (on_time p)
   unfolding on_time
   time_goes (Down kept) agrees low = to_itself (Down kept) Tick agrees low
-  time_goes (Waiting kept ask) agrees low = to_waiting logs members part most j n (Waiting kept ask) Tick kept ask _ agrees (omega arith)
+  time_goes (Waiting kept ask) agrees low = to_waiting logs members part limit j n (Waiting kept ask) Tick kept ask _ agrees (omega arith)
       (λ is. contrary (sym is)) ((omega arith), tt)
   time_goes (Serves s) agrees low =
-      serves_on s Tick (on_tick s) agrees.number low (serves_tick logs members part most s.lasting.inc exists n s agrees.table low)
+      serves_on s Tick (on_tick s) agrees.number low (serves_tick logs members part limit s.lasting.inc exists n s agrees.table low)
 
   -- ---- packets
 
@@ -290,8 +290,8 @@ module _ (logs : Bool) (members part most j : ℕ) (exists : part < 8) (n : Net)
 
   -- the Welcome that it awaited: it serves
   opens_goes : (clients : ℕ) (peers : Peers) (kept : Kept) (hello : ℕ) (packet : Sent) (welcome : Welcome) → members ≡ peers.clients + 1 → kept.number ≡ j
-      → packet.body ≡ body.Welcome welcome → WaitingGets part most j n kept.inc (body.Welcome welcome)
-      → takes_welcome peers kept hello welcome ≡ true → ManagerGoes logs members part most j n (Waiting kept hello) (Deliver packet)
+      → packet.body ≡ body.Welcome welcome → WaitingGets part limit j n kept.inc (body.Welcome welcome)
+      → takes_welcome peers kept hello welcome ≡ true → ManagerGoes logs members part limit j n (Waiting kept hello) (Deliver packet)
       (serves (on_news (again kept (forgotten peers.servers) welcome.news.groups) peers.clients welcome.news))
   opens_goes clients peers kept hello packet welcome many is_j is gets takes =
       let what : Do = Deliver packet in
@@ -302,22 +302,22 @@ module _ (logs : Bool) (members part most j : ℕ) (exists : part < 8) (n : Net)
       let g = gets same_inc in
       let s : Serving = again kept (forgotten peers.servers) welcome.news.groups in
       let none : epoch_of (phase_at unknown_table part) ≡ 0 = ap epoch_of (unknown_at part) in
-      let h = went_opening logs members part most kept.inc exists j (λ e. Names part j e what) n s peers.clients welcome.news unknown_agrees (omega arith)
+      let h = went_opening logs members part limit kept.inc exists j (λ e. Names part j e what) n s peers.clients welcome.news unknown_agrees (omega arith)
       (record {
         number = is_j;
         many = sym many;
-        gets = subst (λ k. AllNewsGets part most j n k welcome.news.slots) (sym none) g.slots;
+        gets = subst (λ k. AllNewsGets part limit j n k welcome.news.slots) (sym none) g.slots;
         names = λ news there of ours. subst (NamedBy part j news.epoch) (sym is) (news, there, of, refl, ours);
       }) (newer welcome.news.version g.newer) in
       let d = on_news s peers.clients welcome.news in
       record {
-        next = done logs members part most j n h.next d.outs;
-        runs = done_runs logs members part most j n kept.inc h.next d.outs h.goes.runs h.goes.does;
-        agrees = done_agrees logs members part most j n h.next d.outs (Serves d.state) (record { number = h.numbered ∙ is_j; table = h.agrees });
+        next = done logs members part limit j n h.next d.outs;
+        runs = done_runs logs members part limit j n kept.inc h.next d.outs h.goes.runs h.goes.does;
+        agrees = done_agrees logs members part limit j n h.next d.outs (Serves d.state) (record { number = h.numbered ∙ is_j; table = h.agrees });
         tokens = h.goes.tokens;
         up = h.goes.up;
         books = h.goes.books;
-        acts = done_acts logs members part most j n h.next d.outs h.goes.acts;
+        acts = done_acts logs members part limit j n h.next d.outs h.goes.acts;
         slots = λ e other. h.goes.slots e (λ held. other (subst (λ p. HeldAt p e) (unknown_at part) held));
         entered = λ e z some no. absurd (subst (λ p. TakingAt p e) (unknown_at part) (h.goes.entered e z some no).0);
         taken = λ e k. ⊎_elim (λ was. absurd (subst (λ p. HeldAt p e) (unknown_at part) was)) (λ new. let above = new.1 in inr (new.0, omega arith))
@@ -325,8 +325,8 @@ module _ (logs : Bool) (members part most j : ℕ) (exists : part < 8) (n : Net)
         rises = λ was _. contrary was;
         within = h.within;
         grows = h.goes.grows;
-        does = subst (λ life. All (ManagerDoes part h.next.sent most life) d.outs) (sym h.lives)
-            (All-from_recursion (ManagerDoes part h.next.sent most kept.inc) d.outs h.goes.does);
+        does = subst (λ life. All (ManagerDoes part h.next.sent limit life) d.outs) (sym h.lives)
+            (All-from_recursion (ManagerDoes part h.next.sent limit kept.inc) d.outs h.goes.does);
         later = let same = h.lives in omega arith;
         restarts = λ is. contrary is;
         opens = λ _ _. record {
@@ -349,44 +349,44 @@ module _ (logs : Bool) (members part most j : ℕ) (exists : part < 8) (n : Net)
       newer v pos = grind (arith, nat_tests)
 
   waits_on : (kept : Kept) (hello : ℕ) (packet : Sent) → kept.number ≡ j
-      → ManagerGoes logs members part most j n (Waiting kept hello) (Deliver packet) (still (Waiting kept hello))
-  waits_on kept hello packet is_j = to_waiting logs members part most j n (Waiting kept hello) (Deliver packet) kept hello [] is_j (omega arith)
+      → ManagerGoes logs members part limit j n (Waiting kept hello) (Deliver packet) (still (Waiting kept hello))
+  waits_on kept hello packet is_j = to_waiting logs members part limit j n (Waiting kept hello) (Deliver packet) kept hello [] is_j (omega arith)
       (λ is. contrary (sym is)) tt
 
   waiting_gets : (peers : Peers) (kept : Kept) (hello : ℕ) (packet : Sent) (b : Body) → members ≡ peers.clients + 1 → kept.number ≡ j → packet.body ≡ b
-      → WaitingGets part most j n kept.inc b → ManagerGoes logs members part most j n (Waiting kept hello) (Deliver packet) (on_waiting peers kept hello b)
+      → WaitingGets part limit j n kept.inc b → ManagerGoes logs members part limit j n (Waiting kept hello) (Deliver packet) (on_waiting peers kept hello b)
   unfolding on_welcome
   waiting_gets peers kept hello packet (body.Welcome welcome) many is_j is gets =
-      by_test (ManagerGoes logs members part most j n (Waiting kept hello) (Deliver packet)) (takes_welcome peers kept hello welcome)
+      by_test (ManagerGoes logs members part limit j n (Waiting kept hello) (Deliver packet)) (takes_welcome peers kept hello welcome)
       (serves (on_news (again kept (forgotten peers.servers) welcome.news.groups) peers.clients welcome.news)) (still (Waiting kept hello))
       (λ takes. opens_goes peers.clients peers kept hello packet welcome many is_j is gets takes) (λ _. waits_on kept hello packet is_j)
   waiting_gets peers kept hello packet _ many is_j is gets = waits_on kept hello packet is_j
 
-  packet_goes : (peers : Peers) (p : Phase) (packet : Sent) → members ≡ peers.clients + 1 → ManagerAgrees members part n j p → epoch_in part p ≤ most
-      → EventGets logs part most j n members p (Deliver packet) → ManagerGoes logs members part most j n p (Deliver packet) (on_packet peers p packet)
+  packet_goes : (peers : Peers) (p : Phase) (packet : Sent) → members ≡ peers.clients + 1 → ManagerAgrees members part n j p → epoch_in part p ≤ limit
+      → EventGets logs part limit j n members p (Deliver packet) → ManagerGoes logs members part limit j n p (Deliver packet) (on_packet peers p packet)
   packet_goes peers (Down kept) packet many agrees low gets = to_itself (Down kept) (Deliver packet) agrees low
   packet_goes peers (Waiting kept hello) packet many agrees low gets = waiting_gets peers kept hello packet packet.body many agrees refl gets
   packet_goes peers (Serves s) packet many agrees low gets =
       to_serving s (Deliver packet) (hears s peers.clients packet) agrees.number
-      (went_hears logs members part most s.lasting.inc exists j (λ e. Names part j e (Deliver packet)) n s peers.clients packet agrees.number refl
+      (went_hears logs members part limit s.lasting.inc exists j (λ e. Names part j e (Deliver packet)) n s peers.clients packet agrees.number refl
       (sym many) agrees.table low gets (λ e is. is))
 
-  deliver_goes : (peers : Peers) (p : Phase) (packet : Sent) → members ≡ peers.clients + 1 → ManagerAgrees members part n j p → epoch_in part p ≤ most
-      → EventGets logs part most j n members p (Deliver packet) → ManagerGoes logs members part most j n p (Deliver packet) (on_deliver peers p packet)
+  deliver_goes : (peers : Peers) (p : Phase) (packet : Sent) → members ≡ peers.clients + 1 → ManagerAgrees members part n j p → epoch_in part p ≤ limit
+      → EventGets logs part limit j n members p (Deliver packet) → ManagerGoes logs members part limit j n p (Deliver packet) (on_deliver peers p packet)
   unfolding on_deliver
   deliver_goes peers p packet many agrees low gets =
-      by_test (ManagerGoes logs members part most j n p (Deliver packet)) (is_well_formed peers packet) (on_packet peers p packet) (still p)
+      by_test (ManagerGoes logs members part limit j n p (Deliver packet)) (is_well_formed peers packet) (on_packet peers p packet) (still p)
       (λ _. packet_goes peers p packet many agrees low gets) (λ _. to_itself p (Deliver packet) agrees low)
 
-  event_goes : (peers : Peers) (p : Phase) (what : Do) → members ≡ peers.clients + 1 → ManagerAgrees members part n j p → epoch_in part p ≤ most
-      → EventGets logs part most j n members p what → phase_has_room p ≡ true → ManagerGoes logs members part most j n p what (on_event peers p what)
+  event_goes : (peers : Peers) (p : Phase) (what : Do) → members ≡ peers.clients + 1 → ManagerAgrees members part n j p → epoch_in part p ≤ limit
+      → EventGets logs part limit j n members p what → phase_has_room p ≡ true → ManagerGoes logs members part limit j n p what (on_event peers p what)
   event_goes peers p Begin many agrees low gets room = begin_goes p agrees low room
   event_goes peers p (Deliver packet) many agrees low gets room = deliver_goes peers p packet many agrees low gets
   event_goes peers p Tick many agrees low gets room = time_goes p agrees low
 
 pub manager_event_goes : ManagerEventGoes
 unfolding happens
-manager_event_goes logs members part most j n m what exists many agrees low gets =
-    by_test (ManagerGoes logs members part most j n m.phase what) (phase_has_room m.phase) (on_event m.peers m.phase what) (still m.phase)
-    (λ room. event_goes logs members part most j exists n m.peers m.phase what many agrees low gets room)
-    (λ _. to_itself logs members part most j exists n m.phase what agrees low)
+manager_event_goes logs members part limit j n m what exists many agrees low gets =
+    by_test (ManagerGoes logs members part limit j n m.phase what) (phase_has_room m.phase) (on_event m.peers m.phase what) (still m.phase)
+    (λ room. event_goes logs members part limit j exists n m.peers m.phase what many agrees low gets room)
+    (λ _. to_itself logs members part limit j exists n m.phase what agrees low)

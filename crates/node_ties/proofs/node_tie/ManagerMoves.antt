@@ -46,15 +46,15 @@ held_is (phase.Broken epoch seg) e h = absurd h
 abbrev pub Grows : Net → Net → Type 0
 Grows n m = (x : Packet) → In x n.sent → In x m.sent
 
-module _ (logs : Bool) (members part most life : ℕ) where
+module _ (logs : Bool) (members part limit life : ℕ) where
   -- an effect that a manager may have, where this was sent
   abbrev pub DoesAt : Net → Effect → Type 0
-  DoesAt n e = ManagerDoes part n.sent most life e
+  DoesAt n e = ManagerDoes part n.sent limit life e
 
   abbrev pub AllDone : Net → List Effect → Type 0
   AllDone n outs = AllByRecursion (DoesAt n) outs
 
-  sends_on : (n m : Net) → Grows n m → (to : NodeId) (b : Body) → ManagerSends part n.sent most life to b → ManagerSends part m.sent most life to b
+  sends_on : (n m : Net) → Grows n m → (to : NodeId) (b : Body) → ManagerSends part n.sent limit life to b → ManagerSends part m.sent limit life to b
   sends_on n m grows (Client c) (body.Grant g) h = λ inside. grows _ (h inside)
   sends_on n m grows (Manager c) (body.Grant g) h = h
   sends_on n m grows (Server c) (body.Grant g) h = h

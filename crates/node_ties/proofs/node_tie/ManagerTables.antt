@@ -70,22 +70,22 @@ by_slot P t k event none some = by (slice_get t k) refl
     by (Some p) is = let same : phase_at t k ≡ p = ap (λ o. unwrap_or o (phase.Away 0)) is in subst
         (λ x. P (slice_set t k (event x).state) (event x).outs) same (some (slice_get_within t k p is))
 
-module _ (logs : Bool) (members part most life : ℕ) (exists : part < 8) where
+module _ (logs : Bool) (members part limit life : ℕ) (exists : part < 8) where
   -- what an event of the table makes of the small world
   pub record TableEvent (n : Net) (t u : Table) (outs : List Effect) : Type 0 where
     pub next : Net
-    pub moves : Moves logs members part most life n next (phase_at t part) (phase_at u part) outs
+    pub moves : Moves logs members part limit life n next (phase_at t part) (phase_at u part) outs
     pub agrees : TableAgrees members part next u
 
   abbrev pub IsLow : Table → Type 0
-  IsLow t = epoch_of (phase_at t part) ≤ most
+  IsLow t = epoch_of (phase_at t part) ≤ limit
 
-  pub table_same : (n : Net) (t : Table) (outs : List Effect) → TableAgrees members part n t → AllDone logs members part most life n outs
+  pub table_same : (n : Net) (t : Table) (outs : List Effect) → TableAgrees members part n t → AllDone logs members part limit life n outs
       → TableEvent n t t outs
   table_same n t outs agrees done = record {
     next = n;
-    moves = moves_of logs members part most life n _ _ outs
-        (stays_same logs members part most life n (phase_at t part) outs done);
+    moves = moves_of logs members part limit life n _ _ outs
+        (stays_same logs members part limit life n (phase_at t part) outs done);
     agrees = agrees;
   }
 
@@ -93,7 +93,7 @@ module _ (logs : Bool) (members part most life : ℕ) (exists : part < 8) where
       → TableEvent n t v (outs ++ more)
   table_then n t u v outs more h k = record {
     next = k.next;
-    moves = moves_then logs members part most life n h.next k.next (phase_at t part) (phase_at u part) (phase_at v part) outs more h.moves k.moves;
+    moves = moves_then logs members part limit life n h.next k.next (phase_at t part) (phase_at u part) (phase_at v part) outs more h.moves k.moves;
     agrees = k.agrees;
   }
 
@@ -139,25 +139,25 @@ module _ (logs : Bool) (members part most life : ℕ) (exists : part < 8) where
       by false is = g (apart is)
 
   set_goes : (n : Net) (t : Table) (k : ℕ) (q : SlotPhase) (outs : List Effect) → TableAgrees members part n t → k ≡ part
-      → Event logs members part most life n (phase_at t part) q outs → TableEvent n t (slice_set t k q) outs
+      → Event logs members part limit life n (phase_at t part) q outs → TableEvent n t (slice_set t k q) outs
   set_goes n t k q outs agrees same h = record {
     next = h.next;
-    moves = subst (λ x. Moves logs members part most life n h.next (phase_at t part) x outs) (sym (at_part n t k q agrees same)) h.moves;
+    moves = subst (λ x. Moves logs members part limit life n h.next (phase_at t part) x outs) (sym (at_part n t k q agrees same)) h.moves;
     agrees = set_slot n h.next t k q agrees same h.agrees;
   }
 
   other_goes : (n : Net) (t : Table) (k : ℕ) (q : SlotPhase) (outs : List Effect) → TableAgrees members part n t → (k ≡ part → ⊥) → k < length t
-      → Other logs members part most life n k q outs → TableEvent n t (slice_set t k q) outs
+      → Other logs members part limit life n k q outs → TableEvent n t (slice_set t k q) outs
   other_goes n t k q outs agrees other within h = record {
     next = n;
-    moves = moves_of logs members part most life n _ _ outs (subst (λ x. Stays logs members part most life n (phase_at t part) x outs)
-        (sym (set_there t k part q (λ e. other (sym e)))) (stays_same logs members part most life n (phase_at t part) outs h.does));
+    moves = moves_of logs members part limit life n _ _ outs (subst (λ x. Stays logs members part limit life n (phase_at t part) x outs)
+        (sym (set_there t k part q (λ e. other (sym e)))) (stays_same logs members part limit life n (phase_at t part) outs h.does));
     agrees = set_other n t k q agrees other within h.agrees;
   }
 
   pub at_slot-goes : (n : Net) (t : Table) (k : ℕ) (event : SlotPhase → Stepped SlotPhase Effect) → TableAgrees members part n t
-      → (k ≡ part → Event logs members part most life n (phase_at t part) (event (phase_at t part)).state (event (phase_at t part)).outs)
-      → ((k ≡ part → ⊥) → Other logs members part most life n k (event (phase_at t k)).state (event (phase_at t k)).outs)
+      → (k ≡ part → Event logs members part limit life n (phase_at t part) (event (phase_at t part)).state (event (phase_at t part)).outs)
+      → ((k ≡ part → ⊥) → Other logs members part limit life n k (event (phase_at t k)).state (event (phase_at t k)).outs)
       → TableEvent n t (table.at_slot t k event).state (table.at_slot t k event).outs
   at_slot-goes n t k event agrees here there =
       by_slot (TableEvent n t) t k event (λ _. table_same n t [] agrees tt)
@@ -184,8 +184,8 @@ module _ (logs : Bool) (members part most life : ℕ) (exists : part < 8) where
       by (Some p) h = h
 
   pub at_taken-goes : (n : Net) (a : TableAsker) (k : ℕ) (event : Asker → Stepped Asker Effect) → TableAgrees members part n a.table
-      → (k ≡ part → AskEvent logs members part most life n (phase_at a.table part) (event (asker (phase_at a.table part) a.questions)))
-      → ((k ≡ part → ⊥) → OtherAsks logs members part most life n k (event (asker (phase_at a.table k) a.questions)))
+      → (k ≡ part → AskEvent logs members part limit life n (phase_at a.table part) (event (asker (phase_at a.table part) a.questions)))
+      → ((k ≡ part → ⊥) → OtherAsks logs members part limit life n k (event (asker (phase_at a.table k) a.questions)))
       → AskTable n a.table (table.at_taken a k event)
   at_taken-goes n a k event agrees here there =
       by_taken (TableEvent n a.table) a k event
@@ -198,16 +198,16 @@ module _ (logs : Bool) (members part most life : ℕ) (exists : part < 8) where
   unfolding table.on_want
   table_wants n t c want agrees seen =
       let k = slot_of want.block.ino.0 in
-      at_slot-goes n t k (λ p. tokens.on_want p c want) agrees (λ same. slot_wants logs members part most life n (phase_at t part) c want agrees.here same seen)
-      (λ other. other_wants logs members part most life n (phase_at t k) c want other (agrees.there k other))
+      at_slot-goes n t k (λ p. tokens.on_want p c want) agrees (λ same. slot_wants logs members part limit life n (phase_at t part) c want agrees.here same seen)
+      (λ other. other_wants logs members part limit life n (phase_at t k) c want other (agrees.there k other))
 
   pub table_gaves : (n : Net) (t : Table) (c : ℕ) (gave : Gave) → TableAgrees members part n t → GaveSeen part n.sent c gave
       → TableEvent n t (table.on_gave t c gave).state (table.on_gave t c gave).outs
   unfolding table.on_gave
   table_gaves n t c gave agrees seen =
       let k = slot_of gave.block.ino.0 in
-      at_slot-goes n t k (λ p. tokens.on_gave p c gave) agrees (λ same. slot_gaves logs members part most life n (phase_at t part) c gave agrees.here same seen)
-      (λ other. other_takes logs members part most life n k (phase_at t k) (tokens.gave_input c gave) other refl (agrees.there k other))
+      at_slot-goes n t k (λ p. tokens.on_gave p c gave) agrees (λ same. slot_gaves logs members part limit life n (phase_at t part) c gave agrees.here same seen)
+      (λ other. other_takes logs members part limit life n k (phase_at t k) (tokens.gave_input c gave) other refl (agrees.there k other))
 
   pub table_deltas : (n : Net) (t : Table) (log : LogId) (deltas : Deltas) → TableAgrees members part n t
       → (deltas.slot ≡ part → Premise logs (DeltasJoin members part n (phase_at t part) log deltas))
@@ -215,8 +215,8 @@ module _ (logs : Bool) (members part most life : ℕ) (exists : part < 8) where
   unfolding table.on_deltas
   table_deltas n t log deltas agrees owed =
       at_slot-goes n t deltas.slot (λ p. tokens.on_deltas p log deltas) agrees
-      (λ same. slot_deltas logs members part most life n (phase_at t part) log deltas agrees.here (owed same))
-      (λ other. other_takes logs members part most life n deltas.slot (phase_at t deltas.slot) (tokens.deltas_input log deltas) other tt
+      (λ same. slot_deltas logs members part limit life n (phase_at t part) log deltas agrees.here (owed same))
+      (λ other. other_takes logs members part limit life n deltas.slot (phase_at t deltas.slot) (tokens.deltas_input log deltas) other tt
       (agrees.there deltas.slot other))
 
   pub table_checks : (n : Net) (t : Table) (check : Check) → TableAgrees members part n t
@@ -225,28 +225,28 @@ module _ (logs : Bool) (members part most life : ℕ) (exists : part < 8) where
   table_checks n t check agrees =
       let k = slot_of check.block.ino.0 in
       at_slot-goes n t k (λ p. tokens.on_check p check) agrees
-      (λ same. subst (λ q. Event logs members part most life n (phase_at t part) q (tokens.on_check (phase_at t part) check).outs)
-      (sym (check_same logs members part most life (phase_at t part) check))
-      (event_same logs members part most life n (phase_at t part) _ agrees.here (check_done logs members part most life n (phase_at t part) check)))
+      (λ same. subst (λ q. Event logs members part limit life n (phase_at t part) q (tokens.on_check (phase_at t part) check).outs)
+      (sym (check_same logs members part limit life (phase_at t part) check))
+      (event_same logs members part limit life n (phase_at t part) _ agrees.here (check_done logs members part limit life n (phase_at t part) check)))
       (λ other. record {
-        agrees = subst (OtherAgrees k) (sym (check_same logs members part most life (phase_at t k) check))
+        agrees = subst (OtherAgrees k) (sym (check_same logs members part limit life (phase_at t k) check))
             (agrees.there k other);
-        does = check_done logs members part most life n (phase_at t k) check;
+        does = check_done logs members part limit life n (phase_at t k) check;
       })
 
-  pub table_usage : (n : Net) (t : Table) (asked : UsageAsk) → AllDone logs members part most life n (table.on_usage_ask t asked)
+  pub table_usage : (n : Net) (t : Table) (asked : UsageAsk) → AllDone logs members part limit life n (table.on_usage_ask t asked)
   unfolding table.on_usage_ask
   table_usage n t asked = by (slice_get t asked.slot)
     where
-      by : (o : Option SlotPhase) → AllDone logs members part most life n (table.usage_in asked o)
+      by : (o : Option SlotPhase) → AllDone logs members part limit life n (table.usage_in asked o)
       by None = tt
-      by (Some p) = usage_done logs members part most life n p asked
+      by (Some p) = usage_done logs members part limit life n p asked
 
   pub table_recalls : (n : Net) (t : Table) (k : ℕ) → TableAgrees members part n t → TableEvent n t (table.recalls t k).state (table.recalls t k).outs
   unfolding table.recalls
   table_recalls n t k agrees =
-      at_slot-goes n t k (λ p. tokens.on_tick p k) agrees (λ same. slot_ticks logs members part most life n k (phase_at t part) agrees.here)
-      (λ other. other_takes logs members part most life n k (phase_at t k) told.Tick other tt (agrees.there k other))
+      at_slot-goes n t k (λ p. tokens.on_tick p k) agrees (λ same. slot_ticks logs members part limit life n k (phase_at t part) agrees.here)
+      (λ other. other_takes logs members part limit life n k (phase_at t k) told.Tick other tt (agrees.there k other))
 
   -- ---- takeovers
 
@@ -256,9 +256,9 @@ module _ (logs : Bool) (members part most life : ℕ) (exists : part < 8) where
   unfolding table.takes
   table_takes n a k given agrees low none owed =
       at_taken-goes n a k (λ one. takeovers.takes one k given) agrees
-      (λ same. slot_hears logs members part most life n k (phase_at a.table part) a.questions given agrees.here (λ _. low) (λ r is. absurd (none r is))
+      (λ same. slot_hears logs members part limit life n k (phase_at a.table part) a.questions given agrees.here (λ _. low) (λ r is. absurd (none r is))
       (owed same))
-      (λ other. other_hears logs members part most life n k (asker (phase_at a.table k) a.questions) given other (agrees.there k other))
+      (λ other. other_hears logs members part limit life n k (asker (phase_at a.table k) a.questions) given other (agrees.there k other))
 
   pub table_reports : (n : Net) (a : TableAsker) (from : NodeId) (report : Report) → TableAgrees members part n a.table → IsLow a.table
       → ReportGets part n members from report → LastReportGets logs members part n (phase_at a.table part) from report
@@ -266,8 +266,8 @@ module _ (logs : Bool) (members part most life : ℕ) (exists : part < 8) where
   unfolding table.on_report
   table_reports n a from report agrees low gets owed =
       at_taken-goes n a report.slot (λ one. takeovers.on_report one from report) agrees
-      (λ same. slot_reports logs members part most life n (phase_at a.table part) a.questions from report agrees.here low same gets owed)
-      (λ other. other_reports logs members part most life n (asker (phase_at a.table report.slot) a.questions) from report other
+      (λ same. slot_reports logs members part limit life n (phase_at a.table part) a.questions from report agrees.here low same gets owed)
+      (λ other. other_reports logs members part limit life n (asker (phase_at a.table report.slot) a.questions) from report other
       (agrees.there report.slot other))
 
   pub table_asks : (n : Net) (polls : Bool) (a : TableAsker) (k : ℕ) → TableAgrees members part n a.table → IsLow a.table
@@ -275,10 +275,10 @@ module _ (logs : Bool) (members part most life : ℕ) (exists : part < 8) where
   unfolding table.asks
   table_asks n polls a k agrees low =
       at_taken-goes n a k (λ one. takeovers.asks_again one k polls) agrees
-      (λ same. let d = quiet_asks logs members part most life (PhaseAgrees members part n) (phases_last logs members part most life n) n k
+      (λ same. let d = quiet_asks logs members part limit life (PhaseAgrees members part n) (phases_last logs members part limit life n) n k
       (phase_at a.table part) a.questions polls agrees.here (λ _. low) in
-      event_staying logs members part most life n (phase_at a.table part) _ _ d.stays d.agrees)
-      (λ other. other_asks logs members part most life n k (asker (phase_at a.table k) a.questions) polls other (agrees.there k other))
+      event_staying logs members part limit life n (phase_at a.table part) _ _ d.stays d.agrees)
+      (λ other. other_asks logs members part limit life n k (asker (phase_at a.table k) a.questions) polls other (agrees.there k other))
 
   -- ---- all slots, one after another
 
@@ -304,18 +304,18 @@ module _ (logs : Bool) (members part most life : ℕ) (exists : part < 8) where
   pub table_regroups : (n : Net) (groups : GroupMapState) (a : TableAsker) → TableAgrees members part n a.table → IsLow a.table
       → AskTable n a.table (table.regroups_all groups a)
   table_regroups n groups a agrees low = each_goes (λ (b : TableAsker). b.table) (table.regroups groups)
-      (λ n b k h l. table_takes n b k (input.Maps groups) h l (λ r is. is) (λ _. maps_owed logs members part most life n (phase_at b.table part) groups))
+      (λ n b k h l. table_takes n b k (input.Maps groups) h l (λ r is. is) (λ _. maps_owed logs members part limit life n (phase_at b.table part) groups))
       n a all_slots agrees low
 
   -- ---- checkpoints
 
   pub record TableStays (n : Net) (t u : Table) : Type 0 where
-    pub stays : Stays logs members part most life n (phase_at t part) (phase_at u part) []
+    pub stays : Stays logs members part limit life n (phase_at t part) (phase_at u part) []
     pub agrees : TableAgrees members part n u
 
   changes : (n : Net) (t : Table) (k : ℕ) (change : SlotPhase → SlotPhase) → TableAgrees members part n t
       → ((p : SlotPhase) → PhaseAgrees members part n p → PhaseAgrees members part n (change p))
-      → ((p : SlotPhase) → Stays logs members part most life n p (change p) [])
+      → ((p : SlotPhase) → Stays logs members part limit life n p (change p) [])
       → ((p : SlotPhase) → OtherAgrees k p → OtherAgrees k (change p)) → TableStays n t (table.changed_in t k change (slice_get t k))
   changes n t k change agrees phases stay others = by (slice_get t k) refl
     where
@@ -323,27 +323,27 @@ module _ (logs : Bool) (members part most life : ℕ) (exists : part < 8) where
       at within =
           slot_or_other k (TableStays n t (slice_set t k (change (phase_at t k))))
           (λ same. subst (λ x. TableStays n t (slice_set t k (change (phase_at t x)))) (sym same) (record {
-            stays = subst (λ q. Stays logs members part most life n (phase_at t part) q []) (sym (at_part n t k (change (phase_at t part)) agrees same))
+            stays = subst (λ q. Stays logs members part limit life n (phase_at t part) q []) (sym (at_part n t k (change (phase_at t part)) agrees same))
                 (stay (phase_at t part));
             agrees = set_slot n n t k (change (phase_at t part)) agrees same (phases (phase_at t part) agrees.here);
           }))
           (λ other. record {
-            stays = subst (λ q. Stays logs members part most life n (phase_at t part) q [])
-                (sym (set_there t k part (change (phase_at t k)) (λ e. other (sym e)))) (stays_same logs members part most life n (phase_at t part) [] tt);
+            stays = subst (λ q. Stays logs members part limit life n (phase_at t part) q [])
+                (sym (set_there t k part (change (phase_at t k)) (λ e. other (sym e)))) (stays_same logs members part limit life n (phase_at t part) [] tt);
             agrees = set_other n t k (change (phase_at t k)) agrees other within (others (phase_at t k) (agrees.there k other));
           })
 
       by : (o : Option SlotPhase) → slice_get t k ≡ o → TableStays n t (table.changed_in t k change o)
-      by None is = record { stays = stays_same logs members part most life n (phase_at t part) [] tt; agrees = agrees }
+      by None is = record { stays = stays_same logs members part limit life n (phase_at t part) [] tt; agrees = agrees }
       by (Some p) is = let same : phase_at t k ≡ p = ap (λ o. unwrap_or o (phase.Away 0)) is in subst (λ x. TableStays n t (slice_set t k (change x))) same
           (at (slice_get_within t k p is))
 
-  clean_stays : (n : Net) (p : SlotPhase) → Stays logs members part most life n p (table.cleaned_phase p) []
+  clean_stays : (n : Net) (p : SlotPhase) → Stays logs members part limit life n p (table.cleaned_phase p) []
   unfolding table.cleaned_phase
   clean_stays n (phase.Active a) = record { epoch = refl; taking = λ e h. h; held = λ e h. h; does = tt }
-  clean_stays n (phase.Away epoch) = stays_same logs members part most life n (phase.Away epoch) [] tt
-  clean_stays n (phase.Taking t) = stays_same logs members part most life n (phase.Taking t) [] tt
-  clean_stays n (phase.Broken epoch seg) = stays_same logs members part most life n (phase.Broken epoch seg) [] tt
+  clean_stays n (phase.Away epoch) = stays_same logs members part limit life n (phase.Away epoch) [] tt
+  clean_stays n (phase.Taking t) = stays_same logs members part limit life n (phase.Taking t) [] tt
+  clean_stays n (phase.Broken epoch seg) = stays_same logs members part limit life n (phase.Broken epoch seg) [] tt
 
   clean_agrees : (n : Net) (p : SlotPhase) → PhaseAgrees members part n p → PhaseAgrees members part n (table.cleaned_phase p)
   unfolding table.cleaned_phase
@@ -363,15 +363,15 @@ module _ (logs : Bool) (members part most life : ℕ) (exists : part < 8) where
   unfolding table.cleaned_at
   table_cleans n t k agrees = changes n t k table.cleaned_phase agrees (clean_agrees n) (clean_stays n) (clean_other k)
 
-  name_stays : (n : Net) (epoch : ℕ) (parts : List SegRef) (p : SlotPhase) → Stays logs members part most life n p (table.named_phase epoch parts p) []
+  name_stays : (n : Net) (epoch : ℕ) (parts : List SegRef) (p : SlotPhase) → Stays logs members part limit life n p (table.named_phase epoch parts p) []
   unfolding table.named_phase
   name_stays n epoch parts (phase.Active a) =
-      by_test (λ q. Stays logs members part most life n (phase.Active a) q []) (a.slot.epoch == epoch) (phase.Active (record a { parts = parts }))
+      by_test (λ q. Stays logs members part limit life n (phase.Active a) q []) (a.slot.epoch == epoch) (phase.Active (record a { parts = parts }))
       (phase.Active a)
-      (λ _. record { epoch = refl; taking = λ e h. h; held = λ e h. h; does = tt }) (λ _. stays_same logs members part most life n (phase.Active a) [] tt)
-  name_stays n epoch parts (phase.Away e) = stays_same logs members part most life n (phase.Away e) [] tt
-  name_stays n epoch parts (phase.Taking t) = stays_same logs members part most life n (phase.Taking t) [] tt
-  name_stays n epoch parts (phase.Broken e seg) = stays_same logs members part most life n (phase.Broken e seg) [] tt
+      (λ _. record { epoch = refl; taking = λ e h. h; held = λ e h. h; does = tt }) (λ _. stays_same logs members part limit life n (phase.Active a) [] tt)
+  name_stays n epoch parts (phase.Away e) = stays_same logs members part limit life n (phase.Away e) [] tt
+  name_stays n epoch parts (phase.Taking t) = stays_same logs members part limit life n (phase.Taking t) [] tt
+  name_stays n epoch parts (phase.Broken e seg) = stays_same logs members part limit life n (phase.Broken e seg) [] tt
 
   name_agrees : (n : Net) (epoch : ℕ) (parts : List SegRef) (p : SlotPhase) → PhaseAgrees members part n p
       → PhaseAgrees members part n (table.named_phase epoch parts p)

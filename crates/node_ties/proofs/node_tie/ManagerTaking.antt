@@ -53,7 +53,7 @@ pub record Lasts (A : SlotPhase → Type 0) : Type 0 where
   pub asked : (t : Taking) (f : Asked) → A (phase.Taking t) → A (phase.Taking (record t { fetches = f }))
   pub broken : (e : ℕ) (seg : SegName) → A (phase.Broken e seg)
 
-module _ (logs : Bool) (members part most life : ℕ) where
+module _ (logs : Bool) (members part limit life : ℕ) where
   pub phases_last : (n : Net) → Lasts (PhaseAgrees members part n)
   phases_last n = record {
     asked = λ t f h. record { free = h.free; slot = h.slot; epoch = h.epoch; clients = h.clients; reported = h.reported; once = h.once; ready = h.ready };
@@ -67,15 +67,15 @@ module _ (logs : Bool) (members part most life : ℕ) where
 
   pub record Quiet (A : SlotPhase → Type 0) (n : Net) (p : SlotPhase) (d : Done) : Type 0 where
     pub agrees : A d.state.phase
-    pub stays : Stays logs members part most life n p d.state.phase d.outs
+    pub stays : Stays logs members part limit life n p d.state.phase d.outs
 
   -- its polls name an epoch that is within the bound
   abbrev pub IsLow : ℕ → SlotPhase → Type 0
-  IsLow k p = k ≡ part → epoch_of p ≤ most
+  IsLow k p = k ≡ part → epoch_of p ≤ limit
 
   module _ (A : SlotPhase → Type 0) (lasts : Lasts A) (n : Net) (k : ℕ) where
     quiet_still : (a : Asker) → A a.phase → Quiet A n a.phase (still a)
-    quiet_still a agrees = record { agrees = agrees; stays = stays_same logs members part most life n a.phase [] tt }
+    quiet_still a agrees = record { agrees = agrees; stays = stays_same logs members part limit life n a.phase [] tt }
 
     quiet_fetches : (p : SlotPhase) (q : Questions) (server : ℕ) (name : SegName) (own : ℕ) → A p → Quiet A n p (fetches p q server name own)
     quiet_fetches (phase.Taking t) q server name own agrees =
@@ -86,7 +86,7 @@ module _ (logs : Bool) (members part most life : ℕ) where
 
     quiet_says : (a : Asker) (o : Out) → IsPlain o → A a.phase → IsLow k a.phase → Quiet A n a.phase (says k a o)
     unfolding says
-    quiet_says a (out.Poll to) plain agrees low = record { agrees = agrees; stays = stays_same logs members part most life n a.phase _ (low, tt) }
+    quiet_says a (out.Poll to) plain agrees low = record { agrees = agrees; stays = stays_same logs members part limit life n a.phase _ (low, tt) }
     quiet_says a (out.Fetch server name own) plain agrees low = quiet_fetches a.phase a.questions server name own agrees
     quiet_says a (out.Active epoch index beliefs applied) plain agrees low = absurd plain
     quiet_says a (out.Lost seg) plain agrees low = record {
@@ -103,7 +103,7 @@ module _ (logs : Bool) (members part most life : ℕ) where
         let rest = quiet_each (says k a o).state os plain.1 one.agrees (λ same. let l = low same in let e = one.stays.epoch in omega arith) in
         record {
           agrees = rest.agrees;
-          stays = stays_then logs members part most life n a.phase (says k a o).state.phase _ (says k a o).outs _ one.stays rest.stays;
+          stays = stays_then logs members part limit life n a.phase (says k a o).state.phase _ (says k a o).outs _ one.stays rest.stays;
         }
 
     -- time alone says nothing else
@@ -125,10 +125,10 @@ module _ (logs : Bool) (members part most life : ℕ) where
   -- ---- any input, of the slot
 
   abbrev pub AskEvent : Net → SlotPhase → Done → Type 0
-  AskEvent n p d = Event logs members part most life n p d.state.phase d.outs
+  AskEvent n p d = Event logs members part limit life n p d.state.phase d.outs
 
   event_of : (n : Net) (p : SlotPhase) (d : Done) → Quiet (PhaseAgrees members part n) n p d → AskEvent n p d
-  event_of n p d t = event_staying logs members part most life n p d.state.phase d.outs t.stays t.agrees
+  event_of n p d t = event_staying logs members part limit life n p d.state.phase d.outs t.stays t.agrees
 
   -- the takeover hands the slot out
   handed : (n : Net) (t : Taking) (q : Questions) (k : ℕ) (index : List (BlockId × Entry)) → TakingAgrees members part n t
@@ -180,7 +180,7 @@ module _ (logs : Bool) (members part most life : ℕ) where
 
   -- what a takeover has taken doesn't count
   from_taking : (n : Net) (t : Taking) (take : TakeState) (r : SlotPhase) (outs : List Effect)
-      → Event logs members part most life n (phase.Taking (record t { take = take })) r outs → Event logs members part most life n (phase.Taking t) r outs
+      → Event logs members part limit life n (phase.Taking (record t { take = take })) r outs → Event logs members part limit life n (phase.Taking t) r outs
   from_taking n t take r outs h = record {
     next = h.next;
     moves = record {
@@ -223,14 +223,14 @@ module _ (logs : Bool) (members part most life : ℕ) where
       (took t.take given agrees.ready agrees.once).said
 
   -- a report, where it is of the slot
-  pub slot_reports : (n : Net) (p : SlotPhase) (q : Questions) (from : NodeId) (report : Report) → PhaseAgrees members part n p → epoch_of p ≤ most
+  pub slot_reports : (n : Net) (p : SlotPhase) (q : Questions) (from : NodeId) (report : Report) → PhaseAgrees members part n p → epoch_of p ≤ limit
       → report.slot ≡ part → ReportGets part n members from report → LastReportGets logs members part n p from report
       → AskEvent n p (on_report (asker p q) from report)
   slot_reports n p q from report agrees low of gets owed =
       by_test (AskEvent n p) (report.epoch == epoch_of p) (takes (asker p q) report.slot (report_input from report)) (still (asker p q))
       (λ same. slot_hears n report.slot p q (report_input from report) agrees (λ _. low)
       (λ r is. known from gets (eqb-true report.epoch (epoch_of p) same) r is) (owed of (eqb-true report.epoch (epoch_of p) same)))
-      (λ _. event_same logs members part most life n p [] agrees tt)
+      (λ _. event_same logs members part limit life n p [] agrees tt)
     where
       of_node : (node : NodeId) → ReportGets part n members node report → report.epoch ≡ epoch_of p
           → ReportKnown members part n (epoch_of p) node report.held report.end
@@ -255,7 +255,7 @@ module _ (logs : Bool) (members part most life : ℕ) where
   -- ---- any input, of another slot
 
   pub other_says : (n : Net) (k : ℕ) (a : Asker) (o : Out) → (k ≡ part → ⊥) → OtherAgrees k a.phase
-      → Other logs members part most life n k (says k a o).state.phase (says k a o).outs
+      → Other logs members part limit life n k (says k a o).state.phase (says k a o).outs
   unfolding says
   other_says n k a (out.Poll to) other agrees = record { agrees = agrees; does = (λ same. absurd (other same), tt) }
   other_says n k a (out.Fetch server name own) other agrees = let d = quiet_fetches (OtherAgrees k)
@@ -265,16 +265,16 @@ module _ (logs : Bool) (members part most life : ℕ) where
   other_says n k a (out.Lost seg) other agrees = record { agrees = tt; does = (tt, tt) }
 
   other_each : (n : Net) (k : ℕ) (a : Asker) (outs : List Out) → (k ≡ part → ⊥) → OtherAgrees k a.phase
-      → Other logs members part most life n k (says_each k a outs).state.phase (says_each k a outs).outs
+      → Other logs members part limit life n k (says_each k a outs).state.phase (says_each k a outs).outs
   unfolding says_each
   other_each n k a [] other agrees = record { agrees = agrees; does = tt }
   other_each n k a (o ∷ os) other agrees =
       let one = other_says n k a o other agrees in
       let rest = other_each n k (says k a o).state os other one.agrees in
-      record { agrees = rest.agrees; does = all_both (DoesAt logs members part most life n) (says k a o).outs _ one.does rest.does }
+      record { agrees = rest.agrees; does = all_both (DoesAt logs members part limit life n) (says k a o).outs _ one.does rest.does }
 
   abbrev pub OtherAsks : Net → ℕ → Done → Type 0
-  OtherAsks n k d = Other logs members part most life n k d.state.phase d.outs
+  OtherAsks n k d = Other logs members part limit life n k d.state.phase d.outs
 
   other_heard : (k : ℕ) (p : SlotPhase) (given : Input) → OtherAgrees k p → OtherAgrees k (heard p given).state
   unfolding heard
@@ -302,9 +302,9 @@ module _ (logs : Bool) (members part most life : ℕ) where
   -- ---- news of the slot, and of another
 
   pub record Rose (named : ℕ → Type 0) (n : Net) (p : SlotPhase) (news : SlotNews) (d : Done) : Type 0 where
-    pub rises : Rises logs members part most life named n p d.state.phase d.outs
+    pub rises : Rises logs members part limit life named n p d.state.phase d.outs
     pub agrees : PhaseAgrees members part n d.state.phase
-    pub within : epoch_of d.state.phase ≤ most
+    pub within : epoch_of d.state.phase ≤ limit
     pub above : news.epoch ≤ epoch_of d.state.phase
 
   record Begins (named : ℕ → Type 0) (n : Net) (news : SlotNews) (r : SlotPhase) : Type 0 where
@@ -313,7 +313,7 @@ module _ (logs : Bool) (members part most life : ℕ) where
     held : (e : ℕ) → HeldAt r e → named e
 
   begins : (named : ℕ → Type 0) (j : ℕ) (n : Net) (number : ℕ) (news : SlotNews) (groups : GroupMapState) (clients known : ℕ) → number ≡ j
-      → clients + 1 ≡ members → news.slot ≡ part → known < news.epoch → NewsGets part most j n known news
+      → clients + 1 ≡ members → news.slot ≡ part → known < news.epoch → NewsGets part limit j n known news
       → (news.manager ≡ j → named news.epoch) → Begins named n news (phase_of number news groups clients)
   begins named j n number news groups clients known is_j many of later gets named_ =
       by_test (Begins named n news) (news.manager == number)
@@ -334,8 +334,8 @@ module _ (logs : Bool) (members part most life : ℕ) where
       (λ _. record { agrees = tt; epoch = refl; held = λ e h. absurd h })
 
   pub slot_hears_of : (named : ℕ → Type 0) (j : ℕ) (n : Net) (h : Hearer) (news : SlotNews) (one : Asker) → h.ears.number ≡ j → h.ears.clients + 1 ≡ members
-      → news.slot ≡ part → PhaseAgrees members part n one.phase → epoch_of one.phase ≤ most
-      → NewsGets part most j n (epoch_of one.phase) news → (news.manager ≡ j → named news.epoch) → Rose named n one.phase news (hears_of h news one)
+      → news.slot ≡ part → PhaseAgrees members part n one.phase → epoch_of one.phase ≤ limit
+      → NewsGets part limit j n (epoch_of one.phase) news → (news.manager ≡ j → named news.epoch) → Rose named n one.phase news (hears_of h news one)
   unfolding hears_of
   slot_hears_of named j n h news one is_j many of agrees low gets named_ =
       let begun = phase_of h.ears.number news h.groups h.ears.clients in
@@ -359,8 +359,8 @@ module _ (logs : Bool) (members part most life : ℕ) where
         above = omega arith;
       })
       (λ no. record {
-        rises = rises_of logs members part most life named n one.phase one.phase []
-            (stays_same logs members part most life n one.phase [] tt);
+        rises = rises_of logs members part limit life named n one.phase one.phase []
+            (stays_same logs members part limit life n one.phase [] tt);
         agrees = agrees;
         within = low;
         above = not_less (epoch_of one.phase) news.epoch no;

@@ -24,7 +24,7 @@ use Rattle.stripe_cleaner.specs.Transition as job
 use Rattle.token_protocol.specs.Basics.{In as Among}
 use Rattle.version_model.specs.declared.answer.Answer.TheVariants.{Busy}
 use Rattle.xfs_base.proofs.Booleans.{by_test}
-use Rattle.xfs_base.specs.Steps.{still, after, steps}
+use Rattle.xfs_base.specs.Steps.{still, saying, steps}
 use Rattle.node_ties.specs.owner_index_tie.CleanerEvents.{JobSeen, JobAgrees}
 use Rattle.node_ties.proofs.owner_index_tie.CleanerEpochs.{promise_is}
 use Rattle.node_ties.proofs.owner_index_tie.CleanerFrames as frames
@@ -109,7 +109,7 @@ module _ (New : Filed → Segment → Type 0) (part : ℕ) (texts : Texts) (sinc
             late = k.stands.late;
             heard = k.stands.heard;
             seen = record {
-              owner = same_owner part n m 9 9 e.log e.feed (record { head = refl; segment = λ q some most. refl }) k.stands.seen.owner;
+              owner = same_owner part n m 9 9 e.log e.feed (record { head = refl; segment = λ q some limit. refl }) k.stands.seen.owner;
               eight = k.stands.seen.eight;
               promised = k.stands.seen.promised;
               job = none;
@@ -152,7 +152,7 @@ module _ (New : Filed → Segment → Type 0) (part : ℕ) (texts : Texts) (sinc
           late = k.stands.late;
           heard = k.stands.heard;
           seen = record {
-            owner = same_owner part n m 9 9 e.log e.feed (record { head = refl; segment = λ q some most. refl }) k.stands.seen.owner;
+            owner = same_owner part n m 9 9 e.log e.feed (record { head = refl; segment = λ q some limit. refl }) k.stands.seen.owner;
             eight = k.stands.seen.eight;
             promised = k.stands.seen.promised;
             job = record { is = refl; eight = told_eight; told = has };
@@ -297,7 +297,7 @@ module _ (New : Filed → Segment → Type 0) (part : ℕ) (texts : Texts) (sinc
           late = h.late;
           heard = h.heard;
           seen = record {
-            owner = same_owner part n m 9 9 e.log e.feed (record { head = refl; segment = λ q some most. refl }) h.seen.owner;
+            owner = same_owner part n m 9 9 e.log e.feed (record { head = refl; segment = λ q some limit. refl }) h.seen.owner;
             eight = h.seen.eight;
             promised = h.seen.promised;
             job = told_nothing count part;
@@ -310,7 +310,7 @@ module _ (New : Filed → Segment → Type 0) (part : ℕ) (texts : Texts) (sinc
         none = told_nothing count part;
         greets = refl;
       } in
-      frames.went_after New part texts since answered At asked asked n m (after d.outs (cleans d.state input.Tick)) (On Begun (JobBegins count)) grows refl
+      frames.went_after New part texts since answered At asked asked n m (saying d.outs (cleans d.state input.Tick)) (On Begun (JobBegins count)) grows refl
       (λ x is. is)
       (frames.went_on New part texts since answered asked m d (cleans d.state input.Tick) (all_told (range_with_len 0 8) asked m r before (in_slots part small))
       (λ w. jobs.cleans_so New part texts since answered w.questions w.next d.state input.Tick w.at

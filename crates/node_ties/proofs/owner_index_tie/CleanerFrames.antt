@@ -30,7 +30,7 @@ use Rattle.version_model.specs.declared.act.Act.TheVariants.{Filed as ActsFiled,
 use Rattle.wire_msg.specs.declared.body.Body.{Body}
 use Rattle.wire_msg.specs.declared.body.Body.TheVariants as body
 use Rattle.wire_msg.specs.declared.cleaning.Check.{Check}
-use Rattle.xfs_base.specs.Steps.{Stepped, after, steps}
+use Rattle.xfs_base.specs.Steps.{Stepped, saying, steps}
 use Rattle.xfs_base.specs.declared.segment.SegName.{SegName}
 use Rattle.node_ties.specs.owner_index_tie.CleanerEvents.{JobAgrees, EmptyingSeen, IsMoved, MayAsk, SaysOwed, EffectOwed, CleanerSays, CleanerActs, CleanerDoes}
 use Rattle.node_ties.specs.owner_index_tie.Acting.{ActSo, AllSo, EffectSo}
@@ -243,7 +243,7 @@ module _ (New : Filed → Segment → Type 0) (part : ℕ) (texts : Texts) (sinc
             ((k one).1 (all_owed_later part n one.next one.grows e.outs (all_behind (EffectOwed part n) d.outs e.outs asks)) may)
 
   pub went_on : (asked : Questions) (n : Net) (d e : Stepped Emptying Effect) → Goes asked n d
-      → ((w : Went asked n At d.state d.outs) → Goes w.questions w.next e) → Goes asked n (after d.outs e)
+      → ((w : Went asked n At d.state d.outs) → Goes w.questions w.next e) → Goes asked n (saying d.outs e)
   went_on asked n d e p k = went_through At At asked n d e p k
 
   pub went_steps : {A : Type 0} (step : Emptying → A → Stepped Emptying Effect)
@@ -342,7 +342,7 @@ module _ (New : Filed → Segment → Type 0) (part : ℕ) (texts : Texts) (sinc
 
   -- what files nothing is told before
   pub went_behind : (asked : Questions) (n : Net) (outs : List Effect) (d : Stepped Emptying Effect) → AllPlain asked n outs → Goes asked n d
-      → Goes asked n (after outs d)
+      → Goes asked n (saying outs d)
   went_behind asked n outs d all p = (
     λ owed. behind owed,
     λ asks may. all_both (EffectSo (IsNamed texts)) outs d.outs (plain_named asked n outs all) (p.1 (all_behind (EffectOwed part n) outs d.outs asks) may),
@@ -414,7 +414,7 @@ module _ (New : Filed → Segment → Type 0) (part : ℕ) (texts : Texts) (sinc
   -- a segment of the log
   pub went_filing : (asked : Questions) (n : Net) (name : SegName) (d : Stepped Emptying Effect) → IsNamed texts name → name.seq ≡ suc (n.filed.head 9)
       → IsMoved part n.sent n.filed (texts name) → (FilesNext New texts 9 n.filed name → Goes asked (files_one n name) d)
-      → Goes asked n (after (Does (ActsFiled name) ∷ []) d)
+      → Goes asked n (saying (Does (ActsFiled name) ∷ []) d)
   went_filing asked n name d named at moved k = (
     λ owed. filing_it owed,
     λ asks may. (named, (k (may n.filed name named at)).1 (all_owed_later part n (files_one n name) (grows_filing n name) d.outs asks.1) may),

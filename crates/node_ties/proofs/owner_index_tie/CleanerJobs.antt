@@ -119,7 +119,7 @@ with_lower promised slot epoch low =
 module _ (part : ℕ) where
   -- news of slots of which none of this one is higher
   abbrev pub NoHigher : ℕ → List SlotNews → Type 0
-  NoHigher most slots = AllByRecursion (λ (news : SlotNews). news.slot ≡ part → news.epoch ≤ most) slots
+  NoHigher limit slots = AllByRecursion (λ (news : SlotNews). news.slot ≡ part → news.epoch ≤ limit) slots
 
   with_news : (promised : List ℕ) (news : SlotNews) → (news.slot ≡ part → news.epoch ≤ promised_at promised part)
       → promised_at (promised_with promised news.slot news.epoch) part ≡ promised_at promised part
@@ -176,7 +176,7 @@ module _ (New : Filed → Segment → Type 0) (part : ℕ) (texts : Texts) (sinc
         late = h.late;
         heard = h.heard;
         seen = record {
-          owner = same_owner part n m 9 9 e.log e.feed (record { head = refl; segment = λ q some most. refl }) h.seen.owner;
+          owner = same_owner part n m 9 9 e.log e.feed (record { head = refl; segment = λ q some limit. refl }) h.seen.owner;
           eight = h.seen.eight;
           promised = h.seen.promised;
           job = t.seen;

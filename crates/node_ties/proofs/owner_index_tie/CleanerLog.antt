@@ -33,7 +33,7 @@ use Rattle.segment_format.specs.declared.segment.Segment.{Segment}
 use Rattle.stripe_cleaner.specs.declared.input.In.TheVariants as input
 use Rattle.xfs_base.specs.declared.segment.LogId.{LogId}
 use Rattle.xfs_base.specs.declared.segment.SegName.{SegName}
-use Rattle.xfs_base.specs.Steps.{after, steps}
+use Rattle.xfs_base.specs.Steps.{saying, steps}
 use Rattle.node_ties.specs.owner_index_tie.CleanerEvents.{IsMoved, JobAgrees}
 use Rattle.node_ties.specs.owner_index_tie.Filing.{filing, FilesNext}
 use Rattle.node_ties.specs.owner_index_tie.Owners.{LogNext, OwnerSeen}
@@ -144,10 +144,10 @@ module _ (New : Filed → Segment → Type 0) (part : ℕ) (texts : Texts) (sinc
         }
 
     abbrev gone : Done
-    gone = after (pushes_all then_fed.promised.managers then_fed.feed) (cleans then_fed input.Moved)
+    gone = saying (pushes_all then_fed.promised.managers then_fed.feed) (cleans then_fed input.Moved)
 
     abbrev behind : Done
-    behind = after gone.outs (steps writes_one gone.state k.rest)
+    behind = saying gone.outs (steps writes_one gone.state k.rest)
 
     behind_so : FilesNext New texts 9 n.filed its_name → Goes asked m behind
     behind_so it =

@@ -30,7 +30,7 @@ use Rattle.wire_msg.specs.declared.registry.News.{News}
 use Rattle.wire_msg.specs.declared.registry.Welcome.{Welcome}
 use Rattle.xfs_base.proofs.Booleans.{by_test}
 use Rattle.xfs_base.specs.declared.news.SlotNews.{SlotNews}
-use Rattle.xfs_base.specs.Steps.{still, after, steps}
+use Rattle.xfs_base.specs.Steps.{still, saying, steps}
 use Rattle.node_ties.specs.owner_index_tie.CleanerEvents.{JobAgrees}
 use Rattle.node_ties.proofs.owner_index_tie.CleanerFrames as frames
 use Rattle.node_ties.proofs.owner_index_tie.CleanerFrames.{Grows, Stands}
@@ -227,7 +227,7 @@ module _ (New : Filed → Segment → Type 0) (part : ℕ) (texts : Texts) (sinc
       let a = job_regrouped r newer news.groups in
       let b = steps hears_slot a.state news.slots in
       let same = all_hear_log a.state news.slots ∙ regrouped_log r newer news.groups in
-      frames.went_through New part texts since answered At (Heard news.slots) asked n a (after b.outs (log_regrouped b.state newer news.groups))
+      frames.went_through New part texts since answered At (Heard news.slots) asked n a (saying b.outs (log_regrouped b.state newer news.groups))
       (regroups_so asked n r newer news.groups h)
       (λ w. frames.went_through New part texts since answered (Heard news.slots) (Heard news.slots) w.questions w.next b
       (log_regrouped b.state newer news.groups)
@@ -267,7 +267,7 @@ module _ (New : Filed → Segment → Type 0) (part : ℕ) (texts : Texts) (sinc
   unfolding on_welcome
   welcome_so asked n e m h text =
       let d = takes_news e m.news in
-      by_test (Goes asked n) ((m.inc == e.lasting.inc) && fits e.maps m.news) (after d.outs (welcomes d.state m)) (still e)
+      by_test (Goes asked n) ((m.inc == e.lasting.inc) && fits e.maps m.news) (saying d.outs (welcomes d.state m)) (still e)
       (λ _. frames.went_through New part texts since answered (Heard m.news.slots) At asked n d (welcomes d.state m) (takes_so asked n e m.news h text)
       (λ w. welcomes_so w.questions w.next d.state m w.at.0 w.at.1))
       (λ _. frames.quiet New part texts since answered asked n e [] h tt)

@@ -172,7 +172,7 @@ module _ (New : Filed → Segment → Type 0) (part : ℕ) (texts : Texts) (n : 
   Newer (Serving e) = (length e.promised.epochs ≡ 8) × (n.promised ≤ epoch_of e.promised part)
 
   fits_in : (v : Net) → v ≡ filing n v.filed → LogFits part (filing n v.filed) 9 → LogFits part v 9
-  fits_in v is k = same_fits part (filing n v.filed) v 9 (record { head = refl; segment = λ q some most. refl }) k
+  fits_in v is k = same_fits part (filing n v.filed) v 9 (record { head = refl; segment = λ q some limit. refl }) k
 
   job_in : (v : Net) → v ≡ filing n v.filed → v.job ≡ n.job
   job_in v is = ap (λ (x : Net). x.job) is
@@ -241,7 +241,7 @@ module _ (New : Filed → Segment → Type 0) (part : ℕ) (texts : Texts) (n : 
           sent = λ x is. is;
           deleted = λ name is. is;
         } in
-        let owner = same_owner part (filing n v.filed) m 9 9 o.log o.feed (record { head = refl; segment = λ q some most. refl }) k.seen.seen in
+        let owner = same_owner part (filing n v.filed) m 9 9 o.log o.feed (record { head = refl; segment = λ q some limit. refl }) k.seen.seen in
         let at : PhaseSo m (back l o).state = record {
           late = k.seen.late;
           heard = λ x is. subst (λ xs. In x xs) (sym (sent_in v k.is)) is;

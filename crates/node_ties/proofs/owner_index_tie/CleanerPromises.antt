@@ -25,7 +25,7 @@ use Rattle.node_base.specs.declared.effects.Effect.TheVariants.{Send}
 use Rattle.wire_msg.specs.declared.body.Body.TheVariants as body
 use Rattle.xfs_base.proofs.Booleans.{by_test}
 use Rattle.xfs_base.specs.declared.node.NodeId.TheVariants.{Manager}
-use Rattle.xfs_base.specs.Steps.{still, after, steps}
+use Rattle.xfs_base.specs.Steps.{still, saying, steps}
 use Rattle.node_ties.specs.owner_index_tie.CleanerEvents.{JobSeen, JobAgrees}
 use Rattle.node_ties.specs.owner_index_tie.Owners.{OwnerSeen}
 use Rattle.node_ties.proofs.owner_index_tie.CleanerEpochs.{promise_is, to_length, to_here, to_other}
@@ -47,7 +47,7 @@ module _ (New : Filed → Segment → Type 0) (part : ℕ) (texts : Texts) (sinc
   -- the owner, in a small world where the same is filed
   same_files : (n m : Net) (e : Emptying) → m.filed ≡ n.filed → OwnerSeen part n 9 9 e.log e.feed → OwnerSeen part m 9 9 e.log e.feed
   same_files n m e same k = same_owner part n m 9 9 e.log e.feed
-      (record { head = ap (λ f. f.head 9) same; segment = λ q some most. ap (λ f. f.segment 9 q) same }) k
+      (record { head = ap (λ f. f.head 9) same; segment = λ q some limit. ap (λ f. f.segment 9 q) same }) k
 
   -- ---- an epoch of the slot
 
@@ -226,17 +226,17 @@ module _ (New : Filed → Segment → Type 0) (part : ℕ) (texts : Texts) (sinc
                 (ap (λ (f : Filed). f.head 9) k.filed ∙ sym h.seen.owner.end.seq))),
           )
 
-      pub of_poll : frames.Goes_to New part texts since answered Up asked n (after (report ∷ []) (cleans kept (input.Promise part epoch)))
+      pub of_poll : frames.Goes_to New part texts since answered Up asked n (saying (report ∷ []) (cleans kept (input.Promise part epoch)))
       unfolding cleans job_takes
       of_poll = by e.job refl
         where
           by : (o : Option Job) → e.job ≡ o
               → frames.Goes_to New part texts since answered Up asked n
-              (after (report ∷ []) (steps says (takes_in kept o (input.Promise part epoch)).state (takes_in kept o (input.Promise part epoch)).outs))
+              (saying (report ∷ []) (steps says (takes_in kept o (input.Promise part epoch)).state (takes_in kept o (input.Promise part epoch)).outs))
           by None same =
               let k = reported alone None (promised_alone same) in
               let v = reporting alone in
-              ups v (after (report ∷ []) (still kept)) k.grows k.promised k.runs k.filed
+              ups v (saying (report ∷ []) (still kept)) k.grows k.promised k.runs k.filed
               (frames.quiet New part texts since answered asked v kept (report ∷ [])
               (subst (Stands New part texts since answered v e.log e.feed kept.promised) (sym same) (kept_at v None k))
               (report_plain alone None (promised_alone same), tt))
@@ -246,7 +246,7 @@ module _ (New : Filed → Segment → Type 0) (part : ℕ) (texts : Texts) (sinc
               let r = jobs.rejobbed New part texts since answered kept j (d j same) in
               let k = reported m r.job p in
               let v = reporting m in
-              ups v (after (report ∷ []) (steps says r (d j same).outs)) k.grows k.promised k.runs k.filed
+              ups v (saying (report ∷ []) (steps says r (d j same).outs)) k.grows k.promised k.runs k.filed
               (frames.went_behind New part texts since answered asked v (report ∷ []) (steps says r (d j same).outs) (report_plain m r.job p, tt)
               (all_said New part texts since answered asked v r (d j same).outs (jobs.said_known n (d j same)) (kept_at v r.job k)))
 
@@ -369,13 +369,13 @@ module _ (New : Filed → Segment → Type 0) (part : ℕ) (texts : Texts) (sinc
 
     polled_from : (e : Emptying) → At n e → (slot ≡ part → epoch_of e.promised part ≤ epoch)
         → (slot ≡ part → 0 < of_log (n.horizon epoch) 9 → Linked n.filed 9 (of_log (n.horizon epoch) 9) (n.filed.head 9))
-        → Goes asked n (after (its_report e ∷ []) (cleans (record e { promised = promised_to e.promised slot epoch manager }) (input.Promise slot epoch)))
+        → Goes asked n (saying (its_report e ∷ []) (cleans (record e { promised = promised_to e.promised slot epoch manager }) (input.Promise slot epoch)))
     polled_from e h low linked = by (slot == part) refl
       where
         by : (t : Bool) → (slot == part) ≡ t
-            → Goes asked n (after (its_report e ∷ []) (cleans (record e { promised = promised_to e.promised slot epoch manager }) (input.Promise slot epoch)))
+            → Goes asked n (saying (its_report e ∷ []) (cleans (record e { promised = promised_to e.promised slot epoch manager }) (input.Promise slot epoch)))
         by true is = subst (λ k. Goes asked n
-            (after (Send (Manager manager) (body.Report (record { slot = k; epoch = epoch; held = []; end = e.log.end })) ∷ [])
+            (saying (Send (Manager manager) (body.Report (record { slot = k; epoch = epoch; held = []; end = e.log.end })) ∷ [])
             (cleans (record e { promised = promised_to e.promised k epoch manager }) (input.Promise k epoch)))) (sym (at_slot is))
             (weaker (λ v s u. u.0) asked n _ (of_poll asked n e h epoch manager (low (at_slot is)) (linked (at_slot is))))
         by false is = frames.went_behind New part texts since answered asked n (its_report e ∷ [])
@@ -384,10 +384,10 @@ module _ (New : Filed → Segment → Type 0) (part : ℕ) (texts : Texts) (sinc
 
     pub polled_so : (e : Emptying) → At n e → (slot ≡ part → epoch_of e.promised part ≤ epoch)
         → (slot ≡ part → 0 < of_log (n.horizon epoch) 9 → Linked n.filed 9 (of_log (n.horizon epoch) 9) (n.filed.head 9))
-        → Goes asked n (after (its_report (promises e slot epoch manager) ∷ []) (cleans (promises e slot epoch manager) (input.Promise slot epoch)))
+        → Goes asked n (saying (its_report (promises e slot epoch manager) ∷ []) (cleans (promises e slot epoch manager) (input.Promise slot epoch)))
     unfolding promises
     polled_so e h low linked =
         by_test (λ (r : Emptying). Goes asked n
-        (after (its_report r ∷ []) (cleans (record r { promised = promised_to r.promised slot epoch manager }) (input.Promise slot epoch))))
+        (saying (its_report r ∷ []) (cleans (record r { promised = promised_to r.promised slot epoch manager }) (input.Promise slot epoch))))
         (nat_lt (epoch_of e.promised slot) epoch) (record e { feed = new_epoch e.feed slot }) e
         (λ _. polled_from (record e { feed = new_epoch e.feed slot }) (refed n e slot h) low linked) (λ _. polled_from e h low linked)

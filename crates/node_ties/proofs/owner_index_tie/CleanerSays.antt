@@ -208,7 +208,7 @@ module _ (New : Filed → Segment → Type 0) (part : ℕ) (texts : Texts) (sinc
             questions = (ask, n.number, place.seg.name) ∷ asked;
             kept = λ x is. inr is;
             at = frames.moved_on New part texts since answered n (with_packet n p) e.log e.feed e.promised e.job
-                (record { head = refl; segment = λ q some most. refl }) refl refl
+                (record { head = refl; segment = λ q some limit. refl }) refl refl
                 (λ x is. inr is) h;
             says = (λ inside. record { number = n.number; below = may.epoch; sent = inl refl; question = inl refl }, tt);
           }
@@ -304,7 +304,7 @@ module _ (New : Filed → Segment → Type 0) (part : ℕ) (texts : Texts) (sinc
         late = h.late;
         heard = h.heard;
         seen = record {
-          owner = same_owner part n m 9 9 e.log e.feed (record { head = refl; segment = λ q some most. refl }) h.seen.owner;
+          owner = same_owner part n m 9 9 e.log e.feed (record { head = refl; segment = λ q some limit. refl }) h.seen.owner;
           eight = h.seen.eight;
           promised = h.seen.promised;
           job = told_nothing 0 part;

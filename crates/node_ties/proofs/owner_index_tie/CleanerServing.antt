@@ -18,7 +18,7 @@ use Rattle.wire_msg.specs.declared.body.Body.TheVariants as body
 use Rattle.wire_msg.specs.declared.packet.Packet.{Packet as Sent}
 use Rattle.xfs_base.proofs.Booleans.{by_test}
 use Rattle.xfs_base.specs.declared.node.NodeId.{NodeId}
-use Rattle.xfs_base.specs.Steps.{after}
+use Rattle.xfs_base.specs.Steps.{saying}
 use Rattle.node_ties.specs.owner_index_tie.CleanerEvents.{BodyGets}
 use Rattle.node_ties.proofs.owner_index_tie.CleanerFrames as frames
 use Rattle.node_ties.proofs.owner_index_tie.CleanerFrames.{Stands}
@@ -62,7 +62,7 @@ module _ (New : Filed → Segment → Type 0) (part : ℕ) (texts : Texts) (sinc
         let j = cleans e input.Tick in
         let l = writes j.state log_in.Tick in
         frames.went_on New part texts since answered asked n j
-        (after l.outs (record { state = l.state; outs = pushes_all l.state.promised.managers l.state.feed }))
+        (saying l.outs (record { state = l.state; outs = pushes_all l.state.promised.managers l.state.feed }))
         (jobs.cleans_so New part texts since answered asked n e input.Tick h (jobs.may_other New part texts since answered n e input.Tick h tt tt))
         (λ w. frames.went_on New part texts since answered w.questions w.next l
         (record { state = l.state; outs = pushes_all l.state.promised.managers l.state.feed })

@@ -43,7 +43,7 @@ use Rattle.wire_msg.specs.declared.packet.Do.{Do}
 use Rattle.wire_msg.specs.declared.packet.Do.TheVariants.{Begin, Deliver, Tick}
 use Rattle.wire_msg.specs.declared.packet.Packet.{Packet}
 use Rattle.xfs_base.proofs.Booleans.{by_test}
-use Rattle.xfs_base.specs.Steps.{still, after}
+use Rattle.xfs_base.specs.Steps.{still, saying}
 use Rattle.segment_format.specs.declared.segment.Segment.{Segment}
 use Rattle.node_ties.specs.owner_index_tie.ClientEvents.{RestingSeen, ClientAgrees, IsNewerAtSlot, BodyGets, PacketGets, EventGets, ReopensOn, WritesTexts, ClientEventGoes}
 use Rattle.node_ties.specs.owner_index_tie.Filing.{filing, filed_after}
@@ -56,7 +56,7 @@ use Rattle.node_ties.proofs.owner_index_tie.ServingCalls as calls
 use Rattle.node_ties.proofs.owner_index_tie.ServingPackets as serving
 use Rattle.node_ties.proofs.owner_index_tie.Standing.{Stands, pushes_all_plain}
 
-module _ (New : Filed → Segment → Type 0) (part : ℕ) (texts : Texts) (n : Net) (c : ℕ) (some : 0 < c) (most : c ≤ 9) where
+module _ (New : Filed → Segment → Type 0) (part : ℕ) (texts : Texts) (n : Net) (c : ℕ) (some : 0 < c) (limit : c ≤ 9) where
   abbrev since : ℕ
   since = n.filed.head c
 
@@ -106,7 +106,7 @@ module _ (New : Filed → Segment → Type 0) (part : ℕ) (texts : Texts) (n : 
       (record { late = h.late; seen = record { number_is = own; log = h.seen.log; end = h.seen.end; feed = h.seen.feed } }) (
         tt,
         all_both (frames.Plain part n c since f) (pushes_all o.promised.managers o.feed) _
-            (pushes_all_plain part n c since f some most o.promised.managers o.feed h.seen.feed)
+            (pushes_all_plain part n c since f some limit o.promised.managers o.feed h.seen.feed)
             (frames.answers_plain part n c since f l.items.unanswered answer.Done),
       )
 
@@ -136,8 +136,8 @@ module _ (New : Filed → Segment → Type 0) (part : ℕ) (texts : Texts) (n : 
   begins_so f s number (Some x) h =
       let t : Serving = record s { lasting = record s.lasting { items = waiting s.lasting.items number } } in
       let d : Done = goes_on t x in
-      let p = calls.goes_on_so part n c since some most f t x h in
-      let q = calls.runs_so part n c since some most f d.state p.at in
+      let p = calls.goes_on_so part n c since some limit f t x h in
+      let q = calls.runs_so part n c since some limit f d.state p.at in
       quiet f (Serves (runs d.state).state) (d.outs ++ (runs d.state).outs) q.at
       (all_both (frames.Plain part n c since f) d.outs (runs d.state).outs p.plain q.plain)
 
@@ -207,7 +207,7 @@ module _ (New : Filed → Segment → Type 0) (part : ℕ) (texts : Texts) (n : 
   opens_to l o capacity w h p gets =
       opened_on_so l capacity w h.0.number_is (p (gets_end l o (record l { questions = w.questions }) capacity w.progress gets))
 
-  serves_so : (s : Serving) (d : Done) → serving.Files New part texts n c since some most n.filed d → Goes_to (Serves s) (serves_on d)
+  serves_so : (s : Serving) (d : Done) → serving.Files New part texts n c since some limit n.filed d → Goes_to (Serves s) (serves_on d)
   serves_so s d p gets = (λ owed. (let k = p.0 owed in record { at = k.at; says = k.says }), p.1)
 
   on_deliver_so : (capacity : ℕ) (p : Phase) (packet : Packet) → PhaseText p → PacketGets part texts n c p packet → Goes_to p (on_deliver capacity p packet)
@@ -217,8 +217,8 @@ module _ (New : Filed → Segment → Type 0) (part : ℕ) (texts : Texts) (n : 
       opens_to l o capacity (opening.on_packet o l.questions packet) h.0
       (events.packet_goes New part texts n c since n.filed (omega arith) h.0.0.fits o.stage o l.questions packet h.0.1 (is_stage o.stage h.1))
   on_deliver_so capacity (Serves s) packet h owed =
-      serves_so s (after (packets.on_packet s packet).outs (runs (packets.on_packet s packet).state))
-      (serving.packet_so New part texts n c since some most n.filed s h.0 h.1 packet (polled packet.body owed))
+      serves_so s (saying (packets.on_packet s packet).outs (runs (packets.on_packet s packet).state))
+      (serving.packet_so New part texts n c since some limit n.filed s h.0 h.1 packet (polled packet.body owed))
     where
       polled : (b : Body) → BodyGets part texts n c s.tokens b → serving.Polled part n c n.filed s b
       polled (body.Poll m) owed = owed
@@ -237,8 +237,8 @@ module _ (New : Filed → Segment → Type 0) (part : ℕ) (texts : Texts) (n : 
       opens_to l o capacity (opening.on_tick o l.questions) h.0
       (events.tick_goes New part texts n c since n.filed (omega arith) h.0.0.fits o.stage o l.questions h.0.1 (is_stage o.stage h.1))
   on_time_so capacity (Serves s) h =
-      serves_so s (after (packets.on_tick s).outs (runs (packets.on_tick s).state))
-      (serving.time_so New part texts n c since some most n.filed s h.0 h.1)
+      serves_so s (saying (packets.on_tick s).outs (runs (packets.on_tick s).state))
+      (serving.time_so New part texts n c since some limit n.filed s h.0 h.1)
 
   happens_so : (client : Client) (what : Do) → PhaseText client.phase → EventGets part texts n c client.phase what → Goes_to client.phase (happens client what)
   happens_so client Begin h owed = λ gets. on_begin_so client.peers.servers client.phase h.0
@@ -265,9 +265,9 @@ module _ (New : Filed → Segment → Type 0) (part : ℕ) (texts : Texts) (n : 
 pub client_event_goes : ClientEventGoes
 client_event_goes part texts n c client what some below agreed owed =
     let w = takes client what in
-    let most : c ≤ 9 = omega arith in
+    let limit : c ≤ 9 = omega arith in
     let f = filed_after texts c n.filed w.outs in
-    let k = (takes_so (IsNewerAtSlot part) part texts n c some most client what (stands (IsNewerAtSlot part) part texts n c some most client.phase agreed) owed.gets
+    let k = (takes_so (IsNewerAtSlot part) part texts n c some limit client what (stands (IsNewerAtSlot part) part texts n c some limit client.phase agreed) owed.gets
     owed.reopens).0 owed.files in
     record {
       next = filing n f;
@@ -276,7 +276,7 @@ client_event_goes part texts n c client what some below agreed owed =
       others = λ l other. others_after texts c l other n.filed w.outs;
       runs = runs_after (IsNewerAtSlot part) part texts (held_in part texts) n c
           (λ g name it. ClientFiles c (texts name) some below it.segment it.new) n.filed w.outs owed.files;
-      agrees = agrees (IsNewerAtSlot part) part texts n c some most f w.state k.at owed.writes;
+      agrees = agrees (IsNewerAtSlot part) part texts n c some limit f w.state k.at owed.writes;
       named = λ are. texts_after (IsNewerAtSlot part) texts c n.filed w.outs owed.files are;
       does = All-from_recursion (OwnerDoes part (filing n f) c (n.filed.head c)) w.outs k.says;
     }

@@ -19,7 +19,7 @@ use Rattle.wire_msg.specs.declared.body.Body.{Body}
 use Rattle.wire_msg.specs.declared.body.Body.TheVariants as body
 use Rattle.wire_msg.specs.declared.deltas.Deltas.{Deltas}
 use Rattle.xfs_base.proofs.Booleans.{by_test}
-use Rattle.xfs_base.specs.Steps.{Stepped, still, after, steps}
+use Rattle.xfs_base.specs.Steps.{Stepped, still, saying, steps}
 use Rattle.xfs_base.specs.declared.segment.End.{End}
 use Rattle.xfs_base.specs.declared.segment.SegName.{SegName}
 use Rattle.node_ties.specs.owner_index_tie.Acting.{ActSo, AllSo, EffectSo}
@@ -43,7 +43,7 @@ module _ (part : ℕ) (n m : Net) (l since : ℕ) (more : IsMore n.filed m.filed
       subst (λ h. (0 < of_log (h epoch) l → of_log (h epoch) l ≤ end.seq → IsEnd m.filed l end) ×
       (0 < of_log (h epoch) l → Linked m.filed l (of_log (h epoch) l) end.seq)
       → EndKnown part m epoch l end) same (λ known. record { filed = known.0; linked = known.1; short = k.short }) (
-        λ some upto. let was = k.filed some upto in let last = was.filed in let most = more.head l in record {
+        λ some upto. let was = k.filed some upto in let last = was.filed in let limit = more.head l in record {
           filed = omega arith;
           named = was.named ∙ ap (λ (s : Segment). s.name.pass) (sym (more.segment l end.seq (omega arith) last));
         },
@@ -53,7 +53,7 @@ module _ (part : ℕ) (n m : Net) (l since : ℕ) (more : IsMore n.filed m.filed
       )
 
   told_on : (end : ℕ) → EndTold part n l since end → EndTold part m l since end
-  told_on end h = record { late = h.late; filed = let a = h.filed in let most = more.head l in omega arith }
+  told_on end h = record { late = h.late; filed = let a = h.filed in let limit = more.head l in omega arith }
 
   pub says_on : (b : Body) → OwnerSays part n l since b → OwnerSays part m l since b
   says_on (body.Deltas d) h = λ inside. deltas_on d (h inside)
@@ -214,10 +214,10 @@ module _ (part : ℕ) (n : Net) (l since : ℕ) (f : Filed) where
     quiet_plain s outs h all = record { at = h; plain = all }
 
     -- one thing follows another
-    pub quiet_on : (d e : Stepped S Effect) → Quiet d → (At d.state → Quiet e) → Quiet (after d.outs e)
+    pub quiet_on : (d e : Stepped S Effect) → Quiet d → (At d.state → Quiet e) → Quiet (saying d.outs e)
     quiet_on d e p k = (let q = k p.at in record { at = q.at; plain = all_both Plain d.outs e.outs p.plain q.plain })
 
-    pub quiet_after : (outs : List Effect) (d : Stepped S Effect) → AllPlain outs → Quiet d → Quiet (after outs d)
+    pub quiet_after : (outs : List Effect) (d : Stepped S Effect) → AllPlain outs → Quiet d → Quiet (saying outs d)
     quiet_after outs d all p = record { at = p.at; plain = all_both Plain outs d.outs all p.plain }
 
     -- another state that stands so too, and more is said
@@ -253,7 +253,7 @@ module _ (New : Filed → Segment → Type 0) (part : ℕ) (texts : Texts) (n : 
   )
 
   -- what files nothing goes before
-  pub goes_behind : (f : Filed) (outs : List Effect) (d : Stepped S Effect) → AllPlain part n l since f outs → Goes f d → Goes f (after outs d)
+  pub goes_behind : (f : Filed) (outs : List Effect) (d : Stepped S Effect) → AllPlain part n l since f outs → Goes f d → Goes f (saying outs d)
   goes_behind f outs d all p =
       (λ owed. behind owed, λ may. all_both (EffectSo (IsNamed texts)) outs d.outs (plain_so part n l since f (IsNamed texts) outs all) (p.1 may))
     where
@@ -272,7 +272,7 @@ module _ (New : Filed → Segment → Type 0) (part : ℕ) (texts : Texts) (n : 
   -- a name is acted to be filed first, and then nothing is
   pub goes_filed : (f : Filed) (name : SegName) (d : Stepped S Effect) → IsNamed texts name
       → (OwedAct New texts l f (ActsFiled name) → Quiet part n l since (with_name texts l f name) (At (with_name texts l f name)) d)
-      → Goes f (after (Does (ActsFiled name) ∷ []) d)
+      → Goes f (saying (Does (ActsFiled name) ∷ []) d)
   goes_filed f name d named k = (
     λ owed. let g = with_name texts l f name in
         let q = k owed.0 in
@@ -310,5 +310,5 @@ module _ (New : Filed → Segment → Type 0) (part : ℕ) (texts : Texts) (n : 
 module _ (New : Filed → Segment → Type 0) (part : ℕ) (texts : Texts) (n : Net) (l since : ℕ) {S : Type 0} (At : Filed → S → Type 0) where
   pub goes_on : (f : Filed) (d e : Stepped S Effect) → Goes New part texts n l since At f d
       → (At (filed_after texts l f d.outs) d.state → Goes New part texts n l since At (filed_after texts l f d.outs) e)
-      → Goes New part texts n l since At f (after d.outs e)
+      → Goes New part texts n l since At f (saying d.outs e)
   goes_on f d e p k = goes_through New part texts n l since At At f d e p k

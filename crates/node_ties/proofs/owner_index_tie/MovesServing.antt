@@ -47,7 +47,7 @@ use Rattle.xfs_base.specs.declared.news.SlotNews.{SlotNews}
 use Rattle.xfs_base.specs.declared.node.NodeId.{NodeId}
 use Rattle.xfs_base.specs.declared.node.NodeId.TheVariants as node
 use Rattle.xfs_base.specs.declared.segment.SegRef.{SegRef}
-use Rattle.xfs_base.specs.Steps.{still, after, steps}
+use Rattle.xfs_base.specs.Steps.{still, saying, steps}
 use Rattle.node_ties.specs.owner_index_tie.CleanerMoves.{BodyAnswers, JobMoves, LogMoves}
 use Rattle.node_ties.proofs.owner_index_tie.MovesJob as jobs
 use Rattle.node_ties.proofs.owner_index_tie.MovesLog.{InputMoves, log_moves}
@@ -241,7 +241,7 @@ module _ (part : ℕ) (sent : List Packet) where
   unfolding on_welcome
   welcome_so e m h =
       let d = takes_news e m.news in
-      by_test Stands ((m.inc == e.lasting.inc) && fits e.maps m.news) (after d.outs (welcomes d.state m)) (still e)
+      by_test Stands ((m.inc == e.lasting.inc) && fits e.maps m.news) (saying d.outs (welcomes d.state m)) (still e)
       (λ _. welcomes_so d.state m (takes_so e m.news h)) (λ _. h)
 
   -- ---- its reading

@@ -44,7 +44,7 @@ module _ (New : Filed → Segment → Type 0) (part : ℕ) (texts : Texts) (n : 
     below_head = at_same l base (f.head l)
 
     below_fits : (q : ℕ) → RowsFit (rows_at below l q)
-    below_fits q = by_filed RowsFit below l q (λ some most. subst RowsFit (first_of (nat_lt 0 q && nat_le q (f.head l)) (rows_of (f.segment l q)) []
+    below_fits q = by_filed RowsFit below l q (λ some limit. subst RowsFit (first_of (nat_lt 0 q && nat_le q (f.head l)) (rows_of (f.segment l q)) []
         (let h = below_head in grind (arith, nat_tests, h))) (fits.fit q)) tt
 
     pub begins_along : Along below f (started base)
@@ -62,7 +62,7 @@ module _ (New : Filed → Segment → Type 0) (part : ℕ) (texts : Texts) (n : 
         short = let h = below_head in let s = fits.short in omega arith;
       };
       head = let h = below_head in omega arith;
-      same = λ q some most. refl;
+      same = λ q some limit. refl;
       short = fits.short;
     }
       where
@@ -94,17 +94,17 @@ module _ (New : Filed → Segment → Type 0) (part : ℕ) (texts : Texts) (n : 
 
     same_more : (h : Filed) → ((q : ℕ) → 0 < q → q ≤ v.head l → h.segment l q ≡ g.segment l q) → h.segment l (suc (v.head l)) ≡ s
         → (q : ℕ) → 0 < q → q ≤ later.head l → h.segment l q ≡ later.segment l q
-    same_more h old new q some most = by (nat_le q (v.head l)) refl
+    same_more h old new q some limit = by (nat_le q (v.head l)) refl
       where
         within : nat_le q (v.head l) ≡ true → q ≤ v.head l
         within is = grind (arith, nat_tests)
 
-        top : nat_le q (v.head l) ≡ false → suc (v.head l) ≡ q
-        top is = let e = head_is l v s in grind (arith, nat_tests, e, most)
+        highest : nat_le q (v.head l) ≡ false → suc (v.head l) ≡ q
+        highest is = let e = head_is l v s in grind (arith, nat_tests, e, limit)
 
         by : (t : Bool) → nat_le q (v.head l) ≡ t → h.segment l q ≡ later.segment l q
         by true is = old q some (within is) ∙ k.same q some (within is) ∙ sym ((more_is_filed v l s).segment l q some (within is))
-        by false is = subst (λ p. h.segment l p ≡ later.segment l p) (top is) (new ∙ sym (segment_is l v s))
+        by false is = subst (λ p. h.segment l p ≡ later.segment l p) (highest is) (new ∙ sym (segment_is l v s))
 
     -- that is filed already
     reads_on : suc (v.head l) ≤ g.head l → s ≡ g.segment l s.name.seq → Along later (with_name texts l g s.name) (fed_with feed s)
@@ -112,19 +112,19 @@ module _ (New : Filed → Segment → Type 0) (part : ℕ) (texts : Texts) (n : 
         (grind (arith, nat_tests, seq, within)))) (record {
           feed = fed_more (let a = k.short in omega arith);
           head = let e = head_is l v s in omega arith;
-          same = same_more g (λ q some most. refl) (subst (λ q. g.segment l q ≡ s) seq (sym is));
+          same = same_more g (λ q some limit. refl) (subst (λ q. g.segment l q ≡ s) seq (sym is));
           short = k.short;
         })
 
     -- that is filed now
     files_on : v.head l ≡ g.head l → s ≡ texts s.name → FilesNext New texts l g s.name → Along later (with_name texts l g s.name) (fed_with feed s)
-    files_on top text owed =
-        let at : s.name.seq ≡ suc (g.head l) = seq ∙ ap suc top in
+    files_on highest text owed =
+        let at : s.name.seq ≡ suc (g.head l) = seq ∙ ap suc highest in
         subst (λ h. Along later h (fed_with feed s)) (sym (next_files texts l g s.name at ∙ ap (with_segment g l) (sym text))) (record {
           feed = fed_more (let a = owed.short in omega arith);
           head = let e = head_is l v s in let d = head_is l g s in omega arith;
-          same = same_more (with_segment g l s) (λ q some most. (more_is_filed g l s).segment l q some (omega arith))
-              (ap ((with_segment g l s).segment l) (ap suc top) ∙ segment_is l g s);
+          same = same_more (with_segment g l s) (λ q some limit. (more_is_filed g l s).segment l q some (omega arith))
+              (ap ((with_segment g l s).segment l) (ap suc highest) ∙ segment_is l g s);
           short = let d = head_is l g s in let a = owed.short in omega arith;
         })
 
@@ -146,7 +146,7 @@ module _ (New : Filed → Segment → Type 0) (part : ℕ) (texts : Texts) (n : 
       → Arrives last (filed_after texts l g (map filed chain)) (fed feed chain)
 
   goes_one : (last first : ℕ) (s : Segment) (chain : List Segment) → Claim last (suc first) chain → Claim last first (s ∷ chain)
-  goes_one last first s chain rest v g feed k numbers from to most old text fits owed =
+  goes_one last first s chain rest v g feed k numbers from to limit old text fits owed =
       by (nat_le first (v.head l)) (nat_lt (v.head l) (g.head l)) refl refl
     where
       seq : s.name.seq ≡ first
@@ -158,8 +158,8 @@ module _ (New : Filed → Segment → Type 0) (part : ℕ) (texts : Texts) (n : 
       low : nat_le first (v.head l) ≡ true → s.name.seq ≤ v.head l
       low is = let e = seq in grind (arith, nat_tests, e)
 
-      top : nat_le first (v.head l) ≡ false → s.name.seq ≡ suc (v.head l)
-      top is = let e = seq in let f = from in grind (arith, nat_tests, e, f)
+      highest : nat_le first (v.head l) ≡ false → s.name.seq ≡ suc (v.head l)
+      highest is = let e = seq in let f = from in grind (arith, nat_tests, e, f)
 
       inside : nat_lt (v.head l) (g.head l) ≡ true → suc (v.head l) ≤ g.head l
       inside is = grind (arith, nat_tests)
@@ -173,38 +173,38 @@ module _ (New : Filed → Segment → Type 0) (part : ℕ) (texts : Texts) (n : 
           let over = passes_over v g feed s k (low is) in
           subst (λ h. Arrives last (filed_after texts l h (map filed chain)) (fed (fed_with feed s) chain)) (sym over.1)
           (subst (λ x. Arrives last (filed_after texts l g (map filed chain)) (fed x chain)) (sym over.0)
-          (rest v g feed k numbers.1 (let a = low is in let e = seq in omega arith) next_to most
+          (rest v g feed k numbers.1 (let a = low is in let e = seq in omega arith) next_to limit
           (λ x there. old x (inr there)) text.1 fits.1 (subst (λ h. FilesOwed New texts l h (map filed chain)) over.1 owed.1)))
       by false true is within =
           let h = with_name texts l g s.name in
           let same : h ≡ g = second_of (s.name.seq == suc (g.head l)) (with_segment g l (texts s.name)) g
-          (let e = top is in let w = inside within in grind (arith, nat_tests, e, w)) in
+          (let e = highest is in let w = inside within in grind (arith, nat_tests, e, w)) in
           let e = head_is l v s in
           rest (with_segment v l s) h (fed_with feed s)
-          (reads_on v g feed s k (top is) fits.0 (inside within)
-          (old s (inl refl) (let t = top is in omega arith) (let t = top is in let w = inside within in omega arith)))
-          numbers.1 (let a = seq in let t = top is in omega arith) next_to (subst (λ x. x.head l ≤ last) (sym same) most)
+          (reads_on v g feed s k (highest is) fits.0 (inside within)
+          (old s (inl refl) (let t = highest is in omega arith) (let t = highest is in let w = inside within in omega arith)))
+          numbers.1 (let a = seq in let t = highest is in omega arith) next_to (subst (λ x. x.head l ≤ last) (sym same) limit)
           (λ x there after upto. subst (λ (y : Filed). x ≡ y.segment l x.name.seq) (sym same)
           (old x (inr there) (omega arith) (subst (λ (y : Filed). x.name.seq ≤ y.head l) same upto)))
           text.1 fits.1 owed.1
       by false false is within =
           let h = with_name texts l g s.name in
-          let at : s.name.seq ≡ suc (g.head l) = top is ∙ ap suc (level within) in
+          let at : s.name.seq ≡ suc (g.head l) = highest is ∙ ap suc (level within) in
           let same = next_files texts l g s.name at in
           let e = head_is l v s in
           let d = head_is l g (texts s.name) in
           let heads : h.head l ≡ suc (g.head l) = ap (λ (x : Filed). x.head l) same ∙ d in
           rest (with_segment v l s) h (fed_with feed s)
-          (files_on v g feed s k (top is) fits.0 (level within) text.0 (owed.0 at))
-          numbers.1 (let a = seq in let t = top is in omega arith) next_to (let a = seq in let t = next_to in omega arith)
+          (files_on v g feed s k (highest is) fits.0 (level within) text.0 (owed.0 at))
+          numbers.1 (let a = seq in let t = highest is in omega arith) next_to (let a = seq in let t = next_to in omega arith)
           (λ x there after upto. absurd (let w = level within in omega arith))
           text.1 fits.1 owed.1
 
   goes_along : (last first : ℕ) (chain : List Segment) → Claim last first chain
-  goes_along last first [] v g feed k numbers from to most old text fits owed =
+  goes_along last first [] v g feed k numbers from to limit old text fits owed =
       let h = k.head in record { read = v; along = k; reads = omega arith; files = omega arith }
-  goes_along last first (s ∷ chain) v g feed k numbers from to most old text fits owed =
-      goes_one last first s chain (goes_along last (suc first) chain) v g feed k numbers from to most old text fits owed
+  goes_along last first (s ∷ chain) v g feed k numbers from to limit old text fits owed =
+      goes_one last first s chain (goes_along last (suc first) chain) v g feed k numbers from to limit old text fits owed
 
   -- ---- the end of a reopening
 

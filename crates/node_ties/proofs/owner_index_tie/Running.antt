@@ -33,14 +33,14 @@ module _ (New : Filed → Segment → Type 0) (texts : Texts) (l : ℕ) where
       by_test P (name.seq == suc (f.head l)) (with_segment f l (texts name)) f (λ is. files (owed (is_next f name is))) (λ _. rests)
 
   segment_text : (f : Filed) (name : SegName) → AreTexts texts f → (texts name).name ≡ name → AreTexts texts (with_segment f l (texts name))
-  segment_text f name are named m q some most = by (m == l) (q == suc (f.head l)) refl refl
+  segment_text f name are named m q some limit = by (m == l) (q == suc (f.head l)) refl refl
     where
       old : (m == l) ≡ false → q ≤ f.head m
-      old other = subst (λ (b : Bool). q ≤ cond b (suc (f.head l)) (f.head m)) other most
+      old other = subst (λ (b : Bool). q ≤ cond b (suc (f.head l)) (f.head m)) other limit
 
       lower : (m == l) ≡ true → (q == suc (f.head l)) ≡ false → q ≤ f.head m
       lower is other =
-          let at = subst (λ (b : Bool). q ≤ cond b (suc (f.head l)) (f.head m)) is most in
+          let at = subst (λ (b : Bool). q ≤ cond b (suc (f.head l)) (f.head m)) is limit in
           subst (λ k. q ≤ f.head k) (sym (eqb-true m l is)) (grind (arith, nat_tests, at, other))
 
       by : (t u : Bool) → (m == l) ≡ t → (q == suc (f.head l)) ≡ u
@@ -70,12 +70,12 @@ module _ (New : Filed → Segment → Type 0) (texts : Texts) (l : ℕ) where
 -- ---- other logs
 
 same_itself : (l : ℕ) (f : Filed) → IsSameLog l f f
-same_itself l f = record { head = refl; segment = λ q some most. refl }
+same_itself l f = record { head = refl; segment = λ q some limit. refl }
 
 same_then : (l : ℕ) (f g h : Filed) → IsSameLog l f g → IsSameLog l g h → IsSameLog l f h
 same_then l f g h a b = record {
   head = b.head ∙ a.head;
-  segment = λ q some most. let e = a.head in b.segment q some (omega arith) ∙ a.segment q some most;
+  segment = λ q some limit. let e = a.head in b.segment q some (omega arith) ∙ a.segment q some limit;
 }
 
 module _ (texts : Texts) (l other : ℕ) (apart : other ≡ l → ⊥) where
@@ -84,7 +84,7 @@ module _ (texts : Texts) (l other : ℕ) (apart : other ≡ l → ⊥) where
       by_test (IsSameLog other f) (name.seq == suc (f.head l)) (with_segment f l (texts name)) f
       (λ _. record {
         head = at_other other l (suc (f.head l)) (f.head other) apart;
-        segment = λ q some most. at_other other l (cond (q == suc (f.head l)) (texts name) (f.segment other q)) (f.segment other q) apart;
+        segment = λ q some limit. at_other other l (cond (q == suc (f.head l)) (texts name) (f.segment other q)) (f.segment other q) apart;
       })
       (λ _. same_itself other f)
 

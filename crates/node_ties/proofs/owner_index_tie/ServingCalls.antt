@@ -28,31 +28,31 @@ use Rattle.xfs_base.specs.declared.block.BlockId.{BlockId}
 use Rattle.xfs_base.specs.declared.token.Mode.{Mode}
 use Rattle.xfs_base.specs.declared.token.Mode.TheVariants.{Copy, Own}
 use Rattle.xfs_base.specs.Modes.{is_nothing}
-use Rattle.xfs_base.specs.Steps.{after}
+use Rattle.xfs_base.specs.Steps.{saying}
 use Rattle.node_ties.proofs.owner_index_tie.Caching as cache
 use Rattle.node_ties.proofs.owner_index_tie.Frames as frames
 use Rattle.node_ties.proofs.owner_index_tie.ServingLog as flights
 use Rattle.node_ties.proofs.owner_index_tie.ServingTokens as tokens
 use Rattle.node_ties.proofs.owner_index_tie.Standing.{Stands}
 
-module _ (part : ℕ) (n : Net) (l since : ℕ) (some : 0 < l) (most : l ≤ 9) (f : Filed) where
+module _ (part : ℕ) (n : Net) (l since : ℕ) (some : 0 < l) (limit : l ≤ 9) (f : Filed) where
   abbrev At : Serving → Type 0
-  At s = tokens.At part n l since some most f s
+  At s = tokens.At part n l since some limit f s
 
   abbrev Goes : Done → Type 0
-  Goes d = tokens.Goes part n l since some most f d
+  Goes d = tokens.Goes part n l since some limit f d
 
   -- ---- calls on blocks
 
   needs_so : (s : Serving) (block : BlockId) (mode : Mode) → At s → Goes (needs s block mode).done
-  needs_so s block mode h = tokens.hands_so part n l since some most f s (input.Need block mode) h
+  needs_so s block mode h = tokens.hands_so part n l since some limit f s (input.Need block mode) h
 
   gets_so : (s : Serving) (block : BlockId) → At s → Goes (gets s block).done
   unfolding gets
   gets_so s block h =
       by_test (λ (m : Made). Goes m.done) (is_nothing (held_at s block).mode) (needs s block Copy) (got s block (held_at s block))
       (λ t. needs_so s block Copy h)
-      (λ t. tokens.plain_so part n l since some most f (got s block (held_at s block)).done.state (got s block (held_at s block)).done.outs h (tt, tt))
+      (λ t. tokens.plain_so part n l since some limit f (got s block (held_at s block)).done.state (got s block (held_at s block)).done.outs h (tt, tt))
 
   -- once the tokens have the write, the log takes it
   changes_so : (s : Serving) (block : BlockId) (value : Option (List ℕ)) → At s → Goes (changes s block value).done
@@ -60,7 +60,7 @@ module _ (part : ℕ) (n : Net) (l since : ℕ) (some : 0 < l) (most : l ≤ 9) 
   changes_so s block value h =
       let t : Serving = wrote s block value in
       frames.quiet_after part n l since f At (Does (Wrote s.lasting.number block value) ∷ []) (put_of t block value) (tt, tt)
-      (flights.puts_so part n l since some most f t block (record { ver = (held_at t block).ver; hop = 0; place = None }) value h)
+      (flights.puts_so part n l since some limit f t block (record { ver = (held_at t block).ver; hop = 0; place = None }) value h)
 
   lets_go_so : (s : Serving) (block : BlockId) → At s → At (lets_go s block)
   lets_go_so s block h =
@@ -69,7 +69,7 @@ module _ (part : ℕ) (n : Net) (l since : ℕ) (some : 0 < l) (most : l ≤ 9) 
       (λ e. h)
 
   held_back_so : (s : Serving) (block : BlockId) → At s → Goes (held_back s block).done
-  held_back_so s block h = tokens.still_so part n l since some most f (lets_go s block) (lets_go_so s block h)
+  held_back_so s block h = tokens.still_so part n l since some limit f (lets_go s block) (lets_go_so s block h)
 
   changes_if_fits_so : (s : Serving) (block : BlockId) (value : Option (List ℕ)) → At s → Goes (changes_if_fits s block value).done
   unfolding changes_if_fits
@@ -89,7 +89,7 @@ module _ (part : ℕ) (n : Net) (l since : ℕ) (some : 0 < l) (most : l ≤ 9) 
   puts_again_so s block ver value h =
       by_test (λ (m : Made). Goes m.done) ((held_at s block).ver == ver) (changes_if_fits s block value) (changed s block)
       (λ t. changes_if_fits_so s block value h)
-      (λ t. tokens.still_so part n l since some most f (lets_go s block) (lets_go_so s block h))
+      (λ t. tokens.still_so part n l since some limit f (lets_go s block) (lets_go_so s block h))
 
   puts_at_so : (s : Serving) (block : BlockId) (ver : ℕ) (value : Option (List ℕ)) → At s
       → Goes (puts_at s block ver value).done
@@ -102,8 +102,8 @@ module _ (part : ℕ) (n : Net) (l since : ℕ) (some : 0 < l) (most : l ≤ 9) 
   unfolding syncs
   syncs_so s h =
       let d : Done = seals s in
-      frames.quiet_gives part n l since f At d d.state (synced_acts d.state) (tokens.seals_so part n l since some most f s h) (λ k. k)
-      (λ k. by_test (λ (es : List Effect). tokens.AllPlain part n l since some most f es) (is_settled d.state) (Does (Synced d.state.lasting.number) ∷ []) []
+      frames.quiet_gives part n l since f At d d.state (synced_acts d.state) (tokens.seals_so part n l since some limit f s h) (λ k. k)
+      (λ k. by_test (λ (es : List Effect). tokens.AllPlain part n l since some limit f es) (is_settled d.state) (Does (Synced d.state.lasting.number) ∷ []) []
       (λ t. (tt, tt)) (λ t. tt))
 
   makes_so : (s : Serving) (call : BlockCall) → At s → Goes (makes s call).done
@@ -117,14 +117,14 @@ module _ (part : ℕ) (n : Net) (l since : ℕ) (some : 0 < l) (most : l ≤ 9) 
 
   pub goes_on_so : (s : Serving) (going : Going) → At s → Goes (goes_on s going)
   unfolding goes_on
-  goes_on_so s (On call) h = tokens.still_so part n l since some most f (record s { call = Some call }) h
+  goes_on_so s (On call) h = tokens.still_so part n l since some limit f (record s { call = Some call }) h
   goes_on_so s (Ends answer) h =
-      tokens.plain_so part n l since some most f (record s { lasting = record s.lasting { items = answered s.lasting.items } })
+      tokens.plain_so part n l since some limit f (record s { lasting = record s.lasting { items = answered s.lasting.items } })
       (answers_unanswered s.lasting.items.unanswered answer) h
       (frames.answers_plain part n l since f s.lasting.items.unanswered answer)
 
   answers_call_so : (s : Serving) (call : Call) (answer : Option BlockAnswer) → At s → Goes (answers_call s call answer).done
-  answers_call_so s call None h = tokens.still_so part n l since some most f (record s { call = Some call }) h
+  answers_call_so s call None h = tokens.still_so part n l since some limit f (record s { call = Some call }) h
   answers_call_so s call (Some a) h = goes_on_so s (after_answer call.plan a) h
 
   -- what was made is told to the call
@@ -134,7 +134,7 @@ module _ (part : ℕ) (n : Net) (l since : ℕ) (some : 0 < l) (most : l ≤ 9) 
       (λ k. answers_call_so made.done.state call made.answer k)
 
   runs_call_so : (s : Serving) (call : Option Call) → At s → Goes (runs_call s call).done
-  runs_call_so s None h = tokens.still_so part n l since some most f s h
+  runs_call_so s None h = tokens.still_so part n l since some limit f s h
   runs_call_so s (Some call) h = ran_so call (makes (record s { call = None }) call.step) (makes_so (record s { call = None }) call.step h)
 
   runs_once_so : (s : Serving) → At s → Goes (runs_once s).done
@@ -146,12 +146,12 @@ module _ (part : ℕ) (n : Net) (l since : ℕ) (some : 0 < l) (most : l ≤ 9) 
   unfolding runs_upto
   turns_from k s rest p =
       let r : Ran = runs_once s in
-      by_test (λ (d : Done). Goes d) r.goes (after r.done.outs (runs_upto k r.done.state)) r.done
+      by_test (λ (d : Done). Goes d) r.goes (saying r.done.outs (runs_upto k r.done.state)) r.done
       (λ t. frames.quiet_on part n l since f At r.done (runs_upto k r.done.state) p (rest r.done.state)) (λ t. p)
 
   runs_upto_so : (k : ℕ) (s : Serving) → At s → Goes (runs_upto k s)
   unfolding runs_upto
-  runs_upto_so zero s h = tokens.still_so part n l since some most f s h
+  runs_upto_so zero s h = tokens.still_so part n l since some limit f s h
   runs_upto_so (suc k) s h = turns_from k s (runs_upto_so k) (runs_once_so s h)
 
   pub runs_so : (s : Serving) → At s → Goes (runs s)

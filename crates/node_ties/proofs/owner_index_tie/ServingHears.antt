@@ -54,15 +54,15 @@ LinkedFrom n l f epoch = 0 < of_log (n.horizon epoch) l → Linked f l (of_log (
 abbrev pub PollLinked : ℕ → Net → ℕ → Filed → Serving → Poll → Type 0
 PollLinked part n l f s p = p.slot ≡ part → epoch_of s.tokens.epochs part ≤ p.epoch → LinkedFrom n l f p.epoch
 
-module _ (part : ℕ) (n : Net) (l since : ℕ) (some : 0 < l) (most : l ≤ 9) (f : Filed) where
+module _ (part : ℕ) (n : Net) (l since : ℕ) (some : 0 < l) (limit : l ≤ 9) (f : Filed) where
   abbrev At : Serving → Type 0
-  At s = tokens.At part n l since some most f s
+  At s = tokens.At part n l since some limit f s
 
   abbrev Goes : Done → Type 0
-  Goes d = tokens.Goes part n l since some most f d
+  Goes d = tokens.Goes part n l since some limit f d
 
   still_so : (s : Serving) → At s → Goes (still s)
-  still_so s h = tokens.still_so part n l since some most f s h
+  still_so s h = tokens.still_so part n l since some limit f s h
 
   -- ---- tokens
 
@@ -71,13 +71,13 @@ module _ (part : ℕ) (n : Net) (l since : ℕ) (some : 0 < l) (most : l ≤ 9) 
   on_grant_so s m h =
       by_test (λ (d : Done). Goes d) (is_own m.mode && not (has_long_room m.entry.ver)) (still s)
       (hands s (input.Granted m.block m.stamp m.inc m.req m.mode m.entry))
-      (λ t. still_so s h) (λ t. tokens.hands_so part n l since some most f s (input.Granted m.block m.stamp m.inc m.req m.mode m.entry) h)
+      (λ t. still_so s h) (λ t. tokens.hands_so part n l since some limit f s (input.Granted m.block m.stamp m.inc m.req m.mode m.entry) h)
 
   pub on_supply_so : (s : Serving) (m : Supply) → At s → Goes (on_supply s m)
   unfolding on_supply
-  on_supply_so s m h = tokens.hands_so part n l since some most f s (input.Supplied m.block m.stamp m.inc m.req m.ver m.value) h
+  on_supply_so s m h = tokens.hands_so part n l since some limit f s (input.Supplied m.block m.stamp m.inc m.req m.ver m.value) h
 
-  supplies_say : (w : Forward) (outs : List outputs.Out) → tokens.AllPlain part n l since some most f (flat_map (supplies w) outs)
+  supplies_say : (w : Forward) (outs : List outputs.Out) → tokens.AllPlain part n l since some limit f (flat_map (supplies w) outs)
   supplies_say w [] = tt
   supplies_say w (output.Supply block ver value ∷ outs) = (tt, supplies_say w outs)
   supplies_say w (output.Want block req again mode ∷ outs) = supplies_say w outs
@@ -90,9 +90,9 @@ module _ (part : ℕ) (n : Net) (l since : ℕ) (some : 0 < l) (most : l ≤ 9) 
   unfolding on_forward
   on_forward_so s w h =
       let taken : client.Done = client.on_forwarded s.tokens w.block w.stamp w.ver in
-      tokens.plain_so part n l since some most f (record s { tokens = taken.state }) (flat_map (supplies w) taken.outs) h (supplies_say w taken.outs)
+      tokens.plain_so part n l since some limit f (record s { tokens = taken.state }) (flat_map (supplies w) taken.outs) h (supplies_say w taken.outs)
 
-  again_says : (s : Serving) (r : Recall) (outs : List outputs.Out) → At s → tokens.AllPlain part n l since some most f (again s r outs)
+  again_says : (s : Serving) (r : Recall) (outs : List outputs.Out) → At s → tokens.AllPlain part n l since some limit f (again s r outs)
   again_says s r [] h = tt
   again_says s r (o ∷ outs) h = (end_told part n l since f s.lasting.number s.log s.feed h, tt)
 
@@ -102,13 +102,13 @@ module _ (part : ℕ) (n : Net) (l since : ℕ) (some : 0 < l) (most : l ≤ 9) 
       let d : client.Done = client.on_recalled s.tokens r.block r.stamp r.keep in
       let t : Serving = record s { tokens = d.state } in
       by_test (λ (x : Done). Goes x) (is_stamp (held_at s r.block).stamp r.stamp) (says_again s r d) (takes_back s r.block r.stamp r.keep)
-      (λ e. tokens.plain_so part n l since some most f t (again t r d.outs) h (again_says t r d.outs h))
-      (λ e. tokens.takes_back_so part n l since some most f s r.block r.stamp r.keep h)
+      (λ e. tokens.plain_so part n l since some limit f t (again t r d.outs) h (again_says t r d.outs h))
+      (λ e. tokens.takes_back_so part n l since some limit f s r.block r.stamp r.keep h)
 
   pub on_gone_so : (s : Serving) (m : Gone) → At s → Goes (on_gone s m)
   unfolding on_gone
   on_gone_so s m h =
-      by_test (λ (d : Done). Goes d) (is_gone s m) (loses s m.block m.seg) (still s) (λ t. tokens.loses_so part n l since some most f s m.block m.seg h)
+      by_test (λ (d : Done). Goes d) (is_gone s m) (loses s m.block m.seg) (still s) (λ t. tokens.loses_so part n l since some limit f s m.block m.seg h)
       (λ t. still_so s h)
 
   pub on_ack_so : (s : Serving) (a : DeltaAck) → At s → Goes (still (on_ack s a))
@@ -121,8 +121,8 @@ module _ (part : ℕ) (n : Net) (l since : ℕ) (some : 0 < l) (most : l ≤ 9) 
   -- ---- fragments
 
   ends_fetch_so : (s : Serving) (at : BlockAt) (x : Next) → At s → Goes (ends_fetch s at x)
-  ends_fetch_so s at next.Again h = tokens.hands_so part n l since some most f s (input.Reask at.block) h
-  ends_fetch_so s at (next.Read segment) h = tokens.hands_so part n l since some most f s (input.Fetched at.block (value_at segment at.item)) h
+  ends_fetch_so s at next.Again h = tokens.hands_so part n l since some limit f s (input.Reask at.block) h
+  ends_fetch_so s at (next.Read segment) h = tokens.hands_so part n l since some limit f s (input.Fetched at.block (value_at segment at.item)) h
   ends_fetch_so s at next.Wait h = still_so s h
   ends_fetch_so s at next.Ask h = still_so s h
   ends_fetch_so s at next.Lost h = still_so s h
@@ -157,7 +157,7 @@ module _ (part : ℕ) (n : Net) (l since : ℕ) (some : 0 < l) (most : l ≤ 9) 
   promised_in_so : (s : Serving) (news : SlotNews) → At s → Goes (promised_in s news)
   promised_in_so s news h =
       let p : Stepped Serving outputs.Out = promises s news.slot news.epoch news.manager in
-      tokens.follows_so part n l since some most f p.state p.outs (promises_so s news.slot news.epoch news.manager h)
+      tokens.follows_so part n l since some limit f p.state p.outs (promises_so s news.slot news.epoch news.manager h)
 
   reports_so : (slot epoch : ℕ) (p : Stepped Serving outputs.Out) → At p.state → (slot ≡ part → LinkedFrom n l f epoch) → Goes (reports slot epoch p)
   reports_so slot epoch p h linked =
@@ -168,7 +168,7 @@ module _ (part : ℕ) (n : Net) (l since : ℕ) (some : 0 < l) (most : l ≤ 9) 
         ),
         tt,
       )
-      (tokens.follows_so part n l since some most f p.state p.outs h)
+      (tokens.follows_so part n l since some limit f p.state p.outs h)
 
   not_past : (s : Serving) (p : Poll) → may_report s p ≡ true → p.slot ≡ part → epoch_of s.tokens.epochs part ≤ p.epoch
   not_past s p is same = subst (λ k. epoch_of s.tokens.epochs k ≤ p.epoch) same (no_later p.slot (epoch_of s.tokens.epochs p.slot) p.epoch is)
@@ -202,9 +202,9 @@ module _ (part : ℕ) (n : Net) (l since : ℕ) (some : 0 < l) (most : l ≤ 9) 
 
   -- ---- time
 
-  fetched_says : (r : Option ReadingState) → tokens.AllPlain part n l since some most f (fetches_again r)
+  fetched_says : (r : Option ReadingState) → tokens.AllPlain part n l since some limit f (fetches_again r)
   fetched_says None = tt
-  fetched_says (Some r) = tokens.fetches_plain part n l since some most f r
+  fetched_says (Some r) = tokens.fetches_plain part n l since some limit f r
 
   pub tick_goes : (s : Serving) → At s → Goes (on_tick s)
   unfolding on_tick
@@ -213,7 +213,7 @@ module _ (part : ℕ) (n : Net) (l since : ℕ) (some : 0 < l) (most : l ≤ 9) 
       let w : Done = writes a.state log_in.Tick in
       let fetched : List Effect = fetches_again (reading_in a.state.call) in
       let pushed : List Effect = pushes_all w.state.managers w.state.feed in
-      frames.quiet_on part n l since f At a (gives w.state (fetched ++ (w.outs ++ pushed))) (tokens.hands_so part n l since some most f s input.Tick h)
+      frames.quiet_on part n l since f At a (gives w.state (fetched ++ (w.outs ++ pushed))) (tokens.hands_so part n l since some limit f s input.Tick h)
       (λ k. frames.quiet_after part n l since f At fetched (gives w.state (w.outs ++ pushed)) (fetched_says (reading_in a.state.call))
-      (frames.quiet_gives part n l since f At w w.state pushed (flights.ticks_so part n l since some most f a.state k) (λ i. i)
-      (λ i. pushes_all_plain part n l since f some most w.state.managers w.state.feed i.seen.feed)))
+      (frames.quiet_gives part n l since f At w w.state pushed (flights.ticks_so part n l since some limit f a.state k) (λ i. i)
+      (λ i. pushes_all_plain part n l since f some limit w.state.managers w.state.feed i.seen.feed)))

@@ -31,7 +31,7 @@ use Rattle.xfs_base.specs.declared.block.BlockId.{BlockId}
 use Rattle.xfs_base.specs.declared.entry.Entry.{Entry}
 use Rattle.xfs_base.specs.declared.segment.LogId.{LogId}
 use Rattle.xfs_base.specs.declared.segment.SegName.{SegName}
-use Rattle.xfs_base.specs.Steps.{still, after, steps}
+use Rattle.xfs_base.specs.Steps.{still, saying, steps}
 use Rattle.node_ties.specs.owner_index_tie.Filing.{with_name, OwedAct}
 use Rattle.node_ties.specs.owner_index_tie.Owners.{LogNext}
 use Rattle.node_ties.proofs.owner_index_tie.Caching as cache
@@ -43,43 +43,43 @@ use Rattle.node_ties.proofs.owner_index_tie.Turns.{Rests, Lands, Turns, Stays, p
 
 -- ---- what files nothing
 
-module _ (part : ℕ) (n : Net) (l since : ℕ) (some : 0 < l) (most : l ≤ 9) (f : Filed) where
+module _ (part : ℕ) (n : Net) (l since : ℕ) (some : 0 < l) (limit : l ≤ 9) (f : Filed) where
   abbrev At : Serving → Type 0
-  At s = tokens.At part n l since some most f s
+  At s = tokens.At part n l since some limit f s
 
   abbrev Goes : Done → Type 0
-  Goes d = tokens.Goes part n l since some most f d
+  Goes d = tokens.Goes part n l since some limit f d
 
   gives_up_so : (s : Serving) (block : BlockId) (giving : Option Giving) → At s → Goes (gives_up s block giving)
-  gives_up_so s block None h = tokens.still_so part n l since some most f s h
-  gives_up_so s block (Some giving) h = tokens.takes_back_so part n l since some most f s block giving.stamp giving.keep h
+  gives_up_so s block None h = tokens.still_so part n l since some limit f s h
+  gives_up_so s block (Some giving) h = tokens.takes_back_so part n l since some limit f s block giving.stamp giving.keep h
 
   gives_if_clean_so : (s : Serving) (block : BlockId) → At s → Goes (gives_if_clean s block)
   unfolding gives_if_clean
   gives_if_clean_so s block h =
       by_test (λ (d : Done). Goes d) (is_dirty (held_at s block)) (still s) (gives_up s block (held_at s block).giving)
-      (λ t. tokens.still_so part n l since some most f s h) (λ t. gives_up_so s block (held_at s block).giving h)
+      (λ t. tokens.still_so part n l since some limit f s h) (λ t. gives_up_so s block (held_at s block).giving h)
 
   pub given_up : (s : Serving) (blocks : List BlockId) → At s → Goes (steps gives_if_clean s blocks)
   given_up s blocks h = frames.quiet_steps part n l since f At gives_if_clean gives_if_clean_so s blocks h
 
   pub sends_so : (s : Serving) (outs : List Out) → At s → AllByRecursion IsSend outs → Goes (steps writes_one s outs)
   unfolding writes_one
-  sends_so s [] h all = tokens.still_so part n l since some most f s h
+  sends_so s [] h all = tokens.still_so part n l since some limit f s h
   sends_so s (Send fragment member ∷ outs) h all =
       frames.quiet_on part n l since f At (gives s (store fragment member ∷ [])) (steps writes_one s outs)
-      (tokens.plain_so part n l since some most f s (store fragment member ∷ []) h (tt, tt))
+      (tokens.plain_so part n l since some limit f s (store fragment member ∷ []) h (tt, tt))
       (λ k. sends_so s outs k all.1)
   sends_so s (Settled end rows ∷ outs) h all = absurd all.0
 
   pub seals_again_so : (s : Serving) (settling : Bool) → At s → Goes (seals_again s settling)
   seals_again_so s settling h =
-      by_test (λ (d : Done). Goes d) (settling && is_giving s.tokens) (seals s) (still s) (λ t. tokens.seals_so part n l since some most f s h)
-      (λ t. tokens.still_so part n l since some most f s h)
+      by_test (λ (d : Done). Goes d) (settling && is_giving s.tokens) (seals s) (still s) (λ t. tokens.seals_so part n l since some limit f s h)
+      (λ t. tokens.still_so part n l since some limit f s h)
 
   -- what the log said is done
   abbrev pub said : Serving → List Out → Done
-  said s outs = (let d : Done = steps writes_one s outs in after d.outs (seals_again d.state (list_any is_settling outs)))
+  said s outs = (let d : Done = steps writes_one s outs in saying d.outs (seals_again d.state (list_any is_settling outs)))
 
   pub rests_so : (s : Serving) (r : log.Done) → At s → Stays l s.log r → Goes (said (record s { log = r.state }) r.outs)
   rests_so s r h k =
@@ -102,7 +102,7 @@ module _ (part : ℕ) (n : Net) (l since : ℕ) (some : 0 < l) (most : l ≤ 9) 
 
 -- ---- what files
 
-module _ (New : Filed → Segment → Type 0) (part : ℕ) (texts : Texts) (n : Net) (l since : ℕ) (some : 0 < l) (most : l ≤ 9) where
+module _ (New : Filed → Segment → Type 0) (part : ℕ) (texts : Texts) (n : Net) (l since : ℕ) (some : 0 < l) (limit : l ≤ 9) where
   abbrev Stood : Filed → Serving → Type 0
   Stood f s = Stands part n l since f s.lasting.number s.log s.feed
 
@@ -142,13 +142,13 @@ module _ (New : Filed → Segment → Type 0) (part : ℕ) (texts : Texts) (n : 
 
     -- what comes after
     abbrev gone : Done
-    gone = after (pushes_all fed.managers fed.feed) (steps gives_if_clean fed (dirty_in t.tokens.blocks))
+    gone = saying (pushes_all fed.managers fed.feed) (steps gives_if_clean fed (dirty_in t.tokens.blocks))
 
     abbrev sent : Done
-    sent = after gone.outs (steps writes_one gone.state k.rest)
+    sent = saying gone.outs (steps writes_one gone.state k.rest)
 
     abbrev behind : Done
-    behind = after sent.outs (seals_again sent.state (list_any is_settling (Settled (end_from old) (rows_of old) ∷ k.rest)))
+    behind = saying sent.outs (seals_again sent.state (list_any is_settling (Settled (end_from old) (rows_of old) ∷ k.rest)))
 
     behind_so : OwedAct New texts l f (ActsFiled name) → frames.Quiet part n l since g (Stood g) behind
     behind_so owed =
@@ -156,23 +156,23 @@ module _ (New : Filed → Segment → Type 0) (part : ℕ) (texts : Texts) (n : 
         frames.quiet_on part n l since g (Stood g) sent (seals_again sent.state (list_any is_settling (Settled (end_from old) (rows_of old) ∷ k.rest)))
         (frames.quiet_on part n l since g (Stood g) gone (steps writes_one gone.state k.rest)
         (frames.quiet_after part n l since g (Stood g) (pushes_all fed.managers fed.feed) (steps gives_if_clean fed (dirty_in t.tokens.blocks))
-        (pushes_all_plain part n l since g some most fed.managers fed.feed at.seen.feed)
-        (given_up part n l since some most g fed (dirty_in t.tokens.blocks) at))
-        (λ i. sends_so part n l since some most g gone.state k.rest i k.sends))
-        (λ i. seals_again_so part n l since some most g sent.state (list_any is_settling (Settled (end_from old) (rows_of old) ∷ k.rest)) i)
+        (pushes_all_plain part n l since g some limit fed.managers fed.feed at.seen.feed)
+        (given_up part n l since some limit g fed (dirty_in t.tokens.blocks) at))
+        (λ i. sends_so part n l since some limit g gone.state k.rest i k.sends))
+        (λ i. seals_again_so part n l since some limit g sent.state (list_any is_settling (Settled (end_from old) (rows_of old) ∷ k.rest)) i)
 
-    lands_so : Files f (said part n l since some most f t (Settled (end_from old) (rows_of old) ∷ k.rest))
+    lands_so : Files f (said part n l since some limit f t (Settled (end_from old) (rows_of old) ∷ k.rest))
     unfolding writes_one settles
     lands_so = frames.goes_filed New part texts n l since Stood f name behind
         (ap (λ (x : Segment). x.name) (ap texts name_is ∙ text k.old k.was) ∙ sym name_is) behind_so
 
   turns_so : (f : Filed) (s : Serving) (r : log.Done) → Stood f s → FlightIsText texts s.log → Turns l s.log r
-      → Files f (said part n l since some most f (record s { log = r.state }) r.outs)
+      → Files f (said part n l since some limit f (record s { log = r.state }) r.outs)
   turns_so f s r h text turns =
       ⊎_elim
-      (λ (rests : Rests s.log r). frames.goes_quiet New part texts n l since Stood f (said part n l since some most f (record s { log = r.state }) r.outs)
-      (rests_so part n l since some most f s r h (record { next = turns.next; rests = rests })))
-      (λ (lands : Lands s.log r). subst (λ outs. Files f (said part n l since some most f (record s { log = r.state }) outs)) (sym lands.outs)
+      (λ (rests : Rests s.log r). frames.goes_quiet New part texts n l since Stood f (said part n l since some limit f (record s { log = r.state }) r.outs)
+      (rests_so part n l since some limit f s r h (record { next = turns.next; rests = rests })))
+      (λ (lands : Lands s.log r). subst (λ outs. Files f (said part n l since some limit f (record s { log = r.state }) outs)) (sym lands.outs)
       (lands_so f s h text r turns.next lands))
       turns.went
 

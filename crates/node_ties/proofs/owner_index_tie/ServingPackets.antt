@@ -32,7 +32,7 @@ use Rattle.xfs_base.specs.declared.block.BlockId.{BlockId}
 use Rattle.xfs_base.specs.declared.news.SlotNews.{SlotNews}
 use Rattle.xfs_base.specs.declared.node.NodeId.{NodeId}
 use Rattle.xfs_base.specs.Limits.{u32_end}
-use Rattle.xfs_base.specs.Steps.{still, after, steps}
+use Rattle.xfs_base.specs.Steps.{still, saying, steps}
 use Rattle.node_ties.specs.owner_index_tie.Filing.{filed_after}
 use Rattle.node_ties.proofs.owner_index_tie.Frames as frames
 use Rattle.node_ties.proofs.owner_index_tie.ServingCalls as calls
@@ -107,7 +107,7 @@ abbrev pub Polled : ℕ → Net → ℕ → Filed → Serving → Body → Type 
 Polled part n l f s (body.Poll m) = hearing.PollLinked part n l f s m
 Polled part n l f s _ = Unit {0}
 
-module _ (New : Filed → Segment → Type 0) (part : ℕ) (texts : Texts) (n : Net) (l since : ℕ) (some : 0 < l) (most : l ≤ 9) where
+module _ (New : Filed → Segment → Type 0) (part : ℕ) (texts : Texts) (n : Net) (l since : ℕ) (some : 0 < l) (limit : l ≤ 9) where
   abbrev At : Filed → Serving → Type 0
   At f s = Stands part n l since f s.lasting.number s.log s.feed
 
@@ -127,9 +127,9 @@ module _ (New : Filed → Segment → Type 0) (part : ℕ) (texts : Texts) (n : 
         let t : Serving = record s { maps = taken s.maps news } in
         let d : Done = steps hears t news.slots in
         frames.goes_on New part texts n l since At f d (regroups d.state (is_older s.maps news) news.groups)
-        (quiet f d (frames.quiet_steps part n l since f (At f) hears (hearing.hears_so part n l since some most f) t news.slots h))
+        (quiet f d (frames.quiet_steps part n l since f (At f) hears (hearing.hears_so part n l since some limit f) t news.slots h))
         (λ k. by_test (λ (e : Done). Files (frames_after d) e) (is_older s.maps news) (writes d.state (log_in.Maps news.groups)) (still d.state)
-        (λ _. flights.writes_so New part texts n l since some most (frames_after d) d.state (log_in.Maps news.groups) k
+        (λ _. flights.writes_so New part texts n l since some limit (frames_after d) d.state (log_in.Maps news.groups) k
         (subst (FlightIsText texts) (sym (all_hear_log t news.slots)) text))
         (λ _. quiet (frames_after d) (still d.state) (frames.quiet_still part n l since (frames_after d) (At (frames_after d)) d.state k)))
       where
@@ -144,18 +144,18 @@ module _ (New : Filed → Segment → Type 0) (part : ℕ) (texts : Texts) (n : 
     welcome_files m = by_test (Files f) (m.inc == s.lasting.inc) (on_news s m.news) (still s) (λ _. news_files m.news) (λ _. still_files)
 
     body_files : (from : NodeId) (b : Body) → Polled part n l f s b → Files f (on_body s from b)
-    body_files from (body.Grant m) owed = quiet f (on_body s from (body.Grant m)) (hearing.on_grant_so part n l since some most f s m h)
-    body_files from (body.Supply m) owed = quiet f (on_body s from (body.Supply m)) (hearing.on_supply_so part n l since some most f s m h)
-    body_files from (body.Forward m) owed = quiet f (on_body s from (body.Forward m)) (hearing.on_forward_so part n l since some most f s m h)
-    body_files from (body.Recall m) owed = quiet f (on_body s from (body.Recall m)) (hearing.on_recall_so part n l since some most f s m h)
-    body_files from (body.Gone m) owed = quiet f (on_body s from (body.Gone m)) (hearing.on_gone_so part n l since some most f s m h)
-    body_files from (body.DeltaAck m) owed = quiet f (on_body s from (body.DeltaAck m)) (hearing.on_ack_so part n l since some most f s m h)
-    body_files from (body.Poll m) owed = quiet f (on_body s from (body.Poll m)) (hearing.on_poll_so part n l since some most f s from m h owed)
-    body_files from (body.Stored m) owed = flights.writes_so New part texts n l since some most f s (log_in.Acked m.name m.index m.generation) h text
+    body_files from (body.Grant m) owed = quiet f (on_body s from (body.Grant m)) (hearing.on_grant_so part n l since some limit f s m h)
+    body_files from (body.Supply m) owed = quiet f (on_body s from (body.Supply m)) (hearing.on_supply_so part n l since some limit f s m h)
+    body_files from (body.Forward m) owed = quiet f (on_body s from (body.Forward m)) (hearing.on_forward_so part n l since some limit f s m h)
+    body_files from (body.Recall m) owed = quiet f (on_body s from (body.Recall m)) (hearing.on_recall_so part n l since some limit f s m h)
+    body_files from (body.Gone m) owed = quiet f (on_body s from (body.Gone m)) (hearing.on_gone_so part n l since some limit f s m h)
+    body_files from (body.DeltaAck m) owed = quiet f (on_body s from (body.DeltaAck m)) (hearing.on_ack_so part n l since some limit f s m h)
+    body_files from (body.Poll m) owed = quiet f (on_body s from (body.Poll m)) (hearing.on_poll_so part n l since some limit f s from m h owed)
+    body_files from (body.Stored m) owed = flights.writes_so New part texts n l since some limit f s (log_in.Acked m.name m.index m.generation) h text
     body_files from (body.Fragment m) owed = quiet f (on_body s from (body.Fragment m))
-        (hearing.on_told_so part n l since some most f s from m.ask (told.Held m.fragment) h)
+        (hearing.on_told_so part n l since some limit f s from m.ask (told.Held m.fragment) h)
     body_files from (body.Missing m) owed = quiet f (on_body s from (body.Missing m))
-        (hearing.on_told_so part n l since some most f s from m.ask (told.Missing m.generation) h)
+        (hearing.on_told_so part n l since some limit f s from m.ask (told.Missing m.generation) h)
     body_files from (body.MapNews m) owed = news_files m
     body_files from (body.Welcome m) owed = welcome_files m
     body_files from _ owed = still_files
@@ -164,15 +164,15 @@ module _ (New : Filed → Segment → Type 0) (part : ℕ) (texts : Texts) (n : 
     unfolding on_packet
     packet_files p owed =
         by_test (Files f) (names_known s.maps p.body) (on_body s p.from p.body) (asks_for_maps s) (λ _. body_files p.from p.body owed)
-        (λ _. quiet f (asks_for_maps s) (hearing.asks_for_maps_so part n l since some most f s h))
+        (λ _. quiet f (asks_for_maps s) (hearing.asks_for_maps_so part n l since some limit f s h))
 
     -- what is done, and then the open call runs
-    runs_files : (d : Done) → Files f d → Files f (after d.outs (runs d.state))
+    runs_files : (d : Done) → Files f d → Files f (saying d.outs (runs d.state))
     runs_files d p = frames.goes_on New part texts n l since At f d (runs d.state) p
-        (λ k. quiet (filed_after texts l f d.outs) (runs d.state) (calls.runs_so part n l since some most (filed_after texts l f d.outs) d.state k))
+        (λ k. quiet (filed_after texts l f d.outs) (runs d.state) (calls.runs_so part n l since some limit (filed_after texts l f d.outs) d.state k))
 
-    pub packet_so : (p : Packet) → Polled part n l f s p.body → Files f (after (on_packet s p).outs (runs (on_packet s p).state))
+    pub packet_so : (p : Packet) → Polled part n l f s p.body → Files f (saying (on_packet s p).outs (runs (on_packet s p).state))
     packet_so p owed = runs_files (on_packet s p) (packet_files p owed)
 
-    pub time_so : Files f (after (on_tick s).outs (runs (on_tick s).state))
-    time_so = runs_files (on_tick s) (quiet f (on_tick s) (hearing.tick_goes part n l since some most f s h))
+    pub time_so : Files f (saying (on_tick s).outs (runs (on_tick s).state))
+    time_so = runs_files (on_tick s) (quiet f (on_tick s) (hearing.tick_goes part n l since some limit f s h))

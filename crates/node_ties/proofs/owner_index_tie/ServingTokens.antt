@@ -40,7 +40,7 @@ use Rattle.node_ties.proofs.owner_index_tie.Frames as frames
 use Rattle.node_ties.proofs.owner_index_tie.Standing.{Stands, rested, pushes_plain, end_told, stored_plain}
 use Rattle.node_ties.proofs.owner_index_tie.Turns.{seal_stays}
 
-module _ (part : ℕ) (n : Net) (l since : ℕ) (some : 0 < l) (most : l ≤ 9) (f : Filed) where
+module _ (part : ℕ) (n : Net) (l since : ℕ) (some : 0 < l) (limit : l ≤ 9) (f : Filed) where
   abbrev pub At : Serving → Type 0
   At s = Stands part n l since f s.lasting.number s.log s.feed
 
@@ -126,7 +126,7 @@ module _ (part : ℕ) (n : Net) (l since : ℕ) (some : 0 < l) (most : l ≤ 9) 
   before_plain : (s : Serving) (block : BlockId) (again : ℕ) → At s → AllPlain (before_want s block again)
   before_plain s block again h =
       by_test (λ (es : List Effect). AllPlain es) (again == 0) (deltas s block) []
-      (λ t. pushes_plain part n l since f some most s.managers s.feed h.seen.feed _) (λ t. tt)
+      (λ t. pushes_plain part n l since f some limit s.managers s.feed h.seen.feed _) (λ t. tt)
 
   follows_one_so : (s : Serving) (o : outputs.Out) → At s → Goes (follows_one s o)
   unfolding follows_one
@@ -135,7 +135,7 @@ module _ (part : ℕ) (n : Net) (l since : ℕ) (some : 0 < l) (most : l ≤ 9) 
       (plain_so s (want s block req again mode ∷ []) h (end_told part n l since f s.lasting.number s.log s.feed h, tt))
   follows_one_so s (output.Gave block stamp) h =
       frames.quiet_after part n l since f At (deltas s block) (gives s (gave s block stamp ∷ []))
-      (pushes_plain part n l since f some most s.managers s.feed h.seen.feed _)
+      (pushes_plain part n l since f some limit s.managers s.feed h.seen.feed _)
       (plain_so s (gave s block stamp ∷ []) h (end_told part n l since f s.lasting.number s.log s.feed h, tt))
   follows_one_so s (output.Flush block) h = seals_so s h
   follows_one_so s (output.Read block place) h = reads_so s block place h

@@ -60,7 +60,7 @@ module _ (part : ℕ) (n : Net) (l since : ℕ) (f : Filed) where
 
   -- ---- what it tells
 
-  module _ (some : 0 < l) (most : l ≤ 9) (managers : Managers) (feed : FeedState) (k : owners.FeedSeen part (filing n f) l feed) where
+  module _ (some : 0 < l) (limit : l ≤ 9) (managers : Managers) (feed : FeedState) (k : owners.FeedSeen part (filing n f) l feed) where
     ranges_plain : (outs : List Out) → AllByRecursion (owners.OwnerDoes part (filing n f) l) (map (range managers) outs)
         → AllPlain part n l since f (map (range managers) outs)
     ranges_plain [] all = tt
@@ -69,11 +69,11 @@ module _ (part : ℕ) (n : Net) (l since : ℕ) (f : Filed) where
     pub pushes_plain : (slot : ℕ) → AllPlain part n l since f (pushes managers feed slot)
     pushes_plain slot = ranges_plain (pushed feed slot)
         (recursion_from_All (owners.OwnerDoes part (filing n f) l) (pushes managers feed slot)
-        ((owners_tell part (filing n f) l feed managers some most k).one slot))
+        ((owners_tell part (filing n f) l feed managers some limit k).one slot))
 
     pub pushes_all_plain : AllPlain part n l since f (pushes_all managers feed)
     pushes_all_plain = ranges_plain (ticked feed)
-        (recursion_from_All (owners.OwnerDoes part (filing n f) l) (pushes_all managers feed) (owners_tell part (filing n f) l feed managers some most k).each)
+        (recursion_from_All (owners.OwnerDoes part (filing n f) l) (pushes_all managers feed) (owners_tell part (filing n f) l feed managers some limit k).each)
 
   module _ (number : ℕ) (log : LogState) (feed : FeedState) (h : Stands number log feed) where
     -- its end is what is filed last

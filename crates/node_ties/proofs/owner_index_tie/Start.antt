@@ -13,7 +13,7 @@ use Rattle.node_ties.proofs.owner_index_tie.Feeds.{by_filed, same_fits, same_own
 use Rattle.node_ties.proofs.owner_index_tie.Turns.{none_next}
 
 pub nothing_fits : (any : ℕ → ℕ → Segment) (l q : ℕ) → RowsFit (rows_at (opening any).filed l q)
-nothing_fits any l q = by_filed RowsFit (opening any).filed l q (λ some most. absurd (omega arith)) tt
+nothing_fits any l q = by_filed RowsFit (opening any).filed l q (λ some limit. absurd (omega arith)) tt
 
 pub first_client_agrees : FirstClientAgrees
 first_client_agrees part texts any c setup works = (

@@ -45,10 +45,10 @@ module _ (logs : Bool) (k : Cluster) (part : ℕ) (texts : Texts) (first : ℕ �
   one = is_one k nodes j (any.Manager node) at
 
   is : t.manager j ≡ node
-  is = one_manager (t.manager j) node (node_in nodes (place_of k (Manager j))) (both.tokens.placed.managers j one.some one.most) at
+  is = one_manager (t.manager j) node (node_in nodes (place_of k (Manager j))) (both.tokens.placed.managers j one.some one.limit) at
 
   sees : owners.ManagerSees k part t j node.phase
-  sees = subst (λ (x : ManagerNode). owners.ManagerSees k part t j x.phase) is (both.tokens.managers j one.some one.most)
+  sees = subst (λ (x : ManagerNode). owners.ManagerSees k part t j x.phase) is (both.tokens.managers j one.some one.limit)
 
   -- ---- no other manager holds an epoch that it holds or is given
 
@@ -67,37 +67,37 @@ module _ (logs : Bool) (k : Cluster) (part : ℕ) (texts : Texts) (first : ℕ �
   given e Tick brought named = absurd named
 
   held_by : (d e : ℕ) → 0 < d → d ≤ k.managers → HeldAt (places.holder part i d) e → t.lord e ≡ d
-  held_by d e some most held =
-      let same = one_manager (i.manager d) (t.manager d) (node_in nodes (place_of k (Manager d))) (both.index.placed.managers d some most)
-      (both.tokens.placed.managers d some most) in
-      ((both.tokens.managers d some most).owns e (subst (λ (x : ManagerNode). HeldAt (slot_in part x.phase) e) same held)).0
+  held_by d e some limit held =
+      let same = one_manager (i.manager d) (t.manager d) (node_in nodes (place_of k (Manager d))) (both.index.placed.managers d some limit)
+      (both.tokens.placed.managers d some limit) in
+      ((both.tokens.managers d some limit).owns e (subst (λ (x : ManagerNode). HeldAt (slot_in part x.phase) e) same held)).0
 
   apart : (what : Do) → Brought k part t (Manager j) what
       → HeldApart part j i.net k.managers (places.holder part i) node.phase what
-  apart what brought d e some most other held =
-      let of_d = held_by d e some most held in
+  apart what brought d e some limit other held =
+      let of_d = held_by d e some limit held in
       ((λ mine. other (sym of_d ∙ (sees.owns e mine).0)), (λ named. other (sym of_d ∙ given e what brought named)))
 
   -- ---- an epoch that is new to it has no manager
 
-  free : (most known : ℕ) (slots : List SlotNews) → AllNewsGets part most j t.net known slots → NewsFree part j i.net known slots
-  free most known slots gets news among of mine less = both.same news.epoch ((gets news among of).new mine less)
+  free : (limit known : ℕ) (slots : List SlotNews) → AllNewsGets part limit j t.net known slots → NewsFree part j i.net known slots
+  free limit known slots gets news among of mine less = both.same news.epoch ((gets news among of).new mine less)
 
-  serving_given : (most life : ℕ) (s : Serving) (from : NodeId) (b : Body)
-      → ServingGets false part most j t.net (owners.members k part) life (slot_in part (Serves s)) from b
+  serving_given : (limit life : ℕ) (s : Serving) (from : NodeId) (b : Body)
+      → ServingGets false part limit j t.net (owners.members k part) life (slot_in part (Serves s)) from b
       → ServingFree part j i.net life (epoch_in part (Serves s)) b
-  serving_given most life s from (body.MapNews m) gets = free most (epoch_in part (Serves s)) m.slots gets
-  serving_given most life s from (body.Welcome m) gets = λ same. free most (epoch_in part (Serves s)) m.news.slots (gets same)
-  serving_given most life s from _ gets = tt
+  serving_given limit life s from (body.MapNews m) gets = free limit (epoch_in part (Serves s)) m.slots gets
+  serving_given limit life s from (body.Welcome m) gets = λ same. free limit (epoch_in part (Serves s)) m.news.slots (gets same)
+  serving_given limit life s from _ gets = tt
 
-  waiting_given : (most life : ℕ) (b : Body) → WaitingGets part most j t.net life b → WaitingFree part j i.net life b
-  waiting_given most life (body.Welcome m) gets = λ same. free most 0 m.news.slots (gets same).slots
-  waiting_given most life _ gets = tt
+  waiting_given : (limit life : ℕ) (b : Body) → WaitingGets part limit j t.net life b → WaitingFree part j i.net life b
+  waiting_given limit life (body.Welcome m) gets = λ same. free limit 0 m.news.slots (gets same).slots
+  waiting_given limit life _ gets = tt
 
-  packet_given : (most : ℕ) (p : Phase) (q : Packet) → ManagerGets false part most j t.net (owners.members k part) p q → PacketFree part j i.net p q
-  packet_given most (Serves s) q gets = serving_given most s.lasting.inc s q.from q.body gets
-  packet_given most (Waiting kept hello) q gets = waiting_given most kept.inc q.body gets
-  packet_given most (Down kept) q gets = tt
+  packet_given : (limit : ℕ) (p : Phase) (q : Packet) → ManagerGets false part limit j t.net (owners.members k part) p q → PacketFree part j i.net p q
+  packet_given limit (Serves s) q gets = serving_given limit s.lasting.inc s q.from q.body gets
+  packet_given limit (Waiting kept hello) q gets = waiting_given limit kept.inc q.body gets
+  packet_given limit (Down kept) q gets = tt
 
   do_given : (what : Do) → Brought k part t (Manager j) what → DoFree part j i.net node.phase what
   do_given Begin brought = tt

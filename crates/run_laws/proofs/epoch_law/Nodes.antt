@@ -35,11 +35,11 @@ one_registry a b o at_a at_b = ap (registry_or a) (one_node (any.Registry a) (an
 -- a manager that stands somewhere is one of the cluster's
 pub record IsOne (k : Cluster) (j : ℕ) : Type 0 where
   pub some : 0 < j
-  pub most : j ≤ k.managers
+  pub limit : j ≤ k.managers
 
 pub is_one : (k : Cluster) (nodes : List AnyNode) (j : ℕ) (node : AnyNode) → node_in nodes (place_of k (Manager j)) ≡ Some node → IsOne k j
 is_one k nodes j node is = by (place_of k (Manager j)) refl
   where
     by : (o : Option ℕ) → place_of k (Manager j) ≡ o → IsOne k j
     by None none = let clash : None ≡ Some node = sym (ap (node_in nodes) none) ∙ is in absurd (cc)
-    by (Some p) at = let b = behind k.clients k.managers j p at in record { some = b.some; most = b.within }
+    by (Some p) at = let b = behind k.clients k.managers j p at in record { some = b.some; limit = b.within }

@@ -59,11 +59,11 @@ least_below l (y ∷ slots) x (inr among) = min_rest (horizon_of l y) (least_hor
 
 -- where the horizon has a number of the log, that is its horizon
 horizon_is : (x : SlotNews) (l : ℕ) → 0 < l → l ≤ 9 → 0 < of_log x.horizon l → horizon_of l x ≤ of_log x.horizon l
-horizon_is x l some most from_one =
+horizon_is x l some limit from_one =
     subst (λ a. horizon_of l x ≤ a) (sym read) (by (slice_get x.horizon (l - 1)) (subst (λ a. 0 < a) read from_one))
   where
     read : of_log x.horizon l ≡ unwrap_or (slice_get x.horizon (l - 1)) 0
-    read = of_log_in x.horizon l some most ∙ sym (unwrap_or-slice_get x.horizon (l - 1) 0)
+    read = of_log_in x.horizon l some limit ∙ sym (unwrap_or-slice_get x.horizon (l - 1) 0)
 
     by : (o : Option ℕ) → 0 < unwrap_or o 0 → unwrap_or o 1 ≤ unwrap_or o 0
     by None less = absurd (omega arith)
@@ -88,11 +88,11 @@ up_to a b c h g = omega arith
 -- the registry's horizon of a log is at or above the least one
 least_kept : (part : ℕ) (n : index.Net) (r : RegistryNode) → part < 8 → RegistryAgrees part n r → (l : ℕ) → 0 < l → l ≤ 9
     → least_horizon l (all_news r.board) ≤ of_log (n.horizon n.epoch) l
-least_kept part n r of_eight agreed l some most =
+least_kept part n r of_eight agreed l some limit =
     let x = slot_news r.board part in
     subst (λ (h : List ℕ). least_horizon l (all_news r.board) ≤ of_log h l) agreed.horizon
     (up_to (least_horizon l (all_news r.board)) (horizon_of l x) (of_log x.horizon l) (least_below l (all_news r.board) x (news_among r.board part of_eight))
-    (horizon_is x l some most (subst (λ (h : List ℕ). 0 < of_log h l) (sym agreed.horizon) (agreed.is.from_one l some most))))
+    (horizon_is x l some limit (subst (λ (h : List ℕ). 0 < of_log h l) (sym agreed.horizon) (agreed.is.from_one l some limit))))
 
 -- ---- a moment
 
@@ -131,35 +131,35 @@ module _ (managed : CheckpointsHaveManagers) (promised : ActiveEpochsPromised) (
       (subst (λ (b : Body). owners.SentBy k part t poll.packet.from poll.packet.to b) poll.is (both.tokens.facts poll.packet poll.among)) poll.of)
 
   -- nobody is active above an epoch above which nobody is in the small world of tokens
-  module _ (most : ℕ) (bound : (e : ℕ) (z : SlotState) → t.net.slots e ≡ Some z → e ≤ most) where
-    nobody : (e : ℕ) → most < e → i.net.slots e ≡ None
+  module _ (limit : ℕ) (bound : (e : ℕ) (z : SlotState) → t.net.slots e ≡ Some z → e ≤ limit) where
+    nobody : (e : ℕ) → limit < e → i.net.slots e ≡ None
     nobody e above = both.same e (by (t.net.slots e) refl)
       where
         by : (o : Option SlotState) → t.net.slots e ≡ o → t.net.slots e ≡ None
         by None is = is
         by (Some z) is = let low = bound e z is in absurd (omega arith)
 
-    same_horizon : (more : ℕ) → most + more ≤ i.net.epoch → i.net.horizon (most + more) ≡ i.net.horizon most
-    same_horizon zero within = ap i.net.horizon (plus most)
+    same_horizon : (more : ℕ) → limit + more ≤ i.net.epoch → i.net.horizon (limit + more) ≡ i.net.horizon limit
+    same_horizon zero within = ap i.net.horizon (plus limit)
       where
         plus : (a : ℕ) → a + 0 ≡ a
         plus a = omega arith
     same_horizon (suc more) within =
-        ap i.net.horizon (plus most more)
-        ∙ (horizons_stay managed part (held_in part texts) first i.net of_eight both.index.runs (most + more) (omega arith)
-        (nobody (suc (most + more)) (omega arith))
+        ap i.net.horizon (plus limit more)
+        ∙ (horizons_stay managed part (held_in part texts) first i.net of_eight both.index.runs (limit + more) (omega arith)
+        (nobody (suc (limit + more)) (omega arith))
         ∙ same_horizon more (omega arith))
       where
         plus : (a b : ℕ) → a + suc b ≡ suc (a + b)
         plus a b = omega arith
 
-    pub polled_low : most ≤ i.net.epoch → (l : ℕ) → 0 < l → l ≤ 9 → IsLow i most l
+    pub polled_low : limit ≤ i.net.epoch → (l : ℕ) → 0 < l → l ≤ 9 → IsLow i limit l
     polled_low within l some less =
         subst (λ (h : List ℕ). least_horizon l (all_news i.registry.board) ≤ of_log h l)
-        (ap i.net.horizon (sym end) ∙ same_horizon (i.net.epoch - most) (omega arith))
+        (ap i.net.horizon (sym end) ∙ same_horizon (i.net.epoch - limit) (omega arith))
         (least_kept part i.net i.registry of_eight both.index.registry l some less)
       where
-        end : most + (i.net.epoch - most) ≡ i.net.epoch
+        end : limit + (i.net.epoch - limit) ≡ i.net.epoch
         end = omega arith
 
   -- ---- who answers

@@ -75,14 +75,14 @@ module _ (logs : Bool) (k : Cluster) (part : ℕ) (texts : Texts) (nodes : List 
       is_after : next.manager j ≡ after_event node
       is_after =
           let one = is_one k (slice_set nodes place (any.Manager (after_event node))) j (any.Manager (after_event node)) at_after in
-          one_manager (next.manager j) (after_event node) _ (go.tokens.placed.managers j one.some one.most) at_after
+          one_manager (next.manager j) (after_event node) _ (go.tokens.placed.managers j one.some one.limit) at_after
 
       enters : (z : SlotState) → m.slots e ≡ Some z → ⊥
       enters z is =
           let one = is_one k (slice_set nodes place (any.Manager (after_event node))) j (any.Manager (after_event node)) at_after in
           managed_there (owners.members k part) part next.net j (after_event node).phase e
           (subst (λ (x : ManagerNode). ManagerAgrees (owners.members k part) part next.net j x.phase) is_after
-          (go.tokens.managers j one.some one.most).agrees)
+          (go.tokens.managers j one.some one.limit).agrees)
           (go.index.entered e z is (same e (go.leaves e none))) none
 
       by : (o : Option SlotState) → m.slots e ≡ o → m.slots e ≡ None

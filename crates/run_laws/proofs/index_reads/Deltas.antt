@@ -51,12 +51,12 @@ module _ (k : Books) (f : Filed) (same : Same k f) (begins : BeginsAtOne k) (b :
   -- what a slot has applied is no newer than its entry
   pub applied_older : (s : SlotState) (l q : ℕ) → Manages b f w s → 0 < l → l ≤ 9 → q ≤ applied_of s.applied l → q ≤ f.head l
       → (said k l q b).version ≤ (entry_at s b).ver
-  applied_older s l q m some most to filed =
+  applied_older s l q m some limit to filed =
       let applied = m.applied l some in
       let newest = ((index_is_join_always w reached).each s.epoch m.active).newest l q (omega arith) in
       let named = m.index.version in
       let row = tells.version l q in
-      let version = same_version k f same b begins l q some most filed in
+      let version = same_version k f same b begins l q some limit filed in
       omega arith
 
   pub covers : (s : SlotState) (l first upto : ℕ) (rows : List (BlockId × Entry)) → Manages b f w s → DeltasTell b f l first upto rows

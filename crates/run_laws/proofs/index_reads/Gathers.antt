@@ -53,7 +53,7 @@ end_applied horizon reports c some less =
     let is = applied_in horizon reports c some (omega arith) in
     let its : (end_of reports c).seq ≡ ends_of reports c =
     ap (λ node. (end_from node reports).seq) (second_of (c == 9) Cleaner (Client c) (grind (arith, nat_tests))) in
-    let most = least (end_of reports c).seq (horizon_at horizon c - 1) in
+    let limit = least (end_of reports c).seq (horizon_at horizon c - 1) in
     omega arith
   where
     least : (a b : ℕ) → a ≤ max a b
@@ -79,7 +79,7 @@ module _ (members part : ℕ) (texts : Texts) (t : tokens.Net) (i : index.Net) (
     at = put_here i.slots e (Some slot)
 
     applied_filed : (l : ℕ) → 0 < l → l ≤ 9 → applied l ≤ i.filed.head l
-    applied_filed l some most =
+    applied_filed l some limit =
         let v = good.views (some_block part) (its_block members part (held_in part texts) t i tied) in
         let is = (v.slots e slot at).applied l some in
         let bound = (index_in_bounds_always v.state v.reached).applied_filed e l in
@@ -88,7 +88,7 @@ module _ (members part : ℕ) (texts : Texts) (t : tokens.Net) (i : index.Net) (
 
     upto_end : (l : ℕ) → 0 < l → applied l ≤ t.books.end l
     upto_end l some = by_log (λ l. 0 < l → applied l ≤ t.books.end l)
-        (λ l more most _. let filed = applied_filed l more most in let end = tied.books.end l more most in omega arith)
+        (λ l more limit _. let filed = applied_filed l more limit in let end = tied.books.end l more limit in omega arith)
         (λ l out more. past l out more) l some
       where
         past : (l : ℕ) → (l ≡ 0) ⊎ (9 < l) → 0 < l → applied l ≤ t.books.end l
@@ -102,16 +102,16 @@ module _ (members part : ℕ) (texts : Texts) (t : tokens.Net) (i : index.Net) (
 
     older : (b : BlockId) → is_in_slot part b ≡ true → (l q : ℕ) → 0 < l → q ≤ applied l → (said t.books l q b).version ≤ (entry_at slot b).ver
     older b inside l q some to =
-        by_log (λ l. 0 < l → q ≤ applied l → (said t.books l q b).version ≤ (entry_at slot b).ver) (λ l more most _ within. here l more most within)
+        by_log (λ l. 0 < l → q ≤ applied l → (said t.books l q b).version ≤ (entry_at slot b).ver) (λ l more limit _ within. here l more limit within)
         (λ l out more within. past l out more within) l some to
       where
         here : (l : ℕ) → 0 < l → l ≤ 9 → q ≤ applied l → (said t.books l q b).version ≤ (entry_at slot b).ver
-        here l more most within =
+        here l more limit within =
             let v = good.views b (of_slot part b inside) in
             applied_older t.books i.filed (same members part (held_in part texts) t i tied)
             (begins members part (held_in part texts) t i tied) b v.state v.reached v.tells slot l q
-            (v.slots e slot at) more most within
-            (let filed = applied_filed l more most in omega arith)
+            (v.slots e slot at) more limit within
+            (let filed = applied_filed l more limit in omega arith)
 
         past : (l : ℕ) → (l ≡ 0) ⊎ (9 < l) → 0 < l → q ≤ applied l → (said t.books l q b).version ≤ (entry_at slot b).ver
         past l (inl none) more within = absurd (omega arith)

@@ -37,8 +37,8 @@ module _ (members part : ℕ) (holds : SegRef → Rows) (t : tokens.Net) (i : in
       by (suc v) has =
           let tells = same members part holds t i tied in
           let at = of_log t.books i.filed tells b l q (omega arith) in
-          let version = same_version t.books i.filed tells b (begins members part holds t i tied) l q at.some at.most at.to in
-          let end = tied.books.end l at.some at.most in
+          let version = same_version t.books i.filed tells b (begins members part holds t i tied) l q at.some at.limit at.to in
+          let end = tied.books.end l at.some at.limit in
           let to = at.to in
           let its = flown in
           let above = flights_are_newer members part t b (record { run = tied.tokens_run; inside = eq-eqb (slot_of b.ino.0) part inside }) c is

@@ -41,36 +41,36 @@ rows_there f l q from to = first_of (nat_lt 0 q && nat_le q (f.head l)) (rows_of
 module _ (k : Books) (f : Filed) (same : Same k f) (b : BlockId) where
   -- a filed segment says the same of the block
   says_same : (l q : ℕ) → 0 < l → l ≤ 9 → 0 < q → q ≤ f.head l → SaysSame (f.segment l q) (said k l q b) (row_at f b l q)
-  says_same l q some most from to =
+  says_same l q some limit from to =
       let s = f.segment l q in
-      subst (λ xs. SaysSame s (row_in xs b) (row_at f b l q)) (sym (same.books.rows l q some most from to))
+      subst (λ xs. SaysSame s (row_in xs b) (row_at f b l q)) (sym (same.books.rows l q some limit from to))
       (subst (λ rows. SaysSame s (row_in (rows_told s.items) b) (join rows b)) (sym (rows_there f l q from to))
-      (rows_are_entries s b (same.plain l q some most from to) (same.filed.each l q from to).versions))
+      (rows_are_entries s b (same.plain l q some limit from to) (same.filed.each l q from to).versions))
 
   pub same_version : BeginsAtOne k → (l q : ℕ) → 0 < l → l ≤ 9 → q ≤ f.head l → (said k l q b).version ≡ (row_at f b l q).ver
-  same_version first l zero some most to = ap (λ rows. (row_in rows b).version) (first l)
-  same_version first l (suc q) some most to = (says_same l (suc q) some most (omega arith) to).version
+  same_version first l zero some limit to = ap (λ rows. (row_in rows b).version) (first l)
+  same_version first l (suc q) some limit to = (says_same l (suc q) some limit (omega arith) to).version
 
   -- where a row is, a log has filed it
   pub record IsOfLog (l q : ℕ) : Type 0 where
     pub some : 0 < l
-    pub most : l ≤ 9
+    pub limit : l ≤ 9
     pub from : 0 < q
     pub to : q ≤ f.head l
 
   pub of_log : (l q : ℕ) → 0 < (row_at f b l q).ver → IsOfLog l q
   of_log l q some =
       let within = is_filed b f l q some in
-      by_log (λ l. q ≤ f.head l → IsOfLog l q) (λ l more most to. record { some = more; most = most; from = within.0; to = to })
+      by_log (λ l. q ≤ f.head l → IsOfLog l q) (λ l more limit to. record { some = more; limit = limit; from = within.0; to = to })
       (λ l out to. absurd (let none = same.filed.others l out in let from = within.0 in omega arith)) l within.1
 
   row_made : (l q : ℕ) → 0 < (row_at f b l q).ver → IsMadeOf k b (row_at f b l q) l q
   row_made l q some =
       let at = of_log l q some in
-      let s = says_same l q at.some at.most at.from at.to in
+      let s = says_same l q at.some at.limit at.from at.to in
       let its = same.filed.each l q at.from at.to in
       record {
-        filed = let end = same.books.end l at.some at.most in let to = at.to in omega arith;
+        filed = let end = same.books.end l at.some at.limit in let to = at.to in omega arith;
         some = some;
         row = s.version;
         absent = s.absent;
@@ -105,18 +105,18 @@ places_are_kept k f b e l q place filed books plain has lies =
     let same : Same k f = record { books = books; plain = plain; filed = filed } in
     let within = rows_filed f l q (b, e) has in
     by_log (λ l. Contains (rows_at f l q) (b, e) → (0 < q) × (q ≤ f.head l) → IsKept k f b e.ver place)
-    (λ l some most has within. here same l some most has within)
+    (λ l some limit has within. here same l some limit has within)
     (λ l out has within. absurd (let none = filed.others l out in let from = within.0 in let to = within.1 in omega arith)) l has within
   where
     here : Same k f → (l : ℕ) → 0 < l → l ≤ 9 → Contains (rows_at f l q) (b, e) → (0 < q) × (q ≤ f.head l) → IsKept k f b e.ver place
-    here same l some most has within =
+    here same l some limit has within =
         let s = f.segment l q in
         let its = filed.each l q within.0 within.1 in
         let there = rows_there f l q within.0 within.1 in
         let is : row_at f b l q ≡ e =
         ap (λ rows. join rows b) there
-        ∙ deltas_are_said s b e (plain l q some most within.0 within.1) its.versions (subst (λ rows. Contains rows (b, e)) there has) in
-        let says = says_same k f same b l q some most within.0 within.1 in
+        ∙ deltas_are_said s b e (plain l q some limit within.0 within.1) its.versions (subst (λ rows. Contains rows (b, e)) there has) in
+        let says = says_same k f same b l q some limit within.0 within.1 in
         let at = says.place place (ap (λ (x : Entry). x.place) is ∙ lies) in
         let log : place.seg.name.log.0 ≡ l = ap (λ (n : SegName). n.log.0) at.name ∙ its.log in
         let seq : place.seg.name.seq ≡ q = ap (λ (n : SegName). n.seq) at.name ∙ its.seq in
@@ -124,7 +124,7 @@ places_are_kept k f b e l q place filed books plain has lies =
         let row = ap (λ x. said k x m b) log ∙ ap (λ x. said k l x b) seq in
         let segment : f.segment place.seg.name.log.0 m ≡ s = ap (λ x. f.segment x m) log ∙ ap (f.segment l) seq in
         record {
-          filed = let last = ap k.end log ∙ books.end l some most in let to = within.1 in omega arith;
+          filed = let last = ap k.end log ∙ books.end l some limit in let to = within.1 in omega arith;
           name = ap (λ (x : Segment). x.name) segment ∙ sym at.name;
           version = ap (λ (r : Row). r.version) row ∙ says.version ∙ ap (λ (x : Entry). x.ver) is;
           value = ap (λ (r : Row). r.value) row ∙ at.item ∙ sym (ap (λ (x : Segment). value_at x place.item) segment);

@@ -65,7 +65,7 @@ use Rattle.xfs_base.specs.declared.node.NodeId.TheVariants as node
 use Rattle.xfs_base.specs.declared.segment.End.{End}
 use Rattle.xfs_base.specs.declared.token.Mode.TheVariants.{Copy, Own}
 use Rattle.xfs_base.specs.Modes.{is_held, is_nothing, is_own}
-use Rattle.xfs_base.specs.Steps.{still, after, steps}
+use Rattle.xfs_base.specs.Steps.{still, saying, steps}
 use Rattle.telling_ties.proofs.entry_tie.ClientReads.{OutTold}
 use Rattle.run_laws.proofs.place_law.Aims.{Nowhere, Its, its_heard, its_none, reads_nothing}
 use Rattle.run_laws.proofs.place_law.AimsReads.{Aimed, GoingNew, ends_so, fold_keeps, follows_so, granted_so, hands_so, loses_so, next_new, notes_clean_so, notes_gone_so, read_so, seals_so, taken_so, takes_back_so}
@@ -211,7 +211,7 @@ turns_from : (k : ℕ) (s : Serving) → ((t : Serving) → Alone t → AloneDon
 unfolding runs_upto
 turns_from k s rest p =
     let d : Ran = runs_once s in
-    by_test AloneDone d.goes (after d.done.outs (runs_upto k d.done.state)) d.done (λ _. rest d.done.state p) (λ _. p)
+    by_test AloneDone d.goes (saying d.done.outs (runs_upto k d.done.state)) d.done (λ _. rest d.done.state p) (λ _. p)
 
 runs_upto_so : (k : ℕ) (s : Serving) → Alone s → AloneDone (runs_upto k s)
 unfolding runs_upto

@@ -55,7 +55,7 @@ module _ (k : Books) (f : Filed) (exact : AreExact f) (b : BlockId) (e : Entry) 
     filed = lies.filed;
     is =
         let its : (said k place.seg.name.log.0 place.seg.name.seq b).value ≡ value =
-        lies.value ∙ exact _ _ lies.some lies.most b value e place (subst (λ x. In (Block x value) there.items) same is) lies.says at
+        lies.value ∙ exact _ _ lies.some lies.limit b value e place (subst (λ x. In (Block x value) there.items) same is) lies.says at
         in
         λ i. record { version = sym lies.version i; value = sym its i };
   }

@@ -54,9 +54,9 @@ module _ (texts : Texts) (packets : List Packet) (to : NodeId) (cuts : Cuts) (f 
         lies_there f k at.block e x.place known.filed books plain refl t.is in
         let there : Segment = f.segment x.place.seg.name.log.0 x.place.seg.name.seq in
         let same : x.place ≡ place_read r at = well.its r at x is block fetch in
-        let named : there ≡ texts x.place.seg.name = known.texts_of _ _ lies.some lies.most ∙ ap texts (sym lies.name) in
+        let named : there ≡ texts x.place.seg.name = known.texts_of _ _ lies.some lies.limit ∙ ap texts (sym lies.name) in
         let group : NamesItsGroup texts x.place.seg = lies.group ∙ ap (λ (z : Segment). z.group) named in
-        let log : LogKnown texts packets cuts x.place.seg.name.log = known.logs _ _ lies.some lies.most in
+        let log : LogKnown texts packets cuts x.place.seg.name.log = known.logs _ _ lies.some lies.limit in
         let read : segment ≡ texts r.target.seg.name =
         what_is_read_is_the_text one place texts packets to cuts r.target.seg segment (subst (λ (p : Place). LogKnown texts packets cuts p.seg.name.log) same log)
         (subst (λ (p : Place). NamesItsGroup texts p.seg) same group) h.joined
@@ -88,7 +88,7 @@ module _ (texts : Texts) (packets : List Packet) (to : NodeId) (cuts : Cuts) (f 
             (reads packets to cuts s ask server t segment well.came (came server refl) (ap (λ o. (heard o s.maps.groups ask server t).next) is ∙ done)))
 
     -- a packet that was sent
-    module _ (p : Packet) (among : In p packets) (own : p.to ≡ to) (part most c : ℕ) (n : tokens.Net) (its : n.books ≡ k) where
+    module _ (p : Packet) (among : In p packets) (own : p.to ≡ to) (part limit c : ℕ) (n : tokens.Net) (its : n.books ≡ k) where
       came_so : (m : Body) (ask : ℕ) (t : Answered) → p.body ≡ m → came.Tells ask t m → (server : ℕ) → p.from ≡ node.Server server
           → AnsweredIn packets to ask server t
       came_so m ask t is told server from = record {
@@ -99,7 +99,7 @@ module _ (texts : Texts) (packets : List Packet) (to : NodeId) (cuts : Cuts) (f 
         tells = subst (came.Tells ask t) (sym is) told;
       }
 
-      pub reads_so : (m : Body) → p.body ≡ m → ServingReads part most c n s p m
+      pub reads_so : (m : Body) → p.body ≡ m → ServingReads part limit c n s p m
       reads_so (body.Fragment m) is =
           subst (λ (b : Books). Tells b s p.from m.ask (answered.Held m.fragment)) (sym its)
           (tells p.from m.ask (answered.Held m.fragment) (came_so (body.Fragment m) m.ask (answered.Held m.fragment) is (refl, refl)))
@@ -109,5 +109,5 @@ module _ (texts : Texts) (packets : List Packet) (to : NodeId) (cuts : Cuts) (f 
       reads_so _ is = tt
 
 pub fetches_read_there : OneNameOneText → APlaceNamesOneContent → ClientsReadWhatCame → FetchesReadThere
-fetches_read_there one place reads texts packets to cuts f s p part most c n known books plain well among own =
-    reads_so texts packets to cuts f known n.books books plain one place reads s well p among own part most c n refl p.body refl
+fetches_read_there one place reads texts packets to cuts f s p part limit c n known books plain well among own =
+    reads_so texts packets to cuts f known n.books books plain one place reads s well p among own part limit c n refl p.body refl

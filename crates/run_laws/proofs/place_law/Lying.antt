@@ -21,7 +21,7 @@ use Rattle.xfs_base.specs.declared.segment.SegName.{SegName}
 
 -- a log that files has a number from 1 to 9
 pub one_of_nine : (f : Filed) → IsFiled f → (l q : ℕ) → 0 < q → q ≤ f.head l → (0 < l) × (l ≤ 9)
-one_of_nine f filed l q some most = (least (nat_lt 0 l) refl, greatest (nat_lt 9 l) refl)
+one_of_nine f filed l q some limit = (least (nat_lt 0 l) refl, greatest (nat_lt 9 l) refl)
   where
     least : (t : Bool) → nat_lt 0 l ≡ t → 0 < l
     least true is = grind (arith, nat_tests)
@@ -33,9 +33,9 @@ one_of_nine f filed l q some most = (least (nat_lt 0 l) refl, greatest (nat_lt 9
 
 -- what is filed at a number is what its segment says
 pub rows_there : (f : Filed) (l q : ℕ) → 0 < q → q ≤ f.head l → rows_at f l q ≡ rows_of (f.segment l q)
-rows_there f l q some most =
+rows_there f l q some limit =
     by_test (λ (rows : List (BlockId × Entry)). rows ≡ rows_of (f.segment l q)) (nat_lt 0 q && nat_le q (f.head l)) (rows_of (f.segment l q)) [] (λ _. refl)
-    (λ t. absurd (clash q (f.head l) some most t))
+    (λ t. absurd (clash q (f.head l) some limit t))
   where
     clash : (q h : ℕ) → 0 < q → q ≤ h → (nat_lt 0 q && nat_le q h) ≡ false → ⊥
     clash q h a b t = grind (arith, nat_tests)
@@ -45,7 +45,7 @@ module _ (f : Filed) (k : Books) (b : BlockId) (e : Entry) (place : Place) where
   -- there, and the value of the item that the place names.
   pub record LiesAt (l q : ℕ) : Type 0 where
     pub some : 0 < q
-    pub most : q ≤ f.head l
+    pub limit : q ≤ f.head l
     pub nine : (0 < l) × (l ≤ 9)
     pub says : Contains (rows_of (f.segment l q)) (b, e)
     pub name : place.seg.name ≡ (f.segment l q).name
@@ -56,17 +56,17 @@ module _ (f : Filed) (k : Books) (b : BlockId) (e : Entry) (place : Place) where
 
   module _ (filed : IsFiled f) (books : BooksAre k f) (plain : ArePlain f) (at : e.place ≡ Some place) where
     said_at : (l q : ℕ) → 0 < q → q ≤ f.head l → Contains (rows_of (f.segment l q)) (b, e) → LiesAt l q
-    said_at l q some most has =
-        let nine = one_of_nine f filed l q some most in
+    said_at l q some limit has =
+        let nine = one_of_nine f filed l q some limit in
         let s : Segment = f.segment l q in
-        let its : IsSegment l q s = filed.each l q some most in
-        let is_plain : IsPlain s = plain l q nine.0 nine.1 some most in
+        let its : IsSegment l q s = filed.each l q some limit in
+        let is_plain : IsPlain s = plain l q nine.0 nine.1 some limit in
         let row : SaysSame s (row_in (rows_told s.items) b) e =
         subst (SaysSame s (row_in (rows_told s.items) b)) (deltas_are_said s b e is_plain its.versions has) (rows_are_entries s b is_plain its.versions) in
-        let rows : k.rows l q ≡ rows_told s.items = books.rows l q nine.0 nine.1 some most in
+        let rows : k.rows l q ≡ rows_told s.items = books.rows l q nine.0 nine.1 some limit in
         record {
           some = some;
-          most = most;
+          limit = limit;
           nine = nine;
           says = has;
           name = (row.place place at).name;
@@ -79,7 +79,7 @@ module _ (f : Filed) (k : Books) (b : BlockId) (e : Entry) (place : Place) where
     -- so it is at the log and the number that the place names
     there : (l q : ℕ) → LiesAt l q → LiesAt place.seg.name.log.0 place.seg.name.seq
     there l q h =
-        let its : IsSegment l q (f.segment l q) = filed.each l q h.some h.most in
+        let its : IsSegment l q (f.segment l q) = filed.each l q h.some h.limit in
         let log : l ≡ place.seg.name.log.0 = sym (ap (λ (n : SegName). n.log.0) h.name ∙ its.log) in
         let seq : q ≡ place.seg.name.seq = sym (ap (λ (n : SegName). n.seq) h.name ∙ its.seq) in
         subst (λ x. LiesAt x place.seg.name.seq) log (subst (LiesAt l) seq h)
@@ -91,5 +91,5 @@ module _ (f : Filed) (k : Books) (b : BlockId) (e : Entry) (place : Place) where
         nothing h = absurd (cc)
     lies_there (inl h) =
         there h.log h.seq
-        (by_filed (λ rows. Contains rows (b, e) → LiesAt h.log h.seq) f h.log h.seq (λ some most has. said_at h.log h.seq some most has)
+        (by_filed (λ rows. Contains rows (b, e) → LiesAt h.log h.seq) f h.log h.seq (λ some limit has. said_at h.log h.seq some limit has)
         (λ has. absurd (let less = has.1 in omega arith)) h.says)

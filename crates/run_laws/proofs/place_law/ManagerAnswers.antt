@@ -55,14 +55,14 @@ use Rattle.manager_node.specs.Events.{manager_step}
 use Rattle.node_base.specs.declared.effects.Effect.TheVariants.{Send, Answer, Lose, Does}
 use Rattle.node_base.specs.Effects.{packet_of, packets_of}
 use Rattle.wire_msg.specs.declared.cleaning.Live.{Live}
-use Rattle.xfs_base.specs.Steps.{after}
+use Rattle.xfs_base.specs.Steps.{saying}
 use Rattle.run_laws.specs.place_law.Answers.{AnswersBody, AnswersDo, IfLive, ManagersAnswer}
 use Rattle.run_laws.proofs.place_law.Saying.{AllSay, Says, answers_say, steps_say}
 use Rattle.run_laws.proofs.place_law.SlotAnswers.{asks_say, checks_say, deltas_say, gaves_say, hears_say, recalls_say, regroups_say, reports_say, takes_say, usages_say, wants_say}
 
 -- of each Live that is sent this is so
 module _ (A : Live → Type 0) where
-  says_after : (outs : List Effect) (d : Done) → AllSay A outs → AllSay A d.outs → AllSay A (after outs d).outs
+  says_after : (outs : List Effect) (d : Done) → AllSay A outs → AllSay A d.outs → AllSay A (saying outs d).outs
   says_after outs d first then_so = all_append (Says A) outs d.outs first then_so
 
   -- ---- the log

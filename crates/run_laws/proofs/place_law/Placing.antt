@@ -28,15 +28,15 @@ module _ (f : Filed) (filed : IsFiled f) (plain : ArePlain f) (named : AreNamed 
   abbrev there : Segment
   there = f.segment l q
 
-  module _ (some : 0 < q) (most : q ≤ f.head l) (name : segment.name ≡ there.name) (group : segment.group ≡ there.group) where
+  module _ (some : 0 < q) (limit : q ≤ f.head l) (name : segment.name ≡ there.name) (group : segment.group ≡ there.group) where
     its_plain : IsPlain there
-    its_plain = (let nine = one_of_nine f filed l q some most in plain l q nine.0 nine.1 some most)
+    its_plain = (let nine = one_of_nine f filed l q some limit in plain l q nine.0 nine.1 some limit)
 
     of_row : (c : Check) → CheckLies there c → (row_at f c.block l q).place ≡ Some (place_in segment c.item)
     of_row c h =
-        let e = named l q some most c.block c.item (h.sits its_plain.few) in
+        let e = named l q some limit c.block c.item (h.sits its_plain.few) in
         let is : row_at f c.block l q ≡ e.0 =
-        ap (λ rows. join rows c.block) (rows_there f l q some most) ∙ deltas_are_said there c.block e.0 its_plain (filed.each l q some most).versions e.1 in
+        ap (λ rows. join rows c.block) (rows_there f l q some limit) ∙ deltas_are_said there c.block e.0 its_plain (filed.each l q some limit).versions e.1 in
         ap (λ (x : Entry). x.place) is ∙ e.2 ∙ (λ i. Some (record { seg = record { name = sym name i; group = sym group i }; item = c.item }))
 
     all_of_rows : (checks : List Check) → AllByRecursion (CheckLies there) checks

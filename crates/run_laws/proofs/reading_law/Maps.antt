@@ -63,8 +63,8 @@ can_cut : (servers : ℕ) (group : Group) → well.IsStripe servers group.parity
 can_cut servers group stripe =
     let fits : is_group_size group.parity (length group.members) ≡ true = stripe.size in
     let least : group.parity + 2 ≤ length group.members = grind (arith, nat_tests) in
-    let most : length group.members ≤ 8 = grind (arith, nat_tests) in
-    record { some = stripe.one_or_two.0; few = stripe.one_or_two.1; least = least; most = most }
+    let limit : length group.members ≤ 8 = grind (arith, nat_tests) in
+    record { some = stripe.one_or_two.0; few = stripe.one_or_two.1; least = least; limit = limit }
 
 -- a map whose groups are those of the end, over the same members, is cut as that
 pub map_so : (end : World AnyNode) (m : GroupMapState) → IsGroupMap m

@@ -36,7 +36,7 @@ use Rattle.wire_msg.specs.declared.packet.Do.{Do}
 use Rattle.wire_msg.specs.declared.packet.Do.TheVariants.{Begin, Deliver, Tick}
 use Rattle.xfs_base.proofs.Booleans.{by_test}
 use Rattle.xfs_base.specs.declared.segment.SegName.{SegName}
-use Rattle.xfs_base.specs.Steps.{after, still}
+use Rattle.xfs_base.specs.Steps.{saying, still}
 use Rattle.run_laws.specs.reopening_law.Openings.{ClientsComeBack, ComesBack, comes_to}
 
 -- ---- what is no act of being back
@@ -90,7 +90,7 @@ module _ (c : ℕ) (l : Lasting) (o : Opening) (s : Serving) where
   same_log r t e = cc
 
   progress_comes : (what : Do) (m : Lasting) (capacity : ℕ) (p : Progress) (effects : List Effect) → AllByRecursion IsNoBack effects
-      → comes_to o l.questions what ≡ p → Comes what (after effects (after_opening m capacity p))
+      → comes_to o l.questions what ≡ p → Comes what (saying effects (after_opening m capacity p))
   progress_comes what m capacity (progress.Opening x) effects none is e = absurd cc
   progress_comes what m capacity (progress.Lost seg) effects none is e = absurd cc
   progress_comes what m capacity (progress.Opened r) effects none is e = record {

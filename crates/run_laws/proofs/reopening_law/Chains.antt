@@ -53,13 +53,13 @@ all_so (s ∷ chain) each = (each s (inl refl), all_so chain (λ t is. each t (i
 
 -- ---- numbers
 
-pub short : (top : ℕ) (chain : List Segment) → EndsAt top chain → length chain ≤ suc top
-short top [] ends = omega arith
-short top (s ∷ chain) ends = (let e = ends.0 in omega arith)
+pub short : (highest : ℕ) (chain : List Segment) → EndsAt highest chain → length chain ≤ suc highest
+short highest [] ends = omega arith
+short highest (s ∷ chain) ends = (let e = ends.0 in omega arith)
 
-pub numbers : (top first : ℕ) (chain : List Segment) → EndsAt top chain → first + length chain ≡ suc top → NumberedFrom first chain
-numbers top first [] ends e = tt
-numbers top first (s ∷ chain) ends e = ((let a = ends.0 in omega arith), numbers top (suc first) chain ends.1 (omega arith))
+pub numbers : (highest first : ℕ) (chain : List Segment) → EndsAt highest chain → first + length chain ≡ suc highest → NumberedFrom first chain
+numbers highest first [] ends e = tt
+numbers highest first (s ∷ chain) ends e = ((let a = ends.0 in omega arith), numbers highest (suc first) chain ends.1 (omega arith))
 
 -- ---- flights
 

@@ -43,7 +43,7 @@ use Rattle.wire_msg.specs.declared.packet.Packet as wire
 use Rattle.xfs_base.proofs.Booleans.{by_test}
 use Rattle.xfs_base.specs.declared.node.NodeId.TheVariants.{Client}
 use Rattle.xfs_base.specs.declared.segment.SegName.{SegName}
-use Rattle.xfs_base.specs.Steps.{after, still}
+use Rattle.xfs_base.specs.Steps.{saying, still}
 use Rattle.run_laws.specs.reopening_law.Falls.{FallKnown, FallTells, FallsGoOn, FallsStay, FellWith, IsAside}
 
 -- ---- acts
@@ -162,7 +162,7 @@ module _ (acts : List Act) (c : ℕ) (flight : Option FlightState) where
   -- ---- one that is away
 
   progress_tells : (l : Lasting) (capacity : ℕ) (p : Progress) (effects : List Effect) → AllByRecursion (IsQuiet c) effects → FellWith acts c flight
-      → Tells (after effects (after_opening l capacity p))
+      → Tells (saying effects (after_opening l capacity p))
   progress_tells l capacity (progress.Opening o) effects quiet fell = away_tells (Opening l o) (effects ++ []) fell (quiet_both c effects [] quiet tt)
   progress_tells l capacity (progress.Opened r) effects quiet fell = tt
   progress_tells l capacity (progress.Lost seg) effects quiet fell =
@@ -188,7 +188,7 @@ module _ (acts : List Act) (c : ℕ) (flight : Option FlightState) where
 
   -- it falls
   crash_tells : (s : Serving) (number : ℕ) → s.lasting.number ≡ c → FallKnown acts c flight (Serves s)
-      → Tells (after (falls s ∷ []) (crashed s.lasting number))
+      → Tells (saying (falls s ∷ []) (crashed s.lasting number))
   crash_tells s number its known = record {
     fall = told;
     waits = ap (λ (h : History). h.told c) (history_through acts (acts_of (Client c) (falls s ∷ (crashed s.lasting number).outs)) nothing_yet)

@@ -72,35 +72,35 @@ flights_stay g first n o run goes never k m l same flew =
 -- ---- others
 
 -- how far the owner has come in its boot
-rank : Owner → ℕ
-rank (Opening s) = 0
-rank (Writing chain s) = 1
-rank (Serving s) = 2
-rank Down = 3
+progress : Owner → ℕ
+progress (Opening s) = 0
+progress (Writing chain s) = 1
+progress (Serving s) = 2
+progress Down = 3
 
 -- a boot begins, or the owner comes no less far
 record Comes (n o : Net) : Type 0 where
   inc : n.inc ≤ o.inc
-  far : o.inc ≡ n.inc → rank n.owner ≤ rank o.owner
+  far : o.inc ≡ n.inc → progress n.owner ≤ progress o.owner
 
 module _ (g : Setting) where
   same_comes : (n o : Net) → o.inc ≡ n.inc → o.owner ≡ n.owner → Comes n o
-  same_comes n o inc owner = record { inc = omega arith; far = λ e. (let a = ap rank owner in omega arith) }
+  same_comes n o inc owner = record { inc = omega arith; far = λ e. (let a = ap progress owner in omega arith) }
 
   writing_comes : (n : Net) (chain : List Segment) (d : log.Done) (s : LogState) (x : Option FlightState) → n.owner ≡ Writing chain s
       → Comes n (after_flight g n chain d x)
-  unfolding rank
-  writing_comes n chain d s None is = record { inc = omega arith; far = λ e. (let a = ap rank is in omega arith) }
-  writing_comes n chain d s (Some f) is = record { inc = omega arith; far = λ e. (let a = ap rank is in omega arith) }
+  unfolding progress
+  writing_comes n chain d s None is = record { inc = omega arith; far = λ e. (let a = ap progress is in omega arith) }
+  writing_comes n chain d s (Some f) is = record { inc = omega arith; far = λ e. (let a = ap progress is in omega arith) }
 
   scan_comes : (n : Net) (s : ScanState) (d : scan.Done) (t : Option Told) (m : Option GroupMapState) → n.owner ≡ Opening s → Comes n (after_told g n s d t m)
-  unfolding rank
-  scan_comes n s d None m is = record { inc = omega arith; far = λ e. (let a = ap rank is in omega arith) }
-  scan_comes n s d (Some t) None is = record { inc = omega arith; far = λ e. (let a = ap rank is in omega arith) }
-  scan_comes n s d (Some t) (Some m) is = record { inc = omega arith; far = λ e. (let a = ap rank is in omega arith) }
+  unfolding progress
+  scan_comes n s d None m is = record { inc = omega arith; far = λ e. (let a = ap progress is in omega arith) }
+  scan_comes n s d (Some t) None is = record { inc = omega arith; far = λ e. (let a = ap progress is in omega arith) }
+  scan_comes n s d (Some t) (Some m) is = record { inc = omega arith; far = λ e. (let a = ap progress is in omega arith) }
 
-  crash_far : (x : Owner) → rank x ≤ 3
-  unfolding rank
+  crash_far : (x : Owner) → progress x ≤ 3
+  unfolding progress
   crash_far Down = omega arith
   crash_far (Opening s) = omega arith
   crash_far (Writing chain s) = omega arith
@@ -110,8 +110,8 @@ module _ (g : Setting) where
   later n e = omega arith
 
   comes : (n o : Net) → Happens g n o → Comes n o
-  unfolding rank
-  comes n o (Acts s i is came texts) = record { inc = omega arith; far = λ e. (let a = ap rank is in omega arith) }
+  unfolding progress
+  comes n o (Acts s i is came texts) = record { inc = omega arith; far = λ e. (let a = ap progress is in omega arith) }
   comes n o (Writes chain s i is came texts) = writing_comes n chain (log.transition s i) s (log.transition s i).state.flight is
   comes n o (Opens s i is came can) =
       scan_comes n s (scan.transition s i) (chain_in (scan.transition s i).outs) (scan.transition s i).state.opening.groups is
@@ -134,11 +134,11 @@ module _ (g : Setting) where
       let x = a.inc in let y = b.inc in
       record { inc = omega arith; far = λ e. (let p = a.far (omega arith) in let q = b.far (omega arith) in omega arith) })
 
-  not_serving : (x : Owner) (y : Owner) → rank x ≤ rank y → rank y ≤ rank x → is_serving x ≡ false → is_serving y ≡ false
-  unfolding rank
+  not_serving : (x : Owner) (y : Owner) → progress x ≤ progress y → progress y ≤ progress x → is_serving x ≡ false → is_serving y ≡ false
+  unfolding progress
   not_serving x (Serving s) a b away = absurd (by x a b away)
     where
-      by : (x : Owner) → rank x ≤ 2 → 2 ≤ rank x → is_serving x ≡ false → ⊥
+      by : (x : Owner) → progress x ≤ 2 → 2 ≤ progress x → is_serving x ≡ false → ⊥
       by Down a b away = omega arith
       by (Opening t) a b away = omega arith
       by (Writing chain t) a b away = omega arith
@@ -148,7 +148,7 @@ module _ (g : Setting) where
   not_serving x (Writing chain s) a b away = refl
 
   -- what comes no further than the owner had come
-  none_serve : (n o : Net) (goes : Runs g n o) → o.inc ≡ n.inc → rank o.owner ≤ rank n.owner → is_serving n.owner ≡ false → NeverServes goes
+  none_serve : (n o : Net) (goes : Runs g n o) → o.inc ≡ n.inc → progress o.owner ≤ progress n.owner → is_serving n.owner ≡ false → NeverServes goes
   none_serve n o Begun inc far away = tt
   none_serve n o (On {m = m} run happens) inc far away =
       let a = goes_comes n m run in
@@ -161,4 +161,4 @@ module _ (g : Setting) where
       (not_serving n.owner o.owner (omega arith) far away, none_serve n m run same (omega arith) away)
 
 pub others_leave_flights : OthersLeaveFlights
-others_leave_flights g n o goes inc owner away = none_serve g n o goes inc (let a = ap rank owner in omega arith) away
+others_leave_flights g n o goes inc owner away = none_serve g n o goes inc (let a = ap progress owner in omega arith) away

@@ -80,7 +80,7 @@ module _ (g : Setting) where
   ends_by n o (Bars v l pass) chain s r writes serves = contrary (sym (ap is_serving writes) ∙ ap is_serving serves)
   ends_by n o (Lists v) chain s r writes serves = contrary (sym (ap is_serving writes) ∙ ap is_serving serves)
   ends_by n o (Hears v generation up reached) chain s r writes serves = contrary (sym (ap is_serving writes) ∙ ap is_serving serves)
-  ends_by n o (Raises low top up is below) chain s r writes serves = contrary (sym (ap is_serving writes) ∙ ap is_serving serves)
+  ends_by n o (Raises low highest up is below) chain s r writes serves = contrary (sym (ap is_serving writes) ∙ ap is_serving serves)
   ends_by n o (Publishes m whole) chain s r writes serves = contrary (sym (ap is_serving writes) ∙ ap is_serving serves)
   ends_by n o (Welcomes inc ask news m is least whole) chain s r writes serves = contrary (sym (ap is_serving writes) ∙ ap is_serving serves)
   ends_by n o (Drops lists meta is listed below) chain s r writes serves = contrary (sym (ap is_serving writes) ∙ ap is_serving serves)

@@ -110,7 +110,7 @@ module _ (g : Setting) (n : Net) (so : AreDrops n) where
   happens_so o (Lists v) name (inl e) = absurd cc
   happens_so o (Lists v) name (inr sent) = so name sent
   happens_so o (Hears v generation past reached) name sent = so name sent
-  happens_so o (Raises low top past is below) name sent = so name sent
+  happens_so o (Raises low highest past is below) name sent = so name sent
   happens_so o (Publishes map whole) name (inl e) = absurd cc
   happens_so o (Publishes map whole) name (inr sent) = so name sent
   happens_so o (Welcomes inc ask news map hello low whole) name (inl e) = absurd cc

@@ -167,7 +167,7 @@ module _ (b : Below) (base : Setting) (e : Estate AnyNode) (r : Role) (is_there 
         by : (t : Bool) → nat_lt sp.last count ≡ t → sp.last < count
         by true less = grind (arith, nat_tests)
         by false not =
-            let same : sp.last ≡ count = (let most = sp.before in grind (arith, nat_tests)) in
+            let same : sp.last ≡ count = (let limit = sp.before in grind (arith, nat_tests)) in
             contrary (sym away ∙ subst (λ k. is_serving (small k).owner ≡ true) same sp.serves)
 
     abbrev its : (s : LogState) × ((small sp.last).owner ≡ Serving s)
@@ -193,7 +193,7 @@ module _ (b : Below) (base : Setting) (e : Estate AnyNode) (r : Role) (is_there 
 
     same_seq : d.segment.name.seq ≡ its.0.end.seq
     same_seq =
-        let most = ends.last d.segment.name filed_last in
+        let limit = ends.last d.segment.name filed_last in
         let least = d.newest (newest its.0) (subst (tables.In (newest its.0)) (sym sp.filed) end_filed) in
         omega arith
 
@@ -221,7 +221,7 @@ module _ (b : Below) (base : Setting) (e : Estate AnyNode) (r : Role) (is_there 
           boot = boot_is base e r is_there keeps line p.at ∙ (p.boot ∙ sym (boot_is base e r is_there keeps line count));
           low = p.bound.low;
           reads = low_is base e r is_there keeps line p.at ∙ p.bound.reads;
-          covers = (let most = p.bound.most in let above = d.above in omega arith);
+          covers = (let limit = p.bound.limit in let above = d.above in omega arith);
         }
 
     pub doubtful_restart : DoubtfulRestart e r count
@@ -230,7 +230,7 @@ module _ (b : Below) (base : Setting) (e : Estate AnyNode) (r : Role) (is_there 
       before = before;
       log = its.0;
       served = serves_there base e r is_there keeps line sp.last its.0 its.1;
-      away = λ k after most. away_there base e r is_there keeps line k (sp.away k after most);
+      away = λ k after limit. away_there base e r is_there keeps line k (sp.away k after limit);
       serves = ap is_some (serves_there base e r is_there keeps line (suc count) next.0 next.1);
       some = some;
       segment = d.segment;

@@ -78,7 +78,7 @@ module _ (servers : ℕ) (groups : List GroupSetup) where
       let some = there.0 in
       let within = there.1 in
       let one = ones servers (v - 1) (omega arith) in
-      let most = none v refl there in
+      let limit = none v refl there in
       omega arith
 
   hello_so : (b : BoardState) (from : NodeId) (inc : ℕ) → KeepsGroups b → TellsNone from inc → KeepsGroups (board.hello b from inc).state

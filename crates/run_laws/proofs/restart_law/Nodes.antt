@@ -92,8 +92,8 @@ module _ (e : Estate AnyNode) (name : NodeId) (p : ℕ) (at : place_of (cluster_
 pub placed : (first count number : ℕ) → 0 < number → number ≤ count → place_behind first count number ≡ Some (first + number - 1)
 placed first count number some within = ap (λ t. cond t (Some (first + number - 1)) None) (both number count some within)
   where
-    both : (c most : ℕ) → 0 < c → c ≤ most → (nat_lt 0 c && nat_le c most) ≡ true
-    both c most some within = grind (arith, nat_tests)
+    both : (c limit : ℕ) → 0 < c → c ≤ limit → (nat_lt 0 c && nat_le c limit) ≡ true
+    both c limit some within = grind (arith, nat_tests)
 
 module _ (e : Estate AnyNode) (r : Role) (is_there : IsThere e.script.setup.clients e.script.setup.managers r) (keeps : renews r ≡ false) where
   -- its owner has a place

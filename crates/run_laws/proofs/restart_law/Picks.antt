@@ -50,7 +50,7 @@ record Kept (n o : Net) : Type 0 where
 pub record Bounded (x : Owner) (picked : ℕ) : Type 0 where
   pub low : ℕ
   pub reads : owner_reads_to x ≡ Some low
-  pub most : low ≤ picked
+  pub limit : low ≤ picked
 
 reads_down : (st : Stage) (low : ℕ) → is_reading st ≡ true → scans_to st low ≡ Some low
 reads_down Hails low is = contrary is
@@ -94,7 +94,7 @@ module _ (g : Setting) (n : Net) where
         by false none = inr (record {
           low = d.state.opening.low;
           reads = ap owner_reads_to owner ∙ reads_down d.state.stage d.state.opening.low (sym (ap has_picked owner) ∙ has);
-          most = (let e = new o picked none in omega arith);
+          limit = (let e = new o picked none in omega arith);
         })
 
     by_told : (t : Option Told) (m : Option GroupMapState) → IfSome t (λ x. StartsWith g n.inc d x) → IfSome t (ReadsDown n d.state.opening.low)
@@ -110,7 +110,7 @@ module _ (g : Setting) (n : Net) where
         by false none = inr (record {
           low = (net.first_write g n.inc t.end m).state.end.seq + 1 - length t.segments;
           reads = refl;
-          most =
+          limit =
               (let e = new (after_told g n s d (Some t) (Some m)) refl none in
               let same = ap (λ (x : End). x.seq) (parts_end (new_log g.log n.inc t.end m)) in
               let down = reads.down in omega arith);
@@ -172,7 +172,7 @@ module _ (b : Below) (base : Setting) (e : Estate AnyNode) (r : Role) (keeps : r
     at = p.at;
     within = (let w = p.within in omega arith);
     boot = p.boot ∙ sym inc;
-    bound = record { low = p.bound.low; reads = p.bound.reads; most = (let m = p.bound.most in let s = picked in omega arith) };
+    bound = record { low = p.bound.low; reads = p.bound.reads; limit = (let m = p.bound.limit in let s = picked in omega arith) };
   }
 
   module _ (count : ℕ) (has : has_picked (small (suc count)).owner ≡ true) (before : has_picked (small count).owner ≡ true → Picked count) where

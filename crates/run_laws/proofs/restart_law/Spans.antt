@@ -28,7 +28,7 @@ use Rattle.xfs_base.proofs.Booleans.{contrary}
 use Rattle.xfs_base.specs.declared.fragment.Fragment.{Fragment}
 use Rattle.xfs_base.specs.declared.segment.SegName.{SegName}
 use Rattle.run_laws.specs.restart_law.Below.{Below}
-use Rattle.run_laws.proofs.restart_law.Ranks.{boot_rises, no_span, span_rises, sure_before}
+use Rattle.run_laws.proofs.restart_law.Progress.{boot_rises, no_span, span_rises, sure_before}
 
 -- ---- one event
 
@@ -166,7 +166,7 @@ module _ (b : Below) (base : Setting) (e : Estate AnyNode) (r : Role) (keeps : r
   module _ (count : ℕ) (none : serves_at (suc count) ≡ false) (s : Span count) where
     still_away : (k : ℕ) → s.last < k → k ≤ suc count → serves_at k ≡ false
     still_away k after before =
-        ⊎_elim (λ same. subst (λ n. serves_at n ≡ false) (sym same) none) (λ most. s.away k after most) (last_or_before k count before)
+        ⊎_elim (λ same. subst (λ n. serves_at n ≡ false) (sym same) none) (λ limit. s.away k after limit) (last_or_before k count before)
 
     later_lacked : (name : SegName) (v : ℕ) → Lacked s.last count name v → Lacked s.last (suc count) name v
     later_lacked name v l =

@@ -20,7 +20,7 @@ use Rattle.run_laws.specs.restart_law.Below.{Below}
 use Rattle.run_laws.specs.restart_law.Restarts.{NoDoubtfulRestart}
 use Rattle.run_laws.specs.restart_law.Sure.{UndoubtedRunsAreSure}
 use Rattle.run_laws.proofs.restart_law.Doubting.{doubtful_restart}
-use Rattle.run_laws.proofs.restart_law.Ranks.{NoneEnds, none_ends_away, none_ends_left, none_ends_served, sure_then}
+use Rattle.run_laws.proofs.restart_law.Progress.{NoneEnds, none_ends_away, none_ends_left, none_ends_served, sure_then}
 use Rattle.run_laws.proofs.restart_law.Spans.{serves_straight}
 
 begun_sure : (g : Setting) (a n : Net) (run : Runs g a n) → IsBegun run → IsSureRun run

@@ -38,7 +38,7 @@ use Rattle.xfs_base.specs.declared.news.SlotNews.{SlotNews}
 use Rattle.xfs_base.specs.declared.node.NodeId.{NodeId}
 use Rattle.xfs_base.specs.declared.node.NodeId.TheVariants as node
 use Rattle.xfs_base.specs.declared.segment.End.{End}
-use Rattle.xfs_base.specs.Steps.{still, after, steps}
+use Rattle.xfs_base.specs.Steps.{still, saying, steps}
 use Rattle.run_laws.specs.segment_tie.Cleaners.{versions, TellsVersion}
 use Rattle.run_laws.specs.segment_tie.Segments.{IsCopies, IsMoved, WritesCopies}
 use Rattle.run_laws.proofs.segment_tie.CleanerJobs.{At, Goes, goes_each, job_goes_on, list_came, usage_came, live_came, dead_came, deleted_came, told_came}
@@ -163,7 +163,7 @@ welcome_heard : (e : Emptying) (m : Welcome) → At e → Goes (on_welcome e m)
 unfolding on_welcome
 welcome_heard e m h =
     let d : Done = takes_news e m.news in
-    by_test (λ (x : Done). Goes x) ((m.inc == e.lasting.inc) && fits e.maps m.news) (after d.outs (welcomes d.state m)) (still e)
+    by_test (λ (x : Done). Goes x) ((m.inc == e.lasting.inc) && fits e.maps m.news) (saying d.outs (welcomes d.state m)) (still e)
     (λ t. job_welcomed d.state m (news_taken e m.news h)) (λ t. h)
 
 -- ---- packets and time

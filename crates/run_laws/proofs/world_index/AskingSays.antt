@@ -32,7 +32,7 @@ use Rattle.xfs_base.specs.declared.block.BlockId.{BlockId}
 use Rattle.xfs_base.specs.declared.entry.Place.{Place}
 use Rattle.xfs_base.specs.declared.segment.SegName.{SegName}
 use Rattle.xfs_base.specs.declared.segment.SegRef.{SegRef}
-use Rattle.xfs_base.specs.Steps.{after, steps}
+use Rattle.xfs_base.specs.Steps.{saying, steps}
 
 -- ---- what asks nothing
 
@@ -96,13 +96,13 @@ drawn_silent book q es silent h = drawn_fewer book (book_with book es) (no_more 
 pub quiet : (book : Book) (e : Emptying) (es : List Effect) → AllSilent es → At book e → Kept book (record { state = e; outs = es })
 quiet book e es silent h = so_silent book e.lasting.questions e.job es silent h
 
-pub went_on : (book : Book) (d e : Done) → Kept book d → ((b : Book) → At b d.state → Kept b e) → Kept book (after d.outs e)
+pub went_on : (book : Book) (d e : Done) → Kept book d → ((b : Book) → At b d.state → Kept b e) → Kept book (saying d.outs e)
 went_on book d e one next =
     so_fewer (book_with (book_with book d.outs) e.outs) (book_with book (d.outs ++ e.outs))
     (both_books book d.outs e.outs) e.state.lasting.questions e.state.job
     (next (book_with book d.outs) one)
 
-pub went_behind : (book : Book) (es : List Effect) (d : Done) → AllSilent es → Kept book d → Kept book (after es d)
+pub went_behind : (book : Book) (es : List Effect) (d : Done) → AllSilent es → Kept book d → Kept book (saying es d)
 went_behind book es d silent h =
     so_fewer (book_with book d.outs) (book_with book (es ++ d.outs))
     (λ ask name is. elim (both_books book es d.outs ask name is) [ inl x ↦ inl (no_more book es silent ask name x) | inr y ↦ inr y ])

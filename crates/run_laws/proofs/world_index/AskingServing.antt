@@ -57,7 +57,7 @@ use Rattle.xfs_base.specs.declared.news.SlotNews.{SlotNews}
 use Rattle.xfs_base.specs.declared.node.NodeId.{NodeId}
 use Rattle.xfs_base.specs.declared.node.NodeId.TheVariants as node
 use Rattle.xfs_base.specs.declared.segment.End.{End}
-use Rattle.xfs_base.specs.Steps.{after, still, steps}
+use Rattle.xfs_base.specs.Steps.{saying, still, steps}
 
 -- ---- what it tells of its log
 
@@ -187,7 +187,7 @@ takes_news_so book e news h =
     let newer = is_older e.maps news in
     let a = job_regrouped (record e { maps = taken e.maps news }) newer news.groups in
     let b = hears_slots a.state news.slots in
-    went_on book a (after b.outs (log_regrouped b.state newer news.groups)) (job_regrouped_so book (record e { maps = taken e.maps news }) newer news.groups h)
+    went_on book a (saying b.outs (log_regrouped b.state newer news.groups)) (job_regrouped_so book (record e { maps = taken e.maps news }) newer news.groups h)
     (λ k x. went_on k b (log_regrouped b.state newer news.groups) (hears_slots_so k a.state news.slots x)
     (λ l y. log_regrouped_so l b.state newer news.groups y))
 
@@ -210,7 +210,7 @@ welcome_so : (book : Book) (e : Emptying) (w : Welcome) → At book e → Kept b
 unfolding on_welcome
 welcome_so book e w h =
     let d = takes_news e w.news in
-    by_test (Kept book) ((w.inc == e.lasting.inc) && fits e.maps w.news) (after d.outs (welcomes d.state w)) (still e)
+    by_test (Kept book) ((w.inc == e.lasting.inc) && fits e.maps w.news) (saying d.outs (welcomes d.state w)) (still e)
     (λ _. went_on book d (welcomes d.state w) (takes_news_so book e w.news h) (λ k x. welcomes_so k d.state w x)) (λ _. quiet book e [] tt h)
 
 -- ---- its reading
@@ -312,7 +312,7 @@ time_so book e h =
     let j = cleans e input.Tick in
     let l = writes j.state log_in.Tick in
     let last : Done = record { state = l.state; outs = pushes_all l.state.promised.managers l.state.feed } in
-    went_on book j (after l.outs last) (cleans_so book e input.Tick h)
+    went_on book j (saying l.outs last) (cleans_so book e input.Tick h)
     (λ k x. went_on k l last (writes_so k j.state log_in.Tick x)
     (λ b y. quiet b l.state (pushes_all l.state.promised.managers l.state.feed) (pushes_silent l.state.promised.managers l.state.feed) y))
 

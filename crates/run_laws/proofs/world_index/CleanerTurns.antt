@@ -130,7 +130,7 @@ module _ (clients_stay : ClientsStay) (managers_stay : ManagersStay) (k : Cluste
       registry = registry_frame part s.net go.next go.epoch go.horizon go.parts s.registry st.registry;
       clients = λ c pos less. clients_stay part texts s.net go.next c (s.client c).phase (go.others c (λ same. let few = st.few in absurd (omega arith)))
           (st.clients c pos less);
-      managers = λ j pos most. managers_stay part texts s.net go.next (s.manager j).phase
+      managers = λ j pos limit. managers_stay part texts s.net go.next (s.manager j).phase
           (record {
             slots = λ e held. ap (λ (f : ℕ → _). f e) go.slots;
             stay = grown.stay;
@@ -140,7 +140,7 @@ module _ (clients_stay : ClientsStay) (managers_stay : ManagersStay) (k : Cluste
             horizon = λ e held none. ap (λ (f : ℕ → List ℕ). f e) go.horizon;
             parts = λ e held none. ap (λ (f : ℕ → List SegRef). f e) go.parts;
           })
-          (st.managers j pos most);
+          (st.managers j pos limit);
       cleaner = go.agrees;
       asks = cleaner_fewer (book_with (WasAsked s.asked) outs) (WasAsked asked_now) asked_then state asks;
       few = st.few;

@@ -107,7 +107,7 @@ module _ (clients_stay : ClientsStay) (managers_stay : ManagersStay) (cleaner_st
     registry = registry_frame part s.net go.next epoch horizon parts s.registry st.registry;
     clients = put_each (λ d (x : ClientNode). 0 < d → d < members k → ClientAgrees part texts go.next d x.phase) s.client c after_node (λ _ _. go.agrees)
         (λ d other pos less. clients_stay part texts s.net go.next d (s.client d).phase (go.others d other) (st.clients d pos less));
-    managers = λ j pos most. managers_stay part texts s.net go.next (s.manager j).phase
+    managers = λ j pos limit. managers_stay part texts s.net go.next (s.manager j).phase
         (record {
           slots = λ e held. ap (λ (f : ℕ → _). f e) slots;
           stay = grown.stay;
@@ -117,7 +117,7 @@ module _ (clients_stay : ClientsStay) (managers_stay : ManagersStay) (cleaner_st
           horizon = λ e held none. ap (λ (f : ℕ → List ℕ). f e) horizon;
           parts = λ e held none. ap (λ (f : ℕ → List SegRef). f e) parts;
         })
-        (st.managers j pos most);
+        (st.managers j pos limit);
     cleaner = cleaner_stays part texts s.net go.next s.cleaner.phase
         (record {
           log = go.others 9 not_cleaner;

@@ -27,7 +27,7 @@ up_to a b c h g = omega arith
 
 -- a list by log has nothing of other logs
 of_some : (xs : List ℕ) (l : ℕ) → 0 < of_log xs l → (0 < l) × (l ≤ 9)
-of_some xs = by_log (λ l. 0 < of_log xs l → (0 < l) × (l ≤ 9)) (λ l some most _. (some, most))
+of_some xs = by_log (λ l. 0 < of_log xs l → (0 < l) × (l ≤ 9)) (λ l some limit _. (some, limit))
     (λ l out some. let none = of_log_out xs l out in absurd (omega arith))
 
 module _ (part : ℕ) (n m : Net) (g : Grown n m) where
@@ -56,7 +56,7 @@ module _ (part : ℕ) (n m : Net) (g : Grown n m) where
         let a = was.1 in
         let b = was.0 in
         let e = k.filed was.0 (omega arith) in
-        let most = e.filed in
+        let limit = e.filed in
         record {
           filed = up_to end.seq (n.filed.head l) (m.filed.head l) e.filed (g.filed.head l);
           named = e.named ∙ sym (ap (λ (s : Segment). s.name.pass) (g.filed.segment l end.seq (omega arith) e.filed));
@@ -70,7 +70,7 @@ module _ (part : ℕ) (n m : Net) (g : Grown n m) where
           let a = was.1 in
           let b = was.0 in
           let e = k.filed was.0 (omega arith) in
-          let most = e.filed in
+          let limit = e.filed in
           ap (λ (s : Segment). s.prior.pass) (g.filed.segment l (suc q) (omega arith) (omega arith)) ∙ k.linked was.0 q (omega arith) less ∙ sym
           (ap (λ (s : Segment). s.name.pass) (g.filed.segment l q (omega arith) (omega arith)));
       short = k.short;

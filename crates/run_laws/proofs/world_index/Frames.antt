@@ -42,7 +42,7 @@ module _ (part : ℕ) (n m : Net) (epoch : m.epoch ≡ n.epoch) (horizon : m.hor
     later_horizon = λ e low. ap (λ (h : ℕ → List ℕ). h e) horizon ∙ (k.later_horizon e (subst (λ x. x ≤ e) epoch low) ∙ sym horizon_now);
     later_parts = λ e low. ap (λ (h : ℕ → List SegRef). h e) parts ∙ (k.later_parts e (subst (λ x. x ≤ e) epoch low) ∙ sym parts_now);
     is = record {
-      from_one = λ l some most. subst (λ (h : List ℕ). 0 < of_log h l) (sym horizon_now) (k.is.from_one l some most);
+      from_one = λ l some limit. subst (λ (h : List ℕ). 0 < of_log h l) (sym horizon_now) (k.is.from_one l some limit);
       short = λ l. subst (λ (h : List ℕ). of_log h l ≤ u32_end) (sym horizon_now) (k.is.short l);
     };
   }
@@ -84,7 +84,7 @@ grown_itself k part texts first nodes sent RegistrySound s st = record {
   deleted = λ name is. is;
   epoch = let e = s.net.epoch in omega arith;
   from_one = (steady_always part _ first s.net st.runs).from_one;
-  rises = λ e l some most. omega arith;
+  rises = λ e l some limit. omega arith;
   horizon = λ e none low. refl;
   parts = λ e none low. refl;
 }

@@ -44,9 +44,9 @@ still_stays n m epoch horizon k = record {
     some = subst (λ e. 0 < e) (sym epoch) k.some;
     later = λ e low. subst (λ (h : ℕ → List ℕ). h e ≡ h m.epoch) (sym horizon)
         (subst (λ x. n.horizon e ≡ n.horizon x) (sym epoch) (k.later e (subst (λ x. x ≤ e) epoch low)));
-    from_one = λ e l some most. subst (λ (h : ℕ → List ℕ). 0 < of_log (h e) l) (sym horizon) (k.from_one e l some most);
+    from_one = λ e l some limit. subst (λ (h : ℕ → List ℕ). 0 < of_log (h e) l) (sym horizon) (k.from_one e l some limit);
   };
-  rises = λ e l some most. subst (λ (h : ℕ → List ℕ). of_log (n.horizon e) l ≤ of_log (h e) l) (sym horizon) (omega arith);
+  rises = λ e l some limit. subst (λ (h : ℕ → List ℕ). of_log (n.horizon e) l ≤ of_log (h e) l) (sym horizon) (omega arith);
 }
 
 -- a checkpoint that is kept
@@ -64,11 +64,11 @@ module _ (n : Net) (horizon : List ℕ) (above : (l : ℕ) → 0 < l → l ≤ 9
   late e low = second_of (nat_lt e n.epoch) (n.horizon e) horizon (no_less e n.epoch low)
 
   kept_rises : (e l : ℕ) → 0 < l → l ≤ 9 → of_log (n.horizon e) l ≤ of_log (kept e) l
-  kept_rises e l some most = by (nat_lt e n.epoch) refl
+  kept_rises e l some limit = by (nat_lt e n.epoch) refl
     where
       by : (t : Bool) → nat_lt e n.epoch ≡ t → of_log (n.horizon e) l ≤ of_log (cond t (n.horizon e) horizon) l
       by true is = omega arith
-      by false is = subst (λ (h : List ℕ). of_log h l ≤ of_log horizon l) (sym (k.later e (not_past e n.epoch is))) (above l some most)
+      by false is = subst (λ (h : List ℕ). of_log h l ≤ of_log horizon l) (sym (k.later e (not_past e n.epoch is))) (above l some limit)
 
   keeps_stays : (m : Net) → m.epoch ≡ n.epoch → m.horizon ≡ kept → Stays n m
   keeps_stays m epoch is = record {
@@ -76,10 +76,10 @@ module _ (n : Net) (horizon : List ℕ) (above : (l : ℕ) → 0 < l → l ≤ 9
       some = subst (λ e. 0 < e) (sym epoch) k.some;
       later = λ e low. subst (λ (h : ℕ → List ℕ). h e ≡ h m.epoch) (sym is)
           (late e (subst (λ x. x ≤ e) epoch low) ∙ sym (late m.epoch (subst (λ x. n.epoch ≤ x) (sym epoch) (omega arith))));
-      from_one = λ e l some most. subst (λ (h : ℕ → List ℕ). 0 < of_log (h e) l) (sym is)
-          (less_than 0 (of_log (n.horizon e) l) (of_log (kept e) l) (k.from_one e l some most) (kept_rises e l some most));
+      from_one = λ e l some limit. subst (λ (h : ℕ → List ℕ). 0 < of_log (h e) l) (sym is)
+          (less_than 0 (of_log (n.horizon e) l) (of_log (kept e) l) (k.from_one e l some limit) (kept_rises e l some limit));
     };
-    rises = λ e l some most. subst (λ (h : ℕ → List ℕ). of_log (n.horizon e) l ≤ of_log (h e) l) (sym is) (kept_rises e l some most);
+    rises = λ e l some limit. subst (λ (h : ℕ → List ℕ). of_log (n.horizon e) l ≤ of_log (h e) l) (sym is) (kept_rises e l some limit);
   }
 
 -- the registry's next epoch
@@ -89,9 +89,9 @@ moves_stays n m epoch horizon k = record {
     some = subst (λ e. 0 < e) (sym epoch) (omega arith);
     later = λ e low. subst (λ (h : ℕ → List ℕ). h e ≡ h m.epoch) (sym horizon)
         (k.later e (let a = epoch in omega arith) ∙ sym (k.later m.epoch (let a = epoch in omega arith)));
-    from_one = λ e l some most. subst (λ (h : ℕ → List ℕ). 0 < of_log (h e) l) (sym horizon) (k.from_one e l some most);
+    from_one = λ e l some limit. subst (λ (h : ℕ → List ℕ). 0 < of_log (h e) l) (sym horizon) (k.from_one e l some limit);
   };
-  rises = λ e l some most. subst (λ (h : ℕ → List ℕ). of_log (n.horizon e) l ≤ of_log (h e) l) (sym horizon) (omega arith);
+  rises = λ e l some limit. subst (λ (h : ℕ → List ℕ). of_log (n.horizon e) l ≤ of_log (h e) l) (sym horizon) (omega arith);
 }
 
 module _ (part : ℕ) (holds : SegRef → Rows) where
@@ -118,21 +118,21 @@ module _ (part : ℕ) (holds : SegRef → Rows) where
   happens_stays n m (JobTakes i other) k = still_stays n m refl refl k
 
   pub runs_stay : (n m : Net) → Runs part holds n m → Steady n → Stays n m
-  runs_stay n m Begun k = record { steady = k; rises = λ e l some most. omega arith }
+  runs_stay n m Begun k = record { steady = k; rises = λ e l some limit. omega arith }
   runs_stay n m (On {m = x} run last) k =
       let first = runs_stay n x run k in
       let second = happens_stays x m last first.steady in
       record {
         steady = second.steady;
-        rises = λ e l some most. up_to (of_log (n.horizon e) l) (of_log (x.horizon e) l) (of_log (m.horizon e) l) (first.rises e l some most)
-            (second.rises e l some most);
+        rises = λ e l some limit. up_to (of_log (n.horizon e) l) (of_log (x.horizon e) l) (of_log (m.horizon e) l) (first.rises e l some limit)
+            (second.rises e l some limit);
       }
 
   opens_steady : (any : ℕ → ℕ → Segment) → Steady (opening any)
   opens_steady any = record {
     some = omega arith;
     later = λ e low. refl;
-    from_one = λ e l some most. let a = of_log_in ones l some most in let b = one_at (l - 1) (omega arith) in omega arith;
+    from_one = λ e l some limit. let a = of_log_in ones l some limit in let b = one_at (l - 1) (omega arith) in omega arith;
   }
 
   pub steady_always : (any : ℕ → ℕ → Segment) (n : Net) → Runs part holds (opening any) n → Steady n
@@ -147,8 +147,8 @@ module _ (part : ℕ) (holds : SegRef → Rows) where
       let i = g.views b moment.inside in
       let known = found part holds b (Sound part holds b n i.state) (CheckpointDone e horizon parts) n.sent i.sent sent in
       by_log (λ l. of_log horizon l ≤ u32_end)
-      (λ l some most.
-      let a = known.1 l some most in
+      (λ l some limit.
+      let a = known.1 l some limit in
       let f = (index_in_bounds_always i.state i.reached).applied_filed e l in
       let h = i.tells.head l in
       let s = heads l in

@@ -39,7 +39,7 @@ use Rattle.xfs_base.specs.declared.segment.SegRef.{SegRef}
 -- where the same is filed, each log has filed the same, and more is filed
 module _ (n m : Net) (filed : m.filed ≡ n.filed) where
   pub same_log : (l : ℕ) → IsSameLog l n.filed m.filed
-  same_log l = subst (λ (f : Filed). IsSameLog l n.filed f) (sym filed) (record { head = refl; segment = λ q some most. refl })
+  same_log l = subst (λ (f : Filed). IsSameLog l n.filed f) (sym filed) (record { head = refl; segment = λ q some limit. refl })
 
   pub same_more : IsMore n.filed m.filed
   same_more = subst (λ (f : Filed). IsMore n.filed f) (sym filed) (more_itself n.filed)
@@ -47,7 +47,7 @@ module _ (n m : Net) (filed : m.filed ≡ n.filed) where
 module _ (clients_stay : ClientsStay) (managers_stay : ManagersStay) (cleaner_stays : CleanerStays) (k : Cluster) (part : ℕ) (texts : Texts)
     (first : ℕ → ℕ → Segment) (RegistrySound : RegistryNode → Type 0) (nodes : List AnyNode) (sent : List Packet) (s : Scene)
     (st : Stands k part texts first nodes sent RegistrySound s)
-    (j p clock : ℕ) (some : 0 < j) (most : j ≤ k.managers) (at : place_of k (Manager j) ≡ Some p) (is : slice_get nodes p ≡ Some (any.Manager (s.manager j)))
+    (j p clock : ℕ) (some : 0 < j) (limit : j ≤ k.managers) (at : place_of k (Manager j) ≡ Some p) (is : slice_get nodes p ≡ Some (any.Manager (s.manager j)))
     (what : Do) (number : (lasting_of (s.manager j).phase).number ≡ j)
     (apart : HeldApart part j s.net k.managers (holder part s) (s.manager j).phase what) (w : Went_to)
     (go : ManagerGoes part texts s.asked j s.net (s.manager j).phase what w) where

@@ -32,7 +32,7 @@ module _ (k : Cluster) (nodes : List AnyNode) (s : Scene) (st : Placed k nodes s
     -- servers, where another node has had its turn
     other_servers : ((v : ℕ) → Server v ≡ name → ⊥) → (v : ℕ) → 0 < v → v ≤ k.servers
         → (server : ServerNode) × (node_in (with_node x) (place_of k (Server v)) ≡ Some (any.Server server))
-    other_servers differs v some most = let h = st.servers v some most in (h.0, others (Server v) (differs v) ∙ h.1)
+    other_servers differs v some limit = let h = st.servers v some limit in (h.0, others (Server v) (differs v) ∙ h.1)
 
   pub place_client : (c : ℕ) → place_of k (Client c) ≡ Some p → slice_get nodes p ≡ Some (any.Client (s.client c)) → (x : ClientNode) (net : Net)
       → Placed k (with_node (any.Client x)) (record s { net = net; client = put s.client c x })
@@ -41,7 +41,7 @@ module _ (k : Cluster) (nodes : List AnyNode) (s : Scene) (st : Placed k nodes s
         s.client c x
         (λ _ _. here k nodes (Client c) p at (any.Client x) (any.Client (s.client c)) is)
         (λ d other some less. others (Client c) at (any.Client x) (Client d) (λ same. other (ap number same)) ∙ st.clients d some less);
-    managers = λ j some most. others (Client c) at (any.Client x) (Manager j) (λ same. absurd (cc)) ∙ st.managers j some most;
+    managers = λ j some limit. others (Client c) at (any.Client x) (Manager j) (λ same. absurd (cc)) ∙ st.managers j some limit;
     servers = other_servers (Client c) at (any.Client x) (λ v same. absurd (cc));
     cleaner = others (Client c) at (any.Client x) Cleaner (λ same. absurd (cc)) ∙ st.cleaner;
     registry = others (Client c) at (any.Client x) Registry (λ same. absurd (cc)) ∙ st.registry;
@@ -54,7 +54,7 @@ module _ (k : Cluster) (nodes : List AnyNode) (s : Scene) (st : Placed k nodes s
     managers = put_each (λ d (y : ManagerNode). 0 < d → d ≤ k.managers → node_in (with_node (any.Manager x)) (place_of k (Manager d)) ≡ Some (any.Manager y))
         s.manager j x
         (λ _ _. here k nodes (Manager j) p at (any.Manager x) (any.Manager (s.manager j)) is)
-        (λ d other some most. others (Manager j) at (any.Manager x) (Manager d) (λ same. other (ap number same)) ∙ st.managers d some most);
+        (λ d other some limit. others (Manager j) at (any.Manager x) (Manager d) (λ same. other (ap number same)) ∙ st.managers d some limit);
     servers = other_servers (Manager j) at (any.Manager x) (λ v same. absurd (cc));
     cleaner = others (Manager j) at (any.Manager x) Cleaner (λ same. absurd (cc)) ∙ st.cleaner;
     registry = others (Manager j) at (any.Manager x) Registry (λ same. absurd (cc)) ∙ st.registry;
@@ -64,14 +64,14 @@ module _ (k : Cluster) (nodes : List AnyNode) (s : Scene) (st : Placed k nodes s
       → Placed k (with_node (any.Server x)) s
   place_server v at server is x = record {
     clients = λ c some less. others (Server v) at (any.Server x) (Client c) (λ same. absurd (cc)) ∙ st.clients c some less;
-    managers = λ j some most. others (Server v) at (any.Server x) (Manager j) (λ same. absurd (cc)) ∙ st.managers j some most;
-    servers = λ m some most. ⊎_elim
+    managers = λ j some limit. others (Server v) at (any.Server x) (Manager j) (λ same. absurd (cc)) ∙ st.managers j some limit;
+    servers = λ m some limit. ⊎_elim
         (λ same. (
           x,
           subst (λ (y : ℕ). node_in (with_node (any.Server x)) (place_of k (Server y)) ≡ Some (any.Server x)) (sym same)
               (here k nodes (Server v) p at (any.Server x) (any.Server server) is),
         ))
-        (λ other. (let h = st.servers m some most in (h.0, others (Server v) at (any.Server x) (Server m) (λ same. other (ap number same)) ∙ h.1)))
+        (λ other. (let h = st.servers m some limit in (h.0, others (Server v) at (any.Server x) (Server m) (λ same. other (ap number same)) ∙ h.1)))
         (equal_or_not m v);
     cleaner = others (Server v) at (any.Server x) Cleaner (λ same. absurd (cc)) ∙ st.cleaner;
     registry = others (Server v) at (any.Server x) Registry (λ same. absurd (cc)) ∙ st.registry;
@@ -81,7 +81,7 @@ module _ (k : Cluster) (nodes : List AnyNode) (s : Scene) (st : Placed k nodes s
       → Placed k (with_node (any.Cleaner x)) (record s { net = net; asked = asked; cleaner = x })
   place_cleaner at is x net asked = record {
     clients = λ c some less. others Cleaner at (any.Cleaner x) (Client c) (λ same. absurd (cc)) ∙ st.clients c some less;
-    managers = λ j some most. others Cleaner at (any.Cleaner x) (Manager j) (λ same. absurd (cc)) ∙ st.managers j some most;
+    managers = λ j some limit. others Cleaner at (any.Cleaner x) (Manager j) (λ same. absurd (cc)) ∙ st.managers j some limit;
     servers = other_servers Cleaner at (any.Cleaner x) (λ v same. absurd (cc));
     cleaner = here k nodes Cleaner p at (any.Cleaner x) (any.Cleaner s.cleaner) is;
     registry = others Cleaner at (any.Cleaner x) Registry (λ same. absurd (cc)) ∙ st.registry;
@@ -91,7 +91,7 @@ module _ (k : Cluster) (nodes : List AnyNode) (s : Scene) (st : Placed k nodes s
       → Placed k (with_node (any.Registry x)) (record s { net = net; registry = x })
   place_registry at is x net = record {
     clients = λ c some less. others Registry at (any.Registry x) (Client c) (λ same. absurd (cc)) ∙ st.clients c some less;
-    managers = λ j some most. others Registry at (any.Registry x) (Manager j) (λ same. absurd (cc)) ∙ st.managers j some most;
+    managers = λ j some limit. others Registry at (any.Registry x) (Manager j) (λ same. absurd (cc)) ∙ st.managers j some limit;
     servers = other_servers Registry at (any.Registry x) (λ v same. absurd (cc));
     cleaner = others Registry at (any.Registry x) Cleaner (λ same. absurd (cc)) ∙ st.cleaner;
     registry = here k nodes Registry p at (any.Registry x) (any.Registry s.registry) is;

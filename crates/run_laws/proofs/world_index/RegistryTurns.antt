@@ -126,7 +126,7 @@ module _ (clients_stay : ClientsStay) (managers_stay : ManagersStay) (cleaner_st
       sound = board.board.sound;
       registry = go.agrees;
       clients = λ c pos less. clients_stay part texts s.net go.next c (s.client c).phase (same_log s.net go.next go.filed c) (st.clients c pos less);
-      managers = λ j pos most. managers_stay part texts s.net go.next (s.manager j).phase (passes j pos most) (st.managers j pos most);
+      managers = λ j pos limit. managers_stay part texts s.net go.next (s.manager j).phase (passes j pos limit) (st.managers j pos limit);
       cleaner = cleaner_stays part texts s.net go.next s.cleaner.phase
           (record { log = same_log s.net go.next go.filed 9; promised = go.promised; job = go.job; sent = said_on }) st.cleaner;
       asks = st.asks;
@@ -138,14 +138,14 @@ module _ (clients_stay : ClientsStay) (managers_stay : ManagersStay) (cleaner_st
     }
       where
         passes : (j : ℕ) → 0 < j → j ≤ k.managers → Passes s.net go.next (slot_in part (s.manager j).phase)
-        passes j pos most = record {
+        passes j pos limit = record {
           slots = λ e held. ap (λ (f : ℕ → _). f e) go.slots;
           stay = grown.stay;
           sent = said_on;
           filed = grown.filed;
           epoch = go.epoch;
-          horizon = λ e held none. go.horizon e none (held_begun part texts s.net (s.manager j).phase (st.managers j pos most) e held none);
-          parts = λ e held none. go.parts e none (held_begun part texts s.net (s.manager j).phase (st.managers j pos most) e held none);
+          horizon = λ e held none. go.horizon e none (held_begun part texts s.net (s.manager j).phase (st.managers j pos limit) e held none);
+          parts = λ e held none. go.parts e none (held_begun part texts s.net (s.manager j).phase (st.managers j pos limit) e held none);
         }
 
   -- ---- a server

@@ -44,12 +44,12 @@ module _ (client_starts : FirstClientAgrees) (manager_starts : FirstManagerAgree
   placed : Placed k (first_nodes any_start script k) start_scene
   placed = record {
     clients = λ c some less. starting.first_stands script (Client c) (0 + c - 1) (starting.place_there 0 script.setup.clients c some (omega arith));
-    managers = λ j some most. starting.first_stands script (Manager j) (script.setup.clients + j - 1)
-        (starting.place_there script.setup.clients script.setup.managers j some most);
-    servers = λ n some most. (
+    managers = λ j some limit. starting.first_stands script (Manager j) (script.setup.clients + j - 1)
+        (starting.place_there script.setup.clients script.setup.managers j some limit);
+    servers = λ n some limit. (
       _,
       starting.first_stands script (Server n) (script.setup.clients + script.setup.managers + n - 1)
-          (starting.place_there (script.setup.clients + script.setup.managers) script.setup.servers n some most),
+          (starting.place_there (script.setup.clients + script.setup.managers) script.setup.servers n some limit),
     );
     cleaner = starting.first_stands script Cleaner (script.setup.clients + script.setup.managers + script.setup.servers) refl;
     registry = starting.first_stands script Registry (script.setup.clients + script.setup.managers + script.setup.servers + 1) refl;
@@ -62,11 +62,11 @@ module _ (client_starts : FirstClientAgrees) (manager_starts : FirstManagerAgree
     sound = (begins part of_eight script.setup (items_of script.lines Registry)).sound;
     registry = registry_starts part first script.setup (items_of script.lines Registry) of_eight;
     clients = λ c some less. client_starts part texts first c script.setup (items_of script.lines (Client c));
-    managers = λ j some most. manager_starts part texts first j script.setup (items_of script.lines (Manager j)) of_eight;
+    managers = λ j some limit. manager_starts part texts first j script.setup (items_of script.lines (Manager j)) of_eight;
     cleaner = cleaner_starts part texts first script.setup (items_of script.lines Cleaner) of_eight;
     asks = record { drawn = λ room ask name was. absurd was.among; job = tt };
     few = omega arith;
-    texts_of = λ l q some most. absurd (omega arith);
+    texts_of = λ l q some limit. absurd (omega arith);
     heads = λ l. omega arith;
     facts = λ q h. absurd h;
   }

@@ -71,7 +71,7 @@ some_manager x y same = ap (λ o. manager_of (unwrap_or o (any.Manager x))) same
 module _ (logs : Bool) (k : Cluster) (part : ℕ) (nodes : List AnyNode) (sent : List Packet) (acts : List Act) (t : tokens.Scene)
     (st : tokens.Stands logs k part nodes sent acts RegistrySound t) where
   same_manager : (s : Scene) → Placed k nodes s → (j : ℕ) → 0 < j → j ≤ k.managers → s.manager j ≡ t.manager j
-  same_manager s placed j some most = some_manager (s.manager j) (t.manager j) (sym (placed.managers j some most) ∙ st.placed.managers j some most)
+  same_manager s placed j some limit = some_manager (s.manager j) (t.manager j) (sym (placed.managers j some limit) ∙ st.placed.managers j some limit)
 
   -- ---- who was given an epoch
 
@@ -82,8 +82,8 @@ module _ (logs : Bool) (k : Cluster) (part : ℕ) (nodes : List AnyNode) (sent :
     pub since : t.since e ≤ (lasting_of (t.manager j).phase).inc
 
   held_given : (j e : ℕ) → 0 < j → j ≤ k.managers → HeldAt (slot_in part (t.manager j).phase) e → GivenTo j e
-  held_given j e some most held =
-      let m = st.managers j some most in
+  held_given j e some limit held =
+      let m = st.managers j some limit in
       let own = m.owns e held in
       record {
         lord = own.0;
@@ -92,39 +92,39 @@ module _ (logs : Bool) (k : Cluster) (part : ℕ) (nodes : List AnyNode) (sent :
       }
 
   told_given : (j e : ℕ) → 0 < j → j ≤ k.managers → t.lord e ≡ j → e ≤ tokens.epoch_now k part t → 0 < e → GivenTo j e
-  told_given j e some most lord within pos =
+  told_given j e some limit lord within pos =
       let high = subst (λ x. t.since e ≤ tokens.life_told t x) lord (st.before e pos within) in
-      let told = (st.managers j some most).told in
+      let told = (st.managers j some limit).told in
       record { lord = lord; within = within; since = (let a = high in let b = told in omega arith) }
 
   named_in : (j e : ℕ) → 0 < j → j ≤ k.managers → (slots : List SlotNews) → tokens.AllTold k part t slots → NamedIn part j e slots → GivenTo j e
-  named_in j e some most slots all names =
+  named_in j e some limit slots all names =
       let n = all.each names.0 names.1 names.2 in
-      told_given j e some most (ap t.lord (sym names.3) ∙ (n.given ∙ names.4)) (subst (λ x. x ≤ tokens.epoch_now k part t) names.3 n.within)
+      told_given j e some limit (ap t.lord (sym names.3) ∙ (n.given ∙ names.4)) (subst (λ x. x ≤ tokens.epoch_now k part t) names.3 n.within)
       (subst (λ x. 0 < x) names.3 n.some)
 
   named_by : (j e : ℕ) → 0 < j → j ≤ k.managers → (from to : NodeId) (m : Body) → tokens.SentBy k part t from to m → NamedBy part j e m → GivenTo j e
-  named_by j e some most from to (body.MapNews m) h names = named_in j e some most m.slots (news_told k part t from to m h) names
-  named_by j e some most from to (body.Welcome m) h names = named_in j e some most m.news.slots (welcome_told k part t from to m h).0 names
-  named_by j e some most from to _ h names = absurd names
+  named_by j e some limit from to (body.MapNews m) h names = named_in j e some limit m.slots (news_told k part t from to m h) names
+  named_by j e some limit from to (body.Welcome m) h names = named_in j e some limit m.news.slots (welcome_told k part t from to m h).0 names
+  named_by j e some limit from to _ h names = absurd names
 
   module _ (what : Do) (fact : (q : Packet) → what ≡ Deliver q → tokens.Fact k part t q) where
     named_given : (j e : ℕ) → 0 < j → j ≤ k.managers → Names part j e what → GivenTo j e
-    named_given j e some most names = by what refl names
+    named_given j e some limit names = by what refl names
       where
         by : (x : Do) → what ≡ x → Names part j e x → GivenTo j e
         by Begin is named = absurd named
         by Tick is named = absurd named
-        by (Deliver q) is named = named_by j e some most q.from q.to q.body (fact q is) named
+        by (Deliver q) is named = named_by j e some limit q.from q.to q.body (fact q is) named
 
     -- no other manager holds an epoch that this one holds, or that news give to it
     pub apart : (n : Net) (s : Scene) → Placed k nodes s → (j : ℕ) → 0 < j → j ≤ k.managers
         → HeldApart part j n k.managers (holder part s) (s.manager j).phase what
-    apart n s placed j some most d e pos less other held =
+    apart n s placed j some limit d e pos less other held =
         let its = (held_given d e pos less (subst (λ (x : ManagerNode). HeldAt (slot_in part x.phase) e) (same_manager s placed d pos less) held)).lord in (
           λ mine. other (sym its
-              ∙ (held_given j e some most (subst (λ (x : ManagerNode). HeldAt (slot_in part x.phase) e) (same_manager s placed j some most) mine)).lord),
-          λ named. other (sym its ∙ (named_given j e some most named).lord),
+              ∙ (held_given j e some limit (subst (λ (x : ManagerNode). HeldAt (slot_in part x.phase) e) (same_manager s placed j some limit) mine)).lord),
+          λ named. other (sym its ∙ (named_given j e some limit named).lord),
         )
 
   -- ---- news
@@ -147,12 +147,12 @@ module _ (logs : Bool) (k : Cluster) (part : ℕ) (nodes : List AnyNode) (sent :
 
     pub serving_free : (j : ℕ) → 0 < j → j ≤ k.managers → (v : _) → (t.manager j).phase ≡ Serves v → (slots : List SlotNews)
         → tokens.AllTold k part t slots → NewsFree part j n (epoch_in part (Serves v)) slots
-    serving_free j some most v is slots all news among same mine less =
+    serving_free j some limit v is slots all news among same mine less =
         let told = all.each news among same in
         none_where news.epoch (λ z there. clash told (past_of j (Serves v) is news told mine z there))
       where
         sees : tokens.ManagerSees k part t j (Serves v)
-        sees = subst (tokens.ManagerSees k part t j) is (st.managers j some most)
+        sees = subst (tokens.ManagerSees k part t j) is (st.managers j some limit)
 
         clash : tokens.NewsTold k part t news → tokens.PastAt k part (Serves v) (t.since news.epoch) news.epoch → ⊥
         clash told past = ⊎_elim
@@ -196,11 +196,11 @@ module _ (logs : Bool) (k : Cluster) (part : ℕ) (nodes later_nodes : List AnyN
   }
     where
       its : HeldAt (holder part s c.manager) e → GivenTo logs k part nodes sent acts t st c.manager e
-      its held = held_given logs k part nodes sent acts t st c.manager e c.some c.most
-          (subst (λ (x : ManagerNode). HeldAt (slot_in part x.phase) e) (same_manager logs k part nodes sent acts t st s placed c.manager c.some c.most) held)
+      its held = held_given logs k part nodes sent acts t st c.manager e c.some c.limit
+          (subst (λ (x : ManagerNode). HeldAt (slot_in part x.phase) e) (same_manager logs k part nodes sent acts t st s placed c.manager c.some c.limit) held)
 
       given : Names part c.manager e what → GivenTo logs k part nodes sent acts t st c.manager e
-      given named = named_given logs k part nodes sent acts t st what fact c.manager e c.some c.most named
+      given named = named_given logs k part nodes sent acts t st what fact c.manager e c.some c.limit named
 
   pub entered_stays : (name : NodeId) → ((e : ℕ) (z : SlotState) → v.net.slots e ≡ Some z → s.net.slots e ≡ None → Came k part s v name what e)
       → Entered k part t s.net → Entered k part u v.net
@@ -220,7 +220,7 @@ module _ (logs : Bool) (k : Cluster) (part : ℕ) (nodes later_nodes : List AnyN
       by None none =
           let c = came e z there none in
           let g = came_given name e c in
-          let same = same_manager logs k part later_nodes later_sent later_acts u later v then_placed c.manager c.some c.most in
+          let same = same_manager logs k part later_nodes later_sent later_acts u later v then_placed c.manager c.some c.limit in
           on g.within
           (subst (λ x. tokens.PastAt k part (u.manager x).phase (t.since e) e) (sym g.lord)
           (past_by (u.manager c.manager).phase (t.since e) e (subst (λ (x : ManagerNode). is_serving x.phase ≡ true) same c.serves)
@@ -231,13 +231,13 @@ module _ (logs : Bool) (k : Cluster) (part : ℕ) (nodes later_nodes : List AnyN
 
 module _ (logs : Bool) (k : Cluster) (part : ℕ) (nodes : List AnyNode) (sent : List Packet) (acts : List Act) (t : tokens.Scene)
     (st : tokens.Stands logs k part nodes sent acts RegistrySound t) (s : Scene) (placed : Placed k nodes s) (entered : Entered k part t s.net) where
-  module _ (j : ℕ) (some : 0 < j) (most : j ≤ k.managers) where
+  module _ (j : ℕ) (some : 0 < j) (limit : j ≤ k.managers) where
     serving_given : (v : Serving) → (t.manager j).phase ≡ Serves v → (from to : NodeId) (m : Body) → tokens.SentBy k part t from to m
         → ServingFree part j s.net v.lasting.inc (epoch_in part (Serves v)) m
     serving_given v is from to (body.MapNews m) h =
-        serving_free logs k part nodes sent acts t st s.net entered j some most v is m.slots (news_told k part t from to m h)
+        serving_free logs k part nodes sent acts t st s.net entered j some limit v is m.slots (news_told k part t from to m h)
     serving_given v is from to (body.Welcome m) h =
-        λ life. serving_free logs k part nodes sent acts t st s.net entered j some most v is m.news.slots (welcome_told k part t from to m h).0
+        λ life. serving_free logs k part nodes sent acts t st s.net entered j some limit v is m.news.slots (welcome_told k part t from to m h).0
     serving_given v is from to _ h = tt
 
     waiting_given : (kept : Kept) (hello : ℕ) → (t.manager j).phase ≡ Waiting kept hello → (from to : NodeId) (m : Body) → tokens.SentBy k part t from to m
@@ -259,12 +259,12 @@ module _ (logs : Bool) (k : Cluster) (part : ℕ) (nodes : List AnyNode) (sent :
     manager_given : (what : Do) → ((q : Packet) → what ≡ Deliver q → tokens.Fact k part t q × (q.to ≡ Manager j))
         → ManagerGiven part j s.net k.managers (holder part s) (s.manager j).phase what
     manager_given what fact =
-        let same = same_manager logs k part nodes sent acts t st s placed j some most in
+        let same = same_manager logs k part nodes sent acts t st s placed j some limit in
         record {
           number = subst (λ (x : ManagerNode). (lasting_of x.phase).number ≡ j) (sym same)
-              (manager_number (tokens.members k part) part j t.net (t.manager j).phase (st.managers j some most).agrees);
+              (manager_number (tokens.members k part) part j t.net (t.manager j).phase (st.managers j some limit).agrees);
           free = do_given (s.manager j).phase what (ap (λ (x : ManagerNode). x.phase) (sym same)) fact;
-          apart = apart logs k part nodes sent acts t st what (λ q is. (fact q is).0) s.net s placed j some most;
+          apart = apart logs k part nodes sent acts t st what (λ q is. (fact q is).0) s.net s placed j some limit;
         }
 
   -- so it is of each node of the world
@@ -273,10 +273,10 @@ module _ (logs : Bool) (k : Cluster) (part : ℕ) (nodes : List AnyNode) (sent :
   tokens_give (Manager j) what node there fact = by (place_of k (Manager j)) refl
     where
       at_node : 0 < j → j ≤ k.managers → TokensGive part k.managers (holder part s) s.net (Manager j) node what
-      at_node some most =
+      at_node some limit =
           subst (λ x. TokensGive part k.managers (holder part s) s.net (Manager j) x what)
-          (one_node (any.Manager (s.manager j)) node (sym (placed.managers j some most) ∙ there))
-          (manager_given j some most what fact)
+          (one_node (any.Manager (s.manager j)) node (sym (placed.managers j some limit) ∙ there))
+          (manager_given j some limit what fact)
 
       by : (o : Option ℕ) → place_of k (Manager j) ≡ o → TokensGive part k.managers (holder part s) s.net (Manager j) node what
       by None at = (let clash : None ≡ Some node = sym (ap (node_in nodes) at) ∙ there in absurd (cc))

@@ -114,10 +114,10 @@ module _ (laws : NodeLaws) (k : Cluster) (part : ℕ) (of_eight : part < 8) (tex
         b = behind 0 k.clients c place at
 
         less : c < members k
-        less = (let most = b.within in omega arith)
+        less = (let limit = b.within in omega arith)
 
         of_nine : c < 9
-        of_nine = (let few = st.few in let most = b.within in omega arith)
+        of_nine = (let few = st.few in let limit = b.within in omega arith)
 
         here : slice_get nodes place ≡ Some (any.Client (s.client c))
         here = sym (ap (node_in nodes) at) ∙ st.placed.clients c b.some less
@@ -176,7 +176,7 @@ module _ (laws : NodeLaws) (k : Cluster) (part : ℕ) (of_eight : part < 8) (tex
                   (λ known. record {
                     manager = j;
                     some = b.some;
-                    most = b.within;
+                    limit = b.within;
                     is = refl;
                     serves = subst (λ (x : ManagerNode). is_serving x.phase ≡ true) (sym (after_here go)) known.0;
                     knows = subst (λ (x : ManagerNode). e ≤ epoch_in part x.phase) (sym (after_here go)) known.1;

@@ -49,23 +49,23 @@ number Registry = 0
 -- ---- Welcomes
 
 -- what a Welcome to another client owes is owed as before
-pub welcome_frame : (part most c : ℕ) (n m : Net) → m.tokens c ≡ n.tokens c → (p : Phase) (w : Welcome) → WelcomeRises part most c n p w
-    → WelcomeRises part most c m p w
-welcome_frame part most c n m tokens (Down l) w h = tt
-welcome_frame part most c n m tokens (Opening l o) w h =
+pub welcome_frame : (part limit c : ℕ) (n m : Net) → m.tokens c ≡ n.tokens c → (p : Phase) (w : Welcome) → WelcomeRises part limit c n p w
+    → WelcomeRises part limit c m p w
+welcome_frame part limit c n m tokens (Down l) w h = tt
+welcome_frame part limit c n m tokens (Opening l o) w h =
     λ same i d less of_part. subst (λ (t : TokensState). epoch_of t.epochs part ≤ (get_or w.news.slots i d).epoch) (sym tokens) (h same i d less of_part)
-welcome_frame part most c n m tokens (Serves s) w h = tt
+welcome_frame part limit c n m tokens (Serves s) w h = tt
 
-module _ (logs : Bool) (part most c : ℕ) (n : Net) where
+module _ (logs : Bool) (part limit c : ℕ) (n : Net) where
   -- a Welcome of a life that a client had says nothing of one that begins, and what it owes to an opening stands still with that
-  pub welcome_after : (p p' : Phase) (members : ℕ) (outs : List Effect) (go : ClientGoes logs members part most c n p p' outs) (w : Welcome)
-      → w.inc ≤ (lasting_of p).inc → WelcomeRises part most c n p w → WelcomeRises part most c go.next p' w
+  pub welcome_after : (p p' : Phase) (members : ℕ) (outs : List Effect) (go : ClientGoes logs members part limit c n p p' outs) (w : Welcome)
+      → w.inc ≤ (lasting_of p).inc → WelcomeRises part limit c n p w → WelcomeRises part limit c go.next p' w
   welcome_after p (Down next) members outs go w life h = tt
   welcome_after p (Serves s) members outs go w life h = tt
   welcome_after (Down l) (Opening next o) members outs go w life h = λ same. (let later = go.begins in absurd (omega arith))
   welcome_after (Serves s) (Opening next o) members outs go w life h = λ same. (let later = go.begins in absurd (omega arith))
   welcome_after (Opening l q) (Opening next o) members outs go w life h =
-      λ same. (let later = go.later in let now : w.inc ≡ l.inc = omega arith in welcome_frame part most c n go.next (go.stands tt) (Opening l q) w h now)
+      λ same. (let later = go.later in let now : w.inc ≡ l.inc = omega arith in welcome_frame part limit c n go.next (go.stands tt) (Opening l q) w h now)
 
 pub numbered : (logs : Bool) (part c : ℕ) (n : Net) (p : Phase) → ClientAgrees logs part c n p → (lasting_of p).number ≡ c
 numbered logs part c n (Down l) h = h.number
@@ -108,8 +108,8 @@ module _ (logs : Bool) (k : Cluster) (part : ℕ) (RegistrySound : RegistryNode 
     reigns = λ j. omega arith;
     epochs = omega arith;
     told = λ j. omega arith;
-    given = λ e most. (refl, refl);
-    new = λ e less most. absurd (omega arith);
+    given = λ e limit. (refl, refl);
+    new = λ e less limit. absurd (omega arith);
     welcomes = λ d m. put_each
         (λ d (x : ClientNode). m.inc ≤ life_of_client s d → WelcomeRises part (epoch_now k part s) d s.net (s.client d).phase m
         → WelcomeRises part (epoch_now k part s) d go.next x.phase m)
@@ -126,15 +126,15 @@ module _ (logs : Bool) (k : Cluster) (part : ℕ) (RegistrySound : RegistryNode 
         (λ d (x : ClientNode). 0 < d → d < members k part → node_in nodes_now (place_of k (Client d)) ≡ Some (any.Client x)) s.client c after_node
         (λ _ _. here k nodes (Client c) p at (any.Client after_node) (any.Client (s.client c)) is)
         (λ d other pos less. there k nodes (Client c) p at (any.Client after_node) (Client d) (λ same. other (ap number same)) ∙ st.placed.clients d pos less);
-    managers = λ j pos most. there k nodes (Client c) p at (any.Client after_node) (Manager j) (λ same. absurd (cc)) ∙ st.placed.managers j pos most;
-    servers = λ n pos most.
-        (let h = st.placed.servers n pos most in (h.0, there k nodes (Client c) p at (any.Client after_node) (Server n) (λ same. absurd (cc)) ∙ h.1));
+    managers = λ j pos limit. there k nodes (Client c) p at (any.Client after_node) (Manager j) (λ same. absurd (cc)) ∙ st.placed.managers j pos limit;
+    servers = λ n pos limit.
+        (let h = st.placed.servers n pos limit in (h.0, there k nodes (Client c) p at (any.Client after_node) (Server n) (λ same. absurd (cc)) ∙ h.1));
     cleaner = there k nodes (Client c) p at (any.Client after_node) Cleaner (λ same. absurd (cc)) ∙ st.placed.cleaner;
     registry = there k nodes (Client c) p at (any.Client after_node) Registry (λ same. absurd (cc)) ∙ st.placed.registry;
   }
 
   sees : (j : ℕ) → 0 < j → j ≤ k.managers → ManagerSees k part client_scene j (s.manager j).phase
-  sees j pos most = (let h = st.managers j pos most in record {
+  sees j pos limit = (let h = st.managers j pos limit in record {
     agrees = manager_on (members k part) part s.net go.next go.grows (let same = promised in omega arith) j (s.manager j).phase (λ e held. go.slots e) h.agrees;
     within = h.within;
     owns = h.owns;

@@ -89,40 +89,40 @@ module _ (part : ℕ) (xs ys : List NetPacket) (grows : (x : NetPacket) → In x
   client_stays c life later less to (body.CkptDone m) h = absurd h
   client_stays c life later less to (body.CkptAck m) h = absurd h
 
-  pub manager_stays : (most more life later : ℕ) → most ≤ more → life ≤ later → (to : NodeId) (m : Body) → ManagerSends part xs most life to m
+  pub manager_stays : (limit more life later : ℕ) → limit ≤ more → life ≤ later → (to : NodeId) (m : Body) → ManagerSends part xs limit life to m
       → ManagerSends part ys more later to m
-  manager_stays most more life later rise less to (body.Want m) h = absurd h
-  manager_stays most more life later rise less to (body.Grant m) h = grant_stays to m h
-  manager_stays most more life later rise less to (body.Forward m) h = forward_stays to m h
-  manager_stays most more life later rise less to (body.Supply m) h = absurd h
-  manager_stays most more life later rise less to (body.Recall m) h = recall_stays to m h
-  manager_stays most more life later rise less to (body.Gave m) h = absurd h
-  manager_stays most more life later rise less to (body.Gone m) h = tt
-  manager_stays most more life later rise less to (body.Deltas m) h = absurd h
-  manager_stays most more life later rise less to (body.DeltaAck m) h = tt
-  manager_stays most more life later rise less to (body.Poll m) h = λ same. up_to m.epoch most more (h same) rise
-  manager_stays most more life later rise less to (body.Report m) h = absurd h
-  manager_stays most more life later rise less to (body.Store m) h = tt
-  manager_stays most more life later rise less to (body.Stored m) h = absurd h
-  manager_stays most more life later rise less to (body.Fetch m) h = tt
-  manager_stays most more life later rise less to (body.Fragment m) h = absurd h
-  manager_stays most more life later rise less to (body.Missing m) h = absurd h
-  manager_stays most more life later rise less to (body.Fence m) h = absurd h
-  manager_stays most more life later rise less to (body.Fenced m) h = absurd h
-  manager_stays most more life later rise less to (body.List m) h = absurd h
-  manager_stays most more life later rise less to (body.Listed m) h = absurd h
-  manager_stays most more life later rise less to (body.Delete m) h = absurd h
-  manager_stays most more life later rise less to (body.Deleted m) h = absurd h
-  manager_stays most more life later rise less to (body.Check m) h = absurd h
-  manager_stays most more life later rise less to (body.Live m) h = tt
-  manager_stays most more life later rise less to (body.Dead m) h = tt
-  manager_stays most more life later rise less to (body.UsageAsk m) h = absurd h
-  manager_stays most more life later rise less to (body.Usage m) h = tt
-  manager_stays most more life later rise less to (body.Hello m) h = up_to m.inc life later h less
-  manager_stays most more life later rise less to (body.Welcome m) h = absurd h
-  manager_stays most more life later rise less to (body.MapNews m) h = absurd h
-  manager_stays most more life later rise less to (body.CkptDone m) h = tt
-  manager_stays most more life later rise less to (body.CkptAck m) h = absurd h
+  manager_stays limit more life later rise less to (body.Want m) h = absurd h
+  manager_stays limit more life later rise less to (body.Grant m) h = grant_stays to m h
+  manager_stays limit more life later rise less to (body.Forward m) h = forward_stays to m h
+  manager_stays limit more life later rise less to (body.Supply m) h = absurd h
+  manager_stays limit more life later rise less to (body.Recall m) h = recall_stays to m h
+  manager_stays limit more life later rise less to (body.Gave m) h = absurd h
+  manager_stays limit more life later rise less to (body.Gone m) h = tt
+  manager_stays limit more life later rise less to (body.Deltas m) h = absurd h
+  manager_stays limit more life later rise less to (body.DeltaAck m) h = tt
+  manager_stays limit more life later rise less to (body.Poll m) h = λ same. up_to m.epoch limit more (h same) rise
+  manager_stays limit more life later rise less to (body.Report m) h = absurd h
+  manager_stays limit more life later rise less to (body.Store m) h = tt
+  manager_stays limit more life later rise less to (body.Stored m) h = absurd h
+  manager_stays limit more life later rise less to (body.Fetch m) h = tt
+  manager_stays limit more life later rise less to (body.Fragment m) h = absurd h
+  manager_stays limit more life later rise less to (body.Missing m) h = absurd h
+  manager_stays limit more life later rise less to (body.Fence m) h = absurd h
+  manager_stays limit more life later rise less to (body.Fenced m) h = absurd h
+  manager_stays limit more life later rise less to (body.List m) h = absurd h
+  manager_stays limit more life later rise less to (body.Listed m) h = absurd h
+  manager_stays limit more life later rise less to (body.Delete m) h = absurd h
+  manager_stays limit more life later rise less to (body.Deleted m) h = absurd h
+  manager_stays limit more life later rise less to (body.Check m) h = absurd h
+  manager_stays limit more life later rise less to (body.Live m) h = tt
+  manager_stays limit more life later rise less to (body.Dead m) h = tt
+  manager_stays limit more life later rise less to (body.UsageAsk m) h = absurd h
+  manager_stays limit more life later rise less to (body.Usage m) h = tt
+  manager_stays limit more life later rise less to (body.Hello m) h = up_to m.inc life later h less
+  manager_stays limit more life later rise less to (body.Welcome m) h = absurd h
+  manager_stays limit more life later rise less to (body.MapNews m) h = absurd h
+  manager_stays limit more life later rise less to (body.CkptDone m) h = tt
+  manager_stays limit more life later rise less to (body.CkptAck m) h = absurd h
 
 pub cleaner_stays : (part promised more life later : ℕ) → promised ≤ more → life ≤ later → (m : Body) → CleanerSends part promised life m
     → CleanerSends part more later m
@@ -171,19 +171,19 @@ module _ (k : Cluster) (part : ℕ) where
     manager_welcomed_stays j m all h = record {
       life = up_to _ _ _ h.life (g.told j);
       version = h.version;
-      later = λ news is same e less most lord. by_age news is same e less most lord (nat_le e (epoch_now k part s)) refl;
+      later = λ news is same e less limit lord. by_age news is same e less limit lord (nat_le e (epoch_now k part s)) refl;
       own = λ news is same mine. (let now = g.given news.epoch (all.each news is same).within in subst (λ x. m.inc ≤ x) (sym now.1) (h.own news is same mine));
     }
       where
         by_age : (news : SlotNews) → In news m.news.slots → news.slot ≡ part → (e : ℕ) → news.epoch < e → e ≤ epoch_now k part t → t.lord e ≡ j → (old : Bool)
             → nat_le e (epoch_now k part s) ≡ old → m.inc ≤ t.since e
-        by_age news is same e less most lord true h_ =
+        by_age news is same e less limit lord true h_ =
             let within = le_of e (epoch_now k part s) h_ in
             let now = g.given e within in
             subst (λ x. m.inc ≤ x) (sym now.1) (h.later news is same e less within (sym now.0 ∙ lord))
-        by_age news is same e less most lord false h_ =
+        by_age news is same e less limit lord false h_ =
             up_to m.inc (life_told t j) (t.since e) (up_to _ _ _ h.life (g.told j))
-            (subst (λ x. life_told t x ≤ t.since e) lord (g.new e (lt_of e (epoch_now k part s) h_) most))
+            (subst (λ x. life_told t x ≤ t.since e) lord (g.new e (lt_of e (epoch_now k part s) h_) limit))
 
     welcomed_stays : (to : NodeId) (m : Welcome) → AllTold k part s m.news.slots → Welcomed k part s to m → Welcomed k part t to m
     welcomed_stays (Client c) m all h = client_welcomed_stays c m h

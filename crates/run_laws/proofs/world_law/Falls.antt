@@ -143,7 +143,7 @@ module _ (members : ℕ) where
         dirty = subst (λ (f : ℕ → TokensState). is_dirty (held_of (f c).blocks b) ≡ true) (sym tokens) w.dirty;
       }
 
-  module _ (logs : Bool) (part most c : ℕ) (some : 0 < c) (within : c < members) (n : Net) (node : NodeId) (acts : List Act) (st : FallsStand n acts) where
+  module _ (logs : Bool) (part limit c : ℕ) (some : 0 < c) (within : c < members) (n : Net) (node : NodeId) (acts : List Act) (st : FallsStand n acts) where
     is_down : (m : Net) (q : Phase) → IsAway q → ClientAgrees logs part c m q → m.up c ≡ false
     is_down m (Down l) away agrees = agrees.up
     is_down m (Opening l o) away agrees = agrees.up
@@ -154,7 +154,7 @@ module _ (members : ℕ) where
       abbrev Own : Phase → ℕ → BlockId → Type 0
       Own q d x = (d ≡ c) × IsAway q × (is_dirty (held_of (n.tokens c).blocks x) ≡ true)
 
-      right : (p q : Phase) (outs : List Effect) (go : ClientGoes logs members part most c n p q outs) → All (Falls (Own q)) (acts_of node outs)
+      right : (p q : Phase) (outs : List Effect) (go : ClientGoes logs members part limit c n p q outs) → All (Falls (Own q)) (acts_of node outs)
       right p q outs go =
           acts_are (Falls (Own q)) (ClientDid part c n go.next.sent (lasting_of q).inc q) node (λ item answer. tt) (λ seg. tt) each outs
           (recursion_from_All (ClientDid part c n go.next.sent (lasting_of q).inc q) outs go.does)
@@ -164,7 +164,7 @@ module _ (members : ℕ) where
           each _ h = tt
 
       -- one that was down and of which a fall waits still doesn't serve
-      still_away : (p q : Phase) (outs : List Effect) (go : ClientGoes logs members part most c n p q outs) → ClientAgrees logs part c n p → n.up c ≡ false
+      still_away : (p q : Phase) (outs : List Effect) (go : ClientGoes logs members part limit c n p q outs) → ClientAgrees logs part c n p → n.up c ≡ false
           → (h : History) → Names b ((history_after (acts_of node outs) h).told c) → IsAway q
       still_away p (Down l) outs go agrees down h names = tt
       still_away p (Opening l o) outs go agrees down h names = tt
@@ -175,7 +175,7 @@ module _ (members : ℕ) where
           (right (Opening l o) (Serves s) outs go) (λ f. f.1) names)
 
     -- what a client does keeps falls standing so
-    pub client_falls : (p q : Phase) (outs : List Effect) (go : ClientGoes logs members part most c n p q outs) → ClientAgrees logs part c n p
+    pub client_falls : (p q : Phase) (outs : List Effect) (go : ClientGoes logs members part limit c n p q outs) → ClientAgrees logs part c n p
         → FallsStand go.next (acts ++ acts_of node outs)
     client_falls p q outs go agrees b d names =
         ⊎_elim

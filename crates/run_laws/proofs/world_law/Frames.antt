@@ -81,17 +81,17 @@ module _ (logs : Bool) (part c : ℕ) (n m : Net) (tokens : m.tokens c ≡ n.tok
     logged = premise_by logs (log_on n.books m.books c log s.tokens s.log) h.logged;
   }
 
-promises_more : (part most more : ℕ) → most ≤ more → (p : ClientPhase) → PromisesWithin part most p → PromisesWithin part more p
-promises_more part most more rise (clients.Down l) h = tt
-promises_more part most more rise (clients.Opening l o) h = ⊎_elim (λ first. inl first) (λ within. inr (omega arith)) h
-promises_more part most more rise (clients.Serving s) h = tt
+promises_more : (part limit more : ℕ) → limit ≤ more → (p : ClientPhase) → PromisesWithin part limit p → PromisesWithin part more p
+promises_more part limit more rise (clients.Down l) h = tt
+promises_more part limit more rise (clients.Opening l o) h = ⊎_elim (λ first. inl first) (λ within. inr (omega arith)) h
+promises_more part limit more rise (clients.Serving s) h = tt
 
-pub stands_frame : (part most more c : ℕ) (n m : Net) → most ≤ more → m.tokens c ≡ n.tokens c → (p : ClientPhase) → ClientStands part most c n p
+pub stands_frame : (part limit more c : ℕ) (n m : Net) → limit ≤ more → m.tokens c ≡ n.tokens c → (p : ClientPhase) → ClientStands part limit c n p
     → ClientStands part more c m p
-stands_frame part most more c n m rise tokens p h = record {
+stands_frame part limit more c n m rise tokens p h = record {
   asks = h.asks;
   within = subst (λ (t : TokensState). epoch_of t.epochs part ≤ more) (sym tokens) (up_to _ _ _ h.within rise);
-  promises = promises_more part most more rise p h.promises;
+  promises = promises_more part limit more rise p h.promises;
 }
   where
     up_to : (a b c : ℕ) → a ≤ b → b ≤ c → a ≤ c

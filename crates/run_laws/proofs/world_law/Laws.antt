@@ -78,7 +78,7 @@ module _ (laws : NodeLaws) (k : Cluster) (part : ℕ) (of_eight : part < 8) wher
       by_place None at = (let clash : None ≡ Some t = sym (ap (λ o. tokens_of (node_in nodes o)) at) ∙ is in absurd (cc))
       by_place (Some p) at =
           let b = behind 0 k.clients c p at in
-          let less : c < members k part = (let most = b.within in omega arith) in
+          let less : c < members k part = (let limit = b.within in omega arith) in
           by_phase (s.client c).phase (st.clients c b.some less).0 (record { some = b.some; within = less })
           (sym (ap tokens_of (st.placed.clients c b.some less)) ∙ is)
 

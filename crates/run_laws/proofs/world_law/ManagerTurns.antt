@@ -45,10 +45,10 @@ use Rattle.xfs_base.specs.declared.news.SlotNews.{SlotNews}
 use Rattle.xfs_base.specs.declared.node.NodeId.{NodeId}
 use Rattle.xfs_base.specs.declared.node.NodeId.TheVariants.{Client, Manager, Server, Cleaner, Registry}
 
-pub manager_number : (most part j : ℕ) (n : Net) (p : Phase) → ManagerAgrees most part n j p → (lasting_of p).number ≡ j
-manager_number most part j n (Down kept) h = h
-manager_number most part j n (Waiting kept hello) h = h
-manager_number most part j n (Serves s) h = h.number
+pub manager_number : (limit part j : ℕ) (n : Net) (p : Phase) → ManagerAgrees limit part n j p → (lasting_of p).number ≡ j
+manager_number limit part j n (Down kept) h = h
+manager_number limit part j n (Waiting kept hello) h = h
+manager_number limit part j n (Serves s) h = h.number
 
 -- one that holds the slot serves
 held_serves : (part : ℕ) (p : Phase) (e : ℕ) → HeldAt (slot_in part p) e → is_serving p ≡ true
@@ -100,7 +100,7 @@ one_of false = inr refl
 module _ (logs : Bool) (k : Cluster) (part : ℕ) (RegistrySound : RegistryNode → Type 0) (nodes : List AnyNode) (sent : List Packet) (done : List Act)
     (s : Scene)
     (st : Stands logs k part nodes sent done RegistrySound s)
-    (j p clock : ℕ) (some : 0 < j) (most : j ≤ k.managers) (at : place_of k (Manager j) ≡ Some p) (is : slice_get nodes p ≡ Some (any.Manager (s.manager j)))
+    (j p clock : ℕ) (some : 0 < j) (limit : j ≤ k.managers) (at : place_of k (Manager j) ≡ Some p) (is : slice_get nodes p ≡ Some (any.Manager (s.manager j)))
     (what : Do) (fact : (q : Packet) → what ≡ Deliver q → Fact k part s q × (q.to ≡ Manager j)) (w : Went_to)
     (go : ManagerGoes logs (members k part) part (epoch_now k part s) j s.net (s.manager j).phase what w) where
   abbrev after_node : ManagerNode
@@ -157,7 +157,7 @@ module _ (logs : Bool) (k : Cluster) (part : ℕ) (RegistrySound : RegistryNode 
   before = (s.manager j).phase
 
   sees : ManagerSees k part s j before
-  sees = st.managers j some most
+  sees = st.managers j some limit
 
   -- ---- what it holds was given to it
 
@@ -339,7 +339,7 @@ module _ (logs : Bool) (k : Cluster) (part : ℕ) (RegistrySound : RegistryNode 
           let now = go.within in (
             omega arith,
             subst (λ x. 0 < x) (sym o.0) some,
-            subst (λ x. x ≤ k.managers) (sym o.0) most,
+            subst (λ x. x ≤ k.managers) (sym o.0) limit,
             subst (λ x. PastAt k part (put s.manager j after_node x).phase (s.since e) e) (sym o.0)
                 (subst (λ (x : ManagerNode). PastAt k part x.phase (s.since e) e) (sym (put_here s.manager j after_node))
                 (inr (o.1 ∙ sym (same_life g.1), been_of k part w.state e g.1 g.2))),
@@ -358,7 +358,7 @@ module _ (logs : Bool) (k : Cluster) (part : ℕ) (RegistrySound : RegistryNode 
           → (0 < x) × (x ≤ k.managers) × ManagerSends part go.next.sent (epoch_now k part s) (life_of_manager manager_scene x) to m
       fact_of x same to m h =
           subst (λ y. (0 < y) × (y ≤ k.managers) × ManagerSends part go.next.sent (epoch_now k part s) (life_of_manager manager_scene y) to m) (sym same)
-          (some, most, subst (λ l. ManagerSends part go.next.sent (epoch_now k part s) l to m) (sym life_here) h)
+          (some, limit, subst (λ l. ManagerSends part go.next.sent (epoch_now k part s) l to m) (sym life_here) h)
 
   abbrev acts_now : List Act
   acts_now = done ++ acts_of (Manager (lasting_of before).number) w.outs

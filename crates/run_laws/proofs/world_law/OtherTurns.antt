@@ -68,7 +68,7 @@ module _ (logs : Bool) (k : Cluster) (part : ℕ) (RegistrySound : RegistryNode 
     epochs = omega arith;
     told = λ j. omega arith;
     given = λ e low. (refl, refl);
-    new = λ e less most. absurd (omega arith);
+    new = λ e less limit. absurd (omega arith);
     welcomes = λ c m life h. welcome_frame part (epoch_now k part s) c s.net said_scene.net refl (s.client c).phase m h;
     cleans = omega arith;
     promises = omega arith;
@@ -79,7 +79,7 @@ module _ (logs : Bool) (k : Cluster) (part : ℕ) (RegistrySound : RegistryNode 
   said_fact q h = fact_stays k part s said_scene said_grown q h
 
   said_sees : (j : ℕ) → 0 < j → j ≤ k.managers → ManagerSees k part said_scene j (s.manager j).phase
-  said_sees j pos most = (let h = st.managers j pos most in record {
+  said_sees j pos limit = (let h = st.managers j pos limit in record {
     agrees = manager_on (members k part) part s.net said_scene.net (λ x sent_. sent_) (omega arith) j (s.manager j).phase (λ e held. refl) h.agrees;
     within = h.within;
     owns = h.owns;
@@ -181,9 +181,9 @@ module _ (logs : Bool) (k : Cluster) (part : ℕ) (RegistrySound : RegistryNode 
 -- ---- the cleaner
 
 -- a Welcome of a life that the cleaner had says nothing of one that begins, and what it owes to an opening stands still with that
-module _ (part promised most : ℕ) where
-  cleaner_after : (p q : Phase) (outs : List Effect) (go : CleanerGoes part promised most p q outs) (m : Welcome) → m.inc ≤ (lasting_of p).inc
-      → CleanerWelcomed part promised most p m → CleanerWelcomed part go.next most q m
+module _ (part promised limit : ℕ) where
+  cleaner_after : (p q : Phase) (outs : List Effect) (go : CleanerGoes part promised limit p q outs) (m : Welcome) → m.inc ≤ (lasting_of p).inc
+      → CleanerWelcomed part promised limit p m → CleanerWelcomed part go.next limit q m
   cleaner_after p (Down next) outs go m life h = tt
   cleaner_after p (Serves e) outs go m life h = tt
   cleaner_after (Down l) (Opening next o) outs go m life h = λ same. (let later = go.begins in absurd (omega arith))
@@ -217,7 +217,7 @@ module _ (logs : Bool) (k : Cluster) (part : ℕ) (RegistrySound : RegistryNode 
     epochs = omega arith;
     told = λ j. omega arith;
     given = λ e low. (refl, refl);
-    new = λ e less most. absurd (omega arith);
+    new = λ e less limit. absurd (omega arith);
     welcomes = λ c m life h. welcome_frame part (epoch_now k part s) c s.net cleaner_scene.net refl (s.client c).phase m h;
     cleans = go.later;
     promises = go.rises;
@@ -237,7 +237,7 @@ module _ (logs : Bool) (k : Cluster) (part : ℕ) (RegistrySound : RegistryNode 
   }
 
   sees : (j : ℕ) → 0 < j → j ≤ k.managers → ManagerSees k part cleaner_scene j (s.manager j).phase
-  sees j pos most = (let h = st.managers j pos most in record {
+  sees j pos limit = (let h = st.managers j pos limit in record {
     agrees = manager_on (members k part) part s.net cleaner_scene.net (λ x sent_. sent_) go.rises j (s.manager j).phase (λ e held. refl) h.agrees;
     within = h.within;
     owns = h.owns;

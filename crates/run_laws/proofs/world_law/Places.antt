@@ -19,15 +19,15 @@ pub behind : (first count number p : ℕ) → place_behind first count number �
 behind first count number p =
     elim (nat_lt 0 number && nat_le number count) as
     (λ t. (nat_lt 0 number && nat_le number count) ≡ t → cond t (Some (first + number - 1)) None ≡ Some p → Behind first count number p) [
-      | true ↦ λ h is. record { some = positive number count h; within = most number count h; place = some_place (first + number - 1) p is }
+      | true ↦ λ h is. record { some = positive number count h; within = limit number count h; place = some_place (first + number - 1) p is }
       | false ↦ λ h is. absurd (cc)
     ] refl
   where
     positive : (a c : ℕ) → (nat_lt 0 a && nat_le a c) ≡ true → 0 < a
     positive a c h = grind (arith, nat_tests)
 
-    most : (a c : ℕ) → (nat_lt 0 a && nat_le a c) ≡ true → a ≤ c
-    most a c h = grind (arith, nat_tests)
+    limit : (a c : ℕ) → (nat_lt 0 a && nat_le a c) ≡ true → a ≤ c
+    limit a c h = grind (arith, nat_tests)
 
 less : (a c : ℕ) → a < c → nat_lt a c ≡ true
 less a c h = grind (arith, nat_tests)

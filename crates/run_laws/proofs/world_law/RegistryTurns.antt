@@ -47,24 +47,24 @@ use Rattle.xfs_base.specs.declared.node.NodeId.TheVariants.{Client, Manager, Ser
 pub slot_below : (n : ℕ) → slot_of n < 8
 slot_below n = mod-lt n (omega arith)
 
-welcome_more : (part most more c : ℕ) (s : Scene) (p : ClientPhase) (m : Welcome) → WelcomeRises part most c s.net p m → WelcomeRises part more c s.net p m
-welcome_more part most more c s (clients.Down l) m h = tt
-welcome_more part most more c s (clients.Opening l o) m h = h
-welcome_more part most more c s (clients.Serving v) m h = tt
+welcome_more : (part limit more c : ℕ) (s : Scene) (p : ClientPhase) (m : Welcome) → WelcomeRises part limit c s.net p m → WelcomeRises part more c s.net p m
+welcome_more part limit more c s (clients.Down l) m h = tt
+welcome_more part limit more c s (clients.Opening l o) m h = h
+welcome_more part limit more c s (clients.Serving v) m h = tt
 
-told_more : (part promised most more : ℕ) (p : CleanerPhase) (m : Welcome) → CleanerWelcomed part promised most p m → CleanerWelcomed part promised more p m
-told_more part promised most more (cleaners.Down l) m h = tt
-told_more part promised most more (cleaners.Opening l o) m h = h
-told_more part promised most more (cleaners.Serving e) m h = tt
+told_more : (part promised limit more : ℕ) (p : CleanerPhase) (m : Welcome) → CleanerWelcomed part promised limit p m → CleanerWelcomed part promised more p m
+told_more part promised limit more (cleaners.Down l) m h = tt
+told_more part promised limit more (cleaners.Opening l o) m h = h
+told_more part promised limit more (cleaners.Serving e) m h = tt
 
 -- what the cleaner has promised, it has promised under a later epoch too
-cleaner_more : (part promised most more : ℕ) → most ≤ more → (p : CleanerPhase) → CleanerStands part promised most p → CleanerStands part promised more p
-cleaner_more part promised most more rise (cleaners.Down l) h = tt
-cleaner_more part promised most more rise (cleaners.Opening l o) h = record {
+cleaner_more : (part promised limit more : ℕ) → limit ≤ more → (p : CleanerPhase) → CleanerStands part promised limit p → CleanerStands part promised more p
+cleaner_more part promised limit more rise (cleaners.Down l) h = tt
+cleaner_more part promised limit more rise (cleaners.Opening l o) h = record {
   owner = h.owner;
   promises = ⊎_elim (λ first. inl first) (λ r. inr (record { eight = r.eight; rises = r.rises; within = (let w = r.within in omega arith) })) h.promises;
 }
-cleaner_more part promised most more rise (cleaners.Serving e) h = record { eight = h.eight; is = h.is }
+cleaner_more part promised limit more rise (cleaners.Serving e) h = record { eight = h.eight; is = h.is }
 
 -- the epoch at which a manager holds the slot is the one that it knows
 pub held_known : (p : SlotPhase) (e : ℕ) → HeldAt p e → slot_epoch p ≡ e
@@ -180,7 +180,7 @@ module _ (logs : Bool) (k : Cluster) (part : ℕ) (nodes : List AnyNode) (sent :
   -- ---- managers
 
   sees : (j : ℕ) → 0 < j → j ≤ k.managers → ManagerSees k part registry_scene j (s.manager j).phase
-  sees j pos most = record {
+  sees j pos limit = record {
     agrees = h.agrees;
     within = (let a = h.within in let b = rises in omega arith);
     owns = λ e held. (let o = h.owns e held in let low = below e held in (lord_stays e low ∙ o.0, since_stays e low ∙ o.1));
@@ -195,7 +195,7 @@ module _ (logs : Bool) (k : Cluster) (part : ℕ) (nodes : List AnyNode) (sent :
   }
     where
       h : ManagerSees k part s j (s.manager j).phase
-      h = st.managers j pos most
+      h = st.managers j pos limit
 
       below : (e : ℕ) → HeldAt (slot_in part (s.manager j).phase) e → e ≤ old
       below e held = (let same = held_known (slot_in part (s.manager j).phase) e held in let a = h.within in omega arith)

@@ -70,14 +70,14 @@ module _ (script : Script) where
       within = place_within cluster node p at
 
 within_nine : (clients : ℕ) → clients ≤ 8 → clients + 1 ≤ 9
-within_nine clients most = omega arith
+within_nine clients limit = omega arith
 
 -- a node of a kind has a place where there are so many
 pub place_there : (first count number : ℕ) → 0 < number → number ≤ count → place_behind first count number ≡ Some (first + number - 1)
-place_there first count number some most = ap (λ t. cond t (Some (first + number - 1)) None) (both number count some most)
+place_there first count number some limit = ap (λ t. cond t (Some (first + number - 1)) None) (both number count some limit)
   where
     both : (a c : ℕ) → 0 < a → a ≤ c → (nat_lt 0 a && nat_le a c) ≡ true
-    both a c some most = grind (arith, nat_tests)
+    both a c some limit = grind (arith, nat_tests)
 
 module _ (logs : Bool) (first_asks : StartsAsking) (first_agrees : FirstManagerAgrees) (cleaner_starts : CleanerStarts)
     (begins : (part : ℕ) → part < 8 → (setup : Setup) (items : List Work) → RegistryBegins part setup.managers (registry_start setup items))
@@ -102,12 +102,12 @@ module _ (logs : Bool) (first_asks : StartsAsking) (first_agrees : FirstManagerA
   placed : Placed k part (first_nodes any_start script k) [] start_scene
   placed = record {
     clients = λ c some less. first_stands script (Client c) (0 + c - 1) (place_there 0 script.setup.clients c some (omega arith));
-    managers = λ j some most. first_stands script (Manager j) (script.setup.clients + j - 1)
-        (place_there script.setup.clients script.setup.managers j some most);
-    servers = λ n some most. (
+    managers = λ j some limit. first_stands script (Manager j) (script.setup.clients + j - 1)
+        (place_there script.setup.clients script.setup.managers j some limit);
+    servers = λ n some limit. (
       _,
       first_stands script (Server n) (script.setup.clients + script.setup.managers + n - 1)
-          (place_there (script.setup.clients + script.setup.managers) script.setup.servers n some most),
+          (place_there (script.setup.clients + script.setup.managers) script.setup.servers n some limit),
     );
     cleaner = first_stands script Cleaner (script.setup.clients + script.setup.managers + script.setup.servers) refl;
     registry = first_stands script Registry (script.setup.clients + script.setup.managers + script.setup.servers + 1) refl;
@@ -188,17 +188,17 @@ module _ (logs : Bool) (first_asks : StartsAsking) (first_agrees : FirstManagerA
         promises = tt;
       },
     );
-    managers = λ j some most. sees j some;
+    managers = λ j some limit. sees j some;
     cleaner = (
       (let b = begun.epoch in omega arith),
       (cleaner_starts part (epoch_now k part start_scene) of_eight script.setup (items_of script.lines Cleaner)).0,
     );
     copies = premise logs (cleaner_starts part (epoch_now k part start_scene) of_eight script.setup (items_of script.lines Cleaner)).1;
     few = within_nine script.setup.clients clients;
-    peers = λ j some most. refl;
+    peers = λ j some limit. refl;
     current = (refl, sym (begun.incarnations (manager_now k part start_scene)));
     some = (let b = begun.epoch in omega arith);
-    before = λ e some most. (let a = begun.incarnations (manager_now k part start_scene) in omega arith);
+    before = λ e some limit. (let a = begun.incarnations (manager_now k part start_scene) in omega arith);
     entered = entered;
     facts = λ q h. absurd h;
   }

@@ -110,7 +110,7 @@ module _ (laws : NodeLaws) (logs : Bool) (k : Cluster) (part : ℕ) (of_eight : 
         b = behind 0 k.clients c place at
 
         less : c < members k part
-        less = (let most = b.within in omega arith)
+        less = (let limit = b.within in omega arith)
 
         here : slice_get nodes place ≡ Some (any.Client (s.client c))
         here = sym (ap (node_in nodes) at) ∙ st.placed.clients c b.some less

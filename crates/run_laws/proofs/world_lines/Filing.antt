@@ -121,7 +121,7 @@ openings_file_what_flew whole held written due g n o m chain s is (Serves v deed
 openings_file_what_flew whole held written due g n o m chain s is (Bars v l pass) name filed = (whole g n m).flown name filed
 openings_file_what_flew whole held written due g n o m chain s is (Lists v) name filed = (whole g n m).flown name filed
 openings_file_what_flew whole held written due g n o m chain s is (Hears v generation up reached) name filed = (whole g n m).flown name filed
-openings_file_what_flew whole held written due g n o m chain s is (Raises low top up within below) name filed = (whole g n m).flown name filed
+openings_file_what_flew whole held written due g n o m chain s is (Raises low highest up within below) name filed = (whole g n m).flown name filed
 openings_file_what_flew whole held written due g n o m chain s is (Publishes map fine) name filed = (whole g n m).flown name filed
 openings_file_what_flew whole held written due g n o m chain s is (Welcomes inc ask news map hello low fine) name filed = (whole g n m).flown name filed
 openings_file_what_flew whole held written due g n o m chain s is (Drops lists meta listed within below) name filed = (whole g n m).flown name filed

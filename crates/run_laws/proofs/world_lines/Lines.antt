@@ -36,7 +36,7 @@ module _ (written : WhatFlewIsWritten) (texts : Texts) (l : ℕ) (g : Setting) (
 
   module _ (f : Filed) (h : IsLined l n f) where
     fit : (q : ℕ) → RowsFit (rows_at f l q)
-    fit q = by (nat_lt 0 q && nat_le q (f.head l)) (λ is. flown_fits (f.segment l q) (h.flown q (some is) (most is)))
+    fit q = by (nat_lt 0 q && nat_le q (f.head l)) (λ is. flown_fits (f.segment l q) (h.flown q (some is) (limit is)))
       where
         by : (t : Bool) → (t ≡ true → RowsFit (rows_of (f.segment l q))) → RowsFit (cond t (rows_of (f.segment l q)) [])
         by true fits = fits refl
@@ -45,8 +45,8 @@ module _ (written : WhatFlewIsWritten) (texts : Texts) (l : ℕ) (g : Setting) (
         some : nat_lt 0 q && nat_le q (f.head l) ≡ true → 0 < q
         some is = grind (arith, nat_tests, is)
 
-        most : nat_lt 0 q && nat_le q (f.head l) ≡ true → q ≤ f.head l
-        most is = grind (arith, nat_tests, is)
+        limit : nat_lt 0 q && nat_le q (f.head l) ≡ true → q ≤ f.head l
+        limit is = grind (arith, nat_tests, is)
 
     module _ (line : OneLine g n) (all : (name : SegName) → In name n.filed → (0 < name.seq) × (name.seq ≤ f.head l)) where
       linked : (low high : ℕ) → 0 < low → n.low ≤ low → high ≤ f.head l → Linked f l low high
@@ -87,22 +87,22 @@ module _ (written : WhatFlewIsWritten) (texts : Texts) (has : ℕ → Bool) (set
 
   -- a log that has filed something is had
   filed_has : (l q : ℕ) → 0 < q → q ≤ f.head l → has l ≡ true
-  filed_has l q some most = by (are.none l)
+  filed_has l q some limit = by (are.none l)
     where
       by : (has l ≡ true) ⊎ (f.head l ≡ 0) → has l ≡ true
       by (inl had) = had
       by (inr none) = absurd (omega arith)
 
   each : (l q : ℕ) → 0 < q → q ≤ f.head l → IsSegment l q (f.segment l q)
-  each l q some most =
-      let had = filed_has l q some most in
+  each l q some limit =
+      let had = filed_has l q some limit in
       let line = (are.each l had).lined in
-      flown_segment written texts l (settings l) (nets l) (are.sure l had) (f.segment l q) q (line.flown q some most) (line.seq q some most)
-      (are.says l q had some most)
+      flown_segment written texts l (settings l) (nets l) (are.sure l had) (f.segment l q) q (line.flown q some limit) (line.seq q some limit)
+      (are.says l q had some limit)
 
   text : (l q : ℕ) → 0 < q → q ≤ f.head l → f.segment l q ≡ texts (f.segment l q).name
-  text l q some most =
-      let had = filed_has l q some most in sym ((are.sure l had).are_texts (f.segment l q) ((are.each l had).lined.flown q some most))
+  text l q some limit =
+      let had = filed_has l q some limit in sym ((are.sure l had).are_texts (f.segment l q) ((are.each l had).lined.flown q some limit))
 
 pub lines_are_filed : WhatFlewIsWritten → LinesAreFiled
 lines_are_filed written texts has settings nets f are =

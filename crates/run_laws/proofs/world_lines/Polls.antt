@@ -93,7 +93,7 @@ least_of l slot b (x ∷ slots) (inr is) = then (horizon_of l (slot_news b x)) _
     then a c d h = omega (arith, h)
 
 pub present_is_linked : LinesGive → PresentIsLinked
-present_is_linked give part texts l g m n r small some most sure line seen agrees e late from q =
+present_is_linked give part texts l g m n r small some limit sure line seen agrees e late from q =
     (give texts l g m n.filed sure line).linked (of_log (n.horizon e) l) (n.filed.head l) from least (omega arith) q
   where
     b : BoardState
@@ -108,7 +108,7 @@ present_is_linked give part texts l g m n r small some most sure line seen agree
     its : horizon_of l (slot_news b part) ≡ of_log (n.horizon e) l
     its =
         number_is horizon (l - 1) (let nine = seen.horizons part small in omega arith)
-        ∙ (sym (of_log_in horizon l some most) ∙ ap (λ h. of_log h l) horizon_is)
+        ∙ (sym (of_log_in horizon l some limit) ∙ ap (λ h. of_log h l) horizon_is)
 
     least : m.low ≤ of_log (n.horizon e) l
     least =
@@ -122,7 +122,7 @@ pub links_stay : LinksStay
 links_stay l from to horizon later f h past some rises same k e late begun q low high =
     let a = some e in
     let r = rises e in
-    let top = same.head in
+    let highest = same.head in
     ap (λ (s : Segment). s.prior.pass) (same.segment (suc q) (omega arith) (omega arith))
     ∙ (k e (omega arith) a q (omega arith) (omega arith) ∙ ap (λ (s : Segment). s.name.pass) (sym (same.segment q (omega arith) (omega arith))))
 
@@ -169,11 +169,11 @@ module _ (next : WhatFliesIsNext) (part : ℕ) (l : ℕ) (g : Setting) (m : log.
     flown_on : (flight : FlightState) → s.flight ≡ Some flight → LinkedSince l from horizon (with_segment n.filed l flight.segment)
     flown_on flight flies e late some q low high = by (q == n.filed.head l) refl
       where
-        top : q < suc (n.filed.head l)
-        top = (let a = head_is l n.filed flight.segment in omega arith)
+        highest : q < suc (n.filed.head l)
+        highest = (let a = head_is l n.filed flight.segment in omega arith)
 
         not_new : (k : ℕ) → k ≤ n.filed.head l → (k == suc (n.filed.head l)) ≡ false
-        not_new k most = grind (arith, nat_tests, most)
+        not_new k limit = grind (arith, nat_tests, limit)
 
         below : (a b : ℕ) → a < suc b → (a == b) ≡ false → a < b
         below a b less other = grind (arith, nat_tests, less, other)
@@ -190,7 +190,7 @@ module _ (next : WhatFliesIsNext) (part : ℕ) (l : ℕ) (g : Setting) (m : log.
             ∙ (ap (λ k. (n.filed.segment l k).name.pass) (sym at_head)
             ∙ ap (λ (x : Segment). x.name.pass) (sym (older n.filed l flight.segment q (not_new q (omega arith))))))))
         by false earlier =
-            let before : q < n.filed.head l = below q (n.filed.head l) top earlier in
+            let before : q < n.filed.head l = below q (n.filed.head l) highest earlier in
             ap (λ (x : Segment). x.prior.pass) (older n.filed l flight.segment (suc q) (not_new (suc q) (omega arith)))
             ∙ (linked e late some q low before ∙ ap (λ (x : Segment). x.name.pass) (sym (older n.filed l flight.segment q (not_new q (omega arith)))))
 

@@ -92,7 +92,7 @@ module _ (openings : OpeningsFileWhatFlew) (g : Setting) (n : Net) (at : Moment 
   by_one o (Bars v l pass) serves = absurd (both n.owner serves none)
   by_one o (Lists v) serves = absurd (both n.owner serves none)
   by_one o (Hears v generation past reached) serves = absurd (both n.owner serves none)
-  by_one o (Raises low top past is below) serves = absurd (both n.owner serves none)
+  by_one o (Raises low highest past is below) serves = absurd (both n.owner serves none)
   by_one o (Publishes map whole) serves = absurd (both n.owner serves none)
   by_one o (Welcomes inc ask news map hello low whole) serves = absurd (both n.owner serves none)
   by_one o (Drops lists meta listed within below) serves = absurd (both n.owner serves none)

@@ -34,28 +34,28 @@ use Rattle.run_laws.specs.world_lines.Turns.{ActSo, AllNew, AllSo, EffectSo, Cle
 
 pub lines_begin : LinesBegin
 lines_begin l g m any = record {
-  lined = record { flown = λ q some most. absurd (omega arith); filed = λ q some most. absurd (omega arith); seq = λ q some most. absurd (omega arith) };
+  lined = record { flown = λ q some limit. absurd (omega arith); filed = λ q some limit. absurd (omega arith); seq = λ q some limit. absurd (omega arith) };
   all = λ name is. absurd is;
 }
 
 -- what stays of a log
 lined_as : (l : ℕ) (o : Net) (f h : Filed) → IsSameLog l f h → IsLined l o f → IsLined l o h
 lined_as l o f h same k = record {
-  flown = λ q some most. let m = upto q most in subst (λ (s : Segment). In s o.flown) (sym (same.segment q some m)) (k.flown q some m);
-  filed = λ q some most. let m = upto q most in subst (λ (s : Segment). In s.name o.filed) (sym (same.segment q some m)) (k.filed q some m);
-  seq = λ q some most. let m = upto q most in ap (λ (s : Segment). s.name.seq) (same.segment q some m) ∙ k.seq q some m;
+  flown = λ q some limit. let m = upto q limit in subst (λ (s : Segment). In s o.flown) (sym (same.segment q some m)) (k.flown q some m);
+  filed = λ q some limit. let m = upto q limit in subst (λ (s : Segment). In s.name o.filed) (sym (same.segment q some m)) (k.filed q some m);
+  seq = λ q some limit. let m = upto q limit in ap (λ (s : Segment). s.name.seq) (same.segment q some m) ∙ k.seq q some m;
 }
   where
     upto : (q : ℕ) → q ≤ h.head l → q ≤ f.head l
-    upto q most = (let e = same.head in omega arith)
+    upto q limit = (let e = same.head in omega arith)
 
 -- what flew and was filed stays so
 lined_on : (l : ℕ) (n o : Net) (f : Filed) → ((s : Segment) → In s n.flown → In s o.flown) → ((name : SegName) → In name n.filed → In name o.filed)
     → IsLined l n f
     → IsLined l o f
 lined_on l n o f flown filed k = record {
-  flown = λ q some most. flown (f.segment l q) (k.flown q some most);
-  filed = λ q some most. filed (f.segment l q).name (k.filed q some most);
+  flown = λ q some limit. flown (f.segment l q) (k.flown q some limit);
+  filed = λ q some limit. filed (f.segment l q).name (k.filed q some limit);
   seq = k.seq;
 }
 
@@ -128,9 +128,9 @@ module _ (whole : LogsStayWhole) (texts : Texts) (l : ℕ) (g : Setting) (o : Ne
 
   lined_next : (f : Filed) (s : Segment) → In s o.flown → In s.name o.filed → s.name.seq ≡ suc (f.head l) → IsLined l o f → IsLined l o (with_segment f l s)
   lined_next f s flown filed seq h = record {
-    flown = λ q some most. at (λ q x. In x o.flown) flown (λ q some most. h.flown q some most) q some most;
-    filed = λ q some most. at (λ q x. In x.name o.filed) filed (λ q some most. h.filed q some most) q some most;
-    seq = λ q some most. at (λ q x. x.name.seq ≡ q) seq (λ q some most. h.seq q some most) q some most;
+    flown = λ q some limit. at (λ q x. In x o.flown) flown (λ q some limit. h.flown q some limit) q some limit;
+    filed = λ q some limit. at (λ q x. In x.name o.filed) filed (λ q some limit. h.filed q some limit) q some limit;
+    seq = λ q some limit. at (λ q x. x.name.seq ≡ q) seq (λ q some limit. h.seq q some limit) q some limit;
   }
     where
       later : Filed
@@ -138,7 +138,7 @@ module _ (whole : LogsStayWhole) (texts : Texts) (l : ℕ) (g : Setting) (o : Ne
 
       at : (P : ℕ → Segment → Type 0) → P (suc (f.head l)) s → ((q : ℕ) → 0 < q → q ≤ f.head l → P q (f.segment l q)) → (q : ℕ) → 0 < q → q ≤ later.head l
           → P q (later.segment l q)
-      at P new was q some most = by (q == suc (f.head l)) refl
+      at P new was q some limit = by (q == suc (f.head l)) refl
         where
           within : q ≤ suc (f.head l)
           within = (let e = head_is l f s in omega arith)

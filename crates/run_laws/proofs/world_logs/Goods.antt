@@ -172,7 +172,7 @@ module _ (laws : NodeLaws) (base : Setting) (end : World AnyNode) (setup : Setup
         → Reached (told (log_by r)) (low_of (g r) b)
 
   pub eight : (c : ℕ) → c ≤ setup.clients → c ≤ 8
-  eight c most = (let h = ok.clients.1 in omega arith)
+  eight c limit = (let h = ok.clients.1 in omega arith)
 
   -- each manager has a log of its own
   pub one_manager : (i j : ℕ) → There (OfManager i) → There (OfManager j) → log_by (OfManager i) ≡ log_by (OfManager j) → i ≡ j

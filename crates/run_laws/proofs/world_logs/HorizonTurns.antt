@@ -110,7 +110,7 @@ module _ (laws : tokens.NodeLaws) (below : Filing) (k : Cluster) (c : ℕ) where
       → (node : ClientNode) → slice_get nodes place ≡ Some (any.Client node) → (lasting_of node.phase).number ≡ d
   numbered nodes sent acts tok d place at node is =
       let b = behind 0 k.clients d place at in
-      let less : d < k.clients + 1 = (let most = b.within in omega arith) in
+      let less : d < k.clients + 1 = (let limit = b.within in omega arith) in
       let there : Some (any.Client (tok.0.client d)) ≡ Some (any.Client node) = sym (tok.1.placed.clients d b.some less) ∙ (ap (node_in nodes) at ∙ is) in
       subst (λ (x : ClientNode). (lasting_of x.phase).number ≡ d) (same_client (tok.0.client d) node there)
       (number_is 0 d tok.0.net (tok.0.client d).phase (tok.1.clients d b.some less).0)
@@ -162,7 +162,7 @@ module _ (laws : tokens.NodeLaws) (below : Filing) (k : Cluster) (c : ℕ) where
       no_client_there : (d : ℕ) → name ≡ Client d → ((n : ClientNode) → any.Client n ≡ y → ⊥) → ⊥
       no_client_there d e clash =
           let b = behind 0 k.clients d place (subst (λ n. place_of k n ≡ Some place) e at) in
-          let less : d < k.clients + 1 = (let most = b.within in omega arith) in
+          let less : d < k.clients + 1 = (let limit = b.within in omega arith) in
           none (any.Client (tok.0.client d)) (clash (tok.0.client d))
           (subst (λ n. node_in nodes (place_of k n) ≡ Some (any.Client (tok.0.client d))) (sym e) (tok.1.placed.clients d b.some less))
 

@@ -187,9 +187,9 @@ module _ (below : Below) (e : Estate AnyNode) (ok : IsSetup e.script.setup) (run
 
   -- a server of the run has a shelf
   shelf_there : (count v : ℕ) → 1 ≤ v → v ≤ setup_of.servers → (shelf : ShelfState) × (shelf_at (moment e count) v ≡ Some shelf)
-  shelf_there count v some most =
+  shelf_there count v some limit =
       let f = tokens.front below.nodes.tokens e ok run count 0 (omega arith) in
-      let s = f.1.1.placed.servers v some most in
+      let s = f.1.1.placed.servers v some limit in
       (s.0.shelf, ap shelf_of (subst (λ cl. node_in (moment e count).nodes (place_of cl (Server v)) ≡ Some (any.Server s.0)) (sym f.0) s.1))
 
   -- the members of a group of the registry's at the end are servers
@@ -217,10 +217,10 @@ module _ (below : Below) (e : Estate AnyNode) (ok : IsSetup e.script.setup) (run
       }
 
   pub logs_stand : LogsStand e
-  logs_stand count c some most = log_stands count (OfClient c) (some, most)
+  logs_stand count c some limit = log_stands count (OfClient c) (some, limit)
 
   pub cleaners_log_stands : CleanersLogStands e
   cleaners_log_stands count = log_stands count OfCleaner tt
 
   pub managers_logs_stand : ManagersLogsStand e
-  managers_logs_stand count j some most = log_stands count (OfManager j) (some, most)
+  managers_logs_stand count j some limit = log_stands count (OfManager j) (some, limit)

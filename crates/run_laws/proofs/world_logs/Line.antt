@@ -30,7 +30,7 @@ module _ {g : Setting} where
 -- ---- counts
 
 pub last_or_before : (m n : ℕ) → m ≤ suc n → (m ≡ suc n) ⊎ (m ≤ n)
-last_or_before m n most = by (nat_le m n) refl
+last_or_before m n limit = by (nat_le m n) refl
   where
     by : (t : Bool) → nat_le m n ≡ t → (m ≡ suc n) ⊎ (m ≤ n)
     by true is = inr (grind (arith, nat_tests))
@@ -40,9 +40,9 @@ nothing_below : (m : ℕ) → m ≤ 0 → m ≡ 0
 nothing_below m none = omega arith
 
 pub beyond : {X : Type 0} (xs : List X) (i : ℕ) → length xs ≤ i → slice_get xs i ≡ None
-beyond [] i most = refl
-beyond (x ∷ xs) zero most = absurd (omega arith)
-beyond (x ∷ xs) (suc i) most = beyond xs i (omega arith)
+beyond [] i limit = refl
+beyond (x ∷ xs) zero limit = absurd (omega arith)
+beyond (x ∷ xs) (suc i) limit = beyond xs i (omega arith)
 
 -- ---- a line
 
@@ -65,8 +65,8 @@ module _ (base : Setting) (e : Estate AnyNode) (r : Role) (line : Line base e r)
   itself m n same = subst (λ k. Later m k) same (record { runs = Begun; joined = refl })
 
   pub later : (m n : ℕ) → m ≤ n → Later m n
-  later m zero most = itself m zero (nothing_below m most)
-  later m (suc n) most = ⊎_elim (λ same. itself m (suc n) same) (λ before. one_more (later m n before)) (last_or_before m n most)
+  later m zero limit = itself m zero (nothing_below m limit)
+  later m (suc n) limit = ⊎_elim (λ same. itself m (suc n) same) (λ before. one_more (later m n before)) (last_or_before m n limit)
     where
       one_more : Later m n → Later m (suc n)
       one_more l = record {
@@ -76,11 +76,11 @@ module _ (base : Setting) (e : Estate AnyNode) (r : Role) (line : Line base e r)
 
   -- what was filed, dropped or in flight stays so
   pub grows : (m n : ℕ) → m ≤ n → Grown (net m) (net n)
-  grows m n most = grown g (net m) (net n) (later m n most).runs
+  grows m n limit = grown g (net m) (net n) (later m n limit).runs
 
   -- so does what was sent
   pub sent_stays : (m n : ℕ) → m ≤ n → (p : Packet) → In p (net m).sent → In p (net n).sent
-  sent_stays m n most = (run_later g (net m) (net n) (later m n most).runs).sent
+  sent_stays m n limit = (run_later g (net m) (net n) (later m n limit).runs).sent
 
   -- two segments of one name that were in flight, at whichever counts, are one
   pub one_text : OneNameOneText → (m n : ℕ) (s t : Segment) → In s (net m).flown → In t (net n).flown → s.name ≡ t.name → s ≡ t

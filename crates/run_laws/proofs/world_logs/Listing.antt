@@ -56,14 +56,14 @@ module _ (clients managers : ℕ) where
 
   pub its_owner : managers ≤ 4 → (r : Role) → IsThere clients managers r → has_owner (record { 0 = log_by r }) ≡ true
   its_owner few (OfClient c) there =
-      (let some = there.0 in let most = there.1 in
-      let inside : is_clients c ≡ true = grind (arith, nat_tests, some, most) in
+      (let some = there.0 in let limit = there.1 in
+      let inside : is_clients c ≡ true = grind (arith, nat_tests, some, limit) in
       any_left (is_clients c) (c == 9) (is_managers c) inside)
   its_owner few OfCleaner there = refl
   its_owner few (OfManager j) there =
       (let l = log_by (OfManager j) in
-      let is = managers_log clients managers j few there in let some = there.0 in let most = there.1 in
-      let inside : is_managers l ≡ true = grind (arith, nat_tests, is, some, most) in
+      let is = managers_log clients managers j few there in let some = there.0 in let limit = there.1 in
+      let inside : is_managers l ≡ true = grind (arith, nat_tests, is, some, limit) in
       any_right (is_clients l) (l == 9) (is_managers l) inside)
 
   pub owner_of : managers ≤ 4 → (log : LogId) → has_owner log ≡ true → HasOwner clients managers log
@@ -75,7 +75,7 @@ module _ (clients managers : ℕ) where
       by false is true at c there = record { role = OfClient log.0; there = (grind (arith, nat_tests, at), grind (arith, nat_tests, at)); is = refl }
       by false is false at true there =
           (let some : 9 < log.0 = grind (arith, nat_tests, there) in
-          let most : log.0 ≤ 9 + managers = grind (arith, nat_tests, there) in
+          let limit : log.0 ≤ 9 + managers = grind (arith, nat_tests, there) in
           let j = log.0 - 9 in
           let within : (0 < j) × (j ≤ managers) = (omega arith, omega arith) in
           let its = managers_log clients managers j few within in

@@ -80,15 +80,15 @@ module _ (part : ℕ) (sent : List Told) where
   client_tells c life to (body.Live m) h = h
   client_tells c life to _ h = tt
 
-  manager_may : (most life : ℕ) (to : NodeId) (m : Body) → ManagerSends part sent most life to m → Plain m
-  manager_may most life to (body.Stored m) h = h
-  manager_may most life to (body.Fragment m) h = h
-  manager_may most life to (body.Fenced m) h = h
-  manager_may most life to (body.Listed m) h = h
-  manager_may most life to (body.Delete m) h = h
-  manager_may most life to (body.Welcome m) h = h
-  manager_may most life to (body.MapNews m) h = h
-  manager_may most life to _ h = tt
+  manager_may : (limit life : ℕ) (to : NodeId) (m : Body) → ManagerSends part sent limit life to m → Plain m
+  manager_may limit life to (body.Stored m) h = h
+  manager_may limit life to (body.Fragment m) h = h
+  manager_may limit life to (body.Fenced m) h = h
+  manager_may limit life to (body.Listed m) h = h
+  manager_may limit life to (body.Delete m) h = h
+  manager_may limit life to (body.Welcome m) h = h
+  manager_may limit life to (body.MapNews m) h = h
+  manager_may limit life to _ h = tt
 
 server_may : (m : Body) → ServerSends m → SaidByServer m
 server_may (body.Store m) h = h

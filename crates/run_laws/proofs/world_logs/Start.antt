@@ -49,7 +49,7 @@ use Rattle.xfs_base.specs.declared.setup.Setup.{Setup}
 
 -- the number of a client is one of a log
 pub log_small : (c : ℕ) → 0 < c → c ≤ 8 → is_log c ≡ true
-log_small c some most = grind (arith, nat_tests)
+log_small c some limit = grind (arith, nat_tests)
 
 -- what the owner asked the registry at first
 abbrev pub first_asked : Role → ℕ → Question
@@ -84,7 +84,7 @@ module _ (clients : ClientStarts) (owner : OwnerStarts) (managers : ManagerStart
 
   owner_so : (c : ℕ) → g.log ≡ record { 0 = c } → 0 < c → c ≤ setup.clients → (items : List Work)
       → OwnerSeen g (scene_by (OfClient c)) c (first_client c setup items).phase
-  owner_so c its some most items =
+  owner_so c its some limit items =
       (let b : ClientBegins g c setup items = clients g c its (log_small c some (let m = ok.clients.1 in omega arith)) setup items in
       record { agrees = b.agrees; written = b.written fits; room = λ s among. absurd among })
 

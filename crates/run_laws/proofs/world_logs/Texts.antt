@@ -36,11 +36,11 @@ in_either (y ∷ xs) ys x (inr is) = ⊎_elim (λ here. inl (inr here)) (λ ther
 
 -- ---- counts
 
-counted : (c most : ℕ) → suc c ≤ most → (0 < suc c) × (suc c ≤ most)
-counted c most h = (omega arith, h)
+counted : (c limit : ℕ) → suc c ≤ limit → (0 < suc c) × (suc c ≤ limit)
+counted c limit h = (omega arith, h)
 
-one_less : (c most : ℕ) → suc c ≤ most → c ≤ most
-one_less c most h = omega arith
+one_less : (c limit : ℕ) → suc c ≤ limit → c ≤ limit
+one_less c limit h = omega arith
 
 all_of : (n : ℕ) → n ≤ n
 all_of n = omega arith
@@ -62,12 +62,12 @@ module _ (law : OneNameOneText) (own : WhatFlewIsOfTheLog) (base : Setting) (e :
 
   -- of the first so many clients, and managers
   of_clients : (c : ℕ) → c ≤ clients → List Segment
-  of_clients zero most = []
-  of_clients (suc c) most = flown_in (OfClient (suc c)) (counted c clients most) ++ of_clients c (one_less c clients most)
+  of_clients zero limit = []
+  of_clients (suc c) limit = flown_in (OfClient (suc c)) (counted c clients limit) ++ of_clients c (one_less c clients limit)
 
   of_managers : (j : ℕ) → j ≤ managers → List Segment
-  of_managers zero most = []
-  of_managers (suc j) most = flown_in (OfManager (suc j)) (counted j managers most) ++ of_managers j (one_less j managers most)
+  of_managers zero limit = []
+  of_managers (suc j) limit = flown_in (OfManager (suc j)) (counted j managers limit) ++ of_managers j (one_less j managers limit)
 
   all_flown : List Segment
   all_flown = of_clients clients (all_of clients) ++ (flown_in OfCleaner tt ++ of_managers managers (all_of managers))
@@ -78,20 +78,20 @@ module _ (law : OneNameOneText) (own : WhatFlewIsOfTheLog) (base : Setting) (e :
     there : There role
     here : In s (flown_in role there)
 
-  from_clients : (c : ℕ) (most : c ≤ clients) (s : Segment) → In s (of_clients c most) → Flew s
+  from_clients : (c : ℕ) (limit : c ≤ clients) (s : Segment) → In s (of_clients c limit) → Flew s
   unfolding of_clients
-  from_clients zero most s is = absurd is
-  from_clients (suc c) most s is =
-      ⊎_elim (λ here. record { role = OfClient (suc c); there = counted c clients most; here = here }) (λ more. from_clients c (one_less c clients most) s more)
-      (in_either (flown_in (OfClient (suc c)) (counted c clients most)) (of_clients c (one_less c clients most)) s is)
+  from_clients zero limit s is = absurd is
+  from_clients (suc c) limit s is =
+      ⊎_elim (λ here. record { role = OfClient (suc c); there = counted c clients limit; here = here }) (λ more. from_clients c (one_less c clients limit) s more)
+      (in_either (flown_in (OfClient (suc c)) (counted c clients limit)) (of_clients c (one_less c clients limit)) s is)
 
-  from_managers : (j : ℕ) (most : j ≤ managers) (s : Segment) → In s (of_managers j most) → Flew s
+  from_managers : (j : ℕ) (limit : j ≤ managers) (s : Segment) → In s (of_managers j limit) → Flew s
   unfolding of_managers
-  from_managers zero most s is = absurd is
-  from_managers (suc j) most s is =
-      ⊎_elim (λ here. record { role = OfManager (suc j); there = counted j managers most; here = here })
-      (λ more. from_managers j (one_less j managers most) s more)
-      (in_either (flown_in (OfManager (suc j)) (counted j managers most)) (of_managers j (one_less j managers most)) s is)
+  from_managers zero limit s is = absurd is
+  from_managers (suc j) limit s is =
+      ⊎_elim (λ here. record { role = OfManager (suc j); there = counted j managers limit; here = here })
+      (λ more. from_managers j (one_less j managers limit) s more)
+      (in_either (flown_in (OfManager (suc j)) (counted j managers limit)) (of_managers j (one_less j managers limit)) s is)
 
   flew : (s : Segment) → In s all_flown → Flew s
   unfolding all_flown
@@ -110,26 +110,26 @@ module _ (law : OneNameOneText) (own : WhatFlewIsOfTheLog) (base : Setting) (e :
   moved s r q same h m is =
       subst (λ x. (n : There x) → In s (flown_in x n)) same (λ n. subst (λ z. In s (flown_in r z)) (there_prop r h n) is) m
 
-  in_clients : (s : Segment) (c : ℕ) (most : c ≤ clients) (d : ℕ) (h : There (OfClient d)) → d ≤ c → In s (flown_in (OfClient d) h)
-      → In s (of_clients c most)
+  in_clients : (s : Segment) (c : ℕ) (limit : c ≤ clients) (d : ℕ) (h : There (OfClient d)) → d ≤ c → In s (flown_in (OfClient d) h)
+      → In s (of_clients c limit)
   unfolding of_clients
-  in_clients s zero most d h less is = absurd (let some = h.0 in omega arith)
-  in_clients s (suc c) most d h less is = ⊎_elim
-      (λ same. in_left (flown_in (OfClient (suc c)) (counted c clients most)) (of_clients c (one_less c clients most)) s
-      (moved s (OfClient d) (OfClient (suc c)) (ap OfClient same) h (counted c clients most) is))
-      (λ before. in_right (flown_in (OfClient (suc c)) (counted c clients most)) (of_clients c (one_less c clients most)) s
-      (in_clients s c (one_less c clients most) d h before is))
+  in_clients s zero limit d h less is = absurd (let some = h.0 in omega arith)
+  in_clients s (suc c) limit d h less is = ⊎_elim
+      (λ same. in_left (flown_in (OfClient (suc c)) (counted c clients limit)) (of_clients c (one_less c clients limit)) s
+      (moved s (OfClient d) (OfClient (suc c)) (ap OfClient same) h (counted c clients limit) is))
+      (λ before. in_right (flown_in (OfClient (suc c)) (counted c clients limit)) (of_clients c (one_less c clients limit)) s
+      (in_clients s c (one_less c clients limit) d h before is))
       (last_or_before d c less)
 
-  in_managers : (s : Segment) (j : ℕ) (most : j ≤ managers) (d : ℕ) (h : There (OfManager d)) → d ≤ j → In s (flown_in (OfManager d) h)
-      → In s (of_managers j most)
+  in_managers : (s : Segment) (j : ℕ) (limit : j ≤ managers) (d : ℕ) (h : There (OfManager d)) → d ≤ j → In s (flown_in (OfManager d) h)
+      → In s (of_managers j limit)
   unfolding of_managers
-  in_managers s zero most d h less is = absurd (let some = h.0 in omega arith)
-  in_managers s (suc j) most d h less is = ⊎_elim
-      (λ same. in_left (flown_in (OfManager (suc j)) (counted j managers most)) (of_managers j (one_less j managers most)) s
-      (moved s (OfManager d) (OfManager (suc j)) (ap OfManager same) h (counted j managers most) is))
-      (λ before. in_right (flown_in (OfManager (suc j)) (counted j managers most)) (of_managers j (one_less j managers most)) s
-      (in_managers s j (one_less j managers most) d h before is))
+  in_managers s zero limit d h less is = absurd (let some = h.0 in omega arith)
+  in_managers s (suc j) limit d h less is = ⊎_elim
+      (λ same. in_left (flown_in (OfManager (suc j)) (counted j managers limit)) (of_managers j (one_less j managers limit)) s
+      (moved s (OfManager d) (OfManager (suc j)) (ap OfManager same) h (counted j managers limit) is))
+      (λ before. in_right (flown_in (OfManager (suc j)) (counted j managers limit)) (of_managers j (one_less j managers limit)) s
+      (in_managers s j (one_less j managers limit) d h before is))
       (last_or_before d j less)
 
   among_all : (s : Segment) (r : Role) (h : There r) → In s (flown_in r h) → In s all_flown

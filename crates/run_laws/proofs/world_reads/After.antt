@@ -90,8 +90,8 @@ module _ (base : Setting) (e : Estate AnyNode) (lines : HasLines base e) (texts 
   pub of_logs : (count : ℕ) (k : Books) (f : Filed) → AllKnown count k f → NothingElse k f → OfLogs count k f
   of_logs count k f all else_ = record {
     books = record {
-      end = λ l some most. end l some most (whose l);
-      rows = λ l q some most from to. rows l q from to (whose l);
+      end = λ l some limit. end l some limit (whose l);
+      rows = λ l q some limit from to. rows l q from to (whose l);
     };
     lined = λ r there keeps. (all r there keeps).known.line;
     alone = λ l none. else_.head l (λ r owns. none r owns.0 owns.1 owns.2);
@@ -101,8 +101,8 @@ module _ (base : Setting) (e : Estate AnyNode) (lines : HasLines base e) (texts 
   }
     where
       end : (l : ℕ) → 0 < l → l ≤ 9 → ((r : Role) × Owns l r) ⊎ ((r : Role) → Owns l r → ⊥) → k.end l ≡ f.head l
-      end l some most (inl (r, (there, keeps, is))) = subst (λ x. k.end x ≡ f.head x) is (all r there keeps).known.books.end
-      end l some most (inr none) = else_.end l some most none ∙ sym (else_.head l none)
+      end l some limit (inl (r, (there, keeps, is))) = subst (λ x. k.end x ≡ f.head x) is (all r there keeps).known.books.end
+      end l some limit (inr none) = else_.end l some limit none ∙ sym (else_.head l none)
 
       rows : (l q : ℕ) → 0 < q → q ≤ f.head l → ((r : Role) × Owns l r) ⊎ ((r : Role) → Owns l r → ⊥) → k.rows l q ≡ rows_told (f.segment l q).items
       rows l q from to (inl (r, (there, keeps, is))) =

@@ -33,7 +33,7 @@ use Rattle.wire_msg.specs.declared.packet.Do.TheVariants.{Begin, Deliver, Tick}
 use Rattle.wire_msg.specs.declared.packet.Packet as wire
 use Rattle.xfs_base.proofs.Booleans.{by_test}
 use Rattle.xfs_base.specs.declared.segment.SegName.{SegName}
-use Rattle.xfs_base.specs.Steps.{after, still}
+use Rattle.xfs_base.specs.Steps.{saying, still}
 
 -- an opening comes to this, by a packet or by time
 abbrev pub ComesTo : Lasting → openings.Opening → Opened → Type 0
@@ -103,7 +103,7 @@ module _ (l : Lasting) (o : openings.Opening) where
   same_serving s t is = cc
 
   progress_comes : (k : Lasting) (capacity : ℕ) (effects : List Effect) → AllByRecursion (MayDo o.known.owner) effects
-      → (p : Progress) → ((r : Opened) → p ≡ progress.Opened r → ComesTo l o r) → Comes (after effects (after_opening k capacity p))
+      → (p : Progress) → ((r : Opened) → p ≡ progress.Opened r → ComesTo l o r) → Comes (saying effects (after_opening k capacity p))
   progress_comes k capacity effects may (progress.Opening x) from = not_open k x (effects ++ [])
   progress_comes k capacity effects may (progress.Lost seg) from = λ t is. absurd cc
   progress_comes k capacity effects may (progress.Opened r) from = λ t is. record {

@@ -58,7 +58,7 @@ use Rattle.run_laws.specs.world_lines.Polls.{GoesOnByFlight}
 use Rattle.run_laws.specs.world_lines.Turns.{AllSo}
 use Rattle.run_laws.specs.world_logs.Lines.{moment_then}
 use Rattle.xfs_base.proofs.Booleans.{by_test}
-use Rattle.xfs_base.specs.Steps.{after, still}
+use Rattle.xfs_base.specs.Steps.{saying, still}
 use Rattle.run_laws.proofs.world_reads.AfterClients.{OwnAfter}
 use Rattle.run_laws.proofs.world_reads.AfterLaws.{AfterLaws}
 use Rattle.run_laws.proofs.world_reads.AfterLogs.{KnownLog, flight_stays, reopens_known, served_last, serves_known, stays_known}
@@ -86,7 +86,7 @@ module _ (l : Lasting) (o : openings.Opening) where
   same_emptying s t is = cc
 
   progress_comes : (k : Lasting) (effects : List Effect) (p : Progress) → ((r : Opened) → p ≡ progress.Opened r → From r)
-      → Comes (after effects (after_opening k p))
+      → Comes (saying effects (after_opening k p))
   unfolding after_opening
   progress_comes k effects (progress.Opening x) from = λ t is. absurd cc
   progress_comes k effects (progress.Lost seg) from = λ t is. absurd cc

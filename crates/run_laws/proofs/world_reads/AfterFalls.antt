@@ -153,9 +153,9 @@ module _ (e : ℕ) where
 
     -- ---- an event of another client
 
-    pub client_aside : (most c : ℕ) (n : Net) (p q : Phase) (outs : List Effect) → (go : ClientGoes logs members part most c n p q outs) → (c ≡ e → ⊥)
+    pub client_aside : (limit c : ℕ) (n : Net) (p q : Phase) (outs : List Effect) → (go : ClientGoes logs members part limit c n p q outs) → (c ≡ e → ⊥)
         → n.up e ≡ false → AllByRecursion (IsAside e) (acts_of (Client c) outs)
-    client_aside most c n p q outs go other down =
+    client_aside limit c n p q outs go other down =
         subst (AllByRecursion (IsAside e)) (sym same) (by (r.leaves (subst (AllByRecursion IsNoFall) same none)))
       where
         r : Leaves n go.next

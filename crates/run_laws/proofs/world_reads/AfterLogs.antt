@@ -89,7 +89,7 @@ flew_same k m l flight same flew = record { flying = same.flying ∙ flew.flying
 books_same : (k m : Books) (l : ℕ) (f h : Filed) → SameLog k m l → IsSameLog l f h → BooksOf k l f → BooksOf m l h
 books_same k m l f h books same of = record {
   end = books.end ∙ (of.end ∙ sym same.head);
-  rows = λ q some most. let upto : q ≤ f.head l = (let e = same.head in omega arith) in
+  rows = λ q some limit. let upto : q ≤ f.head l = (let e = same.head in omega arith) in
       ap (λ r. r q) books.rows ∙ (of.rows q some upto ∙ ap (λ (s : Segment). rows_told s.items) (sym (same.segment q some upto)));
 }
 
@@ -118,8 +118,8 @@ module _ (g : Setting) (l : ℕ) (n o : Net) (at : Moment g n) (goes : Runs g n 
     old_row q some upto = filed q (let e = is.books.end in omega arith) ∙ is.books.rows q some upto
 
     still : (q : ℕ) → 0 < q → h ≡ f → q ≤ h.head l → m.rows l q ≡ rows_told (h.segment l q).items
-    still q some same most =
-        old_row q some (subst (λ (x : Filed). q ≤ x.head l) same most)
+    still q some same limit =
+        old_row q some (subst (λ (x : Filed). q ≤ x.head l) same limit)
         ∙ ap (λ (x : Filed). rows_told (x.segment l q).items) (sym same)
 
     -- what was in flight is filed
@@ -137,8 +137,8 @@ module _ (g : Setting) (l : ℕ) (n o : Net) (at : Moment g n) (goes : Runs g n 
         ∙ (z.1 ∙ ap (λ (y : Segment). rows_told y.items) (sym (ap (λ (y : Filed). y.segment l (suc (f.head l))) next ∙ segment_is l f x.segment))))
 
     row : IsMore f h → GoesOnByFlight l s f h → (q : ℕ) → 0 < q → q ≤ h.head l → m.rows l q ≡ rows_told (h.segment l q).items
-    row more (inl same) q some most = still q some same most
-    row more (inr (x, flies, next)) q some most = by (nat_le q (f.head l)) refl
+    row more (inl same) q some limit = still q some same limit
+    row more (inr (x, flies, next)) q some limit = by (nat_le q (f.head l)) refl
       where
         by : (b : Bool) → nat_le q (f.head l) ≡ b → m.rows l q ≡ rows_told (h.segment l q).items
         by true upto =

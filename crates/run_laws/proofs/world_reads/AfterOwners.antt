@@ -79,14 +79,14 @@ module _ (unfiled : NothingFiledOpening) (g : Setting) where
 
 -- of a log that filed nothing the same is filed
 pub same_filed : (l : ℕ) (n o : Net) (f h : Filed) → o.filed ≡ n.filed → IsMore f h → IsLine l n f → IsLine l o h → IsSameLog l f h
-same_filed l n o f h same more line later = record { head = head (h.head l) refl; segment = λ q some most. more.segment l q some most }
+same_filed l n o f h same more line later = record { head = head (h.head l) refl; segment = λ q some limit. more.segment l q some limit }
   where
     head : (x : ℕ) → h.head l ≡ x → h.head l ≡ f.head l
     head zero is = (let a = more.head l in omega arith)
     head (suc x) is =
         let some : 0 < h.head l = omega arith in
-        let top = later.lined.filed (h.head l) some (omega arith) in
-        let low = (line.all (h.segment l (h.head l)).name (subst (In (h.segment l (h.head l)).name) same top)).1 in
+        let highest = later.lined.filed (h.head l) some (omega arith) in
+        let low = (line.all (h.segment l (h.head l)).name (subst (In (h.segment l (h.head l)).name) same highest)).1 in
         let seq = later.lined.seq (h.head l) some (omega arith) in
         let a = more.head l in
         omega arith

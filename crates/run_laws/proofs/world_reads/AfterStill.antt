@@ -24,7 +24,7 @@ pub same_log : (k : Books) (l : ℕ) → SameLog k k l
 same_log k l = record { end = refl; flying = refl; rows = refl }
 
 pub same_filing : (f : Filed) (l : ℕ) → IsSameLog l f f
-same_filing f l = record { head = refl; segment = λ q some most. refl }
+same_filing f l = record { head = refl; segment = λ q some limit. refl }
 
 module _ (g : Setting) (n o : Net) (at : Moment g n) (goes : Runs g n o) (straight : ServesStraight goes) where
   abbrev pub SameFlight : Type 0

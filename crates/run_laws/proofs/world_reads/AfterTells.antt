@@ -26,14 +26,14 @@ abbrev pub AllTell : ℕ → Filed → Type 0
 AllTell l f = (q : ℕ) → 0 < q → q ≤ f.head l → TellsOnce (f.segment l q)
 
 pub tells_same : (l : ℕ) (f h : Filed) → IsSameLog l f h → AllTell l f → AllTell l h
-tells_same l f h same old q some most =
+tells_same l f h same old q some limit =
     let upto : q ≤ f.head l = (let e = same.head in omega arith) in subst TellsOnce (sym (same.segment q some upto)) (old q some upto)
 
 -- while its owner serves
 pub tells_serving : (l : ℕ) (s : LogState) (f h : Filed) → IsMore f h → GoesOnByFlight l s f h → IfSome s.flight (λ x. TellsOnce x.segment) → AllTell l f
     → AllTell l h
-tells_serving l s f h more (inl same) flight old q some most = subst (AllTell l) (sym same) old q some most
-tells_serving l s f h more (inr (x, flies, next)) flight old q some most = by (nat_le q (f.head l)) refl
+tells_serving l s f h more (inl same) flight old q some limit = subst (AllTell l) (sym same) old q some limit
+tells_serving l s f h more (inr (x, flies, next)) flight old q some limit = by (nat_le q (f.head l)) refl
   where
     by : (b : Bool) → nat_le q (f.head l) ≡ b → TellsOnce (h.segment l q)
     by true upto =
@@ -52,8 +52,8 @@ module _ (text : OneNameOneText) (only : ARestartFilesTheTail) (Kind : Segment �
     (nothing : (s : Segment) → s.items ≡ [] → TellsOnce s) where
   pub tells_reopened : (g : Setting) (l : ℕ) (n o : Net) (chain : List Segment) (s r : LogState) (e : Reopens g n o chain s r) (f h : Filed) → IsMore f h
       → IsLine l n f → IsLine l o h → IfSome (last_flight e.moment.run) (λ x. Kind x.segment) → AllTell l f → AllTell l h
-  tells_reopened g l n o chain s r e f h more line later flight old q some most =
-      by (only g n o e.sure e.moment e.happens e.calm ends it.name (later.lined.filed q some most))
+  tells_reopened g l n o chain s r e f h more line later flight old q some limit =
+      by (only g n o e.sure e.moment e.happens e.calm ends it.name (later.lined.filed q some limit))
     where
       it : Segment
       it = h.segment l q
@@ -67,16 +67,16 @@ module _ (text : OneNameOneText) (only : ARestartFilesTheTail) (Kind : Segment �
       told : (t : Segment) → In t o.flown → t.name ≡ it.name
           → (g.content t.items ≡ 0) ⊎ ((x : FlightState) × (last_flight e.moment.run ≡ Some x) × IsAttemptOf g x t)
           → TellsOnce it
-      told t flown named (inl none) = subst TellsOnce (texts.one t it flown (later.lined.flown q some most) named)
+      told t flown named (inl none) = subst TellsOnce (texts.one t it flown (later.lined.flown q some limit) named)
           (nothing t (e.apart t.items [] (none ∙ sym g.no_content)))
-      told t flown named (inr (x, was, attempt)) = subst TellsOnce (texts.one t it flown (later.lined.flown q some most) named)
+      told t flown named (inr (x, was, attempt)) = subst TellsOnce (texts.one t it flown (later.lined.flown q some limit) named)
           (once t (alike x.segment t (sym (e.apart t.items x.segment.items attempt.content))
           (subst (λ (y : Option FlightState). IfSome y (λ x. Kind x.segment)) was flight)))
 
       by : In it.name n.filed ⊎ TellsOnlyTheTail e.moment o it.name → TellsOnce it
       by (inl was) =
           let low = (line.all it.name was).1 in
-          let seq = later.lined.seq q some most in
+          let seq = later.lined.seq q some limit in
           let upto : q ≤ f.head l = omega arith in
           subst TellsOnce (sym (more.segment l q some upto)) (old q some upto)
       by (inr (t, flown, named, which)) = told t flown named which

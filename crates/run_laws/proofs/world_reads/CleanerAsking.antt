@@ -186,7 +186,7 @@ module _ (law : AsksBelow) (base : Setting) (e : Estate AnyNode) (lines : HasLin
     checked_may : (j : JobState) (checks : List Check) → n.job.phase ≡ Checking j seg checks → AllByRecursion (CheckMay may seg) checks
     checked_may j checks is =
         all_may checks
-        (λ there. law.rows part (held_in part texts.text) first n j seg checks runs (λ l q low high some most. (joint.tells l q some most).plain)
+        (λ there. law.rows part (held_in part texts.text) first n j seg checks runs (λ l q low high some limit. (joint.tells l q some limit).plain)
         (all_named n.filed joint.tells) is there (grouped there))
 
     -- and what it reads
@@ -205,7 +205,7 @@ module _ (law : AsksBelow) (base : Setting) (e : Estate AnyNode) (lines : HasLin
         by false alive =
             all_may (checks_from 0 s.items)
             (λ there. law.rows part (held_in part texts.text) first (with_job n (transition n.job (input.Read (Some s)))) j seg (checks_from 0 s.items)
-            (On runs (JobReads (Some s) owed)) (λ l q low high some most. (joint.tells l q some most).plain) (all_named n.filed joint.tells)
+            (On runs (JobReads (Some s) owed)) (λ l q low high some limit. (joint.tells l q some limit).plain) (all_named n.filed joint.tells)
             (then_checks n.job j seg s is passes alive) there (grouped there))
 
   -- ---- the job of one that serves

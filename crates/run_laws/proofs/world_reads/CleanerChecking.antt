@@ -60,7 +60,7 @@ use Rattle.xfs_base.specs.declared.node.NodeId.TheVariants as node
 use Rattle.xfs_base.specs.declared.segment.End.{End}
 use Rattle.xfs_base.specs.declared.segment.SegName.{SegName}
 use Rattle.xfs_base.specs.declared.segment.SegRef.{SegRef}
-use Rattle.xfs_base.specs.Steps.{after, still, steps}
+use Rattle.xfs_base.specs.Steps.{saying, still, steps}
 
 module _ (may : May) where
   -- ---- what is done
@@ -106,10 +106,10 @@ module _ (may : May) where
   quiet : (e : Emptying) (es : List Effect) → AllSilent es → At e → Kept (record { state = e; outs = es })
   quiet e es silent h = record { at = h; outs = all_silent es silent }
 
-  went_on : (d e : Done) → Kept d → (At d.state → Kept e) → Kept (after d.outs e)
+  went_on : (d e : Done) → Kept d → (At d.state → Kept e) → Kept (saying d.outs e)
   went_on d e one then_next = (let k = then_next one.at in record { at = k.at; outs = all_both EffectMay d.outs e.outs one.outs k.outs })
 
-  went_behind : (es : List Effect) (d : Done) → AllSilent es → Kept d → Kept (after es d)
+  went_behind : (es : List Effect) (d : Done) → AllSilent es → Kept d → Kept (saying es d)
   went_behind es d silent k = record { at = k.at; outs = all_both EffectMay es d.outs (all_silent es silent) k.outs }
 
   all_steps : {A : Type 0} (step : Emptying → A → Done) → ((e : Emptying) (x : A) → At e → Kept (step e x)) → (e : Emptying) (xs : List A) → At e
@@ -307,7 +307,7 @@ module _ (may : May) where
       let newer = is_older e.maps news in
       let a = job_regrouped (record e { maps = taken e.maps news }) newer news.groups in
       let b = hears_slots a.state news.slots in
-      went_on a (after b.outs (log_regrouped b.state newer news.groups))
+      went_on a (saying b.outs (log_regrouped b.state newer news.groups))
       (job_regrouped_so (record e { maps = taken e.maps news }) newer news.groups h)
       (λ x. went_on b (log_regrouped b.state newer news.groups) (slots_heard a.state news.slots x) (λ y. log_regrouped_so b.state newer news.groups y))
 
@@ -332,7 +332,7 @@ module _ (may : May) where
   unfolding on_welcome
   welcome_so e w h =
       let d = takes_news e w.news in
-      by_test Kept ((w.inc == e.lasting.inc) && fits e.maps w.news) (after d.outs (welcomes d.state w)) (still e)
+      by_test Kept ((w.inc == e.lasting.inc) && fits e.maps w.news) (saying d.outs (welcomes d.state w)) (still e)
       (λ _. went_on d (welcomes d.state w) (takes_news_so e w.news h) (λ x. welcomes_so d.state w x)) (λ _. quiet e [] tt h)
 
   -- ---- its reading
@@ -478,7 +478,7 @@ module _ (may : May) where
       let j = cleans e input.Tick in
       let l = writes j.state log_in.Tick in
       let last : Done = record { state = l.state; outs = pushes_all l.state.promised.managers l.state.feed } in
-      went_on j (after l.outs last) (plain_so e input.Tick tt h)
+      went_on j (saying l.outs last) (plain_so e input.Tick tt h)
       (λ x. went_on l last (writes_so j.state log_in.Tick x)
       (λ y. quiet l.state (pushes_all l.state.promised.managers l.state.feed) (pushes_silent l.state.promised.managers l.state.feed) y))
 

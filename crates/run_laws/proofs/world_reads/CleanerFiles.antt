@@ -90,5 +90,5 @@ module _ (only : ARestartFilesTheTail) (texts : Texts) (part : ℕ) (said : List
   adopted_moves name filed beyond = by (only g n o trusted at happens calm ends name filed)
     where
       by : In name n.filed ⊎ TellsOnlyTheTail at o name → IsMoved part said f (texts name)
-      by (inl before) = (let most = (line.all name before).1 in absurd (omega arith))
+      by (inl before) = (let limit = (line.all name before).1 in absurd (omega arith))
       by (inr tail) = tail_moves name tail

@@ -99,7 +99,7 @@ module _ (below : FilesBelow) (base : Setting) (e : Estate AnyNode) (lines : Has
       filed_says texts.text 9 w.net joint.idx.net.filed (joint.lined OfCleaner tt refl)
       (below.lines texts.text 9 g w.net joint.idx.net.filed
       (sure_at base e lines texts part first count (upto_before base e lines texts part first count sure)) (joint.lined OfCleaner tt refl))
-      joint.index_stands.texts_of (λ q some most. joint.tells 9 q some most)
+      joint.index_stands.texts_of (λ q some limit. joint.tells 9 q some limit)
 
   -- and so does what it had in flight when it served last
   flew_says : (f : FlightState) → last_flight (its_moment base e lines texts part first count).run ≡ Some f → SaysBlocks f.segment
@@ -163,7 +163,7 @@ module _ (below : FilesBelow) (base : Setting) (e : Estate AnyNode) (lines : Has
       (all_then (λ name. In name x.net.filed) (λ name. SaysBlocks (texts.text name)) (λ name filed. filed_before name (subst (In name) same filed)) outs
       acts_filed)
       (λ f name filed beyond.
-      let most = ((joint.lined OfCleaner tt refl).all name (subst (In name) same filed)).1 in absurd (omega arith))
+      let limit = ((joint.lined OfCleaner tt refl).all name (subst (In name) same filed)).1 in absurd (omega arith))
 
   -- where a restart ends, what is filed was read back, and moved once
   module _ (straight : ServesStraight ((its_line base e lines texts part first).goes count)) (apart : TellsApart g) (l : Lasting) (o : openings.Opening)

@@ -39,11 +39,11 @@ least_below l (y ∷ slots) x (inr among) = min_rest (horizon_of l y) (least_hor
 
 -- where the horizon has a number of the log, that is its horizon
 horizon_is : (x : SlotNews) (l : ℕ) → 0 < l → l ≤ 9 → 0 < of_log x.horizon l → horizon_of l x ≤ of_log x.horizon l
-horizon_is x l some most from_one =
+horizon_is x l some limit from_one =
     subst (λ a. horizon_of l x ≤ a) (sym read) (by (slice_get x.horizon (l - 1)) (subst (λ a. 0 < a) read from_one))
   where
     read : of_log x.horizon l ≡ unwrap_or (slice_get x.horizon (l - 1)) 0
-    read = of_log_in x.horizon l some most ∙ sym (unwrap_or-slice_get x.horizon (l - 1) 0)
+    read = of_log_in x.horizon l some limit ∙ sym (unwrap_or-slice_get x.horizon (l - 1) 0)
 
     by : (o : Option ℕ) → 0 < unwrap_or o 0 → unwrap_or o 1 ≤ unwrap_or o 0
     by None less = absurd (omega arith)
@@ -66,11 +66,11 @@ up_to a b c h g = omega arith
 -- the registry's horizon of a log is at or above the least one
 least_kept : (part : ℕ) (n : Net) (r : RegistryNode) → part < 8 → RegistryAgrees part n r → (l : ℕ) → 0 < l → l ≤ 9
     → least_horizon l (all_news r.board) ≤ of_log (n.horizon n.epoch) l
-least_kept part n r of_eight agreed l some most =
+least_kept part n r of_eight agreed l some limit =
     let x = slot_news r.board part in
     subst (λ (h : List ℕ). least_horizon l (all_news r.board) ≤ of_log h l) agreed.horizon
     (up_to (least_horizon l (all_news r.board)) (horizon_of l x) (of_log x.horizon l) (least_below l (all_news r.board) x (news_among r.board part of_eight))
-    (horizon_is x l some most (subst (λ (h : List ℕ). 0 < of_log h l) (sym agreed.horizon) (agreed.is.from_one l some most))))
+    (horizon_is x l some limit (subst (λ (h : List ℕ). 0 < of_log h l) (sym agreed.horizon) (agreed.is.from_one l some limit))))
 
 -- ---- what the cleaner has promised
 
@@ -121,10 +121,10 @@ module _ (stay : HorizonsStay) (part : ℕ) (holds : SegRef → Rows) (first : �
     pub above : low ≤ of_log (n.horizon epoch) l
 
   pub least_promised : (r : RegistryNode) → RegistryAgrees part n r → (l : ℕ) → 0 < l → l ≤ 9 → IsPromisedAbove l (least_horizon l (all_news r.board))
-  least_promised r agreed l some most = by (nat_le n.promised n.epoch) refl
+  least_promised r agreed l some limit = by (nat_le n.promised n.epoch) refl
     where
       kept : least_horizon l (all_news r.board) ≤ of_log (n.horizon n.epoch) l
-      kept = least_kept part n r of_eight agreed l some most
+      kept = least_kept part n r of_eight agreed l some limit
 
       by : (t : Bool) → nat_le n.promised n.epoch ≡ t → IsPromisedAbove l (least_horizon l (all_news r.board))
       by true is =

@@ -120,7 +120,7 @@ module _ (s : Segment) where
 -- ---- what is filed
 
 pub all_named : (f : Filed) → ((l q : ℕ) → 0 < q → q ≤ f.head l → TellsOnce (f.segment l q)) → AreNamed f
-all_named f tells l q some most = is_named (f.segment l q) (tells l q some most)
+all_named f tells l q some limit = is_named (f.segment l q) (tells l q some limit)
 
 pub all_exact : (f : Filed) → ((l q : ℕ) → 0 < q → q ≤ f.head l → TellsOnce (f.segment l q)) → AreExact f
-all_exact f tells l q some most = is_exact (f.segment l q) (tells l q some most)
+all_exact f tells l q some limit = is_exact (f.segment l q) (tells l q some limit)

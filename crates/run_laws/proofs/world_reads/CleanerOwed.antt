@@ -65,7 +65,7 @@ use Rattle.xfs_base.specs.Steps.{still}
 -- ---- counters
 
 below_end : (n end room : ℕ) → nat_le n (end - room) ≡ true → 0 < room → 0 < end → n < end
-below_end n end room h some more = (let most = within_is n (end - room) h in omega arith)
+below_end n end room h some more = (let limit = within_is n (end - room) h in omega arith)
 
 lasting_below : (l : Lasting) → lasting_room l ≡ true → l.questions.last < u32_end
 lasting_below l h = below_end l.questions.last u32_end counter_room (and_second (has_room l.inc) (has_room l.questions.last) h) (omega arith) (omega arith)

@@ -26,14 +26,14 @@ module _ (part : ℕ) (texts : Texts) (n m : Net) where
   promised_rests Registry (any.Registry node) what makes away = makes.promised
   promised_rests _ _ what makes away = ap (λ (x : Net). x.promised) makes
 
-  module _ (most tokens later : ℕ) (p : Phase) (agrees : CleanerAgrees part m texts p) (stands : CleanerStands part later most p) where
+  module _ (limit tokens later : ℕ) (p : Phase) (agrees : CleanerAgrees part m texts p) (stands : CleanerStands part later limit p) where
     by_phase : (IsAway p → m.promised ≡ n.promised) → n.promised ≤ tokens → tokens ≤ later → m.promised ≤ later
     by_phase rests low rises = by p refl
       where
         by : (q : Phase) → p ≡ q → m.promised ≤ later
         by (Serving v) is =
             let index_is = (subst (CleanerAgrees part m texts) is agrees).phase.0.promised in
-            let token_is = (subst (CleanerStands part later most) is stands).is in
+            let token_is = (subst (CleanerStands part later limit) is stands).is in
             let same = unwrap_or-slice_get v.promised.epochs part 0 in
             omega arith
         by (Down l) is = (let same = rests (subst IsAway (sym is) tt) in omega arith)

@@ -150,7 +150,7 @@ module _ (below : ReopensBelow) (base : Setting) (e : Estate AnyNode) (lines : H
     filed = filed_of;
     books = record {
       end = joint.books.end 9 (omega arith) (omega arith);
-      rows = λ q some most. joint.books.rows 9 q (omega arith) (omega arith) some most;
+      rows = λ q some limit. joint.books.rows 9 q (omega arith) (omega arith) some limit;
     };
     flew = joint.flew OfCleaner tt refl;
   }
@@ -170,16 +170,16 @@ module _ (below : ReopensBelow) (base : Setting) (e : Estate AnyNode) (lines : H
       one_chain a b x y same = cc
 
   -- What is promised then is no less than before, as tokens tell; the index knows of no later promise than they.
-  pub reopens_on : (most : ℕ) → CleanerGoes part joint.tok.net.promised most node.phase (takes node.peers node.phase what).state
+  pub reopens_on : (limit : ℕ) → CleanerGoes part joint.tok.net.promised limit node.phase (takes node.peers node.phase what).state
       (takes node.peers node.phase what).outs
       → joint.idx.net.promised ≤ joint.tok.net.promised
       → ReopensOn part texts.text joint.idx.net node.phase (takes node.peers node.phase what).state
-  reopens_on most goes upto =
+  reopens_on limit goes upto =
       subst (λ (p : cleaning.Phase). ReopensOn part texts.text joint.idx.net p (takes node.peers node.phase what).state) (sym opens)
       (subst (ReopensOn part texts.text joint.idx.net (Opening l o)) (sym serves) (end_owed, (stands.eight, promised)))
     where
-      stands : ServesSo part goes.next most v
-      stands = subst (CleanerStands part goes.next most) serves goes.stands
+      stands : ServesSo part goes.next limit v
+      stands = subst (CleanerStands part goes.next limit) serves goes.stands
 
       promised : joint.idx.net.promised ≤ epoch_of v.promised part
       promised = (let same = unwrap_or-slice_get v.promised.epochs part 0 in let is = stands.is in let rises = goes.rises in omega arith)

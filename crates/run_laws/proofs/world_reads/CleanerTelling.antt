@@ -111,7 +111,7 @@ module _ (below : ReopensBelow) (copies : LivesTellCopies) (base : Setting) (e :
       any = first;
       index_run = joint.index_stands.runs;
       books = joint.books;
-      plain = λ l q low high some most. (joint.tells l q some most).plain;
+      plain = λ l q low high some limit. (joint.tells l q some limit).plain;
     }
 
     pub live_told : (p : Packet) (m : Live) → In p sent → p.body ≡ body.Live m → LiveTold joint.tok.net.books v m

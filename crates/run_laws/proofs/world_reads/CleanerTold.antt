@@ -162,6 +162,6 @@ module _ (law : ToldBelow) (base : Setting) (e : Estate AnyNode) (ok : IsSetup e
     told_so Tick brings (Serving v) is s then_is = tt
 
   -- what its event is owed, where it is taken
-  pub cleaner_told : (members most : ℕ) → TurnOwes true adopted members part most joint.tok.net Cleaner (any.Cleaner node) what
+  pub cleaner_told : (members limit : ℕ) → TurnOwes true adopted members part limit joint.tok.net Cleaner (any.Cleaner node) what
   unfolding adopted
-  cleaner_told members most taken = told_so taken what refl p refl q refl
+  cleaner_told members limit taken = told_so taken what refl p refl q refl

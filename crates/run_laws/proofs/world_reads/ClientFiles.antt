@@ -173,7 +173,7 @@ module _ (base : Setting) (e : Estate AnyNode) (lines : HasLines base e) (texts 
     any = first;
     index_run = x.joint.index_stands.runs;
     books = x.joint.books;
-    plain = λ l q some most from upto. (x.joint.tells l q from upto).plain;
+    plain = λ l q some limit from upto. (x.joint.tells l q from upto).plain;
   }
 
   -- it was behind the end of the log

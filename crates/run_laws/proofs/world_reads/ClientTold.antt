@@ -141,7 +141,7 @@ module _ (base : Setting) (e : Estate AnyNode) (lines : HasLines base e) (texts 
           filed = owed.filed_of base e lines texts part first count c there laws event node x;
           books = record {
             end = x.joint.books.end c there.0 below;
-            rows = λ q some most. x.joint.books.rows c q there.0 below some most;
+            rows = λ q some limit. x.joint.books.rows c q there.0 below some limit;
           };
           flew = books_then re.0.moment re.1;
         }) back.opened by_one.opened t.net.acts (fell_then l o opening re.0.moment re.1)
@@ -174,29 +174,29 @@ module _ (base : Setting) (e : Estate AnyNode) (lines : HasLines base e) (texts 
     pub its : PhaseReadsItsFetch node.phase
     pub brought : (p : Packet) → what ≡ Deliver p → In p (moment e count).sent × (p.to ≡ Client c)
 
-  reads_so : Heeds → Reading → (most : ℕ) (packet : Packet) → what ≡ Deliver packet → (p : Phase) → node.phase ≡ p → ReadsSo part most c t.net p packet
-  reads_so heeds r most packet is (clients.Down l) phase = tt
-  reads_so heeds r most packet is (clients.Opening l o) phase =
+  reads_so : Heeds → Reading → (limit : ℕ) (packet : Packet) → what ≡ Deliver packet → (p : Phase) → node.phase ≡ p → ReadsSo part limit c t.net p packet
+  reads_so heeds r limit packet is (clients.Down l) phase = tt
+  reads_so heeds r limit packet is (clients.Opening l o) phase =
       ends_so heeds l o phase (comes_to o l.questions (Deliver packet)) (ap (comes_to o l.questions) is)
-  reads_so heeds r most packet is (clients.Serving s) phase =
-      more.fetches texts.text (moment e count).sent (Client c) (cuts_at e.world) filed s packet part most c t.net r.known x.joint.books
-      (λ l q some upto from most. (x.joint.tells l q from most).plain)
+  reads_so heeds r limit packet is (clients.Serving s) phase =
+      more.fetches texts.text (moment e count).sent (Client c) (cuts_at e.world) filed s packet part limit c t.net r.known x.joint.books
+      (λ l q some upto from limit. (x.joint.tells l q from limit).plain)
       (record {
         told = subst (entries.PhaseHolds (told_by (rows_at filed))) phase r.told;
         came = subst (readers.PhaseHolds (answered_in (moment e count).sent (Client c)) (cut_by (cuts_at e.world))) phase r.came;
         its = subst PhaseReadsItsFetch phase r.its;
       }) (r.brought packet is).0 (r.brought packet is).1
 
-  in_time : Heeds → (most : ℕ) → what ≡ Tick → (p : Phase) → node.phase ≡ p → EndsInTime part most c t.net p
-  in_time heeds most is (clients.Down l) phase = tt
-  in_time heeds most is (clients.Opening l o) phase = ends_so heeds l o phase (comes_to o l.questions Tick) (ap (comes_to o l.questions) is)
-  in_time heeds most is (clients.Serving s) phase = tt
+  in_time : Heeds → (limit : ℕ) → what ≡ Tick → (p : Phase) → node.phase ≡ p → EndsInTime part limit c t.net p
+  in_time heeds limit is (clients.Down l) phase = tt
+  in_time heeds limit is (clients.Opening l o) phase = ends_so heeds l o phase (comes_to o l.questions Tick) (ap (comes_to o l.questions) is)
+  in_time heeds limit is (clients.Serving s) phase = tt
 
   -- what an event of the client is owed
-  pub client_told : Heeds → Reading → (most : ℕ) → ClientTold part most t.net c node.phase what
-  client_told heeds r most = by what refl
+  pub client_told : Heeds → Reading → (limit : ℕ) → ClientTold part limit t.net c node.phase what
+  client_told heeds r limit = by what refl
     where
-      by : (d : Do) → what ≡ d → ClientTold part most t.net c node.phase d
+      by : (d : Do) → what ≡ d → ClientTold part limit t.net c node.phase d
       by Begin is = tt
-      by (Deliver packet) is = reads_so heeds r most packet is node.phase refl
-      by Tick is = in_time heeds most is node.phase refl
+      by (Deliver packet) is = reads_so heeds r limit packet is node.phase refl
+      by Tick is = in_time heeds limit is node.phase refl

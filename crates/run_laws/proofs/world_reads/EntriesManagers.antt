@@ -137,11 +137,11 @@ module _ (base : Setting) (e : Estate AnyNode) (lines : HasLines base e) (texts 
     -- so does a filed segment
     filed_read : (l q : ℕ) (s : Segment) (of : ℕ) → 0 < q → q ≤ k.net.filed.head l → s.name ≡ (k.net.filed.segment l q).name → s ≡ texts.text s.name
         → RowsTold told (told_of of s)
-    filed_read l q s of some most named text =
-        let same : k.net.filed.segment l q ≡ s = k.are_texts l q some most ∙ (ap texts.text (sym named) ∙ sym text) in
-        deltas_tell told of s (subst (λ (x : Segment). AllByRecursion IsNoPart x.items) same (k.filed.each l q some most).no_parts)
+    filed_read l q s of some limit named text =
+        let same : k.net.filed.segment l q ≡ s = k.are_texts l q some limit ∙ (ap texts.text (sym named) ∙ sym text) in
+        deltas_tell told of s (subst (λ (x : Segment). AllByRecursion IsNoPart x.items) same (k.filed.each l q some limit).no_parts)
         (rows_rise (told_by (rows_at k.net.filed)) told (told_more (rows_at k.net.filed) later k.more) (rows_of s)
-        (segment_told k.net.filed l q s some most same))
+        (segment_told k.net.filed l q s some limit same))
 
     source_read : (epoch : ℕ) (take : TakeState) → TakingAgrees slot texts.text k.net epoch take
         → ((ref : SegRef) → In ref take.news.parts → PartKnown base e lines count later ref) → (x : Present) → take.present ≡ Some x → (s : Segment) (of : ℕ)
@@ -149,7 +149,7 @@ module _ (base : Setting) (e : Estate AnyNode) (lines : HasLines base e) (texts 
     source_read epoch take taking flew x is s of named text =
         ⊎_elim
         (λ part. part_read part.ref s of (flew part.ref part.among) (named ∙ ap (λ (y : Source). y.seg.name) part.is) text)
-        (λ here. filed_read here.log here.seq s of here.some here.most (named ∙ here.named) text)
+        (λ here. filed_read here.log here.seq s of here.some here.limit (named ∙ here.named) text)
         (reads_there slot texts.text k.net k.filed k.are_texts epoch take taking x is).lies
 
     -- ---- an answer

@@ -54,12 +54,12 @@ each_among P (x ∷ xs) each = (each x (inl refl), each_among P xs (λ y later. 
 
 -- a segment that was filed says what is told
 pub segment_told : (h : Filed) (l q : ℕ) (s : Segment) → 0 < q → q ≤ h.head l → h.segment l q ≡ s → RowsTold (told_by (rows_at h)) (rows_of s)
-segment_told h l q s some most is =
+segment_told h l q s some limit is =
     all_weaker (Contains (rows_of s)) (RowTold (told_by (rows_at h)))
     (λ row says. inl (record {
       log = l;
       seq = q;
-      says = subst (λ (rows : List (BlockId × Entry)). Contains rows row) (sym (rows_filed h l q some most ∙ ap rows_of is)) says;
+      says = subst (λ (rows : List (BlockId × Entry)). Contains rows row) (sym (rows_filed h l q some limit ∙ ap rows_of is)) says;
     })) (rows_of s) (contains_all (rows_of s))
 
 module _ (base : Setting) (e : Estate AnyNode) (lines : HasLines base e) (texts : Texts base e lines) (part : ℕ) (first : ℕ → ℕ → Segment) (count : ℕ)

@@ -54,15 +54,15 @@ pub record EntryKinds : Type 0 where
 
 -- what a log filed at a number that it reached
 pub rows_filed : (f : Filed) (l q : ℕ) → 0 < q → q ≤ f.head l → rows_at f l q ≡ rows_of (f.segment l q)
-rows_filed f l q some most = first_of (nat_lt 0 q && nat_le q (f.head l)) (rows_of (f.segment l q)) [] (grind (arith, nat_tests))
+rows_filed f l q some limit = first_of (nat_lt 0 q && nat_le q (f.head l)) (rows_of (f.segment l q)) [] (grind (arith, nat_tests))
 
 module _ (f h : Filed) (more : IsMore f h) where
   says_more : (row : BlockId × Entry) (l q : ℕ) → Contains (rows_at f l q) row → Contains (rows_at h l q) row
   says_more row l q =
       by_filed (λ rows. Contains rows row → Contains (rows_at h l q) row) f l q
-      (λ some most is. (let rises = more.head l in
+      (λ some limit is. (let rises = more.head l in
       subst (λ rows. Contains rows row) (sym (rows_filed h l q some (omega arith)))
-      (subst (λ (s : Segment). Contains (rows_of s) row) (sym (more.segment l q some most)) is)))
+      (subst (λ (s : Segment). Contains (rows_of s) row) (sym (more.segment l q some limit)) is)))
       (λ is. absurd (contains_nothing row is))
 
   pub rows_more : AreMore (rows_at f) (rows_at h)

@@ -27,22 +27,22 @@ module _ (give : LinesGive) (texts : SegName → Segment) (l : ℕ) (g : Setting
     (other : IsLine l n h) where
   -- what is filed in the one is filed in the other
   pub record IsThere (q : ℕ) : Type 0 where
-    pub most : q ≤ h.head l
+    pub limit : q ≤ h.head l
     pub same : h.segment l q ≡ f.segment l q
 
   pub is_there : (q : ℕ) → 0 < q → q ≤ f.head l → IsThere q
-  is_there q some most =
-      let named = its.lined.seq q some most in
-      let filed = its.lined.filed q some most in
+  is_there q some limit =
+      let named = its.lined.seq q some limit in
+      let filed = its.lined.filed q some limit in
       let place = other.all (f.segment l q).name filed in
       let within : q ≤ h.head l = (let low = place.1 in omega arith) in
       let one : (f.segment l q).name ≡ (h.segment l q).name =
       subst (λ k. (f.segment l q).name ≡ (h.segment l k).name) named ((give texts l g n h sure other).one (f.segment l q).name filed)
       in
       record {
-        most = within;
+        limit = within;
         same = sym (sure.are_texts (h.segment l q) (other.lined.flown q some within))
-            ∙ (ap texts (sym one) ∙ sure.are_texts (f.segment l q) (its.lined.flown q some most));
+            ∙ (ap texts (sym one) ∙ sure.are_texts (f.segment l q) (its.lined.flown q some limit));
       }
 
 module _ (base : Setting) (e : Estate AnyNode) (lines : HasLines base e) (texts : Texts base e lines) (part : ℕ) (first : ℕ → ℕ → Segment)
@@ -72,19 +72,19 @@ module _ (base : Setting) (e : Estate AnyNode) (lines : HasLines base e) (texts 
       where
         at_log : (k : ℕ) (r : Role) (there : There base e lines texts part first r) → renews r ≡ false → log_by r ≡ k → 0 < q → q ≤ f.head k
             → Contains (rows_of (f.segment k q)) row → Contains (rows_at h k q) row
-        at_log k r there keeps is some most says =
+        at_log k r there keeps is some limit says =
             subst (λ x. q ≤ f.head x → Contains (rows_of (f.segment x q)) row → Contains (rows_at h x q) row) is
             (λ m c.
             let t = is_there give texts.text (log_by r) (setting base e r) (log_at base e lines texts part first r there count) f h (sure_log r there keeps)
             (its.lined r there keeps) (joint.lined r there keeps) q some m
             in
-            subst (λ rows. Contains rows row) (sym (rows_filed h (log_by r) q some t.most))
-            (subst (λ (s : Segment). Contains (rows_of s) row) (sym t.same) c)) most says
+            subst (λ rows. Contains rows row) (sym (rows_filed h (log_by r) q some t.limit))
+            (subst (λ (s : Segment). Contains (rows_of s) row) (sym t.same) c)) limit says
 
         here : 0 < q → q ≤ f.head l → Contains (rows_of (f.segment l q)) row → Contains (rows_at h l q) row
-        here some most says =
-            let has : HasLog base e lines texts slot first l = filed_log base e lines texts slot first count its l q some most in
-            at_log l has.role has.there has.keeps has.is some most says
+        here some limit says =
+            let has : HasLog base e lines texts slot first l = filed_log base e lines texts slot first count its l q some limit in
+            at_log l has.role has.there has.keeps has.is some limit says
 
     pub same_rows : AreMore (rows_at f) (rows_at h)
     same_rows block entry is = record { log = is.log; seq = is.seq; says = says_same (block, entry) is.log is.seq is.says }

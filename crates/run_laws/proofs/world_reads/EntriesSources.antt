@@ -44,7 +44,7 @@ pub record ReadsFiled (f : Filed) (source : Source) : Type 0 where
   pub log : ℕ
   pub seq : ℕ
   pub some : 0 < seq
-  pub most : seq ≤ f.head log
+  pub limit : seq ≤ f.head log
   pub named : source.seg.name ≡ (f.segment log seq).name
   pub low : 0 < source.low
   pub linked : Linked f log source.low seq
@@ -82,10 +82,10 @@ module _ (f : Filed) (filed : IsFiled f) (texts : Texts) (are_texts : AreTexts t
       let l = here.log in
       let q = here.seq in
       let some = here.some in
-      let most = here.most in
+      let limit = here.limit in
       let low = here.low in
-      let is : s ≡ f.segment l q = read ∙ (ap texts (named ∙ here.named) ∙ sym (are_texts l q some most)) in
-      let its = filed.each l q some most in
+      let is : s ≡ f.segment l q = read ∙ (ap texts (named ∙ here.named) ∙ sym (are_texts l q some limit)) in
+      let its = filed.each l q some limit in
       let seq : s.name.seq ≡ q = ap (λ (x : Segment). x.name.seq) is ∙ its.seq in
       let down : source.low < s.name.seq = goes_down source.low s.name.seq (not (is_none s.prior)) back in
       let below = filed.each l (q - 1) (omega arith) (omega arith) in
@@ -94,7 +94,7 @@ module _ (f : Filed) (filed : IsFiled f) (texts : Texts) (are_texts : AreTexts t
         log = l;
         seq = q - 1;
         some = omega arith;
-        most = omega arith;
+        limit = omega arith;
         named = same_name (prior_of s).name (f.segment l (q - 1)).name (ap (λ (x : Segment). x.name.log.0) is ∙ (its.log ∙ sym below.log))
             (ap (λ k. k - 1) seq ∙ sym below.seq)
             (ap (λ (x : Segment). x.prior.pass) is
@@ -139,12 +139,12 @@ module _ (part : ℕ) (texts : Texts) (n : Net) (filed : IsFiled n.filed) (news 
   abbrev EndLies : ℕ → End → Type 0
   EndLies l end = low_of l ≤ end.seq → IsEnd n.filed l end × Linked n.filed l (low_of l) end.seq
 
-  module _ (l : ℕ) (some : 0 < l) (most : l ≤ 9) where
+  module _ (l : ℕ) (some : 0 < l) (limit : l ≤ 9) where
     low_is : of_log (n.horizon news.epoch) l ≡ low_of l
-    low_is = sym (ap (λ horizon. of_log horizon l) known.horizon) ∙ of_log_in news.horizon l some most
+    low_is = sym (ap (λ horizon. of_log horizon l) known.horizon) ∙ of_log_in news.horizon l some limit
 
     low_some : 0 < low_of l
-    low_some = (let from = known.from_one l some most in let same = of_log_in news.horizon l some most in omega arith)
+    low_some = (let from = known.from_one l some limit in let same = of_log_in news.horizon l some limit in omega arith)
 
     known_lies : (end : End) → EndKnown part n news.epoch l end → EndLies l end
     known_lies end is above =
@@ -177,7 +177,7 @@ module _ (part : ℕ) (texts : Texts) (n : Net) (filed : IsFiled n.filed) (news 
               log = l;
               seq = (end_of reports l).seq;
               some = omega arith;
-              most = head;
+              limit = head;
               named = same_name (log_source l (low_of l) (end_of reports l)).seg.name (n.filed.segment l (end_of reports l).seq).name (sym its.log)
                   (sym its.seq)
                   lies.0.named;

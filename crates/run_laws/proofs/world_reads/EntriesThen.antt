@@ -204,7 +204,7 @@ module _ (base : Setting) (e : Estate AnyNode) (lines : HasLines base e) (texts 
           it = joint.idx.client c
 
           here : node_in w.nodes (place_of k (Client c)) ≡ Some (any.Client it)
-          here = joint.index_stands.placed.clients c b.some (let most = b.within in omega arith)
+          here = joint.index_stands.placed.clients c b.some (let limit = b.within in omega arith)
 
           same : any.Client it ≡ node
           same = is_named (Client c) own (any.Client it) here
@@ -356,7 +356,7 @@ module _ (base : Setting) (e : Estate AnyNode) (lines : HasLines base e) (texts 
               (let b = behind 0 k.clients c took.place (at_place (Client c) own) in
               subst Flies
               (is_named (Client c) own (any.Client (joint.idx.client c))
-              (joint.index_stands.placed.clients c b.some (let most = b.within in omega arith))) tt)
+              (joint.index_stands.placed.clients c b.some (let limit = b.within in omega arith))) tt)
           by (Manager j) own = manager_flies j own
           by (Server v) own =
               (let b = behind (k.clients + k.managers) k.servers v took.place (at_place (Server v) own) in

@@ -62,8 +62,8 @@ module _ (base : Setting) (e : Estate AnyNode) (lines : HasLines base e) (texts 
       none : (r : Role) → (l == 9) ≡ false → (nat_lt 0 l && nat_le l clients) ≡ false → There base e lines texts part first r → renews r ≡ false
           → log_by r ≡ l → ⊥
       none (OfClient c) other out there keeps is =
-          (let some = there.0 in let most = there.1 in let same : c ≡ l = is in
-          let inside : (nat_lt 0 l && nat_le l clients) ≡ true = grind (arith, nat_tests, some, most, same) in absurd cc)
+          (let some = there.0 in let limit = there.1 in let same : c ≡ l = is in
+          let inside : (nat_lt 0 l && nat_le l clients) ≡ true = grind (arith, nat_tests, some, limit, same) in absurd cc)
       none OfCleaner other out there keeps is = (let same : (l == 9) ≡ true = grind (arith, nat_tests, is) in absurd cc)
       none (OfManager j) other out there keeps is = absurd cc
 
@@ -120,7 +120,7 @@ module _ (base : Setting) (e : Estate AnyNode) (lines : HasLines base e) (texts 
 
     module _ (joint : Joint base e lines texts part first count) where
       pub filed_log : (l q : ℕ) → 0 < q → q ≤ joint.idx.net.filed.head l → HasLog l
-      filed_log l q some most = by (somebody l)
+      filed_log l q some limit = by (somebody l)
         where
           by : HasLog l ⊎ Nobody l → HasLog l
           by (inl has) = has
@@ -130,6 +130,6 @@ module _ (base : Setting) (e : Estate AnyNode) (lines : HasLines base e) (texts 
       filed_known = record {
         filed = (good_in part (held_in part texts.text) first joint.idx.net joint.index_stands.runs).filed;
         texts_of = joint.index_stands.texts_of;
-        logs = λ l q some most. (let h = filed_log l q some most in
+        logs = λ l q some limit. (let h = filed_log l q some limit in
             subst (λ x. LogKnown texts.text sent (cuts_at e.world) (record { 0 = x })) h.is (log_known h.role h.there));
       }

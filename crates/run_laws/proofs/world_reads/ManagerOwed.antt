@@ -110,16 +110,16 @@ module _ (base : Setting) (e : Estate AnyNode) (lines : HasLines base e) (texts 
             let held : TakeRefers r t.take =
             subst (SlotRefers r) is (at_slot (SlotRefers r) s.slots part (subst (PhaseRefers r) serves refers).slots tt) in
             sources_flew base e lines texts part first count x.coming.joint t agrees (parts_flew t held)
-            (λ l some most y among from more. ends_bear t held l y among from more)
+            (λ l some limit y among from more. ends_bear t held l y among from more)
         by (Waiting kept hello) serves t is = absurd (never 0 t is)
         by (Down kept) serves t is = absurd (never 0 t is)
 
     pub index_owed : ManagerLaws → IndexOwes part texts.text x.coming.joint.idx.asked x.coming.joint.idx.net (node_of event) (any.Manager node) (what_of event)
     index_owed laws = reading.manager_owed base e lines texts part first count j there laws event node x flew
 
-    pub turn_owed : ManagerLaws → TellingLaws → (adopted : Bool) (most : ℕ)
-        → TurnOwes true adopted (tokens.members (cluster base e) part) part most x.coming.joint.tok.net (node_of event) (any.Manager node) (what_of event)
-    turn_owed laws more adopted most = telling.turn_owed base e lines texts part first count j there more event node x laws flew adopted most
+    pub turn_owed : ManagerLaws → TellingLaws → (adopted : Bool) (limit : ℕ)
+        → TurnOwes true adopted (tokens.members (cluster base e) part) part limit x.coming.joint.tok.net (node_of event) (any.Manager node) (what_of event)
+    turn_owed laws more adopted limit = telling.turn_owed base e lines texts part first count j there more event node x laws flew adopted limit
 
 -- ---- all of it, of an event that a manager takes
 
@@ -141,8 +141,8 @@ module _ (base : Setting) (e : Estate AnyNode) (lines : HasLines base e) (texts 
   -- what it is owed in both small worlds, and what tokens give it
   pub record ManagerOwes (node : ManagerNode) : Type 0 where
     pub index : IndexOwes part texts.text coming.joint.idx.asked coming.joint.idx.net (node_of event) (any.Manager node) (what_of event)
-    pub turn : (adopted : Bool) (most : ℕ)
-        → TurnOwes true adopted (tokens.members k part) part most coming.joint.tok.net (node_of event) (any.Manager node) (what_of event)
+    pub turn : (adopted : Bool) (limit : ℕ)
+        → TurnOwes true adopted (tokens.members k part) part limit coming.joint.tok.net (node_of event) (any.Manager node) (what_of event)
     pub given : TokensGive part k.managers (places_of.holder part coming.joint.idx) coming.joint.idx.net (node_of event) (any.Manager node) (what_of event)
 
   pub manager_owes : (j : ℕ) (node : ManagerNode) → node_of event ≡ Manager j → Took (moment e count) event (any.Manager node) → ManagerOwes node
@@ -152,7 +152,7 @@ module _ (base : Setting) (e : Estate AnyNode) (lines : HasLines base e) (texts 
       record { few = few; is = is; coming = coming; own = own; took = took; came = came } in
       record {
         index = index_owed base e lines texts part first count j there event node x stands laws;
-        turn = λ adopted most. turn_owed base e lines texts part first count j there event node x stands laws more adopted most;
+        turn = λ adopted limit. turn_owed base e lines texts part first count j there event node x stands laws more adopted limit;
         given = manager.tokens_given base e lines texts part first count event coming more.given (any.Manager node)
             (took_it k (moment e count) coming.cluster event (any.Manager node) took);
       }

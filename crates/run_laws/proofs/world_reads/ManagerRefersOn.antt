@@ -349,7 +349,7 @@ module _ (base : Setting) (e : Estate AnyNode) (lines : HasLines base e) (texts 
       pub steps_refer : (name : NodeId) → place_of k name ≡ Some place → StepRefers node what
       steps_refer (Client c) at =
           let b : Behind 0 k.clients c place = behind 0 k.clients c place at in
-          let there = joint.tokens_stand.placed.clients c b.some (let most = b.within in omega arith) in
+          let there = joint.tokens_stand.placed.clients c b.some (let limit = b.within in omega arith) in
           subst (λ x. StepRefers x what) (is_that (Client c) at (any.Client (joint.tok.client c)) there)
           (client_step_refers c (b.some, b.within) (joint.tok.client c) what there)
       steps_refer (Manager j) at =

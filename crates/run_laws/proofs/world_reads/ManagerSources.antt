@@ -142,7 +142,7 @@ module _ (base : Setting) (e : Estate AnyNode) (lines : HasLines base e) (texts 
 
       -- the checkpoint covers nothing of a log from number 0 on
       from_one : (l : ℕ) → 0 < l → l ≤ 9 → 0 < of_log t.take.news.horizon l
-      from_one l some most = subst (λ (n : SlotNews). 0 < of_log n.horizon l) (sym (its_news part joint.idx.net texts.text t k)) (k.known.from_one l some most)
+      from_one l some limit = subst (λ (n : SlotNews). 0 < of_log n.horizon l) (sym (its_news part joint.idx.net texts.text t k)) (k.known.from_one l some limit)
 
       -- the reported end of a log, where it is read from
       pub record IsGood (l : ℕ) (end : End) : Type 0 where
@@ -150,26 +150,26 @@ module _ (base : Setting) (e : Estate AnyNode) (lines : HasLines base e) (texts 
         pub group : end.group ≡ (texts.text (named_by l end)).group
 
       good_end : EndsBearGroups → (l : ℕ) → 0 < l → l ≤ 9 → of_log t.take.news.horizon l ≤ (end_of t.take.reports l).seq → IsGood l (end_of t.take.reports l)
-      good_end groups l some most =
+      good_end groups l some limit =
           end_from_is (λ end. of_log t.take.news.horizon l ≤ end.seq → IsGood l end) (writer_of l) t.take.reports
-          (λ low. absurd (let one = from_one l some most in omega arith))
-          (λ r among from low. (let one = from_one l some most in let h = horizon_is l in
+          (λ low. absurd (let one = from_one l some limit in omega arith))
+          (λ r among from low. (let one = from_one l some limit in let h = horizon_is l in
           let known : EndKnown part joint.idx.net t.epoch l r.end =
           known_of part joint.idx.net t.epoch l r.end
           (subst (λ node. ReportKnown part joint.idx.net t.epoch node r.end) from (k.reports r among)) in
           record {
             filed = known.filed (omega arith) (omega arith);
-            group = groups l some most r among from (omega arith);
+            group = groups l some limit r among from (omega arith);
           }))
 
       log_flew : EndsBearGroups → (l : ℕ) → 0 < l → l ≤ 9 → (source : Source) → Contains (log_sources t.take.news.horizon t.take.reports l) source
           → Flew base e lines texts part first count source.seg
-      log_flew groups l some most source h =
+      log_flew groups l some limit source h =
           let f = from_end_is l (horizon_at t.take.news.horizon l) (end_of t.take.reports l) source h in
-          let same : of_log t.take.news.horizon l ≡ horizon_at t.take.news.horizon l = of_log_in t.take.news.horizon l some most in
-          let one = from_one l some most in
+          let same : of_log t.take.news.horizon l ≡ horizon_at t.take.news.horizon l = of_log_in t.take.news.horizon l some limit in
+          let one = from_one l some limit in
           let above = f.above in
-          let good = good_end groups l some most (omega arith) in
+          let good = good_end groups l some limit (omega arith) in
           subst (λ (x : Source). Flew base e lines texts part first count x.seg) f.is (end_flew l (end_of t.take.reports l) (omega arith) good.filed good.group)
 
       pub sources_flew : PartsFlew → EndsBearGroups → (source : Source) → Contains (sources_of t.take.news t.take.reports) source

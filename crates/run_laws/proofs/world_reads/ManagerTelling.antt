@@ -98,7 +98,7 @@ module _ (base : Setting) (e : Estate AnyNode) (lines : HasLines base e) (texts 
     any = first;
     index_run = x.coming.joint.index_stands.runs;
     books = x.coming.joint.books;
-    plain = λ l q low high some most. (x.coming.joint.tells l q some most).plain;
+    plain = λ l q low high some limit. (x.coming.joint.tells l q some limit).plain;
   }
 
   -- ---- one that serves
@@ -253,5 +253,5 @@ module _ (base : Setting) (e : Estate AnyNode) (lines : HasLines base e) (texts 
         by (Deliver q) g = serving_told node.phase refl q g
         by Tick g = tt
 
-    pub turn_owed : (adopted : Bool) (most : ℕ) → TurnOwes true adopted members part most t (node_of event) (any.Manager node) what
-    turn_owed adopted most = subst (λ name. TurnOwes true adopted members part most t name (any.Manager node) what) (sym x.own) manager_told
+    pub turn_owed : (adopted : Bool) (limit : ℕ) → TurnOwes true adopted members part limit t (node_of event) (any.Manager node) what
+    turn_owed adopted limit = subst (λ name. TurnOwes true adopted members part limit t name (any.Manager node) what) (sym x.own) manager_told

@@ -58,7 +58,7 @@ module _ (So : SegName → Type 0) (New : Filed → Segment → Type 0) (texts :
   AllFiled f = (q : ℕ) → 0 < q → q ≤ f.head l → So (f.segment l q).name
 
   one_more : (f : Filed) (s : Segment) → So s.name → AllFiled f → AllFiled (with_segment f l s)
-  one_more f s new was q some most = by (q == suc (f.head l)) refl
+  one_more f s new was q some limit = by (q == suc (f.head l)) refl
     where
       later : Filed
       later = with_segment f l s
@@ -110,7 +110,7 @@ module _ (So : SegName → Type 0) (node : NodeId) where
 
 -- before the first event nothing is filed
 pub nothing_filed : (first : ℕ → ℕ → Segment) (l q : ℕ) → 0 < q → q ≤ (index.opening first).filed.head l → ⊥
-nothing_filed first l q some most = omega arith
+nothing_filed first l q some limit = omega arith
 
 -- ---- at each count
 
@@ -123,10 +123,10 @@ module _ (base : Setting) (e : Estate AnyNode) (lines : HasLines base e) (texts 
   ActedOf at l f = (q : ℕ) → 0 < q → q ≤ f.head l → In (ActsFiled (f.segment l q).name) (did e l at)
 
   before : (l : ℕ) (f : Filed) → ActedOf count l f → ActedOf (suc count) l f
-  before l f was q some most = did_before e l count (ActsFiled (f.segment l q).name) (was q some most)
+  before l f was q some limit = did_before e l count (ActsFiled (f.segment l q).name) (was q some limit)
 
   same_line : (l : ℕ) (f h : Filed) → IsSameLog l f h → ActedOf count l f → ActedOf (suc count) l h
-  same_line l f h same was q some most =
+  same_line l f h same was q some limit =
       let within : q ≤ f.head l = (let is = same.head in omega arith) in
       subst (λ (s : Segment). In (ActsFiled s.name) (did e l (suc count))) (sym (same.segment q some within)) (before l f was q some within)
 

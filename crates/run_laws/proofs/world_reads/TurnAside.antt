@@ -100,7 +100,7 @@ module _ (laws : TurnLaws) (base : Setting) (e : Estate AnyNode) (lines : HasLin
       i = behind 0 cl.clients d took.place (at (Client d) own)
 
       less : d < members cl part
-      less = (let most = i.within in omega arith)
+      less = (let limit = i.within in omega arith)
 
       agreed : ClientAgrees true part d s.net (s.client d).phase × ClientStands part (epoch_now cl part s) d s.net (s.client d).phase
       agreed = b.tokens_stand.clients d i.some less

@@ -85,7 +85,7 @@ first_true true b h = refl
 first_true false b h = absurd (cc)
 
 below_end : (x end room : ℕ) → nat_le x (end - room) ≡ true → 0 < room → 0 < end → x < end
-below_end x end room h some more = (let most = within_is x (end - room) h in omega arith)
+below_end x end room h some more = (let limit = within_is x (end - room) h in omega arith)
 
 lasting_below : (l : Lasting) → lasting_room l ≡ true → l.questions.last < u32_end
 lasting_below l h = below_end l.questions.last u32_end counter_room (second_true (has_room l.inc) (has_room l.questions.last) h) (omega arith) (omega arith)

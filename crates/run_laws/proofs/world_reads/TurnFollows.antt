@@ -95,7 +95,7 @@ module _ (base : Setting) (e : Estate AnyNode) (lines : HasLines base e) (texts 
           record {
             manager = j;
             some = f.some;
-            most = f.within;
+            limit = f.within;
             managed = subst (λ (y : ManagerNode). ManagedAt (slot_in part y.phase) epoch) (sym same) is;
           }
 

@@ -80,10 +80,10 @@ module _ (laws : StepsBelow) (base : Setting) (e : Estate AnyNode) (lines : HasL
 
     linked_from : (l : ℕ) (g : Setting) (m : log.Net) → 0 < l → l ≤ 9 → IsSure texts.text l g m → IsLine l m n.filed → RegistrySeen g m b.idx.registry.board
         → LinkedSince l from n.horizon n.filed
-    linked_from l g m pos most sure line seen x above some = by (nat_le n.epoch x) refl
+    linked_from l g m pos limit sure line seen x above some = by (nat_le n.epoch x) refl
       where
         present : LinkedSince l n.epoch n.horizon n.filed
-        present = laws.present part texts.text l g m n b.idx.registry of_eight pos most sure line seen b.index_stands.registry
+        present = laws.present part texts.text l g m n b.idx.registry of_eight pos limit sure line seen b.index_stands.registry
 
         by : (t : Bool) → nat_le n.epoch x ≡ t → Linked n.filed l (of_log (n.horizon x) l) (n.filed.head l)
         by true is = present x (most_of n.epoch x is) some

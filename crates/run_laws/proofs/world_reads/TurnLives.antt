@@ -40,13 +40,13 @@ module _ (f : Filed) (filed : IsFiled f) where
   filed_rows : (l q : ℕ) → AllByRecursion (λ (row : BlockId × Entry). LiesSo row.1) (rows_at f l q)
   filed_rows l q =
       by_test (AllByRecursion (λ (row : BlockId × Entry). LiesSo row.1)) (nat_lt 0 q && nat_le q (f.head l)) (rows_of (f.segment l q)) []
-      (λ is. rows_lie (rows_of (f.segment l q)) (filed.each l q (some q (f.head l) is) (most q (f.head l) is)).versions) (λ is. tt)
+      (λ is. rows_lie (rows_of (f.segment l q)) (filed.each l q (some q (f.head l) is) (limit q (f.head l) is)).versions) (λ is. tt)
     where
       some : (a c : ℕ) → (nat_lt 0 a && nat_le a c) ≡ true → 0 < a
       some a c h = grind (arith, nat_tests)
 
-      most : (a c : ℕ) → (nat_lt 0 a && nat_le a c) ≡ true → a ≤ c
-      most a c h = grind (arith, nat_tests)
+      limit : (a c : ℕ) → (nat_lt 0 a && nat_le a c) ≡ true → a ≤ c
+      limit a c h = grind (arith, nat_tests)
 
   row_lies : (b : BlockId) (l q : ℕ) → LiesSo (row_at f b l q)
   row_lies b l q = join_has LiesSo b (rows_at f l q) nowhere (filed_rows l q)

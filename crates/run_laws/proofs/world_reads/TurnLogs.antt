@@ -101,19 +101,19 @@ module _ (base : Setting) (e : Estate AnyNode) (lines : HasLines base e) (texts 
             known = record {
               books = record {
                 end = joint.books.end (log_by r) n.0 n.1;
-                rows = λ q some most. joint.books.rows (log_by r) q n.0 n.1 some most;
+                rows = λ q some limit. joint.books.rows (log_by r) q n.0 n.1 some limit;
               };
               line = joint.lined r there keeps;
               flew = joint.flew r there keeps;
             };
-            tells = λ q some most. joint.tells (log_by r) q some most;
+            tells = λ q some limit. joint.tells (log_by r) q some limit;
             kind = joint.kind r there keeps;
           }
 
       none : NothingElse base e lines texts part first joint.tok.net.books joint.idx.net.filed
       none = record {
         head = λ l free. joint.alone l (λ r there keeps is. free r (there, keeps, is));
-        end = λ l some most free. joint.books.end l some most ∙ joint.alone l (λ r there keeps is. free r (there, keeps, is));
+        end = λ l some limit free. joint.books.end l some limit ∙ joint.alone l (λ r there keeps is. free r (there, keeps, is));
       }
 
   -- ---- a node takes the event
@@ -199,8 +199,8 @@ module _ (base : Setting) (e : Estate AnyNode) (lines : HasLines base e) (texts 
       none_then = record {
         head = λ l free. (filed_left part texts.text b.idx.net d.idx.net (what_of event) (node_of event) node turned.makes l
             (nobodys l free (node_of event) is_there)).head ∙ known.none.head l free;
-        end = λ l some most free. (books_left true owed.adopted b.tok.net d.tok.net (what_of event) (node_of event) node turned.books l
-            (nobodys l free (node_of event) is_there)).end ∙ known.none.end l some most free;
+        end = λ l some limit free. (books_left true owed.adopted b.tok.net d.tok.net (what_of event) (node_of event) node turned.books l
+            (nobodys l free (node_of event) is_there)).end ∙ known.none.end l some limit free;
       }
 
       pub known_then : LogsKnown (suc count) d

@@ -87,9 +87,9 @@ module _ (laws : StepsBelow) (base : Setting) (e : Estate AnyNode) (lines : HasL
 
   clients_write : (count : ℕ) (b : Both base e lines texts part first count) (c : ℕ) → 0 < c → c ≤ e.script.setup.clients
       → ClientWrites (b.tok.client c).phase
-  clients_write count b c some most =
+  clients_write count b c some limit =
       clients_write_then e run cl count (clusters count) laws.write_originals c (b.tok.client c)
-      (now.client_here base e lines texts part first count b c (some, most))
+      (now.client_here base e lines texts part first count b c (some, limit))
 
   cleaner_writes : (count : ℕ) (b : Both base e lines texts part first count) → LivesTell count → CleanerWrites b.tok.cleaner.phase
   cleaner_writes count b lives =

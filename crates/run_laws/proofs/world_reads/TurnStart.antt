@@ -65,11 +65,11 @@ module _ (begin : LinesBegin) (first : ℕ → ℕ → Segment) (l : ℕ) (Kind 
       let none : last_flight at.run ≡ None = begun_flight g (log.opening g at.map) n at.run is in
       record {
         known = record {
-          books = record { end = refl; rows = λ q some most. absurd (omega arith) };
+          books = record { end = refl; rows = λ q some limit. absurd (omega arith) };
           line = subst (λ (m : log.Net). IsLine l m (index.opening first).filed) (begun_net g (log.opening g at.map) n at.run is) (begin l g at.map first);
           flew = subst (LastFlew no_books l) (sym none) (record { flying = refl; next = tt });
         };
-        tells = λ q some most. absurd (omega arith);
+        tells = λ q some limit. absurd (omega arith);
         kind = subst (λ (o : Option FlightState). IfSome o (λ x. Kind x.segment)) (sym none) tt;
       }
 
@@ -102,7 +102,7 @@ module _ (laws : StepsBelow) (base : Setting) (e : Estate AnyNode) (lines : HasL
   unfolding start_both
   start_logs = record {
     all = λ r there keeps. begun_known laws.lines_begin first (log_by r) (WritesKind r) _ _ ((lines r there).stands 0).moment (lines r there).begins;
-    none = record { head = λ l free. refl; end = λ l some most free. refl };
+    none = record { head = λ l free. refl; end = λ l some limit free. refl };
   }
 
   start_falls : FallsKnown base e lines texts part first 0 start_both
@@ -131,7 +131,7 @@ module _ (laws : StepsBelow) (base : Setting) (e : Estate AnyNode) (lines : HasL
       falls = start_falls;
       moved = subst (λ (o : Option FlightState). IfSome o (λ f. AllByRecursion (ItemMoves part start_both.idx.net.sent) f.segment.items)) (sym start_flight) tt;
       promised = omega arith;
-      acted = λ r there keeps q some most. absurd (nothing_filed first (log_by r) q some most);
+      acted = λ r there keeps q some limit. absurd (nothing_filed first (log_by r) q some limit);
       entries = entries;
     }
 

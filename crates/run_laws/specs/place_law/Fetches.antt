@@ -71,6 +71,6 @@ pub record FetchesWell (packets : List Packet) (to : NodeId) (cuts : Cuts) (f : 
 -- Whatever packet that was sent to it makes its reading end, what is read of the block is what the filed segment says at the place of the fetch.
 abbrev pub FetchesReadThere : Type 0
 FetchesReadThere =
-    (texts : Texts) (packets : List Packet) (to : NodeId) (cuts : Cuts) (f : Filed) (s : Serving) (p : Packet) (part most c : ℕ) (n : tokens.Net)
+    (texts : Texts) (packets : List Packet) (to : NodeId) (cuts : Cuts) (f : Filed) (s : Serving) (p : Packet) (part limit c : ℕ) (n : tokens.Net)
     → FiledKnown texts packets cuts f → BooksAre n.books f → ArePlain f → FetchesWell packets to cuts f s → In p packets → p.to ≡ to
-    → ServingReads part most c n s p p.body
+    → ServingReads part limit c n s p p.body

@@ -124,19 +124,19 @@ module _ (part j : ℕ) (n : Net) where
   DoFree p Tick = Unit {0}
 
   -- no other of so many managers holds an epoch that this one holds, or that news give to it. `holders` has of each manager the slot.
-  abbrev pub HeldApart : (most : ℕ) → (ℕ → SlotPhase) → ManagerPhase → Do → Type 0
-  HeldApart most holders p what =
-      (d e : ℕ) → 0 < d → d ≤ most → (d ≡ j → ⊥) → HeldAt (holders d) e → (HeldAt (slot_in part p) e → ⊥) × (Names part j e what → ⊥)
+  abbrev pub HeldApart : (limit : ℕ) → (ℕ → SlotPhase) → ManagerPhase → Do → Type 0
+  HeldApart limit holders p what =
+      (d e : ℕ) → 0 < d → d ≤ limit → (d ≡ j → ⊥) → HeldAt (holders d) e → (HeldAt (slot_in part p) e → ⊥) × (Names part j e what → ⊥)
 
-  pub record ManagerGiven (most : ℕ) (holders : ℕ → SlotPhase) (p : ManagerPhase) (what : Do) : Type 0 where
+  pub record ManagerGiven (limit : ℕ) (holders : ℕ → SlotPhase) (p : ManagerPhase) (what : Do) : Type 0 where
     pub number : (managers.lasting_of p).number ≡ j
     pub free : DoFree p what
-    pub apart : HeldApart most holders p what
+    pub apart : HeldApart limit holders p what
 
 -- of the node of this name; other nodes are given nothing
-abbrev pub TokensGive : (part most : ℕ) → (ℕ → SlotPhase) → Net → NodeId → AnyNode → Do → Type 0
-TokensGive part most holders n (Manager j) (any.Manager node) what = ManagerGiven part j n most holders node.phase what
-TokensGive part most holders n name node what = Unit {0}
+abbrev pub TokensGive : (part limit : ℕ) → (ℕ → SlotPhase) → Net → NodeId → AnyNode → Do → Type 0
+TokensGive part limit holders n (Manager j) (any.Manager node) what = ManagerGiven part j n limit holders node.phase what
+TokensGive part limit holders n name node what = Unit {0}
 
 -- ---- what an event makes of the small world
 

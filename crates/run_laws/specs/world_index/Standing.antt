@@ -134,7 +134,7 @@ module _ (k : Cluster) (part : ℕ) (texts : Texts) (first : ℕ → ℕ → Seg
 pub record Came (k : Cluster) (part : ℕ) (s t : Scene) (name : NodeId) (what : Do) (e : ℕ) : Type 0 where
   pub manager : ℕ
   pub some : 0 < manager
-  pub most : manager ≤ k.managers
+  pub limit : manager ≤ k.managers
   pub is : name ≡ Manager manager
   pub serves : is_serving (t.manager manager).phase ≡ true
   pub knows : e ≤ epoch_in part (t.manager manager).phase

@@ -20,7 +20,7 @@ module _ (k : Cluster) (part : ℕ) where
   pub record IsManaged (t : tokens.Scene) (epoch : ℕ) : Type 0 where
     pub manager : ℕ
     pub some : 0 < manager
-    pub most : manager ≤ k.managers
+    pub limit : manager ≤ k.managers
     pub managed : ManagedAt (slot_in part (t.manager manager).phase) epoch
 
   -- From one moment to the next one: what was given of epochs stays given, the index goes on, and an epoch that has got a manager there is managed by it then.

@@ -33,7 +33,7 @@ use Rattle.cleaner_emptying.specs.declared.emptying.Emptying.{Emptying}
 use Rattle.cleaner_emptying.specs.Jobs.{Done, cleans}
 use Rattle.cleaner_parts.specs.declared.job.Job.{Job}
 use Rattle.cleaner_parts.specs.Jobs.{is_out}
-use Rattle.xfs_base.specs.Steps.{still, after, steps}
+use Rattle.xfs_base.specs.Steps.{still, saying, steps}
 use Rattle.client_log.specs.LogState.{LogState}
 use Rattle.client_log.specs.Transition.{end_from}
 use Rattle.segment_format.specs.Rows.{rows_of}
@@ -220,7 +220,7 @@ module _ (told : Told) (done : List Act) where
       let a : Done = job_regrouped t newer news.groups in
       let b : Done = hears_slots a.state news.slots in
       let c : Done = log_regrouped b.state newer news.groups in
-      frames.goes_on told done At a (after b.outs c) (job_hears_groups t newer news.groups h)
+      frames.goes_on told done At a (saying b.outs c) (job_hears_groups t newer news.groups h)
       (λ k. frames.goes_on told done At b c (slots_heard a.state news.slots k)
       (λ m. log_hears_groups b.state newer news.groups m
       (slots_flight told done a.state news.slots (groups_flight told done t newer news.groups owed))))
@@ -247,7 +247,7 @@ module _ (told : Told) (done : List Act) where
   unfolding on_welcome
   welcome_heard e m h owed =
       let d : Done = takes_news e m.news in
-      by_test (λ (x : Done). Goes x) ((m.inc == e.lasting.inc) && fits e.maps m.news) (after d.outs (welcomes d.state m)) (still e)
+      by_test (λ (x : Done). Goes x) ((m.inc == e.lasting.inc) && fits e.maps m.news) (saying d.outs (welcomes d.state m)) (still e)
       (λ t. frames.goes_on told done At d (welcomes d.state m) (news_taken e m.news h owed) (λ k. job_welcomed d.state m k)) (λ t. stays e h)
 
   -- ---- packets and time
@@ -281,6 +281,6 @@ module _ (told : Told) (done : List Act) where
       let j : Done = cleans e input.Tick in
       let l : Done = writes j.state log_in.Tick in
       let p : Done = record { state = l.state; outs = pushes_all l.state.promised.managers l.state.feed } in
-      frames.goes_on told done At j (after l.outs p) (jobs.job_goes_on told done e input.Tick tt h)
+      frames.goes_on told done At j (saying l.outs p) (jobs.job_goes_on told done e input.Tick tt h)
       (λ k. frames.goes_on told done At l p (log_ticks j.state k)
       (λ m. jobs.at_once told done l.state p.outs m (pushes_all_say told done l.state.promised.managers l.state.feed m.feed)))

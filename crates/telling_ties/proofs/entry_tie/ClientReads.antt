@@ -45,7 +45,7 @@ use Rattle.xfs_base.specs.declared.token.Mode.TheVariants.{Copy}
 use Rattle.xfs_base.specs.declared.token.Stamp.{Stamp}
 use Rattle.xfs_base.specs.Modes.{is_own}
 use Rattle.xfs_base.specs.Stamps.{is_later}
-use Rattle.xfs_base.specs.Steps.{still, after, steps}
+use Rattle.xfs_base.specs.Steps.{still, saying, steps}
 use Rattle.telling_ties.proofs.filed_tie.Frames.{all_append}
 use Rattle.telling_ties.specs.entry_tie.ClientTells.{LiesTold, BlockTold, ReadingTold}
 use Rattle.telling_ties.specs.entry_tie.Told.{Told}
@@ -129,7 +129,7 @@ module _ (told : Told) where
   above_out : (s : TokensState) (block : BlockId) (stamp : Stamp) (keep : Bool) → AllOut (recalled_above s block stamp keep)
   unfolding recalled_above
   above_out s block stamp keep =
-      by_test AllOut (can_refetch s block) (after (refetch s block).outs (give (refetch s block).state block stamp keep)) (still s)
+      by_test AllOut (can_refetch s block) (saying (refetch s block).outs (give (refetch s block).state block stamp keep)) (still s)
       (λ _. all_append OutTold (refetch s block).outs (give (refetch s block).state block stamp keep).outs (refetch_out s block)
       (give_out (refetch s block).state block stamp keep))
       (λ _. tt)

@@ -23,7 +23,7 @@ use Rattle.xfs_base.specs.declared.token.Stamp.{Stamp}
 use Rattle.xfs_base.specs.Limits.{u32_end}
 use Rattle.xfs_base.specs.Modes.{is_own, is_held}
 use Rattle.xfs_base.specs.Stamps.{is_later}
-use Rattle.xfs_base.specs.Steps.{still, after, steps}
+use Rattle.xfs_base.specs.Steps.{still, saying, steps}
 use Rattle.telling_ties.proofs.filed_tie.Frames.{all_append}
 use Rattle.telling_ties.specs.entry_tie.ClientTells.{FetchTold}
 use Rattle.telling_ties.specs.entry_tie.Told.{Told}
@@ -122,7 +122,7 @@ module _ (told : Told) where
   above_so : (s : TokensState) (block : BlockId) (stamp : Stamp) (keep : Bool) → FetchesTold s → Keeps (recalled_above s block stamp keep)
   unfolding recalled_above
   above_so s block stamp keep all =
-      by_test Keeps (can_refetch s block) (after (refetch s block).outs (give (refetch s block).state block stamp keep)) (still s)
+      by_test Keeps (can_refetch s block) (saying (refetch s block).outs (give (refetch s block).state block stamp keep)) (still s)
       (λ t. give_so (refetch s block).state block stamp keep (refetch_so s block all)) (λ t. all)
 
   again_so : (s : TokensState) (block : BlockId) (stamp : Stamp) → FetchesTold s → Keeps (recalled_again s block stamp)

@@ -12,7 +12,7 @@ use Rattle.version_model.specs.declared.answer.Answer.{Answer}
 use Rattle.xfs_base.proofs.Booleans.{by_test}
 use Rattle.xfs_base.proofs.Members.{contains_first, contains_rest}
 use Rattle.xfs_base.specs.declared.node.NodeId.{NodeId}
-use Rattle.xfs_base.specs.Steps.{Stepped, still, after, steps}
+use Rattle.xfs_base.specs.Steps.{Stepped, still, saying, steps}
 use Rattle.telling_ties.proofs.filed_tie.Frames.{all_append, all_before, all_behind}
 use Rattle.telling_ties.specs.entry_tie.Told.{Told, BodyTold, PacketTold}
 
@@ -116,13 +116,13 @@ module _ (told : Told) (done : List Act) where
     goes_plain s outs h says acts = (h, says)
 
     -- one thing follows another
-    pub goes_on : (d e : Stepped S Effect) → Goes d → (At d.state → Goes e) → Goes (after d.outs e)
+    pub goes_on : (d e : Stepped S Effect) → Goes d → (At d.state → Goes e) → Goes (saying d.outs e)
     goes_on d e p f acts =
         let first : At d.state × AllSay d.outs = p (all_before Acted d.outs e.outs acts) in
         let second : At e.state × AllSay e.outs = f first.0 (all_behind Acted d.outs e.outs acts) in
         (second.0, all_append Says d.outs e.outs first.1 second.1)
 
-    pub goes_after : (outs : List Effect) (d : Stepped S Effect) → AllSay outs → Goes d → Goes (after outs d)
+    pub goes_after : (outs : List Effect) (d : Stepped S Effect) → AllSay outs → Goes d → Goes (saying outs d)
     goes_after outs d says p acts =
         let second : At d.state × AllSay d.outs = p (all_behind Acted outs d.outs acts) in
         (second.0, all_append Says outs d.outs says second.1)

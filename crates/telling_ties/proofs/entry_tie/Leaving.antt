@@ -1,7 +1,7 @@
 -- Steps of a machine that keep a fact of its state, and of which each thing that they give is as it should be.
 use Rattle.std.proofs.Common.{List, [], ◌∷◌}
 use Rattle.std.specs.List.{AllByRecursion, flat_map}
-use Rattle.xfs_base.specs.Steps.{Stepped, still, after, steps}
+use Rattle.xfs_base.specs.Steps.{Stepped, still, saying, steps}
 use Rattle.telling_ties.proofs.filed_tie.Frames.{all_append}
 
 pub all_flat_map : {X Y : Type 0} (P : Y → Type 0) (f : X → List Y) → ((x : X) → AllByRecursion P (f x)) → (xs : List X) → AllByRecursion P (flat_map f xs)
@@ -23,7 +23,7 @@ module _ {S O : Type 0} (Keeps : S → Type 0) (GivesSo : O → Type 0) where
   pub stays : (s : S) → Keeps s → Leaves (still s)
   stays s kept = record { state = kept; outs = tt }
 
-  pub goes_after : (outs : List O) (d : Stepped S O) → AllByRecursion GivesSo outs → Leaves d → Leaves (after outs d)
+  pub goes_after : (outs : List O) (d : Stepped S O) → AllByRecursion GivesSo outs → Leaves d → Leaves (saying outs d)
   goes_after outs d given left = record { state = left.state; outs = all_append GivesSo outs d.outs given left.outs }
 
   -- one step for each item of a list of such items

@@ -29,7 +29,7 @@ use Rattle.xfs_base.specs.declared.block.BlockId.{BlockId}
 use Rattle.xfs_base.specs.declared.token.Mode.{Mode}
 use Rattle.xfs_base.specs.declared.token.Mode.TheVariants.{Copy, Own}
 use Rattle.xfs_base.specs.Modes.{is_nothing}
-use Rattle.xfs_base.specs.Steps.{after}
+use Rattle.xfs_base.specs.Steps.{saying}
 use Rattle.telling_ties.specs.entry_tie.ClientTells.{ReadingTold}
 use Rattle.telling_ties.specs.entry_tie.Told.{Told}
 use Rattle.telling_ties.proofs.entry_tie.ClientReads as reads_told
@@ -156,7 +156,7 @@ module _ (told : Told) (done : List Act) where
   unfolding runs_upto
   turns_from k s rest p =
       let r : Ran = runs_once s in
-      by_test (λ (d : Done). Goes d) r.goes (after r.done.outs (runs_upto k r.done.state)) r.done
+      by_test (λ (d : Done). Goes d) r.goes (saying r.done.outs (runs_upto k r.done.state)) r.done
       (λ t. frames.goes_on told done At r.done (runs_upto k r.done.state) p (rest r.done.state)) (λ t. p)
 
   runs_upto_so : (k : ℕ) (s : Serving) → At s → Goes (runs_upto k s)

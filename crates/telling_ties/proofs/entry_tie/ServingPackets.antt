@@ -48,7 +48,7 @@ use Rattle.xfs_base.specs.declared.news.SlotNews.{SlotNews}
 use Rattle.xfs_base.specs.declared.node.NodeId.{NodeId}
 use Rattle.xfs_base.specs.declared.node.NodeId.TheVariants as node
 use Rattle.xfs_base.specs.Modes.{is_own}
-use Rattle.xfs_base.specs.Steps.{Stepped, still, after, steps}
+use Rattle.xfs_base.specs.Steps.{Stepped, still, saying, steps}
 use Rattle.telling_ties.specs.entry_tie.ClientTells.{FlightOwed, ReadingTold}
 use Rattle.telling_ties.specs.entry_tie.Told.{Told, BodyTold}
 use Rattle.telling_ties.proofs.entry_tie.LogTurns.{tick_rests}
@@ -285,7 +285,7 @@ module _ (told : Told) (done : List Act) where
 
   -- what is done, and then the open call runs
   abbrev pub and_runs : Done → Done
-  and_runs d = after d.outs (runs d.state)
+  and_runs d = saying d.outs (runs d.state)
 
   pub runs_after : (d : Done) → Goes d → Goes (and_runs d)
   runs_after d p = frames.goes_on told done At d (runs d.state) p (λ h. calls.runs_so told done d.state h)

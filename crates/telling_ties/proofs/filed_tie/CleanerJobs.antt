@@ -47,8 +47,8 @@ use Rattle.telling_ties.proofs.filed_tie.LogTurns.{Rests, put_rests, seal_rests}
 
 module _ (reach : Reach) where
   -- one with its log's and its feed's end
-  pub record Stands (top fed : ℕ) : Type 0 where
-    pub end : top ≤ reach cleaner_log.0
+  pub record Stands (highest fed : ℕ) : Type 0 where
+    pub end : highest ≤ reach cleaner_log.0
     pub feed : fed ≤ reach cleaner_log.0
 
   abbrev pub At : Emptying → Type 0

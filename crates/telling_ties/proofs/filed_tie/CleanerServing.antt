@@ -32,7 +32,7 @@ use Rattle.wire_msg.specs.declared.registry.Welcome.{Welcome}
 use Rattle.cleaner_emptying.specs.declared.emptying.Emptying.{Emptying}
 use Rattle.cleaner_emptying.specs.Jobs.{Done, cleans}
 use Rattle.cleaner_parts.specs.Jobs.{is_out}
-use Rattle.xfs_base.specs.Steps.{still, after, steps}
+use Rattle.xfs_base.specs.Steps.{still, saying, steps}
 use Rattle.client_log.specs.LogState.{LogState}
 use Rattle.delta_feed.specs.Transition as feed
 use Rattle.log_owner.specs.Sending.{store, name_of, pushes_all, server_in}
@@ -194,7 +194,7 @@ module _ (reach : Reach) where
       let a : Done = job_regrouped t newer news.groups in
       let b : Done = hears_slots a.state news.slots in
       let c : Done = log_regrouped b.state newer news.groups in
-      frames.goes_on reach node.Cleaner At a (after b.outs c) (job_hears_groups t newer news.groups h)
+      frames.goes_on reach node.Cleaner At a (saying b.outs c) (job_hears_groups t newer news.groups h)
       (λ k. frames.goes_on reach node.Cleaner At b c (slots_heard a.state news.slots k) (λ m. log_hears_groups b.state newer news.groups m))
 
   news_heard : (e : Emptying) (news : News) → At e → Goes (on_news e news)
@@ -214,7 +214,7 @@ module _ (reach : Reach) where
   unfolding on_welcome
   welcome_heard e m h =
       let d : Done = takes_news e m.news in
-      by_test (λ (x : Done). Goes x) ((m.inc == e.lasting.inc) && fits e.maps m.news) (after d.outs (welcomes d.state m)) (still e)
+      by_test (λ (x : Done). Goes x) ((m.inc == e.lasting.inc) && fits e.maps m.news) (saying d.outs (welcomes d.state m)) (still e)
       (λ t. frames.goes_on reach node.Cleaner At d (welcomes d.state m) (news_taken e m.news h) (λ k. job_welcomed d.state m k)) (λ t. stays e h)
 
   -- ---- packets and time
@@ -247,6 +247,6 @@ module _ (reach : Reach) where
       let j : Done = cleans e input.Tick in
       let l : Done = writes j.state log_in.Tick in
       let p : Done = record { state = l.state; outs = pushes_all l.state.promised.managers l.state.feed } in
-      frames.goes_on reach node.Cleaner At j (after l.outs p) (jobs.job_goes_on reach e input.Tick h)
+      frames.goes_on reach node.Cleaner At j (saying l.outs p) (jobs.job_goes_on reach e input.Tick h)
       (λ k. frames.goes_on reach node.Cleaner At l p (log_takes j.state log_in.Tick k)
       (λ m. jobs.at_once reach l.state p.outs m (pushes_all_say reach node.Cleaner l.state.promised.managers l.state.feed m.feed)))

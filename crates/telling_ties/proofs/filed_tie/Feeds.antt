@@ -20,24 +20,24 @@ use Rattle.telling_ties.proofs.filed_tie.Frames.{AllSay}
 
 -- ---- its end
 
-module _ (most : ℕ) where
-  pub settled_end : (f : FeedState) (seq : ℕ) (rows : List (BlockId × Entry)) → f.end ≤ most → seq ≤ most → (settled f seq rows).end ≤ most
-  settled_end f seq rows h new = by_test (λ (g : FeedState). g.end ≤ most) (nat_lt f.end seq) _ f (λ t. new) (λ t. h)
+module _ (limit : ℕ) where
+  pub settled_end : (f : FeedState) (seq : ℕ) (rows : List (BlockId × Entry)) → f.end ≤ limit → seq ≤ limit → (settled f seq rows).end ≤ limit
+  settled_end f seq rows h new = by_test (λ (g : FeedState). g.end ≤ limit) (nat_lt f.end seq) _ f (λ t. new) (λ t. h)
 
-  pub acknowledged_end : (f : FeedState) (slot upto : ℕ) → f.end ≤ most → (acknowledged f slot upto).end ≤ most
-  acknowledged_end f slot upto h = by_test (λ (g : FeedState). g.end ≤ most) (nat_lt slot 8 && nat_lt (acked_of f slot) upto) _ f (λ t. h) (λ t. h)
+  pub acknowledged_end : (f : FeedState) (slot upto : ℕ) → f.end ≤ limit → (acknowledged f slot upto).end ≤ limit
+  acknowledged_end f slot upto h = by_test (λ (g : FeedState). g.end ≤ limit) (nat_lt slot 8 && nat_lt (acked_of f slot) upto) _ f (λ t. h) (λ t. h)
 
-  pub renewed_end : (f : FeedState) (slot : ℕ) → f.end ≤ most → (new_epoch f slot).end ≤ most
-  renewed_end f slot h = by_test (λ (g : FeedState). g.end ≤ most) (nat_lt slot 8) _ f (λ t. h) (λ t. h)
+  pub renewed_end : (f : FeedState) (slot : ℕ) → f.end ≤ limit → (new_epoch f slot).end ≤ limit
+  renewed_end f slot h = by_test (λ (g : FeedState). g.end ≤ limit) (nat_lt slot 8) _ f (λ t. h) (λ t. h)
 
-  fed_end : (f : FeedState) (chain : List Segment) → f.end ≤ most → AllByRecursion (λ s. s.name.seq ≤ most) chain → (fed f chain).end ≤ most
+  fed_end : (f : FeedState) (chain : List Segment) → f.end ≤ limit → AllByRecursion (λ s. s.name.seq ≤ limit) chain → (fed f chain).end ≤ limit
   unfolding with_segment
   fed_end f [] h all = h
   fed_end f (s ∷ chain) h all = fed_end (with_segment f s) chain (settled_end f s.name.seq (rows_of s) h all.0) all.1
 
   -- that of a log that is open again
-  pub opened_end : (low : ℕ) (chain : List Segment) (end : End) → low ≤ suc most → AllByRecursion (λ s. s.name.seq ≤ most) chain → end.seq ≤ most
-      → (feed_of low chain end).end ≤ most
+  pub opened_end : (low : ℕ) (chain : List Segment) (end : End) → low ≤ suc limit → AllByRecursion (λ s. s.name.seq ≤ limit) chain → end.seq ≤ limit
+      → (feed_of low chain end).end ≤ limit
   opened_end low chain end small all new =
       settled_end (fed (started (low - 1)) chain) end.seq [] (fed_end (started (low - 1)) chain (omega (arith, small)) all) new
 

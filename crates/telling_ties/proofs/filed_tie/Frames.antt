@@ -9,7 +9,7 @@ use Rattle.node_base.specs.declared.effects.Effect.TheVariants.{Send, Answer as 
 use Rattle.node_base.specs.Effects.{packet_of, act_of, packets_of, acts_of}
 use Rattle.version_model.specs.declared.answer.Answer.{Answer}
 use Rattle.xfs_base.specs.declared.node.NodeId.{NodeId}
-use Rattle.xfs_base.specs.Steps.{Stepped, still, after, steps}
+use Rattle.xfs_base.specs.Steps.{Stepped, still, saying, steps}
 use Rattle.telling_ties.specs.filed_tie.Reach.{Reach, ActReached, ActsReach, BodyTells, PacketTells}
 
 -- ---- lists
@@ -100,13 +100,13 @@ module _ (reach : Reach) (node : NodeId) where
     goes_plain s outs h says acts = (h, says)
 
     -- one thing follows another
-    pub goes_on : (d e : Stepped S Effect) → Goes d → (At d.state → Goes e) → Goes (after d.outs e)
+    pub goes_on : (d e : Stepped S Effect) → Goes d → (At d.state → Goes e) → Goes (saying d.outs e)
     goes_on d e p f acts =
         let first : At d.state × AllSay d.outs = p (all_before Reached d.outs e.outs acts) in
         let second : At e.state × AllSay e.outs = f first.0 (all_behind Reached d.outs e.outs acts) in
         (second.0, all_append Says d.outs e.outs first.1 second.1)
 
-    pub goes_after : (outs : List Effect) (d : Stepped S Effect) → AllSay outs → Goes d → Goes (after outs d)
+    pub goes_after : (outs : List Effect) (d : Stepped S Effect) → AllSay outs → Goes d → Goes (saying outs d)
     goes_after outs d says p acts =
         let second : At d.state × AllSay d.outs = p (all_behind Reached outs d.outs acts) in
         (second.0, all_append Says outs d.outs says second.1)

@@ -14,10 +14,10 @@ use Rattle.telling_ties.specs.filed_tie.Reach.{Reach, Rises, NumbersUpto, Applie
 
 -- ---- it rises
 
-numbers_rise : (most more : Reach) → Rises most more → (log : ℕ) (numbers : List ℕ) → NumbersUpto most log numbers → NumbersUpto more log numbers
-numbers_rise most more rises log [] all = tt
-numbers_rise most more rises log (number ∷ numbers) all =
-    (let a = all.0 in let b = rises log in omega (arith, a, b), numbers_rise most more rises (suc log) numbers all.1)
+numbers_rise : (limit more : Reach) → Rises limit more → (log : ℕ) (numbers : List ℕ) → NumbersUpto limit log numbers → NumbersUpto more log numbers
+numbers_rise limit more rises log [] all = tt
+numbers_rise limit more rises log (number ∷ numbers) all =
+    (let a = all.0 in let b = rises log in omega (arith, a, b), numbers_rise limit more rises (suc log) numbers all.1)
 
 module _ (reach later : Reach) (rises : Rises reach later) where
   pub applied_rises : (applied : List ℕ) → AppliedReaches reach applied → AppliedReaches later applied

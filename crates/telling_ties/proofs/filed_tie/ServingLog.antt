@@ -26,7 +26,7 @@ use Rattle.xfs_base.specs.declared.entry.Entry.{Entry}
 use Rattle.xfs_base.specs.declared.node.NodeId.TheVariants.{Client}
 use Rattle.xfs_base.specs.declared.segment.End.{End}
 use Rattle.xfs_base.specs.Modes.{is_held}
-use Rattle.xfs_base.specs.Steps.{still, after, steps}
+use Rattle.xfs_base.specs.Steps.{still, saying, steps}
 use Rattle.telling_ties.specs.filed_tie.Reach.{Reach}
 use Rattle.telling_ties.proofs.filed_tie.Feeds.{settled_end, pushes_all_say}
 use Rattle.telling_ties.proofs.filed_tie.Frames as frames
@@ -97,7 +97,7 @@ module _ (reach : Reach) (c : ℕ) where
 
   -- what it said is done
   abbrev said : Serving → List Out → Done
-  said s outs = (let d : Done = steps writes_one s outs in after d.outs (seals_again d.state (list_any is_settling outs)))
+  said s outs = (let d : Done = steps writes_one s outs in saying d.outs (seals_again d.state (list_any is_settling outs)))
 
   said_so : (s : Serving) (outs : List Out) → Goes (steps writes_one s outs) → Goes (said s outs)
   said_so s outs p =

@@ -45,7 +45,7 @@ use Rattle.xfs_base.specs.declared.news.SlotNews.{SlotNews}
 use Rattle.xfs_base.specs.declared.node.NodeId.{NodeId}
 use Rattle.xfs_base.specs.declared.node.NodeId.TheVariants as node
 use Rattle.xfs_base.specs.Modes.{is_own}
-use Rattle.xfs_base.specs.Steps.{Stepped, still, after, steps}
+use Rattle.xfs_base.specs.Steps.{Stepped, still, saying, steps}
 use Rattle.telling_ties.specs.filed_tie.Reach.{Reach}
 use Rattle.telling_ties.proofs.filed_tie.Feeds.{acknowledged_end, renewed_end, pushes_all_say}
 use Rattle.telling_ties.proofs.filed_tie.Frames as frames
@@ -229,7 +229,7 @@ module _ (reach : Reach) (c : ℕ) where
 
   -- what is done, and then the open call runs
   abbrev pub and_runs : Done → Done
-  and_runs d = after d.outs (runs d.state)
+  and_runs d = saying d.outs (runs d.state)
 
   pub runs_after : (d : Done) → Goes d → Goes (and_runs d)
   runs_after d p = frames.goes_on reach (node.Client c) At d (runs d.state) p (λ h. calls.runs_so reach c d.state h)

@@ -49,9 +49,9 @@ use Rattle.telling_ties.proofs.filed_tie.LogTurns.{Rests, seal_rests}
 
 module _ (reach : Reach) (c : ℕ) where
   -- one of this number, with its log's and its feed's end
-  pub record Stands (number top fed : ℕ) : Type 0 where
+  pub record Stands (number highest fed : ℕ) : Type 0 where
     pub own : number ≡ c
-    pub end : top ≤ reach c
+    pub end : highest ≤ reach c
     pub feed : fed ≤ reach c
 
   abbrev pub At : Serving → Type 0

@@ -38,7 +38,7 @@ use Rattle.xfs_base.specs.declared.news.SlotNews.{SlotNews}
 use Rattle.xfs_base.specs.declared.node.NodeId.{NodeId}
 use Rattle.xfs_base.specs.declared.node.NodeId.TheVariants as node
 use Rattle.xfs_base.specs.declared.segment.End.{End}
-use Rattle.xfs_base.specs.Steps.{still, after}
+use Rattle.xfs_base.specs.Steps.{still, saying}
 use Rattle.telling_ties.specs.reading_tie.Arrivals.{BodyBrought}
 use Rattle.telling_ties.specs.reading_tie.Came.{Came, Striped, MapStriped}
 use Rattle.telling_ties.specs.reading_tie.CleanerReads.{AnyHandHolds, ServesSo}
@@ -169,7 +169,7 @@ module _ (came : Came) (striped : Striped) where
   unfolding on_welcome
   welcome_heard e m is h =
       let d : Done = takes_news e m.news in
-      by_test Goes ((m.inc == e.lasting.inc) && fits e.maps m.news) (after d.outs (welcomes d.state m)) (still e)
+      by_test Goes ((m.inc == e.lasting.inc) && fits e.maps m.news) (saying d.outs (welcomes d.state m)) (still e)
       (λ _. job_welcomed d.state m (news_taken e m.news is h)) (λ _. h)
 
   -- ---- packets and time

@@ -66,7 +66,7 @@ use Rattle.xfs_base.specs.declared.node.NodeId.TheVariants as node
 use Rattle.xfs_base.specs.declared.segment.End.{End}
 use Rattle.xfs_base.specs.declared.token.Mode.TheVariants.{Copy, Own}
 use Rattle.xfs_base.specs.Modes.{is_held, is_nothing, is_own}
-use Rattle.xfs_base.specs.Steps.{still, after, steps}
+use Rattle.xfs_base.specs.Steps.{still, saying, steps}
 use Rattle.telling_ties.specs.reading_tie.Arrivals.{AnswerBrought, BodyBrought}
 use Rattle.telling_ties.specs.reading_tie.Came.{Came, Striped, MapStriped, MapsStriped, AnyReadingCame}
 use Rattle.telling_ties.specs.reading_tie.ClientReads.{ServesSo}
@@ -201,7 +201,7 @@ module _ (came : Came) (striped : Striped) where
   unfolding runs_upto
   turns_from k s rest p =
       let r : Ran = runs_once s in
-      by_test Goes r.goes (after r.done.outs (runs_upto k r.done.state)) r.done (λ _. rest r.done.state p) (λ _. p)
+      by_test Goes r.goes (saying r.done.outs (runs_upto k r.done.state)) r.done (λ _. rest r.done.state p) (λ _. p)
 
   runs_upto_so : (k : ℕ) (s : Serving) → At s → Goes (runs_upto k s)
   unfolding runs_upto

@@ -28,7 +28,7 @@ use Rattle.xfs_base.specs.declared.block.BlockId.{BlockId}
 use Rattle.xfs_base.specs.declared.token.Mode.{Mode}
 use Rattle.xfs_base.specs.declared.token.Mode.TheVariants.{Copy, Own}
 use Rattle.xfs_base.specs.Modes.{is_nothing}
-use Rattle.xfs_base.specs.Steps.{after}
+use Rattle.xfs_base.specs.Steps.{saying}
 use Rattle.telling_ties.proofs.reference_tie.Reporting as frames
 use Rattle.telling_ties.proofs.reference_tie.ClientLog as flights
 use Rattle.telling_ties.proofs.reference_tie.ClientTokens as tokens
@@ -143,7 +143,7 @@ module _ (told : End) where
   unfolding runs_upto
   turns_from k s rest p =
       let r : Ran = runs_once s in
-      by_test (λ (d : Done). Goes d) r.goes (after r.done.outs (runs_upto k r.done.state)) r.done
+      by_test (λ (d : Done). Goes d) r.goes (saying r.done.outs (runs_upto k r.done.state)) r.done
       (λ t. frames.goes_on told At r.done (runs_upto k r.done.state) p (rest r.done.state)) (λ t. p)
 
   runs_upto_so : (k : ℕ) (s : Serving) → At s → Goes (runs_upto k s)

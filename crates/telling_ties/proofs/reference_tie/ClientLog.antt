@@ -23,7 +23,7 @@ use Rattle.xfs_base.specs.declared.block.BlockId.{BlockId}
 use Rattle.xfs_base.specs.declared.entry.Entry.{Entry}
 use Rattle.xfs_base.specs.declared.segment.End.{End}
 use Rattle.xfs_base.specs.Modes.{is_held}
-use Rattle.xfs_base.specs.Steps.{still, after, steps}
+use Rattle.xfs_base.specs.Steps.{still, saying, steps}
 use Rattle.telling_ties.proofs.reference_tie.Feeding.{pushes_all_say}
 use Rattle.telling_ties.proofs.reference_tie.Reporting as frames
 use Rattle.telling_ties.proofs.reference_tie.ClientTokens as tokens
@@ -86,7 +86,7 @@ module _ (told : End) where
 
   -- what it said is done
   abbrev said : Serving → List Out → Done
-  said s outs = (let d : Done = steps writes_one s outs in after d.outs (seals_again d.state (list_any is_settling outs)))
+  said s outs = (let d : Done = steps writes_one s outs in saying d.outs (seals_again d.state (list_any is_settling outs)))
 
   said_so : (s : Serving) (outs : List Out) → Goes (steps writes_one s outs) → Goes (said s outs)
   said_so s outs p =

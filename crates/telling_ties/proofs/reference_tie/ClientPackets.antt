@@ -48,7 +48,7 @@ use Rattle.xfs_base.specs.declared.news.SlotNews.{SlotNews}
 use Rattle.xfs_base.specs.declared.node.NodeId.{NodeId}
 use Rattle.xfs_base.specs.declared.node.NodeId.TheVariants as node
 use Rattle.xfs_base.specs.Modes.{is_own}
-use Rattle.xfs_base.specs.Steps.{Stepped, still, after, steps}
+use Rattle.xfs_base.specs.Steps.{Stepped, still, saying, steps}
 use Rattle.telling_ties.proofs.reference_tie.Feeding.{pushes_all_say}
 use Rattle.telling_ties.proofs.reference_tie.Reporting as frames
 use Rattle.telling_ties.proofs.reference_tie.ClientCalls as calls
@@ -228,7 +228,7 @@ module _ (told : End) where
 
   -- what is done, and then the open call runs
   abbrev pub and_runs : Done → Done
-  and_runs d = after d.outs (runs d.state)
+  and_runs d = saying d.outs (runs d.state)
 
   pub runs_after : (d : Done) → Goes d → Goes (and_runs d)
   runs_after d p = frames.goes_on told At d (runs d.state) p (λ h. calls.runs_so told d.state h)

@@ -2,7 +2,7 @@
 use Rattle.std.proofs.Common.{Bool, List, [], ◌∷◌, ◌++◌, filter, map}
 use Rattle.std.specs.List.{AllByRecursion, flat_map}
 use Rattle.xfs_base.proofs.Booleans.{by_test}
-use Rattle.xfs_base.specs.Steps.{Stepped, still, after, steps}
+use Rattle.xfs_base.specs.Steps.{Stepped, still, saying, steps}
 
 -- ---- lists
 
@@ -38,7 +38,7 @@ module _ {S O : Type 0} (Keeps : S → Type 0) (GivesSo : O → Type 0) where
   pub stays : (s : S) → Keeps s → Leaves (still s)
   stays s kept = record { state = kept; outs = tt }
 
-  pub goes_after : (outs : List O) (d : Stepped S O) → AllByRecursion GivesSo outs → Leaves d → Leaves (after outs d)
+  pub goes_after : (outs : List O) (d : Stepped S O) → AllByRecursion GivesSo outs → Leaves d → Leaves (saying outs d)
   goes_after outs d given left = record { state = left.state; outs = all_append GivesSo outs d.outs given left.outs }
 
   -- one step for each item of a list of such items

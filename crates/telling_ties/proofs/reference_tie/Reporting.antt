@@ -9,7 +9,7 @@ use Rattle.node_base.specs.Effects.{packets_of}
 use Rattle.version_model.specs.declared.answer.Answer.{Answer}
 use Rattle.xfs_base.specs.declared.node.NodeId.{NodeId}
 use Rattle.xfs_base.specs.declared.segment.End.{End}
-use Rattle.xfs_base.specs.Steps.{Stepped, still, after, steps}
+use Rattle.xfs_base.specs.Steps.{Stepped, still, saying, steps}
 use Rattle.telling_ties.specs.reference_tie.Owners.{ReportsEnd, ReportsOf}
 pub use Rattle.telling_ties.proofs.reference_tie.Leaving.{all_append, all_map}
 
@@ -51,10 +51,10 @@ module _ (told : End) where
     goes_plain s outs h says = (h, says)
 
     -- one thing follows another
-    pub goes_on : (d e : Stepped S Effect) → Goes d → (At d.state → Goes e) → Goes (after d.outs e)
+    pub goes_on : (d e : Stepped S Effect) → Goes d → (At d.state → Goes e) → Goes (saying d.outs e)
     goes_on d e p f = (let second : Goes e = f p.0 in (second.0, all_append Says d.outs e.outs p.1 second.1))
 
-    pub goes_after : (outs : List Effect) (d : Stepped S Effect) → AllSay outs → Goes d → Goes (after outs d)
+    pub goes_after : (outs : List Effect) (d : Stepped S Effect) → AllSay outs → Goes d → Goes (saying outs d)
     goes_after outs d says p = (p.0, all_append Says outs d.outs says p.1)
 
     pub goes_and_gives : (d : Stepped S Effect) (s : S) (outs : List Effect) → Goes d → (At d.state → At s) → (At d.state → AllSay outs)

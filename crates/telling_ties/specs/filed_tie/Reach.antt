@@ -35,8 +35,8 @@ ActsReach reach acts = AllByRecursion (ActReached reach) acts
 
 -- a list has, of each log from this one on, a number that is at most this
 abbrev pub NumbersUpto : Reach → ℕ → List ℕ → Type 0
-NumbersUpto most log [] = Unit {0}
-NumbersUpto most log (number ∷ numbers) = (number ≤ most log) × NumbersUpto most (suc log) numbers
+NumbersUpto limit log [] = Unit {0}
+NumbersUpto limit log (number ∷ numbers) = (number ≤ limit log) × NumbersUpto limit (suc log) numbers
 
 -- nothing is applied, of logs 1 to 9, but what was filed
 abbrev pub AppliedReaches : Reach → List ℕ → Type 0

@@ -5,5 +5,5 @@ use Rattle.script_text.proofs.text.repeat_within.Given as goal
 abbrev pub invariant-loop : goal.invariant-loop
 invariant-loop l = record {
   same : l.text ++ repeat (l.count - l.counter) l.piece ≡ repeat l.count l.piece;
-  short : length l.text ≤ l.most;
+  short : length l.text ≤ l.limit;
 }

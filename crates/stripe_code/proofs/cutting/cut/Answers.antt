@@ -7,7 +7,7 @@ pub with_parity-requires-clause-few : goal.with_parity-requires-clause-few
 with_parity-requires-clause-few c =
     let many : length c.in_ok-pieces.pieces ≡ c.args.n - c.from.result =
     ap (λ (s : List (List ℕ)). length s) c.in_ok-pieces.ensures ∙ length-pieces (c.args.n - c.from.result) c.part_len-part.result c.args.segment.now in
-    omega (arith, c.requires.most)
+    omega (arith, c.requires.limit)
 
 pub with_parity-requires-clause-alike : goal.with_parity-requires-clause-alike
 with_parity-requires-clause-alike c =

@@ -3,10 +3,10 @@ use Rattle.std.proofs.Common.{◌≡◌, ℕ, ◌+◌, ◌-◌, ◌≤◌, Bool,
 use Rattle.std.proofs.lemmas.Bool.Decides.{nat_tests}
 use Rattle.token_manager.proofs.slot.has_turns.Goals as goal
 
-left_upto : (turn n top : ℕ) → turn ≤ top → nat_le n (top - turn) ≡ nat_lt (turn + n) (top + 1)
-left_upto turn n top most = by (nat_le n (top - turn)) refl
+left_upto : (turn n highest : ℕ) → turn ≤ highest → nat_le n (highest - turn) ≡ nat_lt (turn + n) (highest + 1)
+left_upto turn n highest limit = by (nat_le n (highest - turn)) refl
   where
-    by : (t : Bool) → nat_le n (top - turn) ≡ t → t ≡ nat_lt (turn + n) (top + 1)
+    by : (t : Bool) → nat_le n (highest - turn) ≡ t → t ≡ nat_lt (turn + n) (highest + 1)
     by true left = sym (grind (arith, nat_tests))
     by false left = sym (grind (arith, nat_tests))
 

@@ -5,8 +5,8 @@ use Rattle.client_serving.specs.Running.{runs_upto}
 -- what was done so far, and then the calls on blocks that are left, is all
 abbrev pub invariant-loop-left : goal.invariant-loop-left
 invariant-loop-left l = record {
-  state : (runs_upto l.left l.self).state ≡ (runs_upto l.most l.initial.self).state;
-  effects : l.effects ++ (runs_upto l.left l.self).outs ≡ l.initial.effects ++ (runs_upto l.most l.initial.self).outs;
+  state : (runs_upto l.left l.self).state ≡ (runs_upto l.limit l.initial.self).state;
+  effects : l.effects ++ (runs_upto l.left l.self).outs ≡ l.initial.effects ++ (runs_upto l.limit l.initial.self).outs;
 }
 
 abbrev pub decreases-loop-left : goal.decreases-loop-left

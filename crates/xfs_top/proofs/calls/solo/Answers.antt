@@ -3,7 +3,7 @@ use Rattle.core_world.specs.declared.any_node.AnyNode.{AnyNode}
 use Rattle.top_call.specs.Claim.{IsPlayed}
 use Rattle.world_base.specs.declared.estate.Estate.{Estate}
 use Rattle.xfs_top.proofs.Runs.{played_has}
-use Rattle.xfs_top.proofs.top.solo.Goals as goal
+use Rattle.xfs_top.proofs.calls.solo.Goals as goal
 use Rattle.xfs_top.specs.Headline.{Headline}
 
 pub returns-clause-claim : goal.returns-clause-claim

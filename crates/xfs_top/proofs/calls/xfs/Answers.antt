@@ -1,4 +1,4 @@
-use Rattle.xfs_top.proofs.top.xfs.Goals as goal
+use Rattle.xfs_top.proofs.calls.xfs.Goals as goal
 
 pub returns-clause-claim : goal.returns-clause-claim
 returns-clause-claim g c = c.solo.ensures.claim

@@ -1,4 +1,4 @@
-//! The top call.
+//! The two calls of the program.
 ghost use Rattle.std.specs.Prelude.{◌≡◌, false, IfSome, map, string_bytes};
 ghost use Rattle.core_world.specs.AnyNode.{any_step, any_start};
 ghost use Rattle.top_call.specs.Claim.{writing, reading, Claim};

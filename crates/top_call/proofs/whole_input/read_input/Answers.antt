@@ -2,7 +2,7 @@ use Rattle.std.proofs.Common.{◌≤◌, ◌<◌, ◌++◌, arith, length, take}
 use Rattle.std.proofs.lemmas.List.{length-take}
 use Rattle.top_call.specs.Input.{limit}
 use Rattle.top_call.proofs.Loops.{consumes_on, within, whole_at_end, whole_at_limit}
-use Rattle.top_call.proofs.input.read_input.Goals as goal
+use Rattle.top_call.proofs.whole_input.read_input.Goals as goal
 
 pub returns-then-got-eq0-clause-whole : goal.returns-then-got-eq0-clause-whole
 returns-then-got-eq0-clause-whole g c =

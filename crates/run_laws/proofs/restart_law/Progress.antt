@@ -26,8 +26,8 @@ stage_of (Serving s) = 2
 stage_of Down = 3
 
 -- and in all its boots
-abbrev pub rank : Net → ℕ
-rank n = 4 * n.inc + stage_of n.owner
+abbrev pub progress : Net → ℕ
+progress n = 4 * n.inc + stage_of n.owner
 
 last_stage : (x : Owner) → stage_of x ≤ 3
 last_stage (Opening s) = omega arith
@@ -37,17 +37,17 @@ last_stage Down = omega arith
 
 module _ (g : Setting) (n : Net) where
   flight_rises : (chain : List Segment) (s : LogState) (d : log.Done) (o : Option FlightState) → n.owner ≡ Writing chain s
-      → rank n ≤ rank (after_flight g n chain d o)
+      → progress n ≤ progress (after_flight g n chain d o)
   flight_rises chain s d None is = let e = ap stage_of is in omega arith
   flight_rises chain s d (Some f) is = let e = ap stage_of is in omega arith
 
   told_rises : (s : ScanState) (d : scan.Done) (t : Option Told) (groups : Option GroupMapState) → n.owner ≡ Opening s
-      → rank n ≤ rank (after_told g n s d t groups)
+      → progress n ≤ progress (after_told g n s d t groups)
   told_rises s d None groups is = let e = ap stage_of is in omega arith
   told_rises s d (Some t) None is = let e = ap stage_of is in omega arith
   told_rises s d (Some t) (Some m) is = let e = ap stage_of is in omega arith
 
-  rises : (o : Net) → Happens g n o → rank n ≤ rank o
+  rises : (o : Net) → Happens g n o → progress n ≤ progress o
   rises o (Acts s i is came texts) = let e = ap stage_of is in omega arith
   rises o (Writes chain s i is came texts) = flight_rises chain s (log.transition s i) (log.transition s i).state.flight is
   rises o (Opens s i is came can) =
@@ -64,7 +64,7 @@ module _ (g : Setting) (n : Net) where
   rises o (Welcomes inc ask news map hello low whole) = omega arith
   rises o (Drops lists meta listed within below) = omega arith
 
-pub run_rises : (g : Setting) (n o : Net) → Runs g n o → rank n ≤ rank o
+pub run_rises : (g : Setting) (n o : Net) → Runs g n o → progress n ≤ progress o
 run_rises g n o Begun = omega arith
 run_rises g n o (On {m = m} run happens) = (let a = run_rises g n m run in let b = rises g m o happens in omega arith)
 
@@ -83,7 +83,7 @@ stage_serving (Writing chain s) is = contrary is
 stage_serving (Serving s) is = refl
 
 -- the owner goes forward
-ends_rise : (n o : Net) → rank n ≤ rank o → EndsRestart n o → rank o ≤ rank n → ⊥
+ends_rise : (n o : Net) → progress n ≤ progress o → EndsRestart n o → progress o ≤ progress n → ⊥
 ends_rise n o up ends down = (let a = stage_writing n.owner ends.0 in let b = stage_serving o.owner ends.1 in omega arith)
 
 -- no restart ends in a run
@@ -91,7 +91,7 @@ abbrev pub NoneEnds : {g : Setting} {n o : Net} → Runs g n o → Type 0
 NoneEnds Begun = Unit {0}
 NoneEnds (On {m = m} {o = o} run happens) = NoneEnds run × (EndsRestart m o → ⊥)
 
-pub none_ends : (g : Setting) (n o : Net) (runs : Runs g n o) → rank o ≤ rank n → NoneEnds runs
+pub none_ends : (g : Setting) (n o : Net) (runs : Runs g n o) → progress o ≤ progress n → NoneEnds runs
 none_ends g n o Begun still = tt
 none_ends g n o (On {m = m} run happens) still =
     let a = run_rises g n m run in
@@ -139,10 +139,10 @@ span_rises g a n o run (On {m = m} more happens) serves spanning =
     first : stage_of n.owner ≡ 2
     first = stage_serving n.owner serves
 
-    through : rank n ≤ rank o
+    through : progress n ≤ progress o
     through = run_rises g n o (On more happens)
 
-    last : rank m ≤ rank o
+    last : progress m ≤ progress o
     last = rises g m o happens
 
     by : (x : Owner) → o.owner ≡ x → spans x (in_span (then_on run more)) ≡ true → (in_span (then_on run more) ≡ true → n.inc < m.inc) → n.inc < o.inc

@@ -1,7 +1,7 @@
 use Rattle.std.proofs.Common.{◌≡◌, ◌≤◌, ◌-◌, length}
 use Rattle.std.specs.Io.KnownBytes.{Consumes}
 use Rattle.top_call.specs.Input.{limit}
-use Rattle.top_call.proofs.input.read_input.Given as goal
+use Rattle.top_call.proofs.whole_input.read_input.Given as goal
 
 -- what was taken is the text so far
 abbrev pub invariant-loop-room : goal.invariant-loop-room
