@@ -195,7 +195,8 @@ back_shown b h t client chain (w ∷ []) s fell legal =
     subst (λ (told : ℕ → List FallTold). BlockShown b ((settle_falls (holds_flight chain w.flight) w.falls h).of_block b)
     (λ c. if c == client then [] else told c) (block.after_act t (BackBlock client (holds_flight chain w.flight))))
     (sym (settled_told adopted w.falls h))
-    (subst (λ (p : BlockHistory). BlockShown b p (λ c. if c == client then [] else h.told c) (block.after_act t (BackBlock client (holds_flight chain w.flight))))
+    (subst (λ (p : BlockHistory). BlockShown b p (λ c. if c == client then [] else h.told c)
+    (block.after_act t (BackBlock client (holds_flight chain w.flight))))
     (sym (settled_block adopted w.falls h b fell.0))
     (by_fall b (h.of_block b) h.told t s client adopted (fall_of b w.falls) fell.1 legal))
 back_shown b h t client chain (w ∷ u ∷ ws) s none legal = absurd none

@@ -83,7 +83,8 @@ keeps_parts s items =
 keeps_acked : (s : LogState) (name : SegName) (index generation : ℕ) → Keeps s.dirty (on_acked s name index generation)
 unfolding on_acked
 keeps_acked s name index generation =
-    elim s.flight as (λ o. Keeps s.dirty (elim o [ None ↦ still s | Some f ↦ cond (is_of f name index generation) (looked_at s s (noting f index)) (still s) ])) [
+    elim s.flight as (λ o. Keeps s.dirty
+    (elim o [ None ↦ still s | Some f ↦ cond (is_of f name index generation) (looked_at s s (noting f index)) (still s) ])) [
       | None ↦ inl refl
       | Some f ↦ elim (is_of f name index generation) as (λ b. Keeps s.dirty (cond b (looked_at s s (noting f index)) (still s)))
           [ true ↦ keeps_looked s s (noting f index) refl | false ↦ inl refl ]

@@ -142,7 +142,8 @@ steps_acked : (s : LogState) (name : SegName) (index generation : ℕ) → IsInL
 unfolding on_acked
 steps_acked s name index generation l =
     elim s.flight as
-    (λ o. IfSome o (IsNext s) → Steps s (elim o [ None ↦ still s | Some f ↦ cond (is_of f name index generation) (looked_at s s (noting f index)) (still s) ])) [
+    (λ o. IfSome o (IsNext s)
+    → Steps s (elim o [ None ↦ still s | Some f ↦ cond (is_of f name index generation) (looked_at s s (noting f index)) (still s) ])) [
       | None ↦ λ m. steps_still s l
       | Some f ↦ λ m. elim (is_of f name index generation) as (λ b. Steps s (cond b (looked_at s s (noting f index)) (still s))) [
         | true ↦ steps_looked s s (noting f index) refl l (record { log = m.log; seq = m.seq; inc = m.inc; prior = m.prior })

@@ -20,7 +20,8 @@ pub fn flight_is_next()
 
 /// The end never falls: it stays, or rises by one with a segment that is settled.
 pub fn end_rises_by_one()
-    ensures { (log : LogId) (inc : ℕ) (end : End) (groups : GroupMapState) (history : List In) (input : In) → EndRisesByOne (state_after (started log inc end groups) history) (transition (state_after (started log inc end groups) history) input) }
+    ensures { (log : LogId) (inc : ℕ) (end : End) (groups : GroupMapState) (history : List In) (input : In)
+        → EndRisesByOne (state_after (started log inc end groups) history) (transition (state_after (started log inc end groups) history) input) }
 {}
 
 /// What is told as settled is the flight, with what its Deltas say, once no more of its members are lost
@@ -41,19 +42,23 @@ pub fn attempts_rise()
 
 /// What waits of a block is what was put last of it, among the puts that had an effect.
 pub fn last_put_waits()
-    ensures { (log : LogId) (inc : ℕ) (end : End) (groups : GroupMapState) (history : List In) → AreLastPuts (started log inc end groups) history (state_after (started log inc end groups) history).dirty }
+    ensures { (log : LogId) (inc : ℕ) (end : End) (groups : GroupMapState) (history : List In)
+        → AreLastPuts (started log inc end groups) history (state_after (started log inc end groups) history).dirty }
 {}
 
 /// What is sealed of a block is what was put last of it, among the puts that had an effect: a flight holds
 /// what flew before, what was given as items, or changes of which each was put last.
 pub fn last_put_is_sealed()
-    ensures { (log : LogId) (inc : ℕ) (end : End) (groups : GroupMapState) (history : List In) (input : In) → IfSome (state_after (started log inc end groups) (input ∷ history)).flight (λ g. HoldsLastPuts (started log inc end groups) history input g.segment.items) }
+    ensures { (log : LogId) (inc : ℕ) (end : End) (groups : GroupMapState) (history : List In) (input : In)
+        → IfSome (state_after (started log inc end groups) (input ∷ history)).flight
+        (λ g. HoldsLastPuts (started log inc end groups) history input g.segment.items) }
 {}
 
 /// A put that has an effect is not lost: its version waits, or is in flight. It has none only where it would
 /// seal a segment whose number can't rise.
 pub fn puts_are_kept()
-    ensures { (s : LogState) (block : BlockId) (change : Change) → can_go_on (waits s block change) ≡ true → WaitsOrFlies (on_put s block change).state block change }
+    ensures { (s : LogState) (block : BlockId) (change : Change) → can_go_on (waits s block change) ≡ true
+        → WaitsOrFlies (on_put s block change).state block change }
 {}
 
 /// What waits leaves only into the flight: after any input all of it waits, in the same order, or the first

@@ -234,7 +234,8 @@ fn take_and_run(
     packet: &Packet,
 ) -> Mem<()>
     ensures serving { OnOk result (serving.new ≡ (runs (on_packet serving.old packet.now).state).state) }
-    ensures effects { OnOk result (effects.new ≡ effects.old ++ ((on_packet serving.old packet.now).outs ++ (runs (on_packet serving.old packet.now).state).outs)) }
+    ensures effects { OnOk result
+        (effects.new ≡ effects.old ++ ((on_packet serving.old packet.now).outs ++ (runs (on_packet serving.old packet.now).state).outs)) }
 {
     serving.take(alloc, effects, packet)?;
     serving.run(alloc, effects)

@@ -96,7 +96,10 @@ fn say_back(
     chain: List<SegName>,
 ) -> Mem<()>
     ensures serving { OnOk result (serving.new ≡ record serving.old { lasting = record serving.old.lasting { items = answered serving.old.lasting.items } }) }
-    ensures effects { OnOk result (effects.new ≡ effects.old ++ (Does (Back serving.old.lasting.number chain) ∷ (pushes_all serving.old.managers serving.old.feed ++ answers_unanswered serving.old.lasting.items.unanswered answer.Done))) }
+    ensures effects { OnOk result
+        (effects.new ≡ effects.old
+        ++ (Does (Back serving.old.lasting.number chain)
+        ∷ (pushes_all serving.old.managers serving.old.feed ++ answers_unanswered serving.old.lasting.items.unanswered answer.Done))) }
 {
     effects.act(Act::Back {
         client: serving.lasting.number,

@@ -28,7 +28,8 @@ pub fn read(
     tokens: &Tokens,
     block: BlockId,
 ) -> Mem<BlockAnswer>
-    ensures effects { OnOk result (effects.new ≡ effects.old ++ Does (Read client block (held_of tokens.now.blocks block).ver (value_of (held_of tokens.now.blocks block))) ∷ []) }
+    ensures effects { OnOk result
+        (effects.new ≡ effects.old ++ Does (Read client block (held_of tokens.now.blocks block).ver (value_of (held_of tokens.now.blocks block))) ∷ []) }
     ensures answer { IfOk result (λ answer. answer ≡ Got (held_of tokens.now.blocks block).ver (value_of (held_of tokens.now.blocks block))) }
 {
     let value = value_of(alloc, tokens, block)?;

@@ -25,7 +25,10 @@ pub fn send_want(
     want: Want,
 ) -> Mem<()>
     ensures feed { OnOk result (feed.new ≡ feed.old) }
-    ensures effects { OnOk result (effects.new ≡ effects.old ++ ((if want.again == 0 then pushes managers feed.old (slot_of want.block.ino.0) else []) ++ Send (manager_of managers (slot_of want.block.ino.0)) (WantBody want) ∷ [])) }
+    ensures effects { OnOk result
+        (effects.new ≡ effects.old
+        ++ ((if want.again == 0 then pushes managers feed.old (slot_of want.block.ino.0) else [])
+        ++ Send (manager_of managers (slot_of want.block.ino.0)) (WantBody want) ∷ [])) }
 {
     let slot = want.block.ino.slot();
     push_first(alloc, effects, feed, managers, slot, want.again)?;
@@ -58,7 +61,9 @@ pub fn send_gave(
     gave: Gave,
 ) -> Mem<()>
     ensures feed { OnOk result (feed.new ≡ feed.old) }
-    ensures effects { OnOk result (effects.new ≡ effects.old ++ (pushes managers feed.old (slot_of gave.block.ino.0) ++ Send (manager_of managers (slot_of gave.block.ino.0)) (GaveBody gave) ∷ [])) }
+    ensures effects { OnOk result
+        (effects.new ≡ effects.old
+        ++ (pushes managers feed.old (slot_of gave.block.ino.0) ++ Send (manager_of managers (slot_of gave.block.ino.0)) (GaveBody gave) ∷ [])) }
 {
     push(alloc, effects, feed, managers, gave.block.ino.slot())?;
     say_gave(effects, managers, gave)

@@ -25,7 +25,8 @@ pub fn forward(
     forward: Forward,
 ) -> Mem<()>
     ensures tokens { OnOk result (tokens.new ≡ (on_forwarded tokens.old forward.block forward.stamp forward.ver).state) }
-    ensures effects { OnOk result (effects.new ≡ effects.old ++ flat_map (supplies forward) (on_forwarded tokens.old forward.block forward.stamp forward.ver).outs) }
+    ensures effects { OnOk result
+        (effects.new ≡ effects.old ++ flat_map (supplies forward) (on_forwarded tokens.old forward.block forward.stamp forward.ver).outs) }
 {
     let input = In::Forwarded {
         block: forward.block,
@@ -38,7 +39,8 @@ pub fn forward(
 
 /// Whether it is the open want that can't be served, in the promised epoch.
 pub fn is_gone(tokens: &Tokens, inc: u32, gone: Gone) -> bool
-    ensures { result ≡ ((epoch_of tokens.now.epochs (slot_of gone.block.ino.0) == gone.epoch) && ((gone.inc == inc) && is_want (option_map (λ want. want.req) (held_of tokens.now.blocks gone.block).want) gone.req)) }
+    ensures { result ≡ ((epoch_of tokens.now.epochs (slot_of gone.block.ino.0) == gone.epoch)
+        && ((gone.inc == inc) && is_want (option_map (λ want. want.req) (held_of tokens.now.blocks gone.block).want) gone.req)) }
 {
     tokens.promised(gone.block.ino.slot()) == gone.epoch
         && gone.inc == inc

@@ -27,7 +27,8 @@ pub fn report(
     slot: u8,
     epoch: u32,
 ) -> Mem<()>
-    ensures { OnOk result (effects.new ≡ effects.old ++ Send (manager_of managers slot) (Reports (record { slot = slot; epoch = epoch; held = held_in slot tokens.now.blocks; end = end })) ∷ []) }
+    ensures { OnOk result (effects.new ≡ effects.old
+        ++ Send (manager_of managers slot) (Reports (record { slot = slot; epoch = epoch; held = held_in slot tokens.now.blocks; end = end })) ∷ []) }
 {
     let report = Report {
         slot,

@@ -95,7 +95,8 @@ impl Serving {
     // All slots are told, and then those of these blocks that are clean and to be given up are given up.
     fn tell_settled(&mut self, alloc: Global, effects: &mut Effects, blocks: &[BlockId]) -> Mem<()>
         ensures state { OnOk result (self.new ≡ (steps gives_if_clean self.old blocks.now).state) }
-        ensures effects { OnOk result (effects.new ≡ effects.old ++ (pushes_all self.old.managers self.old.feed ++ (steps gives_if_clean self.old blocks.now).outs)) }
+        ensures effects { OnOk result
+            (effects.new ≡ effects.old ++ (pushes_all self.old.managers self.old.feed ++ (steps gives_if_clean self.old blocks.now).outs)) }
     {
         push_all(alloc, effects, &mut self.feed, self.managers)?;
         self.give_clean(alloc, effects, blocks)

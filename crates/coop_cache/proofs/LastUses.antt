@@ -60,7 +60,8 @@ module _ (f : BlockId → ℕ) (n : ℕ) (block : BlockId) (past : (b : BlockId)
   kept_above : (m : ℕ) (bs : List BlockId) → AllByRecursion (λ c. m < f c) bs → AllByRecursion (λ c. m < used_now c) (without block bs)
   kept_above m [] h = h
   kept_above m (b ∷ bs) h =
-      elim (same_block block b) as (λ t. same_block block b ≡ t → AllByRecursion (λ c. m < used_now c) (cond (not t) (b ∷ without block bs) (without block bs))) [
+      elim (same_block block b) as
+      (λ t. same_block block b ≡ t → AllByRecursion (λ c. m < used_now c) (cond (not t) (b ∷ without block bs) (without block bs))) [
         | true ↦ λ e. kept_above m bs h.1
         | false ↦ λ e. (subst (λ t. m < cond t (n + 1) (f b)) (sym e) h.0, kept_above m bs h.1)
       ] refl

@@ -16,7 +16,8 @@ pub fn order_is_by_use()
 
 /// A victim is the least recently used: it was used last before every block that the cache keeps.
 pub fn victim_is_least_recently_used()
-    ensures { (capacity : ℕ) (history : List In) (input : In) → All (IsLeastUsed (input ∷ history) (state_after capacity (input ∷ history)).blocks) (transition (state_after capacity history) input).outs }
+    ensures { (capacity : ℕ) (history : List In) (input : In)
+        → All (IsLeastUsed (input ∷ history) (state_after capacity (input ∷ history)).blocks) (transition (state_after capacity history) input).outs }
 {}
 
 /// A cache never keeps more clean blocks than it may.
@@ -31,5 +32,6 @@ pub fn leaves_only_told()
 
 /// A victim is told only where a cache was full, and one at a time.
 pub fn victim_only_where_full()
-    ensures { (capacity : ℕ) (history : List In) (input : In) → TellsWhereFull (state_after capacity history) (transition (state_after capacity history) input).outs }
+    ensures { (capacity : ℕ) (history : List In) (input : In)
+        → TellsWhereFull (state_after capacity history) (transition (state_after capacity history) input).outs }
 {}

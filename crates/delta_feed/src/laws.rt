@@ -26,7 +26,8 @@ pub fn ranges_tell_what_was_filed()
 /// A slot is kept up to date: where its acknowledgement is below the end, a push gives a range.
 pub fn push_tells_what_is_lacking()
     ensures { (base : ℕ) (inputs : List In) (slot : ℕ) → slot < 8 → acknowledged_by base slot inputs < end_of base inputs
-        → (rows : List (BlockId × Entry)) × ((transition (state_after base inputs) (Push slot)).outs ≡ Range slot (acknowledged_by base slot inputs + 1) (end_of base inputs) rows ∷ []) }
+        → (rows : List (BlockId × Entry))
+        × ((transition (state_after base inputs) (Push slot)).outs ≡ Range slot (acknowledged_by base slot inputs + 1) (end_of base inputs) rows ∷ []) }
 {}
 
 /// A slot that has all is told nothing.

@@ -15,7 +15,8 @@ pub fn index_is_the_join()
 /// The joins determine the index: one that is recovered from other merges with the same joins is the one
 /// that was never lost.
 pub fn joins_determine_the_index()
-    ensures { (merges others : List (BlockId × Entry)) → ((block : BlockId) → join merges block ≡ join others block) → merged_all [] merges ≡ merged_all [] others }
+    ensures { (merges others : List (BlockId × Entry)) → ((block : BlockId) → join merges block ≡ join others block)
+        → merged_all [] merges ≡ merged_all [] others }
 {}
 
 /// The join is the entry of greatest version and hop among those merged that are above version 0 and
@@ -46,22 +47,26 @@ pub fn differing_entries_commute()
 
 /// The join of one list after another is the first greatest of their joins.
 pub fn join_of_a_concatenation()
-    ensures { (earlier later : List (BlockId × Entry)) (block : BlockId) → join (earlier ++ later) block ≡ first_greatest (join earlier block) (join later block) }
+    ensures { (earlier later : List (BlockId × Entry)) (block : BlockId)
+        → join (earlier ++ later) block ≡ first_greatest (join earlier block) (join later block) }
 {}
 
 /// A merge that was made before changes nothing.
 pub fn repeated_merge_changes_nothing()
-    ensures { (before between after : List (BlockId × Entry)) (m : BlockId × Entry) (block : BlockId) → join (before ++ m ∷ (between ++ m ∷ after)) block ≡ join (before ++ m ∷ (between ++ after)) block }
+    ensures { (before between after : List (BlockId × Entry)) (m : BlockId × Entry) (block : BlockId)
+        → join (before ++ m ∷ (between ++ m ∷ after)) block ≡ join (before ++ m ∷ (between ++ after)) block }
 {}
 
 /// Neighbours in a list of merges may change places where they are of two blocks, or differ in version
 /// or hop.
 pub fn differing_merges_change_places()
-    ensures { (before after : List (BlockId × Entry)) (m n : BlockId × Entry) (block : BlockId) → MayChangePlaces m n → join (before ++ m ∷ n ∷ after) block ≡ join (before ++ n ∷ m ∷ after) block }
+    ensures { (before after : List (BlockId × Entry)) (m n : BlockId × Entry) (block : BlockId) → MayChangePlaces m n
+        → join (before ++ m ∷ n ∷ after) block ≡ join (before ++ n ∷ m ∷ after) block }
 {}
 
 /// Of entries of one version and hop the earlier stays, so there the order counts: two that differ, as in
 /// their places, give two joins by their order.
 pub fn order_of_equals_counts()
-    ensures { (block : BlockId) (a b : Entry) → HasSameRank a b → IsTrue (is_newer a no_entry) → a ≢ b → join ((block, a) ∷ (block, b) ∷ []) block ≢ join ((block, b) ∷ (block, a) ∷ []) block }
+    ensures { (block : BlockId) (a b : Entry) → HasSameRank a b → IsTrue (is_newer a no_entry) → a ≢ b
+        → join ((block, a) ∷ (block, b) ∷ []) block ≢ join ((block, b) ∷ (block, a) ∷ []) block }
 {}

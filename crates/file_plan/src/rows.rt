@@ -25,7 +25,8 @@ pub(crate) fn named(rows: &[(Name, Node)], name: &Name) -> Option<Node>
 /// The place of a name among entries, or the place before which it would stand.
 fn search(rows: &[(Name, Node)], name: &Name) -> Result<usize, usize>
     ensures within { MatchResult result (λ i. i < length rows.now) (λ i. i ≤ length rows.now) }
-    ensures placed { MatchResult result (λ i. (node : NodeValue) → insert_entry name_cmp rows.now name.now node ≡ slice_set rows.now i (name.now, node)) (λ i. (node : NodeValue) → insert_entry name_cmp rows.now name.now node ≡ insert rows.now i (name.now, node)) }
+    ensures placed { MatchResult result (λ i. (node : NodeValue) → insert_entry name_cmp rows.now name.now node ≡ slice_set rows.now i (name.now, node))
+        (λ i. (node : NodeValue) → insert_entry name_cmp rows.now name.now node ≡ insert rows.now i (name.now, node)) }
 {
     for i in 0..rows.len() {
         match name.order(&rows[i].0) {

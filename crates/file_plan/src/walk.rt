@@ -109,7 +109,9 @@ fn listing(alloc: Global, path: &List<Text>) -> Mem<PlanState>
 }
 
 fn moving(alloc: Global, from: &List<Text>, to: &List<Text>) -> Mem<PlanState>
-    ensures { IfOk result (λ state. state ≡ (if list_all is_good from.now && list_all is_good to.now then walking_path from.now FileFault.IsDir (Job.Moves to.now) else refuses FileFault.BadName)) }
+    ensures { IfOk result (λ state. state ≡
+        (if list_all is_good from.now && list_all is_good to.now then walking_path from.now FileFault.IsDir (Job.Moves to.now)
+        else refuses FileFault.BadName)) }
 {
     match names_of(alloc, to)? {
         None => Ok(refuses(FileFault::BadName)),

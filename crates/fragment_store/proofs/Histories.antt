@@ -185,7 +185,8 @@ not_marked true b x y o h = contrary h
 not_marked false true x y o h = contrary h
 not_marked false false x y o h = refl
 
-deleted_away : (s : ShelfState) (gone name : SegName) → DeletedAreAway s → (t : Bool) → same_name gone name ≡ t → (same_name name gone || is_marked s.marks name) ≡ true
+deleted_away : (s : ShelfState) (gone name : SegName) → DeletedAreAway s → (t : Bool) → same_name gone name ≡ t
+    → (same_name name gone || is_marked s.marks name) ≡ true
     → cond t None (held_at s.held name) ≡ None
 deleted_away s gone name away true e m = refl
 deleted_away s gone name away false e m = away name (sym (ap (λ t. t || is_marked s.marks name) (same_back name gone ∙ e)) ∙ m)
@@ -196,7 +197,8 @@ away_after_call s (Store new generation) away =
     (λ e. kept_away s new (not_marked (not (nat_eq generation s.generation)) (is_marked s.marks new.meta.name) (WrongGeneration s.generation) Marked _ e) away)
     (λ e. away)
 away_after_call s (Fence log pass) away =
-    by_test DeletedAreAway (is_greater (pass_cmp pass (fence_of s.fences log))) (record s { fences = insert_entry log_cmp s.fences log pass }) s (λ e. away) (λ e. away)
+    by_test DeletedAreAway (is_greater (pass_cmp pass (fence_of s.fences log))) (record s { fences = insert_entry log_cmp s.fences log pass }) s (λ e. away)
+    (λ e. away)
 away_after_call s (Delete gone) away =
     λ name m. held-without gone s.held name ∙ deleted_away s gone name away (same_name gone name) refl (sym (is_marked-with s.marks gone name) ∙ m)
 away_after_call s (Fill new) away = by_test DeletedAreAway (is_marked s.marks new.meta.name) s (kept s new) (λ e. away) (λ e. kept_away s new e away)

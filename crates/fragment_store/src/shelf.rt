@@ -161,7 +161,8 @@ impl Shelf {
     pub fn barred(&self, alloc: Global) -> Mem<List<SegName>>
         ensures exact { IfOk result (λ names. names ≡ barred self.now) }
         ensures sorted { IfOk result (λ names. IsStrictlySortedBy seg_cmp names) }
-        ensures just_these { IfOk result (λ names. (name : SegName) → Contains names name ↔ (Contains self.now.marks name ⊎ Contains (map (λ f. f.meta.name) self.now.held) name)) }
+        ensures just_these { IfOk result
+            (λ names. (name : SegName) → Contains names name ↔ (Contains self.now.marks name ⊎ Contains (map (λ f. f.meta.name) self.now.held) name)) }
     {
         let mut names = self.marked(alloc)?;
         for fragment in self.held.values() {

@@ -13,17 +13,21 @@ ghost use Rattle.xfs_base.specs.Limits.{u32_end};
 
 /// A group once made never changes but for `current`, and one that is obsolete stays so.
 pub fn groups_stay_as_made()
-    ensures { (state : GroupMapState) (losses : List Loss) (id : ℕ) (group : Group) → group_of state id ≡ Some group → IsSomeAnd (group_of (after_losses state losses) id) (IsLater group) }
+    ensures { (state : GroupMapState) (losses : List Loss) (id : ℕ) (group : Group) → group_of state id ≡ Some group
+        → IsSomeAnd (group_of (after_losses state losses) id) (IsLater group) }
 {}
 
 /// Generations never fall.
 pub fn generations_never_fall()
-    ensures { (state : GroupMapState) (losses : List Loss) → MayLoseAll state losses → (server : ℕ) → generation_at state.generations server ≤ generation_at (after_losses state losses).generations server }
+    ensures { (state : GroupMapState) (losses : List Loss) → MayLoseAll state losses → (server : ℕ)
+        → generation_at state.generations server ≤ generation_at (after_losses state losses).generations server }
 {}
 
 /// What is true of every map is true of each that starts.
 pub fn map_starts_well_formed()
-    ensures { (servers : ℕ) (groups : List GroupSetup) → 1 ≤ length groups → length groups ≤ u32_end → bad_size groups ≡ None → All (λ g. All (IsServer servers) g.servers) groups → All (λ g. IsDistinct nat_eq g.servers) groups → All (λ g. IsParity g.parity) groups → IsGroupMap (started servers groups) }
+    ensures { (servers : ℕ) (groups : List GroupSetup) → 1 ≤ length groups → length groups ≤ u32_end → bad_size groups ≡ None
+        → All (λ g. All (IsServer servers) g.servers) groups → All (λ g. IsDistinct nat_eq g.servers) groups → All (λ g. IsParity g.parity) groups
+        → IsGroupMap (started servers groups) }
 {}
 
 /// What is true of a map stays true: among others, there is always a current group.
@@ -33,5 +37,6 @@ pub fn map_stays_well_formed()
 
 /// Each member of a current group is at the generation that its server has now.
 pub fn current_members_are_present()
-    ensures { (state : GroupMapState) → IsGroupMap state → (id : ℕ) (group : Group) → group_of state id ≡ Some group → IsTrue group.current → All (λ m. m.generation ≡ generation_at state.generations m.server) group.members }
+    ensures { (state : GroupMapState) → IsGroupMap state → (id : ℕ) (group : Group) → group_of state id ≡ Some group → IsTrue group.current
+        → All (λ m. m.generation ≡ generation_at state.generations m.server) group.members }
 {}

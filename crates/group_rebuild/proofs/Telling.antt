@@ -143,6 +143,8 @@ are_tallied wanted replies last a b le h =
     let told = ends-reply (reading_after wanted replies) last a b h in
     let state = after_last first replies last in
     record {
-      fills = told.0 ∙ ap (λ (r : ReadsState). r.filled) (sym state) ∙ all.filled ∙ ap (λ n. n + fills_in (said_to first (replies ++ last ∷ []))) kept.filled ∙ from_none (fills_in (said_to first (replies ++ last ∷ [])));
-      shorts = told.1 ∙ ap (λ (r : ReadsState). r.gone) (sym state) ∙ all.gone ∙ ap (λ n. n + shorts_by first (replies ++ last ∷ [])) kept.gone ∙ from_none (shorts_by first (replies ++ last ∷ []));
+      fills = told.0 ∙ ap (λ (r : ReadsState). r.filled) (sym state) ∙ all.filled
+          ∙ ap (λ n. n + fills_in (said_to first (replies ++ last ∷ []))) kept.filled ∙ from_none (fills_in (said_to first (replies ++ last ∷ [])));
+      shorts = told.1 ∙ ap (λ (r : ReadsState). r.gone) (sym state) ∙ all.gone ∙ ap (λ n. n + shorts_by first (replies ++ last ∷ [])) kept.gone
+          ∙ from_none (shorts_by first (replies ++ last ∷ []));
     }

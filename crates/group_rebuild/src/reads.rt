@@ -130,8 +130,10 @@ impl Reads {
         requires wanted { IsWanted present.wanted }
         requires asked { IsTrue (asks present.round server) }
         requires fits { IsTrue (told_fits present.round told) }
-        ensures state { OnOk result (self.new ≡ (judged self.old present.wanted (taken present.round server told) (state_of (taken present.round server told))).state) }
-        ensures outs { OnOk result (outs.new ≡ outs.old ++ (judged self.old present.wanted (taken present.round server told) (state_of (taken present.round server told))).outs) }
+        ensures state { OnOk result
+            (self.new ≡ (judged self.old present.wanted (taken present.round server told) (state_of (taken present.round server told))).state) }
+        ensures outs { OnOk result
+            (outs.new ≡ outs.old ++ (judged self.old present.wanted (taken present.round server told) (state_of (taken present.round server told))).outs) }
     {
         let Present { wanted, mut round } = present;
         match round.take(alloc, server, told)? {

@@ -20,7 +20,8 @@ pub fn pages_answer_as_the_plain_table()
 /// of the pages on which something was put since the last clean, be it by a put or by a merge that took.
 pub fn pages_change_where_something_is_put()
     ensures pages { (calls : List Call) → (after_calls no_pages calls).pages ≡ map (page_with (puts_since_clean calls)) (pages_begun calls) }
-    ensures numbers { (calls : List Call) (block : BlockId) → page_of (after_calls no_pages calls) block ≡ place_from 0 (first_block block) (pages_begun calls) }
+    ensures numbers { (calls : List Call) (block : BlockId)
+        → page_of (after_calls no_pages calls) block ≡ place_from 0 (first_block block) (pages_begun calls) }
     ensures changed { (calls : List Call) (number : ℕ) → Contains (changed_from 0 (after_calls no_pages calls).pages) number ↔ IsPutOn calls number }
 {}
 

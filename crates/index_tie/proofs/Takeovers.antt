@@ -168,7 +168,8 @@ module _ (b : BlockId) (f : Filed) (w : IndexState) (slot epoch : ℕ) (horizon 
     upto k l = cond (nat_lt l k) (of_log applied l) (below horizon l)
 
     at_k : (k : ℕ) → 0 < k → k ≤ 9 → upto k k ≡ horizon_at horizon k - 1
-    at_k k some limit = second_of (nat_lt k k) (of_log applied k) (below horizon k) (grind (arith, nat_tests)) ∙ ap (λ n. n - 1) (of_log_in horizon k some limit)
+    at_k k some limit = second_of (nat_lt k k) (of_log applied k) (below horizon k) (grind (arith, nat_tests))
+        ∙ ap (λ n. n - 1) (of_log_in horizon k some limit)
 
     -- the next log
     next_is : (k n : ℕ) → 0 < k → k ≤ 9 → n ≡ applied_at horizon rs k → (l : ℕ) → put (upto k) k n l ≡ upto (suc k) l
@@ -291,7 +292,8 @@ activated b f w news c epoch rows beliefs numbers reached filed tells its over t
     let same_length : length parts ≡ length news.parts = length-map news.parts part_source in
     let covers : Covers b f w horizon (told_by_all news.slot (take (length parts) c.read.whole)) =
     subst (λ n. Covers b f w horizon (told_by_all news.slot (take n c.read.whole))) (sym same_length) told.parts in
-    let g = all_told b f w news.slot e horizon rs reached filed tells its told.horizon told.ends told.linked parts c.read.whole covers over.sources told.texts in
+    let g = all_told b f w news.slot e horizon rs reached filed tells its told.horizon told.ends told.linked parts c.read.whole covers over.sources
+    told.texts in
     let numbers_of = reports.applied_of horizon rs in
     let names : Names b f (entry_at (started e rows beliefs numbers) b) g.named =
     subst (λ x. Names b f x g.named)

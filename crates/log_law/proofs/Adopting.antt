@@ -81,7 +81,8 @@ module _ (k : Below) (g : Setting) (none : g.doubts ≡ false) (first : Net) (se
   adopted t among = by (nat_lt h.w.head (h.w.seq_of p.number)) refl
     where
       p : OnPath g h.w h.book h.fixed h.paged as_it_writes.read.lowest s.end.seq as_it_writes.read.opening t
-      p = on_path g h.w h.book h.fixed h.paged as_it_writes.read.lowest s.end.seq as_it_writes.read.opening as_it_writes.read.next chain as_it_writes.read.chained t among
+      p = on_path g h.w h.book h.fixed h.paged as_it_writes.read.lowest s.end.seq as_it_writes.read.opening as_it_writes.read.next chain
+          as_it_writes.read.chained t among
 
       named : t.name ≡ name_of g p.number
       named = ap (λ (z : Segment). z.name) p.is ∙ (h.paged p.number p.booked).named

@@ -76,7 +76,8 @@ goes_on n m o b h = record {
     by s (inr low) = inr (let r = b.rises in omega arith)
 
 -- what flies now flew, or is the flight
-flying : (o : Option FlightState) (flown : List Segment) (highest : ℕ) → IfSome o (λ f. f.segment.name.seq ≡ highest) → (s : Segment) → In s (flown_with o flown)
+flying : (o : Option FlightState) (flown : List Segment) (highest : ℕ) → IfSome o (λ f. f.segment.name.seq ≡ highest) → (s : Segment)
+    → In s (flown_with o flown)
     → In s flown ⊎ (s.name.seq ≤ highest)
 flying None flown highest next s among = inl among
 flying (Some f) flown highest next s (inl e) = inr (let a = ap (λ (z : Segment). z.name.seq) e in let b = next in omega arith)

@@ -220,8 +220,11 @@ module _ (k : Below) (g : Setting) (none : g.doubts ≡ false) (a : Net) (serves
           let server : u.member_server x i ≡ h.w.member_server highest i = ap (λ y. u.member_server y i) same ∙ past.member_server highest i booked in
           let count : u.member_count x ≡ h.w.member_count highest = ap u.member_count same ∙ past.member_count highest booked in
           let was = f.hurt i b.span (let e = b.head in omega arith) (let e = b.head in let s = b.span_low in let l = low in omega arith)
-          (let m = member in omega arith) b.hurt in
-          (now_spans span, inr (subst (λ y. LackedInSpan run (name_of g y) v) (sym same) (subst (λ y. LackedInSpan run (name_of g highest) y) (sym server) was)))
+          (let m = member in omega arith) b.hurt in (
+            now_spans span,
+            inr (subst (λ y. LackedInSpan run (name_of g y) v) (sym same)
+                (subst (λ y. LackedInSpan run (name_of g highest) y) (sym server) was)),
+          )
 
     now_hurt : (i : ℕ) → InSpan u → 0 < u.head → u.span_low ≤ u.head → i < u.member_count x → 0 < u.hurt i
         → LackedInSpan later (name_of g x) (u.member_server x i)
@@ -259,7 +262,8 @@ module _ (k : Below) (g : Setting) (none : g.doubts ≡ false) (a : Net) (serves
         booked : h.w.booked highest ≡ 1
         booked = (k.protocol.book h.w h.reached).filed_booked highest (ends.line_filed h.w.head some (omega arith))
 
-        page : Page g highest (h.book highest) (h.w.text_of highest) (h.w.member_count highest) (h.w.member_server highest) (h.w.member_generation highest) (h.w.prior_of highest)
+        page : Page g highest (h.book highest) (h.w.text_of highest) (h.w.member_count highest) (h.w.member_server highest) (h.w.member_generation highest)
+            (h.w.prior_of highest)
             (h.w.content_of highest)
         page = h.paged highest booked
 
@@ -267,7 +271,8 @@ module _ (k : Below) (g : Setting) (none : g.doubts ≡ false) (a : Net) (serves
         seq = ap (λ (z : SegName). z.seq) page.named ∙ (sym (ap (λ t. t highest) h.fixed.seq_of) ∙ ends.line_seq h.w.head some (omega arith))
 
         is_filed : (h.w.end ≡ 0) ⊎ In (name_of g h.w.end) n.filed → In (name_of g highest) n.filed
-        is_filed (inl nothing) = absurd (let a = (k.protocol.book h.w h.reached).named highest booked in let b = ends.its_end in clash h.w.end highest b nothing a)
+        is_filed (inl nothing) =
+            absurd (let a = (k.protocol.book h.w h.reached).named highest booked in let b = ends.its_end in clash h.w.end highest b nothing a)
           where
             clash : (p q : ℕ) → p ≡ q → p ≡ 0 → 0 < q → ⊥
             clash p q a b c = omega arith
@@ -281,7 +286,8 @@ module _ (k : Below) (g : Setting) (none : g.doubts ≡ false) (a : Net) (serves
             let c = seq in
             omega arith
 
-        lost : (place : ℕ) → place < length (members_of g (h.book highest)) → LackedInSpan run (h.book highest).name (server_of (members_of g (h.book highest)) place)
+        lost : (place : ℕ) → place < length (members_of g (h.book highest))
+            → LackedInSpan run (h.book highest).name (server_of (members_of g (h.book highest)) place)
         lost place member =
             let inside : place < h.w.member_count highest = subst (λ c. place < c) (sym page.counted) member in
             let p = (while_writing t).0 in

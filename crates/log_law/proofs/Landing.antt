@@ -42,9 +42,11 @@ module _ (s : LogState) (f : FlightState) (flies : s.flight ≡ Some f) where
   stays_or_settles n (log_in.Acked name index generation) came =
       elim s.flight as
       (λ o. s.flight ≡ o
-      → Vanishes (elim o [ None ↦ still s | Some z ↦ cond (flights.is_of z name index generation) (log.looked_at s s (flights.noting z index)) (still s) ]) → ⊥) [
+      → Vanishes (elim o [ None ↦ still s | Some z ↦ cond (flights.is_of z name index generation) (log.looked_at s s (flights.noting z index)) (still s) ])
+      → ⊥) [
         | None ↦ λ e. absurd cc
-        | Some z ↦ λ e. by_test (λ (d : log.Done). Vanishes d → ⊥) (flights.is_of z name index generation) (log.looked_at s s (flights.noting z index)) (still s)
+        | Some z ↦ λ e. by_test (λ (d : log.Done). Vanishes d → ⊥) (flights.is_of z name index generation) (log.looked_at s s (flights.noting z index))
+            (still s)
             (λ own. looks s (flights.noting z index)) (λ other. stays)
       ] refl
   stays_or_settles n (log_in.Maps m) came =

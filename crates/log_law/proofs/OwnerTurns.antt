@@ -72,7 +72,8 @@ module _ (k : Below) (g : Setting) (n : Net) (h : View g n) where
     serving_view = next k g n h Now served.outs goes (after_log g n served) h.hellos (log_packets served.outs) (record {
       keeps = record { shelves = refl; registry = refl; low = refl; inc = refl; dropped = refl };
       spelled = now_spelled k g h.w h.book h.reached h.paged h.spelled s i Now served.outs goes as_it_serves.1 as_it_serves.0.flight texts goes.shows.flight;
-      flown = now_flown k g h.w h.book h.reached h.paged h.spelled s i Now served.outs goes as_it_serves.1 as_it_serves.0.flight texts goes.shows.flight n.flown h.flown;
+      flown = now_flown k g h.w h.book h.reached h.paged h.spelled s i Now served.outs goes as_it_serves.1 as_it_serves.0.flight texts goes.shows.flight
+          n.flown h.flown;
       grows = λ a among. among;
       asked = h.asked;
       owner = (

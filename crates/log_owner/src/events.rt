@@ -174,7 +174,8 @@ impl Opening {
     ) -> Mem<Progress>
         ensures progress { IfOk result (λ progress. progress ≡ (scans self questions.old (Got ask server found.now.generation found.now.fragment)).progress) }
         ensures questions { OnOk result (questions.new ≡ (scans self questions.old (Got ask server found.now.generation found.now.fragment)).questions) }
-        ensures effects { OnOk result (effects.new ≡ effects.old ++ (scans self questions.old (Got ask server found.now.generation found.now.fragment)).effects) }
+        ensures effects { OnOk result
+            (effects.new ≡ effects.old ++ (scans self questions.old (Got ask server found.now.generation found.now.fragment)).effects) }
     {
         let generation = found.generation;
         match found.fragment.copy(alloc) {

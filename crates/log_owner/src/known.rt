@@ -136,9 +136,12 @@ impl Known {
         own: u32,
         groups: GroupMap,
     ) -> Mem<Progress>
-        ensures progress { IfOk result (λ progress. progress ≡ (scans_on self questions.old (record scanning { asked = nothing_asked }) (Hears own news.now.slots groups)).progress) }
-        ensures questions { OnOk result (questions.new ≡ (scans_on self questions.old (record scanning { asked = nothing_asked }) (Hears own news.now.slots groups)).questions) }
-        ensures effects { OnOk result (effects.new ≡ effects.old ++ (scans_on self questions.old (record scanning { asked = nothing_asked }) (Hears own news.now.slots groups)).effects) }
+        ensures progress { IfOk result
+            (λ progress. progress ≡ (scans_on self questions.old (record scanning { asked = nothing_asked }) (Hears own news.now.slots groups)).progress) }
+        ensures questions { OnOk result
+            (questions.new ≡ (scans_on self questions.old (record scanning { asked = nothing_asked }) (Hears own news.now.slots groups)).questions) }
+        ensures effects { OnOk result
+            (effects.new ≡ effects.old ++ (scans_on self questions.old (record scanning { asked = nothing_asked }) (Hears own news.now.slots groups)).effects) }
     {
         let mut scanning = scanning;
         scanning.asked = Asked::new();
@@ -403,7 +406,8 @@ pub(crate) fn scan_one(
 ) -> Mem<Sent>
     ensures scan { OnOk result (scan.new ≡ (scan_steps.transition scan.old input).state) }
     ensures sent { IfOk result (λ sent. sent ≡ (scanned owner scan.new.opening.low asked questions (scan_steps.transition scan.old input).outs).state) }
-    ensures effects { OnOk result (effects.new ≡ effects.old ++ (scanned owner scan.new.opening.low asked questions (scan_steps.transition scan.old input).outs).outs) }
+    ensures effects { OnOk result
+        (effects.new ≡ effects.old ++ (scanned owner scan.new.opening.low asked questions (scan_steps.transition scan.old input).outs).outs) }
 {
     let outs = scan.take(alloc, input)?;
     send_scanned(effects, owner, scan.low(), asked, questions, outs)

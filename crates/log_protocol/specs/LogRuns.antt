@@ -10,7 +10,8 @@ use Rattle.log_protocol.specs.LogLaws.{Reached}
 -- it, and serves; then a segment is dropped, and a server lost and filled again
 abbrev pub adopted_steps : List Kind
 adopted_steps =
-    Seal ∷ Send ∷ Accept ∷ Note ∷ Settle ∷ Seal ∷ Restripe ∷ Send ∷ Accept ∷ Accept_again ∷ Crash ∷ Begin ∷ Fence ∷ Pick_kept ∷ Raise ∷ Cut ∷ Open ∷ Send ∷ Accept ∷ Note ∷ Serve ∷ Drop ∷ Delete ∷ Tell ∷ Lose ∷ Hear ∷ Learn ∷ Fill ∷ []
+    Seal ∷ Send ∷ Accept ∷ Note ∷ Settle ∷ Seal ∷ Restripe ∷ Send ∷ Accept ∷ Accept_again ∷ Crash ∷ Begin ∷ Fence ∷ Pick_kept ∷ Raise ∷ Cut ∷ Open ∷ Send
+    ∷ Accept ∷ Note ∷ Serve ∷ Drop ∷ Delete ∷ Tell ∷ Lose ∷ Hear ∷ Learn ∷ Fill ∷ []
 
 -- A tail is restriped, the owner falls, and its reopening adopts the later attempt and serves, while the horizon passes a segment that it has read.
 -- Then this segment
@@ -39,7 +40,8 @@ pub record TailAdopted : Type 0 where
 -- a segment of two members reaches one of them; the owner falls, and the second boot discards it and serves; then a restart in the form of a manager's
 abbrev pub discarded_steps : List Kind
 discarded_steps =
-    Seal ∷ Send ∷ Accept ∷ Note ∷ Settle ∷ Seal ∷ Send ∷ Accept ∷ Crash ∷ Begin ∷ Fence ∷ Fence ∷ Pick_prior ∷ Open ∷ Send ∷ Accept ∷ Note ∷ Serve ∷ Crash ∷ Restart ∷ []
+    Seal ∷ Send ∷ Accept ∷ Note ∷ Settle ∷ Seal ∷ Send ∷ Accept ∷ Crash ∷ Begin ∷ Fence ∷ Fence ∷ Pick_prior ∷ Open ∷ Send ∷ Accept ∷ Note ∷ Serve ∷ Crash
+    ∷ Restart ∷ []
 
 -- A tail that one of its members never held is discarded: the opening segment takes its place, after the segment before it. A restart in the form of
 -- a manager's follows.

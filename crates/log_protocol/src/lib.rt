@@ -87,7 +87,8 @@ pub fn hurt_is_earned()
 /// each in one generation, and the segment isn't dropped when the second round ends, it was torn, and not dropped, when
 /// the first one ended: all of them lacked their fragments at that one moment.
 pub fn two_rounds_tell_of_a_torn_segment()
-    ensures torn { (since m u : State) (x spare : ℕ) → Reached since → Steps since m → Steps m u → MissedTwice since m u x spare → (u.dropped x ≡ 1 → ⊥) → TornBetween m x spare }
+    ensures torn { (since m u : State) (x spare : ℕ) → Reached since → Steps since m → Steps m u → MissedTwice since m u x spare → (u.dropped x ≡ 1 → ⊥)
+        → TornBetween m x spare }
 {}
 
 /// What a reopening reads back is whole unless it was dropped, and it wasn't dropped where a later horizon doesn't pass
@@ -147,8 +148,10 @@ pub fn lacks_between()
 /// The pick is a fold over the lists that an owner kept: the best of the names that aren't below the horizon is the
 /// picked one, and where there is none no list names anything at or above the horizon.
 pub fn pick_is_a_fold()
-    ensures picked { (w : State) (list_of : ℕ → FencedPacket) (names : ℕ → List ℕ) (low x : ℕ) (xs : List ℕ) → SameLists w list_of names → gather w.seq_of low names w.servers ≡ x ∷ xs → Picked w list_of low (best w.seq_of w.incarnation_of w.attempt_of x xs) }
-    ensures nothing { (w : State) (list_of : ℕ → FencedPacket) (names : ℕ → List ℕ) (low : ℕ) → SameLists w list_of names → gather w.seq_of low names w.servers ≡ [] → (v y : ℕ) → v < w.servers → (list_of v).listed y ≡ 1 → w.seq_of y < low }
+    ensures picked { (w : State) (list_of : ℕ → FencedPacket) (names : ℕ → List ℕ) (low x : ℕ) (xs : List ℕ) → SameLists w list_of names
+        → gather w.seq_of low names w.servers ≡ x ∷ xs → Picked w list_of low (best w.seq_of w.incarnation_of w.attempt_of x xs) }
+    ensures nothing { (w : State) (list_of : ℕ → FencedPacket) (names : ℕ → List ℕ) (low : ℕ) → SameLists w list_of names
+        → gather w.seq_of low names w.servers ≡ [] → (v y : ℕ) → v < w.servers → (list_of v).listed y ≡ 1 → w.seq_of y < low }
 {}
 
 /// Names as numbers: with incarnation and attempt below a base, no two names have one number, and a number tells what
@@ -203,7 +206,8 @@ pub fn index_past_stays()
 /// Merging gives the join: an entry that is the join of what was applied, merged with the first greatest row of the
 /// segments that follow in one log, is the join of both; of equals the older stays.
 pub fn merging_gives_the_join()
-    ensures join { (w : IndexState) (applied : ℕ → ℕ) (l first upto : ℕ) (old new : Entry) → IndexReached w → Joins w.version w.hop applied old → FirstGreatest w l first upto new → first ≤ suc (applied l) → applied l ≤ upto → Joins w.version w.hop (put applied l upto) (merged old new) }
+    ensures join { (w : IndexState) (applied : ℕ → ℕ) (l first upto : ℕ) (old new : Entry) → IndexReached w → Joins w.version w.hop applied old
+        → FirstGreatest w l first upto new → first ≤ suc (applied l) → applied l ≤ upto → Joins w.version w.hop (put applied l upto) (merged old new) }
 {}
 
 /// The laws speak of something: runs reach a state in which a restriped tail was adopted, a segment dropped, and a

@@ -21,7 +21,8 @@ pub fn none_is_newer()
 /// the end names, each other is the prior of the one above it, and the number at which the log goes on,
 /// the one after the end's, is above each of them.
 pub fn chain_is_linked()
-    ensures { (log : LogId) (inc : ℕ) (history : List In) (input : In) → AllByRecursion (TellsLinked log) (transition (state_after (started log inc) history) input).outs }
+    ensures { (log : LogId) (inc : ℕ) (history : List In) (input : In)
+        → AllByRecursion (TellsLinked log) (transition (state_after (started log inc) history) input).outs }
 {}
 
 /// The registry is asked for the Welcome by which it is picked when the lists of all servers are in, and it

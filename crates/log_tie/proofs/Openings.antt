@@ -89,7 +89,8 @@ module _ (g : Setting) where
     chained_on w v book later highest h.0 ts by pages more base h.5,
   )
 
-  shown_on : (w v : State) (book later : ℕ → Segment) (highest : ℕ) (ts : List Segment) → Grown w v book later → Book g w book → Book g v later → v.base ≡ w.base
+  shown_on : (w v : State) (book later : ℕ → Segment) (highest : ℕ) (ts : List Segment) → Grown w v book later → Book g w book → Book g v later
+      → v.base ≡ w.base
       → v.opening_seq ≡ w.opening_seq → v.pick_low ≡ w.pick_low → v.read_low ≡ w.read_low
       → ChainShown g w book highest ts → ChainShown g v later highest ts
   shown_on w v book later highest ts by pages more base opening low read c = record {
@@ -453,7 +454,8 @@ module _ (g : Setting) (chain : List Segment) where
     unfolding log.on_acked
     acked_goes s name index generation h seen =
         subst (λ o. Owed w book
-        (elim o [ None ↦ still s | Some f ↦ if flights.is_of f name index generation then log.looked_at s s (flights.noting f index) else still s ])) (sym h.is_flight)
+        (elim o [ None ↦ still s | Some f ↦ if flights.is_of f name index generation then log.looked_at s s (flights.noting f index) else still s ]))
+        (sym h.is_flight)
         (by_test w book fixed paged reached (flights.is_of h.flight name index generation) _ _ (λ t. noting t)
         (λ t premise. nothing w book fixed paged reached s h))
       where

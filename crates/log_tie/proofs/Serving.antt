@@ -257,7 +257,11 @@ module _ (g : Setting) where
     acked_goes s name index generation h seen = by s.flight refl h.flight
       where
         by : (o : Option FlightState) → s.flight ≡ o → FlightShown g book o s.inc s.end.seq (w.booked w.flight) w.flight w.noted
-            → To w book (elim o [ None ↦ still s | Some f ↦ if flights.is_of f name index generation then log.looked_at s s (flights.noting f index) else still s ])
+            → To w book (elim o [
+              | None ↦ still s
+              | Some f ↦ if flights.is_of f name index generation then log.looked_at s s (flights.noting f index)
+                  else still s
+            ])
         by None e shown = nothing w book fixed paged reached s h
         by (Some f) e shown =
             by_test w book fixed paged reached s (flights.is_of f name index generation) _ _ (λ t. noting t) (λ t. nothing w book fixed paged reached s h)

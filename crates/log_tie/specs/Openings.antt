@@ -19,7 +19,8 @@ use Rattle.log_tie.specs.Rounds.{IsGrouped}
 -- What was read back, the lowest first, as links down from the base: x is the name before them.
 abbrev pub Chained : Setting → State → (ℕ → Segment) → ℕ → ℕ → List Segment → Type 0
 Chained g w book highest x [] = x ≡ w.base
-Chained g w book highest x (t ∷ ts) = (y : ℕ) × (w.booked y ≡ 1) × (t ≡ book y) × (w.prior_of y ≡ x) × (g.seq_of y + length ts ≡ highest) × Chained g w book highest y ts
+Chained g w book highest x (t ∷ ts) = (y : ℕ) × (w.booked y ≡ 1) × (t ≡ book y) × (w.prior_of y ≡ x) × (g.seq_of y + length ts ≡ highest)
+    × Chained g w book highest y ts
 
 -- none is below this number
 abbrev pub AllFrom : ℕ → List Segment → Type 0

@@ -252,7 +252,8 @@ impl Serving {
 
     #[tactic(auto, unfolding(crate::specs::Checkpoints::registers))]
     fn tell_done(&mut self, alloc: Global, effects: &mut Effects, done: &CkptDone) -> Mem<()>
-        ensures state { OnOk result (self.new ≡ record self.old { slots = named_at self.old.slots done.now.slot done.now.epoch done.now.parts; dones = risen self.old.dones }) }
+        ensures state { OnOk result
+            (self.new ≡ record self.old { slots = named_at self.old.slots done.now.slot done.now.epoch done.now.parts; dones = risen self.old.dones }) }
         ensures effects { OnOk result (effects.new ≡ effects.old ++ (registers self.old done.now).outs) }
     {
         self.slots

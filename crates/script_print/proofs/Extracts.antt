@@ -266,6 +266,7 @@ whole_of live total n at (l ∷ ls) p s h e f k a =
         from_rest s p w.1 e f (item_rest n (length (setup_lines p.setup)) l p a.1 s w.0 (within total n (at + (length l + 1)) a.0) k.0 i r)
 
 -- what is known of a script that some bytes spell
-pub script_whole : (live : Bool) (total : ℕ) (ls : List (List ℕ)) (s : Script) → AllByRecursion (λ l. Lacks 10 l) ls → Accepts live (line_at total 1 0) ls start s
+pub script_whole : (live : Bool) (total : ℕ) (ls : List (List ℕ)) (s : Script) → AllByRecursion (λ l. Lacks 10 l) ls
+    → Accepts live (line_at total 1 0) ls start s
     → Whole s
 script_whole live total ls s k a = whole_of live total 1 0 ls start s (omega arith, (refl, refl, refl)) refl refl k a

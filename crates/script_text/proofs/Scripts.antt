@@ -273,14 +273,17 @@ lines_ok live total n at [] p s e = end_ok live n p s e
 lines_ok live total n at (l ∷ ls) p s e =
     at_test (λ q h. lines_ok live total (n + 1) (at + (length l + 1)) ls q s h) (is_past total n (at + (length l + 1))) refl e
   where
-    at_line : ((q : Place) → read_lines live total (n + 1) (at + (length l + 1)) ls q ≡ Ok s → Accepts live (line_at total (n + 1) (at + (length l + 1))) ls q s)
+    at_line : ((q : Place) → read_lines live total (n + 1) (at + (length l + 1)) ls q ≡ Ok s
+        → Accepts live (line_at total (n + 1) (at + (length l + 1))) ls q s)
         → is_past total n (at + (length l + 1)) ≡ false → (r : Result Place Kind) → read_line n l p ≡ r → next live total n at l ls r ≡ Ok s
         → Accepts live (line_at total n at) (l ∷ ls) p s
     at_line i f (Ok q) g h = (past_false total n (at + (length l + 1)) f, q, line_ok n l p q g, i q h)
     at_line i f (Err k) g h = absurd (ok_no_fault s (fault n k) (sym h))
 
-    at_test : ((q : Place) → read_lines live total (n + 1) (at + (length l + 1)) ls q ≡ Ok s → Accepts live (line_at total (n + 1) (at + (length l + 1))) ls q s)
-        → (t : Bool) → is_past total n (at + (length l + 1)) ≡ t → next live total n at l ls (within n at l p t) ≡ Ok s → Accepts live (line_at total n at) (l ∷ ls) p s
+    at_test : ((q : Place) → read_lines live total (n + 1) (at + (length l + 1)) ls q ≡ Ok s
+        → Accepts live (line_at total (n + 1) (at + (length l + 1))) ls q s)
+        → (t : Bool) → is_past total n (at + (length l + 1)) ≡ t → next live total n at l ls (within n at l p t) ≡ Ok s
+        → Accepts live (line_at total n at) (l ∷ ls) p s
     at_test i true f g = absurd (ok_no_fault s (fault n TooLong) (sym g))
     at_test i false f g = at_line i f (read_line n l p) refl g
 

@@ -41,7 +41,8 @@ hex_high b l u =
     high : (h b : ℕ) → 10 ≤ h → b ≡ 87 + h → b ≡ hex_digit h
     high h b s e = grind (arith, nat_tests, s, e)
 
-hex_cases : (b h : ℕ) (p q r s : Bool) → nat_le 48 b ≡ p → nat_le b 57 ≡ q → nat_le 97 b ≡ r → nat_le b 102 ≡ s → (if p && q then Some (b - 48) else if r && s then Some (b - 87) else None) ≡ Some h → (h < 16) × (b ≡ hex_digit h)
+hex_cases : (b h : ℕ) (p q r s : Bool) → nat_le 48 b ≡ p → nat_le b 57 ≡ q → nat_le 97 b ≡ r → nat_le b 102 ≡ s
+    → (if p && q then Some (b - 48) else if r && s then Some (b - 87) else None) ≡ Some h → (h < 16) × (b ≡ hex_digit h)
 hex_cases b h true true r s p q u v e =
     let w : b - 48 ≡ h = grind (arith, e) in
     let x = hex_low b p q in rw w at x
@@ -76,13 +77,15 @@ TurnFact m b (turns.Goes n) = IsMark n × (before n ≡ before m ++ b ∷ [])
 TurnFact m b turns.Closes = (m ≡ mark.Plain) × (b ≡ 34)
 TurnFact m b turns.Fails = Unit {0}
 
-plain_fact : (b : ℕ) (t p s : Bool) → (b == 34) ≡ t → is_plain b ≡ p → (b == 92) ≡ s → TurnFact mark.Plain b (if t then turns.Closes else if p then turns.Adds b else if s then turns.Goes mark.Escape else turns.Fails)
+plain_fact : (b : ℕ) (t p s : Bool) → (b == 34) ≡ t → is_plain b ≡ p → (b == 92) ≡ s
+    → TurnFact mark.Plain b (if t then turns.Closes else if p then turns.Adds b else if s then turns.Goes mark.Escape else turns.Fails)
 plain_fact b true p s e f g = (refl, eqb-true b 34 e)
 plain_fact b false true s e f g = inl (f, refl)
 plain_fact b false false true e f g = (tt, ap (λ x. x ∷ []) (sym (eqb-true b 92 g)))
 plain_fact b false false false e f g = tt
 
-escape_fact : (b : ℕ) (x q s : Bool) → (b == 120) ≡ x → (b == 34) ≡ q → (b == 92) ≡ s → TurnFact mark.Escape b (if x then turns.Goes mark.High else if q || s then turns.Adds b else turns.Fails)
+escape_fact : (b : ℕ) (x q s : Bool) → (b == 120) ≡ x → (b == 34) ≡ q → (b == 92) ≡ s
+    → TurnFact mark.Escape b (if x then turns.Goes mark.High else if q || s then turns.Adds b else turns.Fails)
 escape_fact b true q s e f g = (tt, ap (λ x. 92 ∷ x ∷ []) (sym (eqb-true b 120 e)))
 escape_fact b false true s e f g = let h = eqb-true b 34 f in inr (inl (h, ap (λ x. 92 ∷ x ∷ []) h))
 escape_fact b false false true e f g = let h = eqb-true b 92 g in inr (inr (inl (h, ap (λ x. 92 ∷ x ∷ []) h)))
@@ -136,7 +139,15 @@ goes_on m n b bytes text e r = record {
       f ∙ ap (λ y. y ++ bytes) (sym e) ∙ r.is;
 }
 
-text_turn : (m : Mark) (b : ℕ) (bytes text : List ℕ) (u : Turn) → TurnFact m b u → ((n : Mark) (v : List ℕ) → IsMark n → text_from n bytes ≡ Some v → Body n bytes v) → (elim u [ turns.Adds x ↦ with_byte x (text_from mark.Plain bytes) | turns.Goes n ↦ text_from n bytes | turns.Closes ↦ if_last bytes | turns.Fails ↦ None ]) ≡ Some text → Body m (b ∷ bytes) text
+text_turn : (m : Mark) (b : ℕ) (bytes text : List ℕ) (u : Turn) → TurnFact m b u
+    → ((n : Mark) (v : List ℕ) → IsMark n → text_from n bytes ≡ Some v → Body n bytes v)
+    → (elim u [
+      | turns.Adds x ↦ with_byte x
+          (text_from mark.Plain bytes)
+      | turns.Goes n ↦ text_from n bytes
+      | turns.Closes ↦ if_last bytes
+      | turns.Fails ↦ None
+    ]) ≡ Some text → Body m (b ∷ bytes) text
 text_turn m b bytes text (turns.Adds x) f h e =
     let w = with_byte_some x (text_from mark.Plain bytes) text e in
     rw w.2 (one_more m x b bytes w.0 f (h mark.Plain w.0 tt w.1))
@@ -173,12 +184,14 @@ hex_turn h b l rest e = ap (λ (o : Option ℕ). led rest (elim o [ None ↦ tur
 high_turn : (h b : ℕ) (rest : List ℕ) → hex_value b ≡ Some h → text_from mark.High (b ∷ rest) ≡ text_from (mark.Low h) rest
 high_turn h b rest e = ap (λ (o : Option ℕ). led rest (elim o [ None ↦ turns.Fails | Some v ↦ turns.Goes (mark.Low v) ])) e
 
-piece_read : (b : ℕ) (piece rest text : List ℕ) → WritesByte b piece → text_from mark.Plain rest ≡ Some text → text_from mark.Plain (piece ++ rest) ≡ Some (b ∷ text)
+piece_read : (b : ℕ) (piece rest text : List ℕ) → WritesByte b piece → text_from mark.Plain rest ≡ Some text
+    → text_from mark.Plain (piece ++ rest) ≡ Some (b ∷ text)
 piece_read b piece rest text (inl w) e = rw w.1 (ap (λ u. led rest u) (turn_plain b w.0) ∙ ap (λ o. with_byte b o) e)
 piece_read b piece rest text (inr (inl w)) e = rw w.1 (rw w.0 (ap (λ o. with_byte 34 o) e))
 piece_read b piece rest text (inr (inr (inl w))) e = rw w.1 (rw w.0 (ap (λ o. with_byte 92 o) e))
 piece_read b piece rest text (inr (inr (inr (h, l, m, n, f, g)))) e =
-    rw (g, f) (high_turn h (hex_digit h) (hex_digit l ∷ rest) (hex_written h m) ∙ hex_turn h (hex_digit l) l rest (hex_written l n) ∙ ap (λ o. with_byte (16 * h + l) o) e)
+    rw (g, f) (high_turn h (hex_digit h) (hex_digit l ∷ rest) (hex_written h m) ∙ hex_turn h (hex_digit l) l rest (hex_written l n)
+    ∙ ap (λ o. with_byte (16 * h + l) o) e)
 
 -- what is written is read again
 pub written_read : (text body : List ℕ) → Writes text body → text_from mark.Plain (body ++ 34 ∷ []) ≡ Some text
@@ -188,11 +201,14 @@ written_read (b ∷ text) body (piece, rest, w, ws, e) =
     rw (e, append_assoc piece rest (34 ∷ [])) (piece_read b piece (rest ++ 34 ∷ []) text w r)
 
 -- cutting at the first of a byte
-front_some : (b : ℕ) (o : Option (List ℕ × List ℕ)) (p : List ℕ × List ℕ) → onto_front b o ≡ Some p → (q : List ℕ × List ℕ) × (o ≡ Some q) × (p ≡ (b ∷ q.0, q.1))
+front_some : (b : ℕ) (o : Option (List ℕ × List ℕ)) (p : List ℕ × List ℕ) → onto_front b o ≡ Some p
+    → (q : List ℕ × List ℕ) × (o ≡ Some q) × (p ≡ (b ∷ q.0, q.1))
 front_some b None p e = absurd (grind (arith, e))
 front_some b (Some q) p e = (q, refl, grind (arith, e))
 
-cut_turn : (m b : ℕ) (bytes : List ℕ) (t : Bool) (p : List ℕ × List ℕ) → (b == m) ≡ t → ((q : List ℕ × List ℕ) → cut_at m bytes ≡ Some q → (bytes ≡ q.0 ++ m ∷ q.1) × Lacks m q.0) → (if t then Some ([], bytes) else onto_front b (cut_at m bytes)) ≡ Some p → (b ∷ bytes ≡ p.0 ++ m ∷ p.1) × Lacks m p.0
+cut_turn : (m b : ℕ) (bytes : List ℕ) (t : Bool) (p : List ℕ × List ℕ) → (b == m) ≡ t
+    → ((q : List ℕ × List ℕ) → cut_at m bytes ≡ Some q → (bytes ≡ q.0 ++ m ∷ q.1) × Lacks m q.0)
+    → (if t then Some ([], bytes) else onto_front b (cut_at m bytes)) ≡ Some p → (b ∷ bytes ≡ p.0 ++ m ∷ p.1) × Lacks m p.0
 cut_turn m b bytes true p e h f =
     let g : p ≡ ([], bytes) = grind (arith, f) in
     rw g (ap (λ x. x ∷ bytes) (eqb-true b m e), tt)
@@ -225,7 +241,8 @@ digits_lack m (c ∷ cs) l d = (λ e. omega (arith, (digit_from_value c d.0).0, 
 decimal_lacks : (m n : ℕ) → m < 48 → n < 2 ^ 32 → Lacks m (decimal n)
 decimal_lacks m n l h = digits_lack m (decimal n) l (digits_decimal own n (wide n h))
 
-counted_back : (n : ℕ) (back : List ℕ) (o : Option (List ℕ)) (p : Repeated) → quoted_text back ≡ o → with_count n o ≡ Some p → (t : List ℕ) × (quoted_text back ≡ Some t) × (p ≡ record { count = n; text = t })
+counted_back : (n : ℕ) (back : List ℕ) (o : Option (List ℕ)) (p : Repeated) → quoted_text back ≡ o → with_count n o ≡ Some p
+    → (t : List ℕ) × (quoted_text back ≡ Some t) × (p ≡ record { count = n; text = t })
 counted_back n back None p e f = absurd (grind (arith, f))
 counted_back n back (Some t) p e f = (t, e, grind (arith, f))
 
@@ -233,20 +250,23 @@ quoted_front : (back text : List ℕ) → quoted_text back ≡ Some text → (bo
 quoted_front [] text e = absurd (grind (arith, e))
 quoted_front (b ∷ back) text e = at_quote (b == 34) refl e
   where
-    at_quote : (t : Bool) → (b == 34) ≡ t → (if t then text_from mark.Plain back else None) ≡ Some text → (body : List ℕ) × Writes text body × (b ∷ back ≡ quoted body)
+    at_quote : (t : Bool) → (b == 34) ≡ t → (if t then text_from mark.Plain back else None) ≡ Some text
+        → (body : List ℕ) × Writes text body × (b ∷ back ≡ quoted body)
     at_quote true e f =
         let r = quoted_read back text f in
         (r.0, r.1, ap (λ x. x ∷ back) (eqb-true b 34 e) ∙ r.2)
     at_quote false e f = absurd (grind (arith, f))
 
-counted_front : (front back : List ℕ) (o : Option ℕ) (p : Repeated) → number_of front ≡ o → counted_as o (quoted_text back) ≡ Some p → (n : ℕ) × (n < 2 ^ 32) × (front ≡ decimal n) × (t : List ℕ) × (quoted_text back ≡ Some t) × (p ≡ record { count = n; text = t })
+counted_front : (front back : List ℕ) (o : Option ℕ) (p : Repeated) → number_of front ≡ o → counted_as o (quoted_text back) ≡ Some p
+    → (n : ℕ) × (n < 2 ^ 32) × (front ≡ decimal n) × (t : List ℕ) × (quoted_text back ≡ Some t) × (p ≡ record { count = n; text = t })
 counted_front front back None p e f = absurd (grind (arith, f))
 counted_front front back (Some n) p e f =
     let d = number_from front n e in
     let r = counted_back n back (quoted_text back) p refl f in
     (n, d.0, d.1, r.0, r.1, r.2)
 
-counted_cut : (word : List ℕ) (o : Option (List ℕ × List ℕ)) (p : Repeated) → cut_at 42 word ≡ o → counted_by o ≡ Some p → SpellsText word (repeat p.count p.text)
+counted_cut : (word : List ℕ) (o : Option (List ℕ × List ℕ)) (p : Repeated) → cut_at 42 word ≡ o → counted_by o ≡ Some p
+    → SpellsText word (repeat p.count p.text)
 counted_cut word None p e f = absurd (grind (arith, f))
 counted_cut word (Some q) p e f =
     let c = cut_found 42 word q e in
@@ -259,14 +279,16 @@ pub parts_read : (word : List ℕ) (p : Repeated) → text_parts word ≡ Some p
 parts_read [] p e = absurd (grind (arith, e))
 parts_read (b ∷ word) p e = at_quote (b == 34) refl e
   where
-    once : (b : ℕ) (word : List ℕ) (o : Option (List ℕ)) (p : Repeated) → b ≡ 34 → text_from mark.Plain word ≡ o → with_count 1 o ≡ Some p → SpellsText (b ∷ word) (repeat p.count p.text)
+    once : (b : ℕ) (word : List ℕ) (o : Option (List ℕ)) (p : Repeated) → b ≡ 34 → text_from mark.Plain word ≡ o → with_count 1 o ≡ Some p
+        → SpellsText (b ∷ word) (repeat p.count p.text)
     once b word None p h e f = absurd (grind (arith, f))
     once b word (Some t) p h e f =
         let q : p ≡ record { count = 1; text = t } = grind (arith, f) in
         let r = quoted_read word t e in
         rw q (inl (r.0, rw (append-nil t) r.1, ap (λ x. x ∷ word) h ∙ r.2))
 
-    at_quote : (t : Bool) → (b == 34) ≡ t → (if t then with_count 1 (text_from mark.Plain word) else counted_text (b ∷ word)) ≡ Some p → SpellsText (b ∷ word) (repeat p.count p.text)
+    at_quote : (t : Bool) → (b == 34) ≡ t → (if t then with_count 1 (text_from mark.Plain word) else counted_text (b ∷ word)) ≡ Some p
+        → SpellsText (b ∷ word) (repeat p.count p.text)
     at_quote true h f = once b word (text_from mark.Plain word) p (eqb-true b 34 h) refl f
     at_quote false h f = counted_cut (b ∷ word) (cut_at 42 (b ∷ word)) p refl f
 
@@ -283,7 +305,8 @@ parts_spelled word text (inr (n, piece, body, l, w, e, f)) =
     let r = written_read piece body w in
     let c = cut_there 42 (decimal n) (quoted body) (decimal_lacks 42 n (omega arith) l) in
     let q = not_quoted (decimal n) (decimal_lacks 34 n (omega arith) l) (42 ∷ quoted body) (decimal_nonempty n (wide n l)) in
-    let g : counted_text (decimal n ++ 42 ∷ quoted body) ≡ Some (record { count = n; text = piece }) = ap counted_by c ∙ ap (λ o. counted_as o (quoted_text (quoted body))) (number_decimal n l) ∙ ap (λ o. with_count n o) r in
+    let g : counted_text (decimal n ++ 42 ∷ quoted body) ≡ Some (record { count = n; text = piece }) = ap counted_by c
+    ∙ ap (λ o. counted_as o (quoted_text (quoted body))) (number_decimal n l) ∙ ap (λ o. with_count n o) r in
     (record { count = n; text = piece }, rw e (q ∙ g), f)
 
 -- a word without a star has no count
@@ -291,7 +314,8 @@ pub counted_none : (word : List ℕ) → Lacks 42 word → None ≡ counted_text
 counted_none word h = sym (ap counted_by (cut_missing 42 word h))
 
 -- a word is cut at its first star
-pub counted_is : (word front back : List ℕ) (o : Option ℕ) → word ≡ front ++ 42 ∷ back → Lacks 42 front → number_of front ≡ o → counted_as o (quoted_text back) ≡ counted_text word
+pub counted_is : (word front back : List ℕ) (o : Option ℕ) → word ≡ front ++ 42 ∷ back → Lacks 42 front → number_of front ≡ o
+    → counted_as o (quoted_text back) ≡ counted_text word
 counted_is word front back o e h f =
     sym (ap counted_text e ∙ ap counted_by (cut_there 42 front back h) ∙ ap (λ x. counted_as x (quoted_text back)) f)
 

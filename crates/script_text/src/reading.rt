@@ -239,8 +239,10 @@ pub fn parse(alloc: Global, bytes: &[u8], live: bool) -> Result<Script, ScriptEr
     ensures found { IfOk result (λ script. IsScriptOf live bytes.now script) }
     ensures few { IfOk result (λ script. length script.lines ≤ 20000) }
     ensures cause { IfErr result (λ error. HasCause live bytes.now error) }
-    ensures found_if_any { (script : _) → IsScriptOf live bytes.now script → MatchResult result (λ found. found ≡ script) (λ error. error ≡ ScriptError.Memory) }
-    ensures refused_if_bad { (number : _) (kind : _) → IsFirstBad live bytes.now number kind → MatchResult result (λ found. ⊥) (λ error. (error ≡ ScriptError.Bad number kind) ⊎ (error ≡ ScriptError.Memory)) }
+    ensures found_if_any { (script : _) → IsScriptOf live bytes.now script
+        → MatchResult result (λ found. found ≡ script) (λ error. error ≡ ScriptError.Memory) }
+    ensures refused_if_bad { (number : _) (kind : _) → IsFirstBad live bytes.now number kind
+        → MatchResult result (λ found. ⊥) (λ error. (error ≡ ScriptError.Bad number kind) ⊎ (error ≡ ScriptError.Memory)) }
 {
     read_script(alloc, bytes, live)
 }

@@ -72,7 +72,8 @@ unfolding items_at
 items_go_on version front seen count i f g item total lt h so_far =
     let k : count - i ≡ suc (count - (i + 1)) = omega arith in
     let one : with_front front (items_at version seen (count - i) f) ≡ with_front (front ++ item ∷ [])
-    (items_at version (seen_after item seen) (count - (i + 1)) g) = rw (k, h) (regroup front item (items_at version (seen_after item seen) (count - (i + 1)) g)) in
+    (items_at version (seen_after item seen) (count - (i + 1)) g) =
+    rw (k, h) (regroup front item (items_at version (seen_after item seen) (count - (i + 1)) g)) in
     sym one ∙ so_far
 
 pub items_fail : (version : ℕ) (e : SegError) (front : List Item) (seen : Seen) (count i : ℕ) (f : Fields) (total : Result (List Item × Fields) SegError)

@@ -113,7 +113,8 @@ module _ (target : Target) (group : Group) where
       λ t e. ap (λ u. if u then [] else missing_in h.answers) e in
       elim (is_enough now) as
       (λ t. is_enough now ≡ t
-      → After (judged r groups (if t then round.Read text else if have_answered h.answers now.servers then round.Short (missing_in h.answers) else round.Waiting)) h
+      → After (judged r groups
+      (if t then round.Read text else if have_answered h.answers now.servers then round.Short (missing_in h.answers) else round.Waiting)) h
       ended) [
         | true ↦ λ e. read_holds h ended (segment_found target groups (answer_of text)) (missing true e)
         | false ↦ λ e.
@@ -148,7 +149,8 @@ module _ (target : Target) (group : Group) where
       → After (on_answer (standing h ended so_far stage) groups ask server told) (heard h ask server told) ended
   unfolding on_answer
   answer_holds h ended so_far groups ask server told Asking same says =
-      subst (λ (answers : List Answer). After (on_answer (standing h ended answers Asking) groups ask server told) (heard h ask server told) ended) (sym (same refl))
+      subst (λ (answers : List Answer). After (on_answer (standing h ended answers Asking) groups ask server told) (heard h ask server told) ended)
+      (sym (same refl))
       (asking_holds h ended groups ask server told)
   answer_holds h ended so_far groups ask server told Between same says =
       waits h (heard h ask server told).answers ended so_far Between (λ e. absurd cc) says

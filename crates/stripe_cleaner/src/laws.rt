@@ -10,11 +10,13 @@ ghost use Rattle.stripe_cleaner.specs.Transition.{transition};
 /// No segment is read or deleted whose number is at or above the least horizon of its log, which is that of
 /// the Welcome of the job.
 pub fn empties_below_the_horizon()
-    ensures { (count : ℕ) (history : List In) (input : In) → AllByRecursion (EmptiesBelow (started count) (input ∷ history)) (transition (state_after (started count) history) input).outs }
+    ensures { (count : ℕ) (history : List In) (input : In)
+        → AllByRecursion (EmptiesBelow (started count) (input ∷ history)) (transition (state_after (started count) history) input).outs }
 {}
 
 /// A segment is deleted only after it was read and each of its Block items was then answered Dead in the
 /// promised epoch, after it was moved or where it was never live.
 pub fn deletes_what_is_emptied()
-    ensures { (count : ℕ) (history : List In) (input : In) → AllByRecursion (DeletesEmptied (started count) (input ∷ history)) (transition (state_after (started count) history) input).outs }
+    ensures { (count : ℕ) (history : List In) (input : In)
+        → AllByRecursion (DeletesEmptied (started count) (input ∷ history)) (transition (state_after (started count) history) input).outs }
 {}

@@ -47,7 +47,8 @@ pub fn join(
     requires size { IsCut (length parts.now) parity }
     requires lengths { HasLengths (part_of len (length parts.now - parity)) parts.now }
     // Whatever is missing, the text that was cut comes back.
-    ensures gives_back { IfOk result (λ found. (text : Seq ℕ) → IsBytes text → length text ≡ len → AreOf parts.now (stripe_of text (length parts.now) parity) → found ≡ text) }
+    ensures gives_back { IfOk result
+        (λ found. (text : Seq ℕ) → IsBytes text → length text ≡ len → AreOf parts.now (stripe_of text (length parts.now) parity) → found ≡ text) }
     ensures exact { IfOk result (λ found. found ≡ joined parts.now parity len) }
     // Which refusal it is, and that it comes where too many are missing and not else, but for memory.
     ensures enough { OnOk result (excess parity (missing_from 0 parts.now) ≡ None) }

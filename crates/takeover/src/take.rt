@@ -39,7 +39,17 @@ impl Model for Take {
 
     ghost Value = { TakeState };
 
-    ghost view = { λ t. record { news = t.news; groups = t.groups; clients = t.clients; reports = t.reports; sources = t.sources.items; present = t.present; ask = t.ask; chain = t.chain.items; index = t.index } };
+    ghost view = { λ t. record {
+      news = t.news;
+      groups = t.groups;
+      clients = t.clients;
+      reports = t.reports;
+      sources = t.sources.items;
+      present = t.present;
+      ask = t.ask;
+      chain = t.chain.items;
+      index = t.index;
+    } };
 }
 
 impl Crosses for Take {}

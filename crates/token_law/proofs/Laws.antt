@@ -91,7 +91,8 @@ holdings_believed logs members part n b m e s r c is up =
     let covered = (beliefs_cover v.world (is_owned logs members part n b m v)).held c in
     let believed = v.manages.belief c in
     let mode = (shown_up logs members part b n v c is.some is.within up).mode in
-    subst (λ (x : SlotState). mode_number (held_of (n.tokens c).blocks b).mode ≤ share_of x.beliefs b c) (sym (reigning logs members part n b m v e s r)) (omega arith)
+    subst (λ (x : SlotState). mode_number (held_of (n.tokens c).blocks b).mode ≤ share_of x.beliefs b c) (sym (reigning logs members part n b m v e s r))
+    (omega arith)
 
 pub grants_believed : GrantsBelieved
 grants_believed logs members part n b m e s r c is up stamp inc req mode entry sent accepted =

@@ -78,7 +78,8 @@ module _ (b : BlockId) where
       let h = held_of s.blocks b in
       let news : client.Done = still (with_held s b (version_settled h ver)) in
       let same : client.Done = still s in
-      elim (is_settled_by h ver) as (λ t. local_of (if t then news else same).state b ≡ record (local_of s b) { held = if t then version_settled h ver else h }) [
+      elim (is_settled_by h ver) as
+      (λ t. local_of (if t then news else same).state b ≡ record (local_of s b) { held = if t then version_settled h ver else h }) [
         | true ↦ ap (λ (k : Held). record (local_of s b) { held = k }) (held_of-put_itself b (version_settled h ver) s.blocks)
         | false ↦ refl
       ]

@@ -162,7 +162,8 @@ module _ (logs : Bool) (members part : ℕ) (n : Net) (i : Good logs members par
           → OwnsAlone (slot.started epoch index (all_reported rows order) applied).beliefs
       alone b v later k c d apart =
           elim (is_in_slot part k) as
-          (λ t. is_in_slot part k ≡ t → share_of (all_believed [] (all_reported rows order)) k c + share_of (all_believed [] (all_reported rows order)) k d ≤ 2) [
+          (λ t. is_in_slot part k ≡ t
+          → share_of (all_believed [] (all_reported rows order)) k c + share_of (all_believed [] (all_reported rows order)) k d ≤ 2) [
             | true ↦ λ inside. let u = i.views k inside in let same =
                 one_epoch k b u v in
                 alone_here logs members part k n u epoch index applied rows ends none order all each reports_sent (omega arith)

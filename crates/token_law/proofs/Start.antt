@@ -124,7 +124,10 @@ pub always : (logs : Bool) (members part : ℕ) (n : Net) → 0 < members → Ru
 always logs members part n some r = go opening n r (record { good = begins logs members part some; sure = owed logs (Sure members opening) (λ _. at_first) })
   where
     at_first : Sure members opening
-    at_first = record { books = record { beyond = λ l q past. refl; once = λ c q within. tt; first = λ l. refl }; falls = record { apart = tt; waits = λ c up_. refl } }
+    at_first = record {
+      books = record { beyond = λ l q past. refl; once = λ c q within. tt; first = λ l. refl };
+      falls = record { apart = tt; waits = λ c up_. refl };
+    }
 
     go : (a m : Net) → Runs logs members part a m → Whole logs members part a → Whole logs members part m
     go a m Begun i = i

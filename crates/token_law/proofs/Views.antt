@@ -180,7 +180,8 @@ carried_on logs part b w v (SupplySent c block stamp inc req ver value) g h = λ
       k.0,
       k.1,
       offer_on c w v stamp inc req Copy (entry_seen k.0) g.epoch g.offers k.2,
-      owed_both logs (Lasts w v) (Supplies stamp.epoch ver value w) (Supplies stamp.epoch ver value v) (supplied_on stamp.epoch ver value w v g.epoch) g.lasts k.3,
+      owed_both logs (Lasts w v) (Supplies stamp.epoch ver value w) (Supplies stamp.epoch ver value v)
+          (supplied_on stamp.epoch ver value w v g.epoch) g.lasts k.3,
     )
 carried_on logs part b w v (ReportSent c epoch rows end) g h = (h.0, h.1, h.2, g.reports _ h.3)
 

@@ -41,7 +41,8 @@ pub fn no_stamp_is_given_out_twice()
 /// While a want waits for a block, the block is not granted, and no copy of it is passed on: what an input
 /// grants or forwards has no want that waits for it in the state that follows.
 pub fn waiting_bars_grants()
-    ensures { (epoch : ℕ) (index : List (BlockId × Entry)) (beliefs : List (BlockId × ℕ × Mode)) (applied : List ℕ) (inputs : List In) (input : In) (block : BlockId)
+    ensures { (epoch : ℕ) (index : List (BlockId × Entry)) (beliefs : List (BlockId × ℕ × Mode)) (applied : List ℕ) (inputs : List In) (input : In)
+        (block : BlockId)
         → HandsOut block (transition (state_after (started epoch index beliefs applied) inputs) input).outs
         → job_at (transition (state_after (started epoch index beliefs applied) inputs) input).state.jobs block ≡ None }
 {}

@@ -192,4 +192,8 @@ example_acts = Back 1 false ∷ Fell 1 2 2 ∷ Wrote 1 9 ∷ Back 1 true ∷ Fel
 -- The kinds of its steps, newest first.
 abbrev pub example_kinds : List Kind
 example_kinds =
-    Kind.RestartsDiscarding ∷ Kind.CrashesDirty ∷ Kind.WritesFirst ∷ Kind.Offers ∷ Kind.Asks ∷ Kind.SettlesCopy ∷ Kind.SealsCopy ∷ Kind.Activates ∷ Kind.Reports ∷ Kind.Promises ∷ Kind.Reports ∷ Kind.Promises ∷ Kind.Reports ∷ Kind.Promises ∷ Kind.RestartsAdopting ∷ Kind.CrashesDirty ∷ Kind.SealsWith ∷ Kind.WritesFirst ∷ Kind.Offers ∷ Kind.Notes ∷ Kind.Gives ∷ Kind.Recalls ∷ Kind.Asks ∷ Kind.Reads ∷ Kind.Fetches ∷ Kind.TakesPlace ∷ Kind.Offers ∷ Kind.Applies ∷ Kind.Notes ∷ Kind.Gives ∷ Kind.Settles ∷ Kind.SealsWith ∷ Kind.Recalls ∷ Kind.Asks ∷ Kind.WritesFirst ∷ Kind.Offers ∷ Kind.Asks ∷ []
+    Kind.RestartsDiscarding ∷ Kind.CrashesDirty ∷ Kind.WritesFirst ∷ Kind.Offers ∷ Kind.Asks ∷ Kind.SettlesCopy ∷ Kind.SealsCopy ∷ Kind.Activates
+    ∷ Kind.Reports ∷ Kind.Promises ∷ Kind.Reports ∷ Kind.Promises ∷ Kind.Reports ∷ Kind.Promises ∷ Kind.RestartsAdopting ∷ Kind.CrashesDirty
+    ∷ Kind.SealsWith ∷ Kind.WritesFirst ∷ Kind.Offers ∷ Kind.Notes ∷ Kind.Gives ∷ Kind.Recalls ∷ Kind.Asks ∷ Kind.Reads ∷ Kind.Fetches ∷ Kind.TakesPlace
+    ∷ Kind.Offers ∷ Kind.Applies ∷ Kind.Notes ∷ Kind.Gives ∷ Kind.Settles ∷ Kind.SealsWith ∷ Kind.Recalls ∷ Kind.Asks ∷ Kind.WritesFirst ∷ Kind.Offers
+    ∷ Kind.Asks ∷ []

@@ -176,4 +176,7 @@ other_acts = Synced 1 2 ∷ Wrote 1 6 ∷ Wrote 1 5 ∷ Read 2 0 0 ∷ []
 -- The kinds of its steps, newest first.
 abbrev pub other_kinds : List Kind
 other_kinds =
-    Kind.DiscardsCopy ∷ Kind.SettlesCopy ∷ Kind.SealsOther ∷ Kind.Seals ∷ Kind.CrashesClean ∷ Kind.DropsFetch ∷ Kind.DropsWant ∷ Kind.Asks ∷ Kind.TakesSupply ∷ Kind.Offers ∷ Kind.Applies ∷ Kind.Notes ∷ Kind.Gives ∷ Kind.Recalls ∷ Kind.Asks ∷ Kind.Syncs ∷ Kind.Settles ∷ Kind.SealsWith ∷ Kind.Writes ∷ Kind.WritesFirst ∷ Kind.Offers ∷ Kind.Asks ∷ Kind.Declines ∷ Kind.Offers ∷ Kind.Turns ∷ Kind.Notes ∷ Kind.GivesAgain ∷ Kind.Gives ∷ Kind.Recalls ∷ Kind.Asks ∷ Kind.Evicts ∷ Kind.Reads ∷ Kind.TakesAbsent ∷ Kind.Offers ∷ Kind.AsksAgain ∷ Kind.Asks ∷ []
+    Kind.DiscardsCopy ∷ Kind.SettlesCopy ∷ Kind.SealsOther ∷ Kind.Seals ∷ Kind.CrashesClean ∷ Kind.DropsFetch ∷ Kind.DropsWant ∷ Kind.Asks
+    ∷ Kind.TakesSupply ∷ Kind.Offers ∷ Kind.Applies ∷ Kind.Notes ∷ Kind.Gives ∷ Kind.Recalls ∷ Kind.Asks ∷ Kind.Syncs ∷ Kind.Settles ∷ Kind.SealsWith
+    ∷ Kind.Writes ∷ Kind.WritesFirst ∷ Kind.Offers ∷ Kind.Asks ∷ Kind.Declines ∷ Kind.Offers ∷ Kind.Turns ∷ Kind.Notes ∷ Kind.GivesAgain ∷ Kind.Gives
+    ∷ Kind.Recalls ∷ Kind.Asks ∷ Kind.Evicts ∷ Kind.Reads ∷ Kind.TakesAbsent ∷ Kind.Offers ∷ Kind.AsksAgain ∷ Kind.Asks ∷ []

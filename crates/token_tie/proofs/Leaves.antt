@@ -100,7 +100,8 @@ module _ (logs : Bool) (g : Setting) (end : ℕ) (w : World) where
       tt
 
   -- a want is opened, whether or not one was open
-  pub asks-goes : (l : Local) (mode : Mode) → Shown l → is_held mode ≡ true → mode_number l.held.mode < mode_number mode → Premise logs (SettledEnd w g.client end)
+  pub asks-goes : (l : Local) (mode : Mode) → Shown l → is_held mode ≡ true → mode_number l.held.mode < mode_number mode
+      → Premise logs (SettledEnd w g.client end)
       → To (record l { req = l.req + 1; held = asked l.held (l.req + 1) mode }) (Want g.block (l.req + 1) 0 mode ∷ [])
   asks-goes l mode s some less settled =
       let known = s.mode in let counted = s.counted in

@@ -68,8 +68,10 @@ pub told_on : (b : BlockId) (w v : World) (outs : List Out) → ByManager w v �
 told_on b w v [] by h = tt
 told_on b w v (Grant client block stamp inc req mode entry ∷ os) by h =
     (λ is. offer_on client w v stamp inc req mode _ (ap (λ (u : World). u.epoch) by.others) by.offers (h.0 is), told_on b w v os by h.1)
-told_on b w v (Forward passer block stamp client inc req ver ∷ os) by h =
-    (λ is. let t = h.0 is in (t.0, t.1, offer_on client w v stamp inc req Copy _ (ap (λ (u : World). u.epoch) by.others) by.offers t.2), told_on b w v os by h.1)
+told_on b w v (Forward passer block stamp client inc req ver ∷ os) by h = (
+  λ is. let t = h.0 is in (t.0, t.1, offer_on client w v stamp inc req Copy _ (ap (λ (u : World). u.epoch) by.others) by.offers t.2),
+  told_on b w v os by h.1,
+)
 told_on b w v (Recall client block stamp keep ∷ os) by h =
     (λ is. recall_on client w v stamp keep (ap (λ (u : World). u.epoch) by.others) by.recalls (h.0 is), told_on b w v os by h.1)
 told_on b w v (Applied log upto ∷ os) by h = (tt, told_on b w v os by h.1)
@@ -237,7 +239,8 @@ module _ (logs : Bool) where
       let p = want_seen ask end in
       let idle : Idle w.awaited w.owed w.applied = subst (λ o. JobShown o s.epoch w.awaited w.keep w.owed w.applied w.wants w.recalls) none m.job in
       let named : mode_number ask.mode ≡ wanted_share ask.mode = rank_wanted ask.mode something in
-      let fits : (d : ℕ) → (d ≡ ask.client → ⊥) → w.belief d + mode_number ask.mode ≤ 2 = λ d other. (let x = m.belief d in let y = room d other in omega arith) in
+      let fits : (d : ℕ) → (d ≡ ask.client → ⊥)
+      → w.belief d + mode_number ask.mode ≤ 2 = λ d other. (let x = m.belief d in let y = room d other in omega arith) in
       let turn : s.turn + 1 ≡ suc w.turn = let t = m.turn in omega arith in
       record {
         world = steps.offers w p;
@@ -256,7 +259,14 @@ module _ (logs : Bool) where
           job = m.job;
         };
         told = told-answer (steps.offers w p) s ask (passers s ask) (no_passers s ask) something m.epoch
-            (inl (λ i. record { client = ask.client; stamp = turn i; incarnation = ask.inc; request = ask.req; mode = mode_number ask.mode; entry = sym m.index i }));
+            (inl (λ i. record {
+              client = ask.client;
+              stamp = turn i;
+              incarnation = ask.inc;
+              request = ask.req;
+              mode = mode_number ask.mode;
+              entry = sym m.index i;
+            }));
       }
     where
       ends : (t : Bool) → EndsApplied w (want_seen ask end) → Premise t (EndsApplied w (want_seen ask end))

@@ -255,7 +255,8 @@ module _ (b : BlockId) (c : ℕ) (n : ℕ) where
   believed_rank Copy h = omega arith
   believed_rank Own h = omega arith
 
-  one-most : (bs : List (Holder × Bool)) (x : BlockId × ℕ × Mode) → (x.0 ≡ b → x.1 ≡ c → mode_number x.2 ≤ n) → share_of bs b c ≤ n → share_of (believed bs x) b c ≤ n
+  one-most : (bs : List (Holder × Bool)) (x : BlockId × ℕ × Mode) → (x.0 ≡ b → x.1 ≡ c → mode_number x.2 ≤ n) → share_of bs b c ≤ n
+      → share_of (believed bs x) b c ≤ n
   unfolding believed
   one-most bs x limit less =
       let q = holder b c in

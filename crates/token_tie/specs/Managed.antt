@@ -84,7 +84,8 @@ pub record ByManager (w v : World) : Type 0 where
 -- what is said of the block was sent there
 abbrev pub Told : BlockId → World → Out → Type 0
 Told b w (Grant client block stamp inc req mode entry) = block ≡ b → SentOffer client w stamp inc req mode (entry_seen entry)
-Told b w (Forward passer block stamp client inc req ver) = block ≡ b → (entry : Entry) × (entry.ver ≡ ver) × SentOffer client w stamp inc req Copy (entry_seen entry)
+Told b w (Forward passer block stamp client inc req ver) = block ≡ b
+    → (entry : Entry) × (entry.ver ≡ ver) × SentOffer client w stamp inc req Copy (entry_seen entry)
 Told b w (Recall client block stamp keep) = block ≡ b → SentRecall client w stamp keep
 Told b w (Applied log upto) = Unit {0}
 Told b w (Live entry) = Unit {0}

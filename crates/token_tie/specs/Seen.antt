@@ -107,7 +107,8 @@ pub record Shows (g : Setting) (epoch : ℕ) (l : Local) (x : Client) : Type 0 w
 -- ---- what is asked of packets: they are of no later epoch than the reigning one, and those of the reigning one were sent there
 
 abbrev pub offer_seen : ℕ → Stamp → ℕ → ℕ → Mode → abstract_entry.Entry → packets.Offer
-offer_seen client stamp inc req mode entry = record { client = client; stamp = stamp.turn; incarnation = inc; request = req; mode = mode_number mode; entry = entry }
+offer_seen client stamp inc req mode entry =
+    record { client = client; stamp = stamp.turn; incarnation = inc; request = req; mode = mode_number mode; entry = entry }
 
 pub record SentOffer (client : ℕ) (w : World) (stamp : Stamp) (inc req : ℕ) (mode : Mode) (entry : abstract_entry.Entry) : Type 0 where
   pub low : stamp.epoch ≤ w.epoch

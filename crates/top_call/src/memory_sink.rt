@@ -30,7 +30,15 @@ impl Model for MemSink {
 
     ghost Value = { Store };
 
-    ghost view = { λ s. record { written = take s.len s.buffer.items; room = length s.buffer.items - s.len; piece = s.piece; fails = s.fails; empties = s.empties; calls = s.calls; faults = s.faults } };
+    ghost view = { λ s. record {
+      written = take s.len s.buffer.items;
+      room = length s.buffer.items - s.len;
+      piece = s.piece;
+      fails = s.fails;
+      empties = s.empties;
+      calls = s.calls;
+      faults = s.faults;
+    } };
 
     ghost invariant = { λ s. s.len ≤ length s.buffer.items };
 }

@@ -234,7 +234,8 @@ fn answer_run<N: Member, S: Source, K: Sink>(
     source: &mut S,
     sink: &mut K,
 ) -> Outcome<N>
-    ensures ends { Ends N.transition N.first (Some commands.Run) (reading S.left S.faults source.old source.new) (writing K.written K.faults sink.old sink.new) result }
+    ensures ends { Ends N.transition N.first (Some commands.Run) (reading S.left S.faults source.old source.new)
+        (writing K.written K.faults sink.old sink.new) result }
     ensures bounded { ReadsAtMost (reading S.left S.faults source.old source.new) limit }
     ensures read_later { S.faults source.old ≤ S.faults source.new }
     ensures one_run { IfSome result.estate (λ e. IsPlayed N.transition N.first e) }
@@ -253,7 +254,8 @@ fn answer_audit<N: Member, S: Source, K: Sink>(
     source: &mut S,
     sink: &mut K,
 ) -> Outcome<N>
-    ensures ends { Ends N.transition N.first (Some commands.Audit) (reading S.left S.faults source.old source.new) (writing K.written K.faults sink.old sink.new) result }
+    ensures ends { Ends N.transition N.first (Some commands.Audit) (reading S.left S.faults source.old source.new)
+        (writing K.written K.faults sink.old sink.new) result }
     ensures bounded { ReadsAtMost (reading S.left S.faults source.old source.new) limit }
     ensures read_later { S.faults source.old ≤ S.faults source.new }
     ensures one_run { IfSome result.estate (λ e. IsPlayed N.transition N.first e) }
@@ -274,7 +276,8 @@ fn carry_out<N: Member, S: Source, K: Sink>(
     sink: &mut K,
 ) -> Outcome<N>
     requires { HasFewTurns (Some command) }
-    ensures claim { Claim N.transition N.first (Some command) (reading S.left S.faults source.old source.new) (writing K.written K.faults sink.old sink.new) result }
+    ensures claim { Claim N.transition N.first (Some command) (reading S.left S.faults source.old source.new)
+        (writing K.written K.faults sink.old sink.new) result }
     ensures untouched { reads (Some command) ≡ false → source.new ≡ source.old }
 {
     match command {
@@ -293,7 +296,8 @@ pub fn answer<N: Member, S: Source, K: Sink>(
     source: &mut S,
     sink: &mut K,
 ) -> Outcome<N>
-    ensures claim { Claim N.transition N.first (command_of (map string_bytes words.now)) (reading S.left S.faults source.old source.new) (writing K.written K.faults sink.old sink.new) result }
+    ensures claim { Claim N.transition N.first (command_of (map string_bytes words.now)) (reading S.left S.faults source.old source.new)
+        (writing K.written K.faults sink.old sink.new) result }
     ensures untouched { reads (command_of (map string_bytes words.now)) ≡ false → source.new ≡ source.old }
 {
     match read_words(words) {

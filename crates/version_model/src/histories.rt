@@ -45,7 +45,8 @@ fn append_version(
     content: &Value,
     writer: u8,
 ) -> Mem<()>
-    ensures { OnOk result (blocks.new.entries ≡ put_block blocks.old.entries block (append (record { content = content.now; writer = writer }) (block_in blocks.old.entries block))) }
+    ensures { OnOk result (blocks.new.entries ≡ put_block blocks.old.entries block
+        (append (record { content = content.now; writer = writer }) (block_in blocks.old.entries block))) }
 {
     let mut history = take_block(alloc, blocks, block);
     history.append(alloc, content, writer)?;
@@ -240,7 +241,8 @@ impl Histories {
 
     /// A client read a version: it is pinned where another client wrote it.
     pub(crate) fn read(&mut self, alloc: Global, client: u8, block: BlockId, ver: u64) -> Mem<()>
-        ensures { OnOk result (shown self.new ≡ (if is_by_other client ver ((shown self.old).of_block block).versions then change block (pin ver) (shown self.old) else shown self.old)) }
+        ensures { OnOk result (shown self.new ≡
+            (if is_by_other client ver ((shown self.old).of_block block).versions then change block (pin ver) (shown self.old) else shown self.old)) }
     {
         if self.is_by_other(client, block, ver) {
             return self.pin(alloc, block, ver);

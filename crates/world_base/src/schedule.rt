@@ -71,7 +71,15 @@ impl Model for Schedule {
 
     ghost Value = { ScheduleState };
 
-    ghost view = { λ s. record { queue = s.queue.items; lose = s.lose; again = s.again; mixer = s.mixer; holding = s.holding; deliveries = s.deliveries; rounds = s.rounds } };
+    ghost view = { λ s. record {
+      queue = s.queue.items;
+      lose = s.lose;
+      again = s.again;
+      mixer = s.mixer;
+      holding = s.holding;
+      deliveries = s.deliveries;
+      rounds = s.rounds;
+    } };
 }
 
 impl Schedule {

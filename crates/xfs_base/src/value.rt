@@ -51,7 +51,8 @@ impl Value {
     /// 8,192.
     pub fn of(alloc: Global, bytes: &[u8]) -> Result<Value, ValueError>
         ensures ok { IfOk result (λ value. value ≡ Some bytes.now) }
-        ensures bad_length { (n : _) → IsErrOf result (ValueError.BadLength n) ↔ ((n ≡ length bytes.now) × ((length bytes.now ≡ 0) ⊎ (max_value < length bytes.now))) }
+        ensures bad_length { (n : _)
+            → IsErrOf result (ValueError.BadLength n) ↔ ((n ≡ length bytes.now) × ((length bytes.now ≡ 0) ⊎ (max_value < length bytes.now))) }
     {
         if bytes.is_empty() || bytes.len() > MAX_VALUE {
             return Err(ValueError::BadLength(bytes.len()));

@@ -35,7 +35,8 @@ pub fn solo<S: Source, K: Sink>(
     source: &mut S,
     sink: &mut K,
 ) -> Outcome<AnyNode>
-    ensures claim { Claim any_step any_start (command_of (map string_bytes words.now)) (reading S.left S.faults source.old source.new) (writing K.written K.faults sink.old sink.new) result }
+    ensures claim { Claim any_step any_start (command_of (map string_bytes words.now)) (reading S.left S.faults source.old source.new)
+        (writing K.written K.faults sink.old sink.new) result }
     ensures untouched { reads (command_of (map string_bytes words.now)) ≡ false → source.new ≡ source.old }
     ensures headline { IfSome result.estate Headline }
 {
@@ -60,7 +61,8 @@ pub fn xfs<R: Threads + Wait + Sync, S: Source, K: Sink, G: Gate>(
     sink: &mut K,
     _gate: &G,
 ) -> Outcome<AnyNode>
-    ensures claim { Claim any_step any_start (command_of (map string_bytes words.now)) (reading S.left S.faults source.old source.new) (writing K.written K.faults sink.old sink.new) result }
+    ensures claim { Claim any_step any_start (command_of (map string_bytes words.now)) (reading S.left S.faults source.old source.new)
+        (writing K.written K.faults sink.old sink.new) result }
     ensures untouched { reads (command_of (map string_bytes words.now)) ≡ false → source.new ≡ source.old }
     ensures headline { IfSome result.estate Headline }
 {

@@ -231,7 +231,8 @@ module _ (e : Estate AnyNode) where
     begun_true count number target group ask named fresh =
         begun_since count count count number target group ask (omega arith) (omega arith) named fresh
 
-    module _ (run : IsRun any_step any_start e.script e.events e.world) (since count number : ℕ) (r : ReadingState) (so : ReadingTrue since count number r) where
+    module _ (run : IsRun any_step any_start e.script e.events e.world) (since count number : ℕ) (r : ReadingState)
+        (so : ReadingTrue since count number r) where
       -- ---- an answer
 
       abbrev After : Step → Type 0
@@ -385,7 +386,8 @@ module _ (e : Estate AnyNode) where
       unfolding on_confirmed
       lost_was_torn ask = by r.stage so.stage
         where
-          by : (stage : rounds.Stage) → StageTrue since count number r stage → (goes_on r ask stage).next ≡ next.Lost → TornUnlessDeleted since count r.target.seg
+          by : (stage : rounds.Stage) → StageTrue since count number r stage → (goes_on r ask stage).next ≡ next.Lost
+              → TornUnlessDeleted since count r.target.seg
           by stand.Asking t lost = absurd cc
           by stand.Between t lost = absurd cc
           by stand.Doubted t lost = t
@@ -415,7 +417,8 @@ never_lost later groups round.Waiting = λ lost. absurd cc
 pub answer_never_loses : (r : ReadingState) (groups : GroupMapState) (ask server : ℕ) (t : Told) → (on_answer r groups ask server t).next ≡ next.Lost → ⊥
 unfolding on_answer
 answer_never_loses r groups ask server t =
-    by_test NotLost (counts r ask server t) (judged (with_answer r server t) groups (state_of (taken r.round server t))) (record { state = r; next = next.Wait })
+    by_test NotLost (counts r ask server t) (judged (with_answer r server t) groups (state_of (taken r.round server t)))
+    (record { state = r; next = next.Wait })
     (λ takes. never_lost (with_answer r server t) groups (state_of (taken r.round server t))) (λ other lost. absurd cc)
 
 keeps_target : (r later : ReadingState) → later.target ≡ r.target → later.ask ≡ r.ask → (groups : GroupMapState) (st : RoundState)

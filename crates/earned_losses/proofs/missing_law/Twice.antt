@@ -83,6 +83,7 @@ in_order e from to parity name before (p ∷ ps) all many = (let a = all.0.since
 pub what_is_missing_twice_was_torn : WhatIsMissingTwiceWasTorn
 what_is_missing_twice_was_torn e ok run segment group striped since middle drawn count before now first second apart many kept at after until =
     torn_at e run segment since middle drawn count before now (each_missed e since middle segment.name before first)
-    (each_missed e drawn count segment.name now second) (in_order e drawn count group.parity segment.name before now second many) kept at after until (servers_of group.members) group.parity
+    (each_missed e drawn count segment.name now second) (in_order e drawn count group.parity segment.name before now second many) kept at after until
+    (servers_of group.members) group.parity
     (sym (ap (λ o. servers_of (stripe_by o).members) striped)) (sym (ap (λ o. (stripe_by o).parity) striped)) (are_apart group now apart)
     (are_among group now apart) many

@@ -131,7 +131,8 @@ module _ (base : Setting) (e : Estate AnyNode) (lines : HasLines base e) (texts 
         → (seq : ℕ) → p.source.low ≤ seq → of_log (b.idx.net.horizon t.epoch) l ≤ seq
     horizon_below p reads no_part l own seq above =
         ⊎_elim (λ part. absurd (no_part part))
-        (λ (low : IsLow part texts.text b.idx.net t.epoch t.take agrees p.source). subst (λ x. of_log (b.idx.net.horizon t.epoch) x ≤ seq) (sym low.own ∙ own) (let same = low.low in omega arith)) (part_or_log p reads)
+        (λ (low : IsLow part texts.text b.idx.net t.epoch t.take agrees p.source). subst (λ x. of_log (b.idx.net.horizon t.epoch) x ≤ seq)
+        (sym low.own ∙ own) (let same = low.low in omega arith)) (part_or_log p reads)
 
     -- each part is a segment of a manager's log
     pub parts_known : (known : Known) → PartsNamed known (moment e count).nodes (moment e count).sent → (ref : SegRef) → In ref t.take.news.parts → known ref

@@ -167,7 +167,8 @@ module _ (g : Setting) where
     -- ---- it takes an input
 
     module _ (start n : Net) (run : Runs g start n) (base : Base g n) (torn_now : (seg : SegRef) → IsReading seg n → IsTorn g seg n → Was seg)
-        (s : ScanState) (is : n.owner ≡ Opening s) (i : Input) (came : CameToScan g n i) (truth : IsTrue run s i) (k : StageKept g Was run s.opening.ask s.stage) where
+        (s : ScanState) (is : n.owner ≡ Opening s) (i : Input) (came : CameToScan g n i) (truth : IsTrue run s i)
+        (k : StageKept g Was run s.opening.ask s.stage) where
       read_now : (seg : SegRef) → IsRead s.stage seg → IsTorn g seg n → Was seg
       read_now seg reads = torn_now seg (s, is, reads)
 

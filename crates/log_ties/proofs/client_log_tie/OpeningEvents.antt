@@ -372,7 +372,8 @@ module _ (g : Setting) (c : ℕ) (small : is_log g.log.0 ≡ true) (w : Scene) (
           ),
           came,
         ) h.owed i
-        (scanning.welcome_so g c w its life j q r i refl s.scan.opening s.scan.stage s.asked.own m.news.slots groups w.asked s.asked is h.sees.some awaited.own h.owed.asks awaited.awaits h.sees.asks)
+        (scanning.welcome_so g c w its life j q r i refl s.scan.opening s.scan.stage s.asked.own m.news.slots groups w.asked s.asked is h.sees.some
+        awaited.own h.owed.asks awaited.awaits h.sees.asks)
 
     taken_so : m.inc ≡ w.net.inc → Awaited w.asked s.asked s.scan.opening.ask s.scan.stage
         → In (WelcomeSent m.inc s.scan.opening.ask m.news.slots m.news.groups) w.net.sent → Goes (welcomed k q s m.news s.asked.own)

@@ -180,7 +180,8 @@ module _ (g : Setting) (c : ℕ) where
       none : (scanned k.owner low a p outs).state.ended ≡ None
       rests : Rests limit (scanned k.owner low a p outs).state.asked (scanned k.owner low a p outs).state.questions
 
-    said_rests : (limit low : ℕ) (a : Asked) (p : Questions) (outs : List Out) → AllByRecursion (IsRest limit) outs → Rests limit a p → Rested limit low a p outs
+    said_rests : (limit low : ℕ) (a : Asked) (p : Questions) (outs : List Out) → AllByRecursion (IsRest limit) outs → Rests limit a p
+        → Rested limit low a p outs
     unfolding said
     said_rests limit low a p [] all r = record { none = refl; rests = r }
     said_rests limit low a p (Hello own ∷ outs) all r = absurd all.0

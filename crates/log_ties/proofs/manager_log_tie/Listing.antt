@@ -150,7 +150,8 @@ module _ (test : LogId → Bool) where
   wanted_so : (server : ℕ) (groups : GroupMapState) (metas : List FragMeta) → MetasOf test metas
       → AllByRecursion (WantedOf test) (wanted_in server groups metas)
   wanted_so server groups metas all =
-      all_filter_map (WantedOf test) (λ (m : FragMeta). NameOf test m.name) (wanted_of server groups) (λ m new. of_group_so server m (group_of groups m.group) new) metas all
+      all_filter_map (WantedOf test) (λ (m : FragMeta). NameOf test m.name) (wanted_of server groups)
+      (λ m new. of_group_so server m (group_of groups m.group) new) metas all
 
   -- what is filled in is of such a log
   abbrev OutOf : Out → Type 0
@@ -201,7 +202,8 @@ module _ (test : LogId → Bool) where
   begun_so s names h =
       (let listed = all_without names s.listed h.listed in
       let wanted : List Wanted = wanted_in s.server s.groups (values_of (without names s.listed)) in
-      let d = goes_on_so wanted (at_first wanted) (wanted_so s.server s.groups (values_of (without names s.listed)) (values_so (without names s.listed) listed)) in
+      let d = goes_on_so wanted (at_first wanted)
+      (wanted_so s.server s.groups (values_of (without names s.listed)) (values_so (without names s.listed) listed)) in
       record { state = record { listed = listed; reads = d.state }; outs = d.outs })
 
   heard_so : (s : RebuildState) (server : ℕ) (metas : List FragMeta) → RebuildOf test s → MetasOf test metas → RebuildOf test (heard_from s server metas)

@@ -152,7 +152,8 @@ fit_acked : (s : LogState) (name : SegName) (index generation : ℕ) → LogFits
 unfolding on_acked
 fit_acked s name index generation h =
     elim s.flight as
-    (λ o. IfSome o FlightFits → FitAfter (elim o [ None ↦ still s | Some f ↦ cond (is_of f name index generation) (looked_at s s (noting f index)) (still s) ])) [
+    (λ o. IfSome o FlightFits
+    → FitAfter (elim o [ None ↦ still s | Some f ↦ cond (is_of f name index generation) (looked_at s s (noting f index)) (still s) ])) [
       | None ↦ λ e. fit_still s h
       | Some f ↦ λ e. by_test FitAfter (is_of f name index generation) (looked_at s s (noting f index)) (still s)
           (λ t. fit_looked s s (noting f index) h h (record { log = e.log; name = e.name; prior = e.prior; group = e.group; items = e.items }))

@@ -122,7 +122,8 @@ module _ (log : LogId) where
   own_tick : (s : LogState) → IsOfLog log s → OwnDone (on_tick s)
   unfolding on_tick
   own_tick s h =
-      elim s.flight as (λ o. IfSome o (λ f. f.segment.name.log ≡ log) → OwnDone (elim o [ None ↦ still s | Some f ↦ record { state = s; outs = all_sends f } ])) [
+      elim s.flight as (λ o. IfSome o (λ f. f.segment.name.log ≡ log)
+      → OwnDone (elim o [ None ↦ still s | Some f ↦ record { state = s; outs = all_sends f } ])) [
         | None ↦ λ e. own_still s h
         | Some f ↦ λ e. record { state = h; outs = all_own f e }
       ] h.flight

@@ -82,4 +82,5 @@ ServersStartBare = (test : LogId → Bool) (number : ℕ) (setup : Setup) (works
 
 -- whatever happens to a server
 abbrev pub ServersListWhatWasStored : Type 0
-ServersListWhatWasStored = (test : LogId → Bool) (server : Server) (what : Do) → ServerHolds test server → ComesOf test what → Lists test (server_step server what)
+ServersListWhatWasStored = (test : LogId → Bool) (server : Server) (what : Do) → ServerHolds test server → ComesOf test what
+    → Lists test (server_step server what)

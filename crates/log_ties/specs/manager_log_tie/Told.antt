@@ -1,4 +1,5 @@
--- What was stored and told of a log, as its small world has it: bytes, of segments that have a text. So what comes of a segment to whoever reads it is in range.
+-- What was stored and told of a log, as its small world has it: bytes, of segments that have a text. So what comes of a segment to whoever reads it is in
+-- range.
 use Rattle.std.specs.Prelude.{ℕ}
 use Rattle.xfs_base.specs.declared.fragment.Fragment.{Fragment}
 use Rattle.segment_format.specs.declared.segment.Segment.{Segment}

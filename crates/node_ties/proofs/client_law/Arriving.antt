@@ -218,7 +218,8 @@ module _ (A : BlockId → Type 0) (M : GroupMapState → Type 0) (B : Fact) (P :
           placed t None =
               copy-arrives (copied h stamp entry.ver None) arrives
               (record { asks = asked Copy t; unheld = unheld t; mode = refl; clean = refl; stamp = rises Copy t; giving = refl })
-          placed t (Some place) = reads-keeps 1 (with_block (fetched_from h stamp entry.ver place)) block place (fetched-same entry.ver place (unheld t) (rises Copy t))
+          placed t (Some place) = reads-keeps 1 (with_block (fetched_from h stamp entry.ver place)) block place
+              (fetched-same entry.ver place (unheld t) (rises Copy t))
 
       granted_own : A block → (entry : Entry) → has_long_room entry.ver ≡ true → KeptOrFresh (told s (on_granted s.tokens block stamp inc req Own entry)).state
       unfolding on_granted follows follows_one notes_copy
@@ -240,7 +241,8 @@ module _ (A : BlockId → Type 0) (M : GroupMapState → Type 0) (B : Fact) (P :
               (λ x. contrary (sym (ap (λ (f : Held). same_mode f.mode Copy) now) ∙ x))
               (λ x. inr (record {
                 block = block;
-                fact = k.owns s.tokens s.log s.cache block g arrives asks.sound (record { asks = asked Own t; mode = refl; clean = refl; stamp = rises Own t; giving = refl }) p;
+                fact = k.owns s.tokens s.log s.cache block g arrives asks.sound
+                    (record { asks = asked Own t; mode = refl; clean = refl; stamp = rises Own t; giving = refl }) p;
                 needs = needed_same (with_block g).call s.call (call_with-step s.call (kept_while u (reading_in s.call))) ∙ (needs_it Own t).0;
                 may = ap may_write now ∙ ap (λ b. b && nat_lt entry.ver (2 ^ 64 - 1)) ungiven ∙ below;
                 empty = ap (λ (f : Held). is_none f.value) now;
@@ -266,7 +268,8 @@ module _ (A : BlockId → Type 0) (M : GroupMapState → Type 0) (B : Fact) (P :
 
     ended-copied : (f : Option Fetch) (value : Option (List ℕ)) → is_some f ≡ true → is_asking h ≡ true → h.mode ≡ Nothing → IsCopied h (fetch_ended h f value)
     ended-copied None value some asking nothing = contrary some
-    ended-copied (Some f) value some asking nothing = record { asks = asking; unheld = nothing; mode = refl; clean = refl; stamp = not_later_itself h.stamp; giving = refl }
+    ended-copied (Some f) value some asking nothing =
+        record { asks = asking; unheld = nothing; mode = refl; clean = refl; stamp = not_later_itself h.stamp; giving = refl }
 
     pub fetched-keeps : (may_end_fetch h ≡ true → A block) → (value : Option (List ℕ)) → At (P 1) (told s (on_fetched s.tokens block value)).state
     unfolding on_fetched

@@ -126,7 +126,8 @@ module _ (A : BlockId → Type 0) (M : GroupMapState → Type 0) (B : Fact) (P :
   unfolding on_begin on_deliver on_time
   event-so client s Begin arrives brings room asks h = begun-so client.peers.servers s (next_item s.lasting.items) room asks h
   event-so client s (Deliver packet) arrives brings room asks h =
-      by_test (λ (w : Went_to). WhereItServes (At B) w.state) (is_well_formed client.peers packet) (on_deliver client.cache (Serves s) packet) (still (Serves s))
+      by_test (λ (w : Went_to). WhereItServes (At B) w.state) (is_well_formed client.peers packet) (on_deliver client.cache (Serves s) packet)
+      (still (Serves s))
       (λ t. runs-so (on_packet s packet).state (on_packet-asks s asks packet) (on_packet-keeps A M B P Q k s asks (begin s room h) packet arrives brings))
       (λ t. h)
   event-so client s Tick arrives brings room asks h =

@@ -77,7 +77,8 @@ recalled-same t block stamp keep same =
     let held : Stamp = (held_of t.blocks block).stamp in
     by_test (λ (d : Done). d.state ≡ t) (is_promised t block stamp) (recalled t block stamp keep) (still t)
     (λ x. by_test (λ (d : Done). d.state ≡ t) (is_later stamp held) (recalled_above t block stamp keep) (recalled_again t block stamp)
-    (λ later. contrary (sym (not_later_itself stamp) ∙ ap (is_later stamp) (sym (stamp_is held stamp same)) ∙ later)) (λ y. again-same t block stamp)) (λ x. refl)
+    (λ later. contrary (sym (not_later_itself stamp) ∙ ap (is_later stamp) (sym (stamp_is held stamp same)) ∙ later)) (λ y. again-same t block stamp))
+    (λ x. refl)
 
 -- what a packet brings: blocks that may arrive, and maps that may come
 abbrev pub Arrives : (BlockId → Type 0) → Serving → Body → Type 0

@@ -91,7 +91,10 @@ ask-quiet s block mode =
     let g : Held = asked h (s.req + 1) mode in
     by_test (GoesQuietly s) (nat_lt s.req (2 ^ 32 - 1))
     (record { state = record (with_held s block g) { req = s.req + 1 }; outs = Want block (s.req + 1) 0 mode ∷ [] }) (still s)
-    (λ t. record { quiet = quiet_put s block g (record { mode = refl; ver = refl; settled = refl; stamp = not_later_itself h.stamp; giving = λ x. x }); silent = (tt, tt) }) (λ t. quiet_still s)
+    (λ t. record {
+      quiet = quiet_put s block g (record { mode = refl; ver = refl; settled = refl; stamp = not_later_itself h.stamp; giving = λ x. x });
+      silent = (tt, tt);
+    }) (λ t. quiet_still s)
 
 pub on_need-quiet : (s : TokensState) (block : BlockId) (mode : Mode) → GoesQuietly s (on_need s block mode)
 unfolding on_need
@@ -108,7 +111,11 @@ unfolding on_quit
 on_quit-quiet s block =
     let h : Held = held_of s.blocks block in
     by_test (GoesQuietly s) (is_asking h) (still (with_held s block (unasked h))) (still s)
-    (λ t. record { quiet = quiet_put s block (unasked h) (record { mode = refl; ver = refl; settled = refl; stamp = not_later_itself h.stamp; giving = λ x. x }); silent = tt })
+    (λ t. record {
+      quiet = quiet_put s block (unasked h)
+          (record { mode = refl; ver = refl; settled = refl; stamp = not_later_itself h.stamp; giving = λ x. x });
+      silent = tt;
+    })
     (λ t. quiet_still s)
 
 pub on_forwarded-quiet : (s : TokensState) (block : BlockId) (stamp : Stamp) (ver : ℕ) → GoesQuietly s (on_forwarded s block stamp ver)
@@ -128,7 +135,8 @@ unfolding refetch
 refetch-quiet s block =
     let h : Held = held_of s.blocks block in
     let dropped : TokensState = with_held s block (unfetched h) in
-    let first : IsQuiet s dropped = quiet_put s block (unfetched h) (record { mode = refl; ver = refl; settled = refl; stamp = not_later_itself h.stamp; giving = λ x. x }) in
+    let first : IsQuiet s dropped =
+    quiet_put s block (unfetched h) (record { mode = refl; ver = refl; settled = refl; stamp = not_later_itself h.stamp; giving = λ x. x }) in
     let second : GoesQuietly dropped (new_want dropped block Copy) = ask-quiet dropped block Copy in
     by_test (GoesQuietly s) (is_some h.fetch) (new_want dropped block Copy) (still s)
     (λ t. record { quiet = quiet_through s dropped (new_want dropped block Copy).state first second.quiet; silent = second.silent }) (λ t. quiet_still s)
@@ -173,7 +181,8 @@ on_tick-quiet s =
 dropped-same : (s : TokensState) (slot : ℕ) (b : BlockId) → IsSame (held_of s.blocks b) (dropped_in slot b (held_of s.blocks b))
 dropped-same s slot b =
     let h : Held = held_of s.blocks b in
-    by_test (IsSame h) (is_in_slot slot b) (promise_dropped h) h (λ t. record { mode = refl; ver = refl; settled = refl; stamp = not_later_itself h.stamp; giving = λ x. contrary x })
+    by_test (IsSame h) (is_in_slot slot b) (promise_dropped h) h
+    (λ t. record { mode = refl; ver = refl; settled = refl; stamp = not_later_itself h.stamp; giving = λ x. contrary x })
     (λ t. same_itself h)
 
 pub on_promise-quiet : (s : TokensState) (slot epoch : ℕ) → GoesQuietly s (on_promise s slot epoch)

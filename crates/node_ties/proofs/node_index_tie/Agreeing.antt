@@ -1,4 +1,5 @@
--- How a manager is seen depends on the slots that it holds, on what was sent and on what the registry keeps of its epochs alone: it stays while the small world goes on.
+-- How a manager is seen depends on the slots that it holds, on what was sent and on what the registry keeps of its epochs alone: it stays while the small
+-- world goes on.
 use Rattle.std.proofs.Common.{◌≡◌, ℕ, Option, Some, None, refl, sym, subst, ◌∙◌}
 use Rattle.node_ties.specs.node_index_tie.Pages.{Desk, desk_of}
 use Rattle.index_tie.specs.Net.{Net}

@@ -1,4 +1,5 @@
--- How the writing of a checkpoint goes on: each segment that is settled holds what was given out for it, and once all is written the small world has the checkpoint.
+-- How the writing of a checkpoint goes on: each segment that is settled holds what was given out for it, and once all is written the small world has the
+-- checkpoint.
 use Rattle.std.proofs.Common.{◌≡◌, ℕ, ◌<◌, ◌==◌, inl, false, List, [], ◌∷◌, ◌++◌, take, drop, length, Option, Some, None, refl, sym, ap, subst, ◌∙◌, append_assoc, arith}
 use Rattle.std.specs.List.{flat_map}
 use Rattle.std.proofs.lemmas.Bool.{eqb-true}

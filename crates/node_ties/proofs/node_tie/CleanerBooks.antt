@@ -226,7 +226,8 @@ module _ (members part : ℕ) (few : members ≤ its_log) where
       (λ _. log_stays k s seen waits)
   log_goes k s (log_in.Acked name index generation) seen waits copy =
       flight_or k s (λ o. LogGone k (acked_in o).state) seen (log_stays k s seen waits)
-      (λ f flying flown. by_test (λ (d : log.Done). LogGone k d.state) (flights.is_of f name index generation) (log.looked_at s s (flights.noting f index)) (still s)
+      (λ f flying flown. by_test (λ (d : log.Done). LogGone k d.state) (flights.is_of f name index generation) (log.looked_at s s (flights.noting f index))
+      (still s)
       (λ _. looked_goes k s s (flights.noting f index) flying seen.end flown seen waits waits) (λ _. log_stays k s seen waits))
     where
       acked_in : Option FlightState → log.Done

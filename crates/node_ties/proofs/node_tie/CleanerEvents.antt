@@ -363,7 +363,8 @@ first_epoch (suc (suc (suc (suc (suc (suc (suc (suc k)))))))) h = absurd (omega 
 pub cleaner_takes : CleanerTakes
 cleaner_takes logs members part promised limit n small low few adopted cleaner what stands owed copies told =
     let goes : CleanerGoes part promised limit cleaner.phase (takes cleaner.peers cleaner.phase what).state (takes cleaner.peers cleaner.phase what).outs =
-    by_test (λ (w : Went_to). CleanerGoes part promised limit cleaner.phase w.state w.outs) (phase_room cleaner.phase) (happens cleaner.peers cleaner.phase what)
+    by_test (λ (w : Went_to). CleanerGoes part promised limit cleaner.phase w.state w.outs) (phase_room cleaner.phase)
+    (happens cleaner.peers cleaner.phase what)
     (still cleaner.phase)
     (λ room. happened part promised limit small low cleaner.peers cleaner.phase what room stands owed)
     (λ room. goes_still part promised limit small low cleaner.phase stands) in

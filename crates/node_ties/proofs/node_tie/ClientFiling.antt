@@ -62,7 +62,8 @@ ready false members part limit c life room highest pos less n t l f number inc h
   rows_are = said_now n.books c (rows_told f.segment.items);
 }
 
-module _ (logs : Bool) (members part limit c life room highest : ℕ) (pos : 0 < c) (less : c < members) (n : Net) (t : TokensState) (l : LogState) (f : FlightState)
+module _ (logs : Bool) (members part limit c life room highest : ℕ) (pos : 0 < c) (less : c < members) (n : Net) (t : TokensState) (l : LogState)
+    (f : FlightState)
     (number inc : ℕ)
     (h : frames.Stands logs members part limit c life (room + 1) highest n t (record l { flight = Some f }) number inc) where
   abbrev flown : LogState

@@ -90,7 +90,8 @@ module _ (logs : Bool) (members part limit c life room highest : ℕ) (pos : 0 <
   pub on_supply_so : (n : Net) (s : Serving) (p : Supply) → At n s → SentOf part n.sent p.block (SupplySent c p.block p.stamp p.inc p.req p.ver p.value)
       → Goes n (on_supply s p)
   unfolding on_supply
-  on_supply_so n s p h sent = tokens.hands_so logs members part limit c life room highest pos less n s (input.Supplied p.block p.stamp p.inc p.req p.ver p.value)
+  on_supply_so n s p h sent =
+      tokens.hands_so logs members part limit c life room highest pos less n s (input.Supplied p.block p.stamp p.inc p.req p.ver p.value)
       (record { happens = λ end serves. by_slot end serves (is_in_slot part p.block) refl; allowed = tt }) h
     where
       by_slot : (end : ℕ) → IsServing logs members n c end → (t : Bool) → is_in_slot part p.block ≡ t
@@ -193,7 +194,8 @@ module _ (logs : Bool) (members part limit c life room highest : ℕ) (pos : 0 <
       }) h
 
   ends_fetch_so : (n : Net) (s : Serving) (at : BlockAt) (x : Next) → Premise logs (BringsRead n.books s (Some at) x) → At n s → Goes n (ends_fetch s at x)
-  ends_fetch_so n s at next.Again brings h = tokens.hands_own logs members part limit c life room highest pos less n s (input.Reask at.block) tt (λ u. refl) tt h
+  ends_fetch_so n s at next.Again brings h =
+      tokens.hands_own logs members part limit c life room highest pos less n s (input.Reask at.block) tt (λ u. refl) tt h
   ends_fetch_so n s at (next.Read segment) brings h = read_so n s at.block (value_at segment at.item) brings h
   ends_fetch_so n s at next.Wait brings h = still_so n s h
   ends_fetch_so n s at next.Ask brings h = still_so n s h

@@ -1,4 +1,5 @@
--- A client that serves gets a grant to own, which the open call asked for: before its call runs on, what the tokens make of it and of the write, or of letting it
+-- A client that serves gets a grant to own, which the open call asked for: before its call runs on, what the tokens make of it and of the write, or of
+-- letting it
 -- go, is seen in the small world, in the slot and elsewhere.
 use Rattle.std.proofs.Common.{◌≡◌, ◌<◌, ◌++◌, ◌-◌, ◌^◌, ℕ, ◌==◌, ◌&&◌, not, Bool, true, false, cond, List, [], ◌∷◌, Option, Some, None, is_none, nat_lt, refl, sym, ap, subst, ◌∙◌}
 use Rattle.client_log.specs.LogState.{LogState}
@@ -163,7 +164,8 @@ module _ (logs : Bool) (members part limit c life room highest : ℕ) (pos : 0 <
     abbrev Borne : TokensState → Type 0
     Borne t = Bears (frames.Sent part c n.sent) (frames.Promised part limit) (λ b g. Unit {0}) life t
 
-    borne : (t : TokensState) → IsSound t → (i : inputs.In) → Allowed (frames.Sent part c n.sent) (frames.Promised part limit) (λ b g. Unit {0}) life i → Borne t
+    borne : (t : TokensState) → IsSound t → (i : inputs.In) → Allowed (frames.Sent part c n.sent) (frames.Promised part limit) (λ b g. Unit {0}) life i
+        → Borne t
         → Borne (client.transition t i).state
     borne t sound i allowed k =
         transition-bears (frames.Sent part c n.sent) (frames.Promised part limit) (λ b g. Unit {0}) life no_fact
@@ -282,7 +284,8 @@ module _ (logs : Bool) (members part limit c life room highest : ℕ) (pos : 0 <
           taking.acting logs members part limit c life room highest outside (waiting value) s.log.end.seq s.lasting.number s.lasting.inc
           (client.on_wrote granted.state block value)
           (Wrote c block value ∷ []) (n.acts ++ Wrote c block value ∷ []) h.up h.number_is h.inc_is h.numbers refl happens (wrote_sound value)
-          (taking.bears_more logs members part limit c life room highest n.sent outside.sent outside_grown.grows (waiting value) (wrote value) (wrote_bears value))
+          (taking.bears_more logs members part limit c life room highest n.sent outside.sent outside_grown.grows (waiting value) (wrote value)
+          (wrote_bears value))
           (wrote_stands value) in
           record {
             next = k.next;
@@ -365,7 +368,8 @@ module _ (logs : Bool) (members part limit c life room highest : ℕ) (pos : 0 <
     gone_outside other =
         let k : taking.Taken logs members part limit c life room highest outside s.log s.log.end.seq s.lasting.number s.lasting.inc
         (client.on_evict granted.state block) [] =
-        taking.acting logs members part limit c life room highest outside s.log s.log.end.seq s.lasting.number s.lasting.inc (client.on_evict granted.state block) []
+        taking.acting logs members part limit c life room highest outside s.log s.log.end.seq s.lasting.number s.lasting.inc
+        (client.on_evict granted.state block) []
         (n.acts ++ []) h.up h.number_is h.inc_is h.numbers refl
         (subst (λ (u : TokensState). Happens logs members part outside
         (record (after_client outside c s.log.end.seq (client.on_evict u block)) { acts = n.acts ++ [] })) (outside_tokens other)

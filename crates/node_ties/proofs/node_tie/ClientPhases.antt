@@ -268,6 +268,7 @@ module _ (logs : Bool) (members part limit c : ℕ) (small : part < 8) (pos : 0 
 -- an event is taken where no counter is near its end, and changes nothing else
 pub client_takes : ClientTakes
 client_takes logs members part limit c small pos less n client what sees h owed =
-    by_test (λ (w : Went_to). ClientGoes logs members part limit c n client.phase w.state w.outs) (client_room client) (happens client what) (still client.phase)
+    by_test (λ (w : Went_to). ClientGoes logs members part limit c n client.phase w.state w.outs) (client_room client) (happens client what)
+    (still client.phase)
     (λ room. happens_so logs members part limit c small pos less n client what sees h owed room)
     (λ room. still_so logs members part limit c small pos less n client.phase sees h)

@@ -1,4 +1,5 @@
--- A log that is opened again, in the books: nothing is in flight, and beyond its end nothing is said; and acts that change no history leave what its chain adopts.
+-- A log that is opened again, in the books: nothing is in flight, and beyond its end nothing is said; and acts that change no history leave what its chain
+-- adopts.
 use Rattle.std.proofs.Common.{◌≡◌, ℕ, zero, suc, ◌<◌, ◌==◌, Bool, true, false, List, [], ◌∷◌, ◌++◌, Option, None, inl, refl, sym, ap, subst, ◌∙◌, arith}
 use Rattle.std.specs.List.{AllByRecursion}
 use Rattle.std.proofs.lemmas.Bool.Decides.{nat_tests}

@@ -97,7 +97,8 @@ module _ (logs : Bool) (members part limit c life highest : ℕ) (small : part <
   body_so n s p (body.DeltaAck m) gets reads asks room h = runs_after n _ (hearing.on_ack_so logs members part limit c life 0 highest pos less n s m h.here)
   body_so n s p (body.Poll m) gets reads asks room h =
       runs_after n _ (promising.on_poll_so logs members part limit c life 0 highest small pos less n s p.from m gets asks room h.here)
-  body_so n s p (body.Stored m) gets reads asks room h = runs_after n _ (hearing.on_stored_so logs members part limit c life 0 highest pos less n s m h.here h.more)
+  body_so n s p (body.Stored m) gets reads asks room h =
+      runs_after n _ (hearing.on_stored_so logs members part limit c life 0 highest pos less n s m h.here h.more)
   body_so n s p (body.Fragment m) gets reads asks room h =
       runs_after n _ (hearing.on_found_so logs members part limit c life 0 highest pos less n s p.from m reads h.here)
   body_so n s p (body.Missing m) gets reads asks room h =

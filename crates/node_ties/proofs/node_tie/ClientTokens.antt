@@ -214,8 +214,10 @@ module _ (logs : Bool) (members part limit c life room highest : ℕ) (pos : 0 <
 
   confirmed_next_so : (n : Net) (s : Serving) (end : ℕ) (r : ReadingState) (x : Next) → s.log.end.seq ≡ end → At n s → Logged n end (confirmed_next s r x)
   confirmed_next_so n s end r next.Lost e h = loses_at_so n s end r.target.block r.target.seg.name e h
-  confirmed_next_so n s end r next.Ask e h = record
-      { goes = frames.goes_plain logs members part limit c life room highest n (with_reading s (Some r)) (fetches r) h (plain_fetches part c life r); end_is = e }
+  confirmed_next_so n s end r next.Ask e h = record {
+    goes = frames.goes_plain logs members part limit c life room highest n (with_reading s (Some r)) (fetches r) h (plain_fetches part c life r);
+    end_is = e;
+  }
   confirmed_next_so n s end r next.Wait e h = still_so n (with_reading s (Some r)) end e h
   confirmed_next_so n s end r next.Again e h = still_so n (with_reading s (Some r)) end e h
   confirmed_next_so n s end r (next.Read segment) e h = still_so n (with_reading s (Some r)) end e h
@@ -287,7 +289,8 @@ module _ (logs : Bool) (members part limit c life room highest : ℕ) (pos : 0 <
       (taking.outs_more logs members part limit c life room highest n.sent m.sent w end outs seen.1))
 
   -- what the tokens gave out, and was sent, is done
-  pub follows_so : (n : Net) (s : Serving) (outs : List outputs.Out) → At n s → taking.OutsSeen logs members part limit c life room highest n.sent s.log.end.seq outs
+  pub follows_so : (n : Net) (s : Serving) (outs : List outputs.Out) → At n s
+      → taking.OutsSeen logs members part limit c life room highest n.sent s.log.end.seq outs
       → Goes n (follows s outs)
   unfolding follows
   follows_so n s outs h seen = follows_all n s s.log.end.seq outs refl h seen

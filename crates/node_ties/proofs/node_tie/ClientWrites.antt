@@ -59,7 +59,8 @@ sealed-sends : (l : LogState) → AllByRecursion IsSend (log.sealed l).outs
 unfolding log.sealed log.launched log.all_sends
 sealed-sends l =
     let f : FlightState =
-    flights.flown (log.next_name l) (log.prior_from l.end) (items_of 0 (take segment_blocks l.dirty)) (flights.group_for l.groups l.log.0 (log.next_name l).seq) in
+    flights.flown (log.next_name l) (log.prior_from l.end) (items_of 0 (take segment_blocks l.dirty))
+    (flights.group_for l.groups l.log.0 (log.next_name l).seq) in
     all_sent f f.group.members 0
 
 if_full-sends : (l : LogState) → AllByRecursion IsSend (log.if_full l).outs
@@ -152,7 +153,8 @@ module _ (logs : Bool) (members part limit c life room highest : ℕ) (pos : 0 <
     restriped_so : Wrote n s (log.restriped l f)
     unfolding log.restriped log.launched log.all_sends
     restriped_so =
-        let g : FlightState = flights.flown (log.next_attempt f.segment.name) f.segment.prior f.segment.items (flights.group_for l.groups l.log.0 f.segment.name.seq) in
+        let g : FlightState = flights.flown (log.next_attempt f.segment.name) f.segment.prior f.segment.items
+        (flights.group_for l.groups l.log.0 f.segment.name.seq) in
         only_sends n s (log.restriped l f) (all_sent g g.group.members 0) (flies_so g refl refl)
 
     settled_so : Wrote n s (log.settled l f)
@@ -226,7 +228,8 @@ module _ (logs : Bool) (members part limit c life room highest : ℕ) (pos : 0 <
       acked_so name index generation (Some f) is =
           by_test (λ (r : log.Done). Wrote n s r) (flights.is_of f name index generation) (log.looked_at s.log s.log (flights.noting f index)) (still s.log)
           (λ t. looked_so n s s.log (flights.noting f index)
-          (reflown logs members part limit c life (room + 1) highest n s.tokens s.log f (flights.noting f index) s.lasting.number s.lasting.inc refl refl (flying f is))
+          (reflown logs members part limit c life (room + 1) highest n s.tokens s.log f (flights.noting f index) s.lasting.number s.lasting.inc refl refl
+          (flying f is))
           s.log here)
           (λ t. still_logged)
 

@@ -91,7 +91,8 @@ module _ (logs : Bool) (members part limit life : ℕ) where
   event_staying n p q outs t agrees = record { next = n; moves = moves_of logs members part limit life n p q outs t; agrees = agrees }
 
   -- the same phase, and something is sent
-  pub event_same : (n : Net) (p : SlotPhase) (outs : List Effect) → PhaseAgrees members part n p → AllDone logs members part limit life n outs → Event n p p outs
+  pub event_same : (n : Net) (p : SlotPhase) (outs : List Effect) → PhaseAgrees members part n p → AllDone logs members part limit life n outs
+      → Event n p p outs
   event_same n p outs agrees done = event_staying n p p outs (stays_same logs members part limit life n p outs done) agrees
 
   -- any manager of the slot in the small world can take the input

@@ -70,7 +70,8 @@ module _ (logs : Bool) (members part limit life : ℕ) (exists : part < 8) (n : 
 
   -- the table has changed otherwise than the small world sees
   quiet_changed : (s r : Serving) (outs : List Effect) → r.lasting.number ≡ s.lasting.number → r.lasting.inc ≡ s.lasting.inc
-      → TableStays logs members part limit life exists n s.slots r.slots → AllDone logs members part limit life n outs → Of s (record { state = r; outs = outs })
+      → TableStays logs members part limit life exists n s.slots r.slots → AllDone logs members part limit life n outs
+      → Of s (record { state = r; outs = outs })
   quiet_changed s r outs number life_ h done = record {
     number = number;
     lives = life_;

@@ -216,7 +216,12 @@ module _ (logs : Bool) (members part limit j : ℕ) (exists : part < 8) (n : Net
   serving_answers s items outs is_j low agrees number lives done =
       serves_on s Begin (record { state = record s { lasting = items }; outs = outs }) is_j low
       (serves_quiet logs members part limit s.lasting.inc exists n s.lasting.number s.lasting.inc s.slots _
-      (record { number = number; lives = lives; stays = stays_same logs members part limit s.lasting.inc n (phase_at s.slots part) outs done; agrees = agrees }))
+      (record {
+        number = number;
+        lives = lives;
+        stays = stays_same logs members part limit s.lasting.inc n (phase_at s.slots part) outs done;
+        agrees = agrees;
+      }))
 
   serving_goes : (s : Serving) (number : ℕ) (o : Option Work) → s.lasting.number ≡ j → epoch_of (phase_at s.slots part) ≤ limit
       → TableAgrees members part n s.slots

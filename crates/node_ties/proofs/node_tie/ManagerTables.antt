@@ -198,7 +198,8 @@ module _ (logs : Bool) (members part limit life : ℕ) (exists : part < 8) where
   unfolding table.on_want
   table_wants n t c want agrees seen =
       let k = slot_of want.block.ino.0 in
-      at_slot-goes n t k (λ p. tokens.on_want p c want) agrees (λ same. slot_wants logs members part limit life n (phase_at t part) c want agrees.here same seen)
+      at_slot-goes n t k (λ p. tokens.on_want p c want) agrees
+      (λ same. slot_wants logs members part limit life n (phase_at t part) c want agrees.here same seen)
       (λ other. other_wants logs members part limit life n (phase_at t k) c want other (agrees.there k other))
 
   pub table_gaves : (n : Net) (t : Table) (c : ℕ) (gave : Gave) → TableAgrees members part n t → GaveSeen part n.sent c gave
@@ -206,7 +207,8 @@ module _ (logs : Bool) (members part limit life : ℕ) (exists : part < 8) where
   unfolding table.on_gave
   table_gaves n t c gave agrees seen =
       let k = slot_of gave.block.ino.0 in
-      at_slot-goes n t k (λ p. tokens.on_gave p c gave) agrees (λ same. slot_gaves logs members part limit life n (phase_at t part) c gave agrees.here same seen)
+      at_slot-goes n t k (λ p. tokens.on_gave p c gave) agrees
+      (λ same. slot_gaves logs members part limit life n (phase_at t part) c gave agrees.here same seen)
       (λ other. other_takes logs members part limit life n k (phase_at t k) (tokens.gave_input c gave) other refl (agrees.there k other))
 
   pub table_deltas : (n : Net) (t : Table) (log : LogId) (deltas : Deltas) → TableAgrees members part n t

@@ -267,7 +267,8 @@ client_event_goes part texts n c client what some below agreed owed =
     let w = takes client what in
     let limit : c ≤ 9 = omega arith in
     let f = filed_after texts c n.filed w.outs in
-    let k = (takes_so (IsNewerAtSlot part) part texts n c some limit client what (stands (IsNewerAtSlot part) part texts n c some limit client.phase agreed) owed.gets
+    let k = (takes_so (IsNewerAtSlot part) part texts n c some limit client what
+    (stands (IsNewerAtSlot part) part texts n c some limit client.phase agreed) owed.gets
     owed.reopens).0 owed.files in
     record {
       next = filing n f;

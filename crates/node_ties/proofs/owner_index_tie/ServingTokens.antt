@@ -1,4 +1,5 @@
--- What a client that serves does at an input of its tokens files nothing, and leaves it standing: the cache, the readings, the seals of its log, and what it says.
+-- What a client that serves does at an input of its tokens files nothing, and leaves it standing: the cache, the readings, the seals of its log, and what
+-- it says.
 use Rattle.std.proofs.Common.{ℕ, ◌==◌, ◌≤◌, ◌<◌, Bool, List, [], ◌∷◌, Option, Some, None, is_none}
 use Rattle.std.specs.List.{flat_map}
 use Rattle.client_log.specs.Transition as log

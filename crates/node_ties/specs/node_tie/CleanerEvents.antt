@@ -115,11 +115,13 @@ pub record IsTaken (cleaner : Cleaner) (what : Do) : Type 0 where
   pub room : phase_room cleaner.phase ≡ true
   pub formed : (q : Packet) → what ≡ Deliver q → is_well_formed cleaner.peers q ≡ true
 
--- Each event of the cleaner, if the world owes it what its packet says, and logs what they owe where it is taken. Where logs keep their word, no client has the number of its log; and it is said whether
+-- Each event of the cleaner, if the world owes it what its packet says, and logs what they owe where it is taken. Where logs keep their word, no client has
+-- the number of its log; and it is said whether
 -- an opening that ends has what was in flight.
 abbrev pub CleanerTakes : Type 0
 CleanerTakes =
-    (logs : Bool) (members part promised last_epoch : ℕ) (n : Net) → part < 8 → promised ≤ last_epoch → Premise logs (members ≤ its_log) → (adopted : Bool) (cleaner : Cleaner)
+    (logs : Bool) (members part promised last_epoch : ℕ) (n : Net) → part < 8 → promised ≤ last_epoch → Premise logs (members ≤ its_log)
+    → (adopted : Bool) (cleaner : Cleaner)
     (what : Do)
     → CleanerStands part promised last_epoch cleaner.phase → CleanerOwed part promised last_epoch cleaner.phase what
     → Premise logs (CleanerCopies n.books cleaner.phase) → Premise logs (IsTaken cleaner what → CleanerTold n.books adopted cleaner.phase what)

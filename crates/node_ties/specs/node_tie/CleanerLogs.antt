@@ -1,4 +1,5 @@
--- How the cleaner's log is seen in the small world: what waits to be written to it, and what the cleaner's job is to move, are copies of what filed segments say.
+-- How the cleaner's log is seen in the small world: what waits to be written to it, and what the cleaner's job is to move, are copies of what filed
+-- segments say.
 use Rattle.std.specs.Prelude.{◌≡◌, ◌≤◌, ◌++◌, ℕ, suc, Bool, true, List, [], None, IfSome}
 use Rattle.std.specs.List.{AllByRecursion}
 use Rattle.cleaner_emptying.specs.declared.emptying.Emptying.{Emptying}

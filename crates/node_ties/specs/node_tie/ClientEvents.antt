@@ -254,4 +254,5 @@ pub record ClientBegins (logs : Bool) (part last_epoch c : ℕ) (client : client
 
 abbrev pub ClientStarts : Type 0
 ClientStarts =
-    (logs : Bool) (part last_epoch c : ℕ) → part < 8 → 1 ≤ last_epoch → (setup : Setup) (works : List Work) → ClientBegins logs part last_epoch c (first_client c setup works)
+    (logs : Bool) (part last_epoch c : ℕ) → part < 8 → 1 ≤ last_epoch → (setup : Setup) (works : List Work)
+    → ClientBegins logs part last_epoch c (first_client c setup works)

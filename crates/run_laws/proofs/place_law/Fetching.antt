@@ -39,7 +39,8 @@ use Rattle.run_laws.specs.place_law.Reads.{FiledKnown, LogKnown, NamesItsGroup}
 use Rattle.run_laws.proofs.place_law.Lying.{LiesAt, lies_there}
 use Rattle.run_laws.proofs.place_law.Texts.{what_is_read_is_the_text}
 
-module _ (texts : Texts) (packets : List Packet) (to : NodeId) (cuts : Cuts) (f : Filed) (known : FiledKnown texts packets cuts f) (k : Books) (books : BooksAre k f)
+module _ (texts : Texts) (packets : List Packet) (to : NodeId) (cuts : Cuts) (f : Filed) (known : FiledKnown texts packets cuts f) (k : Books)
+    (books : BooksAre k f)
     (plain : ArePlain f) where
   -- ---- a client
 
@@ -58,7 +59,8 @@ module _ (texts : Texts) (packets : List Packet) (to : NodeId) (cuts : Cuts) (f 
         let group : NamesItsGroup texts x.place.seg = lies.group ∙ ap (λ (z : Segment). z.group) named in
         let log : LogKnown texts packets cuts x.place.seg.name.log = known.logs _ _ lies.some lies.limit in
         let read : segment ≡ texts r.target.seg.name =
-        what_is_read_is_the_text one place texts packets to cuts r.target.seg segment (subst (λ (p : Place). LogKnown texts packets cuts p.seg.name.log) same log)
+        what_is_read_is_the_text one place texts packets to cuts r.target.seg segment
+        (subst (λ (p : Place). LogKnown texts packets cuts p.seg.name.log) same log)
         (subst (λ (p : Place). NamesItsGroup texts p.seg) same group) h.joined
         in
         ap (λ (z : Segment). value_at z at.item) read ∙ sym (ap (λ (p : Place). value_at (texts p.seg.name) p.item) same)

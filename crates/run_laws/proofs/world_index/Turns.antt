@@ -129,7 +129,8 @@ module _ (laws : NodeLaws) (k : Cluster) (part : ℕ) (of_eight : part < 8) (tex
             went go = record {
               next = clients.client_scene laws.clients_stay laws.managers_stay laws.cleaner_stays k part texts first RegistrySound nodes sent s st c place clock
                   b.some less at here (takes (s.client c) what) go;
-              stands = clients.client_turn laws.clients_stay laws.managers_stay laws.cleaner_stays k part texts first RegistrySound nodes sent s st c place clock
+              stands = clients.client_turn laws.clients_stay laws.managers_stay laws.cleaner_stays k part texts first RegistrySound nodes sent s st c place
+                  clock
                   b.some less at here (takes (s.client c) what) go;
               grown = clients.grown laws.clients_stay laws.managers_stay laws.cleaner_stays k part texts first RegistrySound nodes sent s st c place clock
                   b.some less at here (takes (s.client c) what) go;
@@ -165,7 +166,8 @@ module _ (laws : NodeLaws) (k : Cluster) (part : ℕ) (of_eight : part < 8) (tex
 
             went : ManagerGoes part texts s.asked j s.net (s.manager j).phase what (happens (s.manager j) what) → Turned (Manager j) (any.Manager (s.manager j))
             went go = record {
-              next = managers.manager_scene laws.clients_stay laws.managers_stay laws.cleaner_stays k part texts first RegistrySound nodes sent s st j place clock
+              next = managers.manager_scene laws.clients_stay laws.managers_stay laws.cleaner_stays k part texts first RegistrySound nodes sent s st j place
+                  clock
                   b.some b.within at here what given.number given.apart (happens (s.manager j) what) go;
               stands = managers.manager_turn laws.clients_stay laws.managers_stay laws.cleaner_stays k part texts first RegistrySound nodes sent s st j place
                   clock b.some b.within at here what given.number given.apart (happens (s.manager j) what) go;
@@ -218,7 +220,8 @@ module _ (laws : NodeLaws) (k : Cluster) (part : ℕ) (of_eight : part < 8) (tex
           where
             went : CleanerGoes part texts s.asked s.net (cleaners.takes s.cleaner.peers s.cleaner.phase what) → Turned Cleaner (any.Cleaner s.cleaner)
             went go = record {
-              next = cleaning.cleaner_scene laws.clients_stay laws.managers_stay k part texts first RegistrySound nodes sent s st place clock at here what go asks;
+              next = cleaning.cleaner_scene laws.clients_stay laws.managers_stay k part texts first RegistrySound nodes sent s st place clock at here what
+                  go asks;
               stands = cleaning.cleaner_turn laws.clients_stay laws.managers_stay k part texts first RegistrySound nodes sent s st place clock at here what go
                   asks;
               grown = cleaning.grown laws.clients_stay laws.managers_stay k part texts first RegistrySound nodes sent s st place clock at here what go asks;
@@ -248,7 +251,8 @@ module _ (laws : NodeLaws) (k : Cluster) (part : ℕ) (of_eight : part < 8) (tex
 
         went : RegistryGoes part texts s.net s.registry what → Turned Registry (any.Registry s.registry)
         went go = record {
-          next = others.registry_scene laws.clients_stay laws.managers_stay laws.cleaner_stays k part texts first nodes sent s st place clock what at here go board;
+          next = others.registry_scene laws.clients_stay laws.managers_stay laws.cleaner_stays k part texts first nodes sent s st place clock what at here
+              go board;
           stands = others.registry_turn laws.clients_stay laws.managers_stay laws.cleaner_stays k part texts first nodes sent s st place clock what at here go
               board;
           grown = others.grown laws.clients_stay laws.managers_stay laws.cleaner_stays k part texts first nodes sent s st place clock what at here go board;

@@ -130,7 +130,8 @@ module _ (laws : NodeLaws) (logs : Bool) (k : Cluster) (part : ℕ) (of_eight : 
         turned : Owed (Client c) (any.Client (s.client c)) → Turned (Client c) (any.Client (s.client c))
         turned owed =
             went (laws.client logs (members k part) part (epoch_now k part s) c of_eight b.some less s.net (s.client c) what agreed.0 agreed.1
-            (λ taken. gets what refl (premise_to logs (IsTaken (s.client c) what) (ClientTold part (epoch_now k part s) s.net c (s.client c).phase what) owed taken)))
+            (λ taken. gets what refl
+            (premise_to logs (IsTaken (s.client c) what) (ClientTold part (epoch_now k part s) s.net c (s.client c).phase what) owed taken)))
           where
             went : ClientGoes logs (members k part) part (epoch_now k part s) c s.net (s.client c).phase (takes (s.client c) what).state
                 (takes (s.client c) what).outs
@@ -316,7 +317,8 @@ module _ (laws : NodeLaws) (logs : Bool) (k : Cluster) (part : ℕ) (of_eight : 
       pub since : Since k part s next
       pub stay : NoneLeaves s.net next.net
       pub books : (next.net.books ≡ s.net.books)
-          ⊎ ((node : AnyNode) × (node_in w.nodes (place_of k (node_of event)) ≡ Some node) × BooksGo logs adopted s.net next.net (node_of event) node (what_of event))
+          ⊎ ((node : AnyNode) × (node_in w.nodes (place_of k (node_of event)) ≡ Some node)
+          × BooksGo logs adopted s.net next.net (node_of event) node (what_of event))
       pub falls : FallsStand (members k part) s.net w.acts → FallsStand (members k part) next.net acts
 
     pub event_turns : w.cluster ≡ k → MayHappen w event → Stands logs k part w.nodes w.sent w.acts RegistrySound s
@@ -340,6 +342,7 @@ module _ (laws : NodeLaws) (logs : Bool) (k : Cluster) (part : ℕ) (of_eight : 
         (λ place node clock at is.
         let at_k : place_of k (node_of event) ≡ Some place = subst (λ c. place_of c (node_of event) ≡ Some place) cluster at in
         let there : node_in w.nodes (place_of k (node_of event)) ≡ Some node = ap (node_in w.nodes) at_k ∙ is in
-        let t = turns w.nodes w.sent w.acts s st place clock (what_of event) adopted (node_of event) (delivered_fact w.sent s st.facts w refl event may) at_k node is
+        let t = turns w.nodes w.sent w.acts s st place clock (what_of event) adopted (node_of event)
+        (delivered_fact w.sent s st.facts w refl event may) at_k node is
         (owed node there) in
         record { next = t.next; stands = t.stands; since = t.since; stay = t.stay; books = inr (node, there, t.books); falls = t.falls })

@@ -44,7 +44,8 @@ clients_acts_file restarts short flights part texts g c w v n node what some bel
     by : (p : Phase) → node.phase ≡ p → ActsFile v.net outs
     by (client.Down l) is = rests (ap is_serving (seen (client.Down l) is).1)
     by (client.Opening l o) is = rests (stage_rests g c w o.known l.questions.last o.stage (seen (client.Opening l o) is).1)
-    by (client.Serving s) is = record { filed = filed; short = (flights part texts g c w n node what s some below sure room (says s is) sees is agrees gets).short }
+    by (client.Serving s) is =
+        record { filed = filed; short = (flights part texts g c w n node what s some below sure room (says s is) sees is agrees gets).short }
 
 pub cleaners_acts_file : RestartsFileWhatFlew → CleanerFilesShort → CleanerFilesItsFlights → CleanersActsFile
 cleaners_acts_file restarts short flights part texts g w v n node what small sure room says sees agrees gets asks runs straight filed = by node.phase refl
@@ -66,4 +67,5 @@ cleaners_acts_file restarts short flights part texts g w v n node what small sur
     by : (p : cleaner_phases.Phase) → node.phase ≡ p → ActsFile v.net outs
     by (cleaning.Down l) is = rests (ap is_serving (seen (cleaning.Down l) is).1)
     by (cleaning.Opening l o) is = rests (stage_rests g cleaner_log.its_number w o.known l.questions.last o.stage (seen (cleaning.Opening l o) is).sees)
-    by (cleaning.Serving e) is = record { filed = filed; short = (flights part texts g w n node what e small sure room (says e is) sees is agrees gets asks).short }
+    by (cleaning.Serving e) is =
+        record { filed = filed; short = (flights part texts g w n node what e small sure room (says e is) sees is agrees gets asks).short }

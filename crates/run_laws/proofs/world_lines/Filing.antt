@@ -182,6 +182,7 @@ pub cleaner_files_its_flights : WhatIsHeldFlew → WhatFlewIsWritten → WhatFli
 cleaner_files_its_flights held written next flights part texts g w n node what e small sure room says sees is agrees gets asks =
     by_test (λ (t : cleaners.Went_to). (MayLand 9 e.log → AllSo (IsFlight e.log) t.outs) → FilesItsFlight w.net e.log t.outs) (cleaners.phase_room node.phase)
     (cleaners.happens node.peers node.phase what) (still node.phase)
-    (λ has. files_its_flight held written next texts 9 g w.net sure e.log (emptying_so g w node.phase e is sees) says room (cleaner_fits g w node.phase sees has)
+    (λ has. files_its_flight held written next texts 9 g w.net sure e.log (emptying_so g w node.phase e is sees) says room
+    (cleaner_fits g w node.phase sees has)
     (cleaners.happens node.peers node.phase what).outs)
     (λ _ goes. nothing_filed w.net e.log) (flights part texts n node what e small is agrees gets asks)

@@ -1,4 +1,5 @@
--- A log is linked from the least horizon on, and stays linked from where it was, as long as its owner serves: what it files next names the end as the one before it.
+-- A log is linked from the least horizon on, and stays linked from where it was, as long as its owner serves: what it files next names the end as the one
+-- before it.
 use Rattle.std.proofs.Common.{◌≡◌, ◌<◌, ◌≤◌, ◌==◌, ◌-◌, ℕ, zero, suc, Bool, true, false, min, List, [], ◌∷◌, map, Some, inl, inr, refl, sym, ap, subst, ◌∙◌, arith, slice_get, length}
 use Rattle.std.specs.Prelude.{slice_index, unwrap_or}
 use Rattle.std.proofs.lemmas.Grind.{get_or_default_zero}

@@ -67,7 +67,8 @@ module _ (laws : NodeLaws) (base : Setting) (end : World AnyNode) (setup : Setup
 
     scans : PhaseOwed g l.0.net node.phase
     scans = phase_owed g c l.0 l.1.moment
-        (λ m sent_so. names_fit base end setup.servers (OfClient c) few m (laws.maps g l.0.net l.1.moment m sent_so)) laws.goes_on laws.reads_down node.phase seen
+        (λ m sent_so. names_fit base end setup.servers (OfClient c) few m
+        (laws.maps g l.0.net l.1.moment m sent_so)) laws.goes_on laws.reads_down node.phase seen
 
     owed : (x : Do) → what ≡ x → ClientOwed g c l.0 node.phase x
     owed Begin same = tt

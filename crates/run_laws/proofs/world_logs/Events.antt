@@ -398,7 +398,8 @@ module _ (laws : NodeLaws) (base : Setting) (end : World AnyNode) (setup : Setup
         may = all_say (Manager j) packets from known.says
 
         all_own : All (λ (p : Packet). OfLog (log_by (OfManager j)) p.body) packets
-        all_own = manager_log_events.all_own laws base end setup few j b.some nodes sent (told (log_by (OfManager j))) place clock what good.fits gets at node is
+        all_own = manager_log_events.all_own laws base end setup few j b.some nodes sent
+            (told (log_by (OfManager j))) place clock what good.fits gets at node is
             own
 
         away : (r : Role) → (log_by (OfManager j) ≡ log_by r → ⊥) → (owner_by r ≡ Manager j → ⊥)

@@ -69,7 +69,8 @@ module _ (g : Setting) (c : ℕ) (w : Scene) (at : Moment g w.net) (maps : (m : 
   phase_owed (clients.Opening l o) h = stage_told o.known l.questions.last o.stage h.agrees.1 h.room
   phase_owed (clients.Serving s) h = tt
 
-pub opening_owed : (g : Setting) (w : Scene) → Moment g w.net → ((m : GroupMapState) → tables.In (MapSent m) w.net.sent → MapFits m) → OpeningsGoOn → OpeningsReadDown
+pub opening_owed : (g : Setting) (w : Scene) → Moment g w.net → ((m : GroupMapState) → tables.In (MapSent m) w.net.sent → MapFits m) → OpeningsGoOn
+    → OpeningsReadDown
     → (p : CleanerPhase)
     → CleanerOwns g w p → OpeningOwed g w p
 opening_owed g w at maps law down (cleaners.Down l) h = tt

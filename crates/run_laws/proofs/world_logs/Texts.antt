@@ -82,7 +82,8 @@ module _ (law : OneNameOneText) (own : WhatFlewIsOfTheLog) (base : Setting) (e :
   unfolding of_clients
   from_clients zero limit s is = absurd is
   from_clients (suc c) limit s is =
-      ⊎_elim (λ here. record { role = OfClient (suc c); there = counted c clients limit; here = here }) (λ more. from_clients c (one_less c clients limit) s more)
+      ⊎_elim (λ here. record { role = OfClient (suc c); there = counted c clients limit; here = here })
+      (λ more. from_clients c (one_less c clients limit) s more)
       (in_either (flown_in (OfClient (suc c)) (counted c clients limit)) (of_clients c (one_less c clients limit)) s is)
 
   from_managers : (j : ℕ) (limit : j ≤ managers) (s : Segment) → In s (of_managers j limit) → Flew s

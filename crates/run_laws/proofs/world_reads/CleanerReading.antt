@@ -53,7 +53,8 @@ module _ (base : Setting) (e : Estate AnyNode) (lines : HasLines base e) (texts 
 
   -- each that a server listed is of a log of the run
   abbrev pub ListsOurs : Type 0
-  ListsOurs = (p : Packet) (m : Listed) → In p sent → p.body ≡ body.Listed m → (meta : FragMeta) → In meta m.held → OfSomeLog base e lines texts part first count meta.name
+  ListsOurs = (p : Packet) (m : Listed) → In p sent → p.body ≡ body.Listed m → (meta : FragMeta) → In meta m.held
+      → OfSomeLog base e lines texts part first count meta.name
 
   module _ (flew : WhatIsListedFlew) (ours : ListsOurs) where
     pub flew_so : (seg : SegRef) → listed_in sent Cleaner seg.name seg.group → Flew base e lines texts part first count seg

@@ -142,7 +142,8 @@ module _ (base : Setting) (e : Estate AnyNode) (lines : HasLines base e) (texts 
 
       -- the checkpoint covers nothing of a log from number 0 on
       from_one : (l : ℕ) → 0 < l → l ≤ 9 → 0 < of_log t.take.news.horizon l
-      from_one l some limit = subst (λ (n : SlotNews). 0 < of_log n.horizon l) (sym (its_news part joint.idx.net texts.text t k)) (k.known.from_one l some limit)
+      from_one l some limit = subst (λ (n : SlotNews). 0 < of_log n.horizon l) (sym (its_news part joint.idx.net texts.text t k))
+          (k.known.from_one l some limit)
 
       -- the reported end of a log, where it is read from
       pub record IsGood (l : ℕ) (end : End) : Type 0 where

@@ -53,13 +53,15 @@ pub record FiledKnown (texts : Texts) (packets : List Packet) (cuts : Cuts) (f :
 -- What is read of a reference, joined of what came in answer to one's own question, is the text that it names.
 abbrev pub WhatIsReadIsTheText : Type 0
 WhatIsReadIsTheText =
-    (texts : Texts) (packets : List Packet) (to : NodeId) (cuts : Cuts) (seg : SegRef) (s : Segment) → LogKnown texts packets cuts seg.name.log → NamesItsGroup texts seg
+    (texts : Texts) (packets : List Packet) (to : NodeId) (cuts : Cuts) (seg : SegRef) (s : Segment) → LogKnown texts packets cuts seg.name.log
+    → NamesItsGroup texts seg
     → ReadsJoined (answered_in packets to) (cut_by cuts) seg s → s ≡ texts seg.name
 
 -- So is the segment that an answer completes of a takeover, and each number in it is within its type.
 abbrev pub TakeoversReadTexts : Type 0
 TakeoversReadTexts =
-    (part : ℕ) (texts : Texts) (packets : List Packet) (to : NodeId) (cuts : Cuts) (take : TakeState) (p : Present) (ask own server : ℕ) (told : Answered) (s : Segment)
+    (part : ℕ) (texts : Texts) (packets : List Packet) (to : NodeId) (cuts : Cuts) (take : TakeState) (p : Present) (ask own server : ℕ) (told : Answered)
+    (s : Segment)
     → TakeHolds (answered_in packets to) (cut_by cuts) take → take.present ≡ Some p → AnsweredIn packets to ask server told
     → LogKnown texts packets cuts p.source.seg.name.log → NamesItsGroup texts p.source.seg
     → completes_at take take.present own server told ≡ Some s → IsRead part texts s

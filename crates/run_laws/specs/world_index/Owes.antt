@@ -42,7 +42,8 @@ use Rattle.xfs_base.specs.declared.segment.SegName.{SegName}
 -- ---- what is owed
 
 module _ (part : ℕ) (texts : Texts) (n : Net) where
-  -- the cleaner: that its log is linked from the horizon of a polled epoch on, unless it has promised a later one, and that a segment that it reads is the filed one, where that bears its name
+  -- the cleaner: that its log is linked from the horizon of a polled epoch on, unless it has promised a later one, and that a segment that it reads is the
+  -- filed one, where that bears its name
   abbrev pub CleanerBodyOwed : Emptying → NodeId → Body → Type 0
   CleanerBodyOwed e from (body.Poll m) = PollGets part n e m
   CleanerBodyOwed e from (body.Fragment m) = ReadGets part n e (server_in from) m.ask (Held m.fragment)

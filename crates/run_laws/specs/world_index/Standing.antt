@@ -46,7 +46,8 @@ pub record Scene : Type 0 where
 -- ---- packets
 
 module _ (part : ℕ) (n : Net) where
-  -- What the owner of a log tells: Deltas of the slot, and ends of its log, which are filed; those that it reports to the slot's manager are known at its epoch.
+  -- What the owner of a log tells: Deltas of the slot, and ends of its log, which are filed; those that it reports to the slot's manager are known at its
+  -- epoch.
   abbrev pub OwnerTells : ℕ → NodeId → Body → Type 0
   OwnerTells l from (body.Deltas m) = m.slot ≡ part → DeltasKnown part n l m
   OwnerTells l from (body.Report m) = (m.slot ≡ part → ReportKnown part n m.epoch from m.end) × (m.end.seq ≤ n.filed.head l)

@@ -54,7 +54,8 @@ module _ (members part : ℕ) (n : Net) where
   ManagerTold p (Deliver packet) = ServingTold p packet
   ManagerTold p Tick = Unit {0}
 
--- Of the node of this name; servers and the registry are owed nothing, nor are a client and the cleaner of an event that is not taken. Of the cleaner it is said
+-- Of the node of this name; servers and the registry are owed nothing, nor are a client and the cleaner of an event that is not taken. Of the cleaner it is
+-- said
 -- whether an opening that ends has what was in flight.
 abbrev pub NodeTold : Bool → (members part last_epoch : ℕ) → Net → NodeId → AnyNode → Do → Type 0
 NodeTold adopted members part last_epoch n (Client c) (any.Client node) what = client.IsTaken node what → ClientTold part last_epoch n c node.phase what

@@ -88,7 +88,8 @@ module _ (k : Cluster) (part : ℕ) where
     pub life : m.inc ≤ life_of_client s c
     pub rises : WelcomeRises part (epoch_now s) c s.net (s.client c).phase m
 
-  -- a Welcome to a manager is of an incarnation that the registry knew: what is given to it from that epoch on is given to it in that incarnation or a later one
+  -- a Welcome to a manager is of an incarnation that the registry knew: what is given to it from that epoch on is given to it in that incarnation or a
+  -- later one
   pub record ManagerWelcomed (s : Scene) (j : ℕ) (m : Welcome) : Type 0 where
     pub life : m.inc ≤ life_told s j
     pub version : 1 ≤ m.news.version

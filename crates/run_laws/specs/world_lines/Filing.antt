@@ -72,7 +72,8 @@ ClientsFileTheirFlights =
 abbrev pub CleanerFilesItsFlights : Type 0
 CleanerFilesItsFlights =
     (part : ℕ) (texts : Texts) (g : Setting) (w : Scene) (n : index.Net) (node : Cleaner) (what : Do) (e : Emptying) → part < 8 → IsSure texts 9 g w.net
-    → IsRoomy w.net → FlightSays e.log → cleaner_log.CleanerAgrees g w node.phase → node.phase ≡ cleaning.Serving e → cleaner_index.CleanerAgrees part n texts node.phase
+    → IsRoomy w.net → FlightSays e.log → cleaner_log.CleanerAgrees g w node.phase → node.phase ≡ cleaning.Serving e
+    → cleaner_index.CleanerAgrees part n texts node.phase
     → cleaner_index.EventGets part n node.phase what
     → AllByRecursion (cleaner_index.EffectOwed part n) (cleaners.takes node.peers node.phase what).outs
     → FilesItsFlight w.net e.log (cleaners.takes node.peers node.phase what).outs
@@ -83,7 +84,8 @@ CleanerFilesItsFlights =
 abbrev pub ClientsActsFile : Type 0
 ClientsActsFile =
     (part : ℕ) (texts : Texts) (g : Setting) (c : ℕ) (w v : Scene) (n : index.Net) (node : Client) (what : Do) → 0 < c → c < 9 → IsSure texts c g w.net
-    → IsRoomy w.net → ((s : Serving) → node.phase ≡ client.Serving s → FlightSays s.log) → ClientAgrees g c w node.phase → client_index.ClientAgrees part texts n c node.phase
+    → IsRoomy w.net → ((s : Serving) → node.phase ≡ client.Serving s → FlightSays s.log) → ClientAgrees g c w node.phase
+    → client_index.ClientAgrees part texts n c node.phase
     → client_index.EventGets part texts n c node.phase what → (runs : Runs g w.net v.net) → ServesStraight runs
     → AllSo (λ name. In name v.net.filed) (clients.takes node what).outs → ActsFile v.net (clients.takes node what).outs
 

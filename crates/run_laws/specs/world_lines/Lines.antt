@@ -1,4 +1,5 @@
--- What the logs of clients and of the cleaner filed, as one line a log: of each number up to the head the segment that was filed under it, the text of its name.
+-- What the logs of clients and of the cleaner filed, as one line a log: of each number up to the head the segment that was filed under it, the text of its
+-- name.
 use Rattle.std.specs.Prelude.{◌≡◌, ◌<◌, ◌≤◌, ◌⊎◌, ℕ, Bool, true, false}
 use Rattle.std.specs.List.{AllByRecursion}
 use Rattle.index_tie.specs.Filed.{Filed, IsFiled, IsNoPart, rows_at}

@@ -95,7 +95,8 @@ module _ (told : Told) where
   unfolding checking
   checking_gives j segment checks = by_test GivesSo (all_dead checks) (deleting j segment) _ (λ t. deleting_gives j segment) (λ t. questions_out segment checks)
 
-  looked_gives : (j : JobState) (segment : SegRef) (was_asked : Bool) (checks : List Check) → Checks told checks → GivesSo (looked_at j segment was_asked checks)
+  looked_gives : (j : JobState) (segment : SegRef) (was_asked : Bool) (checks : List Check) → Checks told checks
+      → GivesSo (looked_at j segment was_asked checks)
   unfolding looked_at
   looked_gives j segment was_asked checks all =
       by_test GivesSo (all_dead checks) (deleting j segment) _ (λ t. deleting_gives j segment)

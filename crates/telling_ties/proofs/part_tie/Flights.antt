@@ -85,7 +85,8 @@ module _ (known : Known) (acts : List Act) (its_number : ℕ) (log : LogId) wher
       by_test GivesSo (can_follow s f (fate_of s.groups f)) (followed s f (fate_of s.groups f)) (still before)
       (λ _. follows s f (fate_of s.groups f) is) (λ _. tt)
 
-  pub acked_names : (s : LogState) (name : SegName) (index generation : ℕ) → FlightNames known acts its_number log s → GivesSo (on_acked s name index generation)
+  pub acked_names : (s : LogState) (name : SegName) (index generation : ℕ) → FlightNames known acts its_number log s
+      → GivesSo (on_acked s name index generation)
   unfolding on_acked
   acked_names s name index generation flies = by s.flight refl
     where

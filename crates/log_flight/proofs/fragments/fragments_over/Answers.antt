@@ -12,7 +12,13 @@ overflow_cast-len c = omega (arith, text_fits c.args.segment.now c.requires.limi
 pub add_fragments-requires-clause-few : goal.add_fragments-requires-clause-few
 add_fragments-requires-clause-few c =
     let cut : IsCut c.len.result c.args.group.now.parity = subst (λ n. IsCut n c.args.group.now.parity) (sym c.len.ensures) c.requires.cut in
-    omega (arith, ap length c.new-fragments.ensures, ap length c.in_ok-stripe.ensures, length-stripe_of c.as_slice.result.now c.len.result c.args.group.now.parity cut, cut.limit)
+    omega (
+      arith,
+      ap length c.new-fragments.ensures,
+      ap length c.in_ok-stripe.ensures,
+      length-stripe_of c.as_slice.result.now c.len.result c.args.group.now.parity cut,
+      cut.limit,
+    )
 
 pub returns : goal.returns
 unfolding pieces_over

@@ -7,7 +7,8 @@ returns-then-len-ge-MAX_NAMES c = names_over _ c.loop-name.names c.loop-name.res
 
 pub loop-name-preserved : goal.loop-name-preserved
 loop-name-preserved c = record {
-  same = names_kept _ c.loop-name.names c.push.new.self c.loop-name.rest.now c.in-Some.name.now c.in_ok-of.field-0 c.in-Some.after.now c.loop-name.invariant.same c.in-Some.ensures.0 c.in-Some.ensures.1 c.in_ok-push.ensures.ok c.in_ok-of.ensures;
+  same = names_kept _ c.loop-name.names c.push.new.self c.loop-name.rest.now c.in-Some.name.now c.in_ok-of.field-0 c.in-Some.after.now
+      c.loop-name.invariant.same c.in-Some.ensures.0 c.in-Some.ensures.1 c.in_ok-push.ensures.ok c.in_ok-of.ensures;
   few = few_more c.loop-name.names c.push.new.self c.in_ok-of.field-0 c.in_ok-push.ensures.ok (omega arith);
 }
 

@@ -13,4 +13,5 @@ invariant_of-result c =
     let groups : c.in_ok-from_list.field-0 ≡ numbered 1 (map first_layout c.args.groups.now) = first_of (search rules, grind (arith, common_steps)) in
     subst (λ (ns : List ℕ). IsGroupMap (record { servers = c.args.servers; generations = ns; groups = c.in_ok-from_list.field-0 })) (sym generations)
     (subst (λ (gs : List Group). IsGroupMap (record { servers = c.args.servers; generations = replicate c.args.servers 1; groups = gs })) (sym groups)
-    (IsGroupMap-started c.args.servers c.args.groups.now c.requires.count.0 c.requires.count.1 c.requires.fits c.requires.exist c.requires.differ c.requires.parity))
+    (IsGroupMap-started c.args.servers c.args.groups.now c.requires.count.0 c.requires.count.1 c.requires.fits c.requires.exist c.requires.differ
+    c.requires.parity))

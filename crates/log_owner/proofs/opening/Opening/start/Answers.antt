@@ -8,7 +8,8 @@ use Rattle.log_scan.specs.Transition.{transition}
 
 pub returns-clause-opening : goal.returns-clause-opening
 returns-clause-opening c =
-    let sent = said_first c.args.owner c.low.result c.args.questions.now c.new.result c.in_ok-scan.scan c.in_ok-outs.outs c.new.ensures c.in_ok-scan.ensures c.in_ok-outs.ensures.outs in
+    let sent = said_first c.args.owner c.low.result c.args.questions.now c.new.result c.in_ok-scan.scan c.in_ok-outs.outs c.new.ensures c.in_ok-scan.ensures
+    c.in_ok-outs.ensures.outs in
     let asked = ap (λ (s : Sent). s.asked) c.in_ok-sent.ensures.sent ∙ ap (λ r. r.state.asked) sent in
     let scan = c.in_ok-outs.ensures.state ∙ ap (λ s. (transition s Tick).state) c.in_ok-scan.ensures in
     λ i. record {
@@ -20,10 +21,12 @@ pub returns-clause-questions : goal.returns-clause-questions
 returns-clause-questions c =
     ap (λ (s : Sent). s.questions) c.in_ok-sent.ensures.sent
     ∙ ap (λ r. r.state.questions)
-    (said_first c.args.owner c.low.result c.args.questions.now c.new.result c.in_ok-scan.scan c.in_ok-outs.outs c.new.ensures c.in_ok-scan.ensures c.in_ok-outs.ensures.outs)
+    (said_first c.args.owner c.low.result c.args.questions.now c.new.result c.in_ok-scan.scan c.in_ok-outs.outs c.new.ensures c.in_ok-scan.ensures
+    c.in_ok-outs.ensures.outs)
 
 pub returns-clause-effects : goal.returns-clause-effects
 returns-clause-effects c =
     c.in_ok-sent.ensures.effects
     ∙ ap (λ r. c.args.effects.now ++ r.outs)
-    (said_first c.args.owner c.low.result c.args.questions.now c.new.result c.in_ok-scan.scan c.in_ok-outs.outs c.new.ensures c.in_ok-scan.ensures c.in_ok-outs.ensures.outs)
+    (said_first c.args.owner c.low.result c.args.questions.now c.new.result c.in_ok-scan.scan c.in_ok-outs.outs c.new.ensures c.in_ok-scan.ensures
+    c.in_ok-outs.ensures.outs)

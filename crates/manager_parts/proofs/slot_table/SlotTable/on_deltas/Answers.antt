@@ -15,6 +15,7 @@ returns-clause-effects c =
     let f : Option SlotPhase → List Effect =
     λ o. made ++ (in_slot c.args.self.now (c.args.deltas.now.slot) (λ p. tokens.on_deltas p c.args.log c.args.deltas.now) o).outs in
     elim c.match-get_mut.branch [
-      | in-Some w ↦ as_found f _ _ _ _ _ c.get_mut.ensures.item c.self.view_is c.from.ensures _ _ _ w.in-Some.is _ _ w.effects-is w.result-is w.on_deltas.ensures.effects
+      | in-Some w ↦ as_found f _ _ _ _ _ c.get_mut.ensures.item c.self.view_is c.from.ensures _ _ _ w.in-Some.is _ _ w.effects-is w.result-is
+          w.on_deltas.ensures.effects
       | in-None w ↦ as_missing f _ _ _ _ _ c.get_mut.ensures.item c.self.view_is c.from.ensures _ w.in-None.is _ _ w.effects-is (sym (append-nil made))
     ]

@@ -16,7 +16,8 @@ returns-clause-questions c =
     λ o. (in_taken (table_asker c.args.self.now c.args.questions.now) (c.args.report.now.slot)
     (λ one. takeovers.on_report one c.args.from c.args.report.now) o).state.questions in
     elim c.match-get_mut.branch [
-      | in-Some w ↦ as_found f _ _ _ _ _ c.get_mut.ensures.item c.self.view_is c.from.ensures _ _ _ w.in-Some.is _ _ w.questions-is w.result-is w.on_report.ensures.questions
+      | in-Some w ↦ as_found f _ _ _ _ _ c.get_mut.ensures.item c.self.view_is c.from.ensures _ _ _ w.in-Some.is _ _ w.questions-is w.result-is
+          w.on_report.ensures.questions
       | in-None w ↦ as_missing f _ _ _ _ _ c.get_mut.ensures.item c.self.view_is c.from.ensures _ w.in-None.is _ _ w.questions-is refl
     ]
 
@@ -28,6 +29,7 @@ returns-clause-effects c =
     λ o. made ++ (in_taken (table_asker c.args.self.now c.args.questions.now) (c.args.report.now.slot)
     (λ one. takeovers.on_report one c.args.from c.args.report.now) o).outs in
     elim c.match-get_mut.branch [
-      | in-Some w ↦ as_found f _ _ _ _ _ c.get_mut.ensures.item c.self.view_is c.from.ensures _ _ _ w.in-Some.is _ _ w.effects-is w.result-is w.on_report.ensures.effects
+      | in-Some w ↦ as_found f _ _ _ _ _ c.get_mut.ensures.item c.self.view_is c.from.ensures _ _ _ w.in-Some.is _ _ w.effects-is w.result-is
+          w.on_report.ensures.effects
       | in-None w ↦ as_missing f _ _ _ _ _ c.get_mut.ensures.item c.self.view_is c.from.ensures _ w.in-None.is _ _ w.effects-is (sym (append-nil made))
     ]

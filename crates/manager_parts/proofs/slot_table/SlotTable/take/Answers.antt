@@ -15,7 +15,8 @@ returns-clause-questions c =
     let f : Option SlotPhase → Questions =
     λ o. (in_taken (table_asker c.args.self.now c.args.questions.now) (c.args.slot) (λ one. takeovers.takes one c.args.slot c.args.input) o).state.questions in
     elim c.match-get_mut.branch [
-      | in-Some w ↦ as_found f _ _ _ _ _ c.get_mut.ensures.item c.self.view_is c.from.ensures _ _ _ w.in-Some.is _ _ w.questions-is w.result-is w.take.ensures.questions
+      | in-Some w ↦ as_found f _ _ _ _ _ c.get_mut.ensures.item c.self.view_is c.from.ensures _ _ _ w.in-Some.is _ _ w.questions-is w.result-is
+          w.take.ensures.questions
       | in-None+in-Got-1 w ↦ as_missing f _ _ _ _ _ c.get_mut.ensures.item c.self.view_is c.from.ensures _ w.in-None.is _ _ w.questions-is refl
       | in-None+in-Maps-1 w ↦ as_missing f _ _ _ _ _ c.get_mut.ensures.item c.self.view_is c.from.ensures _ w.in-None.is _ _ w.questions-is refl
       | in-None+in-Report-1 w ↦ as_missing f _ _ _ _ _ c.get_mut.ensures.item c.self.view_is c.from.ensures _ w.in-None.is _ _ w.questions-is refl
@@ -29,7 +30,8 @@ returns-clause-effects c =
     let f : Option SlotPhase → List Effect =
     λ o. made ++ (in_taken (table_asker c.args.self.now c.args.questions.now) (c.args.slot) (λ one. takeovers.takes one c.args.slot c.args.input) o).outs in
     elim c.match-get_mut.branch [
-      | in-Some w ↦ as_found f _ _ _ _ _ c.get_mut.ensures.item c.self.view_is c.from.ensures _ _ _ w.in-Some.is _ _ w.effects-is w.result-is w.take.ensures.effects
+      | in-Some w ↦ as_found f _ _ _ _ _ c.get_mut.ensures.item c.self.view_is c.from.ensures _ _ _ w.in-Some.is _ _ w.effects-is w.result-is
+          w.take.ensures.effects
       | in-None+in-Got-1 w ↦ as_missing f _ _ _ _ _ c.get_mut.ensures.item c.self.view_is c.from.ensures _ w.in-None.is _ _ w.effects-is (sym (append-nil made))
       | in-None+in-Maps-1 w ↦ as_missing f _ _ _ _ _ c.get_mut.ensures.item c.self.view_is c.from.ensures _ w.in-None.is _ _ w.effects-is
           (sym (append-nil made))

@@ -8,4 +8,5 @@ pub returns-clause-noted : goal.returns-clause-noted
 returns-clause-noted c =
     c.in_ok-insert.ensures.entries
     ∙ ap (λ f. insert_entry f c.self.inside.last.entries c.args.node c.saturating_add-number.result) node_order
-    ∙ with_next_is c.self.inside.last.entries c.args.self.now c.args.node c.last.result c.saturating_add-number.result c.self.view_is c.last.ensures c.saturating_add-number.ensures
+    ∙ with_next_is c.self.inside.last.entries c.args.self.now c.args.node c.last.result c.saturating_add-number.result c.self.view_is c.last.ensures
+    c.saturating_add-number.ensures
