@@ -37,7 +37,7 @@ keeps_sealed t =
       first = first;
       fly = record {
         flight = flown (next_name t) (prior_from t.end) (items_of 0 first) (group_for t.groups t.log.0 (next_name t).seq);
-        is = refl;
+        flying = refl;
         written = refl;
       };
       all = sym (take-append-drop segment_blocks t.dirty);

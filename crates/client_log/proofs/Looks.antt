@@ -47,10 +47,10 @@ stays false c x goes still e = refl
 record Goes (b c : Bool) (x fate : Fate) : Type 0 where
   of : b ≡ true
   can : c ≡ true
-  is : x ≡ fate
+  decided : x ≡ fate
 
 goes : (b c : Bool) (x fate : Fate) → cond b (cond c (Some x) None) None ≡ Some fate → Goes b c x fate
-goes true true x fate e = record { of = refl; can = refl; is = is_fate x fate e }
+goes true true x fate e = record { of = refl; can = refl; decided = is_fate x fate e }
 goes true false x fate e = no_fate fate e
 goes false c x fate e = no_fate fate e
 
@@ -74,10 +74,10 @@ module _ (s : LogState) (name : SegName) (index generation : ℕ) where
       let x : Fate = fate_of s.groups g in
       let k : Goes (is_of f name index generation) (can_follow t f x) x fate = goes (is_of f name index generation) (can_follow t f x) x fate e in
       record {
-        can = can_regardless t (Some g) s.groups f g.noted fate ∙ ap (can_follow t f) (sym k.is) ∙ k.can;
+        can = can_regardless t (Some g) s.groups f g.noted fate ∙ ap (can_follow t f) (sym k.decided) ∙ k.can;
         goes = ap (λ b. cond b (cond (can_follow t g x) (followed t g x) (still t)) (still t)) k.of
             ∙ ap (λ b. cond b (followed t g x) (still t)) (can_regardless t (Some f) s.groups f g.noted x ∙ k.can)
-            ∙ ap (followed t g) k.is
+            ∙ ap (followed t g) k.decided
             ∙ sym (regardless t (Some g) g fate);
       }
 
@@ -109,8 +109,8 @@ module _ (s : LogState) (groups : GroupMapState) where
       let x : Fate = fate_of groups f in
       let k : Goes true (can_follow t f x) x fate = goes true (can_follow t f x) x fate e in
       record {
-        can = can_regardless t (Some f) groups f f.noted fate ∙ ap (can_follow t f) (sym k.is) ∙ k.can;
-        goes = ap (λ b. cond b (followed u f x) (still t)) (can_regardless t (Some f) groups f f.noted x ∙ k.can) ∙ ap (followed u f) k.is;
+        can = can_regardless t (Some f) groups f f.noted fate ∙ ap (can_follow t f) (sym k.decided) ∙ k.can;
+        goes = ap (λ b. cond b (followed u f x) (still t)) (can_regardless t (Some f) groups f f.noted x ∙ k.can) ∙ ap (followed u f) k.decided;
       }
 
   pub maps_stays : looked s groups ≡ None → on_maps s groups ≡ still s

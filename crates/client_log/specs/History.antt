@@ -182,7 +182,7 @@ waiting_with s Tick = s.dirty
 -- these changes are what a log has in flight
 pub record AreInFlight (s : LogState) (changes : List (BlockId × Change)) : Type 0 where
   pub flight : FlightState
-  pub is : s.flight ≡ Some flight
+  pub flying : s.flight ≡ Some flight
   pub written : flight.segment.items ≡ items_of 0 changes
 
 -- the first of these changes are in flight, and the rest wait

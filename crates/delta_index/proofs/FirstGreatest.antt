@@ -12,17 +12,17 @@ use Rattle.delta_index.proofs.EntryAlgebra.{is_newer-asym, newer_than_no_newer, 
 -- no entry of a list is above its join
 not_above : (es : List Entry) (a : Entry) → IsJoin es a → All (λ e. IsFalse (is_newer e a)) es
 not_above es a (inl f) =
-    All-same (λ e. IsFalse (is_newer e a)) es (f.before ++ a ∷ f.after) f.stands
-    (All-append (λ e. IsFalse (is_newer e a)) f.before (a ∷ f.after)
+    All-same (λ e. IsFalse (is_newer e a)) es (f.before ++ a ∷ f.later) f.stands
+    (All-append (λ e. IsFalse (is_newer e a)) f.before (a ∷ f.later)
     (All-weaker (λ e. IsTrue (is_newer a e)) (λ e. IsFalse (is_newer e a)) (λ e p. is_newer-asym e a p) f.before f.above)
-    (All-cons (λ e. IsFalse (is_newer e a)) a f.after (not_newer_itself a) f.unbeaten))
+    (All-cons (λ e. IsFalse (is_newer e a)) a f.later (not_newer_itself a) f.unbeaten))
 not_above es a (inr n) = subst (λ x. All (λ e. IsFalse (is_newer e x)) es) (sym n.0) n.1
 
 -- one more entry, above the join
 push_above : (es : List Entry) (a e : Entry) → is_newer e a ≡ true → IsJoin es a → IsJoin (es ++ e ∷ []) e
 push_above es a e p j = inl record {
   before = es;
-  after = [];
+  later = [];
   stands = refl;
   held = newer_than_none a e p;
   above = All-weaker (λ x. IsFalse (is_newer x a)) (λ x. IsTrue (is_newer e x)) (λ x q. newer_than_no_newer a x e q p) es (not_above es a j);
@@ -33,11 +33,11 @@ push_above es a e p j = inl record {
 push_below : (es : List Entry) (a e : Entry) → is_newer e a ≡ false → IsJoin es a → IsJoin (es ++ e ∷ []) a
 push_below es a e p (inl f) = inl record {
   before = f.before;
-  after = f.after ++ e ∷ [];
-  stands = ap (λ xs. xs ++ e ∷ []) f.stands ∙ append_assoc f.before (a ∷ f.after) (e ∷ []);
+  later = f.later ++ e ∷ [];
+  stands = ap (λ xs. xs ++ e ∷ []) f.stands ∙ append_assoc f.before (a ∷ f.later) (e ∷ []);
   held = f.held;
   above = f.above;
-  unbeaten = All-push (λ x. IsFalse (is_newer x a)) f.after e f.unbeaten p;
+  unbeaten = All-push (λ x. IsFalse (is_newer x a)) f.later e f.unbeaten p;
 }
 push_below es a e p (inr n) = inr (n.0, All-push (λ x. IsFalse (is_newer x no_entry)) es e n.1 (subst (λ x. is_newer e x ≡ false) n.0 p))
 
@@ -74,8 +74,8 @@ fold_below b a (e ∷ es) p h =
 
 pub fold-IsJoin : (es : List Entry) (found : Entry) → IsJoin es found → found ≡ fold first_greatest no_entry es
 fold-IsJoin es found (inl f) =
-    sym (ap (fold first_greatest no_entry) f.stands ∙ fold-append first_greatest no_entry f.before (found ∷ f.after)
-    ∙ ap (λ x. fold first_greatest x f.after)
+    sym (ap (fold first_greatest no_entry) f.stands ∙ fold-append first_greatest no_entry f.before (found ∷ f.later)
+    ∙ ap (λ x. fold first_greatest x f.later)
     (first_greatest-newer (fold first_greatest no_entry f.before) found (fold_below found no_entry f.before f.held f.above))
-    ∙ fold_stays found f.after f.unbeaten)
+    ∙ fold_stays found f.later f.unbeaten)
 fold-IsJoin es found (inr n) = n.0 ∙ sym (fold_stays no_entry es n.1)

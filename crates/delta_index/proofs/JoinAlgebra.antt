@@ -50,16 +50,16 @@ again j k r =
     sym (first_greatest-assoc j k (first_greatest j r)) ∙ sym (first_greatest-assoc (first_greatest j k) j r)
     ∙ ap (λ x. first_greatest x r) (first_greatest-repeat j k) ∙ first_greatest-assoc j k r
 
-pub join-repeat : (before between after : List (BlockId × Entry)) (m : BlockId × Entry) (q : BlockId)
-    → join (before ++ m ∷ (between ++ m ∷ after)) q ≡ join (before ++ m ∷ (between ++ after)) q
-join-repeat before between after m q =
-    let k : join (m ∷ (between ++ m ∷ after)) q ≡ join (m ∷ (between ++ after)) q =
-    join-cons m (between ++ m ∷ after) q
-    ∙ ap (first_greatest (join (m ∷ []) q)) (join-append between (m ∷ after) q ∙ ap (first_greatest (join between q)) (join-cons m after q))
-    ∙ again (join (m ∷ []) q) (join between q) (join after q)
-    ∙ sym (join-cons m (between ++ after) q ∙ ap (first_greatest (join (m ∷ []) q)) (join-append between after q))
+pub join-repeat : (before between later : List (BlockId × Entry)) (m : BlockId × Entry) (q : BlockId)
+    → join (before ++ m ∷ (between ++ m ∷ later)) q ≡ join (before ++ m ∷ (between ++ later)) q
+join-repeat before between later m q =
+    let k : join (m ∷ (between ++ m ∷ later)) q ≡ join (m ∷ (between ++ later)) q =
+    join-cons m (between ++ m ∷ later) q
+    ∙ ap (first_greatest (join (m ∷ []) q)) (join-append between (m ∷ later) q ∙ ap (first_greatest (join between q)) (join-cons m later q))
+    ∙ again (join (m ∷ []) q) (join between q) (join later q)
+    ∙ sym (join-cons m (between ++ later) q ∙ ap (first_greatest (join (m ∷ []) q)) (join-append between later q))
     in
-    join-append before (m ∷ (between ++ m ∷ after)) q ∙ ap (first_greatest (join before q)) k ∙ sym (join-append before (m ∷ (between ++ after)) q)
+    join-append before (m ∷ (between ++ m ∷ later)) q ∙ ap (first_greatest (join before q)) k ∙ sym (join-append before (m ∷ (between ++ later)) q)
 
 -- both after no entry, in either order
 swapped_after_none : (a b : Entry) → DiffersInRank a b
@@ -80,21 +80,21 @@ swapped_ones m n q may true false p r = beside_none m.1
 swapped_ones m n q may false true p r = sym (beside_none n.1)
 swapped_ones m n q may false false p r = refl
 
-pub join-swap : (before after : List (BlockId × Entry)) (m n : BlockId × Entry) (q : BlockId) → MayChangePlaces m n
-    → join (before ++ m ∷ n ∷ after) q ≡ join (before ++ n ∷ m ∷ after) q
-join-swap before after m n q may =
+pub join-swap : (before later : List (BlockId × Entry)) (m n : BlockId × Entry) (q : BlockId) → MayChangePlaces m n
+    → join (before ++ m ∷ n ∷ later) q ≡ join (before ++ n ∷ m ∷ later) q
+join-swap before later m n q may =
     let ones : first_greatest (join (m ∷ []) q) (join (n ∷ []) q) ≡ first_greatest (join (n ∷ []) q) (join (m ∷ []) q) =
     ap (λ x. first_greatest x (join (n ∷ []) q)) (join-one m q) ∙ ap (first_greatest _) (join-one n q)
     ∙ swapped_ones m n q may (same_block q m.0) (same_block q n.0) refl refl
     ∙ sym (ap (λ x. first_greatest x (join (m ∷ []) q)) (join-one n q) ∙ ap (first_greatest _) (join-one m q))
     in
-    let pair : (x y : BlockId × Entry) → join (x ∷ y ∷ after) q ≡ first_greatest (first_greatest (join (x ∷ []) q) (join (y ∷ []) q)) (join after q) =
-    λ x y. join-cons x (y ∷ after) q ∙ ap (first_greatest (join (x ∷ []) q)) (join-cons y after q)
-    ∙ sym (first_greatest-assoc (join (x ∷ []) q) (join (y ∷ []) q) (join after q))
+    let pair : (x y : BlockId × Entry) → join (x ∷ y ∷ later) q ≡ first_greatest (first_greatest (join (x ∷ []) q) (join (y ∷ []) q)) (join later q) =
+    λ x y. join-cons x (y ∷ later) q ∙ ap (first_greatest (join (x ∷ []) q)) (join-cons y later q)
+    ∙ sym (first_greatest-assoc (join (x ∷ []) q) (join (y ∷ []) q) (join later q))
     in
-    join-append before (m ∷ n ∷ after) q
-    ∙ ap (first_greatest (join before q)) (pair m n ∙ ap (λ x. first_greatest x (join after q)) ones ∙ sym (pair n m))
-    ∙ sym (join-append before (n ∷ m ∷ after) q)
+    join-append before (m ∷ n ∷ later) q
+    ∙ ap (first_greatest (join before q)) (pair m n ∙ ap (λ x. first_greatest x (join later q)) ones ∙ sym (pair n m))
+    ∙ sym (join-append before (n ∷ m ∷ later) q)
 
 -- the test of a table and the test of a join are one
 pub same_block-eq : (a b : BlockId) → eq_by_cmp block_cmp a b ≡ same_block a b

@@ -16,11 +16,11 @@ join merges block = fold first_greatest no_entry (entries_of block merges)
 -- an entry of the list that is above version 0 and hop 0, above all before it, and below none after it
 pub record IsFirstGreatest (entries : List Entry) (found : Entry) : Type 0 where
   pub before : List Entry
-  pub after : List Entry
-  pub stands : entries ≡ before ++ found ∷ after
+  pub later : List Entry
+  pub stands : entries ≡ before ++ found ∷ later
   pub held : IsTrue (is_newer found no_entry)
   pub above : All (λ e. IsTrue (is_newer found e)) before
-  pub unbeaten : All (λ e. IsFalse (is_newer e found)) after
+  pub unbeaten : All (λ e. IsFalse (is_newer e found)) later
 
 -- the join of a list of entries: its first greatest, or no entry where none is above version 0 and hop 0
 abbrev pub IsJoin : List Entry → Entry → Type 0

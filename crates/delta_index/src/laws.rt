@@ -53,15 +53,15 @@ pub fn join_of_a_concatenation()
 
 /// A merge that was made before changes nothing.
 pub fn repeated_merge_changes_nothing()
-    ensures { (before between after : List (BlockId × Entry)) (m : BlockId × Entry) (block : BlockId)
-        → join (before ++ m ∷ (between ++ m ∷ after)) block ≡ join (before ++ m ∷ (between ++ after)) block }
+    ensures { (before between later : List (BlockId × Entry)) (m : BlockId × Entry) (block : BlockId)
+        → join (before ++ m ∷ (between ++ m ∷ later)) block ≡ join (before ++ m ∷ (between ++ later)) block }
 {}
 
 /// Neighbours in a list of merges may change places where they are of two blocks, or differ in version
 /// or hop.
 pub fn differing_merges_change_places()
-    ensures { (before after : List (BlockId × Entry)) (m n : BlockId × Entry) (block : BlockId) → MayChangePlaces m n
-        → join (before ++ m ∷ n ∷ after) block ≡ join (before ++ n ∷ m ∷ after) block }
+    ensures { (before later : List (BlockId × Entry)) (m n : BlockId × Entry) (block : BlockId) → MayChangePlaces m n
+        → join (before ++ m ∷ n ∷ later) block ≡ join (before ++ n ∷ m ∷ later) block }
 {}
 
 /// Of entries of one version and hop the earlier stays, so there the order counts: two that differ, as in

@@ -132,7 +132,7 @@ item_line after work = after_text after ++ work_line work
 pub record Reads (c : Context) (line : List ℕ) (after : ℕ) (work : Work) : Type 0 where
   pub loud : is_silent line ≡ false
   pub item : is_setup_word (first (words line)) ≡ false
-  pub is : IsItem c (words line) after work
+  pub means : IsItem c (words line) after work
   pub lacks : Lacks 10 line
 
 line_is : (f : Form) (v : Meanings (parts f)) (work : Work) → work ≡ work_of f v → work_line work ≡ form_line f v
@@ -150,7 +150,7 @@ plain_reads c work a =
     record {
       loud = b.loud;
       item = b.item;
-      is = record {
+      means = record {
         form = a.form;
         of_form = (ap (λ x. has_words (verb a.form) (parts a.form) x) u ∙ r.0, ap (λ x. x && is_net a.form) t);
         time = time_is ws t;
@@ -194,7 +194,7 @@ timed_reads c after work a n =
     record {
       loud = refl;
       item = ap (λ ws. is_setup_word (first ws)) e;
-      is = subst P (sym e) i;
+      means = subst P (sym e) i;
       lacks = lacks_join 10 (codes "after " ++ (decimal after ++ 32 ∷ [])) (form_line a.form a.meanings)
           (lacks_join 10 (codes "after ") (decimal after ++ 32 ∷ []) (lacks_test 10 (codes "after ") refl)
           (lacks_join 10 (decimal after) (32 ∷ []) (decimal_lacks 10 after (omega arith) a.time) (lacks_test 10 (32 ∷ []) refl)))

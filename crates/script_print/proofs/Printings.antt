@@ -49,7 +49,7 @@ one_item : (p : Place) (l : Line) → is_whole p.stage ≡ true → IsAsked (rec
     → Leads l.number (item_line l.after l.work) p (record p { stage = stage.Items; room = p.room - text_size l.work; items = p.items ++ l ∷ [] })
 one_item p l w a =
     let r = item_reads (record { setup = p.setup; room = p.room }) l.after l.work a in
-    inr (r.loud, inr (w, r.item, l.after, l.work, r.is, refl))
+    inr (r.loud, inr (w, r.item, l.after, l.work, r.means, refl))
 
 items_go : (ls : List Line) (before : ℕ) (p : Place) → is_whole p.stage ≡ true → AreAsked p.setup before p.room ls
     → Items (before + 1) (item_lines before ls) p ls
