@@ -7,6 +7,7 @@ mod Packets
 mod Phases
 mod Openings
 mod Maps
+mod Present
 mod Asked
 mod Truths
 mod Counts

@@ -1,1 +1,2 @@
 pub mod Fetchings
+pub mod Present

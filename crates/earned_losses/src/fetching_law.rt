@@ -1,7 +1,8 @@
-//! What a client says is lost while it reads a block for its open call was torn, in every run of the nodes' world. It has no code of the product: the function
-//! below calls the laws that it stands on, and its contract is a law. `specs/fetching_law/Fetchings.antt` says it in words of the nodes.
+//! What a client says is lost while it reads a block for its open call was torn, in every run of the nodes' world. It has no code of the product: the functions
+//! below call the laws that they stand on, and their contracts are laws. `specs/fetching_law/Fetchings.antt` says it in words of the nodes.
 
 ghost use Rattle.earned_losses.specs.fetching_law.Fetchings.{CallsReadBlocks, FetchesLossesEarned};
+ghost use Rattle.earned_losses.specs.fetching_law.Present.{ReadsByPresentGroups};
 
 use crate::missing_law::answers_tell_of_misses;
 use group_map::laws::groups_stay_as_made;
@@ -34,3 +35,9 @@ pub fn fetches_lose_what_is_torn()
     manager_events_are_seen();
     other_events_are_seen();
 }
+
+/// After any events that bring maps of groups, as each is by its type, the map by which a client reads, back through its log or for its open call, is one: so
+/// each member of a current group is at the generation that its server has in the map. Of the map over which it stripes `node_ties::client_law` says the same.
+pub fn reads_by_present_groups()
+    ensures present { ReadsByPresentGroups }
+{}

@@ -7,7 +7,7 @@
 //! `Caching`, `Unsettled`, `Giving`, `Groups`, `Stamps`, and `Unserving` for a client that doesn't serve.
 
 ghost use Rattle.node_ties.specs.client_law.Asking.{AsksForOneBlockAlways};
-ghost use Rattle.node_ties.specs.client_law.Caching.{CachesJustWhatIsClean};
+ghost use Rattle.node_ties.specs.client_law.Caching.{CachesJustWhatIsClean, CopiesOnlyClean, EvictsOnlyClean, SettlesOnlyClean};
 ghost use Rattle.node_ties.specs.client_law.Fetching.{WantsEndByAnAnswer};
 ghost use Rattle.node_ties.specs.client_law.Giving.{PutsOffWhatIsDirty};
 ghost use Rattle.node_ties.specs.client_law.Groups.{StripesByPresentGroupsAlways};
@@ -33,10 +33,19 @@ pub fn puts_off_what_is_dirty()
     ensures dirty { PutsOffWhatIsDirty }
 {}
 
-/// After any events the cache of a client has just the blocks that it holds and that are clean, each once, and
-/// what would leave it for one more such block is held and clean (the 1996 paper, on cooperative caching).
+/// A victim is clean (the 1996 paper, on cooperative caching).
+///
+/// - `clean`: after any events the cache of a client has just the blocks that it holds and that are clean, each
+///   once, and what would leave it for one more such block is held and clean.
+/// - `evicts`: wherever the cache has none but such blocks, within an event too, what leaves it for one more is
+///   held and clean as it leaves, and then it has none but such blocks again.
+/// - `copies`, `settles`: it has none but such blocks at both places of an event where a block goes into it: where
+///   a copy came, and before each block of a segment that is settled.
 pub fn caches_what_is_clean()
     ensures clean { CachesJustWhatIsClean }
+    ensures evicts { EvictsOnlyClean }
+    ensures copies { CopiesOnlyClean }
+    ensures settles { SettlesOnlyClean }
 {}
 
 /// After any events just the dirty blocks of a client whose newest version isn't in flight wait to be written

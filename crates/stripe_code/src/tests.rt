@@ -52,7 +52,9 @@ fn any_that_suffice_give_the_text_back(rt: HostRuntime) -> Result<(), Fail> {
     let alloc = rt.alloc();
     let reckoned = [[1, 2], [3, 0], [2, 2], [7, 2]];
     for parity in 1..3_u8 {
-        let stripe = cut(alloc, &[1, 2, 3], usize::from(parity) + 2, parity)?;
+        let servers = usize::from(parity) + 2;
+        let stripe = cut(alloc, &[1, 2, 3], servers, parity)?;
+        assert_eq!(rt; stripe.len(), servers, "fragments");
         for (got, wanted) in stripe.as_slice().iter().zip(&reckoned) {
             assert!(rt; got.as_slice() == wanted.as_slice(), "{wanted:?}");
         }

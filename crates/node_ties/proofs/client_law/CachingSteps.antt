@@ -1,5 +1,5 @@
 -- Each thing that a client does keeps that its cache has just the blocks that are held and clean.
-use Rattle.std.proofs.Common.{◌≡◌, ◌⊎◌, inl, inr, ℕ, ◌+◌, ◌≤◌, Bool, true, false, ◌&&◌, not, nat_lt, List, [], ◌∷◌, take, Option, Some, None, refl, sym, ap, ◌∙◌, arith}
+use Rattle.std.proofs.Common.{◌≡◌, ◌⊎◌, inl, inr, ℕ, ◌+◌, ◌≤◌, Bool, true, false, ◌&&◌, not, nat_lt, List, [], ◌∷◌, ◌++◌, take, Option, Some, None, refl, sym, ap, ◌∙◌, arith}
 use Rattle.std.specs.Prelude.{Contains, fold}
 use Rattle.std.specs.Map.{keys_of}
 use Rattle.std.specs.List.{AllByRecursion, list_any}
@@ -31,7 +31,7 @@ use Rattle.xfs_base.specs.Modes.{is_held, is_nothing}
 use Rattle.xfs_base.specs.Steps.{steps, still}
 use Rattle.xfs_base.proofs.Booleans.{by_test, contrary}
 use Rattle.xfs_base.proofs.Members.{contains_cases, contains_first, contains_nothing, contains_rest}
-use Rattle.node_ties.specs.client_law.Caching.{CachesJustWhatIsClean, CachesWhatIsClean}
+use Rattle.node_ties.specs.client_law.Caching.{CachesJustWhatIsClean, CachesOnlyClean, CachesWhatIsClean, CopiesOnlyClean, EvictsOnlyClean, SettlesOnlyClean}
 use Rattle.node_ties.proofs.client_law.Giving.{any_reopens, AnyLog, AnyOpening}
 use Rattle.node_ties.proofs.client_law.Happening.{AnyBlock, AnyMap, after_weaker, always, Starts}
 use Rattle.node_ties.proofs.client_law.Caching.{C, CachesBut, clean-caches, clean_evicts, clean_victims, dirty_stays, gone-caches, settled_clean, takes-cache}
@@ -297,3 +297,44 @@ pub caches_just_what_is_clean : CachesJustWhatIsClean
 caches_just_what_is_clean =
     after_weaker (At (C none)) CachesWhatIsClean what_is_clean
     (always (C none) (λ n. C none) (λ block. C (λ b. b ≡ block)) keeps-caching AnyOpening AnyLog any_reopens starts-caching (λ l map. tt))
+
+-- ---- within an event
+
+-- whatever is held and clean may be out of the cache
+anything : BlockId → Type 0
+anything b = Unit {0}
+
+any_part : (s : Serving) → CachesOnlyClean s → At (C anything) s
+any_part s p = record { once = p.once; cached = p.cached; caches = λ b clean. inr tt }
+
+only_clean : (X : BlockId → Type 0) (s : Serving) → At (C X) s → CachesOnlyClean s
+only_clean X s p = record { once = p.once; cached = p.cached }
+
+is_exact : (s : Serving) → CachesWhatIsClean s → At (C none) s
+is_exact s p = record {
+  once = p.once;
+  cached = λ b inside. sym (p.exact b) ∙ inside;
+  caches = λ b clean. inl (p.exact b ∙ clean);
+}
+
+pub evicts_only_clean : EvictsOnlyClean
+evicts_only_clean s block p clean =
+    let q : At (C anything) s = any_part s p in
+    let order : List BlockId = used_last block s.cache.blocks in
+    let n : ℕ = excess s.cache.capacity order in (
+      clean_victims anything anything s block clean q (λ b x. inr x) (take n order) (λ b inside. in_take n b order inside),
+      only_clean anything (notes_clean s block) (clean-caches anything anything s block clean q (λ b x. inr x)),
+    )
+
+pub copies_only_clean : CopiesOnlyClean
+copies_only_clean s block copy p clean =
+    only_clean (λ b. b ≡ block) (record s { tokens = with_held s.tokens block copy }) (arrived s.tokens s.cache block copy clean (is_exact s p))
+
+noted_clean : (s : Serving) (noted rest : List (BlockId × Entry)) → At (C (InRows (noted ++ rest))) s → CachesOnlyClean (fold keeps_clean s noted)
+noted_clean s [] rest p = only_clean (InRows rest) s p
+noted_clean s (row ∷ noted) rest p = noted_clean (keeps_clean s row) noted rest (keeps_clean-caches row (noted ++ rest) s p)
+
+pub settles_only_clean : SettlesOnlyClean
+settles_only_clean s noted rest p =
+    let rows : List (BlockId × Entry) = noted ++ rest in
+    noted_clean (fold notes_settled s rows) noted rest (rows_settled (InRows rows) s rows (rows_in rows) (more (InRows rows) s (is_exact s p)))

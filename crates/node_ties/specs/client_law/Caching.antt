@@ -1,13 +1,17 @@
 -- What a client caches.
-use Rattle.std.specs.Prelude.{◌≡◌, true}
+use Rattle.std.specs.Prelude.{◌≡◌, ◌++◌, true, List, fold}
 use Rattle.std.specs.List.{AllByRecursion}
 use Rattle.client_serving.specs.declared.serving.Serving.{Serving}
-use Rattle.client_serving.specs.Flights.{held_at}
+use Rattle.client_serving.specs.Flights.{held_at, keeps_clean, notes_settled}
+use Rattle.client_serving.specs.Follow.{notes_clean}
 use Rattle.coop_cache.specs.declared.output.Out.{Out}
 use Rattle.coop_cache.specs.declared.output.Out.TheVariants.{Victim}
 use Rattle.coop_cache.specs.Transition.{cleaned, is_clean}
+use Rattle.token_client.specs.declared.held.Held.{Held}
 use Rattle.token_client.specs.Held.{may_evict}
+use Rattle.token_client.specs.State.{with_held}
 use Rattle.xfs_base.specs.declared.block.BlockId.{BlockId}
+use Rattle.xfs_base.specs.declared.entry.Entry.{Entry}
 use Rattle.node_ties.specs.client_law.Blocks.{Once}
 use Rattle.node_ties.specs.client_law.Events.{HoldsAfterAnyEvents}
 
@@ -27,3 +31,29 @@ pub record CachesWhatIsClean (s : Serving) : Type 0 where
 -- is held and clean.
 abbrev pub CachesJustWhatIsClean : Type 0
 CachesJustWhatIsClean = HoldsAfterAnyEvents CachesWhatIsClean
+
+-- ---- within an event
+
+-- the cache has only blocks that are held and clean, each once; some that are may not be in it yet
+pub record CachesOnlyClean (s : Serving) : Type 0 where
+  pub cached : (block : BlockId) → is_clean s.cache block ≡ true → may_evict (held_at s block) ≡ true
+  pub once : Once s.cache.blocks
+
+-- Wherever that is so, what leaves the cache for one more block that is held and clean is held and clean; and once it is let go it is so again.
+abbrev pub EvictsOnlyClean : Type 0
+EvictsOnlyClean =
+    (s : Serving) (block : BlockId) → CachesOnlyClean s → may_evict (held_at s block) ≡ true
+    → AllByRecursion (IsCleanVictim s) (cleaned s.cache block).outs × CachesOnlyClean (notes_clean s block)
+
+-- A block goes into the cache where a copy of it came, and where a segment was settled in which it was written. So it is where a copy came: what is
+-- known of the block is put, and then the block is noted.
+abbrev pub CopiesOnlyClean : Type 0
+CopiesOnlyClean =
+    (s : Serving) (block : BlockId) (copy : Held) → CachesWhatIsClean s → may_evict copy ≡ true
+    → CachesOnlyClean (record s { tokens = with_held s.tokens block copy })
+
+-- And so it is where a segment was settled, of whose blocks one after the other is noted: before each of them, and after the last.
+abbrev pub SettlesOnlyClean : Type 0
+SettlesOnlyClean =
+    (s : Serving) (noted rest : List (BlockId × Entry)) → CachesWhatIsClean s
+    → CachesOnlyClean (fold keeps_clean (fold notes_settled s (noted ++ rest)) noted)
