@@ -223,7 +223,7 @@ module _ (A S B T : Type 0) (f : A → B) (g : S → T) where
   move_entered dir name rows ino Removes new h = absurd h
   move_entered dir name rows ino (Moves to) new h = absurd h
   move_entered dir name rows ino (Links linked from old) new h =
-      new (record { dir = dir; name = name; node = linked; rows = h.0; at = refl; text = ap (λ (rs : List Row). content_of (rows_text rs)) h.1 })
+      new (record { dir = dir; name = name; node = linked; rows = h.0; is_bucket = refl; text = ap (λ (rs : List Row). content_of (rows_text rs)) h.1 })
   move_entered dir name rows ino (Unlinks old) new h = tt
 
   move_written : (s : PlanState) → ((block : BlockId) (ver : ℕ) (value : Content) → next_call s ≡ Step (PutAt block ver value) → PutsIn block value → B)
@@ -344,9 +344,9 @@ move_write S dir name rows Lists h = absurd h
 move_write S dir name rows Removes h = absurd h
 move_write S dir name rows (Moves to) h = absurd h
 move_write S dir name rows (Links linked from old) h =
-    inl (record { dir = dir; name = name; node = linked; rows = h.0; at = refl; text = ap (λ (rs : List Row). content_of (rows_text rs)) h.1 })
+    inl (record { dir = dir; name = name; node = linked; rows = h.0; is_bucket = refl; text = ap (λ (rs : List Row). content_of (rows_text rs)) h.1 })
 move_write S dir name rows (Unlinks old) h =
-    inr (record { dir = dir; name = name; rows = h.1.0; at = refl; text = ap (λ (rs : List Row). content_of (rows_text rs)) h.1.1 }, h.0)
+    inr (record { dir = dir; name = name; rows = h.1.0; is_bucket = refl; text = ap (λ (rs : List Row). content_of (rows_text rs)) h.1.1 }, h.0)
 
 move_put_at : (A S : Type 0) (s : PlanState) (block : BlockId) (ver : ℕ) (value : Content) → next_call s ≡ Step (PutAt block ver value) → InMove A S s
     → PutsIn block value ⊎ (TakesOut block value × S)

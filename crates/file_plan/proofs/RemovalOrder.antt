@@ -137,8 +137,12 @@ module _ (H K : Type 0) (kept : H → K) where
   removal_written (Walks dir name onto rest job) new h = h
   removal_written (Looks dir name job) new h = h
   removal_written (Enters dir name v rows ino job) new h =
-      by_removal (λ j. InRemoval K (entered j ino))
-      (new _ v _ refl (record { dir = dir; name = name; rows = h.1.0; at = refl; text = ap (λ (rs : List Row). content_of (rows_text rs)) h.1.1 }), tt) job h.0
+      by_removal (λ j. InRemoval K (entered j ino)) (
+        new _ v _ refl
+            (record { dir = dir; name = name; rows = h.1.0; is_bucket = refl; text = ap (λ (rs : List Row). content_of (rows_text rs)) h.1.1 }),
+        tt,
+      )
+      job h.0
   removal_written (Syncs dir name node) new h = absurd h
   removal_written (Measures ino task) new h = (kept h.0, h.1)
   removal_written (Fetches ino blk low left got) new h = absurd h
@@ -260,7 +264,7 @@ removal_put_at H (Looks dir name job) block ver value e h = let no' : ⊥ = cc i
 removal_put_at H (Enters dir name v rows ino job) block ver value e h =
     let at : block_at dir (bucket_number name) ≡ block = cc in
     let text : content_of (rows_text rows) ≡ value = cc in
-    inl (record { dir = dir; name = name; rows = h.1.0; at = sym at; text = sym text ∙ ap (λ (rs : List Row). content_of (rows_text rs)) h.1.1 })
+    inl (record { dir = dir; name = name; rows = h.1.0; is_bucket = sym at; text = sym text ∙ ap (λ (rs : List Row). content_of (rows_text rs)) h.1.1 })
 removal_put_at H (Syncs dir name node) block ver value e h = absurd h
 removal_put_at H (Measures ino task) block ver value e h = let no' : ⊥ = cc in absurd no'
 removal_put_at H (Fetches ino blk low left got) block ver value e h = absurd h

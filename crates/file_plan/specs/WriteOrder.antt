@@ -23,7 +23,7 @@ pub record TakesOut (block : BlockId) (value : Content) : Type 0 where
   pub dir : Ino
   pub name : Name
   pub rows : List Row
-  pub at : block ≡ block_at dir (bucket_number name)
+  pub is_bucket : block ≡ block_at dir (bucket_number name)
   pub text : value ≡ content_of (rows_text (remove_entry (is_at (name_cmp name)) rows))
 
 -- a bucket is written with one entry more
@@ -32,7 +32,7 @@ pub record PutsIn (block : BlockId) (value : Content) : Type 0 where
   pub name : Name
   pub node : Node
   pub rows : List Row
-  pub at : block ≡ block_at dir (bucket_number name)
+  pub is_bucket : block ≡ block_at dir (bucket_number name)
   pub text : value ≡ content_of (rows_text (insert_entry name_cmp rows name node))
 
 -- among these answers of a plan is one that says that such a write over a version was made

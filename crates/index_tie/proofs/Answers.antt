@@ -27,7 +27,7 @@ placed_row b f entry named place n is = by entry.ver refl
   where
     by : (v : ℕ) → entry.ver ≡ v → IsRow b f entry
     by zero none = absurd (false≢true (sym (ap (λ (e : Entry). is_place e.place place) (n.none none)) ∙ is))
-    by (suc v) some = record { log = named.log; seq = named.seq; is = n.row (omega arith); some = omega arith }
+    by (suc v) some = record { log = named.log; seq = named.seq; is_row = n.row (omega arith); some = omega arith }
 
 abbrev live_of : Out → Entry → Entry
 live_of (Live e) other = e
@@ -52,8 +52,8 @@ pub moves_are_copies : MovesAreCopies
 moves_are_copies b f entry said r version hop = record {
   log = r.log;
   seq = r.seq;
-  version = version ∙ ap (λ (e : Entry). e.ver) r.is;
-  hop = let h = ap (λ (e : Entry). e.hop) r.is in hop ∙ (omega arith);
+  version = version ∙ ap (λ (e : Entry). e.ver) r.is_row;
+  hop = let h = ap (λ (e : Entry). e.hop) r.is_row in hop ∙ (omega arith);
 }
 
 -- a place is itself

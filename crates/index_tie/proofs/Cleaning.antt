@@ -234,7 +234,7 @@ module _ (b : BlockId) (f : Filed) where
         promised = refl;
         polled = λ e. refl;
         checked = k;
-        drops = λ dead. record { within = k.within; is = λ is has. absurd (never is has dead) };
+        drops = λ dead. record { within = k.within; row_dropped = λ is has. absurd (never is has dead) };
       }
 
       by : (t u v : Bool) → is_filed_name f name ≡ t → has_block b f name ≡ u → all_dead checks ≡ v → Ends w name checks
@@ -250,7 +250,7 @@ module _ (b : BlockId) (f : Filed) where
             checked = k;
             drops = λ _. record {
               within = k.within;
-              is = λ _ _. at_same name.log.0 (cond (name.seq == name.seq) 1 (w.dropped name.log.0 name.seq)) (w.dropped name.log.0 name.seq)
+              row_dropped = λ _ _. at_same name.log.0 (cond (name.seq == name.seq) 1 (w.dropped name.log.0 name.seq)) (w.dropped name.log.0 name.seq)
                   ∙ at_same name.seq 1 (w.dropped name.log.0 name.seq);
             };
           }

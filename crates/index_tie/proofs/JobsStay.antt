@@ -44,7 +44,7 @@ dropped_stays b f g dropped more_dropped name more drops k =
     let same : g.segment l q ≡ f.segment l q = more.segment l q k.within.some filed in
     let its : is_filed_name g name ≡ is_filed_name f name = ap (λ (s : Segment). same_name name s.name) same in
     let has : has_block b g name ≡ has_block b f name = ap (λ (s : Segment). list_any (same_block b) (blocks_of s.items)) same in
-    record { within = record { some = k.within.some; filed = omega arith }; is = λ is any. drops l q (k.is (sym its ∙ is) (sym has ∙ any)) }
+    record { within = record { some = k.within.some; filed = omega arith }; row_dropped = λ is any. drops l q (k.row_dropped (sym its ∙ is) (sym has ∙ any)) }
 
 known_stays : (b : BlockId) (f g : Filed) (dead more_dead dropped more_dropped : ℕ → ℕ → ℕ) (p : Phase) → IsMore f g → ((l q : ℕ) → dead l q ≤ more_dead l q)
     → ((l q : ℕ) → dropped l q ≡ 1 → more_dropped l q ≡ 1) → Known b f dead dropped p

@@ -57,7 +57,7 @@ lines_are_linked logs books l low high are some limit least upto q from above =
     let is : w.prior_of x ≡ y = (one_line_always w i.reached i.clean).linked x y filed_x filed_y (omega arith) (omega arith) in
     let book = book_always w i.reached in
     let named = book.named y (book.filed_booked y filed_y) in
-    (i.pages x filed_x).after (omega arith) ∙ ap (pass_of w) is ∙ sym (i.pages y filed_y).pass
+    (i.pages x filed_x).follows (omega arith) ∙ ap (pass_of w) is ∙ sym (i.pages y filed_y).pass
 
 pub filed_names_are_ends : FiledNamesAreEnds
 filed_names_are_ends logs books l x end are some limit filed seq pass =

@@ -181,7 +181,7 @@ taken_over = record {
   deposed = cleaned (started 1 [] [] zeros);
   present = (transition (started 2 [] [] zeros) (Deltas log 1 1 (rows_of segment))).state;
   was = refl;
-  is = refl;
+  manages = refl;
   knows_nothing = refl;
   knows = ap (λ (i : Indexed). (entry_of i.rows block).ver) applied_it ∙ ap (λ r. (entry_of r block).ver) (rows-indexed_all nothing_indexed (rows_of segment))
       ∙ ap (λ (e : Entry). e.ver) (index_join (rows_of segment) block);

@@ -197,7 +197,7 @@ newest_is_never_deleted part holds n b name m at is has newest =
     let g = good_always part holds n b m in
     let i = g.views b m.inside in
     let d = is_dropped b n.filed i.state.dropped name n.deleted i.deleted at in
-    newest_is_kept b n.filed i.state name.log.0 name.seq i.reached g.filed i.tells newest (d.is is has)
+    newest_is_kept b n.filed i.state name.log.0 name.seq i.reached g.filed i.tells newest (d.row_dropped is has)
 
 pub reigning_is_outdated : ReigningIsOutdated
 reigning_is_outdated part holds n b e s place m at reigns lies deleted is has =
@@ -207,7 +207,7 @@ reigning_is_outdated part holds n b e s place m at reigns lies deleted is has =
     let l = place.seg.name.log.0 in
     let q = place.seg.name.seq in
     let d = is_dropped b n.filed w.dropped place.seg.name n.deleted i.deleted deleted in
-    let dropped = d.is is has in
+    let dropped = d.row_dropped is has in
     let dead = dead_stays_always w i.reached in
     let counted = dead.counted l q dropped in
     let reigned = dead.reigned l q counted in

@@ -92,8 +92,8 @@ module _ (part : ℕ) (holds : SegRef → Rows) (b : BlockId) where
 
   row_later : (f g : Filed) (entry : Entry) → IsMore f g → IsRow b f entry → IsRow b g entry
   row_later f g entry more r =
-      let within = is_filed b f r.log r.seq (subst (λ (e : Entry). 0 < e.ver) r.is r.some) in
-      record { log = r.log; seq = r.seq; is = r.is ∙ sym (row_stays b f g r.log r.seq more within.1); some = r.some }
+      let within = is_filed b f r.log r.seq (subst (λ (e : Entry). 0 < e.ver) r.is_row r.some) in
+      record { log = r.log; seq = r.seq; is_row = r.is_row ∙ sym (row_stays b f g r.log r.seq more within.1); some = r.some }
 
   sound_later : (n m : Net) (w v : IndexState) (p : Packet) → Later n m w v → Sound n w p → Sound m v p
   sound_later n m w v (CheckpointPlanned e events horizon) t s = record {

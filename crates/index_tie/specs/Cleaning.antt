@@ -38,7 +38,7 @@ use Rattle.index_tie.specs.Slots.{Manages}
 pub record IsRow (b : BlockId) (f : Filed) (entry : Entry) : Type 0 where
   pub log : ℕ
   pub seq : ℕ
-  pub is : entry ≡ row_at f b log seq
+  pub is_row : entry ≡ row_at f b log seq
   pub some : 0 < entry.ver
 
 -- What is answered Live is a filed row.
@@ -85,7 +85,7 @@ pub record IsChecked (b : BlockId) (f : Filed) (dead_at : ℕ → ℕ → ℕ) (
 -- where a filed segment has a Block of the block, its row was dropped
 pub record IsDropped (b : BlockId) (f : Filed) (dropped : ℕ → ℕ → ℕ) (name : SegName) : Type 0 where
   pub within : IsWithin f name
-  pub is : is_filed_name f name ≡ true → has_block b f name ≡ true → dropped name.log.0 name.seq ≡ 1
+  pub row_dropped : is_filed_name f name ≡ true → has_block b f name ≡ true → dropped name.log.0 name.seq ≡ 1
 
 abbrev pub Known : BlockId → Filed → (ℕ → ℕ → ℕ) → (ℕ → ℕ → ℕ) → Phase → Type 0
 Known b f dead_at dropped (Checking j segment checks) = IsChecked b f dead_at segment.name checks

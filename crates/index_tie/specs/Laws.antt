@@ -19,7 +19,7 @@ pub record IsAppliedRow (b : BlockId) (f : Filed) (s : SlotState) (entry : Entry
   pub seq : ℕ
   pub some : 0 < log
   pub applied : seq ≤ applied_of s.applied log
-  pub is : entry ≡ row_at f b log seq
+  pub is_row : entry ≡ row_at f b log seq
   pub earliest : (l q : ℕ) → 0 < l → q ≤ applied_of s.applied l → HasSameRank (row_at f b l q) entry → seq ≤ q
 
 -- What the index of a slot holds of the block is the join of what the slot has applied: none of it is newer, and it is one of it, or no entry.

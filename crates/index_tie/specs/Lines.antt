@@ -26,7 +26,7 @@ pub record IsPage (l : ℕ) (w : State) (x : ℕ) (s : Segment) : Type 0 where
   pub seq : s.name.seq ≡ w.seq_of x
   pub pass : s.name.pass ≡ pass_of w x
   pub boot : 0 < s.name.pass.inc
-  pub after : 0 < w.prior_of x → s.prior.pass ≡ pass_of w (w.prior_of x)
+  pub follows : 0 < w.prior_of x → s.prior.pass ≡ pass_of w (w.prior_of x)
   pub versions : AllByRecursion (λ row. 0 < row.1.ver) (rows_of s)
   pub no_parts : AllByRecursion IsNoPart s.items
 

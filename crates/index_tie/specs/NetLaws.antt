@@ -60,6 +60,6 @@ pub record TakenOver : Type 0 where
   pub deposed : SlotState
   pub present : SlotState
   pub was : net.slots 1 ≡ Some deposed
-  pub is : net.slots 2 ≡ Some present
+  pub manages : net.slots 2 ≡ Some present
   pub knows_nothing : (entry_at deposed block).ver ≡ 0
   pub knows : (entry_at present block).ver ≡ 1

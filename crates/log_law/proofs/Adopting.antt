@@ -29,14 +29,14 @@ module _ (g : Setting) (w : State) (book : ℕ → Segment) (fixed : Fixed g w) 
   pub record OnPath (t : Segment) : Type 0 where
     pub number : ℕ
     pub booked : w.booked number ≡ 1
-    pub is : t ≡ book number
+    pub in_book : t ≡ book number
     pub there : path w (w.seq_of number) ≡ number
     pub below : w.seq_of number < w.opening_seq
 
   on_path : (x : ℕ) (ts : List Segment) → Chained g w book highest x ts → (t : Segment) → In t ts → OnPath t
   on_path x [] h t is = absurd is
   on_path x (s ∷ ss) h t (inl e) =
-      record { number = h.0; booked = h.1; is = e ∙ h.2; there = ap (back w) depth ∙ sym (back_chained g w book highest h.0 ss h.5); below = less }
+      record { number = h.0; booked = h.1; in_book = e ∙ h.2; there = ap (back w) depth ∙ sym (back_chained g w book highest h.0 ss h.5); below = less }
     where
       depth : w.opening_seq - suc (w.seq_of h.0) ≡ length ss
       depth = let a = h.4 in let b : w.seq_of h.0 ≡ g.seq_of h.0 = ap (λ k. k h.0) fixed.seq_of in let c = opening_at in omega arith
@@ -85,13 +85,13 @@ module _ (k : Below) (g : Setting) (none : g.doubts ≡ false) (first : Net) (se
           as_it_writes.read.chained t among
 
       named : t.name ≡ name_of g p.number
-      named = ap (λ (z : Segment). z.name) p.is ∙ (h.paged p.number p.booked).named
+      named = ap (λ (z : Segment). z.name) p.in_book ∙ (h.paged p.number p.booked).named
 
       seq : h.w.seq_of p.number ≡ t.name.seq
       seq = ap (λ f. f p.number) h.fixed.seq_of ∙ ap (λ (z : SegName). z.seq) (sym named)
 
       tells : h.w.content_of p.number ≡ g.content t.items
-      tells = (h.paged p.number p.booked).tells ∙ ap (λ (z : Segment). g.content z.items) (sym p.is)
+      tells = (h.paged p.number p.booked).tells ∙ ap (λ (z : Segment). g.content z.items) (sym p.in_book)
 
       -- no further than the head
       no_further : h.w.seq_of p.number ≤ h.w.head → IsNoFurther n t
@@ -105,7 +105,7 @@ module _ (k : Below) (g : Setting) (none : g.doubts ≡ false) (first : Net) (se
       attempt : FlightOf g h.w (last_flight run) p.number → (f : FlightState) × (last_flight run ≡ Some f) × IsAttemptOf g f t
       attempt f = (
         f.flight,
-        f.is,
+        f.flying,
         record {
           seq = ap (λ (z : SegName). z.seq) named ∙ sym f.seq;
           boot = ap (λ (z : SegName). z.pass.inc) named ∙ sym f.boot;

@@ -169,7 +169,7 @@ module _ (k : Below) (g : Setting) (none : g.doubts ≡ false) (n : Net) (h : Vi
   head_at = sym ends.end_seq ∙ (ap (λ f. f u.end) v.fixed.seq_of ∙ after.0.end_seq)
 
   pub rises : EndRisesByOne s d
-  rises = subst (λ (x : LogState). EndRisesByOne x (log.transition x i)) (sym before.1.ran.is)
+  rises = subst (λ (x : LogState). EndRisesByOne x (log.transition x i)) (sym before.1.ran.reaches)
       (k.logs.rises before.1.ran.log before.1.ran.inc before.1.ran.end before.1.ran.groups before.1.ran.history i)
 
   module _ (name : SegName) (among : In name o.filed) (above : o.low ≤ name.seq) where

@@ -25,11 +25,11 @@ module _ (g : Setting) (n : Net) (h : View g n) (v : ℕ) (f : Fragment) (i : Is
     pub number : ℕ
     pub index : ℕ
     pub booked : h.w.booked number ≡ 1
-    pub is : i.meta ≡ meta_of (h.book number) index
+    pub describes : i.meta ≡ meta_of (h.book number) index
 
   listed_one : (ms : List FragMeta) → AllMetas h.book h.w.booked ms → In i.meta ms → Listed
   listed_one [] all is = absurd is
-  listed_one (m ∷ ms) all (inl e) = record { number = all.0.0; index = all.0.1; booked = all.0.2; is = e ∙ all.0.3 }
+  listed_one (m ∷ ms) all (inl e) = record { number = all.0.0; index = all.0.1; booked = all.0.2; describes = e ∙ all.0.3 }
   listed_one (m ∷ ms) all (inr is) = listed_one ms all.1 is
 
   abbrev it : Listed
@@ -42,14 +42,14 @@ module _ (g : Setting) (n : Net) (h : View g n) (v : ℕ) (f : Fragment) (i : Is
   page = h.paged x it.booked
 
   named : i.meta.name ≡ name_of g x
-  named = ap (λ (m : FragMeta). m.name) it.is ∙ page.named
+  named = ap (λ (m : FragMeta). m.name) it.describes ∙ page.named
 
   -- its name and its group
   its_name : i.meta.name ≡ (h.book x).name
-  its_name = ap (λ (m : FragMeta). m.name) it.is
+  its_name = ap (λ (m : FragMeta). m.name) it.describes
 
   group : i.meta.group ≡ (h.book x).group
-  group = ap (λ (m : FragMeta). m.group) it.is
+  group = ap (λ (m : FragMeta). m.group) it.describes
 
   count : i.round.n ≡ length (g.stripe (h.book x).group).members
   count = i.count ∙ ap (λ z. length (g.stripe z).members) group
@@ -79,7 +79,13 @@ module _ (g : Setting) (n : Net) (h : View g n) (v : ℕ) (f : Fragment) (i : Is
     known = it.booked;
     named = ap (λ (z : Fragment). z.meta.name) i.cut ∙ named;
     fragment = i.cut ∙ (λ j. record {
-      meta = record { name = (it.is j).name; group = (it.is j).group; prior = (it.is j).prior; index = i.place; len = (it.is j).len };
+      meta = record {
+        name = (it.describes j).name;
+        group = (it.describes j).group;
+        prior = (it.describes j).prior;
+        index = i.place;
+        len = (it.describes j).len;
+      };
       bytes = fragment_at (stripe_of (text j) (count j) (parity j)) i.place;
     });
     sent = told (h.sent (FragmentSent came.0) came.1);
@@ -89,6 +95,6 @@ module _ (g : Setting) (n : Net) (h : View g n) (v : ℕ) (f : Fragment) (i : Is
     where
       told : FragmentSeen g h.w h.book came.0 → In (record { name = x; text = h.w.text_of x }) h.w.fragments
       told s =
-          let e : s.name ≡ x = same g n h x it.booked s.name s.known (ap (λ (z : Fragment). z.meta.name) (sym s.is) ∙ (came.2 ∙ its_name)) in
+          let e : s.name ≡ x = same g n h x it.booked s.name s.known (ap (λ (z : Fragment). z.meta.name) (sym s.is_piece) ∙ (came.2 ∙ its_name)) in
           subst (λ t. In (record { name = x; text = t }) h.w.fragments) (sym page.spelled)
           (subst (λ y. In (record { name = y; text = g.number (text_of (h.book y)) }) h.w.fragments) e s.sent)

@@ -25,7 +25,7 @@ module _ (g : Setting) where
   -- the flight of the last boot that served is of this number and boot, and tells the same
   pub record FlightOf (w : State) (last : Option FlightState) (x : ℕ) : Type 0 where
     pub flight : FlightState
-    pub is : last ≡ Some flight
+    pub flying : last ≡ Some flight
     pub seq : flight.segment.name.seq ≡ g.seq_of x
     pub boot : flight.segment.name.pass.inc ≡ g.incarnation_of x
     pub content : w.content_of x ≡ g.content flight.segment.items
@@ -81,7 +81,7 @@ module _ (g : Setting) where
             ∙ (sym (ap (λ (z : SegName). z.pass.inc) page.named) ∙ ap (λ (z : Segment). z.name.pass.inc) (sym shown.segment)) in
             record {
               flight = f;
-              is = is;
+              flying = is;
               seq = (let a = next in omega arith);
               boot = (let a = boot in omega arith);
               content = (k.protocol.book h.w h.reached).one_content x h.w.flight booked shown.is_booked (let a = next in omega arith)
@@ -96,7 +96,7 @@ module _ (g : Setting) where
       let names : u.incarnation_of x ≡ w.incarnation_of x = ap (λ t. t x) later.incarnation_of ∙ sym (ap (λ t. t x) fixed.incarnation_of) in
       let seqs : u.seq_of x ≡ w.seq_of x = ap (λ t. t x) later.seq_of ∙ sym (ap (λ t. t x) fixed.seq_of) in
       let f = kept x was (sym names ∙ (boot ∙ s.served)) (sym seqs ∙ (next ∙ ap suc s.head)) in
-      record { flight = f.flight; is = f.is; seq = f.seq; boot = f.boot; content = (k.protocol.past w u reached run).content x was ∙ f.content }
+      record { flight = f.flight; flying = f.flying; seq = f.seq; boot = f.boot; content = (k.protocol.past w u reached run).content x was ∙ f.content }
 
   -- over one event
   pub now_kept : (k : Below) (n : Net) (h : View g n) (o : Net) (t : Next g n h o) → t.view.w.clean ≡ 1 → (last : Option FlightState) → FlightKept h.w last

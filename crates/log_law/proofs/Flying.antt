@@ -40,10 +40,10 @@ writes_next k s i ran = record { rises = by rises; next = flies (log.transition 
     now = ran_on s i ran
 
     in_line : IsInLine (log.transition s i).state
-    in_line = subst IsInLine (sym now.is) (k.logs.next now.log now.inc now.end now.groups now.history)
+    in_line = subst IsInLine (sym now.reaches) (k.logs.next now.log now.inc now.end now.groups now.history)
 
     rises : EndRisesByOne s (log.transition s i)
-    rises = subst (λ (z : LogState). EndRisesByOne z (log.transition z i)) (sym ran.is) (k.logs.rises ran.log ran.inc ran.end ran.groups ran.history i)
+    rises = subst (λ (z : LogState). EndRisesByOne z (log.transition z i)) (sym ran.reaches) (k.logs.rises ran.log ran.inc ran.end ran.groups ran.history i)
 
     by : EndRisesByOne s (log.transition s i) → s.end.seq ≤ (log.transition s i).state.end.seq
     by (inl same) = (let e = ap (λ z. z.seq) same.1 in omega arith)

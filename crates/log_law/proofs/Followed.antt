@@ -159,13 +159,13 @@ module _ (k : Below) (g : Setting) (none : g.doubts ≡ false) (a : Net) (serves
 
         booked_z : z.booked x ≡ 1
         booked_z =
-            let c = (k.protocol.past z u reached_z l.after).clean now_clean in
+            let c = (k.protocol.past z u reached_z l.later).clean now_clean in
             let e = k.protocol.head z reached_z c in
             subst (λ y. z.booked y ≡ 1) l.line
             ((k.protocol.book z reached_z).filed_booked (z.line z.head) (e.line_filed z.head (let a = l.head in omega arith) (omega arith)))
 
         lacks_z : z.holds v x ≡ 0
-        lacks_z = ap (λ y. z.holds y x) ((k.protocol.past z u reached_z l.after).member_server x i booked_z)
+        lacks_z = ap (λ y. z.holds y x) ((k.protocol.past z u reached_z l.later).member_server x i booked_z)
             ∙ subst (λ y. z.holds (z.member_server y i) y ≡ 0) l.line l.lacks.lacks
 
         kept_z : z.dropped x ≡ 1 → ⊥
@@ -178,7 +178,7 @@ module _ (k : Below) (g : Setting) (none : g.doubts ≡ false) (a : Net) (serves
         lacked_before : u.generation v ≡ h.w.generation v → h.w.holds v x ≡ 0
         lacked_before same =
             let p = (k.protocol.past h.w z h.reached l.before).generation v in
-            let q = (k.protocol.past z u reached_z l.after).generation v in
+            let q = (k.protocol.past z u reached_z l.later).generation v in
             let law = (k.protocol.lacks h.w h.w z h.reached Done l.before) v x (omega arith) lacks_z
             (λ marked. kept_z ((k.protocol.shelves z reached_z).marked_dropped v x marked)) in
             let flag = (k.protocol.shelves h.w h.reached).held_flag v x in

@@ -153,7 +153,7 @@ module _ (k : Below) (g : Setting) (none : g.doubts ≡ false) (n : Net) (h : Vi
       behind = (subst (OwnerShown g h.w h.book h.hellos) is h.owner).1
 
       rises_here : EndRisesByOne s (log.transition s i)
-      rises_here = subst (λ (x : LogState). EndRisesByOne x (log.transition x i)) (sym behind.ran.is)
+      rises_here = subst (λ (x : LogState). EndRisesByOne x (log.transition x i)) (sym behind.ran.reaches)
           (k.logs.rises behind.ran.log behind.ran.inc behind.ran.end behind.ran.groups behind.ran.history i)
 
       was : h.w.head ≡ s.end.seq

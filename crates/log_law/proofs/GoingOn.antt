@@ -58,11 +58,11 @@ record IsMeta (book : ℕ → Segment) (booked : ℕ → ℕ) (m : FragMeta) : T
   number : ℕ
   index : ℕ
   is_booked : booked number ≡ 1
-  is : m ≡ meta_of (book number) index
+  describes : m ≡ meta_of (book number) index
 
 its_meta : (book : ℕ → Segment) (booked : ℕ → ℕ) (ms : List FragMeta) (m : FragMeta) → AllMetas book booked ms → In m ms → IsMeta book booked m
 its_meta book booked [] m all among = absurd among
-its_meta book booked (k ∷ ms) m all (inl e) = record { number = all.0.0; index = all.0.1; is_booked = all.0.2; is = e ∙ all.0.3 }
+its_meta book booked (k ∷ ms) m all (inl e) = record { number = all.0.0; index = all.0.1; is_booked = all.0.2; describes = e ∙ all.0.3 }
 its_meta book booked (k ∷ ms) m all (inr among) = its_meta book booked ms m all.1 among
 
 -- the least horizon is no further than one beyond a filed segment, or is the first
@@ -108,8 +108,8 @@ module _ (k : Below) (g : Setting) (n : Net) (h : View g n) (low : LowIsFiled n)
   in_goes : (lists : List Listing) (m : FragMeta) (group : Group) → IsMeta h.book h.w.booked m → GoesOn (start_in lists m group)
   in_goes lists m group meta =
       by_test GoesOn (is_torn lists m.name group.members) (end_before m) (end_at m)
-      (λ t. subst (λ z. GoesOn (end_before z)) (sym meta.is) (before_goes meta.number meta.index meta.is_booked))
-      (λ t. subst (λ z. GoesOn (end_at z)) (sym meta.is) (at_goes meta.number meta.index meta.is_booked))
+      (λ t. subst (λ z. GoesOn (end_before z)) (sym meta.describes) (before_goes meta.number meta.index meta.is_booked))
+      (λ t. subst (λ z. GoesOn (end_at z)) (sym meta.describes) (at_goes meta.number meta.index meta.is_booked))
 
   -- the one that is picked is listed
   newest_meta : (bound from : ℕ) (lists : List Listing) (m : FragMeta) → AllListed g h.w h.book bound lists → newest (counting from lists) ≡ Some m

@@ -67,7 +67,7 @@ module _ (g : Setting) (w v : State) (book later : ℕ → Segment) (on : Later 
       name = s.name;
       index = s.index;
       known = on.booked s.name s.known;
-      is = s.is ∙ ap (λ b. fragment_of g b s.index) (sym (on.segment s.name s.known));
+      is_piece = s.is_piece ∙ ap (λ b. fragment_of g b s.index) (sym (on.segment s.name s.known));
       sent = subst (λ b. In (record { name = s.name; text = g.number (text_of b) }) v.fragments) (sym (on.segment s.name s.known)) (on.fragments _ s.sent);
     }
     shown_on (FenceSent to inc) s = let a = on.incarnation in omega arith

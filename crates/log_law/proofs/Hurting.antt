@@ -63,7 +63,7 @@ idle w reached = all w reached.run
 pub record Lacked (w u : State) (i : ℕ) : Type 0 where
   pub at : State
   pub before : Steps w at
-  pub after : Steps at u
+  pub later : Steps at u
   pub head : at.head ≡ u.head
   pub line : at.line at.head ≡ u.line u.head
   pub lacks : LacksHead at i
@@ -83,7 +83,7 @@ earned_through k w u reached (More {v = v} run step) clean i span some low hurt 
     clean_v = (k.protocol.past v u reached_v (More Done step)).clean clean
 
     now : LacksHead u i → HurtBefore w u i ⊎ Lacked w u i
-    now l = inr (record { at = u; before = More run step; after = Done; head = refl; line = refl; lacks = l })
+    now l = inr (record { at = u; before = More run step; later = Done; head = refl; line = refl; lacks = l })
 
     before : HurtBefore w v i ⊎ Lacked w v i → HurtBefore v u i → HurtBefore w u i ⊎ Lacked w u i
     before earlier b = ⊎_elim still lacked earlier
@@ -93,7 +93,7 @@ earned_through k w u reached (More {v = v} run step) clean i span some low hurt 
 
         lacked : Lacked w v i → HurtBefore w u i ⊎ Lacked w u i
         lacked a = inr
-            (record { at = a.at; before = a.before; after = More a.after step; head = a.head ∙ sym b.head; line = a.line ∙ sym b.line; lacks = a.lacks })
+            (record { at = a.at; before = a.before; later = More a.later step; head = a.head ∙ sym b.head; line = a.line ∙ sym b.line; lacks = a.lacks })
 
 -- ---- one of the members isn't hurt, or all are
 

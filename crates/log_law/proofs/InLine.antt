@@ -54,7 +54,7 @@ module _ (k : Below) (g : Setting) (none : g.doubts ≡ false) (n : Net) (h : Vi
       law.linked x.number y.number x.filed y.filed (let p = x.seq in let q = y.seq in omega arith) (let p = x.seq in let l = h.low in omega arith) in
       let some : 0 < y.number = (k.protocol.book h.w h.reached).named y.number y.booked in
       ap (λ (z : Segment). z.prior.pass) (b.2 ∙ ap h.book same)
-      ∙ (passes g (h.book x.number).prior.pass ((h.book x.number).name.seq - 1) y.number some (sym (page k g n h x.number x.booked).after ∙ prior)
+      ∙ (passes g (h.book x.number).prior.pass ((h.book x.number).name.seq - 1) y.number some (sym (page k g n h x.number x.booked).follows ∙ prior)
       ∙ sym (ap (λ (z : SegName). z.pass) y.named))
 
   -- a filed name is no further than the head

@@ -33,11 +33,17 @@ use Rattle.log_law.proofs.Views.{Ran, Behind, Flown}
 
 -- a log that took one more input
 pub ran_on : (s : LogState) (i : Input) → Ran s → Ran (transition s i).state
-ran_on s i r =
-    record { log = r.log; inc = r.inc; end = r.end; groups = r.groups; history = i ∷ r.history; is = ap (λ (z : LogState). (transition z i).state) r.is }
+ran_on s i r = record {
+  log = r.log;
+  inc = r.inc;
+  end = r.end;
+  groups = r.groups;
+  history = i ∷ r.history;
+  reaches = ap (λ (z : LogState). (transition z i).state) r.reaches;
+}
 
 pub ran_first : (log : LogId) (inc : ℕ) (end : End) (groups : GroupMapState) → Ran (started log inc end groups)
-ran_first log inc end groups = record { log = log; inc = inc; end = end; groups = groups; history = []; is = refl }
+ran_first log inc end groups = record { log = log; inc = inc; end = end; groups = groups; history = []; reaches = refl }
 
 -- what is told settled is due
 pub record Landed (s : LogState) (i : Input) (end : End) : Type 0 where
@@ -67,10 +73,10 @@ module _ (k : Below) (g : Setting) (w : State) (book : ℕ → Segment) (reached
     ran = ran_on s i behind.ran
 
     in_line : IsInLine next
-    in_line = subst IsInLine (sym ran.is) (k.logs.next ran.log ran.inc ran.end ran.groups ran.history)
+    in_line = subst IsInLine (sym ran.reaches) (k.logs.next ran.log ran.inc ran.end ran.groups ran.history)
 
     rises : EndRisesByOne s (transition s i)
-    rises = subst (λ (z : LogState). EndRisesByOne z (transition z i)) (sym behind.ran.is)
+    rises = subst (λ (z : LogState). EndRisesByOne z (transition z i)) (sym behind.ran.reaches)
         (k.logs.rises behind.ran.log behind.ran.inc behind.ran.end behind.ran.groups behind.ran.history i)
 
     now_reached : Reached t.world
@@ -79,7 +85,7 @@ module _ (k : Below) (g : Setting) (w : State) (book : ℕ → Segment) (reached
     -- what is in flight now
     pub record Aloft (x : ℕ) : Type 0 where
       pub flight : FlightState
-      pub is : next.flight ≡ Some flight
+      pub flying : next.flight ≡ Some flight
       pub segment : flight.segment ≡ t.later x
       pub in_line : IsNext next flight
       pub written : IsWritten flight.segment
@@ -91,7 +97,7 @@ module _ (k : Below) (g : Setting) (w : State) (book : ℕ → Segment) (reached
             → FlightShown g t.later o next.inc next.end.seq (t.world.booked t.world.flight) t.world.flight t.world.noted → IfSome o (IsNext next)
             → IfSome o (λ f. IsWritten f.segment) → Aloft x
         by None is shown line text = absurd (let a = (k.protocol.book t.world now_reached).named x booked in let b = shown in omega arith)
-        by (Some f) is shown line text = record { flight = f; is = is; segment = shown.segment ∙ ap t.later (sym e); in_line = line; written = text }
+        by (Some f) is shown line text = record { flight = f; flying = is; segment = shown.segment ∙ ap t.later (sym e); in_line = line; written = text }
 
     -- what is booked was so before, or is in flight
     old_or_new : (x : ℕ) → t.world.booked x ≡ 1 → (w.booked x ≡ 1) ⊎ Aloft x
@@ -161,7 +167,7 @@ module _ (k : Below) (g : Setting) (w : State) (book : ℕ → Segment) (reached
         let r = page y to in
         let some : 0 < (book x).prior.pass.inc = subst (λ (n : SegName). 0 < n.pass.inc) named r.boot in
         let is : w.prior_of x ≡ y =
-        q.after ∙ (point_some g ((book x).name.seq - 1) (book x).prior.pass some
+        q.follows ∙ (point_some g ((book x).name.seq - 1) (book x).prior.pass some
         ∙ (ap (λ (n : SegName). g.code n.seq n.pass.inc n.pass.att) (sym named ∙ r.named) ∙ coded g y)) in
         let positive = (k.protocol.book t.world now_reached).named y to in
         subst (λ z. w.booked z ≡ 1) is ((k.protocol.book w reached).prior_booked x booked (omega arith))
@@ -215,7 +221,7 @@ module _ (k : Below) (g : Setting) (w : State) (book : ℕ → Segment) (reached
         all : (x : ℕ) → t.world.booked x ≡ 1 → In (t.later x) (flown_with next.flight flown)
         all x booked =
             ⊎_elim (λ was. with_more next.flight (t.later x) (subst (λ b. In b flown) (sym (t.frame.segment x was)) (f.all x was)))
-            (λ (a : Aloft x). first_one next.flight a.flight (t.later x) a.is a.segment) (old_or_new x booked)
+            (λ (a : Aloft x). first_one next.flight a.flight (t.later x) a.flying a.segment) (old_or_new x booked)
 
         old : (b : Segment) → In b flown → (x : ℕ) × (t.world.booked x ≡ 1) × (b ≡ t.later x)
         old b is = let z = f.booked b is in (z.0, t.frame.booked z.0 z.1, z.2 ∙ sym (t.frame.segment z.0 z.1))

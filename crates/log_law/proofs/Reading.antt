@@ -83,7 +83,7 @@ module _ (g : Setting) (n : Net) (h : View g n) (x : ℕ) (booked : h.w.booked x
   all_told (a ∷ rest) all = (by a.told all.0, all_told rest all.1)
     where
       by : (t : Told) → ToldCame n s.name t → ToldPiece g h.book h.w.booked end t
-      by (Held p) came = let z : FragmentSeen g h.w h.book p = h.sent (FragmentSent p) came.0 in ((z.name, z.index, z.known, z.is), came.1 ∙ sym at_end)
+      by (Held p) came = let z : FragmentSeen g h.w h.book p = h.sent (FragmentSent p) came.0 in ((z.name, z.index, z.known, z.is_piece), came.1 ∙ sym at_end)
       by (Missing generation) came = tt
 
   grouped : IsGrouped g h.book h.w.booked end

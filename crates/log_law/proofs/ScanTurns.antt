@@ -79,7 +79,7 @@ scan_shown g w book inc low (Lost name ∷ os) hellos all i grows = scan_shown g
 
 pub record AllRead (g : Setting) (w : State) (book : ℕ → Segment) (o : OpeningState) (t : Told) : Type 0 where
   pub map : GroupMapState
-  pub is : o.groups ≡ Some map
+  pub taken : o.groups ≡ Some map
   pub low : w.read_low ≡ o.low
   pub read : ReadShown g w book t.end t.segments map
 
@@ -89,7 +89,7 @@ told_read g w book o [] all = tt
 told_read g w book o (Hello ask ∷ os) all = told_read g w book o os all.1
 told_read g w book o (Fence server ∷ os) all = told_read g w book o os all.1
 told_read g w book o (Fetch server name ask ∷ os) all = told_read g w book o os all.1
-told_read g w book o (Chain segments end prior ∷ os) all = record { map = all.0.0; is = all.0.1; low = all.0.2; read = all.0.3 }
+told_read g w book o (Chain segments end prior ∷ os) all = record { map = all.0.0; taken = all.0.1; low = all.0.2; read = all.0.3 }
 told_read g w book o (Lost name ∷ os) all = told_read g w book o os all.1
 
 -- an opening that is over stays so, and says nothing
@@ -127,7 +127,7 @@ module _ (k : Below) (g : Setting) (n : Net) (h : View g n) (s : ScanState) (i :
   brings (scan_in.Fenced server generation held) c =
       subst (λ inc. FencedSeen g h.w h.book server inc generation held) (sym h.inc) (h.sent (FencedSent server n.inc generation held) c)
   brings (scan_in.Got ask server generation fragment) c =
-      λ own. (let seen : FragmentSeen g h.w h.book fragment = h.sent (FragmentSent fragment) (c own) in (seen.name, seen.index, seen.known, seen.is))
+      λ own. (let seen : FragmentSeen g h.w h.book fragment = h.sent (FragmentSent fragment) (c own) in (seen.name, seen.index, seen.known, seen.is_piece))
   brings (scan_in.Missing ask server generation) c = tt
   brings (scan_in.Maps m) c = h.sent (MapSent m) c
   brings scan_in.Tick c = tt
@@ -239,13 +239,13 @@ module _ (k : Below) (g : Setting) (n : Net) (h : View g n) (s : ScanState) (i :
         (k.machines.opens g t.world t.later told.end told.segments r.map on.fixed on.reached t.paged r.read can.0)
 
     first_text : WritesText first
-    first_text = subst (λ groups. IfSome groups (λ m. WritesText (first_write g n.inc told.end m))) r.is can.1
+    first_text = subst (λ groups. IfSome groups (λ m. WritesText (first_write g n.inc told.end m))) r.taken can.1
 
     behind : Behind g t.world t.later started
     behind = record { ran = ran_first g.log n.inc told.end r.map; grouped = r.read.grouped }
 
     text : WritesText first
-    text = subst (λ (o : Option GroupMapState). IfSome o (λ m. WritesText (first_write g n.inc told.end m))) r.is can.1
+    text = subst (λ (o : Option GroupMapState). IfSome o (λ m. WritesText (first_write g n.inc told.end m))) r.taken can.1
 
     before : t.world.flight ≡ 0
     before = let p = r.read.phase in nothing (k.protocol.owner t.world on.reached).flight_phase p
@@ -302,4 +302,4 @@ module _ (k : Below) (g : Setting) (n : Net) (h : View g n) (s : ScanState) (i :
           → Next g n h (after_told g n s d o d.state.opening.groups)
       by None at read starts_so =
           record { view = on; steps = t.steps; by = inr (by_owner k g n h P [] t); fallen = λ down. contrary down; steady = λ serving. on_steady }
-      by (Some told) at read starts_so = subst (λ groups. Next g n h (after_told g n s d (Some told) groups)) (sym read.is) (starts told read at starts_so)
+      by (Some told) at read starts_so = subst (λ groups. Next g n h (after_told g n s d (Some told) groups)) (sym read.taken) (starts told read at starts_so)

@@ -66,7 +66,7 @@ module _ (k : Below) (g : Setting) (n : Net) (h : View g n) where
           name = t.0;
           index = t.1;
           known = t.2;
-          is = t.4;
+          is_piece = t.4;
           sent = subst (λ z. In (record { name = t.0; text = z }) u.fragments)
               (ap (λ z. z t.0) texts ∙ (h.paged t.0 (ap (λ z. z t.0) (sym booked) ∙ t.2)).spelled) t.5;
         },

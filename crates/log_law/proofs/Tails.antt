@@ -200,7 +200,7 @@ module _ (k : Below) (g : Setting) (n o : Net) (none : g.doubts ≡ false) (m : 
           (ap (λ z. z x) a.view.fixed.seq_of ∙ (ap (λ (z : SegName). z.seq) (sym number) ∙ there.2))
 
       same : kept.flight ≡ f
-      same = some_one kept.flight f (sym kept.is ∙ is)
+      same = some_one kept.flight f (sym kept.flying ∙ is)
         where
           some_one : (p q : FlightState) → Some p ≡ Some q → p ≡ q
           some_one p q e = cc

@@ -33,7 +33,7 @@ pub record FragmentSeen (g : Setting) (w : State) (book : ℕ → Segment) (f : 
   pub name : ℕ
   pub index : ℕ
   pub known : w.booked name ≡ 1
-  pub is : f ≡ fragment_of g (book name) index
+  pub is_piece : f ≡ fragment_of g (book name) index
   pub sent : In (record { name = name; text = g.number (text_of (book name)) }) w.fragments
 
 -- a question of the owner's boot, by its number
@@ -70,7 +70,7 @@ pub record Ran (s : LogState) : Type 0 where
   pub end : End
   pub groups : GroupMapState
   pub history : List log_ins.In
-  pub is : s ≡ state_after (started log inc end groups) history
+  pub reaches : s ≡ state_after (started log inc end groups) history
 
 -- a log with its end: the booked segment that the end names is over the group that it names
 pub record Behind (g : Setting) (w : State) (book : ℕ → Segment) (s : LogState) : Type 0 where

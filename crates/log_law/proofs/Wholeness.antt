@@ -106,7 +106,7 @@ module _ (k : Below) (g : Setting) (n : Net) (h : View g n) where
     held = held;
     stored = λ v generation f is.
         (let s : StoreSeen g h.w.booked h.book h.w.stores v f generation = h.sent (StoreSent v f generation) is in piece f s.name s.index s.known s.fragment);
-    told = λ f is. (let s : FragmentSeen g h.w h.book f = h.sent (FragmentSent f) is in piece f s.name s.index s.known s.is);
+    told = λ f is. (let s : FragmentSeen g h.w h.book f = h.sent (FragmentSent f) is in piece f s.name s.index s.known s.is_piece);
   }
     where
       one : (s t : Segment) → (x : ℕ) × (h.w.booked x ≡ 1) × (s ≡ h.book x) → (y : ℕ) × (h.w.booked y ≡ 1) × (t ≡ h.book y) → s.name ≡ t.name → s ≡ t

@@ -46,7 +46,7 @@ what_flies_is_next k g n m s is f flies = by s.flight flies in_line
     ran = (subst (OwnerShown (doubtful g) h.w h.book h.hellos) is h.owner).1.ran
 
     in_line : IsInLine s
-    in_line = subst IsInLine (sym ran.is) (k.logs.next ran.log ran.inc ran.end ran.groups ran.history)
+    in_line = subst IsInLine (sym ran.reaches) (k.logs.next ran.log ran.inc ran.end ran.groups ran.history)
 
     by : (o : Option FlightState) → o ≡ Some f → IfSome o (IsNext s) → IsNext s f
     by None e line = absurd cc
@@ -60,7 +60,7 @@ module _ (k : Below) (g : Setting) (n : Net) (h : View g n) (chain : List Segmen
   shown = subst (OwnerShown g h.w h.book h.hellos) is h.owner
 
   next : IsNext s f
-  next = by s.flight flies (subst IsInLine (sym shown.1.ran.is)
+  next = by s.flight flies (subst IsInLine (sym shown.1.ran.reaches)
       (k.logs.next shown.1.ran.log shown.1.ran.inc shown.1.ran.end shown.1.ran.groups shown.1.ran.history))
     where
       by : (o : Option FlightState) → o ≡ Some f → IfSome o (IsNext s) → IsNext s f
@@ -82,7 +82,7 @@ module _ (k : Below) (g : Setting) (n : Net) (h : View g n) (chain : List Segmen
   follows highest y (t ∷ ts) booked c =
       let page = h.paged c.0 c.1 in
       let link : (h.book c.0).prior.pass ≡ (h.book y).name.pass =
-      passes g (h.book c.0).prior.pass ((h.book c.0).name.seq - 1) y (some y booked) (sym page.after ∙ c.3) ∙ sym (pass_is y booked) in (
+      passes g (h.book c.0).prior.pass ((h.book c.0).name.seq - 1) y (some y booked) (sym page.follows ∙ c.3) ∙ sym (pass_is y booked) in (
         subst (λ (z : Segment). z.prior.pass ≡ (h.book y).name.pass) (sym c.2) link,
         subst (λ (z : Segment). FollowsOn z (ts ++ f.segment ∷ [])) (sym c.2) (follows highest c.0 ts c.1 c.5),
       )

@@ -126,7 +126,14 @@ s13 : Steps w0 w13
 s13 = More s12 (Fences 0 2 (record { begun = le22 }))
 
 gathered : Gathered w13 list_of 1
-gathered = record { sent = λ v k. inl refl; from = λ v k. at_zero (λ z. 0 ≡ z) v k refl; boot = λ v k. refl; after = λ v k. le11; begun = le11; known = le11 }
+gathered = record {
+  sent = λ v k. inl refl;
+  from = λ v k. at_zero (λ z. 0 ≡ z) v k refl;
+  boot = λ v k. refl;
+  no_older = λ v k. le11;
+  begun = le11;
+  known = le11;
+}
 
 picked : Picked w13 list_of 1 3
 picked = record {

@@ -135,7 +135,7 @@ s12 : Steps w0 w12
 s12 = More s11 (Fences 1 2 (record { begun = le22 }))
 
 gathered : Gathered w12 list_of 1
-gathered = record { sent = λ v k. sent v k; from = λ v k. refl; boot = λ v k. refl; after = λ v k. le11; begun = le11; known = le11 }
+gathered = record { sent = λ v k. sent v k; from = λ v k. refl; boot = λ v k. refl; no_older = λ v k. le11; begun = le11; known = le11 }
   where
     sent : (v : ℕ) → v < 2 → In (list_of v) w12.fenceds
     sent zero k = inr (inl refl)

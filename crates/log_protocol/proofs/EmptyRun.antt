@@ -47,7 +47,14 @@ s3 : Steps w0 w3
 s3 = More s2 (Fences 0 2 (record { begun = le22 }))
 
 gathered : Gathered w3 list_of 1
-gathered = record { sent = λ v k. inl refl; from = λ v k. at_zero (λ z. 0 ≡ z) v k refl; boot = λ v k. refl; after = λ v k. le11; begun = le11; known = le11 }
+gathered = record {
+  sent = λ v k. inl refl;
+  from = λ v k. at_zero (λ z. 0 ≡ z) v k refl;
+  boot = λ v k. refl;
+  no_older = λ v k. le11;
+  begun = le11;
+  known = le11;
+}
 
 abbrev w4 : State
 w4 = picks_none w3 1

@@ -40,7 +40,7 @@ head_seen w list_of low gathering gathered shelf line spans sure above =
     let known : v < w.servers = shelf.texts.server_known x j (shelf.filed.filed_booked x (line.line_filed w.head pos (omega arith))) member in
     let sent = gathered.sent v known in
     let opening = shelf.boots.not_yet_served (omega arith) (omega arith) in
-    let lists_low = gathered.after v known in
+    let lists_low = gathered.no_older v known in
     let lacks = spans.unlisted_hurt (list_of v) j sent (gathered.boot v known) opening pos (omega arith) member (sym (gathered.from v known)) in
     record { server = v; known = known; listed = grind (arith, lacks, unhurt, shelf.lists.list_flag (list_of v) x sent) }
 
@@ -99,7 +99,7 @@ head_kept w list_of low j gathering gathered shelf line spans above member lacks
     let pos : 0 < w.head = (let a = (late w list_of low gathered shelf).some in omega arith) in
     let known : v < w.servers = shelf.texts.server_known x j (shelf.filed.filed_booked x (line.line_filed w.head pos (omega arith))) member in
     spans.unlisted_later (list_of v) j (gathered.sent v known) (gathered.boot v known) (shelf.boots.not_yet_served (omega arith) (omega arith)) pos
-    (let a = gathered.after v known in omega arith) member (sym (gathered.from v known)) lacks
+    (let a = gathered.no_older v known in omega arith) member (sym (gathered.from v known)) lacks
 
 -- so what is discarded isn't the head
 pub not_head : (w : State) (list_of : ℕ → FencedPacket) (low x j : ℕ) → CanPickPrior w list_of low x j → ShelfInvariant w → Line w → Spans w → low ≤ w.head

@@ -28,7 +28,7 @@ pub record Gathered (w : State) (list_of : ℕ → FencedPacket) (low : ℕ) : T
   pub from : (v : ℕ) → v < w.servers → (list_of v).from ≡ v
   pub boot : (v : ℕ) → v < w.servers → (list_of v).incarnation ≡ w.incarnation
   -- the Hello of the Welcome that counts goes out after the last Fenced came, so its horizon is no older than any list
-  pub after : (v : ℕ) → v < w.servers → (list_of v).low ≤ low
+  pub no_older : (v : ℕ) → v < w.servers → (list_of v).low ≤ low
   -- and so no older than the Begin
   pub begun : w.begin_low ≤ low
   pub known : low ≤ w.low

@@ -70,7 +70,7 @@ module _ (g : Setting) (w : State) (book : ℕ → Segment) (x : ℕ) (s : Segme
         at_generation =
             λ j below. known (server_of group.members j)
             ∙ (sym (is.present j (subst (λ (z : Stripe). j < length z.members) stripe below)) ∙ ap (λ (z : Stripe). generation_of z.members j) (sym stripe));
-        after = after;
+        follows = after;
         tells = tells;
       }
       by false e h = paged y h

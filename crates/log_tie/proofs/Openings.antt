@@ -84,7 +84,7 @@ module _ (g : Setting) where
     h.0,
     (by h.0 h.1).0,
     h.2 ∙ sym (by h.0 h.1).1,
-    (more h.0 (by h.0 h.1).0).after ∙ (ap (λ (z : Segment). point g (z.name.seq - 1) z.prior.pass) (by h.0 h.1).1 ∙ (sym (pages h.0 h.1).after ∙ h.3)),
+    (more h.0 (by h.0 h.1).0).follows ∙ (ap (λ (z : Segment). point g (z.name.seq - 1) z.prior.pass) (by h.0 h.1).1 ∙ (sym (pages h.0 h.1).follows ∙ h.3)),
     h.4,
     chained_on w v book later highest h.0 ts by pages more base h.5,
   )

@@ -121,7 +121,7 @@ module _ (g : Setting) (w : State) (book : ℕ → Segment) (fixed : Fixed g w) 
     sent = λ v b. (told v).sent;
     from = λ v b. (told v).from (subst (λ n. v < n) fixed.servers b);
     boot = λ v b. (told v).boot;
-    after = λ v b. (let a = (told v).low in omega arith);
+    no_older = λ v b. (let a = (told v).low in omega arith);
     begun = omega arith;
     known = known;
   }
@@ -176,7 +176,7 @@ module _ (g : Setting) (w : State) (book : ℕ → Segment) (fixed : Fixed g w) 
     pub number : ℕ
     pub index : ℕ
     pub booked : w.booked number ≡ 1
-    pub is : b ≡ meta_of (book number) index
+    pub describes : b ≡ meta_of (book number) index
     pub named : b.name ≡ name_of g number
     pub picked : Picked w list_of low number
 
@@ -212,7 +212,7 @@ module _ (g : Setting) (w : State) (book : ℕ → Segment) (fixed : Fixed g w) 
           number = y.0;
           index = y.1;
           booked = y.2;
-          is = y.3;
+          describes = y.3;
           named = named;
           picked = record {
             listed = (
@@ -234,7 +234,7 @@ module _ (g : Setting) (w : State) (book : ℕ → Segment) (fixed : Fixed g w) 
   -- the group of the picked one, as the map has it
   module _ (b : FragMeta) (k : Best b) (group : Group) (of : group_of m b.group ≡ Some group) where
     its_members : group.members ≡ members_of g (book k.number)
-    its_members = ap (λ (z : Stripe). z.members) (sym (whole.named b.group group of)) ∙ ap (λ (z : FragMeta). (g.stripe z.group).members) k.is
+    its_members = ap (λ (z : Stripe). z.members) (sym (whole.named b.group group of)) ∙ ap (λ (z : FragMeta). (g.stripe z.group).members) k.describes
 
     its_count : w.member_count k.number ≡ length group.members
     its_count = (paged k.number k.booked).counted ∙ ap length (sym its_members)

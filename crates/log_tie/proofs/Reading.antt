@@ -210,7 +210,7 @@ module _ (g : Setting) (v : State) (book : ℕ → Segment) (hellos : List Asked
     every = every;
     past = past;
     begun = begun;
-    after = after;
+    no_older = after;
   })
     where
       after : (a : Asked) → In a (question (o.ask + 1) ∷ hellos) → a.inc ≡ v.incarnation → a.ask ≡ o.ask + 1 → bound ≤ a.low
@@ -336,7 +336,7 @@ module _ (g : Setting) (v : State) (book : ℕ → Segment) (hellos : List Asked
         at_y = point_some g b.next.seq b.next.pass some_inc ∙ (ap (λ (n : SegName). g.code n.seq n.pass.inc n.pass.att) (sym named ∙ its_name) ∙ coded g y)
 
         after : v.prior_of y ≡ point g (s.name.seq - 1) s.prior.pass
-        after = page.after ∙ ap (λ (z : Segment). point g (z.name.seq - 1) z.prior.pass) (sym is)
+        after = page.follows ∙ ap (λ (z : Segment). point g (z.name.seq - 1) z.prior.pass) (sym is)
 
         there : g.seq_of y + length (reverse b.chain) ≡ b.start.seq
         there = let a = h.seq in let c = seq_there in omega arith

@@ -165,8 +165,14 @@ module _ (g : Setting) (w : State) (book : ℕ → Segment) (hellos : List Asked
     stage_there : (o : Opening) (stage : Stage) → StageShown g w book hellos o stage → StageShown g learned book hellos (record o { groups = Some m }) stage
     stage_there o Hails h = (h.0, phantom_there h.1)
     stage_there o (Gathers lists) h = gathering_there o w.low lists h
-    stage_there o (Asks lists) h =
-        record { bound = h.bound; gathering = gathering_there o h.bound lists h.gathering; every = h.every; past = h.past; begun = h.begun; after = h.after }
+    stage_there o (Asks lists) h = record {
+      bound = h.bound;
+      gathering = gathering_there o h.bound lists h.gathering;
+      every = h.every;
+      past = h.past;
+      begun = h.begun;
+      no_older = h.no_older;
+    }
     stage_there o (Reads b r) h = (reading_there o b h.0, h.1, h.2)
     stage_there o Over h = h
 
@@ -320,7 +326,7 @@ module _ (g : Setting) (w : State) (book : ℕ → Segment) (hellos : List Asked
           page = paged one.number one.booked
 
           some_inc : 0 < b.name.pass.inc
-          some_inc = subst (λ (z : FragMeta). 0 < z.name.pass.inc) (sym one.is) page.boot
+          some_inc = subst (λ (z : FragMeta). 0 < z.name.pass.inc) (sym one.describes) page.boot
 
           seq : w.seq_of one.number ≡ b.name.seq
           seq = ap (λ t. t one.number) fixed.seq_of ∙ sym (ap (λ (z : SegName). z.seq) one.named)
@@ -330,12 +336,12 @@ module _ (g : Setting) (w : State) (book : ℕ → Segment) (hellos : List Asked
               let same : y ≡ one.number =
               one_number g y one.number
               (sym (paged y is).named ∙ (named ∙ ap (λ (n : SegName). name_at g.log (record { seq = n.seq; pass = n.pass; group = b.group })) one.named)) in
-              ap (λ z. (book z).group) same ∙ ap (λ (z : FragMeta). z.group) (sym one.is)
+              ap (λ z. (book z).group) same ∙ ap (λ (z : FragMeta). z.group) (sym one.describes)
 
           prior_grouped : IsGrouped g book w.booked (end_before b)
           prior_grouped y is named =
-              spelled.grouped one.number y one.booked is (named ∙ ap (λ (z : FragMeta). name_at g.log (end_before z)) one.is)
-              ∙ ap (λ (z : FragMeta). z.prior.group) (sym one.is)
+              spelled.grouped one.number y one.booked is (named ∙ ap (λ (z : FragMeta). name_at g.log (end_before z)) one.describes)
+              ∙ ap (λ (z : FragMeta). z.prior.group) (sym one.describes)
 
           kept_goes : is_torn lists b.name group.members ≡ false → To (follows risen (read_from (end_at b)))
           kept_goes none = from_start (picks_kept learned (max o.low least) one.number) (end_at b)
@@ -357,7 +363,7 @@ module _ (g : Setting) (w : State) (book : ℕ → Segment) (hellos : List Asked
               (max o.low least) lists gathering.kept gathering.phantom k.every k.begun later risen_known b one group of gathering.phase l)))
               (record { others = refl; booked = λ x is. is; segment = λ x is. refl; stores = λ p is. is; filed = λ x is. is; calm = λ none c. c })
               (λ x is. is) paged refl refl (record { map = m; taken = refl; whole = whole; known = λ u. refl })
-              (page.after ∙ ap (λ (z : FragMeta). point g (z.name.seq - 1) z.prior.pass) (sym one.is))
+              (page.follows ∙ ap (λ (z : FragMeta). point g (z.name.seq - 1) z.prior.pass) (sym one.describes))
               (let a = (always w reached).shelf.priors.seq_some one.number one.booked in let q = seq in omega arith) refl refl refl refl prior_grouped
 
           start_goes : To (follows risen (read_from (start_in lists b group)))
@@ -391,7 +397,7 @@ module _ (g : Setting) (w : State) (book : ℕ → Segment) (hellos : List Asked
     welcomed_goes o (Asks lists) ask news h a same =
         let least : least_horizon o.log.0 news ≡ least_horizon g.log.0 news = ap (λ (l : LogId). least_horizon l.0 news) h.log in
         picks_goes o (least_horizon o.log.0 news) (framed_of o (Asks lists) h) (let k = a.known in omega arith) lists h.stage
-        (let k = h.stage.after a.question a.sent a.own (a.answers ∙ same) in let l = a.later in omega arith)
+        (let k = h.stage.no_older a.question a.sent a.own (a.answers ∙ same) in let l = a.later in omega arith)
     welcomed_goes o (Reads b r) ask news h a same =
         let least : least_horizon o.log.0 news ≡ least_horizon g.log.0 news = ap (λ (l : LogId). least_horizon l.0 news) h.log in
         confirms_goes o (least_horizon o.log.0 news) (framed_of o (Reads b r) h) (let k = a.known in omega arith) b h.stage.0 r h.stage.2
@@ -517,13 +523,13 @@ module _ (g : Setting) (w : State) (book : ℕ → Segment) (hellos : List Asked
         every = h.stage.every;
         past = h.stage.past;
         begun = h.stage.begun;
-        after = after;
+        no_older = after;
       }))
     where
       after : (a : Asked) → In a (record { inc = w.incarnation; ask = o.ask; low = w.low } ∷ hellos) → a.inc ≡ w.incarnation → a.ask ≡ o.ask
           → h.stage.bound ≤ a.low
       after a (inl e) boot same = let k = ap (λ (z : Asked). z.low) e in let p = h.stage.past in omega arith
-      after a (inr is) boot same = h.stage.after a is boot same
+      after a (inr is) boot same = h.stage.no_older a is boot same
   tick_goes o (Reads b None) h =
       goes_still (goes o (Reads b None) (Hello o.ask ∷ [])) (sees_again g w book hellos o (Reads b None) (framed_of o (Reads b None) h) h.stage)
   tick_goes o (Reads b (Some r)) h = by_test (λ outs. To (goes o (Reads b (Some r)) outs)) (is_asking r.stage) (fetches r) (Hello o.ask ∷ [])

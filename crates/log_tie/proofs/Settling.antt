@@ -173,7 +173,7 @@ module _ (g : Setting) (w : State) (book : ℕ → Segment) (fixed : Fixed g w) 
             pass = record { inc = f.segment.name.pass.inc; att = f.segment.name.pass.att + 1 };
           }) named ∙ sym (name_coded g f.segment.name.seq f.segment.name.pass.inc (f.segment.name.pass.att + 1)))
           (let a = writes.some in let e = ap (λ (z : Segment). z.name.pass.inc) h.segment ∙ h.own in omega arith) refl
-          (page.after ∙ ap (λ (z : Segment). point g (z.name.seq - 1) z.prior.pass) (sym h.segment)) content is writes.known paged
+          (page.follows ∙ ap (λ (z : Segment). point g (z.name.seq - 1) z.prior.pass) (sym h.segment)) content is writes.known paged
 
       by : ByOwner g w v book later
       by = record {

@@ -95,7 +95,7 @@ module _ (g : Setting) (w u : State) (book : ℕ → Segment) (hellos : List Ask
     every = k.every;
     past = (let a = k.past in let b = by.low in omega arith);
     begun = same (λ o. o.begin_low ≤ k.bound) k.begun;
-    after = same (λ z. (a : Asked) → In a hellos → a.inc ≡ z.incarnation → a.ask ≡ o.ask → k.bound ≤ a.low) k.after;
+    no_older = same (λ z. (a : Asked) → In a hellos → a.inc ≡ z.incarnation → a.ask ≡ o.ask → k.bound ≤ a.low) k.no_older;
   }
 
   stage_stays : (o : Opening) (stage : Stage) → StageShown g w book hellos o stage → StageShown g u book hellos o stage

@@ -122,7 +122,7 @@ pub record Asking (g : Setting) (w : State) (book : ℕ → Segment) (hellos : L
   pub every : (v : ℕ) → 0 < v → v < suc g.servers → has_list v lists ≡ true
   pub past : bound ≤ w.low
   pub begun : w.begin_low ≤ bound
-  pub after : (a : Asked) → In a hellos → a.inc ≡ w.incarnation → a.ask ≡ o.ask → bound ≤ a.low
+  pub no_older : (a : Asked) → In a hellos → a.inc ≡ w.incarnation → a.ask ≡ o.ask → bound ≤ a.low
 
 -- the reading, where there is one, looks for the segment that an end names, over the group that the end names
 abbrev pub LooksFor : Setting → (ℕ → Segment) → (ℕ → ℕ) → End → Option ReadingState → Type 0

@@ -27,7 +27,7 @@ pub record Page (g : Setting) (x : ℕ) (s : Segment) (text count : ℕ) (server
   pub counted : count ≡ length (members_of g s)
   pub at_server : (j : ℕ) → server j ≡ server_of (members_of g s) j
   pub at_generation : (j : ℕ) → j < length (members_of g s) → generation j ≡ generation_of (members_of g s) j
-  pub after : prior ≡ point g (s.name.seq - 1) s.prior.pass
+  pub follows : prior ≡ point g (s.name.seq - 1) s.prior.pass
   pub tells : content ≡ g.content s.items
 
 -- the book: of each booked name the segment

@@ -35,7 +35,7 @@ Says parity Over ended = Unit {0}
 record Holds (target : Target) (group : Group) (c : Course) : Type 0 where
   told : List Answer
   stage : Stage
-  is : c.reading ≡ record { target = target; ask = c.heard.question; kept = first_of c.ended; round = round_of group told; stage = stage }
+  stands : c.reading ≡ record { target = target; ask = c.heard.question; kept = first_of c.ended; round = round_of group told; stage = stage }
   same : stage ≡ Asking → told ≡ c.heard.answers
   says : Says group.parity stage c.ended
 
@@ -83,7 +83,7 @@ module _ (target : Target) (group : Group) where
 
   waits : (h : Heard) (answers : List Answer) (ended : List (List (ℕ × ℕ))) (told : List Answer) (stage : Stage) → (stage ≡ Asking → told ≡ answers)
       → Says group.parity stage ended → After (record { state = standing h ended told stage; next = Wait }) (record h { answers = answers }) ended
-  waits h answers ended told stage same says = record { told = told; stage = stage; is = refl; same = same; says = says }
+  waits h answers ended told stage same says = record { told = told; stage = stage; stands = refl; same = same; says = says }
 
   ends_holds : (h : Heard) (ended : List (List (ℕ × ℕ))) (pairs : List (ℕ × ℕ)) → missing_of group h ≡ pairs
       → After (ends (standing h ended h.answers Asking) pairs) h ended
@@ -92,14 +92,14 @@ module _ (target : Target) (group : Group) where
       (record {
         told = h.answers;
         stage = if are_gone group.parity (first_of ended) (missing_of group h) then Doubted else Between;
-        is = refl;
+        stands = refl;
         same = λ e. refl;
         says = chosen group.parity ended (missing_of group h);
       })
 
   read_holds : (h : Heard) (ended : List (List (ℕ × ℕ))) (o : Option Segment) → missing_of group h ≡ []
       → After (read_as (standing h ended h.answers Asking) o) h ended
-  read_holds h ended (Some s) none = record { told = h.answers; stage = Over; is = refl; same = λ e. refl; says = tt }
+  read_holds h ended (Some s) none = record { told = h.answers; stage = Over; stands = refl; same = λ e. refl; says = tt }
   read_holds h ended None none = ends_holds h ended [] none
 
   judged_holds : (h : Heard) (ended : List (List (ℕ × ℕ))) (groups : GroupMapState)
@@ -165,19 +165,19 @@ module _ (target : Target) (group : Group) where
       → Says group.parity stage ended
       → (let s = on_confirmed (standing h ended told stage) ask in After s (at_question ask s.next h) ended)
   unfolding on_confirmed
-  alike_holds h ended told ask Asking same says = record { told = told; stage = Asking; is = refl; same = same; says = says }
-  alike_holds h ended told ask Between same says = record { told = []; stage = Asking; is = refl; same = λ e. refl; says = tt }
-  alike_holds h ended told ask Doubted same says = record { told = told; stage = Over; is = refl; same = λ e. absurd cc; says = tt }
-  alike_holds h ended told ask Over same says = record { told = told; stage = Over; is = refl; same = same; says = says }
+  alike_holds h ended told ask Asking same says = record { told = told; stage = Asking; stands = refl; same = same; says = says }
+  alike_holds h ended told ask Between same says = record { told = []; stage = Asking; stands = refl; same = λ e. refl; says = tt }
+  alike_holds h ended told ask Doubted same says = record { told = told; stage = Over; stands = refl; same = λ e. absurd cc; says = tt }
+  alike_holds h ended told ask Over same says = record { told = told; stage = Over; stands = refl; same = same; says = says }
 
   -- ---- any course
 
   event_holds : (c : Course) (e : Event) → Holds target group c → Holds target group (after_event target group e c)
   event_holds c (Answered groups ask server told) holds =
-      subst (λ (r : ReadingState). After (on_answer r groups ask server told) (heard c.heard ask server told) c.ended) (sym holds.is)
+      subst (λ (r : ReadingState). After (on_answer r groups ask server told) (heard c.heard ask server told) c.ended) (sym holds.stands)
       (answer_holds c.heard c.ended holds.told groups ask server told holds.stage holds.same holds.says)
   event_holds c (Alike ask) holds =
-      subst (λ (r : ReadingState). After (on_confirmed r ask) (at_question ask (on_confirmed r ask).next c.heard) c.ended) (sym holds.is)
+      subst (λ (r : ReadingState). After (on_confirmed r ask) (at_question ask (on_confirmed r ask).next c.heard) c.ended) (sym holds.stands)
       (alike_holds c.heard c.ended holds.told ask holds.stage holds.same holds.says)
 
   course_holds : (c : Course) (events : List Event) → Holds target group c → Holds target group (course target group c events)
@@ -196,7 +196,7 @@ pub lost_exactly : IsLostExactly
 unfolding first_of
 lost_exactly target group ask next events =
     let start : Course = record { reading = begun target group ask; heard = record { question = ask; answers = [] }; ended = [] } in
-    let holds = course_holds target group start events (record { told = []; stage = Asking; is = refl; same = λ e. refl; says = tt }) in
+    let holds = course_holds target group start events (record { told = []; stage = Asking; stands = refl; same = λ e. refl; says = tt }) in
     let c = course target group start events in
-    subst (λ (r : ReadingState). Decides r.stage (on_confirmed r next).next (MissedTwice group.parity c.ended)) (sym holds.is)
+    subst (λ (r : ReadingState). Decides r.stage (on_confirmed r next).next (MissedTwice group.parity c.ended)) (sym holds.stands)
     (decides target group c.heard c.ended holds.told next holds.stage holds.says)

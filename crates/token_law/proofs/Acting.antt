@@ -49,7 +49,7 @@ record IsGreatest (c n : ℕ) (versions : List Version) : Type 0 where
   there : slice_get versions place ≡ Some version
   below : place < length versions
   mine : version.writer ≡ c
-  is : greatest_by c n versions ≡ n + place
+  greatest : greatest_by c n versions ≡ n + place
 
 -- the first is, or one of the rest
 greatest_of : (c n : ℕ) (v : Version) (vs : List Version) → (0 < greatest_by c (n + 1) vs → IsGreatest c (n + 1) vs) → 0 < greatest_by c n (v ∷ vs)
@@ -75,9 +75,11 @@ greatest_of c n v vs later some = go (nat_lt 0 (greatest_by c (n + 1) vs)) refl
           there = g.there;
           below = let b = g.below in omega arith;
           mine = g.mine;
-          is = rest (greatest_by c (n + 1) vs) g.place (v.writer == c) g.is;
+          greatest = rest (greatest_by c (n + 1) vs) g.place (v.writer == c) g.greatest;
         }
-    go false h = let f = first (greatest_by c (n + 1) vs) h some in record { place = 0; version = v; there = refl; below = omega arith; mine = f.0; is = f.1 }
+    go false h =
+        let f = first (greatest_by c (n + 1) vs) h some in
+        record { place = 0; version = v; there = refl; below = omega arith; mine = f.0; greatest = f.1 }
 
 greatest_is : (c n : ℕ) (versions : List Version) → 0 < greatest_by c n versions → IsGreatest c n versions
 greatest_is c n [] some = absurd (omega arith)
@@ -202,7 +204,7 @@ syncs_true members part b n v apart c pos less up clean = go (nat_lt 0 version) 
     may : nat_lt 0 version ≡ true → MaySync v.world c version
     may h =
         let g = greatest_is c 1 versions (some h) in
-        let is : version ≡ suc g.place = let e = g.is in omega arith in
+        let is : version ≡ suc g.place = let e = g.greatest in omega arith in
         let settles = shown.settled in
         let known = shown.version in
         let limit = upto (held_of (n.tokens c).blocks b).settled (held_of (n.tokens c).blocks b).ver (clean b) in

@@ -235,7 +235,7 @@ files_view true members part b n v c pos less up sound flies whole =
 files_view false members part b n v c pos less up sound flies whole =
     let rows = n.books.rows c (suc (n.books.end c)) in
     let d = settled_some b (n.tokens c) rows in
-    files_false members part b n v c (all_settled (n.tokens c) rows) d.ver pos less up sound d.below d.is (filed n.books c)
+    files_false members part b n v c (all_settled (n.tokens c) rows) d.ver pos less up sound d.below d.decides (filed n.books c)
 
 -- ---- segments that say nothing
 

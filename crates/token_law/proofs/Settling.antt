@@ -40,7 +40,7 @@ none_settled l = ap (λ t. record l { held = if t then version_settled l.held 0 
 record OneOfTwo (h : Held) (first then_ : ℕ) : Type 0 where
   ver : ℕ
   below : ver ≤ h.ver
-  is : settled_by (settled_by h first) then_ ≡ settled_by h ver
+  decides : settled_by (settled_by h first) then_ ≡ settled_by h ver
 
 one_of_two : (h : Held) (first then_ : ℕ) → then_ ≤ h.ver → OneOfTwo h first then_
 one_of_two h first then_ limit = go (is_settled_by h first) refl
@@ -55,21 +55,21 @@ one_of_two h first then_ limit = go (is_settled_by h first) refl
     later true news is = record {
       ver = then_;
       below = limit;
-      is = ap (λ t. settled_by (if t then version_settled h first else h) then_) is
+      decides = ap (λ t. settled_by (if t then version_settled h first else h) then_) is
           ∙ ap (λ t. if t then version_settled h then_ else version_settled h first) news
           ∙ sym (ap (λ t. if t then version_settled h then_ else h) (both h.settled first then_ h.ver is news));
     }
     later false news is = record {
       ver = first;
       below = within h.settled first h.ver is;
-      is = ap (λ t. settled_by (if t then version_settled h first else h) then_) is
+      decides = ap (λ t. settled_by (if t then version_settled h first else h) then_) is
           ∙ ap (λ t. if t then version_settled h then_ else version_settled h first) news
           ∙ sym (ap (λ t. if t then version_settled h first else h) is);
     }
 
     go : (t : Bool) → is_settled_by h first ≡ t → OneOfTwo h first then_
     go true is = later (nat_lt first then_ && nat_le then_ h.ver) refl is
-    go false is = record { ver = then_; below = limit; is = ap (λ t. settled_by (if t then version_settled h first else h) then_) is }
+    go false is = record { ver = then_; below = limit; decides = ap (λ t. settled_by (if t then version_settled h first else h) then_) is }
 
 module _ (b : BlockId) where
   pub settled_here : (s : TokensState) (ver : ℕ) → local_of (client.on_settled s b ver).state b ≡ once_settled (local_of s b) ver
@@ -134,10 +134,10 @@ module _ (b : BlockId) where
   pub record Decides (s : TokensState) (rows : List (BlockId × Row)) : Type 0 where
     pub ver : ℕ
     pub below : ver ≤ (held_of s.blocks b).ver
-    pub is : local_of (all_settled s rows) b ≡ local_of (client.on_settled s b ver).state b
+    pub decides : local_of (all_settled s rows) b ≡ local_of (client.on_settled s b ver).state b
 
   pub settled_some : (s : TokensState) (rows : List (BlockId × Row)) → Decides s rows
-  settled_some s [] = record { ver = 0; below = omega arith; is = sym (none_settled (local_of s b)) ∙ sym (settled_here s 0) }
+  settled_some s [] = record { ver = 0; below = omega arith; decides = sym (none_settled (local_of s b)) ∙ sym (settled_here s 0) }
   settled_some s ((k, row) ∷ rows) =
       let u = (client.on_settled s k row.version).state in
       let d = settled_some u rows in
@@ -152,15 +152,15 @@ module _ (b : BlockId) where
       record {
         ver = one.ver;
         below = one.below;
-        is = d.is ∙ settled_here u d.ver ∙ ap (λ (l : Local). once_settled l d.ver) now ∙ ap (λ (x : Held). record (local_of s b) { held = x }) one.is
-            ∙ sym (settled_here s one.ver);
+        decides = d.decides ∙ settled_here u d.ver ∙ ap (λ (l : Local). once_settled l d.ver) now
+            ∙ ap (λ (x : Held). record (local_of s b) { held = x }) one.decides ∙ sym (settled_here s one.ver);
       })
       (λ differs other.
       let same = settled_there s k row.version other in
       record {
         ver = d.ver;
         below = let h = ap (λ (l : Local). l.held.ver) same in let limit = d.below in omega arith;
-        is = d.is ∙ settled_here u d.ver ∙ ap (λ (l : Local). once_settled l d.ver) same ∙ sym (settled_here s d.ver);
+        decides = d.decides ∙ settled_here u d.ver ∙ ap (λ (l : Local). once_settled l d.ver) same ∙ sym (settled_here s d.ver);
       })
     where
       stays : (h : Held) (ver : ℕ) → (settled_by h ver).ver ≡ h.ver

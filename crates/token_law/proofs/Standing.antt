@@ -29,10 +29,10 @@ pub record Ran (s : SlotState) : Type 0 where
   pub beliefs : List (BlockId × ℕ × Mode)
   pub applied : List ℕ
   pub taken : List In
-  pub is : s ≡ state_after (started epoch index beliefs applied) taken
+  pub reaches : s ≡ state_after (started epoch index beliefs applied) taken
 
 pub begun : (epoch : ℕ) (index : List (BlockId × Entry)) (beliefs : List (BlockId × ℕ × Mode)) (applied : List ℕ) → Ran (started epoch index beliefs applied)
-begun epoch index beliefs applied = record { epoch = epoch; index = index; beliefs = beliefs; applied = applied; taken = []; is = refl }
+begun epoch index beliefs applied = record { epoch = epoch; index = index; beliefs = beliefs; applied = applied; taken = []; reaches = refl }
 
 one_more : (s : SlotState) (taken : List In) (x : In) → state_after s (taken ++ x ∷ []) ≡ (transition (state_after s taken) x).state
 one_more s [] x = refl
@@ -45,7 +45,7 @@ on s x r = record {
   beliefs = r.beliefs;
   applied = r.applied;
   taken = r.taken ++ x ∷ [];
-  is = ap (λ (z : SlotState). (transition z x).state) r.is ∙ sym (one_more (started r.epoch r.index r.beliefs r.applied) r.taken x);
+  reaches = ap (λ (z : SlotState). (transition z x).state) r.reaches ∙ sym (one_more (started r.epoch r.index r.beliefs r.applied) r.taken x);
 }
 
 -- ---- its wants stand in order
@@ -68,11 +68,11 @@ waiting-transition s Tick w = w
 
 waiting : (s : SlotState) → Ran s → Waiting s.jobs
 waiting s r =
-    subst (λ (z : SlotState). Waiting z.jobs) (sym r.is)
+    subst (λ (z : SlotState). Waiting z.jobs) (sym r.reaches)
     (steps_keep transition (λ (z : SlotState). Waiting z.jobs) waiting-transition (started r.epoch r.index r.beliefs r.applied) r.taken nobody_waits)
 
 given : (s : SlotState) → Ran s → RecallsAreGivenOut s
-given s r = subst RecallsAreGivenOut (sym r.is) (given-all r.epoch r.index r.beliefs r.applied r.taken)
+given s r = subst RecallsAreGivenOut (sym r.reaches) (given-all r.epoch r.index r.beliefs r.applied r.taken)
 
 -- ---- what its tick sends again
 

@@ -76,7 +76,7 @@ use Rattle.log_ties.proofs.cleaner_log_tie.Jobs.{job_goes_on, job_in_time, list_
 pub record IsNew (q : Questions) (e : Emptying) : Type 0 where
   pub questions : e.lasting.questions ≡ q
   pub job : Job
-  pub is : e.job ≡ Some job
+  pub begun : e.job ≡ Some job
   pub greeting : job.cleaning.phase ≡ Greeting
 
 -- nothing is said, and it greets still
@@ -98,9 +98,9 @@ promised_new q e slot n =
     let epoch : ℕ = epoch_of e.promised slot in
     let i = input.Promise slot epoch in
     let k : Quiet (cleaning.transition n.job.cleaning i) = promise_is_quiet n.job.cleaning slot epoch n.greeting in
-    subst (λ (job : Option Job). IsNew q (steps says (takes_in e job i).state (takes_in e job i).outs).state) (sym n.is)
+    subst (λ (job : Option Job). IsNew q (steps says (takes_in e job i).state (takes_in e job i).outs).state) (sym n.begun)
     (subst (λ outs. IsNew q (steps says (takes_in e (Some n.job) i).state outs).state) (sym k.outs)
-    (record { questions = n.questions; job = record n.job { cleaning = (cleaning.transition n.job.cleaning i).state }; is = refl; greeting = k.phase }))
+    (record { questions = n.questions; job = record n.job { cleaning = (cleaning.transition n.job.cleaning i).state }; begun = refl; greeting = k.phase }))
 
 all_new : (q : Questions) (e : Emptying) (slots : List ℕ) → IsNew q e → IsNew q (steps promises_slot e slots).state
 all_new q e [] n = n
@@ -111,7 +111,7 @@ room_left : (e : Emptying) (number count : ℕ) → has_room e.lasting.questions
 unfolding promises_all
 room_left e number count room =
     let f : Emptying = with_new_job e number count in
-    let n : IsNew e.lasting.questions f = record { questions = refl; job = _; is = refl; greeting = refl } in
+    let n : IsNew e.lasting.questions f = record { questions = refl; job = _; begun = refl; greeting = refl } in
     subst (λ (q : Questions). has_room q.last ≡ true) (sym (all_new e.lasting.questions f (range_with_len 0 8) n).questions) room
 
 module _ (g : Setting) (is : g.log ≡ cleaner_log) where

@@ -54,7 +54,7 @@ module _ (m : GroupMapState) (ok : IsGroupMap m) where
 
   pub record Chosen (log seq : ℕ) : Type 0 where
     pub group : Group
-    pub is : group_for m log seq ≡ group
+    pub picked : group_for m log seq ≡ group
     pub found : group_of m group.id ≡ Some group
     pub current : group.current ≡ true
 
@@ -69,7 +69,7 @@ module _ (m : GroupMapState) (ok : IsGroupMap m) where
   chosen_at log seq None is some = absurd some
   chosen_at log seq (Some group) is current = record {
     group = group;
-    is = ap (λ o. unwrap_or o no_group) is;
+    picked = ap (λ o. unwrap_or o no_group) is;
     found = subst (λ id. group_of m id ≡ Some group) (sym (has_its_id m (chosen m.groups log seq) group is)) is;
     current = current;
   }
@@ -126,7 +126,7 @@ module _ (m : GroupMapState) (ok : IsGroupMap m) where
         }
 
     is_map : IsMap g m
-    is_map log seq = let c = the_chosen log seq in subst (IsStripe g m) (sym c.is) (chosen_is_stripe c.group c.found c.current)
+    is_map log seq = let c = the_chosen log seq in subst (IsStripe g m) (sym c.picked) (chosen_is_stripe c.group c.found c.current)
 
     module _ (registry : ℕ → ℕ) (known : (v : ℕ) → has_server m v ≡ true → registry v ≡ generation_at m.generations v) where
       past : (v : ℕ) → present_at m v ≤ registry v

@@ -141,12 +141,12 @@ module _ (owner : Owner) (q : Questions) (s : Scanning) (room : has_room q.last 
   vain_few d v small x =
       let e = x.last in
       let past = h.past in
-      let reads : v.round.ask ≤ s.scan.opening.ask = subst (λ st. PastStage s.scan.opening.ask st) v.is h.reads in
+      let reads : v.round.ask ≤ s.scan.opening.ask = subst (λ st. PastStage s.scan.opening.ask st) v.reads h.reads in
       subst (λ outs. ScanAsks (record { scan = d.state; asked = (scanned owner d.state.opening.low s.asked q outs).state.asked })
       (scanned owner d.state.opening.low s.asked q outs).state.questions.last)
       (sym x.outs)
       (record {
-        few = inr (record { back = v.back; round = v.round; is = x.stage; asking = v.asking; nobody = v.nobody }, omega arith);
+        few = inr (record { back = v.back; round = v.round; reads = x.stage; asking = v.asking; nobody = v.nobody }, omega arith);
         past = omega arith;
         reads = subst (λ st. PastStage d.state.opening.ask st) (sym x.stage) (omega arith);
       })
@@ -158,7 +158,7 @@ module _ (owner : Owner) (q : Questions) (s : Scanning) (room : has_room q.last 
   step_few i =
       ⊎_elim (says_few i (says_so s.scan.opening s.scan.stage i h.reads))
       (λ v. vain_few (scan.transition s.scan i) v.0 v.1
-      (subst (λ st. Still s.scan.opening (Reads v.0.back (Some v.0.round)) (scan.takes s.scan.opening st i)) (sym v.0.is)
+      (subst (λ st. Still s.scan.opening (Reads v.0.back (Some v.0.round)) (scan.takes s.scan.opening st i)) (sym v.0.reads)
       (still_so s.scan.opening v.0.back v.0.round v.0.asking v.0.nobody i)))
       h.few
 

@@ -103,7 +103,7 @@ round_begins o b target kept n parity servers =
       same = refl;
       outs = fetches_up (o.ask + 1) r (omega arith);
       draws =
-          ⊎_elim (λ a. inl a) (λ e. inr (record { back = b; round = r; is = refl; asking = refl; nobody = e }))
+          ⊎_elim (λ a. inl a) (λ e. inr (record { back = b; round = r; reads = refl; asking = refl; nobody = e }))
           (begins_asking target (o.ask + 1) kept n parity servers);
       reads = omega arith;
     })

@@ -26,7 +26,7 @@ use Rattle.wire_msg.specs.declared.packet.Packet.{Packet}
 pub record WaitsInVain (s : ScanState) : Type 0 where
   pub back : Backward
   pub round : ReadingState
-  pub is : s.stage ≡ Reads back (Some round)
+  pub reads : s.stage ≡ Reads back (Some round)
   pub asking : round.stage ≡ reading.Asking
   pub nobody : round.round.servers ≡ []
 

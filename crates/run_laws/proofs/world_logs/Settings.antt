@@ -51,7 +51,7 @@ map_fits m ok log seq =
     let c : Chosen m ok log seq = the_chosen m ok log seq in
     let below = numbered_below 1 c.group.id m.groups c.group ok.by_id c.found in
     let few = ok.few in
-    subst (λ (g : Group). g.id < 2 ^ 32) (sym c.is) (small c.group.id (length m.groups) below few)
+    subst (λ (g : Group). g.id < 2 ^ 32) (sym c.picked) (small c.group.id (length m.groups) below few)
   where
     small : (id count : ℕ) → id < 1 + count → count ≤ 4294967295 → id < 2 ^ 32
     small id count below few = omega arith

@@ -53,7 +53,7 @@ module _ (f : Filed) (filed : IsFiled f) where
 
   entry_lies : (b : BlockId) (s : SlotState) (entry : Entry) → (entry ≡ no_entry) ⊎ IsAppliedRow b f s entry → LiesSo entry
   entry_lies b s entry (inl none) = subst LiesSo (sym none) nowhere
-  entry_lies b s entry (inr row) = subst LiesSo (sym row.is) (row_lies b row.log row.seq)
+  entry_lies b s entry (inr row) = subst LiesSo (sym row.is_row) (row_lies b row.log row.seq)
 
 at_some : (o : Option Place) (place : Place) → is_place o place ≡ true → (at : Place) × (o ≡ Some at)
 at_some None place is = contrary is
