@@ -114,7 +114,7 @@ module _ (base : Setting) (e : Estate AnyNode) (run : IsRun any_step any_start e
   lies : LiesAt f joint.tok.net.books at.block entry place l q
   lies =
       lies_there f joint.tok.net.books at.block entry place (filed_known base e lines texts 0 first count joint).filed joint.books plain refl
-      lies_told.there.is
+      lies_told.there.place_told
 
   abbrev s : Segment
   s = joint.idx.net.filed.segment r.target.seg.name.log.0 r.target.seg.name.seq

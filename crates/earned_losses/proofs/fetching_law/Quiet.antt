@@ -225,7 +225,7 @@ follows_one_goes s (output.Want block req again mode) is = says s (wants s block
 follows_one_goes s (output.Gave block stamp) is =
     says s (gaves s block stamp) (all_append IsQuiet (deltas s block) _ (pushed_quiet s.managers s.feed _) (tt, tt))
 follows_one_goes s (output.Flush block) is = seals_go s
-follows_one_goes s (output.Read block place) is = absurd (let e = is.there.is in cc)
+follows_one_goes s (output.Read block place) is = absurd (let e = is.there.place_told in cc)
 follows_one_goes s (output.Ready block) is = stays s (notes_copy s block) (notes_copy_rests s block)
 follows_one_goes s (output.Supply block ver value) is = stays s s (itself s)
 

@@ -110,10 +110,10 @@ module _ (base : Setting) (e : Estate AnyNode) (lines : HasLines base e) (texts 
 
     -- nobody manages the slot in the epoch, which has begun
     pub nobody_yet : b.idx.net.slots t.epoch ≡ None
-    nobody_yet = subst (λ x. b.idx.net.slots x ≡ None) agrees.at agrees.known.free
+    nobody_yet = subst (λ x. b.idx.net.slots x ≡ None) agrees.of_epoch agrees.known.free
 
     pub has_begun : t.epoch ≤ b.idx.net.epoch
-    has_begun = subst (λ x. x ≤ b.idx.net.epoch) agrees.at agrees.known.begun
+    has_begun = subst (λ x. x ≤ b.idx.net.epoch) agrees.of_epoch agrees.known.begun
 
     -- what it reads is a part that its news name, or was filed
     pub part_or_filed : (p : Present) → t.take.present ≡ Some p → ReadsPart t.take.news.parts p.source ⊎ ReadsFiled b.idx.net.filed p.source

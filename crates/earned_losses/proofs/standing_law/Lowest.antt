@@ -133,7 +133,7 @@ module _ (part : ℕ) (texts : Texts) (n : Net) (epoch : ℕ) (take : TakeState)
     some = o.some;
     limit = o.limit;
     own = o.own;
-    low = ap (λ x. of_log (n.horizon x) o.log) (sym taking.at)
+    low = ap (λ x. of_log (n.horizon x) o.log) (sym taking.of_epoch)
         ∙ (sym (ap (λ (h : List ℕ). of_log h o.log) taking.known.horizon) ∙ (of_log_in taking.news.horizon o.log o.some o.limit ∙ sym o.low));
   }
 

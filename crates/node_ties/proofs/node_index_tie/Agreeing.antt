@@ -27,8 +27,8 @@ module _ (part : ℕ) (texts : Texts) (n m : Net) (g : Grows n m) where
     inputs = k.inputs;
     take_is = k.take_is;
     slot = k.slot;
-    at = k.at;
-    known = news_on part n m g k.news (subst (λ e. m.slots e ≡ n.slots e) (sym k.at) same) k.known;
+    of_epoch = k.of_epoch;
+    known = news_on part n m g k.news (subst (λ e. m.slots e ≡ n.slots e) (sym k.of_epoch) same) k.known;
     whole = k.whole;
     present = k.present;
     reports = λ r is. report_on part n m g epoch r.from r.end (k.reports r is);

@@ -152,7 +152,8 @@ module _ (part : ℕ) (n : Net) (l : ℕ) (feed : FeedState) (k : FeedSeen part 
     own fit short = record {
       base = k.base;
       inputs = k.inputs ++ Settled (suc head) (rows_of s) ∷ [];
-      is = ap (λ x. (transition x (Settled (suc head) (rows_of s))).state) k.is ∙ sym (one_more (started k.base) k.inputs (Settled (suc head) (rows_of s)));
+      feed_is = ap (λ x. (transition x (Settled (suc head) (rows_of s))).state) k.feed_is
+          ∙ sym (one_more (started k.base) k.inputs (Settled (suc head) (rows_of s)));
       fed = record {
         known = let a = k.fed.known in let h = new_head in omega arith;
         end = ap (greatest k.base) (numbers_more k.inputs (suc head) (rows_of s)) ∙ greatest_more k.base (settled_numbers k.inputs) (suc head)
@@ -187,7 +188,7 @@ module _ (part : ℕ) (n : Net) (l : ℕ) (feed : FeedState) (k : FeedSeen part 
     theirs = record {
       base = k.base;
       inputs = k.inputs;
-      is = k.is;
+      feed_is = k.feed_is;
       fed = record {
         known = let a = k.fed.known in let h = same_head in omega arith;
         end = k.fed.end ∙ sym same_head;

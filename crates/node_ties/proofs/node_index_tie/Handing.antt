@@ -130,7 +130,7 @@ module _ (part : ℕ) (texts : Texts) (n : Net) where
         inputs = k.inputs ++ given ∷ [];
         take_is = ap (λ s. (transition s given).state) k.take_is ∙ sym (ap (λ (x : Course). x.state) one);
         slot = k.slot;
-        at = k.at;
+        of_epoch = k.of_epoch;
         known = k.known;
         whole = (subst (λ (x : Course). AllRead part texts x.read) (sym one) read).whole;
         present = (subst (λ (x : Course). AllRead part texts x.read) (sym one) read).present;
@@ -165,7 +165,7 @@ module _ (part : ℕ) (texts : Texts) (asked : Questions) (brought : Brought) (d
     known r is = ⊎_elim (λ old. k.reports r old) (λ new. owes.brings r new) ((took t.take given k.ready k.once).reports r is)
 
     horizon : n.horizon t.epoch ≡ k.news.horizon
-    horizon = ap n.horizon (sym k.at) ∙ sym k.known.horizon
+    horizon = ap n.horizon (sym k.of_epoch) ∙ sym k.known.horizon
 
     ends : (l : ℕ) → 0 < l → l ≤ 9 → of_log k.news.horizon l ≤ (end_of later.reports l).seq → IsEnd n.filed l (end_of later.reports l)
     ends l some limit = of_end part n t.epoch later.reports known l (λ end. of_log k.news.horizon l ≤ end.seq → IsEnd n.filed l end)
@@ -200,7 +200,7 @@ module _ (part : ℕ) (texts : Texts) (asked : Questions) (brought : Brought) (d
 
       contains : Contains (transition course.state given).outs (out.Active epoch hands.index beliefs applied)
       contains = subst (λ s. Contains (transition s given).outs (out.Active epoch hands.index beliefs applied)) k.take_is
-          (subst (λ os. Contains os (out.Active epoch hands.index beliefs applied)) (sym hands.is)
+          (subst (λ os. Contains os (out.Active epoch hands.index beliefs applied)) (sym hands.says_active)
           (contains_first (out.Active epoch hands.index beliefs applied) []))
 
       over : IsTakenOver k.news (after_input course given) epoch hands.index beliefs applied
@@ -210,7 +210,7 @@ module _ (part : ℕ) (texts : Texts) (asked : Questions) (brought : Brought) (d
       none = ap n.slots over.of_epoch ∙ k.known.free
 
       here : t.epoch ≡ epoch
-      here = sym k.at ∙ sym over.of_epoch
+      here = sym k.of_epoch ∙ sym over.of_epoch
 
       reported : In (CleanerReported epoch (end_of (after_input course given).state.reports 9).seq) n.sent
       reported = subst (λ (s : TakeState). In (CleanerReported epoch (end_of s.reports 9).seq) n.sent) is_course
@@ -304,7 +304,7 @@ module _ (part : ℕ) (texts : Texts) (asked : Questions) (brought : Brought) (d
       (let s = stays_each part texts asked desk n k (asker (phase.Taking u) q) (transition t.take given).outs plain
       (taken_on part texts n t.epoch t.take given agrees owes) in record { agrees = s.agrees; held = s.held; epoch = s.epoch }) (λ _ e h. absurd h)
       (takes_done part texts asked n k (asker (phase.Taking t) q) given))
-      (λ hands. subst (λ os. AskEvent n (phase.Taking t) (says_each k (asker (phase.Taking u) q) os)) (sym hands.is)
+      (λ hands. subst (λ os. AskEvent n (phase.Taking t) (says_each k (asker (phase.Taking u) q) os)) (sym hands.says_active)
       (is_handed n k t q given agrees owes filed hands may busy))
       (took t.take given agrees.ready agrees.once).said
 
@@ -380,7 +380,7 @@ module _ (part : ℕ) (texts : Texts) (asked : Questions) (brought : Brought) (d
           inputs = [];
           take_is = refl;
           slot = of;
-          at = refl;
+          of_epoch = refl;
           known = known ours;
           whole = tt;
           present = tt;

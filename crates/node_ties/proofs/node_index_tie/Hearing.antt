@@ -93,7 +93,7 @@ module _ (part : ℕ) (texts : Texts) (questions : Questions) (exists : part < 8
     table_of n s agrees filed = record {
       eight = agrees.eight;
       here = agrees.here;
-      busy = λ w there of none. (agrees.writer.work w there of).is.begun none;
+      busy = λ w there of none. (agrees.writer.work w there of).as_planned.begun none;
       filed = filed;
     }
 

@@ -55,13 +55,13 @@ fit_each f l fit (q ∷ qs) = (fit q, fit_each f l fit qs)
 module _ (part : ℕ) (n : Net) (l : ℕ) (some : 0 < l) (limit : l ≤ 9) (feed : FeedState) (k : FeedSeen part n l feed) (managers : Managers) where
   fits : (slot : ℕ) → RowsFit (rows_after slot (acked_of feed slot) feed.filed)
   fits slot =
-      let filed : feed.filed ≡ map (fed_at n.filed l) (range_with_len (suc k.base) (n.filed.head l - k.base)) = ap (λ (s : FeedState). s.filed) k.is ∙
+      let filed : feed.filed ≡ map (fed_at n.filed l) (range_with_len (suc k.base) (n.filed.head l - k.base)) = ap (λ (s : FeedState). s.filed) k.feed_is ∙
       (is_after k.base k.inputs).filed_is ∙ k.fed.each in
       fit_after slot (acked_of feed slot) feed.filed (subst (AllByRecursion (λ (d : FiledDeltas). RowsFit d.rows)) (sym filed)
       (fit_each n.filed l k.fit (range_with_len (suc k.base) (n.filed.head l - k.base))))
 
   ends : feed.end ≡ n.filed.head l
-  ends = ap (λ (s : FeedState). s.end) k.is ∙ (is_after k.base k.inputs).end_is ∙ k.fed.end
+  ends = ap (λ (s : FeedState). s.end) k.feed_is ∙ (is_after k.base k.inputs).end_is ∙ k.fed.end
 
   -- a range that the feed gives tells what is filed
   known : (slot : ℕ) (input : In)
@@ -71,7 +71,7 @@ module _ (part : ℕ) (n : Net) (l : ℕ) (some : 0 < l) (limit : l ≤ 9) (feed
     tells = λ b inside. ranges_tell b n.filed l k.base k.inputs input slot (acked_of feed slot + 1) feed.end
         (rows_after slot (acked_of feed slot) feed.filed) some limit k.fed (inside ∙ sym ours)
         (subst (λ (s : FeedState). Contains (transition s input).outs
-        (Range slot (acked_of feed slot + 1) feed.end (rows_after slot (acked_of feed slot) feed.filed))) k.is given);
+        (Range slot (acked_of feed slot + 1) feed.end (rows_after slot (acked_of feed slot) feed.filed))) k.feed_is given);
     fit = fits slot;
     short = let e = ends in let s = k.short in omega arith;
   }
@@ -157,7 +157,7 @@ quiet_seen : (part : ℕ) (n : Net) (l : ℕ) (feed : FeedState) (i : In) → Is
 quiet_seen part n l feed i q k = record {
   base = k.base;
   inputs = k.inputs ++ i ∷ [];
-  is = ap (λ s. (transition s i).state) k.is ∙ sym (one_more (started k.base) k.inputs i);
+  feed_is = ap (λ s. (transition s i).state) k.feed_is ∙ sym (one_more (started k.base) k.inputs i);
   fed = record {
     known = k.fed.known;
     end = ap (greatest k.base) (quiet_numbers k.inputs i q) ∙ k.fed.end;

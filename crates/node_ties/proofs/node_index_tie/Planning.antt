@@ -272,7 +272,7 @@ module _ (part : ℕ) (texts : Texts) (questions : Questions) (exists : part < 8
               pages = Written events asked_work [] refl refl refl work tt (cleaned_pages a.slot.index ∙ ap (λ (c : Checkpointed). cleaned c.pages) (sym is));
             });
             writer = writer_begun later (writer_on part texts n later grows (desk_of s agrees.given) agrees.writer) asked_work
-                (λ _. record { events = events; is = work });
+                (λ _. record { events = events; as_planned = work });
             closed = λ none. absurd (open_item none);
             done = done_seen part texts n later grows s.checkpoint agrees.done;
           };

@@ -91,4 +91,4 @@ module _ (part : ℕ) (texts : Texts) where
   paged_on n m g desk epoch pages parts (Ended number none) = Ended number none
 
   pub seen_on : (n m : Net) (g : Grows n m) (desk : Desk) (w : WorkState) → WorkSeen part texts n desk w → WorkSeen part texts m desk w
-  seen_on n m g desk w k = record { events = k.events; is = work_on n m g desk k.events w k.is }
+  seen_on n m g desk w k = record { events = k.events; as_planned = work_on n m g desk k.events w k.as_planned }

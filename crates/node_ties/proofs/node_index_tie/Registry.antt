@@ -267,7 +267,7 @@ module _ (part : ℕ) (below : part < 8) (texts : Texts) (n : Net) (r : Registry
       by (x ∷ xs) (inl is) =
           let ours : x ≡ part = sym (ap (λ (s : SlotNews). s.slot) is) ∙ of in
           subst (NewsTold part m) (sym (is ∙ ap (slot_news later.board) ours))
-          (record { epoch = k.epoch; horizon = k.horizon; parts = k.parts; is = subst IsHorizon (sym k.horizon) k.is })
+          (record { epoch = k.epoch; horizon = k.horizon; parts = k.parts; horizon_fits = subst IsHorizon (sym k.horizon) k.horizon_fits })
       by (x ∷ xs) (inr is) = by xs is
 
   -- nothing that is kept of the slot has changed
@@ -281,7 +281,7 @@ module _ (part : ℕ) (below : part < 8) (texts : Texts) (n : Net) (r : Registry
         eight = eight;
         later_horizon = agrees.later_horizon;
         later_parts = agrees.later_parts;
-        is = agrees.is;
+        horizon_fits = agrees.horizon_fits;
       } in
       record {
         next = n;
@@ -314,7 +314,7 @@ module _ (part : ℕ) (below : part < 8) (texts : Texts) (n : Net) (r : Registry
         eight = eight;
         later_horizon = λ e from. agrees.later_horizon e (omega arith) ∙ sym on;
         later_parts = λ e from. agrees.later_parts e (omega arith) ∙ sym on_parts;
-        is = subst IsHorizon (sym on) agrees.is;
+        horizon_fits = subst IsHorizon (sym on) agrees.horizon_fits;
       } in
       record {
         next = m;
@@ -355,8 +355,8 @@ module _ (part : ℕ) (below : part < 8) (texts : Texts) (n : Net) (r : Registry
         eight = eight;
         later_horizon = λ e from. now e from ∙ sym at;
         later_parts = λ e from. now_parts e from ∙ sym at_parts;
-        is = subst IsHorizon (sym at) (record {
-          from_one = λ l some limit. let low = agrees.is.from_one l some limit in let up = rises l some limit in omega
+        horizon_fits = subst IsHorizon (sym at) (record {
+          from_one = λ l some limit. let low = agrees.horizon_fits.from_one l some limit in let up = rises l some limit in omega
               arith;
           short = known.short;
         });
@@ -444,7 +444,7 @@ registry_starts part any setup items below = record {
   eight = refl;
   later_horizon = λ e from. refl;
   later_parts = λ e from. refl;
-  is = first_horizon;
+  horizon_fits = first_horizon;
 }
   where
     first_at : (k : ℕ) → k < 8 → horizon_at (map (λ _. first_checkpoint) all_slots) k ≡ 1 ∷ 1 ∷ 1 ∷ 1 ∷ 1 ∷ 1 ∷ 1 ∷ 1 ∷ 1 ∷ []

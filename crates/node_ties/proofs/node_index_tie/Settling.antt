@@ -54,7 +54,7 @@ module _ (part : ℕ) (texts : Texts) (questions : Questions) (exists : part < 8
       let turn : Turn part texts n desk later = record {
         forth = λ w is. record {
           on = w;
-          is = is;
+          writes = is;
           slot = refl;
           epoch = refl;
           work = λ events of k. record {
@@ -141,7 +141,7 @@ module _ (part : ℕ) (texts : Texts) (questions : Questions) (exists : part < 8
       turn : Turn part texts n desk later
       turn = record {
         forth = λ x is. subst (Forth part texts n desk later) (some_is w x (sym there ∙ is))
-            (record { on = next_work; is = refl; slot = refl; epoch = refl; work = laid });
+            (record { on = next_work; writes = refl; slot = refl; epoch = refl; work = laid });
         back = λ x is. let same = some_is next_work x is in record {
           before = w;
           was = there;

@@ -70,7 +70,7 @@ module _ (part : ℕ) (texts : Texts) (n m : Net) (held : SlotPhase) (t : Passes
 
   taking_stays : (epoch : ℕ) (take : TakeState) → HeldAt held epoch → TakingAgrees part texts n epoch take → TakingAgrees part texts m epoch take
   taking_stays epoch take here k =
-      let free : n.slots epoch ≡ None = subst (λ e. n.slots e ≡ None) k.at k.known.free in
+      let free : n.slots epoch ≡ None = subst (λ e. n.slots e ≡ None) k.of_epoch k.known.free in
       record {
         news = k.news;
         groups = k.groups;
@@ -78,13 +78,13 @@ module _ (part : ℕ) (texts : Texts) (n m : Net) (held : SlotPhase) (t : Passes
         inputs = k.inputs;
         take_is = k.take_is;
         slot = k.slot;
-        at = k.at;
+        of_epoch = k.of_epoch;
         known = record {
-          free = ap m.slots k.at ∙ t.slots epoch here ∙ free;
+          free = ap m.slots k.of_epoch ∙ t.slots epoch here ∙ free;
           some = k.known.some;
           begun = let b = k.known.begun in let up = t.epoch in omega arith;
-          horizon = k.known.horizon ∙ ap n.horizon k.at ∙ sym (t.horizon epoch here free) ∙ sym (ap m.horizon k.at);
-          parts = k.known.parts ∙ ap n.parts k.at ∙ sym (t.parts epoch here free) ∙ sym (ap m.parts k.at);
+          horizon = k.known.horizon ∙ ap n.horizon k.of_epoch ∙ sym (t.horizon epoch here free) ∙ sym (ap m.horizon k.of_epoch);
+          parts = k.known.parts ∙ ap n.parts k.of_epoch ∙ sym (t.parts epoch here free) ∙ sym (ap m.parts k.of_epoch);
           from_one = k.known.from_one;
           short = k.known.short;
         };
@@ -131,7 +131,7 @@ module _ (part : ℕ) (texts : Texts) (n m : Net) (held : SlotPhase) (t : Passes
     nothing_waits = k.nothing_waits;
     idle = k.idle;
     answered = k.answered;
-    work = λ w there of. let s = k.work w there of in record { events = s.events; is = work_stays desk s.events w s.is };
+    work = λ w there of. let s = k.work w there of in record { events = s.events; as_planned = work_stays desk s.events w s.as_planned };
   }
 
   done_in : (o : Option CkptDone) → DoneIn part n o → DoneIn part m o

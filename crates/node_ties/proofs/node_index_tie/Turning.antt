@@ -54,7 +54,7 @@ module _ (part : ℕ) (texts : Texts) (n : Net) (desk later : Desk) where
   -- what is written of a checkpoint is written on
   pub record Forth (w : WorkState) : Type 0 where
     pub on : WorkState
-    pub is : later.writer.work ≡ Some on
+    pub writes : later.writer.work ≡ Some on
     pub slot : on.slot ≡ w.slot
     pub epoch : on.epoch ≡ w.epoch
     pub work : (events : List Event) → w.slot ≡ part → IsWork part texts n desk events w → IsWork part texts n later events on
@@ -79,7 +79,7 @@ module _ (part : ℕ) (texts : Texts) (n : Net) (desk later : Desk) where
         (λ w there of at. let b = t.back w there in none b.before b.was (b.slot ∙ of) (b.epoch ∙ at))
     paged_turn epoch pages parts (Written events w rows there of at work fits is) =
         let f = t.forth w there in
-        Written events f.on rows f.is (f.slot ∙ of) (f.epoch ∙ at) (f.work events of work) fits is
+        Written events f.on rows f.writes (f.slot ∙ of) (f.epoch ∙ at) (f.work events of work) fits is
     paged_turn epoch pages parts (Ended number none) = Ended (t.number ∙ number) (t.none none)
 
     pub seen_turn : ((w : WorkState) → desk.writer.work ≡ Some w → w.slot ≡ part → WorkSeen part texts n desk w) → (w : WorkState)
@@ -88,7 +88,10 @@ module _ (part : ℕ) (texts : Texts) (n : Net) (desk later : Desk) where
         let b = t.back w there in
         let f = t.forth b.before b.was in
         let k = seen b.before b.was (b.slot ∙ of) in
-        record { events = k.events; is = subst (IsWork part texts n later k.events) (some_is f.on w (sym f.is ∙ there)) (f.work k.events (b.slot ∙ of) k.is) }
+        record {
+          events = k.events;
+          as_planned = subst (IsWork part texts n later k.events) (some_is f.on w (sym f.writes ∙ there)) (f.work k.events (b.slot ∙ of) k.as_planned);
+        }
 
     pub phase_turn : (p : SlotPhase) → PhaseAgrees part texts n desk p → PhaseAgrees part texts n later p
     phase_turn (phase.Taking x) k = k

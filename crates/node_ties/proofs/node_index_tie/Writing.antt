@@ -224,11 +224,11 @@ module _ (part : ℕ) (texts : Texts) (questions : Questions) (exists : part < 8
           let k = agrees.writer.work w there ours in
           let holds = held_in part texts in
           let plan = plan_of (slot_after k.events).pages (slot_after k.events).parts in
-          let laid : rows_in holds k.is.segments ≡ rows_of plan.pages = laid_of holds k.is.segments agrees.given w.left (rows_of plan.pages) none nil
-          k.is.rows in
-          let packet = CheckpointDone w.epoch w.horizon (plan.parts ++ k.is.segments) in
+          let laid : rows_in holds k.as_planned.segments ≡ rows_of plan.pages = laid_of holds k.as_planned.segments agrees.given w.left
+          (rows_of plan.pages) none nil k.as_planned.rows in
+          let packet = CheckpointDone w.epoch w.horizon (plan.parts ++ k.as_planned.segments) in
           let m : Net = record n { sent = packet ∷ n.sent } in
-          let seen : CkptSeen part m done = λ _. inl (ap (CheckpointDone w.epoch w.horizon) k.is.parts) in
+          let seen : CkptSeen part m done = λ _. inl (ap (CheckpointDone w.epoch w.horizon) k.as_planned.parts) in
           let within : w.slot < length v.slots = let e = agrees.eight in omega arith in
           let p = phase_at v.slots part in
           let at : phase_at registered.state.slots part ≡ named_phase w.epoch w.parts p = subst
@@ -236,7 +236,7 @@ module _ (part : ℕ) (texts : Texts) (questions : Questions) (exists : part < 8
           (changed_here v.slots w.slot (named_phase w.epoch w.parts) within) in
           sees_sent part texts questions brought n p (phase_at registered.state.slots part) (packet ∷ []) registered.outs
           (λ m. ServingAgrees part texts m registered.state)
-          (Checkpoints w.epoch k.events w.horizon k.is.segments k.is.planned laid)
+          (Checkpoints w.epoch k.events w.horizon k.as_planned.segments k.as_planned.planned laid)
           (subst (λ q. (d : ℕ) → HeldAt q d → HeldAt p d) (sym at) (named_held p))
           (subst (λ q. (d : ℕ) → ManagedAt p d → ManagedAt q d) (sym at) (named_managed p))
           (let e = ap epoch_of at in let f = named_epoch p in omega arith)
@@ -313,7 +313,7 @@ module _ (part : ℕ) (texts : Texts) (questions : Questions) (exists : part < 8
     turned = record {
       forth = λ x is. subst (Forth part texts n desk busy_desk) (some_is w x (sym there ∙ is)) (record {
         on = next_work;
-        is = refl;
+        writes = refl;
         slot = refl;
         epoch = refl;
         work = λ events of k. record {

@@ -40,7 +40,7 @@ use Rattle.node_ties.proofs.node_tie.AsksFollow.{call_with-step, ends_reading-ke
 -- the open call reads this block
 pub record ReadsFor (block : BlockId) (s : Serving) : Type 0 where
   pub asks : AsksForCall s
-  pub is : needed s.call ≡ Some (block, Copy)
+  pub needs : needed s.call ≡ Some (block, Copy)
 
 -- what is read is the block, or none
 abbrev IsAt : BlockId → Option BlockAt → Type 0
@@ -80,7 +80,7 @@ with_reading-asks s r p = kept s (with_reading s r) (with_reading-keeps (needed 
 module _ (block : BlockId) where
   loses_at-asks : (s : Serving) (at : Option BlockAt) (seg : SegName) → IsAt block at → ReadsFor block s → AsksForCall (loses_at s at seg).state
   loses_at-asks s None seg here p = p.asks
-  loses_at-asks s (Some at) seg here p = loses-asks s at.block Copy seg p.asks (p.is ∙ ap (λ b. Some (b, Copy)) (sym here))
+  loses_at-asks s (Some at) seg here p = loses-asks s at.block Copy seg p.asks (p.needs ∙ ap (λ b. Some (b, Copy)) (sym here))
 
   confirmed_next-asks : (s : Serving) (r : ReadingState) (then_next : Next) → IsAt block r.target.block → ReadsFor block s
       → AsksForCall (confirmed_next s r then_next).state
@@ -91,7 +91,7 @@ module _ (block : BlockId) where
   confirmed_next-asks s r (next.Read segment) here p = with_reading-asks s (Some r) p.asks
 
   drawn_after-reads : (s : Serving) (stage : Stage) → ReadsFor block s → ReadsFor block (drawn_after s stage)
-  drawn_after-reads s Between p = record { asks = draws-asks s p.asks; is = p.is }
+  drawn_after-reads s Between p = record { asks = draws-asks s p.asks; needs = p.needs }
   drawn_after-reads s Asking p = p
   drawn_after-reads s Doubted p = p
   drawn_after-reads s Over p = p
@@ -125,9 +125,9 @@ module _ (block : BlockId) where
   unfolding reads
   reads-asks s place p =
       let u : Serving = with_reading s None in
-      let is : needed u.call ≡ Some (block, Copy) = needed_same u.call s.call (call_with-step s.call None) ∙ p.is in
+      let is : needed u.call ≡ Some (block, Copy) = needed_same u.call s.call (call_with-step s.call None) ∙ p.needs in
       by_test (λ (d : Done). AsksForCall d.state) (is_none s.call) (still s) (reads_over u (target_of block place) (reading_in s.call)) (λ t. p.asks)
-      (λ t. reads_over-asks u place (reading_in s.call) (record { asks = with_reading-asks s None p.asks; is = is }))
+      (λ t. reads_over-asks u place (reading_in s.call) (record { asks = with_reading-asks s None p.asks; needs = is }))
 
 -- ---- grants
 
@@ -137,7 +137,7 @@ follows_one-asks s (Want block req again mode) p q = p
 follows_one-asks s (Gave block stamp) p q = p
 follows_one-asks s (Supply block ver value) p q = p
 follows_one-asks s (Flush block) p q = kept s (follows_one s (Flush block)).state (follows_one-keeps (needed s.call) s (Flush block) tt) p
-follows_one-asks s (Read block place) p q = reads-asks block s place (record { asks = p; is = q })
+follows_one-asks s (Read block place) p q = reads-asks block s place (record { asks = p; needs = q })
 follows_one-asks s (Ready block) p q = kept s (follows_one s (Ready block)).state (follows_one-keeps (needed s.call) s (Ready block) tt) p
 
 follows-asks : (s : Serving) (outs : List Out) → AsksForCall s → OneRead (needed s.call) outs → AsksForCall (follows s outs).state

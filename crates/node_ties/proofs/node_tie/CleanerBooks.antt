@@ -39,7 +39,7 @@ copy_grown k m lasts b row copy = record {
   log = copy.log;
   segment = copy.segment;
   filed = up_to copy.segment (k.end copy.log) (m.end copy.log) copy.filed (lasts.filed copy.log);
-  is = copy.is ∙ sym (ap (λ rows. row_in rows b) (lasts.rows copy.log copy.segment copy.filed));
+  row_said = copy.row_said ∙ sym (ap (λ rows. row_in rows b) (lasts.rows copy.log copy.segment copy.filed));
 }
 
 pub copies_grown : (k m : Books) → Lasts k m → (rows : List (BlockId × Row)) → AreCopies k rows → AreCopies m rows
@@ -55,7 +55,7 @@ originals k rows all = record { copies = λ b. found rows b all }
     found [] b all = inl refl
     found (r ∷ rows) b all =
         by_test (λ (row : Row). (row ≡ nothing_said) ⊎ ((l : ℕ) × (q : ℕ) × (q ≤ k.end l) × (row ≡ said k l q b))) (same_block r.0 b) r.1 (row_in rows b)
-        (λ same. let c = all.0 in inr (c.log, c.segment, c.filed, c.is ∙ ap (said k c.log c.segment) (sym (same_block_exact r.0 b same))))
+        (λ same. let c = all.0 in inr (c.log, c.segment, c.filed, c.row_said ∙ ap (said k c.log c.segment) (sym (same_block_exact r.0 b same))))
         (λ _. found rows b all.1)
 
 -- ---- the small world runs on by changes of these books

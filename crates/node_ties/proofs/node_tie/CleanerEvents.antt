@@ -172,7 +172,7 @@ module _ (part promised limit : ℕ) (small : part < 8) (low : promised ≤ limi
           next = now;
           rises = kept.rises;
           within = kept.within;
-          stands = record { eight = kept.eight; is = refl };
+          stands = record { eight = kept.eight; promises = refl };
           does = All-from_recursion (CleanerDoes part now l.inc) (effects ++ said)
               (done_append now l.inc effects said (done now)
               (done_append now l.inc (pushes_all r.promised.managers r.feed) (answers_unanswered l.items.unanswered answer.Done)
@@ -259,17 +259,17 @@ module _ (part promised limit : ℕ) (small : part < 8) (low : promised ≤ limi
     bears : (f : Emptying) → f.promised ≡ e.promised → emptying.Bears part limit small f
     bears f is = record {
       eight = ap (λ (p : Promised). length p.epochs) is ∙ stands.eight;
-      within = subst (λ (p : Promised). epoch_of p.epochs part ≤ limit) (sym is) (let k = stands.is in omega arith);
+      within = subst (λ (p : Promised). epoch_of p.epochs part ≤ limit) (sym is) (let k = stands.promises in omega arith);
     }
 
     serves_so : (f : Emptying) → f.lasting.inc ≡ e.lasting.inc → f.promised ≡ e.promised → (d : Done) → emptying.ServesOn part limit small f d
         → Goes (Serves e) (serves_on d)
     serves_so f inc is d x = record {
       next = epoch_of d.state.promised.epochs part;
-      rises = (let at : epoch_of f.promised.epochs part ≡ promised = ap (λ (p : Promised). epoch_of p.epochs part) is ∙ stands.is in let up = x.rises in
+      rises = (let at : epoch_of f.promised.epochs part ≡ promised = ap (λ (p : Promised). epoch_of p.epochs part) is ∙ stands.promises in let up = x.rises in
           omega arith);
       within = x.bears.within;
-      stands = record { eight = x.bears.eight; is = refl };
+      stands = record { eight = x.bears.eight; promises = refl };
       does = All-from_recursion (CleanerDoes part (epoch_of d.state.promised.epochs part) d.state.lasting.inc) d.outs
           (done_said (epoch_of d.state.promised.epochs part) d.state.lasting.inc d.outs
           (subst (λ life. AllSay (CleanerSends part (epoch_of d.state.promised.epochs part) life) d.outs) (sym x.inc) x.says));
@@ -284,13 +284,14 @@ module _ (part promised limit : ℕ) (small : part < 8) (low : promised ≤ limi
         goes_same (Serves e) (crashes begun_emptying.lasting number).state (crashes begun_emptying.lasting number).outs tt
         (crashed_done e.lasting.inc begun_emptying.lasting.items.unanswered number) (omega arith) tt
     serving_wished number Restart =
-        goes_same (Serves e) (Serves begun_emptying) (Answer number answer.Up ∷ []) (record { eight = stands.eight; is = stands.is }) (tt, tt) (omega arith) tt
+        goes_same (Serves e) (Serves begun_emptying) (Answer number answer.Up ∷ []) (record { eight = stands.eight; promises = stands.promises }) (tt, tt)
+        (omega arith) tt
     serving_wished number (Clean count) =
         serves_so begun_emptying refl refl (on_clean begun_emptying number count)
         (emptying.cleaning_wished part limit small begun_emptying number count (bears begun_emptying refl))
 
     serving_begun : (item : Option ℕ) → Goes (Serves e) (serving_at begun_emptying item)
-    serving_begun None = goes_same (Serves e) (Serves begun_emptying) [] (record { eight = stands.eight; is = stands.is }) tt (omega arith) tt
+    serving_begun None = goes_same (Serves e) (Serves begun_emptying) [] (record { eight = stands.eight; promises = stands.promises }) tt (omega arith) tt
     serving_begun (Some number) = serving_wished number (wish_at begun_emptying.lasting.items number)
 
     owed_there : (b : Body) → CleanerGets part promised limit (Serves e) b → emptying.Owed part limit small b
@@ -372,4 +373,4 @@ cleaner_takes logs members part promised limit n small low few adopted cleaner w
 
 pub cleaner_starts : CleanerStarts
 cleaner_starts part limit small setup works =
-    (record { eight = refl; is = first_epoch part small }, record { seen = record { end = refl; flying = refl; flight = tt }; waits = tt; job = tt })
+    (record { eight = refl; promises = first_epoch part small }, record { seen = record { end = refl; flying = refl; flight = tt }; waits = tt; job = tt })

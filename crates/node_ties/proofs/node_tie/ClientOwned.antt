@@ -71,12 +71,12 @@ same_mode_is Own Own h = refl
 -- an answered want is of the answer's mode
 record WantOf (want : Option Wanted) (mode : Mode) : Type 0 where
   open_want : Wanted
-  is : want ≡ Some open_want
+  wants : want ≡ Some open_want
   mode_is : open_want.mode ≡ mode
 
 want_of : (want : Option Wanted) (req : ℕ) (mode : Mode) → is_wanted want req mode ≡ true → WantOf want mode
 want_of None req mode h = contrary h
-want_of (Some w) req mode h = record { open_want = w; is = refl; mode_is = same_mode_is w.mode mode (and_second (w.req == req) (same_mode w.mode mode) h) }
+want_of (Some w) req mode h = record { open_want = w; wants = refl; mode_is = same_mode_is w.mode mode (and_second (w.req == req) (same_mode w.mode mode) h) }
 
 module _ (s : Serving) (asks : AsksForCall s) (block : BlockId) (stamp : Stamp) (inc req : ℕ) (mode : Mode)
     (taken : client.accepts s.tokens block stamp inc req mode ≡ true) where
@@ -90,7 +90,7 @@ module _ (s : Serving) (asks : AsksForCall s) (block : BlockId) (stamp : Stamp) 
   pub call_needs : needed s.call ≡ Some (block, mode)
   call_needs =
       let w : WantOf (held_at s block).want mode = want_of (held_at s block).want req mode wanted in
-      asks.wanted block w.open_want w.is ∙ ap (λ m. Some (block, m)) w.mode_is
+      asks.wanted block w.open_want w.wants ∙ ap (λ m. Some (block, m)) w.mode_is
 
   -- and the block isn't being given up
   ungiven : is_none (held_at s block).giving ≡ true

@@ -341,7 +341,7 @@ module _ (logs : Bool) (members part limit j : ℕ) (exists : part < 8) (n : Net
           welcome = welcome;
           was = refl;
           gets = refl;
-          is = is;
+          bears = is;
           inc = same_inc;
           ask = same_ask;
           life = h.lives;

@@ -59,7 +59,7 @@ ArePlain outs = AllByRecursion IsPlain outs
 -- that alone, once all have reported
 pub record Hands (s : TakeState) (outs : List Out) : Type 0 where
   pub index : List (BlockId × Entry)
-  pub is : outs ≡ active s index ∷ []
+  pub says_active : outs ≡ active s index ∷ []
   pub reported : awaited s ≡ []
 
 abbrev pub IsReady : TakeState → Type 0
@@ -121,7 +121,7 @@ next_on [] s all = record { news = refl; clients = refl; reports = refl; ready =
     done = record s { sources = []; present = None }
 
     by : (t : Bool) → ArePlain (cond t (active s s.index ∷ []) []) ⊎ Hands (record s { sources = []; present = None }) (cond t (active s s.index ∷ []) [])
-    by true = inr (record { index = s.index; is = refl; reported = all })
+    by true = inr (record { index = s.index; says_active = refl; reported = all })
     by false = inl tt
 next_on (source ∷ rest) s all = sought_on (record s { sources = rest }) source all
 

@@ -217,9 +217,9 @@ module _ (logs : Bool) (members part limit life : ℕ) where
       (λ plain. event_of n (phase.Taking t) (says_each k (asker (phase.Taking u) q) (transition t.take given).outs)
       (let d = quiet_each (PhaseAgrees members part n) (phases_last n) n k (asker (phase.Taking u) q) (transition t.take given).outs plain on low in
       record { agrees = d.agrees; stays = record { epoch = d.stays.epoch; taking = d.stays.taking; held = d.stays.held; does = d.stays.does } }))
-      (λ hands. subst (λ os. AskEvent n (phase.Taking t) (says_each k (asker (phase.Taking u) q) os)) (sym hands.is)
-      (from_taking n t u.take _ _ (handed n u q k hands.index on (record { index = hands.index; is = refl; reported = hands.reported })
-      (premise_by logs (λ (owed : Completes members part n t.take given). owed hands.index (subst (In _) (sym hands.is) (inl refl))) owed))))
+      (λ hands. subst (λ os. AskEvent n (phase.Taking t) (says_each k (asker (phase.Taking u) q) os)) (sym hands.says_active)
+      (from_taking n t u.take _ _ (handed n u q k hands.index on (record { index = hands.index; says_active = refl; reported = hands.reported })
+      (premise_by logs (λ (owed : Completes members part n t.take given). owed hands.index (subst (In _) (sym hands.says_active) (inl refl))) owed))))
       (took t.take given agrees.ready agrees.once).said
 
   -- a report, where it is of the slot

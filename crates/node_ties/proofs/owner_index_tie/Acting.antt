@@ -69,7 +69,7 @@ another_not name same = (let e : suc name.seq ≡ name.seq = ap (λ (x : SegName
 -- a name whose text bears it is that of the flight
 pub record Flies (o : Option FlightState) (name : SegName) : Type 0 where
   pub flight : FlightState
-  pub is : o ≡ Some flight
+  pub flying : o ≡ Some flight
   pub named : flight.segment.name ≡ name
   pub text : text_in o name ≡ flight.segment
 
@@ -80,7 +80,7 @@ flies (Some f) name named = by (name.seq == f.segment.name.seq) refl
     by : (t : Bool) → (name.seq == f.segment.name.seq) ≡ t → Flies (Some f) name
     by true is =
         let text : text_in (Some f) name ≡ f.segment = ap (λ t. cond t f.segment (another name)) is in
-        record { flight = f; is = refl; named = ap (λ (x : Segment). x.name) (sym text) ∙ named; text = text }
+        record { flight = f; flying = refl; named = ap (λ (x : Segment). x.name) (sym text) ∙ named; text = text }
     by false is =
         let text : text_in (Some f) name ≡ another name = ap (λ t. cond t f.segment (another name)) is in
         absurd (another_not name (ap (λ (x : Segment). x.name) (sym text) ∙ named))
@@ -96,7 +96,7 @@ module _ (s : LogState) where
       itself q = grind (arith, nat_tests)
 
   is_flight : (name : SegName) → IsNamed its_texts name → IsFlight s name
-  is_flight name named = (let k = flies s.flight name named in (k.flight, k.is, k.named))
+  is_flight name named = (let k = flies s.flight name named in (k.flight, k.flying, k.named))
 
   may_land : (l : ℕ) → MayLand l s → AllMay Any its_texts l
   may_land l may f name named at =
@@ -105,10 +105,10 @@ module _ (s : LogState) where
       record {
         named = named;
         segment = subst (IsSegment l (suc (f.head l))) (sym k.text)
-            (subst (λ q. IsSegment l q k.flight.segment) seq (may.segment k.flight k.is));
+            (subst (λ q. IsSegment l q k.flight.segment) seq (may.segment k.flight k.flying));
         new = tt;
-        fits = subst (λ (x : Segment). RowsFit (rows_of x)) (sym k.text) (may.fits k.flight k.is);
-        short = (let less = may.short k.flight k.is in omega arith);
+        fits = subst (λ (x : Segment). RowsFit (rows_of x)) (sym k.text) (may.fits k.flight k.flying);
+        short = (let less = may.short k.flight k.flying in omega arith);
       }
 
 -- ---- a client

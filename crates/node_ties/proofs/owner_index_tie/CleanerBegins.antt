@@ -59,7 +59,7 @@ module _ (New : Filed → Segment → Type 0) (part : ℕ) (texts : Texts) (sinc
     pub stands : Stands New part texts since answered n e.log e.feed e.promised None
     pub job : Job
     pub has : e.job ≡ Some job
-    pub is : n.job ≡ job.cleaning
+    pub same_job : n.job ≡ job.cleaning
     pub eight : length job.cleaning.promised ≡ 8
     pub none : promised_at job.cleaning.promised part ≡ 0
     pub greets : job.cleaning.phase ≡ Greeting
@@ -102,7 +102,7 @@ module _ (New : Filed → Segment → Type 0) (part : ℕ) (texts : Texts) (sinc
     -- of another slot
     still_before : (slot ≡ part → ⊥) → frames.Goes_to New part texts since answered Before asked n (promises_slot e slot)
     still_before other = goes_there Before
-        (subst (λ s. Happens part (held_in part texts) n (with_job n (job.transition s (input.Promise slot epoch)))) k.is
+        (subst (λ s. Happens part (held_in part texts) n (with_job n (job.transition s (input.Promise slot epoch)))) k.same_job
         (JobTakes (input.Promise slot epoch) other))
         (let none = ap (λ p. promised_at p part) told_is ∙ jobs.with_other k.job.cleaning.promised slot epoch part other ∙ k.none in record {
           stands = record {
@@ -117,7 +117,7 @@ module _ (New : Filed → Segment → Type 0) (part : ℕ) (texts : Texts) (sinc
           };
           job = record k.job { cleaning = d.state };
           has = refl;
-          is = refl;
+          same_job = refl;
           eight = told_eight;
           none = none;
           greets = waits.phase;
@@ -139,7 +139,7 @@ module _ (New : Filed → Segment → Type 0) (part : ℕ) (texts : Texts) (sinc
           promised = promised_at
               (job.transition s (input.Promise slot epoch)).state.promised part;
         }))
-        k.is
+        k.same_job
         (subst (λ x. n.promised ≤ promised_at (job.transition n.job (input.Promise x epoch)).state.promised part
         → Happens part (held_in part texts) n
         (record (with_job n (job.transition n.job (input.Promise x epoch))) {
@@ -155,7 +155,7 @@ module _ (New : Filed → Segment → Type 0) (part : ℕ) (texts : Texts) (sinc
             owner = same_owner part n m 9 9 e.log e.feed (record { head = refl; segment = λ q some limit. refl }) k.stands.seen.owner;
             eight = k.stands.seen.eight;
             promised = k.stands.seen.promised;
-            job = record { is = refl; eight = told_eight; told = has };
+            job = record { same_job = refl; eight = told_eight; told = has };
           };
         })
 
@@ -177,14 +177,14 @@ module _ (New : Filed → Segment → Type 0) (part : ℕ) (texts : Texts) (sinc
     then_seen : promised_at (promised_with j.cleaning.promised slot its_epoch) part ≡ epoch_of e.promised part
         → JobSeen part (with_job n its_done) (epoch_of e.promised part) its_done.state
     then_seen told = record {
-      is = refl;
+      same_job = refl;
       eight = ap length is_then ∙ jobs.with_length j.cleaning.promised slot its_epoch ∙ its.eight;
       told = ap (λ p. promised_at p part) is_then ∙ told;
     }
 
     again_other : (slot ≡ part → ⊥) → jobs.Takes New part texts since answered n (epoch_of e.promised part) its_done
     again_other other = record {
-      happens = subst (λ s. Happens part (held_in part texts) n (with_job n (job.transition s (input.Promise slot its_epoch)))) its.is
+      happens = subst (λ s. Happens part (held_in part texts) n (with_job n (job.transition s (input.Promise slot its_epoch)))) its.same_job
           (JobTakes (input.Promise slot its_epoch) other);
       seen = then_seen (jobs.with_other j.cleaning.promised slot its_epoch part other ∙ its.told);
     }
@@ -202,7 +202,7 @@ module _ (New : Filed → Segment → Type 0) (part : ℕ) (texts : Texts) (sinc
                 promised = promised_at
                     (job.transition s (input.Promise slot its_epoch)).state.promised part;
               }))
-              its.is
+              its.same_job
               (subst (λ x. n.promised ≤ promised_at (job.transition n.job (input.Promise x its_epoch)).state.promised part
               → Happens part (held_in part texts) n
               (record (with_job n (job.transition n.job (input.Promise x its_epoch))) {
@@ -254,10 +254,10 @@ module _ (New : Filed → Segment → Type 0) (part : ℕ) (texts : Texts) (sinc
       by true is = frames.went_through New part texts since answered At At asked n (promises_slot e slot)
           (steps promises_slot (promises_slot e slot).state slots)
           (now_at asked n e k slot (at is))
-          (λ w. frames.went_steps New part texts since answered promises_slot again_so w.questions w.next (promises_slot e slot).state slots w.at)
+          (λ w. frames.went_steps New part texts since answered promises_slot again_so w.questions w.next (promises_slot e slot).state slots w.stands)
       by false is = frames.went_through New part texts since answered Before At asked n (promises_slot e slot)
           (steps promises_slot (promises_slot e slot).state slots)
-          (still_before asked n e k slot (other is)) (λ w. rest w.questions w.next (promises_slot e slot).state w.at (behind (other is)))
+          (still_before asked n e k slot (other is)) (λ w. rest w.questions w.next (promises_slot e slot).state w.stands (behind (other is)))
 
   all_told : (slots : List ℕ) → Claim slots
   all_told [] = λ asked n e k among. absurd among
@@ -305,7 +305,7 @@ module _ (New : Filed → Segment → Type 0) (part : ℕ) (texts : Texts) (sinc
         };
         job = new_job count;
         has = refl;
-        is = refl;
+        same_job = refl;
         eight = refl;
         none = told_nothing count part;
         greets = refl;
@@ -313,8 +313,8 @@ module _ (New : Filed → Segment → Type 0) (part : ℕ) (texts : Texts) (sinc
       frames.went_after New part texts since answered At asked asked n m (saying d.outs (cleans d.state input.Tick)) (On Begun (JobBegins count)) grows refl
       (λ x is. is)
       (frames.went_on New part texts since answered asked m d (cleans d.state input.Tick) (all_told (range_with_len 0 8) asked m r before (in_slots part small))
-      (λ w. jobs.cleans_so New part texts since answered w.questions w.next d.state input.Tick w.at
-      (jobs.may_other New part texts since answered w.next d.state input.Tick w.at tt tt)))
+      (λ w. jobs.cleans_so New part texts since answered w.questions w.next d.state input.Tick w.stands
+      (jobs.may_other New part texts since answered w.next d.state input.Tick w.stands tt tt)))
 
   pub clean_so : (asked : Questions) (n : Net) (e : Emptying) (number count : ℕ) → At n e → Goes asked n (on_clean e number count)
   unfolding on_clean

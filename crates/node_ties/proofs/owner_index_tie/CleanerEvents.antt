@@ -37,7 +37,7 @@ cleaner_event_goes part texts asked n cleaner what small agreed owed =
       next = k.next;
       runs = k.runs;
       agrees = record {
-        phase = agrees new part texts n small k.next w.state k.at owed.writes;
+        phase = agrees new part texts n small k.next w.state k.stands owed.writes;
         moves = moves_later part n.sent k.next.sent k.grows.sent w.state
             (cleaner_moves_answered part n.sent cleaner what agreed.moves (answers_come part n cleaner.phase what owed.gets));
       };
@@ -50,7 +50,7 @@ cleaner_event_goes part texts asked n cleaner what small agreed owed =
       horizon = k.grows.horizon;
       parts = k.grows.parts;
       promised = k.grows.promised;
-      away = away new part texts n small k.next w.state k.at;
+      away = away new part texts n small k.next w.state k.stands;
       sent = k.grows.sent;
       deleted = k.grows.deleted;
       questions = k.questions;

@@ -149,7 +149,7 @@ module _ (part : ℕ) (n m : Net) (g : Grows n m) where
 -- a job that is the small world's is so while that has it
 pub same_job : (part : ℕ) (n m : Net) (epoch : ℕ) (o : Option Job) → m.job ≡ n.job → JobAgrees part n epoch o → JobAgrees part m epoch o
 same_job part n m epoch None same k = ap (λ (x : CleaningState). promised_at x.promised part) same ∙ k
-same_job part n m epoch (Some job) same k = record { is = same ∙ k.is; eight = k.eight; told = k.told }
+same_job part n m epoch (Some job) same k = record { same_job = same ∙ k.same_job; eight = k.eight; told = k.told }
 
 module _ (New : Filed → Segment → Type 0) (part : ℕ) (texts : Texts) (since : ℕ) (answered : List Packet) where
   -- the cleaner stands so; no less is filed, and no less was answered, than from the start on
@@ -189,7 +189,7 @@ module _ (New : Filed → Segment → Type 0) (part : ℕ) (texts : Texts) (sinc
     pub filed : next.filed ≡ filed_after texts 9 n.filed outs
     pub questions : Questions
     pub kept : Asked_more asked questions
-    pub at : P next s
+    pub stands : P next s
     pub says : AllByRecursion (CleanerDoes part questions next since) outs
 
   -- where what is asked may be, and texts that bear their names may be filed, no others are
@@ -227,7 +227,7 @@ module _ (New : Filed → Segment → Type 0) (part : ℕ) (texts : Texts) (sinc
               filed = two.filed ∙ ap (λ f. filed_after texts 9 f e.outs) one.filed ∙ sym (after_both texts 9 n.filed d.outs e.outs);
               questions = two.questions;
               kept = λ x is. two.kept x (one.kept x is);
-              at = two.at;
+              stands = two.stands;
               says = all_both (CleanerDoes part two.questions two.next since) d.outs e.outs
                   (all_weaker (CleanerDoes part one.questions one.next since) (CleanerDoes part two.questions two.next since)
                   (does_later part since one.questions two.questions two.kept one.next two.next two.grows) d.outs one.says)
@@ -257,13 +257,13 @@ module _ (New : Filed → Segment → Type 0) (part : ℕ) (texts : Texts) (sinc
       filed = refl;
       questions = asked;
       kept = λ x is. is;
-      at = h;
+      stands = h;
       says = tt;
     },
     λ asks may. tt,
   )
   went_steps step one asked n e (x ∷ xs) h =
-      went_on asked n (step e x) (steps step (step e x).state xs) (one asked n e x h) (λ w. went_steps step one w.questions w.next (step e x).state xs w.at)
+      went_on asked n (step e x) (steps step (step e x).state xs) (one asked n e x h) (λ w. went_steps step one w.questions w.next (step e x).state xs w.stands)
 
   -- ---- steps that file nothing
 
@@ -330,7 +330,7 @@ module _ (New : Filed → Segment → Type 0) (part : ℕ) (texts : Texts) (sinc
         filed = sym (plain_files outs all);
         questions = asked;
         kept = λ x is. is;
-        at = h;
+        stands = h;
         says = all_weaker Plain (CleanerDoes part asked n since) plain_does outs all;
       },
       λ asks may. plain_named outs all,
@@ -363,7 +363,7 @@ module _ (New : Filed → Segment → Type 0) (part : ℕ) (texts : Texts) (sinc
             filed = w.filed ∙ ap (λ f. filed_after texts 9 f d.outs) (sym same) ∙ sym (after_both texts 9 n.filed outs d.outs);
             questions = w.questions;
             kept = w.kept;
-            at = w.at;
+            stands = w.stands;
             says = all_both (CleanerDoes part w.questions w.next since) outs d.outs
                 (all_weaker (Plain asked n) (CleanerDoes part w.questions w.next since)
                 (λ e k. does_later part since asked w.questions w.kept n w.next w.grows e (plain_does asked n e k)) outs all)
@@ -391,7 +391,7 @@ module _ (New : Filed → Segment → Type 0) (part : ℕ) (texts : Texts) (sinc
             filed = w.filed ∙ ap (λ f. filed_after texts 9 f d.outs) same;
             questions = w.questions;
             kept = λ x is. w.kept x (kept x is);
-            at = w.at;
+            stands = w.stands;
             says = w.says;
           }
 
@@ -436,6 +436,6 @@ module _ (New : Filed → Segment → Type 0) (part : ℕ) (texts : Texts) (sinc
             filed = w.filed ∙ ap (λ f. filed_after texts 9 f d.outs) (sym same);
             questions = w.questions;
             kept = w.kept;
-            at = w.at;
+            stands = w.stands;
             says = (tt, w.says);
           }

@@ -206,8 +206,8 @@ module _ (New : Filed → Segment → Type 0) (part : ℕ) (texts : Texts) (sinc
       let k = its n e j h same in
       let kept = same_promises j.cleaning i calm in
       record {
-        happens = subst (λ s. Happens part (held_in part texts) n (with_job n (job.transition s i))) k.is (JobTakes i other);
-        seen = record { is = refl; eight = ap length kept ∙ k.eight; told = ap (λ p. promised_at p part) kept ∙ k.told };
+        happens = subst (λ s. Happens part (held_in part texts) n (with_job n (job.transition s i))) k.same_job (JobTakes i other);
+        seen = record { same_job = refl; eight = ap length kept ∙ k.eight; told = ap (λ p. promised_at p part) kept ∙ k.told };
       }
 
   -- a segment that is read
@@ -215,8 +215,8 @@ module _ (New : Filed → Segment → Type 0) (part : ℕ) (texts : Texts) (sinc
   may_read n e read h owed j same =
       let k = its n e j h same in
       record {
-        happens = subst (λ s. Happens part (held_in part texts) n (with_job n (job.transition s (input.Read read)))) k.is (JobReads read owed);
-        seen = record { is = refl; eight = k.eight; told = k.told };
+        happens = subst (λ s. Happens part (held_in part texts) n (with_job n (job.transition s (input.Read read)))) k.same_job (JobReads read owed);
+        seen = record { same_job = refl; eight = k.eight; told = k.told };
       }
 
   -- a Dead of the slot
@@ -227,9 +227,9 @@ module _ (New : Filed → Segment → Type 0) (part : ℕ) (texts : Texts) (sinc
       let k = its n e j h same in
       let kept = same_promises j.cleaning (input.Dead block epoch) tt in
       record {
-        happens = subst (λ s. Happens part (held_in part texts) n (with_job n (job.transition s (input.Dead block epoch)))) k.is
+        happens = subst (λ s. Happens part (held_in part texts) n (with_job n (job.transition s (input.Dead block epoch)))) k.same_job
             (JobHearsDead number block epoch name below sent hand);
-        seen = record { is = refl; eight = ap length kept ∙ k.eight; told = ap (λ p. promised_at p part) kept ∙ k.told };
+        seen = record { same_job = refl; eight = ap length kept ∙ k.eight; told = ap (λ p. promised_at p part) kept ∙ k.told };
       }
 
   -- the Welcome, whose news are not above what is promised
@@ -254,7 +254,7 @@ module _ (New : Filed → Segment → Type 0) (part : ℕ) (texts : Texts) (sinc
         happens = subst (λ p. Happens part (held_in part texts) n (record (with_job n d) { promised = p })) after_it
             (subst (λ s. n.promised ≤ promised_at (job.transition s i).state.promised part
             → Happens part (held_in part texts) n
-            (record (with_job n (job.transition s i)) { promised = promised_at (job.transition s i).state.promised part })) k.is
+            (record (with_job n (job.transition s i)) { promised = promised_at (job.transition s i).state.promised part })) k.same_job
             (λ low. JobWelcomed slots groups low) (omega arith));
-        seen = record { is = refl; eight = w.0 ∙ k.eight; told = w.1 ∙ k.told };
+        seen = record { same_job = refl; eight = w.0 ∙ k.eight; told = w.1 ∙ k.told };
       }

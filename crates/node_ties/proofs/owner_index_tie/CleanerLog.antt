@@ -72,7 +72,7 @@ module _ (New : Filed → Segment → Type 0) (part : ℕ) (texts : Texts) (sinc
   sends_so asked n e [] all h = frames.quiet New part texts since answered asked n e [] h tt
   sends_so asked n e (Send fragment member ∷ outs) all h =
       frames.went_on New part texts since answered asked n (record { state = e; outs = store fragment member ∷ [] }) (steps writes_one e outs)
-      (frames.quiet New part texts since answered asked n e (store fragment member ∷ []) h (tt, tt)) (λ w. sends_so w.questions w.next e outs all.1 w.at)
+      (frames.quiet New part texts since answered asked n e (store fragment member ∷ []) h (tt, tt)) (λ w. sends_so w.questions w.next e outs all.1 w.stands)
   sends_so asked n e (Settled end rows ∷ outs) all h = absurd all.0
 
   rests_so : (asked : Questions) (n : Net) (e : Emptying) (r : log.Done) → LogNext 9 r.state → Rests e.log r → At n e
@@ -157,7 +157,7 @@ module _ (New : Filed → Segment → Type 0) (part : ℕ) (texts : Texts) (sinc
         (pushes_plain asked m then_fed.promised.managers then_fed.feed at.seen.owner.feed)
         (jobs.cleans_so New part texts since answered asked m then_fed input.Moved at
         (jobs.may_other New part texts since answered m then_fed input.Moved at tt tt)))
-        (λ w. sends_so w.questions w.next gone.state k.rest k.sends w.at)
+        (λ w. sends_so w.questions w.next gone.state k.rest k.sends w.stands)
 
     lands_so : Goes asked n (steps writes_one (record e { log = r.state }) (Settled (end_from old) (rows_of old) ∷ k.rest))
     unfolding writes_one settles

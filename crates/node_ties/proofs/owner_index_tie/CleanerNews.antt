@@ -140,7 +140,7 @@ module _ (New : Filed → Segment → Type 0) (part : ℕ) (texts : Texts) (sinc
       filed = w.filed;
       questions = w.questions;
       kept = w.kept;
-      at = (w.at, later n w.next w.grows x);
+      stands = (w.stands, later n w.next w.grows x);
       says = w.says;
     }),
     goes.1,
@@ -156,7 +156,7 @@ module _ (New : Filed → Segment → Type 0) (part : ℕ) (texts : Texts) (sinc
       filed = w.filed;
       questions = w.questions;
       kept = w.kept;
-      at = to w.next d.state w.at;
+      stands = to w.next d.state w.stands;
       says = w.says;
     }),
     goes.1,
@@ -203,7 +203,7 @@ module _ (New : Filed → Segment → Type 0) (part : ℕ) (texts : Texts) (sinc
       (steps hears_slot (hears_slot e news).state slots)
       (holding (Heard slots) (λ v. news.slot ≡ part → news.epoch ≤ v.promised)
       (λ u v g x same. let a = x same in let b = g.promised in omega arith) w.questions w.next
-      (steps hears_slot (hears_slot e news).state slots) w.at.1 (all_hear w.questions w.next (hears_slot e news).state slots w.at.0)))
+      (steps hears_slot (hears_slot e news).state slots) w.stands.1 (all_hear w.questions w.next (hears_slot e news).state slots w.stands.0)))
 
   -- ---- news
 
@@ -231,10 +231,10 @@ module _ (New : Filed → Segment → Type 0) (part : ℕ) (texts : Texts) (sinc
       (regroups_so asked n r newer news.groups h)
       (λ w. frames.went_through New part texts since answered (Heard news.slots) (Heard news.slots) w.questions w.next b
       (log_regrouped b.state newer news.groups)
-      (all_hear w.questions w.next a.state news.slots w.at)
+      (all_hear w.questions w.next a.state news.slots w.stands)
       (λ x. holding At (λ v. NoHigher part v.promised news.slots) (no_higher_later news.slots) x.questions x.next
-      (log_regrouped b.state newer news.groups) x.at.1
-      (log_regroups_so x.questions x.next b.state newer news.groups x.at.0 (subst (FlightKnown part texts answered) (sym same) text))))
+      (log_regrouped b.state newer news.groups) x.stands.1
+      (log_regroups_so x.questions x.next b.state newer news.groups x.stands.0 (subst (FlightKnown part texts answered) (sym same) text))))
 
   pub news_so : (asked : Questions) (n : Net) (e : Emptying) (news : News) → At n e → FlightKnown part texts answered e.log → Goes asked n (on_news e news)
   news_so asked n e news h text =
@@ -269,5 +269,5 @@ module _ (New : Filed → Segment → Type 0) (part : ℕ) (texts : Texts) (sinc
       let d = takes_news e m.news in
       by_test (Goes asked n) ((m.inc == e.lasting.inc) && fits e.maps m.news) (saying d.outs (welcomes d.state m)) (still e)
       (λ _. frames.went_through New part texts since answered (Heard m.news.slots) At asked n d (welcomes d.state m) (takes_so asked n e m.news h text)
-      (λ w. welcomes_so w.questions w.next d.state m w.at.0 w.at.1))
+      (λ w. welcomes_so w.questions w.next d.state m w.stands.0 w.stands.1))
       (λ _. frames.quiet New part texts since answered asked n e [] h tt)

@@ -125,7 +125,7 @@ module _ (New : Filed → Segment → Type 0) (part : ℕ) (texts : Texts) (n : 
       filed = w.filed;
       questions = w.questions;
       kept = w.kept;
-      at = w.at;
+      stands = w.stands;
       says = w.says;
     }),
     goes.1,
@@ -162,7 +162,7 @@ module _ (New : Filed → Segment → Type 0) (part : ℕ) (texts : Texts) (n : 
 
   -- what is filed is another, and nothing else
   pub record Files (v : Net) (p : Progress) : Type 0 where
-    pub is : v ≡ filing n v.filed
+    pub only_files : v ≡ filing n v.filed
     pub seen : log.ProgressSeen part n 9 since v.filed p
 
   -- where the log is open then, its maps are no older than what was promised
@@ -213,7 +213,7 @@ module _ (New : Filed → Segment → Type 0) (part : ℕ) (texts : Texts) (n : 
             filed = refl;
             questions = asked;
             kept = λ x is. is;
-            at = record { is = refl; seen = k.at };
+            stands = record { only_files = refl; seen = k.stands };
             says = opener_all part asked m since owner w.effects may;
           }
 
@@ -230,7 +230,7 @@ module _ (New : Filed → Segment → Type 0) (part : ℕ) (texts : Texts) (n : 
     back_so asked v l o k eight newer =
         let epoch = epoch_of o.promised part in
         let m = record v { promised = epoch } in
-        let low : v.promised ≤ epoch = (let a = promised_in v k.is in omega arith) in
+        let low : v.promised ≤ epoch = (let a = promised_in v k.only_files in omega arith) in
         let grows : Grows v m = record {
           slots = refl;
           epoch = refl;
@@ -244,10 +244,10 @@ module _ (New : Filed → Segment → Type 0) (part : ℕ) (texts : Texts) (n : 
         let owner = same_owner part (filing n v.filed) m 9 9 o.log o.feed (record { head = refl; segment = λ q some limit. refl }) k.seen.seen in
         let at : PhaseSo m (back l o).state = record {
           late = k.seen.late;
-          heard = λ x is. subst (λ xs. In x xs) (sym (sent_in v k.is)) is;
-          seen = record { owner = owner; eight = eight; promised = refl; job = none_in v k.is };
+          heard = λ x is. subst (λ xs. In x xs) (sym (sent_in v k.only_files)) is;
+          seen = record { owner = owner; eight = eight; promised = refl; job = none_in v k.only_files };
         } in
-        frames.went_after New part texts since n.sent PhaseSo asked asked v m (back l o) (On Begun (Promises epoch low (none_in v k.is))) grows refl
+        frames.went_after New part texts since n.sent PhaseSo asked asked v m (back l o) (On Begun (Promises epoch low (none_in v k.only_files))) grows refl
         (λ x is. is)
         (quiet asked m (back l o).state (back l o).outs at
         (all_both (frames.Plain New part texts since n.sent asked m) (pushes_all o.promised.managers o.feed) _
@@ -257,10 +257,10 @@ module _ (New : Filed → Segment → Type 0) (part : ℕ) (texts : Texts) (n : 
     after_opening_so : (asked : Questions) (v : Net) (l : Lasting) (p : Progress) → Files v p → Newer (after_opening l p).state
         → Goes asked v (after_opening l p)
     unfolding after_opening
-    after_opening_so asked v l (progress.Opening o) k newer = quiet asked v (Opening l o) [] (rests_in v k.is k.seen.0, k.seen.1) tt
+    after_opening_so asked v l (progress.Opening o) k newer = quiet asked v (Opening l o) [] (rests_in v k.only_files k.seen.0, k.seen.1) tt
     after_opening_so asked v l (progress.Opened o) k newer = back_so asked v l o k newer.0 newer.1
     after_opening_so asked v l (progress.Lost seg) k newer =
-        quiet asked v (Down (record l { items = answered l.items })) (answers_unanswered l.items.unanswered (answer.Lost seg)) (rests_in v k.is k.seen)
+        quiet asked v (Down (record l { items = answered l.items })) (answers_unanswered l.items.unanswered (answer.Lost seg)) (rests_in v k.only_files k.seen)
         (answers_plain New part texts since n.sent asked v l.items.unanswered (answer.Lost seg))
 
     opened_on_so : (moved : IsMovedThere) (asked : Questions) (owner : Owner) (l : Lasting) (w : Went)
@@ -269,7 +269,7 @@ module _ (New : Filed → Segment → Type 0) (part : ℕ) (texts : Texts) (n : 
     opened_on_so moved asked owner l w goes may newer =
         let m = record l { questions = w.questions } in
         frames.went_through New part texts since n.sent Files PhaseSo asked n (record { state = w.progress; outs = w.effects }) (after_opening m w.progress)
-        (opening_went moved asked owner w goes may) (λ x. after_opening_so x.questions x.next m w.progress x.at newer)
+        (opening_went moved asked owner w goes may) (λ x. after_opening_so x.questions x.next m w.progress x.stands newer)
 
   -- ---- the next item begins
 

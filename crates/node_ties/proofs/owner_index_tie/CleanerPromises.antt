@@ -97,7 +97,7 @@ module _ (New : Filed → Segment → Type 0) (part : ℕ) (texts : Texts) (sinc
             filed = w.filed;
             questions = w.questions;
             kept = w.kept;
-            at = (w.at, let a = w.grows.promised in omega arith);
+            stands = (w.stands, let a = w.grows.promised in omega arith);
             says = w.says;
           },
           goes.1,
@@ -145,7 +145,7 @@ module _ (New : Filed → Segment → Type 0) (part : ℕ) (texts : Texts) (sinc
               promised = promised_at
                   (job.transition s (input.Promise part epoch)).state.promised part;
             }))
-            its.is (λ low. JobPromises epoch low) (let a = h.seen.promised in let b = promised_now in omega arith));
+            its.same_job (λ low. JobPromises epoch low) (let a = h.seen.promised in let b = promised_now in omega arith));
         grows = record {
           slots = refl;
           epoch = refl;
@@ -159,7 +159,7 @@ module _ (New : Filed → Segment → Type 0) (part : ℕ) (texts : Texts) (sinc
         filed = refl;
         promised = promised_now;
         job = record {
-          is = refl;
+          same_job = refl;
           eight = ap length (promise_is j.cleaning part epoch) ∙ jobs.with_length j.cleaning.promised part epoch
               ∙ its.eight;
           told = promised_now;
@@ -276,10 +276,10 @@ module _ (New : Filed → Segment → Type 0) (part : ℕ) (texts : Texts) (sinc
         let k = subst (JobAgrees part n (epoch_of others.promised part)) same still_at.seen.job in
         let is = promise_is j.cleaning slot epoch in
         record {
-          happens = subst (λ s. Happens part (held_in part texts) n (with_job n (job.transition s (input.Promise slot epoch)))) k.is
+          happens = subst (λ s. Happens part (held_in part texts) n (with_job n (job.transition s (input.Promise slot epoch)))) k.same_job
               (JobTakes (input.Promise slot epoch) other);
           seen = record {
-            is = refl;
+            same_job = refl;
             eight = ap length is ∙ jobs.with_length j.cleaning.promised slot epoch ∙ k.eight;
             told = ap (λ p. promised_at p part) is ∙ jobs.with_other j.cleaning.promised slot epoch part other ∙ k.told;
           };
@@ -317,7 +317,7 @@ module _ (New : Filed → Segment → Type 0) (part : ℕ) (texts : Texts) (sinc
       filed = w.filed;
       questions = w.questions;
       kept = w.kept;
-      at = to w.next d.state w.at;
+      stands = to w.next d.state w.stands;
       says = w.says;
     }),
     goes.1,

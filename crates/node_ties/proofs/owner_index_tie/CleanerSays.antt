@@ -188,7 +188,7 @@ module _ (New : Filed → Segment → Type 0) (part : ℕ) (texts : Texts) (sinc
       asked_there : (may : MayAsk part n c) → frames.Went New part texts since answered asked n At e (check_sent e block place (Some ask)).outs
       asked_there may =
           let j = subst (JobAgrees part n (epoch_of e.promised part)) same h.seen.job in
-          let told : promised_at n.job.promised part ≡ n.promised = ap (λ (x : CleaningState). promised_at x.promised part) j.is ∙ j.told
+          let told : promised_at n.job.promised part ≡ n.promised = ap (λ (x : CleaningState). promised_at x.promised part) j.same_job ∙ j.told
           ∙ sym h.seen.promised in
           let p = Checked n.number block place may.epoch in
           record {
@@ -207,7 +207,7 @@ module _ (New : Filed → Segment → Type 0) (part : ℕ) (texts : Texts) (sinc
             filed = refl;
             questions = (ask, n.number, place.seg.name) ∷ asked;
             kept = λ x is. inr is;
-            at = frames.moved_on New part texts since answered n (with_packet n p) e.log e.feed e.promised e.job
+            stands = frames.moved_on New part texts since answered n (with_packet n p) e.log e.feed e.promised e.job
                 (record { head = refl; segment = λ q some limit. refl }) refl refl
                 (λ x is. inr is) h;
             says = (λ inside. record { number = n.number; below = may.epoch; sent = inl refl; question = inl refl }, tt);
@@ -260,7 +260,7 @@ module _ (New : Filed → Segment → Type 0) (part : ℕ) (texts : Texts) (sinc
   moves_so asked n e blocks h =
       let d = steps puts_block e blocks in
       frames.went_on New part texts since answered asked n d (puts d.state log_in.Seal)
-      (frames.went_steps New part texts since answered puts_block put_so asked n e blocks h) (λ w. seal_so w.questions w.next d.state w.at)
+      (frames.went_steps New part texts since answered puts_block put_so asked n e blocks h) (λ w. seal_so w.questions w.next d.state w.stands)
 
   -- ---- its deletes, and its end
 
@@ -331,4 +331,4 @@ module _ (New : Filed → Segment → Type 0) (part : ℕ) (texts : Texts) (sinc
   all_said asked n e (o ∷ outs) known h =
       frames.went_on New part texts since answered asked n (says e o) (steps says (says e o).state outs) (one_said asked n e o known.0 h)
       (λ w. all_said w.questions w.next (says e o).state outs
-      (all_weaker (Known n.deleted) (Known w.next.deleted) (known_later n w.next w.grows) outs known.1) w.at)
+      (all_weaker (Known n.deleted) (Known w.next.deleted) (known_later n w.next w.grows) outs known.1) w.stands)

@@ -66,6 +66,6 @@ module _ (New : Filed → Segment → Type 0) (part : ℕ) (texts : Texts) (sinc
         (jobs.cleans_so New part texts since answered asked n e input.Tick h (jobs.may_other New part texts since answered n e input.Tick h tt tt))
         (λ w. frames.went_on New part texts since answered w.questions w.next l
         (record { state = l.state; outs = pushes_all l.state.promised.managers l.state.feed })
-        (ticks_so New part texts since answered w.questions w.next j.state w.at)
-        (λ x. frames.quiet New part texts since answered x.questions x.next l.state (pushes_all l.state.promised.managers l.state.feed) x.at
-        (pushes_plain New part texts since answered x.questions x.next l.state.promised.managers l.state.feed x.at.seen.owner.feed)))
+        (ticks_so New part texts since answered w.questions w.next j.state w.stands)
+        (λ x. frames.quiet New part texts since answered x.questions x.next l.state (pushes_all l.state.promised.managers l.state.feed) x.stands
+        (pushes_plain New part texts since answered x.questions x.next l.state.promised.managers l.state.feed x.stands.seen.owner.feed)))

@@ -39,7 +39,7 @@ cleaner_start_agrees part texts any setup works small = record {
         feed = record {
           base = 0;
           inputs = [];
-          is = refl;
+          feed_is = refl;
           fed = record { known = omega arith; end = refl; each = refl };
           fit = nothing_fits any 9;
           short = omega arith;

@@ -137,8 +137,8 @@ module _ (New : Filed → Segment → Type 0) (part : ℕ) (texts : Texts) (n : 
       let t : Serving = record s { lasting = record s.lasting { items = waiting s.lasting.items number } } in
       let d : Done = goes_on t x in
       let p = calls.goes_on_so part n c since some limit f t x h in
-      let q = calls.runs_so part n c since some limit f d.state p.at in
-      quiet f (Serves (runs d.state).state) (d.outs ++ (runs d.state).outs) q.at
+      let q = calls.runs_so part n c since some limit f d.state p.stands in
+      quiet f (Serves (runs d.state).state) (d.outs ++ (runs d.state).outs) q.stands
       (all_both (frames.Plain part n c since f) d.outs (runs d.state).outs p.plain q.plain)
 
   opens_so : (f : Filed) (s : Serving) (number : ℕ) → Stood f s → Goes f (serves_on (opens s number))
@@ -208,7 +208,7 @@ module _ (New : Filed → Segment → Type 0) (part : ℕ) (texts : Texts) (n : 
       opened_on_so l capacity w h.0.number_is (p (gets_end l o (record l { questions = w.questions }) capacity w.progress gets))
 
   serves_so : (s : Serving) (d : Done) → serving.Files New part texts n c since some limit n.filed d → Goes_to (Serves s) (serves_on d)
-  serves_so s d p gets = (λ owed. (let k = p.0 owed in record { at = k.at; says = k.says }), p.1)
+  serves_so s d p gets = (λ owed. (let k = p.0 owed in record { stands = k.stands; says = k.says }), p.1)
 
   on_deliver_so : (capacity : ℕ) (p : Phase) (packet : Packet) → PhaseText p → PacketGets part texts n c p packet → Goes_to p (on_deliver capacity p packet)
   unfolding on_deliver
@@ -272,12 +272,12 @@ client_event_goes part texts n c client what some below agreed owed =
     owed.reopens).0 owed.files in
     record {
       next = filing n f;
-      is = refl;
+      only_files = refl;
       more = frames.more_after texts c n.filed w.outs;
       others = λ l other. others_after texts c l other n.filed w.outs;
       runs = runs_after (IsNewerAtSlot part) part texts (held_in part texts) n c
           (λ g name it. ClientFiles c (texts name) some below it.segment it.new) n.filed w.outs owed.files;
-      agrees = agrees (IsNewerAtSlot part) part texts n c some limit f w.state k.at owed.writes;
+      agrees = agrees (IsNewerAtSlot part) part texts n c some limit f w.state k.stands owed.writes;
       named = λ are. texts_after (IsNewerAtSlot part) texts c n.filed w.outs owed.files are;
       does = All-from_recursion (OwnerDoes part (filing n f) c (n.filed.head c)) w.outs k.says;
     }

@@ -29,7 +29,7 @@ by_filed P f l q here elsewhere = by (nat_lt 0 q && nat_le q (f.head l)) refl
 
 -- a feed ends where its log does
 pub feed_ends : (part : ℕ) (n : Net) (l : ℕ) (feed : FeedState) → FeedSeen part n l feed → feed.end ≡ n.filed.head l
-feed_ends part n l feed k = ap (λ (s : FeedState). s.end) k.is ∙ (is_after k.base k.inputs).end_is ∙ k.fed.end
+feed_ends part n l feed k = ap (λ (s : FeedState). s.end) k.feed_is ∙ (is_after k.base k.inputs).end_is ∙ k.fed.end
 
 pub same_rows : (l : ℕ) (f g : Filed) → IsSameLog l f g → (q : ℕ) → rows_at g l q ≡ rows_at f l q
 same_rows l f g same q = ap (λ h. cond (nat_lt 0 q && nat_le q h) (rows_of (g.segment l q)) []) same.head ∙ by (nat_lt 0 q && nat_le q (f.head l)) refl
@@ -53,7 +53,7 @@ pub same_feed : (part : ℕ) (n m : Net) (l : ℕ) (feed : FeedState) → IsSame
 same_feed part n m l feed same k = record {
   base = k.base;
   inputs = k.inputs;
-  is = k.is;
+  feed_is = k.feed_is;
   fed = record {
     known = let a = k.fed.known in let h = same.head in omega arith;
     end = k.fed.end ∙ sym same.head;

@@ -204,26 +204,26 @@ module _ (part : ℕ) (n : Net) (l since : ℕ) (f : Filed) where
 
   module _ {S : Type 0} (At : S → Type 0) where
     pub record Quiet (d : Stepped S Effect) : Type 0 where
-      pub at : At d.state
+      pub stands : At d.state
       pub plain : AllPlain d.outs
 
     pub quiet_still : (s : S) → At s → Quiet (still s)
-    quiet_still s h = record { at = h; plain = tt }
+    quiet_still s h = record { stands = h; plain = tt }
 
     pub quiet_plain : (s : S) (outs : List Effect) → At s → AllPlain outs → Quiet (record { state = s; outs = outs })
-    quiet_plain s outs h all = record { at = h; plain = all }
+    quiet_plain s outs h all = record { stands = h; plain = all }
 
     -- one thing follows another
     pub quiet_on : (d e : Stepped S Effect) → Quiet d → (At d.state → Quiet e) → Quiet (saying d.outs e)
-    quiet_on d e p k = (let q = k p.at in record { at = q.at; plain = all_both Plain d.outs e.outs p.plain q.plain })
+    quiet_on d e p k = (let q = k p.stands in record { stands = q.stands; plain = all_both Plain d.outs e.outs p.plain q.plain })
 
     pub quiet_after : (outs : List Effect) (d : Stepped S Effect) → AllPlain outs → Quiet d → Quiet (saying outs d)
-    quiet_after outs d all p = record { at = p.at; plain = all_both Plain outs d.outs all p.plain }
+    quiet_after outs d all p = record { stands = p.stands; plain = all_both Plain outs d.outs all p.plain }
 
     -- another state that stands so too, and more is said
     pub quiet_gives : (d : Stepped S Effect) (s : S) (outs : List Effect) → Quiet d → (At d.state → At s) → (At d.state → AllPlain outs)
         → Quiet (record { state = s; outs = d.outs ++ outs })
-    quiet_gives d s outs p k all = record { at = k p.at; plain = all_both Plain d.outs outs p.plain (all p.at) }
+    quiet_gives d s outs p k all = record { stands = k p.stands; plain = all_both Plain d.outs outs p.plain (all p.stands) }
 
     pub quiet_steps : {A : Type 0} (step : S → A → Stepped S Effect) → ((s : S) (x : A) → At s → Quiet (step s x)) → (s : S) (xs : List A) → At s
         → Quiet (steps step s xs)
@@ -238,7 +238,7 @@ module _ (New : Filed → Segment → Type 0) (part : ℕ) (texts : Texts) (n : 
 
   -- it stands so with what is filed then, and what it told is so then
   pub record Ends (f : Filed) (s : S) (outs : List Effect) : Type 0 where
-    pub at : At f s
+    pub stands : At f s
     pub says : AllByRecursion (OwnerDoes part (filing n f) l since) outs
 
   -- where what is filed next is owed; and texts that bear their names alone are filed, where those may be
@@ -248,7 +248,7 @@ module _ (New : Filed → Segment → Type 0) (part : ℕ) (texts : Texts) (n : 
   pub goes_quiet : (f : Filed) (d : Stepped S Effect) → Quiet part n l since f (At f) d → Goes f d
   goes_quiet f d q = (
     λ owed. subst (λ g. Ends g d.state d.outs) (sym (files_none part n l since f texts d.outs q.plain))
-        (record { at = q.at; says = all_do part n l since f d.outs q.plain }),
+        (record { stands = q.stands; says = all_do part n l since f d.outs q.plain }),
     λ may. plain_so part n l since f (IsNamed texts) d.outs q.plain,
   )
 
@@ -263,7 +263,7 @@ module _ (New : Filed → Segment → Type 0) (part : ℕ) (texts : Texts) (n : 
           let two = p.0 (subst (λ g. FilesOwed New texts l g d.outs) same (owed_behind New texts l f outs d.outs owed)) in
           let g = filed_after texts l f d.outs in
           subst (λ h. Ends h d.state (outs ++ d.outs)) (sym (after_both texts l f outs d.outs ∙ ap (λ h. filed_after texts l h d.outs) same)) (record {
-            at = two.at;
+            stands = two.stands;
             says = all_both (Says g) outs d.outs
                 (all_weaker (Says f) (Says g) (does_on part (filing n f) (filing n g) l since (more_after texts l f d.outs) refl) outs
                 (all_do part n l since f outs all)) two.says;
@@ -277,7 +277,7 @@ module _ (New : Filed → Segment → Type 0) (part : ℕ) (texts : Texts) (n : 
     λ owed. let g = with_name texts l f name in
         let q = k owed.0 in
         subst (λ h. Ends h d.state (Does (ActsFiled name) ∷ d.outs)) (sym (files_none part n l since g texts d.outs q.plain))
-        (record { at = q.at; says = (tt, all_do part n l since g d.outs q.plain) }),
+        (record { stands = q.stands; says = (tt, all_do part n l since g d.outs q.plain) }),
     λ may. (named, plain_so part n l since (with_name texts l f name) (IsNamed texts) d.outs (k (may f name named)).plain),
   )
 
@@ -289,7 +289,7 @@ module _ (New : Filed → Segment → Type 0) (part : ℕ) (texts : Texts) (n : 
       → Goes New part texts n l since Bt f (record { state = e.state; outs = d.outs ++ e.outs })
   goes_through f d e p k = (
     λ owed. through owed,
-    λ may. all_both (EffectSo (IsNamed texts)) d.outs e.outs (p.1 may) ((k (p.0 (owed_named New texts l may f d.outs (p.1 may))).at).1 may),
+    λ may. all_both (EffectSo (IsNamed texts)) d.outs e.outs (p.1 may) ((k (p.0 (owed_named New texts l may f d.outs (p.1 may))).stands).1 may),
   )
     where
       through : FilesOwed New texts l f (d.outs ++ e.outs)
@@ -298,9 +298,9 @@ module _ (New : Filed → Segment → Type 0) (part : ℕ) (texts : Texts) (n : 
           let g = filed_after texts l f d.outs in
           let h = filed_after texts l g e.outs in
           let one = p.0 (owed_before New texts l f d.outs e.outs owed) in
-          let two = (k one.at).0 (owed_behind New texts l f d.outs e.outs owed) in
+          let two = (k one.stands).0 (owed_behind New texts l f d.outs e.outs owed) in
           subst (λ x. Ends New part texts n l since Bt x e.state (d.outs ++ e.outs)) (sym (after_both texts l f d.outs e.outs)) (record {
-            at = two.at;
+            stands = two.stands;
             says = all_both (OwnerDoes part (filing n h) l since) d.outs e.outs
                 (all_weaker (OwnerDoes part (filing n g) l since) (OwnerDoes part (filing n h) l since)
                 (does_on part (filing n g) (filing n h) l since (more_after texts l g e.outs) refl) d.outs one.says)

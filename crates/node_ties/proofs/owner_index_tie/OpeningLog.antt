@@ -189,7 +189,7 @@ module _ (New : Filed → Segment → Type 0) (part : ℕ) (texts : Texts) (n : 
           (chained ++ Does (ActsFiled its_name) ∷ []))
           (sym (frames.after_both texts l f chained (Does (ActsFiled its_name) ∷ [])))
           (record {
-            at = opens_at owed;
+            stands = opens_at owed;
             says = all_both (OwnerDoes part (filing n x) l since) chained (Does (ActsFiled its_name) ∷ []) (filed_says x s.chain) (tt, tt);
           })
 

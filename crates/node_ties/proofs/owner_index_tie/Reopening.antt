@@ -52,7 +52,7 @@ module _ (New : Filed → Segment → Type 0) (part : ℕ) (texts : Texts) (n : 
       feed = record {
         base = base;
         inputs = [];
-        is = refl;
+        feed_is = refl;
         fed = record {
           known = let h = below_head in omega arith;
           end = sym below_head;

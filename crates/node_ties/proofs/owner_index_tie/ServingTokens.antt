@@ -158,4 +158,4 @@ module _ (part : ℕ) (n : Net) (l since : ℕ) (some : 0 < l) (limit : l ≤ 9)
   takes_back_so s block stamp keep h =
       let d : Done = hands s (input.Recalled block stamp keep) in
       let p = hands_so s (input.Recalled block stamp keep) h in
-      record { at = cache.notes_gone_so (Stands part n l since f) d.state block p.at; plain = p.plain }
+      record { stands = cache.notes_gone_so (Stands part n l since f) d.state block p.stands; plain = p.plain }

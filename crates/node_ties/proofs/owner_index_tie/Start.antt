@@ -24,7 +24,7 @@ first_client_agrees part texts any c setup works = (
     feed = record {
       base = 0;
       inputs = [];
-      is = refl;
+      feed_is = refl;
       fed = record { known = omega arith; end = refl; each = refl };
       fit = nothing_fits any c;
       short = omega arith;

@@ -66,7 +66,7 @@ module _ (part : ℕ) (texts : Texts) (n : Net) where
     pub inputs : List TakeoverIn
     pub take_is : take ≡ (course_of news groups clients inputs).state
     pub slot : news.slot ≡ part
-    pub at : news.epoch ≡ epoch
+    pub of_epoch : news.epoch ≡ epoch
     pub known : NewsKnown part n news
     pub whole : AllByRecursion (AllByRecursion (IsRead part texts)) (course_of news groups clients inputs).read.whole
     pub present : AllByRecursion (IsRead part texts) (course_of news groups clients inputs).read.present

@@ -27,7 +27,7 @@ module _ (part : ℕ) (n : Net) (l : ℕ) where
   pub record FeedSeen (feed : FeedState) : Type 0 where
     pub base : ℕ
     pub inputs : List In
-    pub is : feed ≡ state_after base inputs
+    pub feed_is : feed ≡ state_after base inputs
     pub fed : IsFed n.filed l base inputs
     pub fit : (q : ℕ) → RowsFit (rows_at n.filed l q)
     pub short : n.filed.head l < u32_end

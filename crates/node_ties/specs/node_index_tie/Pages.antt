@@ -61,7 +61,7 @@ module _ (part : ℕ) (texts : Texts) (n : Net) (desk : Desk) where
   -- what is written of a checkpoint of the slot was planned
   pub record WorkSeen (w : WorkState) : Type 0 where
     pub events : List Event
-    pub is : IsWork events w
+    pub as_planned : IsWork events w
 
   -- the writer, and the log that it alone writes
   pub record WriterAgrees : Type 0 where

@@ -37,7 +37,7 @@ module _ (part : ℕ) (n : Net) where
     pub eight : length r.board.checkpoints ≡ 8
     pub later_horizon : (e : ℕ) → n.epoch ≤ e → n.horizon e ≡ n.horizon n.epoch
     pub later_parts : (e : ℕ) → n.epoch ≤ e → n.parts e ≡ n.parts n.epoch
-    pub is : IsHorizon (n.horizon n.epoch)
+    pub horizon_fits : IsHorizon (n.horizon n.epoch)
 
   -- a checkpoint of the slot was sent, and its numbers are within their type
   pub record DoneKnown (m : CkptDone) : Type 0 where
@@ -64,7 +64,7 @@ module _ (part : ℕ) (n : Net) where
     pub epoch : news.epoch ≡ n.epoch
     pub horizon : news.horizon ≡ n.horizon n.epoch
     pub parts : news.parts ≡ n.parts n.epoch
-    pub is : IsHorizon news.horizon
+    pub horizon_fits : IsHorizon news.horizon
 
 -- the small world, but for the registry
 abbrev pub unkept : Net → Net

@@ -40,7 +40,7 @@ module _ (part promised last_epoch : ℕ) where
   -- one that serves has promised that epoch
   pub record ServesSo (e : Emptying) : Type 0 where
     pub eight : length e.promised.epochs ≡ 8
-    pub is : epoch_of e.promised.epochs part ≡ promised
+    pub promises : epoch_of e.promised.epochs part ≡ promised
 
   -- an opening promises no less, once its first Welcome came
   pub record OpensSo (l : Lasting) (o : openings.Opening) : Type 0 where

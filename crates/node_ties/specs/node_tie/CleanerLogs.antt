@@ -45,7 +45,7 @@ pub record IsCopy (k : Books) (b : BlockId) (row : Row) : Type 0 where
   pub log : ℕ
   pub segment : ℕ
   pub filed : segment ≤ k.end log
-  pub is : row ≡ said k log segment b
+  pub row_said : row ≡ said k log segment b
 
 abbrev pub AreCopies : Books → List (BlockId × Row) → Type 0
 AreCopies k rows = AllByRecursion (λ (r : BlockId × Row). IsCopy k r.0 r.1) rows

@@ -325,7 +325,7 @@ pub record Opens (part : ℕ) (p : Phase) (what : Do) (q : Phase) : Type 0 where
   pub welcome : Welcome
   pub was : p ≡ Waiting kept hello
   pub gets : what ≡ Deliver packet
-  pub is : packet.body ≡ body.Welcome welcome
+  pub bears : packet.body ≡ body.Welcome welcome
   pub inc : welcome.inc ≡ kept.inc
   pub ask : welcome.ask ≡ hello
   pub life : (lasting_of q).inc ≡ kept.inc

@@ -56,7 +56,7 @@ use Rattle.node_ties.specs.owner_index_tie.Owners.{LogFits, OwnerSeen, OpeningSe
 module _ (part : ℕ) (n : Net) where
   -- a job is the small world's, and was told the epoch that is promised
   pub record JobSeen (epoch : ℕ) (cleaning : CleaningState) : Type 0 where
-    pub is : n.job ≡ cleaning
+    pub same_job : n.job ≡ cleaning
     pub eight : length cleaning.promised ≡ 8
     pub told : promised_at cleaning.promised part ≡ epoch
 

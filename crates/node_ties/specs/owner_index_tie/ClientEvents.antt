@@ -94,7 +94,7 @@ module _ (part : ℕ) (texts : Texts) (n : Net) (c : ℕ) where
 -- nothing else changes, of no other log. What it tells of its log is so then.
 pub record ClientGoes (part : ℕ) (texts : Texts) (n : Net) (c : ℕ) (w : Went_to) : Type 0 where
   pub next : Net
-  pub is : next ≡ filing n (filed_after texts c n.filed w.outs)
+  pub only_files : next ≡ filing n (filed_after texts c n.filed w.outs)
   pub more : IsMore n.filed next.filed
   pub others : (l : ℕ) → (l ≡ c → ⊥) → IsSameLog l n.filed next.filed
   pub runs : Runs part (held_in part texts) n next

@@ -92,7 +92,7 @@ least_kept part n r of_eight agreed l some limit =
     let x = slot_news r.board part in
     subst (λ (h : List ℕ). least_horizon l (all_news r.board) ≤ of_log h l) agreed.horizon
     (up_to (least_horizon l (all_news r.board)) (horizon_of l x) (of_log x.horizon l) (least_below l (all_news r.board) x (news_among r.board part of_eight))
-    (horizon_is x l some limit (subst (λ (h : List ℕ). 0 < of_log h l) (sym agreed.horizon) (agreed.is.from_one l some limit))))
+    (horizon_is x l some limit (subst (λ (h : List ℕ). 0 < of_log h l) (sym agreed.horizon) (agreed.horizon_fits.from_one l some limit))))
 
 -- ---- a moment
 
@@ -176,7 +176,7 @@ module _ (managed : CheckpointsHaveManagers) (promised : ActiveEpochsPromised) (
   of_cleaner : (v : Emptying) → t.cleaner.phase ≡ cleaning.Serving v → (e : ℕ) (z : SlotState) → t.net.slots e ≡ Some z → e ≤ epoch_of v.promised.epochs part
   of_cleaner v is e z there =
       let stands = subst (CleanerStands part t.net.promised (owners.epoch_now k part t)) is both.tokens.cleaner.1 in
-      subst (λ x. e ≤ x) (sym stands.is) (both.tokens.entered e z there).4
+      subst (λ x. e ≤ x) (sym stands.promises) (both.tokens.entered e z there).4
 
 pub client_polls_low : CheckpointsHaveManagers → ActiveEpochsPromised → ClientPollsAreLow
 client_polls_low managed promised logs k part texts first nodes sent acts t i c s m of_eight both some less is poll low =

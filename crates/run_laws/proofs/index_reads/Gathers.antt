@@ -150,7 +150,7 @@ module _ (members part : ℕ) (texts : Texts) (t : tokens.Net) (i : index.Net) (
         (λ plain. absurd (plain_hands_nothing (transition u.take given).outs plain later.news.epoch rows (beliefs_of later.reports)
         (applied_of later.news.horizon later.reports) is))
         (λ hands. subst (λ xs. Gathered members part t.books xs (applied_of later.news.horizon later.reports) (ends_of later.reports))
-        (sym (its_index hands (subst (In (active later rows)) hands.is is))) (handed hands))
+        (sym (its_index hands (subst (In (active later rows)) hands.says_active is))) (handed hands))
         (took u.take given k.ready k.once).said
       where
         its_index : (hands : Hands later (transition u.take given).outs) → In (active later rows) (active later hands.index ∷ []) → rows ≡ hands.index

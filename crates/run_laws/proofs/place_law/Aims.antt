@@ -144,7 +144,7 @@ aims r t h b = by (held_of t.blocks b).fetch refl
     by None is = tt
     by (Some f) is = record {
       hop = 0;
-      is = λ x at place its block same lies.
+      place_told = λ x at place its block same lies.
           sym (one_place f.place place lies)
           ∙ h x at f its block (subst (λ (c : BlockId). (held_of t.blocks c).fetch ≡ Some f) (sym same) is);
     }
@@ -152,7 +152,7 @@ aims r t h b = by (held_of t.blocks b).fetch refl
 aimed : (r : Option ReadingState) (t : TokensState) → FetchesTold (Aims r) t → Its r t
 aimed r t h x at f is block fetch =
     let p : PlaceTold (Aims r) at.block f.ver f.place = subst (FetchTold (Aims r) at.block) fetch (h at.block) in
-    p.is x at f.place is block refl refl
+    p.place_told x at f.place is block refl refl
 
 -- an input that is no grant of a place
 abbrev pub NoGrant : In → Type 0

@@ -157,7 +157,7 @@ module _ (r : Option ReadingState) where
   follows_one_so s (output.Want block req again mode) is h = h
   follows_one_so s (output.Gave block stamp) is h = h
   follows_one_so s (output.Flush block) is h = seals_so s h
-  follows_one_so s (output.Read block place) is h = absurd (let e = is.there.is in cc)
+  follows_one_so s (output.Read block place) is h = absurd (let e = is.there.place_told in cc)
   follows_one_so s (output.Ready block) is h = notes_copy_so s block h
   follows_one_so s (output.Supply block ver value) is h = h
 

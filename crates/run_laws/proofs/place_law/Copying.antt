@@ -53,7 +53,7 @@ module _ (k : Books) (f : Filed) (exact : AreExact f) (b : BlockId) (e : Entry) 
     log = place.seg.name.log.0;
     segment = place.seg.name.seq;
     filed = lies.filed;
-    is =
+    row_said =
         let its : (said k place.seg.name.log.0 place.seg.name.seq b).value ≡ value =
         lies.value ∙ exact _ _ lies.some lies.limit b value e place (subst (λ x. In (Block x value) there.items) same is) lies.says at
         in

@@ -52,7 +52,7 @@ module _ (texts : Texts) (packets : List Packet) (to : NodeId) (cuts : Cuts) (f 
         subst (FetchTold (told_by (rows_at f)) at.block) fetch (well.told.fetches at.block) in
         let e : Entry = record { ver = x.ver; hop = t.hop; place = Some x.place } in
         let lies : LiesAt f k at.block e x.place x.place.seg.name.log.0 x.place.seg.name.seq =
-        lies_there f k at.block e x.place known.filed books plain refl t.is in
+        lies_there f k at.block e x.place known.filed books plain refl t.place_told in
         let there : Segment = f.segment x.place.seg.name.log.0 x.place.seg.name.seq in
         let same : x.place ≡ place_read r at = well.its r at x is block fetch in
         let named : there ≡ texts x.place.seg.name = known.texts_of _ _ lies.some lies.limit ∙ ap texts (sym lies.name) in

@@ -106,7 +106,7 @@ read_begun e seg h = in_hand e e.job seg h.job h
 moved_waits : (block : BlockId) (entry : Entry) (value : Option (List ℕ)) → MovedTold versions block entry
     → IsWaiting IsMoved (record { entry = entry; value = value })
 moved_waits block entry value is = record {
-  version = subst (λ (x : Entry). 0 < x.ver) (sym is.moved) is.is;
+  version = subst (λ (x : Entry). 0 < x.ver) (sym is.moved) is.before_told;
   hop = subst (λ (x : Entry). 0 < x.hop) (sym is.moved) (some is.before.hop);
 }
   where

@@ -56,22 +56,22 @@ module _ (clients_stay : ClientsStay) (managers_stay : ManagersStay) (cleaner_st
 
   -- nothing but what is filed changes
   slots : go.next.slots ≡ s.net.slots
-  slots = ap (λ (x : Net). x.slots) go.is
+  slots = ap (λ (x : Net). x.slots) go.only_files
 
   epoch : go.next.epoch ≡ s.net.epoch
-  epoch = ap (λ (x : Net). x.epoch) go.is
+  epoch = ap (λ (x : Net). x.epoch) go.only_files
 
   horizon : go.next.horizon ≡ s.net.horizon
-  horizon = ap (λ (x : Net). x.horizon) go.is
+  horizon = ap (λ (x : Net). x.horizon) go.only_files
 
   parts : go.next.parts ≡ s.net.parts
-  parts = ap (λ (x : Net). x.parts) go.is
+  parts = ap (λ (x : Net). x.parts) go.only_files
 
   said : go.next.sent ≡ s.net.sent
-  said = ap (λ (x : Net). x.sent) go.is
+  said = ap (λ (x : Net). x.sent) go.only_files
 
   deleted : go.next.deleted ≡ s.net.deleted
-  deleted = ap (λ (x : Net). x.deleted) go.is
+  deleted = ap (λ (x : Net). x.deleted) go.only_files
 
   said_on : (x : Said) → tables.In x s.net.sent → tables.In x go.next.sent
   said_on x is_in = subst (λ xs. tables.In x xs) (sym said) is_in
@@ -121,8 +121,8 @@ module _ (clients_stay : ClientsStay) (managers_stay : ManagersStay) (cleaner_st
     cleaner = cleaner_stays part texts s.net go.next s.cleaner.phase
         (record {
           log = go.others 9 not_cleaner;
-          promised = ap (λ (x : Net). x.promised) go.is;
-          job = ap (λ (x : Net). x.job) go.is;
+          promised = ap (λ (x : Net). x.promised) go.only_files;
+          job = ap (λ (x : Net). x.job) go.only_files;
           sent = said_on;
         })
         st.cleaner;

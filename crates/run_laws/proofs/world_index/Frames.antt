@@ -41,9 +41,9 @@ module _ (part : ℕ) (n m : Net) (epoch : m.epoch ≡ n.epoch) (horizon : m.hor
     eight = k.eight;
     later_horizon = λ e low. ap (λ (h : ℕ → List ℕ). h e) horizon ∙ (k.later_horizon e (subst (λ x. x ≤ e) epoch low) ∙ sym horizon_now);
     later_parts = λ e low. ap (λ (h : ℕ → List SegRef). h e) parts ∙ (k.later_parts e (subst (λ x. x ≤ e) epoch low) ∙ sym parts_now);
-    is = record {
-      from_one = λ l some limit. subst (λ (h : List ℕ). 0 < of_log h l) (sym horizon_now) (k.is.from_one l some limit);
-      short = λ l. subst (λ (h : List ℕ). of_log h l ≤ u32_end) (sym horizon_now) (k.is.short l);
+    horizon_fits = record {
+      from_one = λ l some limit. subst (λ (h : List ℕ). 0 < of_log h l) (sym horizon_now) (k.horizon_fits.from_one l some limit);
+      short = λ l. subst (λ (h : List ℕ). of_log h l ≤ u32_end) (sym horizon_now) (k.horizon_fits.short l);
     };
   }
 

@@ -179,7 +179,7 @@ module _ (part : ℕ) (texts : Texts) (asked : Questions) (n : Net) where
           name = known.name;
           below = known.below;
           sent = known.sent;
-          hand = subst (λ (x : _). IsInHand known.name x.phase) (sym seen.is) (in_hand job.cleaning.phase hand.seg.name known.name asks.job named);
+          hand = subst (λ (x : _). IsInHand known.name x.phase) (sym seen.same_job) (in_hand job.cleaning.phase hand.seg.name known.name asks.job named);
         }
 
     given_by : (epoch : ℕ) (o : Option Job) → JobAgrees part n epoch o → JobAsks (WasAsked asked) q o → is_out (check_of (hand_of o) m.block) m.ask ≡ true

@@ -51,7 +51,7 @@ use Rattle.xfs_base.specs.declared.node.NodeId.TheVariants.{Server, Registry}
 -- an epoch that a manager takes over has begun
 module _ (part : ℕ) (texts : Texts) (n : Net) where
   slot_begun : (desk : Desk) (p : SlotPhase) → PhaseAgrees part texts n desk p → (e : ℕ) → HeldAt p e → n.slots e ≡ None → e ≤ n.epoch
-  slot_begun desk (phase.Taking t) agreed e held none = let at = agreed.at in let begun = agreed.known.begun in omega arith
+  slot_begun desk (phase.Taking t) agreed e held none = let at = agreed.of_epoch in let begun = agreed.known.begun in omega arith
   slot_begun desk (phase.Active a) agreed e held none = absurd (some_none a.slot (sym agreed.there ∙ (ap n.slots held ∙ none)))
   slot_begun desk (phase.Away epoch) agreed e held none = absurd held
   slot_begun desk (phase.Broken epoch seg) agreed e held none = absurd held
@@ -102,7 +102,7 @@ module _ (clients_stay : ClientsStay) (managers_stay : ManagersStay) (cleaner_st
       begun = let same = t.epoch in omega arith;
       horizon = λ none. t.horizon ∙ sym (ap go.next.horizon t.epoch);
       parts = λ none. t.parts ∙ sym (ap go.next.parts t.epoch);
-      is = t.is;
+      is = t.horizon_fits;
     }
 
     all_kept : (news : News) → NewsAre part after_node.board news → AllKept part go.next news.slots

@@ -134,8 +134,8 @@ module _ (laws : NodeLaws) (k : Cluster) (part : ℕ) (of_eight : part < 8) (tex
                   b.some less at here (takes (s.client c) what) go;
               grown = clients.grown laws.clients_stay laws.managers_stay laws.cleaner_stays k part texts first RegistrySound nodes sent s st c place clock
                   b.some less at here (takes (s.client c) what) go;
-              makes = go.is;
-              came = none_came (Client c) _ (ap (λ (x : Net). x.slots) go.is);
+              makes = go.only_files;
+              came = none_came (Client c) _ (ap (λ (x : Net). x.slots) go.only_files);
             }
 
     manager_after : Brought → (j : ℕ) → place_of k (Manager j) ≡ Some place → (node : AnyNode) → slice_get nodes place ≡ Some node → Owed (Manager j) node

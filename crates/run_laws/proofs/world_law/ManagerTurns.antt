@@ -178,14 +178,14 @@ module _ (logs : Bool) (k : Cluster) (part : ℕ) (RegistrySound : RegistryNode 
   came serves not_before =
       let o = go.opens serves not_before in
       let f = fact o.packet o.gets in
-      let told = welcome_told k part s o.packet.from o.packet.to o.welcome (subst (λ b. SentBy k part s o.packet.from o.packet.to b) o.is f.0) in
+      let told = welcome_told k part s o.packet.from o.packet.to o.welcome (subst (λ b. SentBy k part s o.packet.from o.packet.to b) o.bears f.0) in
       record {
         welcome = o.welcome;
         all = told.0;
         welcomed = subst (λ x. Welcomed k part s x o.welcome) f.1 told.1;
         life = o.inc ∙ sym o.life;
         above = o.above;
-        body = λ q is_. (let same : q ≡ o.packet = delivered q o.packet (sym is_ ∙ o.gets) in ap (λ (x : Packet). x.body) same ∙ o.is);
+        body = λ q is_. (let same : q ≡ o.packet = delivered q o.packet (sym is_ ∙ o.gets) in ap (λ (x : Packet). x.body) same ∙ o.bears);
       }
 
   -- news that name it were told

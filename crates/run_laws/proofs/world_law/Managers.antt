@@ -148,7 +148,7 @@ module _ (laws : NodeLaws) (small_promised : ActiveEpochsPromised) (small_believ
       by_phase (cleaners.Opening l o) stands none = absurd (cc)
       by_phase (cleaners.Serving e) stands has =
           subst (λ (y : Promised). s.epoch ≤ epoch_of y.epochs part) (one_node e.promised p has)
-          (subst (λ y. s.epoch ≤ y) (sym stands.is) (st.entered s.epoch x.slot x.there).4)
+          (subst (λ y. s.epoch ≤ y) (sym stands.promises) (st.entered s.epoch x.slot x.there).4)
 
   pub has_one : HasOneManager w part
   has_one = record {

@@ -64,7 +64,7 @@ cleaner_more part promised limit more rise (cleaners.Opening l o) h = record {
   owner = h.owner;
   promises = ⊎_elim (λ first. inl first) (λ r. inr (record { eight = r.eight; rises = r.rises; within = (let w = r.within in omega arith) })) h.promises;
 }
-cleaner_more part promised limit more rise (cleaners.Serving e) h = record { eight = h.eight; is = h.is }
+cleaner_more part promised limit more rise (cleaners.Serving e) h = record { eight = h.eight; promises = h.promises }
 
 -- the epoch at which a manager holds the slot is the one that it knows
 pub held_known : (p : SlotPhase) (e : ℕ) → HeldAt p e → slot_epoch p ≡ e

@@ -175,7 +175,7 @@ module _ (whole : LogsStayWhole) (last : EndsAreLast) where
   pub clients_lines_go_on : ClientsLinesGoOn
   clients_lines_go_on part texts g c w v n node what run files sure sees acts line goes =
       let outs = (clients.takes node what).outs in
-      let filed : goes.next.filed ≡ filed_after texts c n.filed outs = ap (λ (x : index.Net). x.filed) goes.is in
+      let filed : goes.next.filed ≡ filed_after texts c n.filed outs = ap (λ (x : index.Net). x.filed) goes.only_files in
       subst (IsLine c v.net) (sym filed) (lines_go_on whole last texts c g w.net v.net n.filed outs line (record {
         run = run;
         sure = sure;

@@ -99,7 +99,7 @@ module _ (below : GetsBelow) (base : Setting) (e : Estate AnyNode) (lines : HasL
 
     job_is : (epoch : ℕ) (o : Option Job) (job : Job) → JobAgrees part joint.idx.net epoch o → o ≡ Some job → joint.idx.net.job ≡ job.cleaning
     job_is epoch None job seen is = absurd cc
-    job_is epoch (Some x) job seen is = (let same : x ≡ job = cc in seen.is ∙ ap (λ (j : Job). j.cleaning) same)
+    job_is epoch (Some x) job seen is = (let same : x ≡ job = cc in seen.same_job ∙ ap (λ (j : Job). j.cleaning) same)
 
     pub has_job : HasJob joint.idx.net v
     has_job job is = job_is (epoch_of v.promised part) v.job job seen.job is

@@ -70,7 +70,7 @@ least_kept part n r of_eight agreed l some limit =
     let x = slot_news r.board part in
     subst (λ (h : List ℕ). least_horizon l (all_news r.board) ≤ of_log h l) agreed.horizon
     (up_to (least_horizon l (all_news r.board)) (horizon_of l x) (of_log x.horizon l) (least_below l (all_news r.board) x (news_among r.board part of_eight))
-    (horizon_is x l some limit (subst (λ (h : List ℕ). 0 < of_log h l) (sym agreed.horizon) (agreed.is.from_one l some limit))))
+    (horizon_is x l some limit (subst (λ (h : List ℕ). 0 < of_log h l) (sym agreed.horizon) (agreed.horizon_fits.from_one l some limit))))
 
 -- ---- what the cleaner has promised
 

@@ -33,7 +33,7 @@ module _ (part : ℕ) (texts : Texts) (n m : Net) where
         by : (q : Phase) → p ≡ q → m.promised ≤ later
         by (Serving v) is =
             let index_is = (subst (CleanerAgrees part m texts) is agrees).phase.0.promised in
-            let token_is = (subst (CleanerStands part later limit) is stands).is in
+            let token_is = (subst (CleanerStands part later limit) is stands).promises in
             let same = unwrap_or-slice_get v.promised.epochs part 0 in
             omega arith
         by (Down l) is = (let same = rests (subst IsAway (sym is) tt) in omega arith)

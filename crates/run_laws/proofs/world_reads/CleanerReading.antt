@@ -59,8 +59,8 @@ module _ (base : Setting) (e : Estate AnyNode) (lines : HasLines base e) (texts 
   module _ (flew : WhatIsListedFlew) (ours : ListsOurs) where
     pub flew_so : (seg : SegRef) → listed_in sent Cleaner seg.name seg.group → Flew base e lines texts part first count seg
     flew_so seg l =
-        let o : OfSomeLog base e lines texts part first count l.meta.name = ours l.packet l.said l.among l.is l.meta l.held in
-        let f = listed_flew base e lines texts part first count o.role o.there flew l.packet l.said l.among l.is l.meta l.held o.own in
+        let o : OfSomeLog base e lines texts part first count l.meta.name = ours l.packet l.said l.among l.bears l.meta l.held in
+        let f = listed_flew base e lines texts part first count o.role o.there flew l.packet l.said l.among l.bears l.meta l.held o.own in
         record {
           of = record { role = o.role; there = o.there; own = ap (λ (x : SegName). x.log) l.named ∙ o.own };
           segment = f.0;

@@ -182,4 +182,4 @@ module _ (below : ReopensBelow) (base : Setting) (e : Estate AnyNode) (lines : H
       stands = subst (CleanerStands part goes.next limit) serves goes.stands
 
       promised : joint.idx.net.promised ≤ epoch_of v.promised part
-      promised = (let same = unwrap_or-slice_get v.promised.epochs part 0 in let is = stands.is in let rises = goes.rises in omega arith)
+      promised = (let same = unwrap_or-slice_get v.promised.epochs part 0 in let is = stands.promises in let rises = goes.rises in omega arith)

@@ -211,7 +211,7 @@ module _ (part : ℕ) (texts : Texts) (n : Net) (filed : IsFiled n.filed) (are_t
 
   heard : AllByRecursion (λ (r : Report). ReportKnown part n taking.news.epoch r.from r.end) course.state.reports
   heard = all_each _ course.state.reports
-      (λ r among. subst (λ k. ReportKnown part n k r.from r.end) (sym taking.at)
+      (λ r among. subst (λ k. ReportKnown part n k r.from r.end) (sym taking.of_epoch)
       (taking.reports r (subst (λ (s : TakeState). In r s.reports) (sym taking.take_is) among)))
 
   so : SourcesSo (SourceLies n.filed taking.news.parts) IsText (λ (r : Report). ReportKnown part n taking.news.epoch r.from r.end) taking.news

@@ -138,7 +138,7 @@ module _ (base : Setting) (e : Estate AnyNode) (lines : HasLines base e) (texts 
       horizon_is : (l : ℕ) → of_log t.take.news.horizon l ≡ of_log (joint.idx.net.horizon t.epoch) l
       horizon_is l =
           ap (λ (n : SlotNews). of_log n.horizon l) (its_news part joint.idx.net texts.text t k)
-          ∙ (ap (λ h. of_log h l) k.known.horizon ∙ ap (λ epoch. of_log (joint.idx.net.horizon epoch) l) k.at)
+          ∙ (ap (λ h. of_log h l) k.known.horizon ∙ ap (λ epoch. of_log (joint.idx.net.horizon epoch) l) k.of_epoch)
 
       -- the checkpoint covers nothing of a log from number 0 on
       from_one : (l : ℕ) → 0 < l → l ≤ 9 → 0 < of_log t.take.news.horizon l

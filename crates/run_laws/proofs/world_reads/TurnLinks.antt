@@ -118,7 +118,7 @@ module _ (laws : StepsBelow) (base : Setting) (e : Estate AnyNode) (lines : HasL
       → x ≤ owner.epoch_of v.promised part
   of_cleaner v is x z at =
       let stands = subst (CleanerStands part b.tok.net.promised (epoch_now cl part b.tok)) is b.tokens_stand.cleaner.1 in
-      let promised = stands.is in
+      let promised = stands.promises in
       let low = (b.tokens_stand.entered x z at).4 in
       let same = unwrap_or-slice_get v.promised.epochs part 0 in
       omega arith

@@ -44,7 +44,7 @@ module _ (told : Told) where
   -- ---- one block
 
   fate_live : (block : BlockId) (entry : Entry) (fate : Fate) → told block entry → FateTold told block fate → FateTold told block (after_live entry fate)
-  fate_live block entry (Asked value) is h = record { before = entry; is = is; moved = refl }
+  fate_live block entry (Asked value) is h = record { before = entry; before_told = is; moved = refl }
   fate_live block entry (Live e value) is h = h
   fate_live block entry Moved is h = tt
   fate_live block entry Dead is h = tt

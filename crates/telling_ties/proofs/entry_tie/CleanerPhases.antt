@@ -225,7 +225,7 @@ cleaner_starts rows setup works = record { job = tt; feed = tt; log = record { w
 module _ (told later : Told) (more : (block : BlockId) (entry : Entry) → told block entry → later block entry) where
   fate_rises : (block : BlockId) (fate : Fate) → FateTold told block fate → FateTold later block fate
   fate_rises block (Asked value) h = tt
-  fate_rises block (Live entry value) h = record { before = h.before; is = more block h.before h.is; moved = h.moved }
+  fate_rises block (Live entry value) h = record { before = h.before; before_told = more block h.before h.before_told; moved = h.moved }
   fate_rises block Moved h = tt
   fate_rises block Dead h = tt
 
@@ -243,11 +243,11 @@ module _ (told later : Told) (more : (block : BlockId) (entry : Entry) → told 
   job_rises (Some job) h = checking_rises job.cleaning.phase h
 
   moved_rises : (block : BlockId) (entry : Entry) → MovedTold told block entry → MovedTold later block entry
-  moved_rises block entry h = record { before = h.before; is = more block h.before h.is; moved = h.moved }
+  moved_rises block entry h = record { before = h.before; before_told = more block h.before h.before_told; moved = h.moved }
 
   item_rises : (i : Item) → ItemTold told i → ItemTold later i
   item_rises (item.Block block value) h = tt
-  item_rises (item.Delta block ver hop at) h = record { before = h.before; is = more block h.before h.is; ver = h.ver; hop = h.hop }
+  item_rises (item.Delta block ver hop at) h = record { before = h.before; before_told = more block h.before h.before_told; ver = h.ver; hop = h.hop }
   item_rises (item.Part slot rows) h = tt
 
   flight_rises : (o : Option FlightState) → IfSome o (FlightMoves told) → IfSome o (FlightMoves later)

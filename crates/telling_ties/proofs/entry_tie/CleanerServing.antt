@@ -140,7 +140,7 @@ module _ (told : Told) (done : List Act) where
       ⊎_elim
       (λ (rests : Rests r). sends_so t r.outs h rests)
       (λ (lands : Lands e.log.flight r). subst (λ outs. Goes (steps writes_one t outs)) (sym lands.outs)
-      (lands_so e r.state lands.flight lands.rest h (owed lands.flight lands.is) lands.sends)) turns
+      (lands_so e r.state lands.flight lands.rest h (owed lands.flight lands.flew) lands.sends)) turns
 
   log_takes : (e : Emptying) (i : LogIn) → At e → LogMoves told (log.transition e.log i).state → Owed e → Goes (writes e i)
   unfolding writes

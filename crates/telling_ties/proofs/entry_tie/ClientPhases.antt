@@ -247,13 +247,16 @@ client_starts rows number setup works = record { fetches = λ block. tt; feed = 
 module _ (told later : Told) (more : (block : BlockId) (entry : Entry) → told block entry → later block entry) where
   fetch_rises : (block : BlockId) (fetch : Option Fetch) → FetchTold told block fetch → FetchTold later block fetch
   fetch_rises block None h = tt
-  fetch_rises block (Some fetch) h = record { hop = h.hop; is = more block (record { ver = fetch.ver; hop = h.hop; place = Some fetch.place }) h.is }
+  fetch_rises block (Some fetch) h = record {
+    hop = h.hop;
+    place_told = more block (record { ver = fetch.ver; hop = h.hop; place = Some fetch.place }) h.place_told;
+  }
 
   block_rises : (seg : SegRef) (at : Option BlockAt) → BlockTold told seg at → BlockTold later seg at
   block_rises seg None h = tt
   block_rises seg (Some at) h =
       let there = h.there in
-      record { ver = h.ver; there = record { hop = there.hop; is = more at.block _ there.is } }
+      record { ver = h.ver; there = record { hop = there.hop; place_told = more at.block _ there.place_told } }
 
   reading_rises : (r : Option ReadingState) → ReadingTold told r → ReadingTold later r
   reading_rises None h = tt

@@ -89,7 +89,7 @@ module _ (told : Told) where
     place = place;
   }) → OutTold (copy_next block place)
   copy_out block ver hop None is = tt
-  copy_out block ver hop (Some place) is = record { ver = ver; there = record { hop = hop; is = is } }
+  copy_out block ver hop (Some place) is = record { ver = ver; there = record { hop = hop; place_told = is } }
 
   granted_out : (s : TokensState) (block : BlockId) (stamp : Stamp) (inc req : ℕ) (mode : Mode) (entry : Entry) → told block entry
       → AllOut (on_granted s block stamp inc req mode entry)

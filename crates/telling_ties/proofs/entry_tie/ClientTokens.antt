@@ -49,7 +49,7 @@ module _ (told : Told) where
   granted_so : (h : Held) (block : BlockId) (stamp : Stamp) (ver hop : ℕ) (place : Option Place) → told block (record { ver = ver; hop = hop; place = place })
       → FetchTold told block (copy_granted h stamp ver place).fetch
   granted_so h block stamp ver hop None is = tt
-  granted_so h block stamp ver hop (Some place) is = record { hop = hop; is = is }
+  granted_so h block stamp ver hop (Some place) is = record { hop = hop; place_told = is }
 
   taken_so : (h : Held) (block : BlockId) (stamp : Stamp) (mode : Mode) (entry : Entry) → told block entry
       → FetchTold told block (grant_taken h stamp mode entry).fetch

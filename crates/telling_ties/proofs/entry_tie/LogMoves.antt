@@ -65,7 +65,7 @@ module _ (told : Told) where
   change_told before block change is =
       let version : VersionTold told block change.entry.ver change.entry.hop = record {
         before = is.before;
-        is = is.is;
+        before_told = is.before_told;
         ver = ap (λ (e : Entry). e.ver) is.moved;
         hop = ap (λ (e : Entry). e.hop) is.moved;
       } in

@@ -39,7 +39,7 @@ Rests d = AllByRecursion IsSend d.outs
 -- the segment that was in flight is told to be settled, first of all
 pub record Lands (was : Option FlightState) (d : Done) : Type 0 where
   pub flight : FlightState
-  pub is : was ≡ Some flight
+  pub flew : was ≡ Some flight
   pub rest : List Out
   pub outs : d.outs ≡ Settled (end_from flight.segment) (rows_of flight.segment) ∷ rest
   pub sends : AllByRecursion IsSend rest
@@ -105,15 +105,15 @@ segment_in other (Some f) = f.segment
 
 settled_lands : (s : LogState) (f : FlightState) → Lands (Some f) (settled s f)
 unfolding settled
-settled_lands s f = record { flight = f; is = refl; rest = (if_full (landed s f)).outs; outs = refl; sends = if_full_rests (landed s f) }
+settled_lands s f = record { flight = f; flew = refl; rest = (if_full (landed s f)).outs; outs = refl; sends = if_full_rests (landed s f) }
 
 -- what is told of a flight does not depend on what is noted of it
 noted_lands : (f g : FlightState) (d : Done) → g.segment ≡ f.segment → Lands (Some g) d → Lands (Some f) d
 noted_lands f g d same h = record {
   flight = f;
-  is = refl;
+  flew = refl;
   rest = h.rest;
-  outs = h.outs ∙ ap (λ (x : Segment). Settled (end_from x) (rows_of x) ∷ h.rest) (sym (ap (λ (o : Option FlightState). segment_in g o) h.is) ∙ same);
+  outs = h.outs ∙ ap (λ (x : Segment). Settled (end_from x) (rows_of x) ∷ h.rest) (sym (ap (λ (o : Option FlightState). segment_in g o) h.flew) ∙ same);
   sends = h.sends;
 }
 

@@ -133,7 +133,7 @@ module _ (told : Told) (done : List Act) where
       (λ (rests : Rests r). said_so t r.outs (sends_so t r.outs h rests))
       (λ (lands : Lands s.log.flight r). subst (λ outs. Goes (said t outs)) (sym lands.outs)
       (said_so t (Settled (end_from lands.flight.segment) (rows_of lands.flight.segment) ∷ lands.rest)
-      (lands_so s r.state lands.flight lands.rest h (owed lands.flight lands.is) lands.sends)))
+      (lands_so s r.state lands.flight lands.rest h (owed lands.flight lands.flew) lands.sends)))
       turns
 
   -- any input, where what is in flight says what is told

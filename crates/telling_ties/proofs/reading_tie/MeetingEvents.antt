@@ -363,7 +363,7 @@ module _ (packets : List Packet) (to : NodeId) (packet : Packet) (among : In pac
         server = server;
         from = from;
         said = m;
-        is = is;
+        bears = is;
         meta = x;
         held = held;
         named = refl;
@@ -391,7 +391,7 @@ cleaner_meets_rise packets more to cleaner grows h =
       server = x.server;
       from = x.from;
       said = x.said;
-      is = x.is;
+      bears = x.bears;
       meta = x.meta;
       held = x.held;
       named = x.named;

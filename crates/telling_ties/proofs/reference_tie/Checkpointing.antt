@@ -106,7 +106,7 @@ module _ (refs : References) (node : NodeId) (l : LogId) where
   -- a manager that serves, whose writer is of this log
   pub record AtDesk (s : Serving) : Type 0 where
     pub refers : ServingRefers refs s
-    pub at : s.writer.log ≡ l
+    pub writer_log : s.writer.log ≡ l
 
   abbrev Works : Done → Type 0
   Works d = Leaves AtDesk (EffectRefers refs node) d
@@ -119,7 +119,7 @@ module _ (refs : References) (node : NodeId) (l : LogId) where
   parts_on : (s : Serving) (items : List Item) → AtDesk s → Works (gives_parts s items)
   unfolding gives_parts
   parts_on s items h = record {
-    state = record { refers = record { slots = h.refers.slots; writer = h.refers.writer; checkpoint = h.refers.checkpoint }; at = h.at };
+    state = record { refers = record { slots = h.refers.slots; writer = h.refers.writer; checkpoint = h.refers.checkpoint }; writer_log = h.writer_log };
     outs = all_flat_map (EffectRefers refs node) stored one_stored (log.transition s.log (log_input.Parts items)).outs;
   }
 
@@ -132,7 +132,7 @@ module _ (refs : References) (node : NodeId) (l : LogId) where
         writer = h.refers.writer;
         checkpoint = by s.checkpoint;
       };
-      at = h.at;
+      writer_log = h.writer_log;
     };
     outs = (told, tt);
   }
@@ -146,17 +146,17 @@ module _ (refs : References) (node : NodeId) (l : LogId) where
   says_on s (out.Parts items) h told = parts_on s items h
   says_on s (out.Done slot epoch parts horizon) h told =
       registers_on (asked s) _
-      (record { refers = record { slots = h.refers.slots; writer = h.refers.writer; checkpoint = h.refers.checkpoint }; at = h.at }) told
+      (record { refers = record { slots = h.refers.slots; writer = h.refers.writer; checkpoint = h.refers.checkpoint }; writer_log = h.writer_log }) told
   says_on s out.Kept h told = record { state = h; outs = tt }
   says_on s (out.Stale epoch) h told = record { state = h; outs = tt }
 
   pub writer_on : (s : Serving) (given : WriterIn) → AtDesk s → GivenRefers given → Works (writer_takes s given)
   unfolding writer_takes says_each
   writer_on s given h told =
-      let d = writer_goes s.writer given (h.refers.writer, h.at) told in
+      let d = writer_goes s.writer given (h.refers.writer, h.writer_log) told in
       leaves_each AtDesk (EffectRefers refs node) OutRefers says says_on (record s { writer = (writer.transition s.writer given).state })
       (writer.transition s.writer given).outs
-      (record { refers = record { slots = h.refers.slots; writer = d.state.0; checkpoint = h.refers.checkpoint }; at = d.state.1 }) d.outs
+      (record { refers = record { slots = h.refers.slots; writer = d.state.0; checkpoint = h.refers.checkpoint }; writer_log = d.state.1 }) d.outs
 
   pub acks_so : (s : WriterState) (epoch number : ℕ) → WriterRefers refs s → s.log ≡ l → WriterRefers refs (writer.on_ack s epoch number).state
   acks_so s epoch number before at = (acked_on s epoch number (before, at)).state.0
@@ -188,7 +188,7 @@ module _ (refs : References) (node : NodeId) where
   Goes d = Leaves (ServingRefers refs) (EffectRefers refs node) d
 
   at_desk : (s : Serving) → ServingRefers refs s → AtDesk refs node s.writer.log s
-  at_desk s h = record { refers = h; at = refl }
+  at_desk s h = record { refers = h; writer_log = refl }
 
   from_desk : (l : LogId) (d : Done) → Leaves (AtDesk refs node l) (EffectRefers refs node) d → Goes d
   from_desk l d h = record { state = h.state.refers; outs = h.outs }
@@ -210,7 +210,7 @@ module _ (refs : References) (node : NodeId) where
   writes_on s given h flies =
       from_desk s.writer.log (writes s given)
       (log_on refs node s.writer.log (record s { log = (log.transition s.log given).state }) (log.transition s.log given).outs
-      (record { refers = record { slots = h.slots; writer = h.writer; checkpoint = h.checkpoint }; at = refl })
+      (record { refers = record { slots = h.slots; writer = h.writer; checkpoint = h.checkpoint }; writer_log = refl })
       (due_said s given flies (log.transition s.log given).outs (tells_due s.log given)))
 
   pub stored_on : (s : Serving) (stored_ : Stored) → ServingRefers refs s → FlightRefers refs s → Goes (on_stored s stored_)

@@ -35,7 +35,7 @@ use Rattle.telling_ties.specs.entry_tie.Told.{Told, FiledRows, told_by, HoldsRis
 -- an entry that is told of the block, moved once more
 pub record MovedTold (told : Told) (block : BlockId) (entry : Entry) : Type 0 where
   pub before : Entry
-  pub is : told block before
+  pub before_told : told block before
   pub moved : entry ≡ moved_once before
 
 -- a block that is live is to be moved from where it is told
@@ -68,7 +68,7 @@ WaitTold told wait = MovedTold told wait.0 wait.1.entry
 -- a version of the block that is told, moved once more
 pub record VersionTold (told : Told) (block : BlockId) (its_ver its_hop : ℕ) : Type 0 where
   pub before : Entry
-  pub is : told block before
+  pub before_told : told block before
   pub ver : its_ver ≡ before.ver
   pub hop : its_hop ≡ before.hop + 1
 

@@ -31,7 +31,7 @@ RowsTold told rows = AllByRecursion (RowTold told) rows
 -- it is told that this version of the block lies at this place
 pub record PlaceTold (told : Told) (block : BlockId) (ver : ℕ) (place : Place) : Type 0 where
   pub hop : ℕ
-  pub is : told block (record { ver = ver; hop = hop; place = Some place })
+  pub place_told : told block (record { ver = ver; hop = hop; place = Some place })
 
 -- ---- packets
 

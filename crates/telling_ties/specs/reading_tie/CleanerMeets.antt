@@ -81,7 +81,7 @@ pub record ListedIn (packets : List Packet) (to : NodeId) (name : SegName) (grou
   pub server : ℕ
   pub from : server_in packet.from ≡ Some server
   pub said : Listed
-  pub is : packet.body ≡ body.Listed said
+  pub bears : packet.body ≡ body.Listed said
   pub meta : FragMeta
   pub held : In meta said.held
   pub named : name ≡ meta.name
