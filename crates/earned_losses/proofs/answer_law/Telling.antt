@@ -301,12 +301,12 @@ module _ (I : ℕ → Type 0) (me node : NodeId) (item : ℕ) (name : SegName) w
 record Split {X : Type 0} (x : X) (xs : List X) : Type 0 where
   before : List X
   behind : List X
-  is : xs ≡ before ++ x ∷ behind
+  stands : xs ≡ before ++ x ∷ behind
 
 split : {X : Type 0} (x : X) (xs : List X) → In x xs → Split x xs
 split x [] is = absurd is
-split x (y ∷ xs) (inl e_) = record { before = []; behind = xs; is = ap (λ z. z ∷ xs) (sym e_) }
-split x (y ∷ xs) (inr is) = (let s = split x xs is in record { before = y ∷ s.before; behind = s.behind; is = ap (λ zs. y ∷ zs) s.is })
+split x (y ∷ xs) (inl e_) = record { before = []; behind = xs; stands = ap (λ z. z ∷ xs) (sym e_) }
+split x (y ∷ xs) (inr is) = (let s = split x xs is in record { before = y ∷ s.before; behind = s.behind; stands = ap (λ zs. y ∷ zs) s.stands })
 
 module _ (I : ℕ → Type 0) (me : NodeId) (outs : List Effect) (told : Told I [] outs) where
   pub losses_said : LossesAreSaid (acts_of me outs)
@@ -322,13 +322,13 @@ module _ (I : ℕ → Type 0) (me : NodeId) (outs : List Effect) (told : Told I 
   pub items_so : (node : NodeId) (item : ℕ) (name : SegName) → In (answers_lost node item name) (acts_of me outs) → I item
   items_so node item name is =
       let s = split (answers_lost node item name) (acts_of me outs) is in
-      (earned I me node item name [] outs s.before s.behind told s.is).its
+      (earned I me node item name [] outs s.before s.behind told s.stands).its
 
   -- and the node is this one
   pub node_so : (node : NodeId) (item : ℕ) (name : SegName) → In (answers_lost node item name) (acts_of me outs) → node ≡ me
   node_so node item name is =
       let s = split (answers_lost node item name) (acts_of me outs) is in
-      (earned I me node item name [] outs s.before s.behind told s.is).is_me
+      (earned I me node item name [] outs s.before s.behind told s.stands).is_me
 
 -- what a node acts to be lost, it says is lost, and it acts that of itself
 module _ (I : ℕ → Type 0) (me node : NodeId) (name : SegName) where

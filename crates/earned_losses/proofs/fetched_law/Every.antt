@@ -30,9 +30,9 @@ calls_read_what_was_filed below e ok run count none c some limit item segment x 
     let lines = below.lines base e ok run in
     let texts = below.texts base e ok lines in
     let stands = below.moments base below.setting.1 e ok run lines texts count none in
-    let block = below.blocks e ok run c some limit count x.reading x.is in
+    let block = below.blocks e ok run c some limit count x.reading x.reads in
     subst (λ (ref : SegRef). WasFiled e count ref.name) x.of
-    (was_filed base e run lines texts (first_of base e lines texts) count (stands.joints 0 some_slot) c x.reading x.is block.0 block.1)
+    (was_filed base e run lines texts (first_of base e lines texts) count (stands.joints 0 some_slot) c x.reading x.reads block.0 block.1)
 
 pub calls_read_what_is_stored : Below → CallsReadWhatIsStored
 calls_read_what_is_stored below e ok run count none c some limit item segment x kept =
@@ -40,6 +40,6 @@ calls_read_what_is_stored below e ok run count none c some limit item segment x 
     let lines = below.lines base e ok run in
     let texts = below.texts base e ok lines in
     let stands = below.moments base below.setting.1 e ok run lines texts count none in
-    let block = below.blocks e ok run c some limit count x.reading x.is in
+    let block = below.blocks e ok run c some limit count x.reading x.reads in
     subst (λ (ref : SegRef). NotDeleted (moment e count) ref.name → IsStoredAs e count ref) x.of
-    (is_stored base e run lines texts (first_of base e lines texts) count (stands.joints 0 some_slot) c x.reading x.is block.0 block.1 below.stored) kept
+    (is_stored base e run lines texts (first_of base e lines texts) count (stands.joints 0 some_slot) c x.reading x.reads block.0 block.1 below.stored) kept

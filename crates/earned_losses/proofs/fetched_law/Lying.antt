@@ -48,7 +48,7 @@ use Rattle.xfs_base.specs.declared.segment.SegRef.{SegRef}
 -- it serves, and its open call reads so
 pub record IsReading (o : Option AnyNode) (r : ReadingState) : Type 0 where
   pub node : ClientNode
-  pub is : o ≡ Some (any.Client node)
+  pub kind : o ≡ Some (any.Client node)
   pub serving : Serving
   pub serves : node.phase ≡ Serves serving
   pub reads : reading_in serving.call ≡ Some r
@@ -57,7 +57,7 @@ phase_reads : (node : ClientNode) (r : ReadingState) (p : Phase) → node.phase 
     → IsReading (Some (any.Client node)) r
 phase_reads node r (Down l) at is = absurd (let clash : None ≡ Some r = is in cc)
 phase_reads node r (Opening l o) at is = absurd (let clash : None ≡ Some r = is in cc)
-phase_reads node r (Serves s) at is = record { node = node; is = refl; serving = s; serves = at; reads = is }
+phase_reads node r (Serves s) at is = record { node = node; kind = refl; serving = s; serves = at; reads = is }
 
 is_reading : (o : Option AnyNode) (r : ReadingState) → what_is_read (serving_of o) ≡ Some r → IsReading o r
 is_reading None r is = absurd (let clash : None ≡ Some r = is in cc)
@@ -82,7 +82,7 @@ module _ (base : Setting) (e : Estate AnyNode) (run : IsRun any_step any_start e
   reading = is_reading (node_named (moment e count) (Client c)) r is
 
   in_nodes : In (any.Client reading.node) (moment e count).nodes
-  in_nodes = by (place_of (moment e count).cluster (Client c)) reading.is
+  in_nodes = by (place_of (moment e count).cluster (Client c)) reading.kind
     where
       by : (o : Option ℕ) → node_in (moment e count).nodes o ≡ Some (any.Client reading.node) → In (any.Client reading.node) (moment e count).nodes
       by None there = absurd cc
@@ -123,16 +123,16 @@ module _ (base : Setting) (e : Estate AnyNode) (run : IsRun any_step any_start e
   h = filed_log base e lines texts 0 first count joint l q lies.some lies.limit
 
   most_there : q ≤ joint.idx.net.filed.head (log_by h.role)
-  most_there = subst (λ x. q ≤ joint.idx.net.filed.head x) (sym h.is) lies.limit
+  most_there = subst (λ x. q ≤ joint.idx.net.filed.head x) (sym h.numbered) lies.limit
 
   flown_there : tables.In s ((lines h.role h.there).at count).net.flown
   flown_there =
-      subst (λ x. tables.In (joint.idx.net.filed.segment x q) ((lines h.role h.there).at count).net.flown) h.is
+      subst (λ x. tables.In (joint.idx.net.filed.segment x q) ((lines h.role h.there).at count).net.flown) h.numbered
       ((joint.lined h.role h.there h.keeps).lined.flown q lies.some most_there)
 
   filed_there : tables.In s.name ((lines h.role h.there).at count).net.filed
   filed_there =
-      subst (λ x. tables.In (joint.idx.net.filed.segment x q).name ((lines h.role h.there).at count).net.filed) h.is
+      subst (λ x. tables.In (joint.idx.net.filed.segment x q).name ((lines h.role h.there).at count).net.filed) h.numbered
       ((joint.lined h.role h.there h.keeps).lined.filed q lies.some most_there)
 
   -- its log's owner told it to be filed
@@ -141,7 +141,7 @@ module _ (base : Setting) (e : Estate AnyNode) (run : IsRun any_step any_start e
     owner = h.role;
     there = h.there;
     acted = subst (λ name. In (act.Filed name) (did e (log_by h.role) count)) (sym lies.name)
-        (subst (λ x. In (act.Filed (joint.idx.net.filed.segment x q).name) (did e (log_by h.role) count)) h.is
+        (subst (λ x. In (act.Filed (joint.idx.net.filed.segment x q).name) (did e (log_by h.role) count)) h.numbered
         (joint.acted h.role h.there h.keeps q lies.some most_there));
   }
 

@@ -184,10 +184,10 @@ module _ (base : Setting) (e : Estate AnyNode) (run : IsRun any_step any_start e
   module _ (count : ℕ) (good : Good count) (event : Event) (is : slice_get e.events count ≡ Some event)
       (t : TurnAt (moment e count) event (moment e (suc count)).nodes (moment e (suc count)).sent (moment e (suc count)).acts) where
     placed : place_of k_of (node_of event) ≡ Some t.place
-    placed = subst (λ k. place_of k (node_of event) ≡ Some t.place) (cluster_at e count) t.at
+    placed = subst (λ k. place_of k (node_of event) ≡ Some t.place) (cluster_at e count) t.placed
 
     stood : node_in (moment e count).nodes (place_of k_of (node_of event)) ≡ Some t.node
-    stood = ap (node_in (moment e count).nodes) placed ∙ t.is
+    stood = ap (node_in (moment e count).nodes) placed ∙ t.stands
 
     its_own : (p : Packet) → In p (map (sent_at t.clock) (any_step t.node (what_of event)).packets) → p.from ≡ node_of event
     its_own p late =
@@ -213,7 +213,7 @@ module _ (base : Setting) (e : Estate AnyNode) (run : IsRun any_step any_start e
           ap (λ ns. node_in ns (place_of k_of reader)) t.nodes_are
           ∙ subst (λ n. node_in (slice_set (moment e count).nodes t.place (any_step t.node (what_of event)).node) (place_of k_of n)
           ≡ Some (any_step t.node (what_of event)).node) (sym own)
-          (here k_of (moment e count).nodes (node_of event) t.place placed (any_step t.node (what_of event)).node t.node t.is)
+          (here k_of (moment e count).nodes (node_of event) t.place placed (any_step t.node (what_of event)).node t.node t.stands)
 
       module _ (node : Client) (stands : t.node ≡ any.Client node) where
         what : Do
@@ -347,7 +347,7 @@ module _ (base : Setting) (e : Estate AnyNode) (run : IsRun any_step any_start e
         in_run stay e.events (start_world any_start e.script) e.world run id group
         (ap (λ o. group_in (groups_of o) id) (first_stands e.script nodes.Registry
         (e.script.setup.clients + e.script.setup.managers + e.script.setup.servers + 1) refl) ∙ is) in
-        ap stripe_by n.is ∙ n.stripe_is
+        ap stripe_by n.named ∙ n.stripe_is
 
     first_are : (moment e 0).nodes ≡ first_nodes any_start e.script k_of
     unfolding start_world

@@ -143,7 +143,7 @@ module _ (base : Setting) (e : Estate AnyNode) (run : IsRun any_step any_start e
 
     doubts_torn : Doubts s (what_of event) name → WasTornInFetch e c s count (what_of event) name
     doubts_torn d =
-        let read : what_is_read (serving_at e c count) ≡ Some d.was = ap what_is_read serves ∙ d.is in
+        let read : what_is_read (serving_at e c count) ≡ Some d.was = ap what_is_read serves ∙ d.reads in
         let h : Reads e c count d.was = good.reads d.was read in
         let x : Doubt e c h.since count d.was.target = h.doubt d.doubted in
         let g : Grant = d.confirms.grant in
@@ -166,7 +166,7 @@ module _ (base : Setting) (e : Estate AnyNode) (run : IsRun any_step any_start e
           asked_after = λ among.
               not_both g.block y.life y.highest y.epoch s.tokens l g d.accepted
               (λ life heard. y.before d.confirms.packet g (sent_on e x.torn.second x.at x.torn.ends d.confirms.packet among)
-              (gets_it d.confirms.packet d.confirms.delivers) d.confirms.is refl life heard) refl;
+              (gets_it d.confirms.packet d.confirms.delivers) d.confirms.bears refl life heard) refl;
         }
 
     still_lost : Still (moment e count) (moment e (suc count)).nodes (moment e (suc count)).sent (moment e (suc count)).acts

@@ -144,7 +144,7 @@ module _ (s : Serving) (fresh : s.lasting.questions.last < next_ask s.lasting.qu
     was = read_before s what (reading_in s.call) (reading_in t.call) rests.reading x reads_it
 
     abbrev confirmed : Confirms what x
-    confirmed = record { packet = packet; delivers = refl; grant = m; is = is; place = place; lies = lies; reads = same }
+    confirmed = record { packet = packet; delivers = refl; grant = m; bears = is; place = place; lies = lies; reads = same }
 
     -- it is read on as it was
     waits_turns : Goes_so (still (with_reading unread (Some x)))
@@ -171,7 +171,7 @@ module _ (s : Serving) (fresh : s.lasting.questions.last < next_ask s.lasting.qu
               record { was = o.was; items = o.items };
           reading = λ r read. inr (inr (inl (record {
             was = x;
-            is = was;
+            reads = was;
             between = between;
             confirms = confirmed;
             fresh = fresh_then;
@@ -190,7 +190,7 @@ module _ (s : Serving) (fresh : s.lasting.questions.last < next_ask s.lasting.qu
       opens = λ some. contrary (sym some);
       reading = λ r read. absurd (let clash : None ≡ Some r = read in cc);
       says = (
-        inr (record { was = x; is = was; doubted = doubted; named = refl; confirms = confirmed; accepted = taken }),
+        inr (record { was = x; reads = was; doubted = doubted; named = refl; confirms = confirmed; accepted = taken }),
         all_quiet_say s what None _ (answered_quiet t.lasting.items.unanswered (answer.Lost x.target.seg.name)),
       );
     }

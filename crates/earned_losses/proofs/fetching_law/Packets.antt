@@ -199,7 +199,7 @@ module _ (s : Serving) (fresh : s.lasting.questions.last < next_ask s.lasting.qu
         opens = λ some. contrary (sym some);
         reading = λ r read. absurd (let clash : None ≡ Some r = read in cc);
         says = (
-          inl (record { packet = packet; delivers = refl; gone = m; is = is; names = refl; meant = meant }),
+          inl (record { packet = packet; delivers = refl; gone = m; bears = is; names = refl; meant = meant }),
           all_quiet_say s (Deliver packet) None _ (answered_quiet s.lasting.items.unanswered (answer.Lost m.seg)),
         );
       })
@@ -264,7 +264,7 @@ module _ (s : Serving) (fresh : s.lasting.questions.last < next_ask s.lasting.qu
             let x : Next = (on_answer was groups ask server t).next in
             ends_turn r at x (λ q read. inr (inl (record {
               was = was;
-              is = is;
+              reads = is;
               packet = packet;
               delivers = refl;
               server = server;

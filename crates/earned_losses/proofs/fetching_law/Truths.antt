@@ -161,7 +161,7 @@ module _ (e : Estate AnyNode) (c : ℕ) where
       begins = (let a = h.begins in omega arith);
       reads = λ k since limit.
           ⊎_elim (λ last. subst (λ n. ReadsAt e c n h.item r.target.seg) (sym last)
-          (record { reading = r; is = is; of = refl; its_item = same h.item (h.reads count h.begins (omega arith)).its_item }))
+          (record { reading = r; reads = is; of = refl; its_item = same h.item (h.reads count h.begins (omega arith)).its_item }))
           (λ before. subst (λ (x : Target). ReadsAt e c k h.item x.seg) (sym target) (h.reads k since before)) (last_or_before k count limit);
       block = h.block;
       looks = ap (λ (x : Target). x.block) target ∙ h.looks;
@@ -256,7 +256,7 @@ module _ (e : Estate AnyNode) (c : ℕ) where
         -- a server told something
         told_so : Told s what t.tokens r → Reads (suc count) r
         told_so x =
-            let h : Reads count x.was = read_before x.was x.is in
+            let h : Reads count x.was = read_before x.was x.reads in
             let got = gets x.packet x.delivers in
             let kept = answer_keeps_target x.was x.groups x.ask x.server x.told in
             let target : r.target ≡ x.was.target = ap (λ (y : ReadingState). y.target) x.now ∙ kept.0 in
@@ -285,7 +285,7 @@ module _ (e : Estate AnyNode) (c : ℕ) where
         unfolding on_confirmed
         resumes_so x =
             let last : ℕ = t.lasting.questions.last in
-            let h : Reads count x.was = read_before x.was x.is in
+            let h : Reads count x.was = read_before x.was x.reads in
             let confirmed : ReadingTrue e reader h.since count (number_then e reader run h.since count x.was.ask x.was h.so x.was.stage last)
             (goes_on x.was last x.was.stage).state =
             confirmed_true e reader run h.since count x.was.ask x.was h.so last last (λ between. fresh_at x.fresh) in
@@ -318,7 +318,7 @@ module _ (e : Estate AnyNode) (c : ℕ) where
               reads = λ k since limit.
                   let same : suc count ≡ k = omega arith in
                   subst (λ n. ReadsAt e c n item r.target.seg) same
-                  (record { reading = r; is = now_read; of = refl; its_item = ap open_item is_there ∙ now_open });
+                  (record { reading = r; reads = now_read; of = refl; its_item = ap open_item is_there ∙ now_open });
               block = x.block;
               looks = ap (λ (y : ReadingState). y.target.block) x.now ∙ x.looks;
               so = subst (λ n. ReadingTrue e reader (suc count) (suc count) n r) (sym ask)

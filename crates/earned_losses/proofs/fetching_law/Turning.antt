@@ -47,7 +47,7 @@ module _ (s : Serving) (what : Do) where
   -- A server told something in answer to a question. Where the place is to be asked for again by that, its want has a later number than any before.
   pub record Told (tokens : TokensState) (r : ReadingState) : Type 0 where
     pub was : ReadingState
-    pub is : reading_in s.call ≡ Some was
+    pub reads : reading_in s.call ≡ Some was
     pub packet : Packet
     pub delivers : what ≡ Deliver packet
     pub server : ℕ
@@ -62,7 +62,7 @@ module _ (s : Serving) (what : Do) where
   -- a second round begins, by a question that is drawn now
   pub record Resumes (last : ℕ) (r : ReadingState) : Type 0 where
     pub was : ReadingState
-    pub is : reading_in s.call ≡ Some was
+    pub reads : reading_in s.call ≡ Some was
     pub between : was.stage ≡ Between
     pub confirms : Confirms what was
     pub fresh : s.lasting.questions.last < last
@@ -88,7 +88,7 @@ module _ (s : Serving) (what : Do) where
   comes_on t u lasts last r (inr (inl x)) =
       inr (inl (record {
         was = x.was;
-        is = x.is;
+        reads = x.reads;
         packet = x.packet;
         delivers = x.delivers;
         server = x.server;
@@ -116,7 +116,7 @@ module _ (s : Serving) (what : Do) where
   -- what was read was in doubt, and is confirmed
   pub record Doubts (name : SegName) : Type 0 where
     pub was : ReadingState
-    pub is : reading_in s.call ≡ Some was
+    pub reads : reading_in s.call ≡ Some was
     pub doubted : was.stage ≡ Doubted
     pub named : name ≡ was.target.seg.name
     pub confirms : Confirms what was

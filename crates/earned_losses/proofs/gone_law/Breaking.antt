@@ -86,7 +86,7 @@ module _ (Known : Type 0) (Named : ℕ → Group → Type 0) (Came : ℕ → ℕ
   -- a slot that was taken over breaks, and that the segment is lost is said
   pub record Breaks (p : SlotPhase) (epoch : ℕ) (name : SegName) (outs : List Effect) : Type 0 where
     pub taking : Taking
-    pub is : p ≡ phase.Taking taking
+    pub takes : p ≡ phase.Taking taking
     pub in_epoch : taking.epoch ≡ epoch
     pub says : In (Lose name) outs
     pub lost : Known → LostFrom Named Came p name
@@ -168,7 +168,7 @@ module _ (Known : Type 0) (Named : ℕ → Group → Type 0) (Came : ℕ → ℕ
         broken = put_by s.slots k (phase.Taking x) (phase.Broken x.epoch name) is (λ m z. BrokenFrom (phase_at s.slots m) z (Lose name ∷ []))
             (λ epoch other same. inr (record {
               taking = x;
-              is = at;
+              takes = at;
               in_epoch = same_epoch x.epoch epoch name other same;
               says = inl (ap Lose (sym (same_name x.epoch epoch name other same)));
               lost = λ known. subst (LostFrom Named Came (phase_at s.slots k)) (same_name x.epoch epoch name other same) (from known);

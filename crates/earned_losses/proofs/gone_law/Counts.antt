@@ -131,7 +131,7 @@ module _ (base : Setting) (e : Estate AnyNode) (run : IsRun any_step any_start e
     at = s.at;
     before = (let b = s.before in omega arith);
     event = s.event;
-    is = s.is;
+    happens = s.happens;
     own = s.own;
     says = s.says;
     was = s.was;
@@ -163,10 +163,10 @@ module _ (base : Setting) (e : Estate AnyNode) (run : IsRun any_step any_start e
     new = map (sent_at t.clock) (any_step t.node (what_of event)).packets
 
     placed : place_of k_of (node_of event) ≡ Some t.place
-    placed = subst (λ k. place_of k (node_of event) ≡ Some t.place) (cluster_at e count) t.at
+    placed = subst (λ k. place_of k (node_of event) ≡ Some t.place) (cluster_at e count) t.placed
 
     stood : node_in (moment e count).nodes (place_of k_of (node_of event)) ≡ Some t.node
-    stood = ap (node_in (moment e count).nodes) placed ∙ t.is
+    stood = ap (node_in (moment e count).nodes) placed ∙ t.stands
 
     module _ (own : names.Manager j ≡ node_of event) where
       u : NodeTurned base e run lines j is_there count event (map (sent_at t.clock) (any_step t.node (what_of event)).packets)
@@ -190,7 +190,7 @@ module _ (base : Setting) (e : Estate AnyNode) (run : IsRun any_step any_start e
       number : (lasting_of u.node.phase).number ≡ j
       number =
           let m : IsManager base e run lines j is_there (any.Manager u.node) = is_manager base e run lines j is_there count (any.Manager u.node) u.was in
-          ap (λ (n : ManagerNode). (lasting_of n.phase).number) (same_manager u.node m.node m.is) ∙ m.number
+          ap (λ (n : ManagerNode). (lasting_of n.phase).number) (same_manager u.node m.node m.kind) ∙ m.number
 
       acts_are : acts_in (moment e count) event ≡ acts_of (names.Manager (lasting_of u.node.phase).number) (happens u.node (what_of event)).outs
       acts_are =
@@ -210,14 +210,14 @@ module _ (base : Setting) (e : Estate AnyNode) (run : IsRun any_step any_start e
             at = count;
             before = omega arith;
             event = event;
-            is = is;
+            happens = is;
             own = own;
             says = subst (In (act.Lost (names.Manager j) name)) (sym acts_are)
                 (lost_acts (names.Manager j) (names.Manager (lasting_of u.node.phase).number) (ap names.Manager (sym number)) name
                 (happens u.node (what_of event)).outs b.says);
             was = w.0;
             of_slot = w.1;
-            in_epoch = w.2 ∙ (ap (λ (x : Taking). x.epoch) (same_taking l.taking b.taking (sym l.is ∙ b.is)) ∙ b.in_epoch);
+            in_epoch = w.2 ∙ (ap (λ (x : Taking). x.epoch) (same_taking l.taking b.taking (sym l.takes ∙ b.takes)) ∙ b.in_epoch);
             broke = broke;
           }
 

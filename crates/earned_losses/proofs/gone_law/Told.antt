@@ -81,7 +81,7 @@ module _ (laws : NodeLaws) (e : Estate AnyNode) (setup : IsSetup e.script.setup)
 
   pub told_lost : ToldLost e c s count (what_of event) name
   told_lost =
-      let f : FromManager laws e setup run count b.packet = from_manager laws e setup run count b.packet b.gone was_sent b.is in
+      let f : FromManager laws e setup run count b.packet = from_manager laws e setup run count b.packet b.gone was_sent b.bears in
       record {
         brings = b;
         among = was_sent;
@@ -89,5 +89,5 @@ module _ (laws : NodeLaws) (e : Estate AnyNode) (setup : IsSetup e.script.setup)
         from = f.from;
         promised = subst (λ (o : Option Serving). promised_in (slot_of b.gone.block.ino.0) o ≡ b.gone.epoch) (sym serves) promised;
         said = subst (SaidLost e f.manager count (slot_of b.gone.block.ino.0) b.gone.epoch) b.names
-            (lost f.manager f.there count b.packet b.gone was_sent f.from b.is);
+            (lost f.manager f.there count b.packet b.gone was_sent f.from b.bears);
       }

@@ -45,12 +45,12 @@ pub record ByManager (k : Cluster) (from : NodeId) : Type 0 where
   pub number : ℕ
   pub some : 0 < number
   pub limit : number ≤ k.managers
-  pub is : from ≡ Manager number
+  pub named : from ≡ Manager number
 
 module _ (k : Cluster) (part : ℕ) (s : Scene) (m : Grant) where
   grants_by : (from to : NodeId) → SentBy k part s from to (body.Grant m) → ByManager k from
   grants_by (Client c) to h = absurd h.2
-  grants_by (Manager j) to h = record { number = j; some = h.0; limit = h.1; is = refl }
+  grants_by (Manager j) to h = record { number = j; some = h.0; limit = h.1; named = refl }
   grants_by (Server v) to h = absurd h
   grants_by Cleaner to h = absurd h
   grants_by Registry to h = absurd h
@@ -101,7 +101,7 @@ module _ (laws : NodeLaws) (grants : ManagersGrantWhatTheyHold) (base : Setting)
   -- a node that is a manager, in whose slots wants wait in place
   record IsWaiting (node : AnyNode) : Type 0 where
     manager : ManagerNode
-    is : node ≡ any.Manager manager
+    kind : node ≡ any.Manager manager
     waits : WaitsInPlace manager.phase
 
   module _ (count j : ℕ) (some : 0 < j) (limit : j ≤ k.managers) (node : AnyNode)
@@ -117,7 +117,7 @@ module _ (laws : NodeLaws) (grants : ManagersGrantWhatTheyHold) (base : Setting)
         let same : y ≡ x = same_manager y x (sym (node_is 1 of_1) ∙ node_is 0 of_0) in
         record {
           manager = x;
-          is = node_is 0 of_0;
+          kind = node_is 0 of_0;
           waits = waits_in (members k 0) (members k 1) j (scene count 0 of_0).net (scene count 1 of_1).net x.phase
               ((stands count 0 of_0).managers j some limit).agrees
               (subst (λ (z : ManagerNode). ManagerAgrees (members k 1) 1 (scene count 1 of_1).net j z.phase) same
@@ -132,10 +132,10 @@ module _ (laws : NodeLaws) (grants : ManagersGrantWhatTheyHold) (base : Setting)
     t = s.turn
 
     placed : place_of k (node_of s.event) ≡ Some t.place
-    placed = subst (λ c. place_of c (node_of s.event) ≡ Some t.place) (cluster_at e s.at) t.at
+    placed = subst (λ c. place_of c (node_of s.event) ≡ Some t.place) (cluster_at e s.at) t.placed
 
     stood : node_in w.nodes (place_of k (node_of s.event)) ≡ Some t.node
-    stood = ap (node_in w.nodes) placed ∙ t.is
+    stood = ap (node_in w.nodes) placed ∙ t.stands
 
     from_it : p.from ≡ node_of s.event
     from_it =
@@ -152,11 +152,11 @@ module _ (laws : NodeLaws) (grants : ManagersGrantWhatTheyHold) (base : Setting)
         let after : Phase = (manager_step x.manager (what_of s.event)).node.phase in
         subst (IfGrant (GrantTells after)) is_grant
         (clocked (GrantTells after) t.clock (manager_step x.manager (what_of s.event)).packets (grants x.manager (what_of s.event) x.waits) p
-        (subst (λ n. In p (map (sent_at t.clock) (any_step n (what_of s.event)).packets)) x.is s.fresh))
+        (subst (λ n. In p (map (sent_at t.clock) (any_step n (what_of s.event)).packets)) x.kind s.fresh))
 
     granted_by : ByManager k p.from → GrantedAt (suc s.at) m
     granted_by b =
-        let name : node_of s.event ≡ Manager b.number = sym from_it ∙ b.is in
+        let name : node_of s.event ≡ Manager b.number = sym from_it ∙ b.named in
         let x : IsWaiting t.node =
         waiting s.at b.number b.some b.limit t.node (subst (λ n. node_in w.nodes (place_of k n) ≡ Some t.node) name stood) (omega arith) (omega arith) in
         let then : AnyNode = (any_step t.node (what_of s.event)).node in
@@ -167,8 +167,8 @@ module _ (laws : NodeLaws) (grants : ManagersGrantWhatTheyHold) (base : Setting)
           manager = (manager_step x.manager (what_of s.event)).node;
           there = ap (λ ns. node_in ns (place_of k (Manager b.number))) t.nodes_are
               ∙ (subst (λ n. node_in (slice_set w.nodes t.place then) (place_of k n) ≡ Some then) name
-              (here k w.nodes (node_of s.event) t.place placed then t.node t.is)
-              ∙ ap (λ n. Some (any_step n (what_of s.event)).node) x.is);
+              (here k w.nodes (node_of s.event) t.place placed then t.node t.stands)
+              ∙ ap (λ n. Some (any_step n (what_of s.event)).node) x.kind);
           tells = its_grant x;
         }
 

@@ -30,7 +30,7 @@ module _ (e : Estate AnyNode) (p : Packet) where
     pub since : before ≤ at
     pub until : at < count
     pub event : Event
-    pub is : slice_get e.events at ≡ Some event
+    pub happens : slice_get e.events at ≡ Some event
     pub turn : TurnAt (moment e at) event (moment e (suc at)).nodes (moment e (suc at)).sent (moment e (suc at)).acts
     pub fresh : In p (map (sent_at turn.clock) (any_step turn.node (what_of event)).packets)
 
@@ -40,7 +40,7 @@ module _ (e : Estate AnyNode) (p : Packet) where
     since = s.since;
     until = (let less = s.until in omega arith);
     event = s.event;
-    is = s.is;
+    happens = s.happens;
     turn = s.turn;
     fresh = s.fresh;
   }
@@ -65,7 +65,7 @@ module _ (e : Estate AnyNode) (p : Packet) where
           since = since;
           until = omega arith;
           event = event;
-          is = is;
+          happens = is;
           turn = t;
           fresh = fresh;
         }) (in_append (moment e count).sent _ p (subst (In p) t.sent_are sent))

@@ -132,7 +132,7 @@ module _ (below : Below) (base : Setting) (apart : TellsApart base) (e : Estate 
     among = sent_then e packet before count s
 
     granted : GrantedAt below.nodes managers_grant_what_they_hold base e setup run lines after m
-    granted = granted_then below.nodes managers_grant_what_they_hold base e setup run lines packet m a.is before count s among
+    granted = granted_then below.nodes managers_grant_what_they_hold base e setup run lines packet m a.bears before count s among
 
     -- ---- the slot that the Grant speaks of
 
@@ -172,7 +172,7 @@ module _ (below : Below) (base : Setting) (apart : TellsApart base) (e : Estate 
     lies : LiesAt f then.tok.net.books m.block m.entry place place.seg.name.log.0 place.seg.name.seq
     lies =
         lies_there f then.tok.net.books m.block m.entry place filed then.books plain a.leads
-        (subst (BodyTold (told_by (rows_at f))) a.is (then.entries.packets packet among))
+        (subst (BodyTold (told_by (rows_at f))) a.bears (then.entries.packets packet among))
 
     named : is_filed_name f place.seg.name ≡ true
     named = subst (λ n. same_name place.seg.name n ≡ true) lies.name (same_itself place.seg.name)
@@ -193,7 +193,7 @@ module _ (below : Below) (base : Setting) (apart : TellsApart base) (e : Estate 
     granted_there : In (GrantSent c m.block m.stamp m.inc m.req m.mode m.entry) now.tok.net.sent
     granted_there =
         grant_seen cl part now.tok c m packet.from
-        (subst (λ b. SentBy cl part now.tok packet.from (Client c) b) a.is
+        (subst (λ b. SentBy cl part now.tok packet.from (Client c) b) a.bears
         (subst (λ n. SentBy cl part now.tok packet.from n packet.body) a.to (now.tokens_stand.facts packet a.sent)))
         (itself part)
 

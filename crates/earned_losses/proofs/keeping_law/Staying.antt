@@ -80,4 +80,4 @@ module _ (base : Setting) (e : Estate AnyNode) (lines : HasLines base e) (texts 
     pub filed_still : (l q : ℕ) → 0 < q → q ≤ f.head l → IsStill l q
     filed_still l q some limit =
         let has : HasLog base e lines texts part first l = filed_log base e lines texts part first count then l q some limit in
-        subst (λ x. q ≤ f.head x → IsStill x q) has.is (λ within. of_log has.role has.there has.keeps q some within) limit
+        subst (λ x. q ≤ f.head x → IsStill x q) has.numbered (λ within. of_log has.role has.there has.keeps q some within) limit

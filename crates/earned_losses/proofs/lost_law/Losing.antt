@@ -83,7 +83,7 @@ module _ (keeps : GrantsLeadToWhatStands) (e : Estate AnyNode) (setup : IsSetup 
             sent = got.0;
             to = got.1 ∙ sym own;
             grant = w.confirms.grant;
-            is = w.confirms.is;
+            bears = w.confirms.bears;
             accepted = w.accepted;
             leads = w.confirms.lies;
           }

@@ -74,7 +74,7 @@ module _ (base : Setting) (e : Estate AnyNode) (run : IsRun any_step any_start e
     name : m.name ≡ fetch.name
     ask : m.ask ≡ fetch.ask
     shelf : ShelfState
-    is : shelf_at (moment e at) v ≡ Some shelf
+    has_shelf : shelf_at (moment e at) v ≡ Some shelf
     in_generation : shelf.generation ≡ m.generation
     nothing : held_at shelf.held fetch.name ≡ None
 
@@ -94,7 +94,7 @@ module _ (base : Setting) (e : Estate AnyNode) (run : IsRun any_step any_start e
     name = t.name;
     ask = t.ask;
     shelf = t.shelf;
-    is = t.is;
+    has_shelf = t.has_shelf;
     in_generation = t.in_generation;
     nothing = t.nothing;
   }
@@ -113,10 +113,10 @@ module _ (base : Setting) (e : Estate AnyNode) (run : IsRun any_step any_start e
       new = map (sent_at t.clock) (any_step t.node (what_of event)).packets
 
       placed : place_of k_of (node_of event) ≡ Some t.place
-      placed = subst (λ k. place_of k (node_of event) ≡ Some t.place) (cluster_at e count) t.at
+      placed = subst (λ k. place_of k (node_of event) ≡ Some t.place) (cluster_at e count) t.placed
 
       stood : node_in (moment e count).nodes (place_of k_of (node_of event)) ≡ Some t.node
-      stood = ap (node_in (moment e count).nodes) placed ∙ t.is
+      stood = ap (node_in (moment e count).nodes) placed ∙ t.stands
 
       its_own : (p : Packet) → In p new → p.from ≡ node_of event
       its_own p late =
@@ -138,14 +138,14 @@ module _ (base : Setting) (e : Estate AnyNode) (run : IsRun any_step any_start e
               at = count;
               before = omega arith;
               packet = a.packet;
-              among = (brought (moment e count) event (may_happen e run count event at) a.packet a.is).0;
+              among = (brought (moment e count) event (may_happen e run count event at) a.packet a.delivers).0;
               asker = a.asker ∙ to;
               fetch = a.fetch;
               asks = a.asks;
               name = a.name;
               ask = a.ask;
               shelf = node.shelf;
-              is = here_is e count v ∙ ap shelf_of is;
+              has_shelf = here_is e count v ∙ ap shelf_of is;
               in_generation = sym a.generation;
               nothing = a.nothing;
             }
@@ -207,7 +207,7 @@ module _ (base : Setting) (e : Estate AnyNode) (run : IsRun any_step any_start e
             since = told_since count v m t k undrawn;
             until = t.before;
             shelf = t.shelf;
-            is = t.is;
+            has_shelf = t.has_shelf;
             in_generation = t.in_generation;
             nothing = t.nothing;
           };

@@ -35,11 +35,11 @@ deletes name _ = false
 -- a packet that says so
 record SaysSo (name : SegName) (said : Body) : Type 0 where
   delete : Delete
-  is : said ≡ body.Delete delete
+  tells : said ≡ body.Delete delete
   named : delete.name ≡ name
 
 says_so : (name : SegName) (said : Body) → deletes name said ≡ true → SaysSo name said
-says_so name (body.Delete m) is = record { delete = m; is = refl; named = one_name m.name name is }
+says_so name (body.Delete m) is = record { delete = m; tells = refl; named = one_name m.name name is }
 says_so name _ is = contrary is
 
 module _ (e : Estate AnyNode) (count : ℕ) (name : SegName) where
@@ -53,7 +53,7 @@ module _ (e : Estate AnyNode) (count : ℕ) (name : SegName) where
           ⊎ ((p : Packet) → In p (moment e count).sent → deletes name p.body ≡ true → ⊥)
           → Deleted e count name ⊎ NotDeleted (moment e count) name
       by (inl (p, among, is)) =
-          let s = says_so name p.body is in inl (record { packet = p; among = among; delete = s.delete; tells = s.is; named = s.named })
+          let s = says_so name p.body is in inl (record { packet = p; among = among; delete = s.delete; tells = s.tells; named = s.named })
       by (inr none) =
           inr (λ packet m sent tells named.
           none packet (was_sent (moment e count).sent packet sent)

@@ -63,7 +63,7 @@ shelf_weaker T U up s t on = record { up = on.up; holds = λ name is. by name (o
 -- what an event makes of the node that stands at a server's place
 record Turned (Told : SegName → Type 0) (x : AnyNode) (what : Do) (s : ShelfState) : Type 0 where
   shelf : ShelfState
-  is : shelf_of (Some (any_step x what).node) ≡ Some shelf
+  has_shelf : shelf_of (Some (any_step x what).node) ≡ Some shelf
   on : ShelfOn Told s shelf
 
 turned : (Told : SegName → Type 0) (x : AnyNode) (what : Do) (s : ShelfState) → shelf_of (Some x) ≡ Some s
@@ -72,7 +72,7 @@ turned Told (any.Client node) what s is tells = absurd cc
 turned Told (any.Manager node) what s is tells = absurd cc
 turned Told (any.Server node) what s is tells = record {
   shelf = (server_step node what).node.shelf;
-  is = refl;
+  has_shelf = refl;
   on = subst (λ z. ShelfOn Told z (server_step node what).node.shelf) (same_shelf node.shelf s is) (server_on Told node what tells);
 }
 turned Told (any.Cleaner node) what s is tells = absurd cc
@@ -95,22 +95,22 @@ module _ (e : Estate AnyNode) where
   -- what is sent between two counts is added to what was sent
   pub record Grown (count : ℕ) : Type 0 where
     pub new : List Packet
-    pub is : (moment e (suc count)).sent ≡ (moment e count).sent ++ new
+    pub sent_are : (moment e (suc count)).sent ≡ (moment e count).sent ++ new
 
   pub grown : (count : ℕ) → Grown count
   grown count = by (slice_get e.events count) refl
     where
       same : (moment e (suc count)).sent ≡ (moment e count).sent → Grown count
-      same is = record { new = []; is = is ∙ sym (append-nil (moment e count).sent) }
+      same is = record { new = []; sent_are = is ∙ sym (append-nil (moment e count).sent) }
 
       by : (o : Option Event) → slice_get e.events count ≡ o → Grown count
       by None is = same (ap (λ (v : World AnyNode). v.sent) (moment_ended e count is))
       by (Some event) is =
           ⊎_elim (λ still. same still.sent_are)
-          (λ t. record { new = map (sent_at t.clock) (any_step t.node (what_of event)).packets; is = t.sent_are }) (became count event is)
+          (λ t. record { new = map (sent_at t.clock) (any_step t.node (what_of event)).packets; sent_are = t.sent_are }) (became count event is)
 
   pub sent_next : (count : ℕ) (p : Packet) → In p (moment e count).sent → In p (moment e (suc count)).sent
-  sent_next count p is = (let g = grown count in subst (In p) (sym g.is) (in_before (moment e count).sent g.new p is))
+  sent_next count p is = (let g = grown count in subst (In p) (sym g.sent_are) (in_before (moment e count).sent g.new p is))
 
   pub sent_on : (from to : ℕ) → from ≤ to → (p : Packet) → In p (moment e from).sent → In p (moment e to).sent
   sent_on from zero limit p is = subst (λ k. In p (moment e k).sent) (nothing_below from limit) is
@@ -154,7 +154,7 @@ module _ (e : Estate AnyNode) where
   -- a server's shelf at a count that follows one at which it had this one
   pub record ShelfAt (count v : ℕ) (s : ShelfState) : Type 0 where
     pub shelf : ShelfState
-    pub is : shelf_at (moment e count) v ≡ Some shelf
+    pub has_shelf : shelf_at (moment e count) v ≡ Some shelf
     pub on : ShelfOn (Deleted count) s shelf
 
   abbrev pub Here : ℕ → ℕ → Option AnyNode
@@ -167,14 +167,14 @@ module _ (e : Estate AnyNode) where
     rests : (count v : ℕ) (s : ShelfState) → shelf_at (moment e count) v ≡ Some s → Here (suc count) v ≡ Here count v → ShelfAt (suc count) v s
     rests count v s is same = record {
       shelf = s;
-      is = here_is (suc count) v ∙ (ap shelf_of same ∙ (sym (here_is count v) ∙ is));
+      has_shelf = here_is (suc count) v ∙ (ap shelf_of same ∙ (sym (here_is count v) ∙ is));
       on = shelf_same (Deleted (suc count)) s;
     }
 
     module _ (count v : ℕ) (s : ShelfState) (is : shelf_at (moment e count) v ≡ Some s) (event : Event) (at : slice_get e.events count ≡ Some event)
         (t : TurnAt (moment e count) event (moment e (suc count)).nodes (moment e (suc count)).sent (moment e (suc count)).acts) where
       placed : place_of k_of (node_of event) ≡ Some t.place
-      placed = subst (λ k. place_of k (node_of event) ≡ Some t.place) (cluster_at e count) t.at
+      placed = subst (λ k. place_of k (node_of event) ≡ Some t.place) (cluster_at e count) t.placed
 
       other_turn : (names.Server v ≡ node_of event → ⊥) → ShelfAt (suc count) v s
       other_turn differs =
@@ -192,19 +192,19 @@ module _ (e : Estate AnyNode) where
       }
 
       own_turn : names.Server v ≡ node_of event → ShelfAt (suc count) v s
-      own_turn same = record { shelf = d.shelf; is = here_is (suc count) v ∙ (ap shelf_of now ∙ d.is); on = d.on }
+      own_turn same = record { shelf = d.shelf; has_shelf = here_is (suc count) v ∙ (ap shelf_of now ∙ d.has_shelf); on = d.on }
         where
           was : Here count v ≡ Some t.node
           was =
               subst (λ n. node_in (moment e count).nodes (place_of k_of n) ≡ Some t.node) (sym same)
-              (ap (node_in (moment e count).nodes) placed ∙ t.is)
+              (ap (node_in (moment e count).nodes) placed ∙ t.stands)
 
           now : Here (suc count) v ≡ Some (any_step t.node (what_of event)).node
           now =
               ap (λ ns. node_in ns (place_of k_of (names.Server v))) t.nodes_are
               ∙ subst (λ n. node_in (slice_set (moment e count).nodes t.place (any_step t.node (what_of event)).node) (place_of k_of n)
               ≡ Some (any_step t.node (what_of event)).node) (sym same)
-              (here k_of (moment e count).nodes (node_of event) t.place placed (any_step t.node (what_of event)).node t.node t.is)
+              (here k_of (moment e count).nodes (node_of event) t.place placed (any_step t.node (what_of event)).node t.node t.stands)
 
           d : Turned (Deleted (suc count)) t.node (what_of event) s
           d = turned (Deleted (suc count)) t.node (what_of event) s (sym (ap shelf_of was) ∙ (sym (here_is count v) ∙ is)) told
@@ -225,16 +225,16 @@ module _ (e : Estate AnyNode) where
     shelf_same_at : (from to v : ℕ) (s : ShelfState) → shelf_at (moment e from) v ≡ Some s → from ≡ to → ShelfAt to v s
     shelf_same_at from to v s is now = record {
       shelf = s;
-      is = subst (λ k. shelf_at (moment e k) v ≡ Some s) now is;
+      has_shelf = subst (λ k. shelf_at (moment e k) v ≡ Some s) now is;
       on = shelf_same (Deleted to) s;
     }
 
     shelf_further : (to v : ℕ) (s : ShelfState) → ShelfAt to v s → ShelfAt (suc to) v s
     shelf_further to v s a =
-        let b = shelf_next to v a.shelf a.is in
+        let b = shelf_next to v a.shelf a.has_shelf in
         record {
           shelf = b.shelf;
-          is = b.is;
+          has_shelf = b.has_shelf;
           on = shelf_then (Deleted (suc to)) s a.shelf b.shelf
               (shelf_weaker (Deleted to) (Deleted (suc to)) (deleted_on to (suc to) (omega arith)) s a.shelf a.on) b.on;
         }
@@ -248,16 +248,17 @@ module _ (e : Estate AnyNode) where
     pub lacks_between : (since middle drawn count v generation : ℕ) (name : SegName) → MissedIn e since middle v generation name
         → MissedIn e drawn count v generation name → NotDeleted (moment e count) name → (at : ℕ) → middle ≤ at → at ≤ drawn
         → lacks (shelf_at (moment e at) v) name ≡ true
-    lacks_between since middle drawn count v generation name one two kept at after before = subst (λ o. lacks o name ≡ true) (sym a.is) (none_left _ unheld)
+    lacks_between since middle drawn count v generation name one two kept at after before =
+        subst (λ o. lacks o name ≡ true) (sym a.has_shelf) (none_left _ unheld)
       where
         a : ShelfAt at v one.shelf
-        a = shelf_on one.at at v (let x = one.until in omega arith) one.shelf one.is
+        a = shelf_on one.at at v (let x = one.until in omega arith) one.shelf one.has_shelf
 
         b : ShelfAt two.at v a.shelf
-        b = shelf_on at two.at v (let x = two.since in omega arith) a.shelf a.is
+        b = shelf_on at two.at v (let x = two.since in omega arith) a.shelf a.has_shelf
 
         same : b.shelf ≡ two.shelf
-        same = same_shelf b.shelf two.shelf (sym b.is ∙ two.is)
+        same = same_shelf b.shelf two.shelf (sym b.has_shelf ∙ two.has_shelf)
 
         unheld : is_held a.shelf name ≡ true → ⊥
         unheld held = by (b.on.holds name held)

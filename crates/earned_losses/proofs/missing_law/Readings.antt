@@ -66,7 +66,7 @@ module _ (e : Estate AnyNode) where
     since = (let a = m.since in omega arith);
     until = (let a = m.until in omega arith);
     shelf = m.shelf;
-    is = m.is;
+    has_shelf = m.has_shelf;
     in_generation = m.in_generation;
     nothing = m.nothing;
   }

@@ -75,7 +75,7 @@ module _ (e : Estate AnyNode) (run : IsRun any_step any_start e.script e.events 
 
   -- a server of the run has a shelf at each moment
   pub shelf_there : (count v : ℕ) → IsServer e.script.setup.servers v → (shelf : ShelfState) × (shelf_at (moment e count) v ≡ Some shelf)
-  shelf_there count v is = (let s : ShelfAt e count v new_shelf = shelf_on e run 0 count v (omega arith) new_shelf first in (s.shelf, s.is))
+  shelf_there count v is = (let s : ShelfAt e count v new_shelf = shelf_on e run 0 count v (omega arith) new_shelf first in (s.shelf, s.has_shelf))
     where
       at : place_of (k_of e) (names.Server v) ≡ Some (e.script.setup.clients + e.script.setup.managers + v - 1)
       at = place_there (e.script.setup.clients + e.script.setup.managers) e.script.setup.servers v is.0 is.1

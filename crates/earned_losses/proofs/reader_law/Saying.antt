@@ -256,10 +256,10 @@ module _ (laws : NodeLaws) (e : Estate AnyNode) (setup : IsSetup e.script.setup)
     turn_says : TurnAt (moment e count) event (next_world any_step (moment e count) event).nodes (next_world any_step (moment e count) event).sent
         (next_world any_step (moment e count) event).acts → (node ≡ node_of event) × ReadsNow (node_of event)
     turn_says t =
-        let placed : place_of k (node_of event) ≡ Some t.place = subst (λ c. place_of c (node_of event) ≡ Some t.place) cluster_is t.at in
+        let placed : place_of k (node_of event) ≡ Some t.place = subst (λ c. place_of c (node_of event) ≡ Some t.place) cluster_is t.placed in
         let acts : acts_in (moment e count) event ≡ (any_step t.node (what_of event)).acts =
         ap (drop (length (moment e count).acts)) t.acts_are ∙ done_after (moment e count).acts (any_step t.node (what_of event)).acts in
-        by_name (what_of event) node name (node_of event) t.place t.node placed (ap (node_in (moment e count).nodes) placed ∙ t.is)
+        by_name (what_of event) node name (node_of event) t.place t.node placed (ap (node_in (moment e count).nodes) placed ∙ t.stands)
         (subst (In (act.Lost node name)) acts among)
 
     pub says_and_reads : (node ≡ node_of event) × ReadsNow (node_of event)

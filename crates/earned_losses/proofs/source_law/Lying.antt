@@ -123,13 +123,13 @@ is_serving slot (Waiting life hello) t is = absurd cc
 
 pub record IsTaking (slot : ℕ) (o : Option AnyNode) (t : Taking) : Type 0 where
   pub node : ManagerNode
-  pub is : o ≡ Some (any.Manager node)
+  pub kind : o ≡ Some (any.Manager node)
   pub takes : slot_in slot node.phase ≡ phase.Taking t
 
 is_taking : (slot : ℕ) (o : Option AnyNode) (t : Taking) → slot_of slot o ≡ phase.Taking t → IsTaking slot o t
 is_taking slot None t is = absurd cc
 is_taking slot (Some (any.Client node)) t is = absurd cc
-is_taking slot (Some (any.Manager node)) t is = record { node = node; is = refl; takes = is }
+is_taking slot (Some (any.Manager node)) t is = record { node = node; kind = refl; takes = is }
 is_taking slot (Some (any.Server node)) t is = absurd cc
 is_taking slot (Some (any.Cleaner node)) t is = absurd cc
 is_taking slot (Some (any.Registry node)) t is = absurd cc
@@ -207,7 +207,7 @@ module _ (laws : Laws) (base : Setting) (e : Estate AnyNode) (run : IsRun any_st
     node = its_node.node
 
     named_in : node_in (moment e count).nodes (place_of (cluster_of e.script.setup) (Manager j)) ≡ Some (any.Manager its_node.node)
-    named_in = subst (λ k. node_in (moment e count).nodes (place_of k (Manager j)) ≡ Some (any.Manager its_node.node)) (moment_cluster e count) its_node.is
+    named_in = subst (λ k. node_in (moment e count).nodes (place_of k (Manager j)) ≡ Some (any.Manager its_node.node)) (moment_cluster e count) its_node.kind
 
     serving : IsServing slot its_node.node.phase t
     serving = is_serving slot its_node.node.phase t its_node.takes
@@ -250,7 +250,7 @@ module _ (laws : Laws) (base : Setting) (e : Estate AnyNode) (run : IsRun any_st
     holds : TakeHolds (answered_in (moment e count).sent (Manager j)) (cut_by (cuts_at e.world)) t.take
     holds =
         take_holds (answered_in (moment e count).sent (Manager j)) (cut_by (cuts_at e.world)) its_node.node.phase
-        (came.nodes (Manager j) (any.Manager its_node.node) its_node.is) slot t its_node.takes
+        (came.nodes (Manager j) (any.Manager its_node.node) its_node.kind) slot t its_node.takes
 
     refers : Refers base e lines texts slot first count (Manager j) source.seg
     refers =
@@ -280,28 +280,28 @@ module _ (laws : Laws) (base : Setting) (e : Estate AnyNode) (run : IsRun any_st
       s = joint.idx.net.filed.segment f.log f.seq
 
       most_there : f.seq ≤ joint.idx.net.filed.head (log_by h.role)
-      most_there = subst (λ x. f.seq ≤ joint.idx.net.filed.head x) (sym h.is) f.limit
+      most_there = subst (λ x. f.seq ≤ joint.idx.net.filed.head x) (sym h.numbered) f.limit
 
       flown_there : tables.In (joint.idx.net.filed.segment f.log f.seq) ((lines h.role h.there).at count).net.flown
       flown_there =
-          subst (λ x. tables.In (joint.idx.net.filed.segment x f.seq) ((lines h.role h.there).at count).net.flown) h.is
+          subst (λ x. tables.In (joint.idx.net.filed.segment x f.seq) ((lines h.role h.there).at count).net.flown) h.numbered
           ((joint.lined h.role h.there h.keeps).lined.flown f.seq f.some most_there)
 
       filed_there : tables.In (joint.idx.net.filed.segment f.log f.seq).name ((lines h.role h.there).at count).net.filed
       filed_there =
-          subst (λ x. tables.In (joint.idx.net.filed.segment x f.seq).name ((lines h.role h.there).at count).net.filed) h.is
+          subst (λ x. tables.In (joint.idx.net.filed.segment x f.seq).name ((lines h.role h.there).at count).net.filed) h.numbered
           ((joint.lined h.role h.there h.keeps).lined.filed f.seq f.some most_there)
 
       acted_there : In (act.Filed (joint.idx.net.filed.segment f.log f.seq).name) (did e (log_by h.role) count)
       acted_there =
-          subst (λ x. In (act.Filed (joint.idx.net.filed.segment x f.seq).name) (did e (log_by h.role) count)) h.is
+          subst (λ x. In (act.Filed (joint.idx.net.filed.segment x f.seq).name) (did e (log_by h.role) count)) h.numbered
           (joint.acted h.role h.there h.keeps f.seq f.some most_there)
 
       its_log : (joint.idx.net.filed.segment f.log f.seq).name.log.0 ≡ f.log
       its_log = ((filed_known base e lines texts slot first count joint).filed.each f.log f.seq f.some f.limit).log
 
       same_log : log_by h.role ≡ log_by refers.of.role
-      same_log = h.is ∙ (sym its_log ∙ (ap (λ (n : SegName). n.log.0) (sym f.named) ∙ ap (λ (x : LogId). x.0) refers.of.own))
+      same_log = h.numbered ∙ (sym its_log ∙ (ap (λ (n : SegName). n.log.0) (sym f.named) ∙ ap (λ (x : LogId). x.0) refers.of.own))
 
       one_owner : refers.of.role ≡ h.role
       one_owner =
@@ -337,7 +337,7 @@ module _ (laws : Laws) (base : Setting) (e : Estate AnyNode) (run : IsRun any_st
 
     module _ (p : ReadsPart t.take.news.parts source) where
       it : PartOf source.seg
-      it = subst PartOf (ap (λ (x : Source). x.seg) (sym p.is)) (one_among PartOf t.take.news.parts p.ref parts_known p.among)
+      it = subst PartOf (ap (λ (x : Source). x.seg) (sym p.of_part)) (one_among PartOf t.take.news.parts p.ref parts_known p.among)
 
       part_filed : WasFiled e count source.seg.name
       part_filed = record { owner = OfManager it.manager; there = it.there; acted = it.acted }
@@ -359,12 +359,12 @@ module _ (laws : Laws) (base : Setting) (e : Estate AnyNode) (run : IsRun any_st
 
   pub reads_filed : (epoch : ℕ) (ref : SegRef) → Reads (slot_at e j slot count) epoch ref → WasFiled e count ref.name
   reads_filed epoch ref x =
-      subst (λ (z : SegRef). WasFiled e count z.name) x.is (was_filed x.taking x.takes x.source x.reading x.present)
+      subst (λ (z : SegRef). WasFiled e count z.name) x.of_segment (was_filed x.taking x.takes x.source x.reading x.present)
 
   pub reads_stored : (epoch : ℕ) (ref : SegRef) → Reads (slot_at e j slot count) epoch ref → NotDeleted (moment e count) ref.name → IsStoredAs e count ref
   reads_stored epoch ref x kept =
-      subst (IsStoredAs e count) x.is
-      (is_stored x.taking x.takes x.source x.reading x.present (subst (λ (z : SegRef). NotDeleted (moment e count) z.name) (sym x.is) kept))
+      subst (IsStoredAs e count) x.of_segment
+      (is_stored x.taking x.takes x.source x.reading x.present (subst (λ (z : SegRef). NotDeleted (moment e count) z.name) (sym x.of_segment) kept))
 
 -- ---- the slot is one of eight
 
@@ -386,7 +386,7 @@ module _ (base : Setting) (e : Estate AnyNode) (lines : HasLines base e) (texts 
   it_serves = is_serving slot it_takes.node.phase t it_takes.takes
 
   it_named : node_in (moment e count).nodes (place_of (cluster_of e.script.setup) (Manager j)) ≡ Some (any.Manager it_takes.node)
-  it_named = subst (λ k. node_in (moment e count).nodes (place_of k (Manager j)) ≡ Some (any.Manager it_takes.node)) (moment_cluster e count) it_takes.is
+  it_named = subst (λ k. node_in (moment e count).nodes (place_of k (Manager j)) ≡ Some (any.Manager it_takes.node)) (moment_cluster e count) it_takes.kind
 
   it_agrees : places.ManagerAgrees part texts.text joint.idx.net it_takes.node.phase
   it_agrees =

@@ -153,7 +153,7 @@ module _ (base : Setting) (e : Estate AnyNode) (lines : HasLines base e) (texts 
   pub record ServesThere (c : ℕ) (s : ClientServing) : Type 0 where
     pub some : 0 < c
     pub less : c < members cl part
-    pub is : (b.tok.client c).phase ≡ clients.Serving s
+    pub serves : (b.tok.client c).phase ≡ clients.Serving s
 
   pub serves_there : (c : ℕ) (s : ClientServing) → serving_at e c count ≡ Some s → ServesThere c s
   serves_there c s is = by (place_of cl (Client c)) refl
@@ -180,5 +180,5 @@ module _ (base : Setting) (e : Estate AnyNode) (lines : HasLines base e) (texts 
           record {
             some = f.some;
             less = less;
-            is = phase_is (b.tok.client c).phase (sym (ap serving_of (b.tokens_stand.placed.clients c f.some less)) ∙ at);
+            serves = phase_is (b.tok.client c).phase (sym (ap serving_of (b.tokens_stand.placed.clients c f.some less)) ∙ at);
           }

@@ -155,7 +155,7 @@ module _ (law : ManagerEventGoes) (base : Setting) (e : Estate AnyNode) (run : I
     -- nothing happens to the manager, or it has its turn
     pub record ItsTurn : Type 0 where
       pub event : Event
-      pub is : slice_get e.events count ≡ Some event
+      pub occurs : slice_get e.events count ≡ Some event
       pub own : Manager j ≡ node_of event
       pub state : (d.tok.manager j).phase ≡ (happens (b.tok.manager j) (what_of event)).state
 
@@ -164,17 +164,17 @@ module _ (law : ManagerEventGoes) (base : Setting) (e : Estate AnyNode) (run : I
         → ItsTurn
     its_turn event is t own = record {
       event = event;
-      is = is;
+      occurs = is;
       own = own;
       state = ap (λ (x : ManagerNode). x.phase) (same_manager (d.tok.manager j) (manager_step (b.tok.manager j) (what_of event)).node
           (sym (node_there (suc count) d) ∙ later));
     }
       where
         placed : place_of cl (Manager j) ≡ Some t.place
-        placed = ap (place_of cl) own ∙ subst (λ c. place_of c (node_of event) ≡ Some t.place) (cluster_at e count) t.at
+        placed = ap (place_of cl) own ∙ subst (λ c. place_of c (node_of event) ≡ Some t.place) (cluster_at e count) t.placed
 
         was : Some (any.Manager (b.tok.manager j)) ≡ Some t.node
-        was = sym (node_there count b) ∙ (ap (node_in (moment e count).nodes) placed ∙ t.is)
+        was = sym (node_there count b) ∙ (ap (node_in (moment e count).nodes) placed ∙ t.stands)
 
         same : any.Manager (b.tok.manager j) ≡ t.node
         same = same_node (any.Manager (b.tok.manager j)) t.node was
@@ -182,7 +182,7 @@ module _ (law : ManagerEventGoes) (base : Setting) (e : Estate AnyNode) (run : I
         later : node_in (moment e (suc count)).nodes (place_of cl (Manager j)) ≡ Some (any.Manager (manager_step (b.tok.manager j) (what_of event)).node)
         later =
             ap (λ ns. node_in ns (place_of cl (Manager j))) t.nodes_are
-            ∙ (here cl (moment e count).nodes (Manager j) t.place placed (any_step t.node (what_of event)).node t.node t.is
+            ∙ (here cl (moment e count).nodes (Manager j) t.place placed (any_step t.node (what_of event)).node t.node t.stands
             ∙ ap (λ (x : AnyNode). Some (any_step x (what_of event)).node) (sym same))
 
     abbrev Stays : Type 0
@@ -203,7 +203,7 @@ module _ (law : ManagerEventGoes) (base : Setting) (e : Estate AnyNode) (run : I
             ⊎_elim (λ own. inr (its_turn event is t own))
             (λ differs. inl (stays_by (ap (λ ns. node_in ns (place_of cl (Manager j))) t.nodes_are
             ∙ there cl (moment e count).nodes (node_of event) t.place
-            (subst (λ c. place_of c (node_of event) ≡ Some t.place) (cluster_at e count) t.at) (any_step t.node (what_of event)).node (Manager j) differs)))
+            (subst (λ c. place_of c (node_of event) ≡ Some t.place) (cluster_at e count) t.placed) (any_step t.node (what_of event)).node (Manager j) differs)))
             (same_or_other (Manager j) (node_of event))
 
         by : (o : Option Event) → slice_get e.events count ≡ o → Stays ⊎ ItsTurn
@@ -267,7 +267,7 @@ module _ (law : ManagerEventGoes) (base : Setting) (e : Estate AnyNode) (run : I
                   let life : (lasting_of (d.tok.manager j).phase).inc ≡ b.tok.since epoch =
                   sym ((d.tokens_stand.managers j is_there.0 is_there.1).owns epoch held).1 ∙ (f.since.given epoch lapsed.within).1 in
                   none_anew cl part (epoch_now cl part b.tok) j b.tok.net (b.tok.manager j).phase (what_of t.event)
-                  (happens (b.tok.manager j) (what_of t.event)) (goes count b t.event t.is t.own) epoch (b.tok.since epoch) lapsed.past
+                  (happens (b.tok.manager j) (what_of t.event)) (goes count b t.event t.occurs t.own) epoch (b.tok.since epoch) lapsed.past
                   (subst (λ (x : Phase). (lasting_of x).inc ≡ b.tok.since epoch) t.state life) lapsed.apart
                   (subst (λ (x : Phase). HeldAt (slot_in part x) epoch) t.state held)
 

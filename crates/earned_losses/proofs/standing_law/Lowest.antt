@@ -67,7 +67,7 @@ module _ (news : SlotNews) where
   part_ends : (source : Source) (s : Segment) → ReadsPart news.parts source → s.name ≡ source.seg.name → goes_back source s ≡ true → ⊥
   part_ends source s part named back =
       none_below source.low s.name.seq (not (is_none s.prior))
-      (ap (λ (x : Source). x.low) part.is ∙ (ap (λ (x : Source). x.seg.name.seq) (sym part.is) ∙ ap (λ (n : SegName). n.seq) (sym named))) back
+      (ap (λ (x : Source). x.low) part.of_part ∙ (ap (λ (x : Source). x.seg.name.seq) (sym part.of_part) ∙ ap (λ (n : SegName). n.seq) (sym named))) back
 
   leads_down : (source : Source) (s : Segment) → OfLog source → s.name ≡ source.seg.name → OfLog (record { seg = prior_of s; low = source.low })
   leads_down source s o named = record {
@@ -88,7 +88,7 @@ module _ (news : SlotNews) where
   all_parts : (parts : List SegRef) → ((ref : SegRef) → In ref parts → In ref news.parts) → AllByRecursion Lies (map part_source parts)
   all_parts [] among = tt
   all_parts (ref ∷ parts) among =
-      (inl (record { ref = ref; among = among ref (inl refl); is = refl }), all_parts parts (λ x later. among x (inr later)))
+      (inl (record { ref = ref; among = among ref (inl refl); of_part = refl }), all_parts parts (λ x later. among x (inr later)))
 
   log_lies : (reports : List Report) (l : ℕ) → 0 < l → l ≤ 9 → AllByRecursion Lies (log_sources news.horizon reports l)
   log_lies reports l some limit =

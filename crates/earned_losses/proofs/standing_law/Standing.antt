@@ -142,7 +142,7 @@ module _ (below : Below) (e : Estate AnyNode) (setup : IsSetup e.script.setup) (
   then = (stands at earlier).joints part of_eight
 
   named_is : name ≡ reads.source.seg.name
-  named_is = was.named ∙ ap (λ (x : SegRef). x.name) (sym reads.is)
+  named_is = was.named ∙ ap (λ (x : SegRef). x.name) (sym reads.of_segment)
 
   -- ---- the moment of the Gone
 
@@ -159,7 +159,7 @@ module _ (below : Below) (e : Estate AnyNode) (setup : IsSetup e.script.setup) (
         let known : PartKnown base e lines at (rows_at then.idx.net.filed) x.ref =
         parts_known base e lines texts part first at then j is_there reads.taking reads.takes (PartKnown base e lines at (rows_at then.idx.net.filed))
         ((stands at earlier).named part of_eight) x.ref x.among in
-        let its : name ≡ known.segment.name = named_is ∙ (ap (λ (y : Source). y.seg.name) x.is ∙ sym known.named) in
+        let its : name ≡ known.segment.name = named_is ∙ (ap (λ (y : Source). y.seg.name) x.of_part ∙ sym known.named) in
         none_deleted below.written base e lines known.manager known.there at count board
         (registry_seen base e lines texts part first count (both_of base e lines texts part first count now) (OfManager known.manager) known.there)
         known.segment known.flew p d among is (same ∙ its)
@@ -199,7 +199,7 @@ module _ (below : Below) (e : Estate AnyNode) (setup : IsSetup e.script.setup) (
         let x : ServesThere base e lines texts part first count now c s = serves_there base e lines texts part first count now c s serves in
         subst (λ y. d ≤ y) promised
         (of_client below.managed below.promised true (k base e lines texts part first) part texts.text first (moment e count).nodes (moment e count).sent
-        (moment e count).acts now.tok now.idx of_eight both c s x.some x.less x.is d z there)
+        (moment e count).acts now.tok now.idx of_eight both c s x.some x.less x.serves d z there)
 
     -- what is filed is at the horizon of its log or above
     no_filed : ReadsFiled then.idx.net.filed reads.source → ⊥
@@ -208,16 +208,16 @@ module _ (below : Below) (e : Estate AnyNode) (setup : IsSetup e.script.setup) (
         let of_its : reads.source.seg.name.log.0 ≡ f.log =
         ap (λ (n : SegName). n.log.0) f.named ∙ ((filed_known base e lines texts part first at then).filed.each f.log f.seq f.some f.limit).log in
         let own : name.log ≡ record { 0 = log_by h.role } =
-        same_log name.log (record { 0 = log_by h.role }) (ap (λ (n : SegName). n.log.0) named_is ∙ (of_its ∙ sym h.is)) in
+        same_log name.log (record { 0 = log_by h.role }) (ap (λ (n : SegName). n.log.0) named_is ∙ (of_its ∙ sym h.numbered)) in
         let gone = deleted_below base e lines h.role h.there count board
         (registry_seen base e lines texts part first count (both_of base e lines texts part first count now) h.role h.there) name own p d among is same in
         let nine = one_of_nine then.idx.net.filed (filed_known base e lines texts part first at then).filed f.log f.seq f.some f.limit in
         let low : least_horizon (log_by h.role) (all_news board) ≤ of_log (now.idx.net.horizon epoch) (log_by h.role) =
         polled_low below.managed below.promised true (k base e lines texts part first) part texts.text first (moment e count).nodes
         (moment e count).sent (moment e count).acts now.tok now.idx of_eight both epoch bound lapsed_now.begun (log_by h.role)
-        (subst (λ x. 0 < x) (sym h.is) nine.0) (subst (λ x. x ≤ 9) (sym h.is) nine.1) in
+        (subst (λ x. 0 < x) (sym h.numbered) nine.0) (subst (λ x. x ≤ 9) (sym h.numbered) nine.1) in
         let high : of_log (now.idx.net.horizon epoch) (log_by h.role) ≤ was.segment.name.seq =
-        subst (λ x. of_log (now.idx.net.horizon epoch) x ≤ was.segment.name.seq) (of_its ∙ sym h.is) lapsed_now.low in
+        subst (λ x. of_log (now.idx.net.horizon epoch) x ≤ was.segment.name.seq) (of_its ∙ sym h.numbered) lapsed_now.low in
         let number : name.seq ≡ was.segment.name.seq = ap (λ (n : SegName). n.seq) was.named in
         absurd (omega arith)
 

@@ -90,13 +90,13 @@ module _ (base : Setting) (e : Estate AnyNode) (run : IsRun any_step any_start e
   module _ (new : List Packet) (acts : List Act) (u : Turned base e run lines j is_there count event new acts) (name : SegName) (k : ℕ)
       (l : LostFrom (IsNamed e) (CameBy e j count) (slot_in k u.node.phase) name) where
     its_slot : slot_at e j k count ≡ phase.Taking l.taking
-    its_slot = slot_is base e run lines j is_there k count ∙ (ap (slot_of k) u.was ∙ l.is)
+    its_slot = slot_is base e run lines j is_there k count ∙ (ap (slot_of k) u.was ∙ l.takes)
 
     -- what is read is the segment of its source
     looks : l.took.reading.target ≡ target_of l.source
     looks =
         let fine : TakingFine (IsNamed e) (lasting_of u.node.phase).questions.last l.taking =
-        phase_fine (IsNamed e) u.node.phase (subst (NodeFine e) u.was (all_good base e run lines j is_there count).fine) k l.taking l.is in
+        phase_fine (IsNamed e) u.node.phase (subst (NodeFine e) u.was (all_good base e run lines j is_there count).fine) k l.taking l.takes in
         (subst (PresentFine l.taking.take) l.took.was fine.reads).looks
 
     was_lost : WasLost e j base run lines is_there count k l.taking (all_true base e run lines j is_there count k l.taking its_slot) l.took.reading.target

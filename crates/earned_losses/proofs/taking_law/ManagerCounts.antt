@@ -185,7 +185,7 @@ module _ (base : Setting) (e : Estate AnyNode) (run : IsRun any_step any_start e
   -- a node of its name is a manager of its number
   pub record IsManager (x : AnyNode) : Type 0 where
     pub node : Manager
-    pub is : x ≡ any.Manager node
+    pub kind : x ≡ any.Manager node
     pub number : (lasting_of node.phase).number ≡ j
 
   pub is_manager : (count : ℕ) (x : AnyNode) → Here count ≡ Some x → IsManager x
@@ -198,7 +198,7 @@ module _ (base : Setting) (e : Estate AnyNode) (run : IsRun any_step any_start e
 
       by : (z : AnyNode) → ManagerThere (setting base e (OfManager j)) (OfManager j) ((lines (OfManager j) is_there).at count) j z → IsManager z
       by (any.Client node) h = absurd h
-      by (any.Manager node) h = record { node = node; is = refl; number = number node.phase (h refl) }
+      by (any.Manager node) h = record { node = node; kind = refl; number = number node.phase (h refl) }
       by (any.Server node) h = absurd h
       by (any.Cleaner node) h = absurd h
       by (any.Registry node) h = absurd h
@@ -240,10 +240,10 @@ module _ (base : Setting) (e : Estate AnyNode) (run : IsRun any_step any_start e
     new = map (sent_at t.clock) (any_step t.node (what_of event)).packets
 
     placed : place_of k_of (node_of event) ≡ Some t.place
-    placed = subst (λ k. place_of k (node_of event) ≡ Some t.place) (cluster_at e count) t.at
+    placed = subst (λ k. place_of k (node_of event) ≡ Some t.place) (cluster_at e count) t.placed
 
     stood : node_in (moment e count).nodes (place_of k_of (node_of event)) ≡ Some t.node
-    stood = ap (node_in (moment e count).nodes) placed ∙ t.is
+    stood = ap (node_in (moment e count).nodes) placed ∙ t.stands
 
     its_own : (p : Packet) → In p (map (sent_at t.clock) (any_step t.node (what_of event)).packets) → p.from ≡ node_of event
     its_own p late =
@@ -269,7 +269,7 @@ module _ (base : Setting) (e : Estate AnyNode) (run : IsRun any_step any_start e
             ap (λ ns. node_in ns (place_of k_of (names.Manager j))) t.nodes_are
             ∙ subst (λ n. node_in (slice_set (moment e count).nodes t.place (any_step t.node (what_of event)).node) (place_of k_of n)
             ≡ Some (any_step t.node (what_of event)).node) (sym same)
-            (here k_of (moment e count).nodes (node_of event) t.place placed (any_step t.node (what_of event)).node t.node t.is)
+            (here k_of (moment e count).nodes (node_of event) t.place placed (any_step t.node (what_of event)).node t.node t.stands)
 
         of_manager : (node : Manager) → Here count ≡ Some (any.Manager node) → Here (suc count) ≡ Some (any_step (any.Manager node) (what_of event)).node
             → Sent (suc count) ≡ Sent count ++ map (sent_at t.clock) (any_step (any.Manager node) (what_of event)).packets
@@ -300,8 +300,8 @@ module _ (base : Setting) (e : Estate AnyNode) (run : IsRun any_step any_start e
         by x was m =
             subst (λ z. Here (suc count) ≡ Some (any_step z (what_of event)).node
             → Sent (suc count) ≡ Sent count ++ map (sent_at t.clock) (any_step z (what_of event)).packets
-            → Turned count event (map (sent_at t.clock) (any_step z (what_of event)).packets) (any_step z (what_of event)).acts) (sym m.is)
-            (of_manager m.node (was ∙ ap Some m.is))
+            → Turned count event (map (sent_at t.clock) (any_step z (what_of event)).packets) (any_step z (what_of event)).acts) (sym m.kind)
+            (of_manager m.node (was ∙ ap Some m.kind))
 
     own_turn : names.Manager j ≡ node_of event → Good (suc count)
     own_turn same =
@@ -381,7 +381,8 @@ module _ (base : Setting) (e : Estate AnyNode) (run : IsRun any_step any_start e
           let a = ap last_in u.was in let b = ap last_in u.now in let c = u.turns.up in omega arith)
           (λ differs. same (ap (λ ns. node_in ns (place_of k_of (names.Manager j))) t.nodes_are
           ∙ there k_of (moment e count).nodes (node_of event) t.place
-          (subst (λ k. place_of k (node_of event) ≡ Some t.place) (cluster_at e count) t.at) (any_step t.node (what_of event)).node (names.Manager j) differs))
+          (subst (λ k. place_of k (node_of event) ≡ Some t.place) (cluster_at e count) t.placed)
+          (any_step t.node (what_of event)).node (names.Manager j) differs))
           (same_or_other (names.Manager j) (node_of event))
 
       by : (o : Option Event) → slice_get e.events count ≡ o → last_in (Here count) ≤ last_in (Here (suc count))

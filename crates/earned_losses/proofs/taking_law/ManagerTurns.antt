@@ -241,7 +241,7 @@ module _ (Named : ℕ → Group → Type 0) (Came : ℕ → ℕ → Told → Typ
     lost_on : (k : ℕ) (name : SegName) → LostFrom Named Came (phase_at first k) name → LostFrom Named Came (slot_in k p) name
     lost_on k name l = record {
       taking = l.taking;
-      is = same k l.taking l.is;
+      takes = same k l.taking l.takes;
       source = l.source;
       named = l.named;
       took = l.took;

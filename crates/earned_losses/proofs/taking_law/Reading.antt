@@ -169,7 +169,7 @@ module _ (base : Setting) (e : Estate AnyNode) (run : IsRun any_step any_start e
           reading = r;
           present = at;
           looks = looks.looks;
-          is = seg;
+          of_segment = seg;
           above = subst (λ s. source.low ≤ s.name.seq) seg above;
         }
 

@@ -88,7 +88,7 @@ module _ (Named : ℕ → Group → Type 0) (Came : ℕ → ℕ → Told → Typ
   -- what is lost: what was read took what came to its number, by which its second round ended so
   pub record LostFrom (before : SlotPhase) (name : SegName) : Type 0 where
     pub taking : Taking
-    pub is : before ≡ phase.Taking taking
+    pub takes : before ≡ phase.Taking taking
     pub source : Source
     pub named : name ≡ source.seg.name
     pub took : Took taking source next.Again
@@ -118,7 +118,7 @@ module _ (Named : ℕ → Group → Type 0) (Came : ℕ → ℕ → Told → Typ
     pub lost_of : (name : SegName) → IsLost Named x.take given name → LostFrom before name
     lost_of name l = record {
       taking = x;
-      is = is_first l.takes.heard l.takes.gives;
+      takes = is_first l.takes.heard l.takes.gives;
       source = l.source;
       named = l.named;
       took = took_of l.source next.Again l.takes;

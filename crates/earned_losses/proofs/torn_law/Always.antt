@@ -84,10 +84,10 @@ module _ (base : Setting) (e : Estate AnyNode) (run : IsRun any_step any_start e
       new = map (sent_at t.clock) (any_step t.node (what_of event)).packets
 
       placed : place_of k_of (node_of event) ≡ Some t.place
-      placed = subst (λ c. place_of c (node_of event) ≡ Some t.place) (cluster_at e count) t.at
+      placed = subst (λ c. place_of c (node_of event) ≡ Some t.place) (cluster_at e count) t.placed
 
       stood : node_in w.nodes (place_of k_of (node_of event)) ≡ Some t.node
-      stood = ap (node_in w.nodes) placed ∙ t.is
+      stood = ap (node_in w.nodes) placed ∙ t.stands
 
       its_own : (p : Packet) → In p new → p.from ≡ node_of event
       its_own p late =
@@ -107,7 +107,7 @@ module _ (base : Setting) (e : Estate AnyNode) (run : IsRun any_step any_start e
             let a : Answers node (what_of event) p.to m = subst (MissingSo node (what_of event) p.to) tells so in
             record {
               packet = a.packet;
-              among = (brought w event (may_happen e run count event is) a.packet a.is).0;
+              among = (brought w event (may_happen e run count event is) a.packet a.delivers).0;
               asker = a.asker ∙ to;
               fetch = a.fetch;
               asks = a.asks;
@@ -141,7 +141,7 @@ module _ (base : Setting) (e : Estate AnyNode) (run : IsRun any_step any_start e
           (ap (λ ns. node_in ns (place_of k_of (owner_by r))) t.nodes_are
           ∙ subst (λ n. node_in (slice_set w.nodes t.place (any_step t.node (what_of event)).node) (place_of k_of n) ≡ Some
           (any_step t.node (what_of event)).node)
-          (sym same) (here k_of w.nodes (node_of event) t.place placed (any_step t.node (what_of event)).node t.node t.is))
+          (sym same) (here k_of w.nodes (node_of event) t.place placed (any_step t.node (what_of event)).node t.node t.stands))
           (λ p brings. let b = brought w event (may_happen e run count event is) p brings in (b.0, b.1 ∙ sym same))
           (λ p late. its_own p late ∙ sym same)
 

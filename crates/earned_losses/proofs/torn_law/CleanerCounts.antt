@@ -115,10 +115,10 @@ module _ (base : Setting) (e : Estate AnyNode) (lines : HasLines base e)
   module _ (count : ℕ) (good : Good count) (event : Event)
       (t : TurnAt (moment e count) event (moment e (suc count)).nodes (moment e (suc count)).sent (moment e (suc count)).acts) where
     placed : place_of k_of (node_of event) ≡ Some t.place
-    placed = subst (λ k. place_of k (node_of event) ≡ Some t.place) (cluster_at e count) t.at
+    placed = subst (λ k. place_of k (node_of event) ≡ Some t.place) (cluster_at e count) t.placed
 
     stood : node_in (moment e count).nodes (place_of k_of (node_of event)) ≡ Some t.node
-    stood = ap (node_in (moment e count).nodes) placed ∙ t.is
+    stood = ap (node_in (moment e count).nodes) placed ∙ t.stands
 
     its_own : (p : Packet) → In p (map (sent_at t.clock) (any_step t.node (what_of event)).packets) → p.from ≡ node_of event
     its_own p late =
@@ -148,7 +148,7 @@ module _ (base : Setting) (e : Estate AnyNode) (lines : HasLines base e)
             ap (λ ns. node_in ns (place_of k_of names.Cleaner)) t.nodes_are
             ∙ subst (λ n. node_in (slice_set (moment e count).nodes t.place (any_step t.node (what_of event)).node) (place_of k_of n)
             ≡ Some (any_step t.node (what_of event)).node) (sym same)
-            (here k_of (moment e count).nodes (node_of event) t.place placed (any_step t.node (what_of event)).node t.node t.is)
+            (here k_of (moment e count).nodes (node_of event) t.place placed (any_step t.node (what_of event)).node t.node t.stands)
 
         d : Drew (setting base e OfCleaner) ((lines OfCleaner is_there).at count) t.node (what_of event)
         d =

@@ -109,12 +109,12 @@ module _ (g : Setting) (w : Scene) (owner : NodeId) where
     came_so (input.Welcome own news groups) (m, by, same) = (
       (
         m.news.groups,
-        subst (λ x. In (WelcomeSent w.net.inc own x m.news.groups) w.net.sent) (sym same) (welcome_came own m by.is by.meant by.own_is),
+        subst (λ x. In (WelcomeSent w.net.inc own x m.news.groups) w.net.sent) (sym same) (welcome_came own m by.bears by.meant by.own_is),
       ),
-      map_came m groups by.is by.groups_are,
+      map_came m groups by.bears by.groups_are,
     )
     came_so (input.Fenced server generation held) (m, by, same, list) =
-        let hears : FencedSeen g asks w.net packet.from m = subst (λ b. BodySeen g asks w.net packet.from owner b) by.is seen in
+        let hears : FencedSeen g asks w.net packet.from m = subst (λ b. BodySeen g asks w.net packet.from owner b) by.bears seen in
         let says = subst (λ n. FencedSeen g asks w.net n m) by.from hears in
         let of_it : (m.log.0 == g.log.0) ≡ true = subst (λ (l : LogId). (m.log.0 == l.0) ≡ true) sees.log by.log in
         let boot : m.pass.inc ≡ w.net.inc = equal m.pass.inc k.owner.inc by.boot ∙ sees.inc in

@@ -70,8 +70,8 @@ pub record TurnAt (w : World AnyNode) (event : Event) (nodes : List AnyNode) (se
   pub place : ℕ
   pub node : AnyNode
   pub clock : ℕ
-  pub at : place_of w.cluster (node_of event) ≡ Some place
-  pub is : slice_get w.nodes place ≡ Some node
+  pub placed : place_of w.cluster (node_of event) ≡ Some place
+  pub stands : slice_get w.nodes place ≡ Some node
   pub nodes_are : nodes ≡ slice_set w.nodes place (any_step node (what_of event)).node
   pub sent_are : sent ≡ w.sent ++ map (sent_at clock) (any_step node (what_of event)).packets
   pub acts_are : acts ≡ w.acts ++ (any_step node (what_of event)).acts
@@ -92,8 +92,8 @@ happened_so w event =
       place = place;
       node = node;
       clock = clock;
-      at = at;
-      is = is;
+      placed = at;
+      stands = is;
       nodes_are = refl;
       sent_are = refl;
       acts_are = refl;

@@ -70,7 +70,7 @@ module _ (base : Setting) (e : Estate AnyNode) (lines : HasLines base e) (r : Ro
   -- the node that reads its log
   pub record Node (count : ℕ) (s : Scanning) : Type 0 where
     pub node : AnyNode
-    pub is : node_in (moment e count).nodes (place_of k_of owner) ≡ Some node
+    pub stands : node_in (moment e count).nodes (place_of k_of owner) ≡ Some node
     pub scan : scan_of (Some node) ≡ Some s
     pub scans : Scans (setting base e r) (line.at count) s (last_of (Some node)) (boot_in (Some node)) (TurnsOf (setting base e r) (line.at count) node s)
 
@@ -79,7 +79,7 @@ module _ (base : Setting) (e : Estate AnyNode) (lines : HasLines base e) (r : Ro
     where
       by : (o : Option AnyNode) → node_in (moment e count).nodes (place_of k_of owner) ≡ o → scan_of o ≡ Some s → Node count s
       by None at so = absurd cc
-      by (Some x) at so = record { node = x; is = at; scan = so; scans = (owns_at count x at).scans s so }
+      by (Some x) at so = record { node = x; stands = at; scan = so; scans = (owns_at count x at).scans s so }
 
   pub last_is : (count : ℕ) (x : AnyNode) → node_in (moment e count).nodes (place_of k_of owner) ≡ Some x
       → last_of (node_named (moment e count) owner) ≡ last_of (Some x)

@@ -58,19 +58,19 @@ use Rattle.wire_msg.specs.declared.storage.Stored.{Stored}
 -- an input of a scan, by a packet
 module _ (k : Known) (s : Scanning) (packet : Packet) where
   pub record WelcomeBy (own : ℕ) (groups : GroupMapState) (m : Welcome) : Type 0 where
-    pub is : packet.body ≡ body.Welcome m
+    pub bears : packet.body ≡ body.Welcome m
     pub meant : is_meant k m ≡ true
     pub own_is : own_of s.asked m.ask ≡ Some own
     pub groups_are : (groups ≡ m.news.groups) ⊎ (k.maps.groups ≡ Some groups)
 
   pub record FencedBy (server : ℕ) (m : Fenced) : Type 0 where
-    pub is : packet.body ≡ body.Fenced m
+    pub bears : packet.body ≡ body.Fenced m
     pub from : packet.from ≡ Server server
     pub log : (m.log.0 == k.owner.log.0) ≡ true
     pub boot : (m.pass.inc == k.owner.inc) ≡ true
 
   pub record MissingBy (own server : ℕ) (m : Missing) : Type 0 where
-    pub is : packet.body ≡ body.Missing m
+    pub bears : packet.body ≡ body.Missing m
     pub from : packet.from ≡ Server server
     pub own_is : own_of s.asked m.ask ≡ Some own
 
@@ -233,11 +233,11 @@ module _ (P : Option Input → Scanning → Type 0) (E : Option Input → Effect
           (record k.maps { version = m.news.version; groups = Some m.news.groups }) k.maps
           (λ t. with_so (record k { maps = record k.maps { version = m.news.version; groups = Some m.news.groups } }) m own (Some m.news.groups) (λ g e. (
             m,
-            record { is = is; meant = meant; own_is = own_is; groups_are = inl (some_group m.news.groups g e) },
+            record { bears = is; meant = meant; own_is = own_is; groups_are = inl (some_group m.news.groups g e) },
             refl,
           )))
           (λ t. with_so (record k { maps = k.maps }) m own k.maps.groups
-          (λ g e. (m, record { is = is; meant = meant; own_is = own_is; groups_are = inr e }, refl)))
+          (λ g e. (m, record { bears = is; meant = meant; own_is = own_is; groups_are = inr e }, refl)))
 
       as_so : (m : Welcome) → packet.body ≡ body.Welcome m → is_meant k m ≡ true → (own : Option ℕ) → own_of s.asked m.ask ≡ own
           → Turned (welcomed_as k q s m.news own)
@@ -267,7 +267,7 @@ module _ (P : Option Input → Scanning → Type 0) (E : Option Input → Effect
           (λ t. took (input.Fenced v m.generation m.held) (
             m,
             record {
-              is = is;
+              bears = is;
               from = from;
               log = and_first (m.log.0 == k.owner.log.0) _ t;
               boot = and_first (m.pass.inc == k.owner.inc) (m.pass.att == 0)
@@ -299,7 +299,7 @@ module _ (P : Option Input → Scanning → Type 0) (E : Option Input → Effect
           → Turned (answers its q (λ own. input.Missing own v m.generation) own)
       missing_as m v is from None e = rests k
       missing_as m v is from (Some own) e =
-          took (input.Missing own v m.generation) (m, record { is = is; from = from; own_is = e }, refl)
+          took (input.Missing own v m.generation) (m, record { bears = is; from = from; own_is = e }, refl)
 
       missing_so : (from : NodeId) (m : Missing) → packet.body ≡ body.Missing m → packet.from ≡ from → Turned (on_missing its q from m)
       unfolding on_missing

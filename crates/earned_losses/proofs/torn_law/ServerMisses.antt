@@ -122,7 +122,7 @@ stored node from m = by_test ServerDoes (is_some (store_refused node.shelf m.fra
 -- it answers this event
 pub record Answers (node : Node) (what : Do) (to : NodeId) (m : Missing) : Type 0 where
   pub packet : Packet
-  pub is : what ≡ Deliver packet
+  pub delivers : what ≡ Deliver packet
   pub asker : packet.from ≡ to
   pub fetch : Fetch
   pub asks : packet.body ≡ body.Fetch fetch
@@ -163,7 +163,7 @@ fetched node packet m asks = (by (held_at node.shelf.held m.name) refl, tt)
     by (Some fragment) is = tt
     by None is = record {
       packet = packet;
-      is = refl;
+      delivers = refl;
       asker = refl;
       fetch = m;
       asks = asks;

@@ -238,7 +238,7 @@ module _ (base : Setting) (e : Estate AnyNode) (run : IsRun any_step any_start e
           let stood : node_in (moment e count).nodes (place_of (cluster_of e.script.setup) (owner_by r)) ≡ Some t.node =
           ap (node_in (moment e count).nodes)
           (subst (λ n. place_of (cluster_of e.script.setup) n ≡ Some t.place) (sym own)
-          (subst (λ c. place_of c (node_of event) ≡ Some t.place) (cluster_at e count) t.at)) ∙ t.is in
+          (subst (λ c. place_of c (node_of event) ≡ Some t.place) (cluster_at e count) t.placed)) ∙ t.stands in
           let owns = owns_at base e lines r is_there keeps count t.node stood in
           let scan : scan_of (Some t.node) ≡ Some s = sym (ap scan_of (named_is base e lines r is_there keeps count (owner_by r) ∙ stood)) ∙ opens in
           let sc = owns.scans s scan in

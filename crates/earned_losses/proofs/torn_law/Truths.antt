@@ -44,7 +44,7 @@ use Rattle.earned_losses.proofs.torn_law.ScanAsks.{ReadBefore, ReadFor, ReadsOn,
 pub record Reading (s : Scanning) : Type 0 where
   pub back : Backward
   pub round : ReadingState
-  pub is : s.scan.stage ≡ Reads back (Some round)
+  pub reads : s.scan.stage ≡ Reads back (Some round)
   pub out : s.asked.own ≡ round.ask
   pub some : s.asked.own ≡ 0 → ⊥
 
@@ -81,14 +81,15 @@ truth_of g Was start n run sent owner k s truths what gets i comes b r v generat
         let parts = own_parts s.asked m.ask r.ask told.own_is in
         let got = gets p refl in
         subst (λ x. Once (has_drawn r.ask) (LacksIn r.target.seg.name v x) run) (sym same)
-        (truths.missed (record { back = b; round = r; is = at; out = sym parts.own_is; some = parts.some }) p m v got.0 told.from got.1 told.is parts.ask_is)
+        (truths.missed (record { back = b; round = r; reads = at; out = sym parts.own_is; some = parts.some }) p m v got.0 told.from got.1 told.bears
+        parts.ask_is)
 
 -- ---- what was read before
 
 pub record Before (st : Stage) (later : ReadingState) : Type 0 where
   pub back : Backward
   pub round : ReadingState
-  pub is : st ≡ Reads back (Some round)
+  pub reads : st ≡ Reads back (Some round)
   pub ask : later.ask ≡ round.ask
   pub target : later.target ≡ round.target
 
@@ -97,7 +98,7 @@ before_of Hails later h = absurd h
 before_of (Gathers lists) later h = absurd h
 before_of (Asks lists) later h = absurd h
 before_of (Reads b None) later h = absurd h
-before_of (Reads b (Some r)) later h = record { back = b; round = r; is = refl; ask = h.0; target = h.1 }
+before_of (Reads b (Some r)) later h = record { back = b; round = r; reads = refl; ask = h.0; target = h.1 }
 before_of Over later h = absurd h
 
 module _ (g : Setting) (Was Now : SegRef → Type 0) (up : (seg : SegRef) → Was seg → Now seg) (start : Net) (w : Scene) (run : Runs g start w.net)
@@ -172,7 +173,7 @@ module _ (g : Setting) (Was Now : SegRef → Type 0) (up : (seg : SegRef) → Wa
         read_before = by t.out
           where
             kept_number : later.asked ≡ s.asked → Read
-            kept_number e = by_reads (subst (ReadsOn s.scan.opening.ask s.scan.stage) (sym stage_is ∙ r.is) (asks_for s.scan i).reads)
+            kept_number e = by_reads (subst (ReadsOn s.scan.opening.ask s.scan.stage) (sym stage_is ∙ r.reads) (asks_for s.scan i).reads)
               where
                 own_was : s.asked.own ≡ r.round.ask
                 own_was = sym (ap (λ (a : Asked). a.own) e) ∙ r.out
@@ -185,7 +186,7 @@ module _ (g : Setting) (Was Now : SegRef → Type 0) (up : (seg : SegRef) → Wa
                       was = record {
                         back = x.back;
                         round = x.round;
-                        is = x.is;
+                        reads = x.reads;
                         out = own_was ∙ x.ask;
                         some = λ none. r.some (ap (λ (a : Asked). a.own) e ∙ none);
                       };
@@ -218,7 +219,7 @@ module _ (g : Setting) (Was Now : SegRef → Type 0) (up : (seg : SegRef) → Wa
           fetched_new : (r : Reading later) (p : Packet) (m : Fetch) → In p new → p.body ≡ body.Fetch m → m.name ≡ r.round.target.seg.name
           fetched_new r p m late tells =
               let f = asks p m late tells in
-              (subst (λ st. ReadFor st m.name f.0) (sym stage_is ∙ r.is) f.1).0
+              (subst (λ st. ReadFor st m.name f.0) (sym stage_is ∙ r.reads) f.1).0
 
           missed_old : (r : Reading later) (p : Packet) (m : Missing) (v : ℕ) → In p sent → p.from ≡ Server v → p.to ≡ owner → p.body ≡ body.Missing m
               → m.ask ≡ later.asked.ask

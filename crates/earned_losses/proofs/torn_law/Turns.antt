@@ -65,8 +65,8 @@ fresh_so : (g : Setting) (Was : SegRef → Type 0) (start n : Net) (run : Runs g
     → s.scan.stage ≡ Hails → Truths g Was run sent name s
 fresh_so g Was start n run sent name s fresh = record {
   kept = subst (λ st. StageKept g Was run s.scan.opening.ask st) (sym fresh) tt;
-  fetched = λ r. absurd (never r.back r.round r.is);
-  missed = λ r. absurd (never r.back r.round r.is);
+  fetched = λ r. absurd (never r.back r.round r.reads);
+  missed = λ r. absurd (never r.back r.round r.reads);
 }
   where
     never : (b : Backward) (x : ReadingState) → s.scan.stage ≡ Reads b (Some x) → ⊥
@@ -143,10 +143,10 @@ module _ (base : Setting) (e : Estate AnyNode) (lines : HasLines base e) (r : Ro
             → Truths (setting base e r) (Torn (suc count)) (at_count base e lines r is_there keeps (suc count)).run (Sent (suc count)) (owner_by r) s
         truths s is =
             let b = node_at base e lines r is_there keeps (suc count) s is in
-            let was : Here count ≡ Some b.node = sym same ∙ b.is in
+            let was : Here count ≡ Some b.node = sym same ∙ b.stands in
             let a : Node base e lines r is_there keeps count s = record {
               node = b.node;
-              is = was;
+              stands = was;
               scan = b.scan;
               scans = (owns_at base e lines r is_there keeps count b.node was).scans s b.scan;
             } in
@@ -199,11 +199,11 @@ module _ (base : Setting) (e : Estate AnyNode) (lines : HasLines base e) (r : Ro
         → Truths (setting base e r) (Torn (suc count)) (at_count base e lines r is_there keeps (suc count)).run (Sent (suc count)) (owner_by r) later
     own_truths s scan later is =
         let sc = owns.scans s scan in
-        let a : Node base e lines r is_there keeps count s = record { node = x; is = was; scan = scan; scans = sc } in
+        let a : Node base e lines r is_there keeps count s = record { node = x; stands = was; scan = scan; scans = sc } in
         let t = sc.turns what in
         let y : AnyNode = (any_step x what).node in
         let b0 = node_at base e lines r is_there keeps (suc count) later is in
-        let same_node : b0.node ≡ y = one_node b0.node y (sym b0.is ∙ now) in
+        let same_node : b0.node ≡ y = one_node b0.node y (sym b0.stands ∙ now) in
         let after : scan_of (Some y) ≡ Some later = subst (λ z. scan_of (Some z) ≡ Some later) same_node b0.scan in
         let boot : boot_in (Some b0.node) ≡ boot_in (Some x) = ap (λ z. boot_in (Some z)) same_node ∙ t.boot in
         let known : Scans (setting base e r) ((lines r is_there).at count) s (last_of (Some x)) (boot_in (Some x)) (λ k. Unit {0}) =
@@ -237,7 +237,7 @@ module _ (base : Setting) (e : Estate AnyNode) (lines : HasLines base e) (r : Ro
         by (Some s) scan later is = own_truths s scan later is
         by None scan later is =
             let b = node_at base e lines r is_there keeps (suc count) later is in
-            let same_node = one_node b.node (any_step x what).node (sym b.is ∙ now) in
+            let same_node = one_node b.node (any_step x what).node (sym b.stands ∙ now) in
             fresh_so (setting base e r) (Torn (suc count)) (opening (setting base e r) (at_count base e lines r is_there keeps (suc count)).map)
             (net base e lines r is_there keeps (suc count)) (at_count base e lines r is_there keeps (suc count)).run (Sent (suc count)) (owner_by r) later
             (owns.fresh scan what later (subst (λ z. scan_of (Some z) ≡ Some later) same_node b.scan))

@@ -65,7 +65,7 @@ pub record BringsGone (s : Serving) (what : Do) (name : SegName) : Type 0 where
   pub packet : Packet
   pub delivers : what ≡ Deliver packet
   pub gone : Gone
-  pub is : packet.body ≡ body.Gone gone
+  pub bears : packet.body ≡ body.Gone gone
   pub names : gone.seg ≡ name
   pub meant : is_gone s gone ≡ true
 
@@ -74,7 +74,7 @@ pub record Confirms (what : Do) (r : ReadingState) : Type 0 where
   pub packet : Packet
   pub delivers : what ≡ Deliver packet
   pub grant : Grant
-  pub is : packet.body ≡ body.Grant grant
+  pub bears : packet.body ≡ body.Grant grant
   pub place : Place
   pub lies : grant.entry.place ≡ Some place
   pub reads : r.target ≡ target_of grant.block place
@@ -89,7 +89,7 @@ module _ (e : Estate AnyNode) where
   -- The call of an item reads a segment.
   pub record ReadsAt (c count item : ℕ) (segment : SegRef) : Type 0 where
     pub reading : ReadingState
-    pub is : what_is_read (serving_at c count) ≡ Some reading
+    pub reads : what_is_read (serving_at c count) ≡ Some reading
     pub of : reading.target.seg ≡ segment
     pub its_item : open_item (serving_at c count) ≡ Some item
 

@@ -54,7 +54,7 @@ module _ (e : Estate AnyNode) (j : ℕ) where
     pub at : ℕ
     pub before : at < count
     pub event : Event
-    pub is : slice_get e.events at ≡ Some event
+    pub happens : slice_get e.events at ≡ Some event
     pub own : Manager j ≡ node_of event
     pub says : In (act.Lost (Manager j) name) (acts_in (moment e at) event)
     pub was : WasTornOrDeleted e j at name

@@ -26,7 +26,7 @@ pub record WouldAccept (w : World AnyNode) (c : ℕ) (packet : Packet) (place : 
   pub sent : In packet w.sent
   pub to : packet.to ≡ nodes.Client c
   pub grant : Grant
-  pub is : packet.body ≡ body.Grant grant
+  pub bears : packet.body ≡ body.Grant grant
   pub accepted : accepts tokens grant.block grant.stamp grant.inc grant.req grant.mode ≡ true
   pub leads : grant.entry.place ≡ Some place
 

@@ -56,7 +56,7 @@ module _ (e : Estate AnyNode) where
     pub since : from ≤ at
     pub until : at ≤ to
     pub shelf : ShelfState
-    pub is : shelf_at (moment e at) v ≡ Some shelf
+    pub has_shelf : shelf_at (moment e at) v ≡ Some shelf
     pub in_generation : shelf.generation ≡ generation
     pub nothing : held_at shelf.held name ≡ None
 

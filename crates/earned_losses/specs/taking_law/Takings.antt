@@ -48,7 +48,7 @@ pub record Reads (p : SlotPhase) (epoch : ℕ) (segment : SegRef) : Type 0 where
   pub reading : ReadingState
   pub present : taking.take.present ≡ Some (record { source = source; reading = Some reading })
   pub looks : reading.target ≡ target_of source
-  pub is : source.seg ≡ segment
+  pub of_segment : source.seg ≡ segment
   pub above : source.low ≤ segment.name.seq
 
 -- ---- what is lost

@@ -128,7 +128,7 @@ module _ (managed : CheckpointsHaveManagers) (promised : ActiveEpochsPromised) (
   poll_begun m poll =
       subst (λ x. m.epoch ≤ x) epoch
       (poll_within k part t poll.packet.from poll.packet.to m
-      (subst (λ (b : Body). owners.SentBy k part t poll.packet.from poll.packet.to b) poll.is (both.tokens.facts poll.packet poll.among)) poll.of)
+      (subst (λ (b : Body). owners.SentBy k part t poll.packet.from poll.packet.to b) poll.bears (both.tokens.facts poll.packet poll.among)) poll.of)
 
   -- nobody is active above an epoch above which nobody is in the small world of tokens
   module _ (limit : ℕ) (bound : (e : ℕ) (z : SlotState) → t.net.slots e ≡ Some z → e ≤ limit) where

@@ -70,7 +70,7 @@ module _ (logs : Bool) (k : Cluster) (part : ℕ) (texts : Texts) (nodes : List 
   manager_goes j node go e none = by (m.slots e) refl
     where
       at_after : node_in (slice_set nodes place (any.Manager (after_event node))) (place_of k (Manager j)) ≡ Some (any.Manager (after_event node))
-      at_after = here k nodes (Manager j) place go.at (any.Manager (after_event node)) (any.Manager node) go.is
+      at_after = here k nodes (Manager j) place go.placed (any.Manager (after_event node)) (any.Manager node) go.stands
 
       is_after : next.manager j ≡ after_event node
       is_after =

@@ -64,11 +64,11 @@ module _ (log : ℕ) (acts : List Act) where
   first_filed : (act : Act) → (filed_number log act ≡ 0) ⊎ FiledAt (act ∷ acts) log (filed_number log act)
   first_filed (Filed name) =
       by_test (λ (n : ℕ). (n ≡ 0) ⊎ FiledAt (Filed name ∷ acts) log n) (name.log.0 == log) name.seq 0
-      (λ t. inr (record { name = name; among = inl refl; own = equal name.log.0 log t; at = refl })) (λ t. inl refl)
+      (λ t. inr (record { name = name; among = inl refl; own = equal name.log.0 log t; numbered = refl })) (λ t. inl refl)
   first_filed _ = inl refl
 
   later_filed : (act : Act) (number : ℕ) → FiledAt acts log number → FiledAt (act ∷ acts) log number
-  later_filed act number f = record { name = f.name; among = inr f.among; own = f.own; at = f.at }
+  later_filed act number f = record { name = f.name; among = inr f.among; own = f.own; numbered = f.numbered }
 
   with_first : (act : Act) → IsFiledUpto acts log → IsFiledUpto (act ∷ acts) log
   with_first act rest =

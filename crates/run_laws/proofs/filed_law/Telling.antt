@@ -181,7 +181,7 @@ module _ (reach : Reach) (registry : RegistryNode) (h : RegistryReaches reach re
 
 pub was_filed : (acts : List Act) (log low : ℕ) → low ≤ suc (filed_upto acts log) → IsFiledUpto acts log → HorizonWasFiled acts log low
 was_filed acts log low upto (inl none) = inl (omega (arith, upto, none))
-was_filed acts log low upto (inr f) = inr (record { name = f.name; among = f.among; own = f.own; near = (let at = f.at in omega (arith, upto, at)) })
+was_filed acts log low upto (inr f) = inr (record { name = f.name; among = f.among; own = f.own; near = (let at = f.numbered in omega (arith, upto, at)) })
 
 pub horizons_filed : ToldHorizonsWereFiled
 horizons_filed w told registry log among some =

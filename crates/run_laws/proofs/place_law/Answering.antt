@@ -46,18 +46,18 @@ module _ (sent : List Packet) where
   answers_more : (more : List Packet) → ((p : Packet) → In p sent → In p more) → (m : Live) → LiveAnswers sent m → LiveAnswers more m
   answers_more more kept m a = record {
     place = a.place;
-    at = a.at;
-    asked = record { packet = a.asked.packet; among = kept a.asked.packet a.asked.among; is = a.asked.is };
+    lies = a.lies;
+    asked = record { packet = a.asked.packet; among = kept a.asked.packet a.asked.among; bears = a.asked.bears };
   }
 
   body_answers : (packet : Packet) → In packet sent → (m : Live) (b : Body) → packet.body ≡ b → AnswersBody b m → LiveAnswers sent m
   body_answers packet among m (body.Check c) is a = record {
     place = c.place;
-    at = a.at;
+    lies = a.place;
     asked = record {
       packet = packet;
       among = among;
-      is = is ∙ (λ i. body.Check (record { block = a.block i; place = c.place; ask = a.ask i }));
+      bears = is ∙ (λ i. body.Check (record { block = a.block i; place = c.place; ask = a.ask i }));
     };
   }
   body_answers packet among m _ is a = absurd a

@@ -95,6 +95,6 @@ lives_tell_copies members part holds t i packets e p m tied exact has answers as
         subst (λ (o : Option Job). IfSome o (λ job. IsInHand a.place.seg.name job.cleaning.phase)) at hand in
         let lie : PhaseLies i.filed job.cleaning.phase =
         subst (λ c. PhaseLies i.filed c.phase) (has job at) (jobs_checks_lie part holds tied.any i tied.index_run) in
-        phase_told t.books i.filed exact m.block m.entry a.place a.at
-        (lies_there i.filed t.books m.block m.entry a.place (good members part holds t i tied).filed tied.books tied.plain a.at told)
+        phase_told t.books i.filed exact m.block m.entry a.place a.lies
+        (lies_there i.filed t.books m.block m.entry a.place (good members part holds t i tied).filed tied.books tied.plain a.lies told)
         job.cleaning.phase lie named

@@ -35,7 +35,7 @@ use Rattle.run_laws.specs.place_law.Reads.{LogKnown, NamesItsGroup}
 pub record HasFragment (answers : List Answer) : Type 0 where
   pub answer : Answer
   pub fragment : Fragment
-  pub is : answer.told ≡ Held fragment
+  pub holds : answer.told ≡ Held fragment
   pub among : In answer answers
 
 some_or_none : (answers : List Answer) → HasFragment answers ⊎ ((i : ℕ) → bytes_in i answers ≡ None)
@@ -44,8 +44,8 @@ some_or_none (a ∷ rest) = by a.told refl (some_or_none rest)
   where
     by : (t : Told) → a.told ≡ t → HasFragment rest ⊎ ((i : ℕ) → bytes_in i rest ≡ None)
         → HasFragment (a ∷ rest) ⊎ ((i : ℕ) → bytes_in i (a ∷ rest) ≡ None)
-    by (Held f) is x = inl (record { answer = a; fragment = f; is = is; among = inl refl })
-    by (Missing generation) is (inl h) = inl (record { answer = h.answer; fragment = h.fragment; is = h.is; among = inr h.among })
+    by (Held f) is x = inl (record { answer = a; fragment = f; holds = is; among = inl refl })
+    by (Missing generation) is (inl h) = inl (record { answer = h.answer; fragment = h.fragment; holds = h.holds; among = inr h.among })
     by (Missing generation) is (inr none) = inr (λ i. ap (λ t. bytes_told i t (bytes_in i rest)) is ∙ none i)
 
 none_counted : (f : ℕ → Option (List ℕ)) → ((i : ℕ) → f i ≡ None) → (from n : ℕ) → count_by is_some (map f (range_with_len from n)) ≡ 0
@@ -114,8 +114,8 @@ module _ (one : OneNameOneText) (place : APlaceNamesOneContent) (texts : Texts) 
   flew ask r text of is =
       let has : HasFragment r.answers = has_fragment r text of.is_round is in
       let answer : AnswerCame came ask seg.name has.answer = all_among (AnswerCame came ask seg.name) r.answers _ of.answers has.among in
-      let came_so : came ask has.answer.server (Held has.fragment) = subst (came ask has.answer.server) has.is answer.came_so in
-      let of_name : has.fragment.meta.name ≡ seg.name = subst (IsOfName seg.name) has.is answer.of_name in
+      let came_so : came ask has.answer.server (Held has.fragment) = subst (came ask has.answer.server) has.holds answer.came_so in
+      let of_name : has.fragment.meta.name ≡ seg.name = subst (IsOfName seg.name) has.holds answer.of_name in
       let text_is : OneText l.setting l.net = one l.setting l.net l.moment in
       let t = text_is.told has.fragment (sent ask has.answer.server has.fragment came_so (its_log has.fragment.meta.name of_name)) in
       record { segment = t.0; among = t.1; named = sym (ap (λ (f : Fragment). f.meta.name) t.2) ∙ of_name }
@@ -134,7 +134,7 @@ module _ (one : OneNameOneText) (place : APlaceNamesOneContent) (texts : Texts) 
   -- what is read is what was in flight, and that is the text
   pub record IsFlown (s : Segment) : Type 0 where
     pub among : In s l.net.flown
-    pub is : s ≡ texts seg.name
+    pub is_text : s ≡ texts seg.name
 
   pub joined : (s : Segment) → ReadsJoined came (cut_by cuts) seg s → IsFlown s
   joined s h =
@@ -144,5 +144,5 @@ module _ (one : OneNameOneText) (place : APlaceNamesOneContent) (texts : Texts) 
       let same : s ≡ x.segment = (let a = h.decoded in let b = brings.read in cc) in
       record {
         among = subst (λ z. In z l.net.flown) (sym same) x.among;
-        is = same ∙ sym (l.texts_of x.segment x.among) ∙ ap texts x.named;
+        is_text = same ∙ sym (l.texts_of x.segment x.among) ∙ ap texts x.named;
       }

@@ -94,7 +94,7 @@ module _ (A : Live → Type 0) where
         by : (t : Bool) → is_place entry.place check.place ≡ t → AllSay A (flat_map (tokens.check_said check epoch) (cond t (out.Live entry) out.Dead ∷ []))
         by true is = (
           may (record { block = check.block; ask = check.ask; epoch = epoch; entry = entry })
-              (record { block = refl; ask = refl; at = is_at entry.place check.place is }),
+              (record { block = refl; ask = refl; place = is_at entry.place check.place is }),
           tt,
         )
         by false is = (tt, tt)

@@ -88,7 +88,7 @@ module _ (part : ℕ) (s : Segment) where
 
 pub what_is_read_is_the_text : OneNameOneText → APlaceNamesOneContent → WhatIsReadIsTheText
 what_is_read_is_the_text one place texts packets to cuts seg s l group h =
-    (joined one place texts packets cuts (answered_in packets to) seg l group (was_sent texts packets to cuts seg l) s h).is
+    (joined one place texts packets cuts (answered_in packets to) seg l group (was_sent texts packets to cuts seg l) s h).is_text
 
 pub takeovers_read_texts : OneNameOneText → APlaceNamesOneContent → WhatIsToldIsInRange → TakeoversReadWhatCame → TakeoversReadTexts
 takeovers_read_texts one place ranged reads part texts packets to cuts take p ask own server told s h at answered l group completes =

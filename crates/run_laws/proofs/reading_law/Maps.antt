@@ -74,8 +74,8 @@ map_so end m ok stays id group is =
     record {
       cut = can_cut m.servers group (its_stripe m ok id group is);
       said = (
-        sym (ap (λ (o : Option Group). (cut_of o).members) n.is ∙ ap (λ (s : Stripe). length s.members) n.stripe_is),
-        sym (ap (λ (o : Option Group). (cut_of o).parity) n.is ∙ ap (λ (s : Stripe). s.parity) n.stripe_is),
+        sym (ap (λ (o : Option Group). (cut_of o).members) n.named ∙ ap (λ (s : Stripe). length s.members) n.stripe_is),
+        sym (ap (λ (o : Option Group). (cut_of o).parity) n.named ∙ ap (λ (s : Stripe). s.parity) n.stripe_is),
       );
     }
 

@@ -154,7 +154,7 @@ module _ (g : Setting) where
         let t : OneThing w.net v.net runs = one_thing w.net v.net runs (straight.once away serves) away serves in
         record {
           settling = s;
-          is = is;
+          settles = is;
           happens = t.happens;
           one = t.one;
           writes = sees.owner;

@@ -90,7 +90,7 @@ falls_stay acts more c flight aside fell = record {
   fall = fell.fall;
   waits = ap (λ (h : History). h.told c) (history_through acts more nothing_yet)
       ∙ (all_told c more (history_after acts nothing_yet) aside ∙ fell.waits);
-  is = fell.is;
+  with_flight = fell.with_flight;
 }
 
 -- ---- effects
@@ -197,7 +197,7 @@ module _ (acts : List Act) (c : ℕ) (flight : Option FlightState) where
         ∙ (ap (λ (d : ℕ). (after_act (act.Fell d told.flight told.falls) (history_after acts nothing_yet)).told c) its
         ∙ (ap (λ (y : Bool). if y then (history_after acts nothing_yet).told c ++ told ∷ [] else (history_after acts nothing_yet).told c) (itself c)
         ∙ ap (λ (ts : List FallTold). ts ++ told ∷ []) known.0)));
-    is = ap flight_of (sym known.1);
+    with_flight = ap flight_of (sym known.1);
   }
     where
       told : FallTold

@@ -41,7 +41,7 @@ seen_flew k l s seen = record { flying = seen.flying; next = next s.flight seen.
 
 pub flights_of_owners : FlightsOfOwners
 flights_of_owners g first n run s serves k l seen =
-    (let is = served_last g first n run s serves in record { is = is; books = subst (LastFlew k l) (sym is) (seen_flew k l s seen) })
+    (let is = served_last g first n run s serves in record { flying = is; books = subst (LastFlew k l) (sym is) (seen_flew k l s seen) })
 
 -- ---- while it doesn't
 

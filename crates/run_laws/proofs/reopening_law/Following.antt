@@ -42,12 +42,12 @@ is_not a b t = grind (arith, nat_tests)
 -- the flight that the chain has
 pub record HasFlight (chain : List Segment) (flight : Option FlightState) : Type 0 where
   pub it : FlightState
-  pub is : flight ≡ Some it
+  pub flying : flight ≡ Some it
   pub holds : Holds chain it
 
 pub has : (chain : List Segment) (flight : Option FlightState) → holds_flight (names_in chain) (flight_of flight) ≡ true → HasFlight chain flight
 has chain None t = contrary t
-has chain (Some f) t = record { it = f; is = refl; holds = holds chain f t }
+has chain (Some f) t = record { it = f; flying = refl; holds = holds chain f t }
 
 module _ (k : Below) (g : Setting) (n o : Net) (chain : List Segment) (s r : LogState) (e : Reopens g n o chain s r) (b : Books) (l : ℕ) (f : Filed)
     (h : BooksThen e b l f) where
@@ -82,8 +82,8 @@ module _ (k : Below) (g : Setting) (n o : Net) (chain : List Segment) (s r : Log
   pub adopts : (x : HasFlight chain flight) → Adopts x
   adopts x =
       let z = subst (λ (o : Option FlightState). IfSome o (λ y. (y.segment.name.seq ≡ suc (b.end l)) × (b.rows l (suc (b.end l)) ≡ rows_told y.segment.items)))
-      x.is h.flew.next in
-      record { flying = h.flew.flying ∙ ap is_some x.is; seq = z.0 ∙ ap suc h.books.end; rows = z.1 }
+      x.flying h.flew.next in
+      record { flying = h.flew.flying ∙ ap is_some x.flying; seq = z.0 ∙ ap suc h.books.end; rows = z.1 }
 
   -- so it goes on to the end, with some more segments
   pub more : (adopted : Bool) → has_flight e ≡ adopted → (reopened b l adopted).end l ≤ r.end.seq
@@ -190,7 +190,7 @@ module _ (k : Below) (g : Setting) (n o : Net) (chain : List Segment) (s r : Log
 
       -- where it has it, the next segment says what was in flight
       adopted : (x : HasFlight chain flight) → q ≡ suc (f.head l) → it.items ≡ x.it.segment.items
-      adopted x next = ⊎_elim tail never (k.tail g n o e.sure e.moment e.happens e.calm (then.ends k g n o chain s r e) x.it x.is)
+      adopted x next = ⊎_elim tail never (k.tail g n o e.sure e.moment e.happens e.calm (then.ends k g n o chain s r e) x.it x.flying)
         where
           number : it.name.seq ≡ x.it.segment.name.seq
           number = now.seq q some within ∙ (next ∙ sym (adopts x).seq)
@@ -213,7 +213,7 @@ module _ (k : Below) (g : Setting) (n o : Net) (chain : List Segment) (s r : Log
         where
           by : (y : FlightState) × (flight ≡ Some y) × IsAttemptOf g y it → it.items ≡ []
           by y =
-              let same : x.it ≡ y.0 = one_flight flight x.it y.0 x.is y.1 in
+              let same : x.it ≡ y.0 = one_flight flight x.it y.0 x.flying y.1 in
               let a = y.2.seq in
               let c = ap (λ (z : FlightState). z.segment.name.seq) same in
               let d = (adopts x).seq in
@@ -306,7 +306,7 @@ clients_reopen_so k g n o chain s r e b c f h opened is acts fell = record {
 }
   where
     same : has_flight e ≡ owned.adopts acts c opened.chain
-    same = ap (holds_flight (names_in chain)) (sym fell.is)
+    same = ap (holds_flight (names_in chain)) (sym fell.with_flight)
         ∙ (ap (λ names. holds_flight names fell.fall.flight) (sym is.chain_is) ∙ ap (is_adopted opened.chain) (sym fell.waits))
 
 pub the_cleaner_reopens_so : Below → TheCleanerReopensSo

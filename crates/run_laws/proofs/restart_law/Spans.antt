@@ -34,22 +34,22 @@ use Rattle.run_laws.proofs.restart_law.Progress.{boot_rises, no_span, span_rises
 
 -- the server lacked its fragment at some moment of a run, in the span of a restart
 record LackedOn {g : Setting} {a n : Net} (run : Runs g a n) (o : Net) (name : SegName) (v : ℕ) : Type 0 where
-  at : Net
-  first : Runs g n at
-  later : Runs g at o
+  between : Net
+  first : Runs g n between
+  later : Runs g between o
   spanning : in_span (then_on run first) ≡ true
-  lacks : Lacks at name v
+  lacks : Lacks between name v
 
 lacked_on : (g : Setting) (a n o : Net) (run : Runs g a n) (more : Runs g n o) (name : SegName) (v : ℕ) → LackedInSpan (then_on run more) name v
     → LackedInSpan run name v ⊎ LackedOn run o name v
 lacked_on g a n o run Begun name v h = inl h
 lacked_on g a n o run (On {m = m} more happens) name v h =
-    ⊎_elim (λ lacks. inr (record { at = o; first = On more happens; later = Begun; spanning = h.0; lacks = lacks }))
+    ⊎_elim (λ lacks. inr (record { between = o; first = On more happens; later = Begun; spanning = h.0; lacks = lacks }))
     (λ before. on (lacked_on g a n m run more name v before)) h.1
   where
     on : LackedInSpan run name v ⊎ LackedOn run m name v → LackedInSpan run name v ⊎ LackedOn run o name v
     on (inl before) = inl before
-    on (inr l) = inr (record { at = l.at; first = l.first; later = On l.later happens; spanning = l.spanning; lacks = l.lacks })
+    on (inr l) = inr (record { between = l.between; first = l.first; later = On l.later happens; spanning = l.spanning; lacks = l.lacks })
 
 none_held : (o : Option Fragment) → is_some o ≡ false → o ≡ None
 none_held None e = refl
@@ -65,8 +65,8 @@ module _ (b : Below) (g : Setting) (n o : Net) (moment : Moment g n) (name : Seg
     where
       by : (t : Bool) → is_held (n.shelves v) name ≡ t → LacksOrLoses n o name v
       by true held =
-          let gone = b.gone g n l.at moment l.first v name own held l.lacks.0 l.lacks.1 in
-          let up = (run_later g l.at o l.later).reached v in
+          let gone = b.gone g n l.between moment l.first v name own held l.lacks.0 l.lacks.1 in
+          let up = (run_later g l.between o l.later).reached v in
           inr (omega arith)
       by false none = inl (none_held (held_at (n.shelves v).held name) none)
 
@@ -178,8 +178,8 @@ module _ (b : Below) (base : Setting) (e : Estate AnyNode) (r : Role) (keeps : r
       at = count;
       since = s.before;
       before = omega arith;
-      begun = (let a = s.rises l.at l.first l.spanning in let c = boot_rises (setting base e r) l.at (net (suc count)) l.later in omega arith);
-      kept = λ dropped. l.lacks.1 ((grown (setting base e r) (net count) l.at l.first).dropped name dropped);
+      begun = (let a = s.rises l.between l.first l.spanning in let c = boot_rises (setting base e r) l.between (net (suc count)) l.later in omega arith);
+      kept = λ dropped. l.lacks.1 ((grown (setting base e r) (net count) l.between l.first).dropped name dropped);
       lacked = lacks_or_loses b (setting base e r) (net count) (net (suc count)) (at_count count) name v own l;
     }
 

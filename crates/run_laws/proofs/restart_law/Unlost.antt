@@ -85,7 +85,7 @@ module _ (base : Setting) (e : Estate AnyNode) (run : IsRun any_step any_start e
   -- the registry at the end of the run
   record HasRegistry (x : AnyNode) : Type 0 where
     node : RegistryNode
-    is : x ≡ any.Registry node
+    kind : x ≡ any.Registry node
     seen : RegistrySeen (setting base e OfCleaner) (its.at (length e.events)).net node.board
 
   registry_so : (x : AnyNode) → Seen (setting base e OfCleaner) OfCleaner (its.at (length e.events)) Registry x → HasRegistry x
@@ -93,7 +93,7 @@ module _ (base : Setting) (e : Estate AnyNode) (run : IsRun any_step any_start e
   registry_so (any.Manager node) h = absurd h
   registry_so (any.Server node) h = absurd h
   registry_so (any.Cleaner node) h = absurd h
-  registry_so (any.Registry node) h = record { node = node; is = refl; seen = h }
+  registry_so (any.Registry node) h = record { node = node; kind = refl; seen = h }
 
   stripe_so : (id : ℕ) (group : Group) → group_at e.world id ≡ Some group → IsStripe e.script.setup.servers group.parity group.members
   stripe_so id group is =
@@ -101,7 +101,7 @@ module _ (base : Setting) (e : Estate AnyNode) (run : IsRun any_step any_start e
       let h = node_there e Registry (e.script.setup.clients + e.script.setup.managers + e.script.setup.servers + 1) refl end in
       let x = registry_so h.has.0 ((its.stands end).seen Registry h.has.0 h.has.1) in
       let named : node_named (moment e end) Registry ≡ Some (any.Registry x.node) =
-      here_at base e OfCleaner tt refl its end Registry (Some h.has.0) h.has.1 ∙ ap Some x.is in
+      here_at base e OfCleaner tt refl its end Registry (Some h.has.0) h.has.1 ∙ ap Some x.kind in
       let same : moment e end ≡ e.world = end_at e.events (start_world any_start e.script) e.world run in
       let found = ap (λ o. group_in (groups_of o) id) (sym named) ∙ (ap (λ w. group_at w id) same ∙ is) in
       subst (λ n. IsStripe n group.parity group.members) x.seen.size (its_stripe x.node.board.groups x.seen.map id group found)

@@ -238,14 +238,14 @@ module _ (book : Book) (e : Emptying) (its : Job) (h : AsksSo book e.lasting.que
   unfolding says
   reads_next r = subst (λ outs. Kept book (steps says then_e outs)) (sym r.says)
       (went_on book (reads then_e r.segment) (still (reads then_e r.segment).state)
-      (reads_so book then_e r.job r.segment h.drawn (hand_only book e.lasting.questions its.cleaning.phase its.hand h.job) r.is)
+      (reads_so book then_e r.job r.segment h.drawn (hand_only book e.lasting.questions its.cleaning.phase its.hand h.job) r.becomes)
       (λ b k. quiet b (reads then_e r.segment).state [] tt k))
 
   checks_on : ChecksSo its.cleaning.phase d.state.phase d.outs → Kept book (steps says then_e d.outs)
   checks_on c =
-      let k = followed its.hand (subst (Follows its.cleaning.phase) (sym c.is) c.follows) h.job in
+      let k = followed its.hand (subst (Follows its.cleaning.phase) (sym c.becomes) c.follows) h.job in
       all_checks book then_e c.segment d.outs c.of (record { drawn = h.drawn; job = k })
-      (seg_in c.job c.segment c.checks its.hand (subst (λ p. HandIn book e.lasting.questions p its.hand) c.is k))
+      (seg_in c.job c.segment c.checks its.hand (subst (λ p. HandIn book e.lasting.questions p its.hand) c.becomes k))
 
   pub taken_so : DoneSo its.cleaning d → Kept book (steps says then_e d.outs)
   taken_so t = elim t [

@@ -51,14 +51,14 @@ pub record CalmSo (old new : Phase) (outs : List Out) : Type 0 where
 pub record ReadsSo (new : Phase) (outs : List Out) : Type 0 where
   pub job : JobState
   pub segment : SegRef
-  pub is : new ≡ Reading job segment
+  pub becomes : new ≡ Reading job segment
   pub says : outs ≡ out.Fetch segment ∷ []
 
 pub record ChecksSo (old new : Phase) (outs : List Out) : Type 0 where
   pub job : JobState
   pub segment : SegRef
   pub checks : List Check
-  pub is : new ≡ Checking job segment checks
+  pub becomes : new ≡ Checking job segment checks
   pub follows : Follows old (Checking job segment checks)
   pub of : AllByRecursion (IsCheckOf segment) outs
 
@@ -75,7 +75,7 @@ stays old = calm old old [] (λ name h. h) tt
 
 next_so : (old : Phase) (left : List SegRef) (j : JobState) → TurnSo old (job.next_of left j)
 next_so old [] j = calm old Over _ (λ name h. tt) (tt, tt)
-next_so old (segment ∷ left) j = inr (inl (record { job = record j { left = left }; segment = segment; is = refl; says = refl }))
+next_so old (segment ∷ left) j = inr (inl (record { job = record j { left = left }; segment = segment; becomes = refl; says = refl }))
 
 deleting_so : (old : Phase) (j : JobState) (segment : SegRef) → TurnSo old (job.deleting j segment)
 deleting_so old j segment = calm old _ _ (λ name h. tt)
@@ -105,7 +105,7 @@ checking_so j segment checks =
       job = j;
       segment = segment;
       checks = checks;
-      is = refl;
+      becomes = refl;
       follows = λ name h. h;
       of = asks_of segment checks;
     })))
@@ -131,7 +131,7 @@ moved_so j segment checks =
       job = j;
       segment = segment;
       checks = map _ checks;
-      is = refl;
+      becomes = refl;
       follows = λ name h. h;
       of = asks_of segment (map _ checks);
     })))
@@ -237,9 +237,9 @@ awaits_so : (p : Phase) → TurnSo p (record { state = p; outs = transitions.awa
 awaits_so Greeting = calm Greeting Greeting _ (λ name h. h) (tt, tt)
 awaits_so (Listing l) = calm (Listing l) (Listing l) _ (λ name h. h) (all_map IsCalm (λ server. out.List server) (λ server. tt) l.awaited)
 awaits_so (Counting c) = calm (Counting c) (Counting c) _ (λ name h. h) (all_map IsCalm (λ slot. out.UsageAsk slot) (λ slot. tt) (awaited_slots c.usages))
-awaits_so (Reading j segment) = inr (inl (record { job = j; segment = segment; is = refl; says = refl }))
+awaits_so (Reading j segment) = inr (inl (record { job = j; segment = segment; becomes = refl; says = refl }))
 awaits_so (Checking j segment checks) =
-    inr (inr (record { job = j; segment = segment; checks = checks; is = refl; follows = λ name h. h; of = asks_of segment checks }))
+    inr (inr (record { job = j; segment = segment; checks = checks; becomes = refl; follows = λ name h. h; of = asks_of segment checks }))
 awaits_so (Deleting j segment servers) = calm (Deleting j segment servers) (Deleting j segment servers) _ (λ name h. h)
     (all_map IsCalm (λ server. out.Delete server segment.name) (λ server. tt) servers)
 awaits_so Over = stays Over

@@ -101,7 +101,7 @@ module _ (part : ℕ) (n m : Net) (g : Grown n m) where
     begun = up_to news.epoch n.epoch m.epoch k.begun g.epoch;
     horizon = λ none. let free = g.stay news.epoch none in k.horizon free ∙ sym (g.horizon news.epoch free k.begun);
     parts = λ none. let free = g.stay news.epoch none in k.parts free ∙ sym (g.parts news.epoch free k.begun);
-    is = k.is;
+    is_horizon = k.is_horizon;
   }
 
   all_news_stay : (slots : List SlotNews) → AllKept part n slots → AllKept part m slots

@@ -119,8 +119,8 @@ module _ (part : ℕ) (texts : Texts) (asked : Questions) (n : Net) where
           begun = t.begun;
           horizon = t.horizon none;
           parts = t.parts none;
-          from_one = t.is.from_one;
-          short = t.is.short;
+          from_one = t.is_horizon.from_one;
+          short = t.is_horizon.short;
         }
 
     serving_gets : (life known : ℕ) (p : SlotPhase) (from : NodeId) (m : Body) → SentBy part n asked from m → IsSentBy from m

@@ -102,7 +102,7 @@ module _ (clients_stay : ClientsStay) (managers_stay : ManagersStay) (cleaner_st
       begun = let same = t.epoch in omega arith;
       horizon = λ none. t.horizon ∙ sym (ap go.next.horizon t.epoch);
       parts = λ none. t.parts ∙ sym (ap go.next.parts t.epoch);
-      is = t.horizon_fits;
+      is_horizon = t.horizon_fits;
     }
 
     all_kept : (news : News) → NewsAre part after_node.board news → AllKept part go.next news.slots

@@ -179,7 +179,7 @@ module _ (laws : NodeLaws) (k : Cluster) (part : ℕ) (of_eight : part < 8) (tex
                     manager = j;
                     some = b.some;
                     limit = b.within;
-                    is = refl;
+                    named = refl;
                     serves = subst (λ (x : ManagerNode). is_serving x.phase ≡ true) (sym (after_here go)) known.0;
                     knows = subst (λ (x : ManagerNode). e ≤ epoch_in part x.phase) (sym (after_here go)) known.1;
                     by = λ not_held not_named. some_none z (sym there ∙ (go.slots e not_held not_named ∙ none));

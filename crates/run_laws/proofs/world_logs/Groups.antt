@@ -55,7 +55,7 @@ GroupsStay = (state : GroupMapState) (losses : List Loss) (id : ℕ) (group : Gr
 -- a group of this stripe is named
 pub record Names (o : Option Group) (stripe : Stripe) : Type 0 where
   pub group : Group
-  pub is : o ≡ Some group
+  pub named : o ≡ Some group
   pub stripe_is : stripe_of_group group ≡ stripe
 
 -- what one map names the other names, over the same members
@@ -63,7 +63,7 @@ abbrev pub Stay : GroupMapState → GroupMapState → Type 0
 Stay m n = (id : ℕ) (group : Group) → group_of m id ≡ Some group → Names (group_of n id) (stripe_of_group group)
 
 stay_still : (m : GroupMapState) → Stay m m
-stay_still m id group is = record { group = group; is = is; stripe_is = refl }
+stay_still m id group is = record { group = group; named = is; stripe_is = refl }
 
 -- the map of a registry is well formed
 abbrev pub HasMap : Option AnyNode → Type 0
@@ -98,7 +98,7 @@ module _ (law : GroupsStay) where
       by : (o : Option Group) → group_of (after_losses m (record { server = server; generation = generation } ∷ [])) id ≡ o → IsSomeAnd o (IsLater group)
           → Names (group_of (after_losses m (record { server = server; generation = generation } ∷ [])) id) (stripe_of_group group)
       by None at some = absurd some
-      by (Some later) at some = record { group = later; is = at; stripe_is = λ i. record { members = some.members i; parity = some.parity i } }
+      by (Some later) at some = record { group = later; named = at; stripe_is = λ i. record { members = some.members i; parity = some.parity i } }
 
   -- ---- the registry
 
@@ -168,7 +168,7 @@ module _ (law : GroupsStay) where
     map : HasMap before → HasMap now
 
   in_time_still : (o : Option AnyNode) → InTime o o
-  in_time_still o = record { stays = λ id group is. record { group = group; is = is; stripe_is = refl }; map = λ h. h }
+  in_time_still o = record { stays = λ id group is. record { group = group; named = is; stripe_is = refl }; map = λ h. h }
 
   by_turn : (x : AnyNode) (what : Do) → InTime (Some x) (Some (any_step x what).node)
   by_turn (any.Client node) what = record { stays = λ id group is. absurd cc; map = λ h m is. absurd cc }
@@ -228,8 +228,8 @@ module _ (law : GroupsStay) where
 
   stay_on : (u v w : World AnyNode) → StayIn u v → StayIn v w → StayIn u w
   stay_on u v w a b id group is =
-      (let x = a id group is in let y = b id x.group x.is in record { group = y.group; is = y.is; stripe_is = y.stripe_is ∙ x.stripe_is })
+      (let x = a id group is in let y = b id x.group x.named in record { group = y.group; named = y.named; stripe_is = y.stripe_is ∙ x.stripe_is })
 
   pub in_run : (events : List Event) (w end : World AnyNode) → Leads any_step w events end → StayIn w end
-  in_run [] w end leads = subst (StayIn w) leads (λ id group is. record { group = group; is = is; stripe_is = refl })
+  in_run [] w end leads = subst (StayIn w) leads (λ id group is. record { group = group; named = is; stripe_is = refl })
   in_run (event ∷ events) w end leads = stay_on w (next_world any_step w event) end (in_next w event) (in_run events (next_world any_step w event) end leads.1)

@@ -71,15 +71,15 @@ module _ (clients managers : ℕ) where
     where
       by : (a : Bool) → (log.0 == 9) ≡ a → (b : Bool) → is_clients log.0 ≡ b → (c : Bool) → is_managers log.0 ≡ c → HasOwner clients managers log
       by true is b at c there =
-          record { role = OfCleaner; there = tt; is = ap (λ n. record { 0 = n }) (grind (arith, nat_tests, is)) }
-      by false is true at c there = record { role = OfClient log.0; there = (grind (arith, nat_tests, at), grind (arith, nat_tests, at)); is = refl }
+          record { role = OfCleaner; there = tt; own = ap (λ n. record { 0 = n }) (grind (arith, nat_tests, is)) }
+      by false is true at c there = record { role = OfClient log.0; there = (grind (arith, nat_tests, at), grind (arith, nat_tests, at)); own = refl }
       by false is false at true there =
           (let some : 9 < log.0 = grind (arith, nat_tests, there) in
           let limit : log.0 ≤ 9 + managers = grind (arith, nat_tests, there) in
           let j = log.0 - 9 in
           let within : (0 < j) × (j ≤ managers) = (omega arith, omega arith) in
           let its = managers_log clients managers j few within in
-          record { role = OfManager j; there = within; is = ap (λ n. record { 0 = n }) (omega arith) })
+          record { role = OfManager j; there = within; own = ap (λ n. record { 0 = n }) (omega arith) })
       by false is false at false there = (let none = has in absurd cc)
 
   -- ---- what is sent

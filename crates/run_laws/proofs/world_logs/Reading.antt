@@ -71,14 +71,14 @@ look name (x ∷ xs) = ⊎_elim (λ e. inl (x, inl refl, e))
 -- a server that has a shelf
 record HasShelf (x : Option AnyNode) (shelf : ShelfState) : Type 0 where
   node : ServerNode
-  is : x ≡ Some (any.Server node)
+  kind : x ≡ Some (any.Server node)
   its : node.shelf ≡ shelf
 
 has_shelf : (x : Option AnyNode) (shelf : ShelfState) → shelf_of x ≡ Some shelf → HasShelf x shelf
 has_shelf None shelf is = absurd cc
 has_shelf (Some (any.Client node)) shelf is = absurd cc
 has_shelf (Some (any.Manager node)) shelf is = absurd cc
-has_shelf (Some (any.Server node)) shelf is = record { node = node; is = refl; its = one_node node.shelf shelf is }
+has_shelf (Some (any.Server node)) shelf is = record { node = node; kind = refl; its = one_node node.shelf shelf is }
 has_shelf (Some (any.Cleaner node)) shelf is = absurd cc
 has_shelf (Some (any.Registry node)) shelf is = absurd cc
 
@@ -102,7 +102,7 @@ module _ (base : Setting) (end w : World AnyNode) (servers : ℕ) (r : Role) (k 
   shelf_is : (u : ℕ) (shelf : ShelfState) → shelf_at w u ≡ Some shelf → net.shelves u ≡ shelf
   shelf_is u shelf is =
       let h : HasShelf (node_named w (Server u)) shelf = has_shelf (node_named w (Server u)) shelf is in
-      let seen : ServerSeen g net u h.node = st.seen (Server u) (any.Server h.node) (here (Server u) (any.Server h.node) h.is) in
+      let seen : ServerSeen g net u h.node = st.seen (Server u) (any.Server h.node) (here (Server u) (any.Server h.node) h.kind) in
       seen.shelf ∙ h.its
 
   -- ---- the text of one segment

@@ -21,7 +21,7 @@ use Rattle.xfs_base.proofs.Booleans.{by_test}
 
 module _ (base : Setting) (end : World AnyNode) (servers : ℕ) where
   pub names_at_end : (o : Option Group) (stripe : Stripe) → Names o stripe → stripe_by o ≡ stripe
-  names_at_end o stripe n = ap stripe_by n.is ∙ n.stripe_is
+  names_at_end o stripe n = ap stripe_by n.named ∙ n.stripe_is
 
   -- a stripe with a member is the one of a group
   pub striped : (o : Option Group) → 0 < length (stripe_by o).members → (group : Group) × (o ≡ Some group)

@@ -220,7 +220,7 @@ module _ (laws : AfterLaws) (part : ℕ) (texts : Texts) (c : ℕ) (g : Setting)
       adopted = ap (adopts t.acts c) (back.says c books.0 books.2)
           ∙ (ap (is_adopted r.chain) with_it.waits
           ∙ (ap (λ names. holds_flight names with_it.fall.flight) ends.opened.chain_is
-          ∙ ap (holds_flight (names_in ends.settling.chain)) with_it.is))
+          ∙ ap (holds_flight (names_in ends.settling.chain)) with_it.with_flight))
 
   -- ---- its phases
 

@@ -66,14 +66,14 @@ module _ (e : ℕ) where
   -- what is acted from one moment to another; where client e doesn't fall, nothing of its falls is acted, or it serves then
   pub record Leaves (n m : Net) : Type 0 where
     pub more : List Act
-    pub is : m.acts ≡ n.acts ++ more
+    pub acts_are : m.acts ≡ n.acts ++ more
     pub leaves : AllByRecursion IsNoFall more → ((m.up e ≡ n.up e) × AllByRecursion (IsAside e) more) ⊎ (m.up e ≡ true)
 
   nothing : (n m : Net) → m.acts ≡ n.acts → m.up ≡ n.up → Leaves n m
-  nothing n m acts up = record { more = []; is = acts ∙ sym (append-nil n.acts); leaves = λ none. inl (ap (λ f. f e) up, tt) }
+  nothing n m acts up = record { more = []; acts_are = acts ∙ sym (append-nil n.acts); leaves = λ none. inl (ap (λ f. f e) up, tt) }
 
   some_acts : (n m : Net) (more : List Act) → m.acts ≡ n.acts ++ more → m.up ≡ n.up → AllByRecursion (IsAside e) more → Leaves n m
-  some_acts n m more acts up aside = record { more = more; is = acts; leaves = λ none. inl (ap (λ f. f e) up, aside) }
+  some_acts n m more acts up aside = record { more = more; acts_are = acts; leaves = λ none. inl (ap (λ f. f e) up, aside) }
 
   wrote_aside : (c : ℕ) (s : TokensState) (i : inputs.In) → AllByRecursion (IsAside e) (acts_by c s i)
   wrote_aside c s (input.Wrote block value) =
@@ -118,12 +118,12 @@ module _ (e : ℕ) where
     happens_leave n m (Ticks d s at) = nothing n m refl refl
     happens_leave n m (Crashes c flight falls pos less up once so) = record {
       more = act.Fell c flight falls ∷ [];
-      is = refl;
+      acts_are = refl;
       leaves = λ none. inl (put_there n.up c false e (flip c none.0), (none.0, tt));
     }
     happens_leave n m (Returns c inc epochs chain count pos less up later rises flies) = record {
       more = act.Back c chain ∷ [];
-      is = refl;
+      acts_are = refl;
       leaves = λ none. ⊎_elim (λ same. inr (subst (λ x. m.up x ≡ true) same (put_here n.up c true)))
           (λ other. inl (put_there n.up c true e (flip c other), (other, tt))) (equal_or_not c e);
     }
@@ -136,7 +136,7 @@ module _ (e : ℕ) where
     then_leave : (n k m : Net) → Leaves n k → Leaves k m → Leaves n m
     then_leave n k m a b = record {
       more = a.more ++ b.more;
-      is = b.is ∙ (ap (λ xs. xs ++ b.more) a.is ∙ append_assoc n.acts a.more b.more);
+      acts_are = b.acts_are ∙ (ap (λ xs. xs ++ b.more) a.acts_are ∙ append_assoc n.acts a.more b.more);
       leaves = λ none. by none (a.leaves (all_front IsNoFall a.more b.more none)) (b.leaves (all_back IsNoFall a.more b.more none));
     }
       where
@@ -162,7 +162,7 @@ module _ (e : ℕ) where
         r = runs_leave n go.next go.runs
 
         same : acts_of (Client c) outs ≡ r.more
-        same = same_rest n.acts (acts_of (Client c) outs) r.more (sym go.acts ∙ r.is)
+        same = same_rest n.acts (acts_of (Client c) outs) r.more (sym go.acts ∙ r.acts_are)
 
         each : (a : Act) → ClientActs part c n go.next.sent (lasting_of q).inc q a → IsNoFall a
         each (act.Fell client flight falls) h = λ is. other (sym h.0 ∙ is)

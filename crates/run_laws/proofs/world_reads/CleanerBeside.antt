@@ -71,7 +71,7 @@ module _ (runs : RunLaws) (law : OwedBelow) (base : Setting) (e : Estate AnyNode
   pub record CleanerEvent : Type 0 where
     pub few : part < 8
     pub apart : TellsApart base
-    pub is : slice_get e.events count ≡ Some event
+    pub happens : slice_get e.events count ≡ Some event
     pub own : node_of event ≡ Cleaner
     pub took : Took (moment e count) event (any.Cleaner node)
     pub sure : IsSureUpto base e lines texts part first (suc count)
@@ -80,7 +80,7 @@ module _ (runs : RunLaws) (law : OwedBelow) (base : Setting) (e : Estate AnyNode
 
   -- each fragment that a server listed is of a log of the run
   ours : ListsOurs base e lines texts part first count
-  ours p m among is meta held = (let o = runs.lists e ok run count p m among is meta held in record { role = o.role; there = o.there; own = o.is })
+  ours p m among is meta held = (let o = runs.lists e ok run count p m among is meta held in record { role = o.role; there = o.there; own = o.own })
 
   module _ (x : CleanerEvent) where
     here : IsHere base e lines texts part first count node
@@ -91,14 +91,14 @@ module _ (runs : RunLaws) (law : OwedBelow) (base : Setting) (e : Estate AnyNode
     takes_it = record {
       place = x.took.place;
       node = any.Cleaner node;
-      at = x.took.at;
-      is = x.took.is;
+      placed = x.took.placed;
+      stands = x.took.stands;
       nodes_are = x.took.nodes;
       acts_are = x.took.acts;
     }
 
     steps : Steps base e lines texts part first count node what
-    steps = cleaner_steps base e lines texts part first count event x.is x.own node here takes_it
+    steps = cleaner_steps base e lines texts part first count event x.happens x.own node here takes_it
 
     its_name : node_named (moment e count) Cleaner ≡ Some (any.Cleaner node)
     its_name = subst (λ (c : Cluster). node_in (moment e count).nodes (place_of c Cleaner) ≡ Some (any.Cleaner node)) (sym (its_cluster e count)) steps.before
@@ -121,7 +121,7 @@ module _ (runs : RunLaws) (law : OwedBelow) (base : Setting) (e : Estate AnyNode
         runs.polls true (cluster base e) part texts.text first (moment e count).nodes (moment e count).sent (moment e count).acts joint.tok
         joint.idx v m x.few (record { tokens = joint.tokens_stand; index = joint.index_stands; same = joint.slots })
         (ap (λ (n : CleanerNode). n.phase) (in_tokens base e lines texts part first count joint node steps.before) ∙ serves)
-        (record { packet = p; among = among; is = is; of = of })
+        (record { packet = p; among = among; bears = is; of = of })
         (let same = unwrap_or-slice_get v.promised.epochs part 0 in let upto = late in omega arith) 9 (omega arith) (omega arith)
 
     moved_is : (f : FlightState) → flew_at base e lines texts part first OfCleaner tt count ≡ Some f
@@ -132,11 +132,11 @@ module _ (runs : RunLaws) (law : OwedBelow) (base : Setting) (e : Estate AnyNode
     beside = record {
       of_eight = x.few;
       steps = steps;
-      straight = (its_line base e lines texts part first).straight count event x.is (sym x.own);
+      straight = (its_line base e lines texts part first).straight count event x.happens (sym x.own);
       apart = x.apart;
       sure = x.sure;
       brought = λ q gets.
-          let d = delivered_was (moment e count) event (may_happen e count event x.is run) q gets in (d.0, d.1 ∙ x.own);
+          let d = delivered_was (moment e count) event (may_happen e count event x.happens run) q gets in (d.0, d.1 ∙ x.own);
       named = its_name;
       came = runs.came e ok run count;
       ours = ours;

@@ -87,7 +87,7 @@ module _ (may : May) where
 
   -- what its job checks then may be checked, as is what it sends
   pub record Kept (d : Done) : Type 0 where
-    pub at : At d.state
+    pub checks : At d.state
     pub outs : AllMay d.outs
 
   silent_body : (m : Body) → IsSilentBody m → BodyMay m
@@ -104,13 +104,13 @@ module _ (may : May) where
   all_silent es all = all_weaker IsSilent EffectMay silent_effect es all
 
   quiet : (e : Emptying) (es : List Effect) → AllSilent es → At e → Kept (record { state = e; outs = es })
-  quiet e es silent h = record { at = h; outs = all_silent es silent }
+  quiet e es silent h = record { checks = h; outs = all_silent es silent }
 
   went_on : (d e : Done) → Kept d → (At d.state → Kept e) → Kept (saying d.outs e)
-  went_on d e one then_next = (let k = then_next one.at in record { at = k.at; outs = all_both EffectMay d.outs e.outs one.outs k.outs })
+  went_on d e one then_next = (let k = then_next one.checks in record { checks = k.checks; outs = all_both EffectMay d.outs e.outs one.outs k.outs })
 
   went_behind : (es : List Effect) (d : Done) → AllSilent es → Kept d → Kept (saying es d)
-  went_behind es d silent k = record { at = k.at; outs = all_both EffectMay es d.outs (all_silent es silent) k.outs }
+  went_behind es d silent k = record { checks = k.checks; outs = all_both EffectMay es d.outs (all_silent es silent) k.outs }
 
   all_steps : {A : Type 0} (step : Emptying → A → Done) → ((e : Emptying) (x : A) → At e → Kept (step e x)) → (e : Emptying) (xs : List A) → At e
       → Kept (steps step e xs)
@@ -153,7 +153,7 @@ module _ (may : May) where
 
   sent_so : (e : Emptying) (block : BlockId) (place : Place) (ask : Option ℕ) → may block place → At e → Kept (check_sent e block place ask)
   sent_so e block place None owed h = quiet e [] tt h
-  sent_so e block place (Some ask) owed h = record { at = h; outs = (owed, tt) }
+  sent_so e block place (Some ask) owed h = record { checks = h; outs = (owed, tt) }
 
   check_so : (e : Emptying) (block : BlockId) (place : Place) → may block place → At e → Kept (asks_check e block place)
   unfolding asks_check checks_block

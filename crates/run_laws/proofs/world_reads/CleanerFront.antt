@@ -83,8 +83,8 @@ module _ (w : World AnyNode) (event : Event) where
   pub record Takes (nodes : List AnyNode) (acts : List Act) : Type 0 where
     pub place : ℕ
     pub node : AnyNode
-    pub at : place_of w.cluster (node_of event) ≡ Some place
-    pub is : slice_get w.nodes place ≡ Some node
+    pub placed : place_of w.cluster (node_of event) ≡ Some place
+    pub stands : slice_get w.nodes place ≡ Some node
     pub nodes_are : nodes ≡ slice_set w.nodes place (any_step node (what_of event)).node
     pub acts_are : acts ≡ w.acts ++ (any_step node (what_of event)).acts
 
@@ -98,7 +98,7 @@ module _ (w : World AnyNode) (event : Event) where
   takes_or_stays =
       next_keeps any_step (λ (nodes : List AnyNode) (sent : List Packet) (acts : List Act). Takes nodes acts ⊎ Stays nodes acts) w event
       (inr (record { nodes_stay = refl; acts_stay = refl }))
-      (λ place node clock at is. inl (record { place = place; node = node; at = at; is = is; nodes_are = refl; acts_are = refl }))
+      (λ place node clock at is. inl (record { place = place; node = node; placed = at; stands = is; nodes_are = refl; acts_are = refl }))
 
 -- ---- the cleaner
 
@@ -114,16 +114,16 @@ module _ (base : Setting) (e : Estate AnyNode) (lines : HasLines base e) (texts 
   module _ (took : Takes w event (next_world any_step w event).nodes (next_world any_step w event).acts) where
     place_is : place_of (cluster base e) Cleaner ≡ Some took.place
     place_is = ap (λ (n : NodeId). place_of (cluster base e) n) (sym whose)
-        ∙ (ap (λ (c : Cluster). place_of c (node_of event)) (sym (its_cluster e count)) ∙ took.at)
+        ∙ (ap (λ (c : Cluster). place_of c (node_of event)) (sym (its_cluster e count)) ∙ took.placed)
 
     node_is : took.node ≡ any.Cleaner node
-    node_is = one_node took.node (any.Cleaner node) (sym took.is ∙ (ap (node_in w.nodes) (sym place_is) ∙ here))
+    node_is = one_node took.node (any.Cleaner node) (sym took.stands ∙ (ap (node_in w.nodes) (sym place_is) ∙ here))
 
     stands_then : node_in (next_world any_step w event).nodes (place_of (cluster base e) Cleaner) ≡ Some (any.Cleaner (cleaner_step node what).node)
     stands_then =
         ap (node_in (next_world any_step w event).nodes) place_is
         ∙ (ap (λ (xs : List AnyNode). slice_get xs took.place) took.nodes_are
-        ∙ (get_set_same w.nodes took.place (any_step took.node what).node took.node took.is
+        ∙ (get_set_same w.nodes took.place (any_step took.node what).node took.node took.stands
         ∙ ap (λ (x : AnyNode). Some (any_step x what).node) node_is))
 
     acted : did e 9 (suc count) ≡ did e 9 count ++ (cleaner_step node what).acts

@@ -71,7 +71,7 @@ pub record WasAsked (packets : List Packet) (ask : ℕ) (name : SegName) : Type 
   pub packet : Packet
   pub among : In packet packets
   pub check : Check
-  pub is : packet.body ≡ body.Check check
+  pub bears : packet.body ≡ body.Check check
   pub ask_is : check.ask ≡ ask
   pub name_is : check.place.seg.name ≡ name
 
@@ -191,8 +191,8 @@ module _ (k : Cluster) (w : World AnyNode) (event : Event) (good : Good k w.node
   either : (ask : ℕ) (seg : SegName) (P : Type 0) → book_of sent ask seg → (book_of w.sent ask seg → P)
       → ((q : Packet) (m : Check) → In q new → q.body ≡ body.Check m → m.ask ≡ ask → m.place.seg.name ≡ seg → P) → P
   either ask seg P was old fresh = elim (in_append w.sent new was.packet was.among) [
-    | inl among ↦ old (record { packet = was.packet; among = among; check = was.check; is = was.is; ask_is = was.ask_is; name_is = was.name_is })
-    | inr among ↦ fresh was.packet was.check among was.is was.ask_is was.name_is
+    | inl among ↦ old (record { packet = was.packet; among = among; check = was.check; bears = was.bears; ask_is = was.ask_is; name_is = was.name_is })
+    | inr among ↦ fresh was.packet was.check among was.bears was.ask_is was.name_is
   ]
 
   module _ (known : Known sent) where
@@ -330,7 +330,7 @@ module _ (laws : tokens.NodeLaws) (e : Estate AnyNode) (ok : IsSetup e.script.se
         packet = was.packet;
         among = was.among;
         check = record { block = block; place = place; ask = ask };
-        is = was.is;
+        bears = was.bears;
         ask_is = refl;
         name_is = refl;
       }) v.job its_asks.job awaited

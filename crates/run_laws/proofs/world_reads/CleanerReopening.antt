@@ -141,7 +141,7 @@ module _ (below : ReopensBelow) (base : Setting) (e : Estate AnyNode) (lines : H
 
   -- what was read back is what was filed and adopted
   pub end_owed : EndOwed texts.text 9 joint.idx.net.filed o.stage
-  end_owed = subst (EndOwed texts.text 9 joint.idx.net.filed) (sym one.is) read_back
+  end_owed = subst (EndOwed texts.text 9 joint.idx.net.filed) (sym one.settles) read_back
 
   -- and the books are opened again as the log is
   books_then : BooksThen reopens joint.tok.net.books 9 joint.idx.net.filed

@@ -146,7 +146,7 @@ module _ (base : Setting) (e : Estate AnyNode) (lines : HasLines base e) (texts 
   below = (let h = member in let f = x.joint.index_stands.few in omega arith)
 
   pub straight : ServesStraight goes
-  straight = (lines (OfClient c) there).straight count event x.is (sym x.own)
+  straight = (lines (OfClient c) there).straight count event x.happens (sym x.own)
 
   pub line : IsLine c w.net filed
   line = x.joint.lined (OfClient c) there refl

@@ -83,7 +83,7 @@ module _ (base : Setting) (e : Estate AnyNode) (lines : HasLines base e) (texts 
   pub record ClientEvent (event : Event) (node : ClientNode) : Type 0 where
     pub few : part < 8
     pub apart : TellsApart base
-    pub is : slice_get e.events count ≡ Some event
+    pub happens : slice_get e.events count ≡ Some event
     pub cluster : (moment e count).cluster ≡ cluster_of e.script.setup
     pub own : node_of event ≡ Client c
     pub took : Took (moment e count) event (any.Client node)
@@ -117,7 +117,7 @@ module _ (base : Setting) (e : Estate AnyNode) (lines : HasLines base e) (texts 
     here_then =
         let k = cluster_of e.script.setup in
         let later : AnyNode = any.Client (client_step node what).node in
-        subst (λ (w : World AnyNode). node_in w.nodes (place_of k (Client c)) ≡ Some later) (sym (moment_next e count event x.is))
+        subst (λ (w : World AnyNode). node_in w.nodes (place_of k (Client c)) ≡ Some later) (sym (moment_next e count event x.happens))
         (subst (λ name. node_in (next_world any_step (moment e count) event).nodes (place_of k name) ≡ Some later) x.own
         (node_then k (moment e count) x.cluster event (any.Client node) x.took))
 
@@ -165,4 +165,4 @@ module _ (base : Setting) (e : Estate AnyNode) (lines : HasLines base e) (texts 
     pub acts_filed : AllSo (λ name. In name after.net.filed) went.outs
     acts_filed = laws.done after.net (Client (lasting_of node.phase).number) went.outs
         (λ name among. (line.stands (suc count)).filed name
-        (did_then e c count event (any.Client node) x.is (ap (owns c) x.own ∙ itself c) x.took (ActsFiled name) among))
+        (did_then e c count event (any.Client node) x.happens (ap (owns c) x.own ∙ itself c) x.took (ActsFiled name) among))

@@ -148,7 +148,7 @@ module _ (base : Setting) (e : Estate AnyNode) (lines : HasLines base e) (texts 
         → s.name ≡ x.source.seg.name → s ≡ texts.text s.name → RowsTold told (told_of of s)
     source_read epoch take taking flew x is s of named text =
         ⊎_elim
-        (λ part. part_read part.ref s of (flew part.ref part.among) (named ∙ ap (λ (y : Source). y.seg.name) part.is) text)
+        (λ part. part_read part.ref s of (flew part.ref part.among) (named ∙ ap (λ (y : Source). y.seg.name) part.of_part) text)
         (λ here. filed_read here.log here.seq s of here.some here.limit (named ∙ here.named) text)
         (reads_there slot texts.text k.net k.filed k.are_texts epoch take taking x is).lies
 

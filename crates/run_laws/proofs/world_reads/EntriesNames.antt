@@ -174,7 +174,7 @@ module _ (known : Known) where
             let here = at_place w.nodes place node is in
             let t : NamesThen node (what_of event) =
             names_then node (what_of event) (stand.holds node here) comes
-            (flies node (record { place = place; at = at; is = is; nodes = nodes; acts = acts }))
+            (flies node (record { place = place; placed = at; stands = is; nodes = nodes; acts = acts }))
             (λ p among. kinds (sent_at clock p)
             (subst (In (sent_at clock p)) (sym sent) (in_behind w.sent (map (sent_at clock) packets) (sent_at clock p) (in_sent clock packets p among))))
             in

@@ -81,7 +81,7 @@ module _ (base : Setting) (e : Estate AnyNode) (lines : HasLines base e) (texts 
 
   -- An event of the owner, after which its log is sure and has its line in what is filed.
   pub record OwnsEvent (event : Event) (node : AnyNode) (h : Filed) : Type 0 where
-    pub is : slice_get e.events count ≡ Some event
+    pub happens : slice_get e.events count ≡ Some event
     pub own : owns l (node_of event) ≡ true
     pub took : Took (moment e count) event node
     pub sure : IsSure texts.text l g later
@@ -95,7 +95,7 @@ module _ (base : Setting) (e : Estate AnyNode) (lines : HasLines base e) (texts 
     filed_then : (name : SegName) → Contains acts (ActsFiled name) → tables.In name later.filed
     filed_then name is =
         (line.stands (suc count)).filed name
-        (did_then e l count event node x.is x.own x.took (ActsFiled name) (among_of acts (ActsFiled name) is))
+        (did_then e l count event node x.happens x.own x.took (ActsFiled name) (among_of acts (ActsFiled name) is))
 
     gives : LineGives l later h
     gives = give texts.text l g later h x.sure x.lined

@@ -84,7 +84,7 @@ module _ (base : Setting) (e : Estate AnyNode) (lines : HasLines base e) (texts 
         here : 0 < q → q ≤ f.head l → Contains (rows_of (f.segment l q)) row → Contains (rows_at h l q) row
         here some limit says =
             let has : HasLog base e lines texts slot first l = filed_log base e lines texts slot first count its l q some limit in
-            at_log l has.role has.there has.keeps has.is some limit says
+            at_log l has.role has.there has.keeps has.numbered some limit says
 
     pub same_rows : AreMore (rows_at f) (rows_at h)
     same_rows block entry is = record { log = is.log; seq = is.seq; says = says_same (block, entry) is.log is.seq is.says }

@@ -37,7 +37,7 @@ same_name a b log seq pass = λ k. record { log = record { 0 = log k }; seq = se
 pub record ReadsPart (parts : List SegRef) (source : Source) : Type 0 where
   pub ref : SegRef
   pub among : In ref parts
-  pub is : source ≡ part_source ref
+  pub of_part : source ≡ part_source ref
 
 -- The source reads a filed segment, and goes down from it no further than its log is linked.
 pub record ReadsFiled (f : Filed) (source : Source) : Type 0 where
@@ -73,7 +73,7 @@ module _ (f : Filed) (filed : IsFiled f) (texts : Texts) (are_texts : AreTexts t
   part_ends : (source : Source) (s : Segment) → ReadsPart parts source → s.name ≡ source.seg.name → goes_back source s ≡ true → ⊥
   part_ends source s part named back =
       none_below source.low s.name.seq (not (is_none s.prior))
-      (ap (λ (x : Source). x.low) part.is ∙ (ap (λ (x : Source). x.seg.name.seq) (sym part.is) ∙ ap (λ (n : SegName). n.seq) (sym named))) back
+      (ap (λ (x : Source). x.low) part.of_part ∙ (ap (λ (x : Source). x.seg.name.seq) (sym part.of_part) ∙ ap (λ (n : SegName). n.seq) (sym named))) back
 
   -- a filed segment leads to the one before it
   leads_down : (source : Source) (s : Segment) → ReadsFiled f source → s.name ≡ source.seg.name → s ≡ texts s.name → goes_back source s ≡ true
@@ -119,7 +119,7 @@ all_each P (x ∷ xs) each = (each x (inl refl), all_each P xs (λ y later. each
 all_parts : (f : Filed) (all parts : List SegRef) → ((ref : SegRef) → In ref parts → In ref all) → AllByRecursion (SourceLies f all) (map part_source parts)
 all_parts f all [] among = tt
 all_parts f all (ref ∷ parts) among =
-    (inl (record { ref = ref; among = among ref (inl refl); is = refl }), all_parts f all parts (λ x later. among x (inr later)))
+    (inl (record { ref = ref; among = among ref (inl refl); of_part = refl }), all_parts f all parts (λ x later. among x (inr later)))
 
 all_logs : {X : Type 0} (P : X → Type 0) (f : ℕ → List X) (from n : ℕ) → ((l : ℕ) → from ≤ l → l < from + n → AllByRecursion P (f l))
     → AllByRecursion P (flat_map f (range_with_len from n))

@@ -106,7 +106,7 @@ module _ (rows : FiledRows) where
         turned place node clock at is nodes sent acts =
             let t : AnyTells node (what_of event) =
             any_tells kinds node (what_of event) (stand.holds node (at_place w.nodes place node is)) comes
-            (owed node (record { place = place; at = at; is = is; nodes = nodes; acts = acts }))
+            (owed node (record { place = place; placed = at; stands = is; nodes = nodes; acts = acts }))
             in
             record {
               holds = λ x among. ⊎_elim (λ same. subst (AnyTold rows) (sym same) t.node) (λ before. stand.holds x before)

@@ -100,7 +100,7 @@ module _ (base : Setting) (e : Estate AnyNode) (lines : HasLines base e) (texts 
   -- restarts were sure, and there each log has its line in what is filed.
   pub record EntryEvent (event : Event) (h : Filed) : Type 0 where
     pub of_map : part < 8
-    pub is : slice_get e.events count ≡ Some event
+    pub happens : slice_get e.events count ≡ Some event
     pub run : IsRun any_step any_start e.script e.events e.world
     pub joints : (slot : ℕ) → slot < 8 → Joint base e lines texts slot first count
     pub sure : IsSureUpto base e lines texts part first (suc count)
@@ -178,16 +178,16 @@ module _ (base : Setting) (e : Estate AnyNode) (lines : HasLines base e) (texts 
       at_place : (name : NodeId) → node_of event ≡ name → place_of k name ≡ Some took.place
       at_place name own =
           subst (λ n. place_of k n ≡ Some took.place) own
-          (subst (λ (c : Cluster). place_of c (node_of event) ≡ Some took.place) (its_cluster e count) took.at)
+          (subst (λ (c : Cluster). place_of c (node_of event) ≡ Some took.place) (its_cluster e count) took.placed)
 
       -- it is the one of its name
       is_named : (name : NodeId) → node_of event ≡ name → (y : AnyNode) → node_in w.nodes (place_of k name) ≡ Some y → y ≡ node
-      is_named name own y here = one_node y node (sym here ∙ (ap (node_in w.nodes) (at_place name own) ∙ took.is))
+      is_named name own y here = one_node y node (sym here ∙ (ap (node_in w.nodes) (at_place name own) ∙ took.stands))
 
       owns_event : (r : Role) (there : There base e lines texts part first r) → renews r ≡ false → owns (log_by r) (node_of event) ≡ true
           → OwnsEvent base e lines texts part first count r there event node h
       owns_event r there keeps own = record {
-        is = x.is;
+        happens = x.happens;
         own = own;
         took = took;
         sure = sure_log base e lines texts part first laws.give (suc count) x.sure r there keeps;
@@ -317,7 +317,7 @@ module _ (base : Setting) (e : Estate AnyNode) (lines : HasLines base e) (texts 
           -- what it acts it did up to the next count
           done : (name : SegName) → Contains acts (act.Filed name) → In (act.Filed name) (did e (log_by (OfManager j)) (suc count))
           done name is =
-              did_then e (log_by (OfManager j)) count event (any.Manager it) x.is (ap (owns (log_by (OfManager j))) own ∙ itself (log_by (OfManager j)))
+              did_then e (log_by (OfManager j)) count event (any.Manager it) x.happens (ap (owns (log_by (OfManager j))) own ∙ itself (log_by (OfManager j)))
               (subst (Took w event) (sym same) took) (act.Filed name) (in_contained acts (act.Filed name) is)
 
           by : (p : managers.Phase) → it.phase ≡ p → PhaseFlies (PartKnown base e lines (suc count) (rows_at h)) acts p
@@ -391,16 +391,16 @@ module _ (base : Setting) (e : Estate AnyNode) (lines : HasLines base e) (texts 
     -- what is told stays told
     pub entries_then : EntriesStand (rows_at h) (moment e (suc count)).nodes (moment e (suc count)).sent
     entries_then =
-        subst (λ (v : World AnyNode). EntriesStand (rows_at h) v.nodes v.sent) (sym (moment_next e count event x.is))
+        subst (λ (v : World AnyNode). EntriesStand (rows_at h) v.nodes v.sent) (sym (moment_next e count event x.happens))
         (entries_stay (rows_at h) laws.kinds w event stand
-        (came event (may_happen e count event x.is x.run)) any_owed)
+        (came event (may_happen e count event x.happens x.run)) any_owed)
 
     -- and what is named as a part of a checkpoint is still a segment of a manager's log, which tells what is told
     pub named_then : PartsNamed (PartKnown base e lines (suc count) (rows_at h)) (moment e (suc count)).nodes (moment e (suc count)).sent
     named_then =
-        let next = moment_next e count event x.is in
+        let next = moment_next e count event x.happens in
         subst (λ (v : World AnyNode). PartsNamed (PartKnown base e lines (suc count) (rows_at h)) v.nodes v.sent) (sym next)
         (names_stay (PartKnown base e lines (suc count) (rows_at h)) w event
         (names_rise (PartKnown base e lines count (rows_at joint.idx.net.filed)) (PartKnown base e lines (suc count) (rows_at h))
         (part_later (rows_at joint.idx.net.filed) (rows_at h) more base e lines count) w.nodes w.sent x.named)
-        (came event (may_happen e count event x.is x.run)) any_flies (λ p among. x.kinds p (subst (λ (v : World AnyNode). In p v.sent) (sym next) among)))
+        (came event (may_happen e count event x.happens x.run)) any_flies (λ p among. x.kinds p (subst (λ (v : World AnyNode). In p v.sent) (sym next) among)))

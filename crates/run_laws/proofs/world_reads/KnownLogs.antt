@@ -48,7 +48,7 @@ module _ (base : Setting) (e : Estate AnyNode) (lines : HasLines base e) (texts 
     pub role : Role
     pub there : There base e lines texts part first role
     pub keeps : renews role ≡ false
-    pub is : log_by role ≡ l
+    pub numbered : log_by role ≡ l
 
   abbrev Nobody : ℕ → Type 0
   Nobody l = (r : Role) → There base e lines texts part first r → renews r ≡ false → log_by r ≡ l → ⊥
@@ -68,9 +68,9 @@ module _ (base : Setting) (e : Estate AnyNode) (lines : HasLines base e) (texts 
       none (OfManager j) other out there keeps is = absurd cc
 
       by : (t : Bool) → (l == 9) ≡ t → (u : Bool) → (nat_lt 0 l && nat_le l clients) ≡ u → HasLog l ⊎ Nobody l
-      by true is u at = inl (record { role = OfCleaner; there = tt; keeps = refl; is = sym (eqb-true l 9 is) })
+      by true is u at = inl (record { role = OfCleaner; there = tt; keeps = refl; numbered = sym (eqb-true l 9 is) })
       by false is true at =
-          inl (record { role = OfClient l; there = (grind (arith, nat_tests, at), grind (arith, nat_tests, at)); keeps = refl; is = refl })
+          inl (record { role = OfClient l; there = (grind (arith, nat_tests, at), grind (arith, nat_tests, at)); keeps = refl; numbered = refl })
       by false is false at = inr (λ r there keeps same. none r is at there keeps same)
 
   module _ (count : ℕ) where
@@ -131,5 +131,5 @@ module _ (base : Setting) (e : Estate AnyNode) (lines : HasLines base e) (texts 
         filed = (good_in part (held_in part texts.text) first joint.idx.net joint.index_stands.runs).filed;
         texts_of = joint.index_stands.texts_of;
         logs = λ l q some limit. (let h = filed_log l q some limit in
-            subst (λ x. LogKnown texts.text sent (cuts_at e.world) (record { 0 = x })) h.is (log_known h.role h.there));
+            subst (λ x. LogKnown texts.text sent (cuts_at e.world) (record { 0 = x })) h.numbered (log_known h.role h.there));
       }

@@ -125,7 +125,7 @@ module _ (base : Setting) (e : Estate AnyNode) (lines : HasLines base e) (texts 
     answer = one_of (AnswerCame told reads.ask seg.name) reads.round.answers has.answer reads.of.answers has.among
 
     of_name : has.fragment.meta.name ≡ seg.name
-    of_name = subst (IsOfName seg.name) has.is answer.of_name
+    of_name = subst (IsOfName seg.name) has.holds answer.of_name
 
     of_log : is_of_log l.setting has.fragment.meta.name ≡ true
     of_log = subst (λ (n : SegName). (n.log.0 == l.setting.log.0) ≡ true) (sym of_name)
@@ -133,7 +133,7 @@ module _ (base : Setting) (e : Estate AnyNode) (lines : HasLines base e) (texts 
 
     was_sent : In (FragmentSent has.fragment) l.net.sent
     was_sent = any_was_sent texts.text sent to (cuts_at e.world) seg l reads.ask has.answer.server has.fragment
-        (subst (told reads.ask has.answer.server) has.is answer.came_so) of_log
+        (subst (told reads.ask has.answer.server) has.holds answer.came_so) of_log
 
     -- so the segment of its name flew, over the group with which it is referred to
     pub names_its_group : NamesItsGroup texts.text seg

@@ -96,7 +96,7 @@ module _ (base : Setting) (e : Estate AnyNode) (lines : HasLines base e) (texts 
     -- An event of manager j at such a moment, at which readers hold what came.
     pub record ManagerEvent (event : Event) (node : ManagerNode) : Type 0 where
       pub few : part < 8
-      pub is : slice_get e.events count ≡ Some event
+      pub happens : slice_get e.events count ≡ Some event
       pub coming : Coming event
       pub own : node_of event ≡ Manager j
       pub took : Took (moment e count) event (any.Manager node)
@@ -116,7 +116,7 @@ module _ (base : Setting) (e : Estate AnyNode) (lines : HasLines base e) (texts 
       here_then : node_in (moment e (suc count)).nodes (place_of k (Manager j)) ≡ Some (any.Manager (manager_step node what).node)
       here_then =
           let later : AnyNode = any.Manager (manager_step node what).node in
-          subst (λ (w : World AnyNode). node_in w.nodes (place_of k (Manager j)) ≡ Some later) (sym (moment_next e count event x.is))
+          subst (λ (w : World AnyNode). node_in w.nodes (place_of k (Manager j)) ≡ Some later) (sym (moment_next e count event x.happens))
           (subst (λ name. node_in (next_world any_step (moment e count) event).nodes (place_of k name) ≡ Some later) x.own
           (node_then k (moment e count) x.coming.cluster event (any.Manager node) x.took))
 

@@ -92,7 +92,7 @@ module _ (base : Setting) (e : Estate AnyNode) (lines : HasLines base e) (texts 
   module _ (j : ℕ) (there : There base e lines texts part first (OfManager j)) (event : Event) (node : ManagerNode)
       (x : ManagerEvent base e lines texts part first count j there event node) (stands : ReferencesStand base e lines texts part first count) where
     refers : PhaseRefers r node.phase
-    refers = stands.each_node (any.Manager node) (in_list (moment e count).nodes x.took.place (any.Manager node) x.took.is)
+    refers = stands.each_node (any.Manager node) (in_list (moment e count).nodes x.took.place (any.Manager node) x.took.stands)
 
     -- the sources of the slot's takeover flew
     pub flew : SourcesFlew base e lines texts part first count j there (slot_in part node.phase)
@@ -133,7 +133,8 @@ module _ (base : Setting) (e : Estate AnyNode) (lines : HasLines base e) (texts 
   -- the run has this manager
   is_there : (j : ℕ) (node : AnyNode) → node_of event ≡ Manager j → Took (moment e count) event node → There base e lines texts part first (OfManager j)
   is_there j node own took =
-      let at : place_of k (node_of event) ≡ Some took.place = subst (λ (c : Cluster). place_of c (node_of event) ≡ Some took.place) coming.cluster took.at in
+      let at : place_of k (node_of event) ≡ Some took.place =
+      subst (λ (c : Cluster). place_of c (node_of event) ≡ Some took.place) coming.cluster took.placed in
       let b : Behind k.clients k.managers j took.place =
       behind k.clients k.managers j took.place (subst (λ name. place_of k name ≡ Some took.place) own at) in
       (b.some, b.within)
@@ -149,7 +150,7 @@ module _ (base : Setting) (e : Estate AnyNode) (lines : HasLines base e) (texts 
   manager_owes j node own took =
       let there : There base e lines texts part first (OfManager j) = is_there j (any.Manager node) own took in
       let x : ManagerEvent base e lines texts part first count j there event node =
-      record { few = few; is = is; coming = coming; own = own; took = took; came = came } in
+      record { few = few; happens = is; coming = coming; own = own; took = took; came = came } in
       record {
         index = index_owed base e lines texts part first count j there event node x stands laws;
         turn = λ adopted limit. turn_owed base e lines texts part first count j there event node x stands laws more adopted limit;

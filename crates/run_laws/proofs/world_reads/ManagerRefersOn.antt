@@ -220,7 +220,7 @@ module _ (base : Setting) (e : Estate AnyNode) (lines : HasLines base e) (texts 
     -- an end that whichever Report bears
     record Reported : Type 0 where
       end : End
-      is : (s : ServingClient) → node.phase ≡ clients.Serving s → s.log.end ≡ end
+      is_end : (s : ServingClient) → node.phase ≡ clients.Serving s → s.log.end ≡ end
       flew : EndFlew base e lines texts part first count c end
 
     reported : Reported
@@ -230,14 +230,14 @@ module _ (base : Setting) (e : Estate AnyNode) (lines : HasLines base e) (texts 
         one a b h = cc
 
         none : (p : client_phase.Phase) → node.phase ≡ p → ((s : ServingClient) → p ≡ clients.Serving s → ⊥) → Reported
-        none p is never = record { end = no_end; is = λ s serves. absurd (never s (sym is ∙ serves)); flew = inl refl }
+        none p is never = record { end = no_end; is_end = λ s serves. absurd (never s (sym is ∙ serves)); flew = inl refl }
 
         by : (p : client_phase.Phase) → node.phase ≡ p → Reported
         by (clients.Down l) is = none (clients.Down l) is (λ s h. absurd cc)
         by (clients.Opening l o) is = none (clients.Opening l o) is (λ s h. absurd cc)
         by (clients.Serving s) is = record {
           end = s.log.end;
-          is = λ t serves. ap (λ (x : ServingClient). x.log.end) (one t s (sym serves ∙ is));
+          is_end = λ t serves. ap (λ (x : ServingClient). x.log.end) (one t s (sym serves ∙ is));
           flew = client_end c there s.log (subst (client_log.ClientAgrees g c w) is agrees).1;
         }
 
@@ -246,7 +246,7 @@ module _ (base : Setting) (e : Estate AnyNode) (lines : HasLines base e) (texts 
       node_refers = tt;
       packets = reports_refer r (Client c) reported.end reported.flew (any_step (any.Client node) what).packets
           (subst (λ n. AllByRecursion (ReportsOf (Client n) reported.end) (any_step (any.Client node) what).packets) number
-          (clients_report reported.end node what reported.is));
+          (clients_report reported.end node what reported.is_end));
     }
 
   module _ (node : CleanerNode) (what : Do) (here : node_in (moment e count).nodes (place_of k Cleaner) ≡ Some (any.Cleaner node)) where
@@ -255,7 +255,7 @@ module _ (base : Setting) (e : Estate AnyNode) (lines : HasLines base e) (texts 
 
     record CleanerReported : Type 0 where
       end : End
-      is : (s : Emptying) → node.phase ≡ cleaning.Serving s → s.log.end ≡ end
+      is_end : (s : Emptying) → node.phase ≡ cleaning.Serving s → s.log.end ≡ end
       flew : EndFlew base e lines texts part first count 9 end
 
     cleaner_reported : CleanerReported
@@ -265,14 +265,14 @@ module _ (base : Setting) (e : Estate AnyNode) (lines : HasLines base e) (texts 
         one a b h = cc
 
         none : (p : cleaning_phase.Phase) → node.phase ≡ p → ((s : Emptying) → p ≡ cleaning.Serving s → ⊥) → CleanerReported
-        none p is never = record { end = no_end; is = λ s serves. absurd (never s (sym is ∙ serves)); flew = inl refl }
+        none p is never = record { end = no_end; is_end = λ s serves. absurd (never s (sym is ∙ serves)); flew = inl refl }
 
         by : (p : cleaning_phase.Phase) → node.phase ≡ p → CleanerReported
         by (cleaning.Down l) is = none (cleaning.Down l) is (λ s h. absurd cc)
         by (cleaning.Opening l o) is = none (cleaning.Opening l o) is (λ s h. absurd cc)
         by (cleaning.Serving s) is = record {
           end = s.log.end;
-          is = λ t serves. ap (λ (x : Emptying). x.log.end) (one t s (sym serves ∙ is));
+          is_end = λ t serves. ap (λ (x : Emptying). x.log.end) (one t s (sym serves ∙ is));
           flew = cleaner_end s.log (subst (cleaner_log.CleanerAgrees (setting base e OfCleaner) ((lines OfCleaner tt).at count)) is cleaner_agrees).log;
         }
 
@@ -280,7 +280,7 @@ module _ (base : Setting) (e : Estate AnyNode) (lines : HasLines base e) (texts 
     cleaner_step_refers = record {
       node_refers = tt;
       packets = reports_refer r Cleaner cleaner_reported.end cleaner_reported.flew (any_step (any.Cleaner node) what).packets
-          (cleaner_reports cleaner_reported.end node what cleaner_reported.is);
+          (cleaner_reports cleaner_reported.end node what cleaner_reported.is_end);
     }
 
   module _ (j : ℕ) (there : There base e lines texts part first (OfManager j)) (node : ManagerNode) (what : Do)

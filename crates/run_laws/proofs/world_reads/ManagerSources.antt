@@ -72,7 +72,7 @@ its_news part n texts t k =
 -- an end that a log's source reads from is not below what the checkpoint covers
 record FromEnd (l low : ℕ) (end : End) (source : Source) : Type 0 where
   above : low ≤ end.seq
-  is : log_source l low end ≡ source
+  from_log : log_source l low end ≡ source
 
 from_end_is : (l low : ℕ) (end : End) (source : Source) → Contains (from_end l low end) source → FromEnd l low end source
 from_end_is l low end source h = by (nat_le low end.seq) refl h
@@ -80,7 +80,7 @@ from_end_is l low end source h = by (nat_le low end.seq) refl h
     by : (t : Bool) → nat_le low end.seq ≡ t → Contains (cond t (log_source l low end ∷ []) []) source → FromEnd l low end source
     by true is h = record {
       above = grind (arith, nat_tests, is);
-      is = ⊎_elim (λ same. same) (λ none. absurd (contains_nothing source none)) (contains_cases (log_source l low end) source [] h);
+      from_log = ⊎_elim (λ same. same) (λ none. absurd (contains_nothing source none)) (contains_cases (log_source l low end) source [] h);
     }
     by false is h = absurd (contains_nothing source h)
 
@@ -124,10 +124,10 @@ module _ (base : Setting) (e : Estate AnyNode) (lines : HasLines base e) (texts 
         let each = (filed_known base e lines texts part first count joint).filed.each l end.seq more is.filed in
         let named : named_by l end ≡ s.name = name_is s.name l end.seq end.pass each.log each.seq is.named in
         let among : In s (log_at base e lines texts part first h.role h.there count).flown =
-        subst (λ x. In (filed.segment x end.seq) (log_at base e lines texts part first h.role h.there count).flown) h.is
-        ((joint.lined h.role h.there h.keeps).lined.flown end.seq more (subst (λ x. end.seq ≤ filed.head x) (sym h.is) is.filed)) in
+        subst (λ x. In (filed.segment x end.seq) (log_at base e lines texts part first h.role h.there count).flown) h.numbered
+        ((joint.lined h.role h.there h.keeps).lined.flown end.seq more (subst (λ x. end.seq ≤ filed.head x) (sym h.numbered) is.filed)) in
         record {
-          of = record { role = h.role; there = h.there; own = ap (λ x. record { 0 = x }) (sym h.is) };
+          of = record { role = h.role; there = h.there; own = ap (λ x. record { 0 = x }) (sym h.numbered) };
           segment = s;
           among = among;
           named = named;
@@ -171,7 +171,8 @@ module _ (base : Setting) (e : Estate AnyNode) (lines : HasLines base e) (texts 
           let one = from_one l some limit in
           let above = f.above in
           let good = good_end groups l some limit (omega arith) in
-          subst (λ (x : Source). Flew base e lines texts part first count x.seg) f.is (end_flew l (end_of t.take.reports l) (omega arith) good.filed good.group)
+          subst (λ (x : Source). Flew base e lines texts part first count x.seg) f.from_log
+          (end_flew l (end_of t.take.reports l) (omega arith) good.filed good.group)
 
       pub sources_flew : PartsFlew → EndsBearGroups → (source : Source) → Contains (sources_of t.take.news t.take.reports) source
           → Flew base e lines texts part first count source.seg

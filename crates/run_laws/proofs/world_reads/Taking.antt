@@ -25,8 +25,8 @@ use Rattle.run_laws.specs.world_logs.Doings.{acts_by, acts_in, acts_of, did, own
 -- the node takes its step in this event, which changes no other node
 pub record Took (w : World AnyNode) (event : Event) (node : AnyNode) : Type 0 where
   pub place : ℕ
-  pub at : place_of w.cluster (node_of event) ≡ Some place
-  pub is : slice_get w.nodes place ≡ Some node
+  pub placed : place_of w.cluster (node_of event) ≡ Some place
+  pub stands : slice_get w.nodes place ≡ Some node
   pub nodes : (next_world any_step w event).nodes ≡ slice_set w.nodes place (any_step node (what_of event)).node
   pub acts : (next_world any_step w event).acts ≡ w.acts ++ (any_step node (what_of event)).acts
 
@@ -49,21 +49,21 @@ takes_or_not w event = next_keeps any_step Which w event (λ nodes sent acts. in
     turned : (place : ℕ) (node : AnyNode) (clock : ℕ) → place_of w.cluster (node_of event) ≡ Some place → slice_get w.nodes place ≡ Some node
         → Which (slice_set w.nodes place (any_step node (what_of event)).node) (w.sent ++ map (sent_at clock) (any_step node (what_of event)).packets)
         (w.acts ++ (any_step node (what_of event)).acts)
-    turned place node clock at is nodes sent acts = inr (node, record { place = place; at = at; is = is; nodes = nodes; acts = acts })
+    turned place node clock at is nodes sent acts = inr (node, record { place = place; placed = at; stands = is; nodes = nodes; acts = acts })
 
 -- the node of this name is then the one that its step makes of it
 pub node_then : (k : Cluster) (w : World AnyNode) → w.cluster ≡ k → (event : Event) (node : AnyNode) → Took w event node
     → node_in (next_world any_step w event).nodes (place_of k (node_of event)) ≡ Some (any_step node (what_of event)).node
 node_then k w cluster event node took =
-    ap (node_in (next_world any_step w event).nodes) (subst (λ c. place_of c (node_of event) ≡ Some took.place) cluster took.at)
+    ap (node_in (next_world any_step w event).nodes) (subst (λ c. place_of c (node_of event) ≡ Some took.place) cluster took.placed)
     ∙ (ap (λ nodes. slice_get nodes took.place) took.nodes
-    ∙ get_set_same w.nodes took.place (any_step node (what_of event)).node node took.is)
+    ∙ get_set_same w.nodes took.place (any_step node (what_of event)).node node took.stands)
 
 -- and it was the one that took it
 pub took_it : (k : Cluster) (w : World AnyNode) → w.cluster ≡ k → (event : Event) (node : AnyNode) → Took w event node
     → node_in w.nodes (place_of k (node_of event)) ≡ Some node
 took_it k w cluster event node took =
-    ap (node_in w.nodes) (subst (λ c. place_of c (node_of event) ≡ Some took.place) cluster took.at) ∙ took.is
+    ap (node_in w.nodes) (subst (λ c. place_of c (node_of event) ≡ Some took.place) cluster took.placed) ∙ took.stands
 
 -- ---- counts
 

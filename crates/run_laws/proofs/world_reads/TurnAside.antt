@@ -80,7 +80,7 @@ module _ (laws : TurnLaws) (base : Setting) (e : Estate AnyNode) (lines : HasLin
 
   module _ (name : NodeId) (own : node_of event ≡ name) where
     at : place_of cl name ≡ Some took.place
-    at = subst (λ n. place_of cl n ≡ Some took.place) own (subst (λ x. place_of x (node_of event) ≡ Some took.place) cluster took.at)
+    at = subst (λ n. place_of cl n ≡ Some took.place) own (subst (λ x. place_of x (node_of event) ≡ Some took.place) cluster took.placed)
 
     here : node_in (moment e count).nodes (place_of cl name) ≡ Some node
     here = subst (λ n. node_in (moment e count).nodes (place_of cl n) ≡ Some node) own (took_it cl (moment e count) cluster event node took)

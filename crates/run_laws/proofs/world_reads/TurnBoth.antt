@@ -172,7 +172,7 @@ module _ (base : Setting) (e : Estate AnyNode) (lines : HasLines base e) (texts 
               index_stands = same_moment (λ n s a. index.Stands c part texts.text first n s RegistrySound i.next) _ later.nodes _ later.sent _ later.acts
                   to_nodes to_sent to_acts i.stands;
               slots = laws.slots true c part texts.text now.nodes place what _ _ name node b.tok t.next b.idx.net i.next.net b.slots
-                  (record { at = at_c; is = is; tokens = t.stands; leaves = t.stay; index = i.makes });
+                  (record { placed = at_c; stands = is; tokens = t.stands; leaves = t.stay; index = i.makes });
               entered = entered_stays true c part now.nodes _ now.sent _ now.acts _ b.tok t.next b.tokens_stand t.stands t.since what (λ q is. (fact q is).0)
                   b.idx i.next b.index_stands.placed i.stands.placed name i.came b.entered;
             };
@@ -184,7 +184,7 @@ module _ (base : Setting) (e : Estate AnyNode) (lines : HasLines base e) (texts 
         )
           where
             took : Took now event node
-            took = record { place = place; at = where_is; is = is; nodes = nodes; acts = acts }
+            took = record { place = place; placed = where_is; stands = is; nodes = nodes; acts = acts }
 
             at_c : place_of c name ≡ Some place
             at_c = subst (λ x. place_of x name ≡ Some place) cluster where_is

@@ -41,7 +41,7 @@ module _ (runs : RunLaws) (law : ToldBelow) (base : Setting) (e : Estate AnyNode
   x = record {
     few = of_eight;
     apart = apart;
-    is = at;
+    happens = at;
     own = own;
     took = took;
     sure = sure;

@@ -113,7 +113,7 @@ module _ (below : ClientsBelow) (base : Setting) (e : Estate AnyNode) (lines : H
   there : There base e lines texts part first (OfClient c)
   there =
       let place : place_of cl (Client c) ≡ Some took.place = subst (λ name. place_of cl name ≡ Some took.place) own
-      (subst (λ x. place_of x (node_of event) ≡ Some took.place) (moment_cluster e count) took.at) in
+      (subst (λ x. place_of x (node_of event) ≡ Some took.place) (moment_cluster e count) took.placed) in
       let i = behind 0 cl.clients c took.place place in
       (i.some, i.within)
 
@@ -121,7 +121,7 @@ module _ (below : ClientsBelow) (base : Setting) (e : Estate AnyNode) (lines : H
   x = record {
     few = of_eight;
     apart = apart;
-    is = at;
+    happens = at;
     cluster = moment_cluster e count;
     own = own;
     took = took;
@@ -148,7 +148,7 @@ module _ (below : ClientsBelow) (base : Setting) (e : Estate AnyNode) (lines : H
       (record { tokens = joint.tokens_stand; index = joint.index_stands; same = joint.slots }) there.0
       (now.member base e lines texts part first count (both_of base e lines texts part first count joint) c there)
       (ap (λ (a : ClientNode). a.phase) is_node ∙ serves)
-      (record { packet = packet; among = sent_before (moment e count) event may packet is; is = bears; of = inside }) late c there.0
+      (record { packet = packet; among = sent_before (moment e count) event may packet is; bears = bears; of = inside }) late c there.0
       (let less = now.below base e lines texts part first count (both_of base e lines texts part first count joint) c there in omega arith)
 
   -- what the small world of the index is owed
@@ -160,7 +160,7 @@ module _ (below : ClientsBelow) (base : Setting) (e : Estate AnyNode) (lines : H
   reading : told.Reading base e lines texts part first count c there below.log event node x below.told
   reading = record {
     known = filed_known base e lines texts part first count joint;
-    told = joint.entries.holds (any.Client node) (in_list (moment e count).nodes took.place (any.Client node) took.is);
+    told = joint.entries.holds (any.Client node) (in_list (moment e count).nodes took.place (any.Client node) took.stands);
     came = (below.came e setup run count).nodes (Client c) (any.Client node) named;
     its = below.fetches e count c node named;
     brought = λ p is. (sent_before (moment e count) event may p is, delivered_to event p is ∙ own);

@@ -117,7 +117,7 @@ module _ (base : Setting) (e : Estate AnyNode) (lines : HasLines base e) (texts 
             ap (λ (w : World AnyNode). node_in w.nodes (place_of cl (Client c))) (moment_next e count event at_event)
             ∙ (ap (λ nodes. node_in nodes (place_of cl (Client c))) took.nodes
             ∙ places.there cl (moment e count).nodes (node_of event) took.place
-            (subst (λ x. place_of x (node_of event) ≡ Some took.place) cluster took.at) (any_step node (what_of event)).node (Client c) away)
+            (subst (λ x. place_of x (node_of event) ≡ Some took.place) cluster took.placed) (any_step node (what_of event)).node (Client c) away)
 
         same : d.tok.client c ≡ b.tok.client c
         same = same_client (d.tok.client c) (b.tok.client c)

@@ -131,7 +131,7 @@ module _ (base : Setting) (e : Estate AnyNode) (lines : HasLines base e) (texts 
     pub is_there : (c : ℕ) → node_of event ≡ Client c → There base e lines texts part first (OfClient c)
     is_there c own =
         let at : place_of cl (Client c) ≡ Some took.place = subst (λ name. place_of cl name ≡ Some took.place) own
-        (subst (λ x. place_of x (node_of event) ≡ Some took.place) cluster took.at) in
+        (subst (λ x. place_of x (node_of event) ≡ Some took.place) cluster took.placed) in
         let i = behind 0 cl.clients c took.place at in (i.some, i.within)
 
     below : (c : ℕ) → node_of event ≡ Client c → c < 9

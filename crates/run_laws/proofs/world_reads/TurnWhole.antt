@@ -146,7 +146,7 @@ module _ (laws : WholeBelow) (base : Setting) (e : Estate AnyNode) (lines : HasL
         → ((p : Packet) → In p (moment e (suc count)).sent → IsKind p) → EntryEvent base e lines texts part first count event h
     entry part of_eight h more lined kinds = record {
       of_map = of_eight;
-      is = at;
+      happens = at;
       run = run;
       joints = whole.joints;
       sure = sure;

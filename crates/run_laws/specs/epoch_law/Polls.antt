@@ -34,7 +34,7 @@ HorizonsStay =
 pub record PollSent (part : ℕ) (sent : List Packet) (m : Poll) : Type 0 where
   pub packet : Packet
   pub among : In packet sent
-  pub is : packet.body ≡ body.Poll m
+  pub bears : packet.body ≡ body.Poll m
   pub of : m.slot ≡ part
 
 -- the horizon of a log at an epoch is at or above the least one of the log that the registry keeps

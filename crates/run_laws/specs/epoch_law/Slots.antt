@@ -33,8 +33,8 @@ module _ (logs : Bool) (k : Cluster) (part : ℕ) (texts : Texts) (first : ℕ �
 -- is what such an event makes of it.
 module _ (logs : Bool) (k : Cluster) (part : ℕ) (texts : Texts) (nodes : List AnyNode) (place : ℕ) (what : Do) (sent : List Packet) (acts : List Act) where
   pub record BothGo (name : NodeId) (node : AnyNode) (t next : owners.Scene) (n m : index.Net) : Type 0 where
-    pub at : place_of k name ≡ Some place
-    pub is : slice_get nodes place ≡ Some node
+    pub placed : place_of k name ≡ Some place
+    pub stands : slice_get nodes place ≡ Some node
     pub tokens : owners.Stands logs k part (slice_set nodes place (any_step node what).node) sent acts RegistrySound next
     pub leaves : (e : ℕ) → next.net.slots e ≡ None → t.net.slots e ≡ None
     pub index : Makes part texts n m name node what

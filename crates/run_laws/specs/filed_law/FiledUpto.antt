@@ -21,7 +21,7 @@ pub record FiledAt (acts : List Act) (log number : ℕ) : Type 0 where
   pub name : SegName
   pub among : In (Filed name) acts
   pub own : name.log.0 ≡ log
-  pub at : name.seq ≡ number
+  pub numbered : name.seq ≡ number
 
 -- the number up to which a log is filed is 0, or that of a segment of it that was filed
 abbrev pub IsFiledUpto : List Act → ℕ → Type 0

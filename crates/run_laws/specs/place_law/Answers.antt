@@ -24,7 +24,7 @@ use Rattle.run_laws.specs.place_law.Copies.{LivesAnswer}
 pub record AnswersCheck (check : Check) (m : Live) : Type 0 where
   pub block : check.block ≡ m.block
   pub ask : check.ask ≡ m.ask
-  pub at : m.entry.place ≡ Some check.place
+  pub place : m.entry.place ≡ Some check.place
 
 abbrev pub AnswersBody : Body → Live → Type 0
 AnswersBody (body.Check check) m = AnswersCheck check m

@@ -101,12 +101,12 @@ ChecksAreOfRows =
 pub record WasChecked (packets : List Packet) (block : BlockId) (ask : ℕ) (place : Place) : Type 0 where
   pub packet : Packet
   pub among : In packet packets
-  pub is : packet.body ≡ body.Check (record { block = block; place = place; ask = ask })
+  pub bears : packet.body ≡ body.Check (record { block = block; place = place; ask = ask })
 
 -- a Live answers a Check that was sent, of its block and its question, at the place that its entry has
 pub record LiveAnswers (packets : List Packet) (m : Live) : Type 0 where
   pub place : Place
-  pub at : m.entry.place ≡ Some place
+  pub lies : m.entry.place ≡ Some place
   pub asked : WasChecked packets m.block m.ask place
 
 -- so does each of these

@@ -20,7 +20,7 @@ use Rattle.xfs_base.specs.declared.node.NodeId.TheVariants.{Client}
 pub record FellWith (acts : List Act) (c : ℕ) (flight : Option FlightState) : Type 0 where
   pub fall : FallTold
   pub waits : (history_after acts nothing_yet).told c ≡ fall ∷ []
-  pub is : fall.flight ≡ flight_of flight
+  pub with_flight : fall.flight ≡ flight_of flight
 
 -- no fall of the client is told by the act, or settled
 abbrev pub IsAside : ℕ → Act → Type 0

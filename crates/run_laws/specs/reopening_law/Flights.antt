@@ -20,7 +20,7 @@ pub record LastFlew (k : Books) (l : ℕ) (flight : Option FlightState) : Type 0
 
 -- While the owner serves, what it had in flight when it served last is what is in flight, and the books that see its log have that.
 pub record ServesWithIt (g : Setting) (k : Books) (l : ℕ) (flight : Option FlightState) (s : LogState) : Type 0 where
-  pub is : flight ≡ s.flight
+  pub flying : flight ≡ s.flight
   pub books : LastFlew k l flight
 
 abbrev pub FlightsOfOwners : Type 0

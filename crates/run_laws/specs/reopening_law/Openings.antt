@@ -38,7 +38,7 @@ use Rattle.run_laws.specs.reopening_law.Reopens.{IsOpened, Reopens, TellsApart}
 -- open with that chain.
 pub record EndsByOne (g : Setting) (w v : Scene) (runs : Runs g w.net v.net) (o : Opening) (r : Opened) : Type 0 where
   pub settling : Settling
-  pub is : o.stage ≡ stage.Settling settling
+  pub settles : o.stage ≡ stage.Settling settling
   pub happens : Happens g w.net v.net
   pub one : runs ≡ On Begun happens
   pub writes : w.net.owner ≡ Writing settling.chain settling.log

@@ -67,7 +67,7 @@ module _ (part : ℕ) (n : Net) where
     pub begun : news.epoch ≤ n.epoch
     pub horizon : n.slots news.epoch ≡ None → news.horizon ≡ n.horizon news.epoch
     pub parts : n.slots news.epoch ≡ None → news.parts ≡ n.parts news.epoch
-    pub is : IsHorizon news.horizon
+    pub is_horizon : IsHorizon news.horizon
 
   abbrev pub AllKept : List SlotNews → Type 0
   AllKept slots = (news : SlotNews) → In news slots → news.slot ≡ part → NewsKept news
@@ -136,7 +136,7 @@ pub record Came (k : Cluster) (part : ℕ) (s t : Scene) (name : NodeId) (what :
   pub manager : ℕ
   pub some : 0 < manager
   pub limit : manager ≤ k.managers
-  pub is : name ≡ Manager manager
+  pub named : name ≡ Manager manager
   pub serves : is_serving (t.manager manager).phase ≡ true
   pub knows : e ≤ epoch_in part (t.manager manager).phase
   pub by : (HeldAt (holder part s manager) e → ⊥) → (Names part manager e what → ⊥) → ⊥

@@ -18,7 +18,7 @@ use Rattle.xfs_base.specs.declared.segment.LogId.{LogId}
 pub record HasOwner (clients managers : ℕ) (log : LogId) : Type 0 where
   pub role : Role
   pub there : IsThere clients managers role
-  pub is : log ≡ record { 0 = log_by role }
+  pub own : log ≡ record { 0 = log_by role }
 
 -- at each moment of every run of a script of whose setup a run can be started
 abbrev pub RunsListTheirLogs : Type 0
