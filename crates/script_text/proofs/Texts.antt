@@ -111,10 +111,10 @@ turn_fact (mark.Low h) b i = low_fact h b (hex_value b) i refl
 record Body (m : Mark) (bytes text : List ℕ) : Type 0 where
   body : List ℕ
   writes : Writes text body
-  is : before m ++ bytes ≡ body ++ 34 ∷ []
+  ends : before m ++ bytes ≡ body ++ 34 ∷ []
 
 last_body : (bytes text : List ℕ) → if_last bytes ≡ Some text → Body mark.Plain (34 ∷ bytes) text
-last_body [] text e = let f : text ≡ [] = grind (arith, e) in record { body = []; writes = rw f refl; is = refl }
+last_body [] text e = let f : text ≡ [] = grind (arith, e) in record { body = []; writes = rw f refl; ends = refl }
 last_body (b ∷ bytes) text e = absurd (grind (arith, e))
 
 plain_close : (m : Mark) (b : ℕ) (bytes text : List ℕ) → m ≡ mark.Plain → b ≡ 34 → if_last bytes ≡ Some text → Body m (b ∷ bytes) text
@@ -124,8 +124,8 @@ one_more : (m : Mark) (x b : ℕ) (bytes u : List ℕ) → WritesByte x (before 
 one_more m x b bytes u w r = record {
   body = (before m ++ b ∷ []) ++ r.body;
   writes = (before m ++ b ∷ [], r.body, w, r.writes, refl);
-  is =
-      let e : bytes ≡ r.body ++ 34 ∷ [] = r.is in
+  ends =
+      let e : bytes ≡ r.body ++ 34 ∷ [] = r.ends in
       let f : before m ++ b ∷ bytes ≡ (before m ++ b ∷ []) ++ bytes = sym (append_assoc (before m) (b ∷ []) bytes) in
       f ∙ ap (λ y. (before m ++ b ∷ []) ++ y) e ∙ sym (append_assoc (before m ++ b ∷ []) r.body (34 ∷ []));
 }
@@ -134,16 +134,15 @@ goes_on : (m n : Mark) (b : ℕ) (bytes text : List ℕ) → before n ≡ before
 goes_on m n b bytes text e r = record {
   body = r.body;
   writes = r.writes;
-  is =
+  ends =
       let f : before m ++ b ∷ bytes ≡ (before m ++ b ∷ []) ++ bytes = sym (append_assoc (before m) (b ∷ []) bytes) in
-      f ∙ ap (λ y. y ++ bytes) (sym e) ∙ r.is;
+      f ∙ ap (λ y. y ++ bytes) (sym e) ∙ r.ends;
 }
 
 text_turn : (m : Mark) (b : ℕ) (bytes text : List ℕ) (u : Turn) → TurnFact m b u
     → ((n : Mark) (v : List ℕ) → IsMark n → text_from n bytes ≡ Some v → Body n bytes v)
     → (elim u [
-      | turns.Adds x ↦ with_byte x
-          (text_from mark.Plain bytes)
+      | turns.Adds x ↦ with_byte x (text_from mark.Plain bytes)
       | turns.Goes n ↦ text_from n bytes
       | turns.Closes ↦ if_last bytes
       | turns.Fails ↦ None
@@ -161,7 +160,7 @@ text_read [] m text i e = absurd (grind (arith, e))
 text_read (b ∷ bytes) m text i e = text_turn m b bytes text (turn_at m b) (turn_fact m b i) (λ n v j f. text_read bytes n v j f) e
 
 pub quoted_read : (bytes text : List ℕ) → text_from mark.Plain bytes ≡ Some text → (body : List ℕ) × Writes text body × (34 ∷ bytes ≡ quoted body)
-quoted_read bytes text e = let r = text_read bytes mark.Plain text tt e in (r.body, r.writes, ap (λ y. 34 ∷ y) r.is)
+quoted_read bytes text e = let r = text_read bytes mark.Plain text tt e in (r.body, r.writes, ap (λ y. 34 ∷ y) r.ends)
 
 turn_plain : (b : ℕ) → is_plain b ≡ true → turn_at mark.Plain b ≡ turns.Adds b
 turn_plain b e =
