@@ -101,7 +101,7 @@ both_right true b h = h
 both_right false b h = cc
 
 -- a test that holds of n numbers from a on holds of each of them
-at_each : (p : ℕ → Bool) (a n : ℕ) → list_all p (range_with_len a n) ≡ true → (i : ℕ) → a ≤ i → i < a + n → p i ≡ true
+pub at_each : (p : ℕ → Bool) (a n : ℕ) → list_all p (range_with_len a n) ≡ true → (i : ℕ) → a ≤ i → i < a + n → p i ≡ true
 at_each p a zero h i low high = absurd (omega arith)
 at_each p a (suc n) h i low high = elim (cases_lt a i) [
   | inl above ↦ at_each p (a + 1) n (both_right (p a) _ h) i (omega arith) (omega arith)

@@ -10,6 +10,7 @@ mod field;
 mod lanes;
 pub mod laws;
 mod mul;
+mod tables;
 mod xor;
 
 pub use field::{inverse, product};

@@ -19,7 +19,9 @@ loop-to-preserved c =
     sym (take-map (product c.args.by) 32 (drop done c.args.from.now)) ∙ ap (take 32) (sym (drop-map (product c.args.by) done c.args.from.now)) in
     let rest : times c.args.by (drop next c.args.from.now) ≡ drop next products = sym (drop-map (product c.args.by) next c.args.from.now) in
     let stored : c.mul_lanes.new.to ≡ put_chunk done to (xor_of (chunk done 32 to) (chunk done 32 products)) =
-    c.mul_lanes.ensures ∙ ap (λ (p : List ℕ). put_chunk done to (xor_of (chunk done 32 to) p)) vector in
+    c.mul_lanes.ensures
+    ∙ ap (λ (by : ℕ). put_chunk done to (xor_of (chunk done 32 to) (times by (chunk done 32 c.args.from.now)))) c.of-tables.ensures
+    ∙ ap (λ (p : List ℕ). put_chunk done to (xor_of (chunk done 32 to) p)) vector in
     let many : length products ≡ length c.args.from.now = length-map c.args.from.now (product c.args.by) in
     record {
       within = omega arith;
