@@ -4,13 +4,14 @@ use Rattle.std.specs.List.{list_any}
 use Rattle.std.specs.List.Sorted.{IsStrictlySortedBy}
 use Rattle.std.specs.Map.{lookup, keys_of, values_of}
 use Rattle.std.specs.BTreeMap.{is_at}
-use Rattle.std.specs.Ordering.{is_eq, nat_cmp}
+use Rattle.std.specs.Ordering.{nat_cmp}
 use Rattle.std.specs.declared.cmp.Ordering.{Ordering}
 use Rattle.xfs_base.specs.declared.fragment.Fragment.{Fragment}
 use Rattle.xfs_base.specs.declared.segment.LogId.{LogId}
 use Rattle.xfs_base.specs.declared.segment.Pass.{Pass}
 use Rattle.xfs_base.specs.declared.segment.SegName.{SegName}
 use Rattle.xfs_base.specs.Segments.{seg_cmp}
+pub use Rattle.xfs_base.specs.Segments.{same_name}
 
 pub record ShelfState : Type 0 where
   -- one, and how often the disk was lost
@@ -25,9 +26,6 @@ pub record ShelfState : Type 0 where
 -- nothing is kept yet
 abbrev pub new_shelf : ShelfState
 new_shelf = record { generation = 1; held = []; fences = []; marks = [] }
-
-abbrev pub same_name : SegName → SegName → Bool
-same_name a b = is_eq (seg_cmp a b)
 
 abbrev pub log_cmp : LogId → LogId → Ordering
 log_cmp a b = nat_cmp a.0 b.0

@@ -26,6 +26,7 @@ use Rattle.log_tie.specs.Setting.{Setting}
 use Rattle.log_tie.specs.Seen.{log_filed}
 use Rattle.log_tie.specs.Shelves.{is_of_log, is_stored, Deed}
 use Rattle.log_tie.specs.Shelves.Deed.{Stores, Fetches, Fences, Deletes, Fills, Loses}
+pub use Rattle.xfs_base.specs.Segments.{no_end}
 
 -- A packet about the log, with the server that gets it or sends it first. A Fence and a Fenced, a Hello and a Welcome bear the incarnation of the owner; a
 -- Store, and what a server lists for a Fence, the server's generation.
@@ -65,9 +66,6 @@ pub record Net : Type 0 where
   pub picked : ℕ
 
 -- at first every shelf is empty and the owner serves an empty log in its first boot, with some map of groups
-abbrev pub no_end : End
-no_end = record { seq = 0; pass = record { inc = 0; att = 0 }; group = 0 }
-
 abbrev pub opening : Setting → GroupMapState → Net
 opening g m = record {
   shelves = λ v. new_shelf;

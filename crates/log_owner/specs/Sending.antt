@@ -1,5 +1,5 @@
 -- What the owner of a log sends.
-use Rattle.std.specs.Prelude.{ℕ, List, map, Option, Some, None}
+use Rattle.std.specs.Prelude.{ℕ, List, map}
 use Rattle.delta_feed.specs.declared.output.Out.{Out}
 use Rattle.delta_feed.specs.declared.output.Out.TheVariants.{Range}
 use Rattle.delta_feed.specs.FeedState.{FeedState}
@@ -9,8 +9,7 @@ use Rattle.node_base.specs.declared.effects.Effect.{Effect}
 use Rattle.node_base.specs.declared.effects.Effect.TheVariants.{Send}
 use Rattle.wire_msg.specs.declared.body.Body.TheVariants as body
 use Rattle.xfs_base.specs.declared.fragment.Fragment.{Fragment}
-use Rattle.xfs_base.specs.declared.node.NodeId.{NodeId}
-use Rattle.xfs_base.specs.declared.node.NodeId.TheVariants.{Client, Manager, Server, Cleaner, Registry}
+use Rattle.xfs_base.specs.declared.node.NodeId.TheVariants.{Server, Registry}
 use Rattle.xfs_base.specs.declared.segment.End.{End}
 use Rattle.xfs_base.specs.declared.segment.LogId.{LogId}
 use Rattle.xfs_base.specs.declared.segment.Pass.{Pass}
@@ -18,6 +17,7 @@ use Rattle.xfs_base.specs.declared.segment.SegName.{SegName}
 use Rattle.log_owner.specs.declared.ended.Owner.{Owner}
 use Rattle.log_owner.specs.declared.promised.Managers.{Managers}
 use Rattle.log_owner.specs.Promised.{manager_of}
+pub use Rattle.node_base.specs.Nodes.{server_in}
 
 -- the registry is asked for the maps
 abbrev pub hello : ℕ → ℕ → Effect
@@ -55,11 +55,3 @@ pushes_all managers feed = map (range managers) (ticked feed)
 -- the name of the newest settled segment
 abbrev pub name_of : LogId → End → SegName
 name_of log end = record { log = log; seq = end.seq; pass = end.pass }
-
--- the number of a server; none where the node is no server
-abbrev pub server_in : NodeId → Option ℕ
-server_in (Server number) = Some number
-server_in (Client number) = None
-server_in (Manager number) = None
-server_in Cleaner = None
-server_in Registry = None

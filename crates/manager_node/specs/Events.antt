@@ -25,11 +25,9 @@ use Rattle.manager_node.specs.declared.manager.Manager.{Manager}
 use Rattle.manager_node.specs.declared.phase.Phase.{Phase}
 use Rattle.manager_node.specs.declared.phase.Phase.TheVariants.{Down, Waiting, Serving as Serves}
 use Rattle.manager_node.specs.Phases.{Went_to, lasting_of, phase_has_room, serves, on_begin}
+pub use Rattle.node_base.specs.Nodes.{peers_of}
 
 -- ---- the start
-
-abbrev pub peers_of : Setup → Peers
-peers_of setup = record { clients = setup.clients; managers = setup.managers; servers = setup.servers }
 
 -- the first incarnation, which has asked nothing and begun nothing
 abbrev pub first_life : ℕ → List Work → Kept

@@ -36,6 +36,7 @@ use Rattle.manager_parts.specs.Slots.{epoch_of, is_active, slot_has_room, fetch_
 use Rattle.manager_parts.specs.Takeovers as takeovers
 use Rattle.manager_parts.specs.Takeovers.{Asker, asker}
 use Rattle.manager_parts.specs.Tokens as tokens
+pub use Rattle.xfs_base.specs.Limits.{all_slots}
 
 abbrev pub Table : Type 0
 Table = List SlotPhase
@@ -55,9 +56,6 @@ table_asker table questions = record { table = table; questions = questions }
 -- these, and what an event has the manager do
 abbrev pub Asks : Type 0
 Asks = Stepped TableAsker Effect
-
-abbrev pub all_slots : List ℕ
-all_slots = 0 ∷ 1 ∷ 2 ∷ 3 ∷ 4 ∷ 5 ∷ 6 ∷ 7 ∷ []
 
 -- ---- the table
 

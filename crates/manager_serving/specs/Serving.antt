@@ -34,17 +34,13 @@ use Rattle.wire_msg.specs.declared.tokens.Want.{Want}
 use Rattle.xfs_base.specs.declared.news.SlotNews.{SlotNews}
 use Rattle.xfs_base.specs.declared.node.NodeId.{NodeId}
 use Rattle.xfs_base.specs.declared.node.NodeId.TheVariants.{Client, Manager, Server, Cleaner, Registry}
-use Rattle.xfs_base.specs.declared.segment.End.{End}
 use Rattle.xfs_base.specs.declared.segment.LogId.{LogId}
 use Rattle.xfs_base.specs.Steps.{Stepped, still, saying}
 use Rattle.manager_serving.specs.Checkpoints.{Done, gives, writes, on_stored, on_ckpt_ack, tells_again}
 use Rattle.manager_serving.specs.declared.serving.Serving.{Serving}
+pub use Rattle.xfs_base.specs.Segments.{no_end}
 
 -- ---- the beginning
-
--- nothing is settled
-abbrev pub no_end : End
-no_end = record { seq = 0; pass = record { inc = 0; att = 0 }; group = 0 }
 
 -- a manager that has these maps and slots, and whose log and checkpoints begin
 abbrev pub begun : Kept → Maps → Table → GroupMapState → Serving

@@ -1,5 +1,5 @@
 -- The nodes of a run.
-use Rattle.std.specs.Prelude.{ℕ, ◌+◌, Bool, true, ◌==◌, ◌&&◌, not, nat_le, List, [], ◌∷◌, ◌++◌, map, filter}
+use Rattle.std.specs.Prelude.{ℕ, ◌+◌, Bool, true, ◌==◌, ◌&&◌, not, nat_le, List, [], ◌∷◌, ◌++◌, Option, Some, None, map, filter}
 use Rattle.std.specs.List.{range_with_len}
 use Rattle.xfs_base.specs.declared.node.NodeId.{NodeId}
 use Rattle.xfs_base.specs.declared.node.NodeId.TheVariants.{Client, Manager, Server, Cleaner, Registry}
@@ -21,6 +21,14 @@ has_node peers (Manager number) = is_one_of peers.managers number
 has_node peers (Server number) = is_one_of peers.servers number
 has_node peers Cleaner = true
 has_node peers Registry = true
+
+-- the number of a server; none where the node is no server
+abbrev pub server_in : NodeId → Option ℕ
+server_in (Server number) = Some number
+server_in (Client number) = None
+server_in (Manager number) = None
+server_in Cleaner = None
+server_in Registry = None
 
 -- the client after so many
 abbrev pub nth_client : ℕ → NodeId

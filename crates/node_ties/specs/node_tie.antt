@@ -9,3 +9,4 @@ pub mod CleanerEvents
 pub mod ManagerEvents
 pub mod StoreEvents
 pub mod RegistryEvents
+pub mod Promised

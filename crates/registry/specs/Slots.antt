@@ -1,13 +1,11 @@
 -- The slots of the manager map, all at once.
-use Rattle.std.specs.Prelude.{ℕ, Bool, List, [], ◌∷◌, ◌==◌, ◌||◌, not, nat_lt, fold, if◌then◌else◌}
+use Rattle.std.specs.Prelude.{ℕ, Bool, List, ◌==◌, ◌||◌, not, nat_lt, fold, if◌then◌else◌}
 use Rattle.std.specs.List.{list_all}
 use Rattle.xfs_base.specs.Blocks.{slot_of}
 use Rattle.xfs_base.specs.Limits.{u32_end}
 use Rattle.manager_map.specs.declared.entry.SlotEntry.{SlotEntry}
 use Rattle.manager_map.specs.Slots.{entry_at, after_move}
-
-abbrev pub all_slots : List ℕ
-all_slots = 0 ∷ 1 ∷ 2 ∷ 3 ∷ 4 ∷ 5 ∷ 6 ∷ 7 ∷ []
+pub use Rattle.xfs_base.specs.Limits.{all_slots}
 
 -- what the slot has that the low 3 bits of this number name
 abbrev pub entry_of : List SlotEntry → ℕ → SlotEntry

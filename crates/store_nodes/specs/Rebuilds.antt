@@ -5,8 +5,7 @@ use Rattle.wire_msg.specs.declared.body.Body.TheVariants as body
 use Rattle.wire_msg.specs.declared.storage.Found.{Found}
 use Rattle.wire_msg.specs.declared.storage.Listed.{Listed}
 use Rattle.wire_msg.specs.declared.storage.Missing.{Missing}
-use Rattle.xfs_base.specs.declared.node.NodeId.{NodeId}
-use Rattle.xfs_base.specs.declared.node.NodeId.TheVariants.{Client, Manager, Server, Cleaner, Registry}
+use Rattle.xfs_base.specs.declared.node.NodeId.TheVariants.{Server}
 use Rattle.xfs_base.specs.declared.segment.SegName.{SegName}
 use Rattle.xfs_base.specs.Steps.{Stepped, still, steps}
 use Rattle.node_base.specs.declared.effects.Effect.{Effect}
@@ -21,6 +20,7 @@ use Rattle.group_rebuild.specs.declared.output.Out.{Out}
 use Rattle.group_rebuild.specs.declared.output.Out.TheVariants as out
 use Rattle.store_nodes.specs.declared.server.Rebuilding.{Rebuilding}
 use Rattle.store_nodes.specs.declared.server.Server.{Server as Node}
+pub use Rattle.node_base.specs.Nodes.{server_in}
 
 -- the server after an event, and what it does
 abbrev pub Done : Type 0
@@ -61,13 +61,6 @@ unfoldable pub rebuilds : Node → In → Done
 rebuilds node given = goes_on node node.rebuilding given
 
 -- ---- what comes for it
-
-abbrev pub server_in : NodeId → Option ℕ
-server_in (Client n) = None
-server_in (Manager n) = None
-server_in (Server n) = Some n
-server_in Cleaner = None
-server_in Registry = None
 
 abbrev pub awaits_list : Option Rebuilding → ℕ → Bool
 awaits_list None ask = false

@@ -1,6 +1,6 @@
 -- The gathering of usages, and the order in which segments are emptied: those with the fewest live blocks first (the 1996
 -- paper, "The Log Cleaner").
-use Rattle.std.specs.Prelude.{ℕ, Bool, List, [], ◌∷◌, not, is_some, unwrap_or, map, filter, fold, sum_by, take}
+use Rattle.std.specs.Prelude.{ℕ, Bool, List, [], not, is_some, unwrap_or, map, filter, fold, sum_by, take}
 use Rattle.std.specs.declared.cmp.Ordering.{Ordering}
 use Rattle.std.specs.Ordering.{nat_cmp, ordering_then}
 use Rattle.std.specs.List.{list_all}
@@ -12,6 +12,7 @@ use Rattle.xfs_base.specs.declared.segment.SegName.{SegName}
 use Rattle.xfs_base.specs.declared.segment.SegRef.{SegRef}
 use Rattle.xfs_base.specs.Segments.{seg_cmp}
 use Rattle.stripe_cleaner.specs.declared.counting.Rank.{Rank}
+pub use Rattle.xfs_base.specs.Limits.{all_slots}
 
 pub record CountingState : Type 0 where
   pub groups : GroupMapState
@@ -19,9 +20,6 @@ pub record CountingState : Type 0 where
   pub candidates : List (SegName × ℕ)
   -- by slot, the counts that are in
   pub usages : List (ℕ × List (SegName × ℕ))
-
-abbrev pub all_slots : List ℕ
-all_slots = 0 ∷ 1 ∷ 2 ∷ 3 ∷ 4 ∷ 5 ∷ 6 ∷ 7 ∷ []
 
 abbrev pub has_usage : List (ℕ × List (SegName × ℕ)) → ℕ → Bool
 has_usage usages slot = is_some (lookup (is_at (nat_cmp slot)) usages)

@@ -1,6 +1,5 @@
 -- The emptying of the chosen segments, one after the other.
 use Rattle.std.specs.Prelude.{ℕ, ◌+◌, Bool, List, [], ◌∷◌, Option, Some, None, ◌&&◌, not, min, map, length, ◌==◌, if◌then◌else◌}
-use Rattle.std.specs.Ordering.{is_eq}
 use Rattle.group_map.specs.declared.group.Group.{Group}
 use Rattle.group_map.specs.GroupMapState.{GroupMapState}
 use Rattle.group_map.specs.Groups.{group_of}
@@ -8,7 +7,6 @@ use Rattle.segment_format.specs.declared.segment.Segment.{Segment}
 use Rattle.xfs_base.specs.declared.segment.SegName.{SegName}
 use Rattle.xfs_base.specs.declared.segment.SegRef.{SegRef}
 use Rattle.xfs_base.specs.Limits.{u32_end}
-use Rattle.xfs_base.specs.Segments.{seg_cmp}
 use Rattle.xfs_base.specs.Steps.{Stepped, still}
 use Rattle.stripe_cleaner.specs.declared.checks.Check.{Check}
 use Rattle.stripe_cleaner.specs.declared.phase.Phase.{Phase}
@@ -18,6 +16,7 @@ use Rattle.stripe_cleaner.specs.declared.output.Out.TheVariants as out
 use Rattle.stripe_cleaner.specs.Checks.{checks_from, all_dead, any_asked, any_live, moved_at, moves, questions}
 use Rattle.stripe_cleaner.specs.JobState.{JobState}
 use Rattle.stripe_cleaner.specs.Listing.{is_among, without}
+pub use Rattle.xfs_base.specs.Segments.{same_name}
 
 -- a phase, and what was given on the way to it
 abbrev pub Turn : Type 0
@@ -54,9 +53,6 @@ counted job = record job { deleted = min (job.deleted + 1) u32_end }
 
 abbrev pub left_to_delete : JobState → SegRef → List ℕ → Turn
 left_to_delete job segment servers = if length servers == 0 then next (counted job) else still (Deleting job segment servers)
-
-abbrev pub same_name : SegName → SegName → Bool
-same_name a b = is_eq (seg_cmp a b)
 
 -- a server has deleted it; where all have, it is counted, and the next is read
 abbrev pub on_deleted : ℕ → SegName → JobState → SegRef → List ℕ → Turn

@@ -9,6 +9,7 @@ use Rattle.xfs_base.specs.declared.node.NodeId.TheVariants.{Client, Manager, Ser
 use Rattle.xfs_base.specs.declared.segment.End.{End}
 use Rattle.xfs_base.specs.declared.token.Mode.{Mode}
 use Rattle.takeover.specs.declared.report.Report.{Report}
+pub use Rattle.xfs_base.specs.Segments.{no_end}
 
 abbrev pub same_node : NodeId → NodeId → Bool
 same_node a b = is_eq (node_cmp a b)
@@ -36,10 +37,6 @@ awaited_of clients reports = unheard reports (polled clients)
 -- the node that writes a log, of the logs 1 to 9
 abbrev pub writer_of : ℕ → NodeId
 writer_of log = if log == 9 then Cleaner else Client log
-
--- nothing is settled
-abbrev pub no_end : End
-no_end = record { seq = 0; pass = record { inc = 0; att = 0 }; group = 0 }
 
 -- the end that a node reported
 abbrev pub end_from : NodeId → List Report → End

@@ -1,5 +1,5 @@
 -- The limits that a run keeps, each stated once.
-use Rattle.std.specs.Prelude.{ℕ, ◌^◌, ◌-◌}
+use Rattle.std.specs.Prelude.{ℕ, ◌^◌, ◌-◌, List, [], ◌∷◌}
 
 -- the most bytes that the value of a block may have
 abbrev pub max_value : ℕ
@@ -32,3 +32,7 @@ u64_end = 2 ^ 64 - 1
 -- how far below its type's end each counter of a node stands before the node takes an event
 abbrev pub counter_room : ℕ
 counter_room = 65536
+
+-- the slots of the index
+abbrev pub all_slots : List ℕ
+all_slots = 0 ∷ 1 ∷ 2 ∷ 3 ∷ 4 ∷ 5 ∷ 6 ∷ 7 ∷ []

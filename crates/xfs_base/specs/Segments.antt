@@ -1,6 +1,8 @@
--- The orders of passes and of segment names.
-use Rattle.std.specs.Ordering.{nat_cmp, ordering_then}
+-- The orders of passes and of segment names, and the end of a log of which nothing is settled.
+use Rattle.std.specs.Prelude.{Bool}
+use Rattle.std.specs.Ordering.{is_eq, nat_cmp, ordering_then}
 use Rattle.std.specs.declared.cmp.Ordering.{Ordering}
+use Rattle.xfs_base.specs.declared.segment.End.{End}
 use Rattle.xfs_base.specs.declared.segment.Pass.{Pass}
 use Rattle.xfs_base.specs.declared.segment.SegName.{SegName}
 
@@ -11,3 +13,10 @@ pass_cmp a b = ordering_then (nat_cmp a.inc b.inc) (nat_cmp a.att b.att)
 -- by log, then number, then pass
 abbrev pub seg_cmp : SegName → SegName → Ordering
 seg_cmp a b = ordering_then (nat_cmp a.log.0 b.log.0) (ordering_then (nat_cmp a.seq b.seq) (pass_cmp a.pass b.pass))
+
+abbrev pub same_name : SegName → SegName → Bool
+same_name a b = is_eq (seg_cmp a b)
+
+-- nothing is settled
+abbrev pub no_end : End
+no_end = record { seq = 0; pass = record { inc = 0; att = 0 }; group = 0 }

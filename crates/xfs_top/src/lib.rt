@@ -2,12 +2,12 @@
 //! does; `solo` is the same for all words that start no thread.
 #![tactic(auto)]
 
-pub mod host;
 pub mod calls;
+pub mod host;
 
+pub use calls::{solo, xfs};
 pub use core_world::AnyNode;
 pub use host::{StdSink, StdSource};
-pub use calls::{solo, xfs};
 pub use top_call::{MemSink, MemSource, Outcome, Sink, Source};
 pub use world_base::{Estate, Event, World};
 pub use xfs_base::{Failed, Gate, OpenGate};

@@ -11,6 +11,7 @@ use Rattle.node_base.specs.declared.effects.Effect.TheVariants.{Send, Answer, Lo
 use Rattle.node_base.specs.Effects.{acts_of}
 use Rattle.version_model.specs.declared.act.Act.{Act}
 use Rattle.xfs_base.specs.declared.node.NodeId.{NodeId}
+pub use Rattle.node_ties.specs.node_tie.Promised.{with_promise}
 
 -- ---- premises
 
@@ -47,10 +48,6 @@ module _ {logs : Bool} {members part : ℕ} where
   pub runs_through : (n m o : Net) → Runs logs members part n m → Runs logs members part m o → Runs logs members part n o
   runs_through n m o r Begun = r
   runs_through n m o r (On {m = x} s h) = On (runs_through n m x r s) h
-
--- the same world, with this promised by the cleaner
-abbrev pub with_promise : ℕ → Net → Net
-with_promise k n = record n { promised = k }
 
 module _ (logs : Bool) (members part : ℕ) where
   -- what the cleaner has promised is left alone by all that happens

@@ -20,7 +20,7 @@ use Rattle.cleaner_node.specs.CleanerEvents as cleaners
 use Rattle.cleaner_node.specs.declared.cleaner.Cleaner.{Cleaner as CleanerNode}
 use Rattle.store_nodes.specs.declared.registry_node.RegistryNode.{RegistryNode}
 use Rattle.store_nodes.specs.declared.server.Server.{Server as ServerNode}
-use Rattle.node_ties.proofs.node_tie.SmallWorld.{with_promise}
+use Rattle.node_ties.specs.node_tie.Promised.{with_promise}
 use Rattle.token_law.specs.Net.{Net, Runs, opening}
 use Rattle.token_manager.specs.SlotState.{SlotState}
 use Rattle.token_protocol.specs.Basics.{In}
