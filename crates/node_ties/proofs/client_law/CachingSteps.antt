@@ -301,7 +301,7 @@ caches_just_what_is_clean =
 -- ---- within an event
 
 -- whatever is held and clean may be out of the cache
-anything : BlockId → Type 0
+abbrev anything : BlockId → Type 0
 anything b = Unit {0}
 
 any_part : (s : Serving) → CachesOnlyClean s → At (C anything) s

@@ -66,9 +66,9 @@ module _ (logs : Bool) (members part limit life : ℕ) (exists : part < 8) where
   pub still_serves : (n : Net) (s : Serving) → TableAgrees members part n s.slots → Of n s (still s)
   still_serves n s agrees = record { number = refl; lives = refl; event = table_same logs members part limit life exists n s.slots [] agrees tt }
 
-  saying : (n : Net) (s : Serving) (outs : List Effect) → TableAgrees members part n s.slots → AllDone logs members part limit life n outs
+  outs_alone : (n : Net) (s : Serving) (outs : List Effect) → TableAgrees members part n s.slots → AllDone logs members part limit life n outs
       → Of n s (gives s outs)
-  saying n s outs agrees done = record { number = refl; lives = refl; event = table_same logs members part limit life exists n s.slots outs agrees done }
+  outs_alone n s outs agrees done = record { number = refl; lives = refl; event = table_same logs members part limit life exists n s.slots outs agrees done }
 
   by_table : (n : Net) (s : Serving) (d : table.Done) → TableEvent logs members part limit life exists n s.slots d.state d.outs → Of n s (with_slots s d)
   by_table n s d h = record { number = refl; lives = refl; event = h }
@@ -116,7 +116,7 @@ module _ (logs : Bool) (members part limit life : ℕ) (exists : part < 8) where
 
   pub serves_usage : (n : Net) (s : Serving) (asked : UsageAsk) → TableAgrees members part n s.slots → Of n s (on_usage_ask s asked)
   unfolding on_usage_ask
-  serves_usage n s asked agrees = saying n s (table.on_usage_ask s.slots asked) agrees (table_usage logs members part limit life exists n s.slots asked)
+  serves_usage n s asked agrees = outs_alone n s (table.on_usage_ask s.slots asked) agrees (table_usage logs members part limit life exists n s.slots asked)
 
   -- ---- takeovers
 
