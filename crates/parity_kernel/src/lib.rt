@@ -16,6 +16,3 @@ mod xor;
 pub use field::{inverse, product};
 pub use mul::mul_into;
 pub use xor::xor_into;
-
-#[cfg(test)]
-mod tests;

@@ -12,6 +12,3 @@ mod work_text;
 
 pub use generating::generate;
 pub use printing::print;
-
-#[cfg(test)]
-mod tests;

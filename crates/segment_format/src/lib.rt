@@ -19,6 +19,3 @@ pub use laws::{attempts_have_one_content, texts_are_apart};
 pub use rows::rows_of;
 pub use seg_error::SegError;
 pub use segment::{Item, Segment};
-
-#[cfg(test)]
-mod tests;

@@ -12,6 +12,3 @@ mod threads;
 pub use cutting::cut;
 pub use joining::{JoinError, join};
 pub use round::{Answer, Round, RoundState, Told};
-
-#[cfg(test)]
-mod tests;

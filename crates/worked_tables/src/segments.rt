@@ -1,5 +1,5 @@
 //! Segments both ways, against bytes from outside.
-use crate::{SegError, Segment, decode, encode};
+use segment_format::{SegError, Segment, decode, encode};
 use std::alloc::Global;
 use xfs_base::Mem;
 

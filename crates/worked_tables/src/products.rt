@@ -1,5 +1,5 @@
 //! Sums and products of bytes, against values from outside.
-use crate::{inverse, mul_into, xor_into};
+use parity_kernel::{inverse, mul_into, xor_into};
 
 // The products of the field stand in the textbooks; a vector's bytes agree with single ones.
 #[test]

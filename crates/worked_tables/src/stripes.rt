@@ -1,8 +1,8 @@
 ghost use Rattle.stripe_code.specs.Stripe.{IsCut};
 
-use crate::{Round, RoundState, Told, cut};
 use std::alloc::Global;
 use std::test::Fail;
+use stripe_code::{Round, RoundState, Told, cut};
 use xfs_base::{Bytes, FragMeta, Fragment, LogId, Mem, Pass, Prior, SegName};
 
 fn meta_of(index: u8, len: u32) -> FragMeta {

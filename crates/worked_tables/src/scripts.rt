@@ -1,5 +1,5 @@
 //! The first script that is drawn, as its generator was written down; and which inputs are no scripts.
-use crate::{generate, print};
+use script_print::{generate, print};
 use script_text::{Kind, ScriptError, parse};
 use std::alloc::Global;
 use xfs_base::Mem;
