@@ -25,18 +25,18 @@ use Rattle.act_tie.proofs.Falling.{cut_by, settled_told, settled_block}
 -- what stands in a list with one more element is the last, or stood there
 get_more : {X : Type 0} (xs : List X) (y : X) (n : ℕ) (x : X) → slice_get (xs ++ y ∷ []) n ≡ Some x
     → ((n < length xs) × (slice_get xs n ≡ Some x)) ⊎ ((n ≡ length xs) × (y ≡ x))
-get_more [] y zero x is = inr (refl, cc)
-get_more [] y (suc n) x is = absurd (cc)
-get_more (z ∷ zs) y zero x is = inl (omega arith, is)
-get_more (z ∷ zs) y (suc n) x is =
-    ⊎_elim (λ h. inl (let below = h.0 in omega arith, h.1)) (λ h. inr (let at = h.0 in omega arith, h.1)) (get_more zs y n x is)
+get_more [] y zero x fact = inr (refl, cc)
+get_more [] y (suc n) x fact = absurd (cc)
+get_more (z ∷ zs) y zero x fact = inl (omega arith, fact)
+get_more (z ∷ zs) y (suc n) x fact =
+    ⊎_elim (λ h. inl (let below = h.0 in omega arith, h.1)) (λ h. inr (let at = h.0 in omega arith, h.1)) (get_more zs y n x fact)
 
 -- what stands in the front of a list stands in the list
 get_front : {X : Type 0} (n : ℕ) (xs : List X) (k : ℕ) (x : X) → slice_get (take n xs) k ≡ Some x → slice_get xs k ≡ Some x
-get_front zero xs k x is = absurd (cc)
-get_front (suc n) [] k x is = is
-get_front (suc n) (z ∷ zs) zero x is = is
-get_front (suc n) (z ∷ zs) (suc k) x is = get_front n zs k x is
+get_front zero xs k x fact = absurd (cc)
+get_front (suc n) [] k x fact = fact
+get_front (suc n) (z ∷ zs) zero x fact = fact
+get_front (suc n) (z ∷ zs) (suc k) x fact = get_front n zs k x fact
 
 -- below the length there is an element
 get_some : {X : Type 0} (xs : List X) (n : ℕ) → n < length xs → slice_get xs n ≡ None → ⊥
@@ -54,14 +54,14 @@ module _ (b : BlockId) (p : BlockHistory) (told : ℕ → List FallTold) (t : bl
       record {
         newest = let n = s.newest in let m = length-append p.versions (v ∷ []) in omega arith;
         absent = grind (arith, nat_tests, s.absent);
-        values = λ n x is. ⊎_elim
+        values = λ n x fact. ⊎_elim
             (λ h. let n_ = s.newest in let old = s.values n x h.1 in let below = h.0 in grind (arith, nat_tests))
             (λ h. let n_ = s.newest in let at = h.0 in let same = ap (λ (u : Version). number u.content) h.1 in grind (arith, nat_tests))
-            (get_more p.versions v n x is);
-        writers = λ n x is. ⊎_elim
+            (get_more p.versions v n x fact);
+        writers = λ n x fact. ⊎_elim
             (λ h. let n_ = s.newest in let old = s.writers n x h.1 in let below = h.0 in grind (arith, nat_tests))
             (λ h. let n_ = s.newest in let at = h.0 in let same = ap (λ (u : Version). u.writer) h.1 in grind (arith, nat_tests))
-            (get_more p.versions v n x is);
+            (get_more p.versions v n x fact);
         pinned = s.pinned;
         falls = s.falls;
       }
@@ -80,9 +80,9 @@ module _ (b : BlockId) (p : BlockHistory) (told : ℕ → List FallTold) (t : bl
   at_writer : (client n : ℕ) (o : Option Version) → slice_get p.versions n ≡ o → n < length p.versions
       → BlockShown b (if elim o as (λ _. Bool) [ None ↦ false | Some v ↦ (if v.writer == client then false else true) ] then pin (suc n) p else p) told
       (record t { pinned = if t.writer (suc n) == client then t.pinned else max t.pinned (suc n) })
-  at_writer client n None is below = absurd (get_some p.versions n below is)
-  at_writer client n (Some v) is below =
-      let w = s.writers n v is in
+  at_writer client n None fact below = absurd (get_some p.versions n below fact)
+  at_writer client n (Some v) fact below =
+      let w = s.writers n v fact in
       let same = s.pinned in
       chosen (if v.writer == client then false else true) (suc n) (if t.writer (suc n) == client then t.pinned else max t.pinned (suc n))
       (λ other. grind (arith, nat_tests)) (λ own. grind (arith, nat_tests))
@@ -117,8 +117,8 @@ module _ (b : BlockId) (p : BlockHistory) (told : ℕ → List FallTold) (t : bl
   cut_shown client n fell within = record {
     newest = let m = length-take-le n p.versions (let e = s.newest in omega arith) in grind (arith, nat_tests);
     absent = s.absent;
-    values = λ k x is. s.values k x (get_front n p.versions k x is);
-    writers = λ k x is. s.writers k x (get_front n p.versions k x is);
+    values = λ k x fact. s.values k x (get_front n p.versions k x fact);
+    writers = λ k x fact. s.writers k x (get_front n p.versions k x fact);
     pinned = grind (arith, nat_tests);
     falls = cleared client;
   }
@@ -158,12 +158,15 @@ fell_shown b p told acts client flight falls s none once = by_named (fall_of b f
 
     one : (c fallen low high : ℕ) → told c ≡ [] → FallShown (fall_of b falls) fallen low high
         → FallsShown b (told c ++ (record { flight = flight; falls = falls }) ∷ []) fallen low high
-    one c fallen low high is shown = subst (λ ts. FallsShown b (ts ++ (record { flight = flight; falls = falls }) ∷ []) fallen low high) (sym is) (once, shown)
+    one c fallen low high fact shown = subst (λ ts. FallsShown b (ts ++ (record { flight = flight; falls = falls }) ∷ []) fallen low high) (sym fact) (
+      once,
+      shown,
+    )
 
     by_named : (o : Option Fall) → fall_of b falls ≡ o
         → BlockShown b p (λ c. if c == client then told c ++ (record { flight = flight; falls = falls }) ∷ [] else told c)
         (block.history (with_fall client o acts))
-    by_named None is =
+    by_named None fact =
         record { newest = s.newest; absent = s.absent; values = s.values; writers = s.writers; pinned = s.pinned; falls = λ c. go c (c == client) refl }
       where
         go : (c : ℕ) (y : Bool) → (c == client) ≡ y
@@ -171,17 +174,17 @@ fell_shown b p told acts client flight falls s none once = by_named (fall_of b f
             ((block.history acts).low c) ((block.history acts).high c)
         go c true same =
             one c ((block.history acts).fallen c) ((block.history acts).low c) ((block.history acts).high c) (empty c same)
-            (subst (λ o. FallShown o ((block.history acts).fallen c) ((block.history acts).low c) ((block.history acts).high c)) (sym is)
+            (subst (λ o. FallShown o ((block.history acts).fallen c) ((block.history acts).low c) ((block.history acts).high c)) (sym fact)
             (subst (λ ts. FallsShown b ts ((block.history acts).fallen c) ((block.history acts).low c) ((block.history acts).high c)) (empty c same)
             (s.falls c)))
         go c false apart = s.falls c
-    by_named (Some f) is =
+    by_named (Some f) fact =
         record { newest = s.newest; absent = s.absent; values = s.values; writers = s.writers; pinned = s.pinned; falls = λ c. go c (c == client) refl }
       where
         go : (c : ℕ) (y : Bool) → (c == client) ≡ y
             → FallsShown b (if y then told c ++ (record { flight = flight; falls = falls }) ∷ [] else told c) (if y then 1 else (block.history acts).fallen c)
             (if y then f.low else (block.history acts).low c) (if y then f.high else (block.history acts).high c)
-        go c true same = one c 1 f.low f.high (empty c same) (subst (λ o. FallShown o 1 f.low f.high) (sym is) (refl, refl, refl))
+        go c true same = one c 1 f.low f.high (empty c same) (subst (λ o. FallShown o 1 f.low f.high) (sym fact) (refl, refl, refl))
         go c false apart = s.falls c
 
 -- a return

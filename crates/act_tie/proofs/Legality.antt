@@ -35,27 +35,28 @@ content_is b p told t s zero value legal =
 content_is b p told t s (suc n) value legal = go (slice_get p.versions n) refl
   where
     go : (o : Option Version) → slice_get p.versions n ≡ o → elim o as (λ _. Option Content) [ None ↦ None | Some v ↦ Some v.content ] ≡ Some value
-    go None is = absurd (nothing p.versions n (let a = legal.newest in let c = s.newest in omega arith) is)
+    go None fact = absurd (nothing p.versions n (let a = legal.newest in let c = s.newest in omega arith) fact)
       where
         nothing : (xs : List Version) (k : ℕ) → k < length xs → slice_get xs k ≡ None → ⊥
         nothing [] k below none = absurd (omega arith)
         nothing (x ∷ xs) zero below none = absurd (cc)
         nothing (x ∷ xs) (suc k) below none = nothing xs k (omega arith) none
-    go (Some v) is = ap Some (number-same v.content value (sym (s.values n v is) ∙ ap t.value_at legal.newest ∙ sym legal.text))
+    go (Some v) fact = ap Some (number-same v.content value (sym (s.values n v fact) ∙ ap t.value_at legal.newest ∙ sym legal.text))
 
 -- the newest version is by a client, if the last of them is
 newest_by : (client : ℕ) (xs : List Version) → 0 < length xs → ((k : ℕ) (x : Version) → slice_get xs k ≡ Some x → suc k ≡ length xs → x.writer ≡ client)
     → IsNewestBy client xs
 newest_by client [] some last = absurd (omega arith)
 newest_by client (v ∷ []) some last = last 0 v refl refl
-newest_by client (v ∷ w ∷ vs) some last = newest_by client (w ∷ vs) (omega arith) (λ k x is at. last (suc k) x is (ap suc at))
+newest_by client (v ∷ w ∷ vs) some last = newest_by client (w ∷ vs) (omega arith) (λ k x fact at. last (suc k) x fact (ap suc at))
 
 may_fall : (b : BlockId) (p : BlockHistory) (told : ℕ → List FallTold) (t : block.History) → BlockShown b p told t → (client : ℕ) (f : Fall)
     → block.LegalFell t client f.low f.high → MayFall client p f
 may_fall b p told t s client f legal =
     let n = s.newest in
     record {
-      newest = newest_by client p.versions (let some = legal.some in omega arith) (λ k x is at. sym (s.writers k x is) ∙ ap t.writer (at ∙ sym n) ∙ legal.own);
+      newest = newest_by client p.versions (let some = legal.some in omega arith) (λ k x fact at. sym (s.writers k x fact) ∙ ap t.writer (at ∙ sym n)
+          ∙ legal.own);
       pinned = let same = s.pinned in let low = legal.pinned in omega arith;
       ordered = legal.ordered;
       there = let known = legal.known in omega arith;
@@ -176,7 +177,7 @@ legal_from (a ∷ acts) h told s apart legal =
     )
 
 begun : AllShown nothing_yet (λ b. [])
-begun b = record { newest = refl; absent = refl; values = λ v x is. absurd (cc); writers = λ v x is. absurd (cc); pinned = refl; falls = λ c. refl }
+begun b = record { newest = refl; absent = refl; values = λ v x fact. absurd (cc); writers = λ v x fact. absurd (cc); pinned = refl; falls = λ c. refl }
 
 pub are_legal : (acts : List Act) → FallsApart acts → ((b : BlockId) → block.LegalActs (acts_of b acts)) → AreLegal acts
 are_legal acts apart legal = legal_from acts nothing_yet (λ b. []) begun apart legal

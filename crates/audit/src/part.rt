@@ -7,7 +7,7 @@ ghost use Rattle.audit.specs.Acts.{read_number, read_counted, long_of, read_long
 
 use crate::shape::parts_at;
 use script_text::text::quoted_text;
-use script_text::word::{is, number_of};
+use script_text::word::{number_of, spells};
 use script_text::{Kind, LineError};
 use std::alloc::Global;
 use std::str;
@@ -140,7 +140,7 @@ pub fn read_writer(word: &[u8]) -> Result<NodeId, LineError>
     ensures writer { Answers result (read_writer word.now) }
     ensures few { IfOk result (λ node. IsFew node) }
 {
-    if is(word, b"cl") {
+    if spells(word, b"cl") {
         return Ok(NodeId::Cleaner);
     }
     if begins_with(word, b'c') {
@@ -188,7 +188,7 @@ fn value_of(alloc: Global, text: &Text) -> Result<Value, LineError>
 pub fn read_value(alloc: Global, rest: &[u8]) -> Result<Value, LineError>
     ensures { Answers result (read_value rest.now) }
 {
-    if is(rest, b"absent") {
+    if spells(rest, b"absent") {
         return Ok(Value::absent());
     }
     match quoted_text(alloc, rest)? {
@@ -201,7 +201,7 @@ pub fn read_value(alloc: Global, rest: &[u8]) -> Result<Value, LineError>
 pub fn read_flight(word: &[u8]) -> Result<Option<(u32, u32)>, LineError>
     ensures { Answers result (read_flight word.now) }
 {
-    if is(word, b"none") {
+    if spells(word, b"none") {
         return Ok(None);
     }
     let (seq, inc) = cut(word, b'.');

@@ -5,7 +5,7 @@ ghost use Rattle.script_text.specs.Reading.{cut_at};
 ghost use Rattle.script_text.specs.Words.{words as all_words};
 ghost use Rattle.audit.specs.Shapes.{is_digit, are_digits, is_numbered, is_writer, count_of, is_block, is_version, is_flight, is_fall, is_segment, segment_verb_of, verb_of, fits, shape_of};
 
-use script_text::word::{Words, cut_at, is};
+use script_text::word::{Words, cut_at, spells};
 
 /// What an act did.
 #[derive(Clone, Copy, Debug, PartialEq, Eq)]
@@ -61,7 +61,7 @@ pub fn is_numbered(letter: u8, word: &[u8]) -> bool
 pub fn is_writer(word: &[u8]) -> bool
     ensures { result ≡ is_writer word.now }
 {
-    is_numbered(b'c', word) || is_numbered(b'm', word) || is(word, b"cl")
+    is_numbered(b'c', word) || is_numbered(b'm', word) || spells(word, b"cl")
 }
 
 /// How often a byte stands in a word.
@@ -92,7 +92,7 @@ fn is_version(word: &[u8]) -> bool
 fn is_flight(word: &[u8]) -> bool
     ensures { result ≡ is_flight word.now }
 {
-    is(word, b"none") || count_of(b'.', word) == 1
+    spells(word, b"none") || count_of(b'.', word) == 1
 }
 
 /// The two parts of a word around the first of a byte; none where it has none.
@@ -155,13 +155,13 @@ fn are_segments(words: Words) -> bool
 fn segment_verb_of(word: &[u8]) -> Option<Verb>
     ensures { result ≡ segment_verb_of word.now }
 {
-    if is(word, b"back") {
+    if spells(word, b"back") {
         Some(Verb::Back)
-    } else if is(word, b"lost") {
+    } else if spells(word, b"lost") {
         Some(Verb::Lost)
-    } else if is(word, b"filed") {
+    } else if spells(word, b"filed") {
         Some(Verb::Filed)
-    } else if is(word, b"dropped") {
+    } else if spells(word, b"dropped") {
         Some(Verb::Dropped)
     } else {
         None
@@ -172,13 +172,13 @@ fn segment_verb_of(word: &[u8]) -> Option<Verb>
 fn verb_of(word: &[u8]) -> Option<Verb>
     ensures { result ≡ verb_of word.now }
 {
-    if is(word, b"wrote") {
+    if spells(word, b"wrote") {
         Some(Verb::Wrote)
-    } else if is(word, b"read") {
+    } else if spells(word, b"read") {
         Some(Verb::Read)
-    } else if is(word, b"synced") {
+    } else if spells(word, b"synced") {
         Some(Verb::Synced)
-    } else if is(word, b"fell") {
+    } else if spells(word, b"fell") {
         Some(Verb::Fell)
     } else {
         segment_verb_of(word)
@@ -216,7 +216,7 @@ pub fn shape_of(line: &[u8]) -> Option<Verb>
     ensures { result ≡ shape_of (all_words line.now) }
 {
     let mut words = Words::of(line);
-    if !is(words.next(), b"a") {
+    if !spells(words.next(), b"a") {
         return None;
     }
     match verb_of(words.next()) {

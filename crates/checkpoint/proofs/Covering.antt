@@ -56,8 +56,8 @@ abbrev is_changed : Page → Bool
 is_changed page = page.changed
 
 cond_none : (t : Bool) (e : Entry) → e ≡ no_entry → cond t e no_entry ≡ e
-cond_none true e is = refl
-cond_none false e is = sym is
+cond_none true e fact = refl
+cond_none false e fact = sym fact
 
 module _ (holds : SegRef → Rows) (k : Checkpointed) (c : IsCovered holds k) (q : BlockId) where
   abbrev now_held : Entry
@@ -85,8 +85,8 @@ module _ (holds : SegRef → Rows) (k : Checkpointed) (c : IsCovered holds k) (q
       ap (first_greatest (join (rows_in holds k.parts) q)) (join-pages k.pages.rows q (c.held q) (filter is_changed k.pages.pages)) ∙ at_known (c.known q)
     where
       unchanged : (t : Bool) → join (rows_in holds k.parts) q ≡ now_held → first_greatest (join (rows_in holds k.parts) q) (cond t now_held no_entry) ≡ now_held
-      unchanged true is = v.below
-      unchanged false is = first_greatest-none (join (rows_in holds k.parts) q) ∙ is
+      unchanged true fact = v.below
+      unchanged false fact = first_greatest-none (join (rows_in holds k.parts) q) ∙ fact
 
       at_known : IsKnown k c.firsts q → first_greatest (join (rows_in holds k.parts) q) (cond found now_held no_entry) ≡ now_held
       at_known (inl none) = ap (first_greatest (join (rows_in holds k.parts) q)) (cond_none found now_held none) ∙ v.below
@@ -143,7 +143,7 @@ rises : (joined old entry : Entry) → first_greatest joined old ≡ old → is_
 rises joined old entry below newer =
     elim (is_newer old joined) as (λ t. is_newer old joined ≡ t → cond t old joined ≡ old → first_greatest joined entry ≡ entry) [
       | true ↦ λ p _. first_greatest-newer joined entry (is_newer-trans joined old entry p newer)
-      | false ↦ λ _ is. first_greatest-newer joined entry (subst (λ x. is_newer entry x ≡ true) (sym is) newer)
+      | false ↦ λ _ fact. first_greatest-newer joined entry (subst (λ x. is_newer entry x ≡ true) (sym fact) newer)
     ] refl below
 
 module _ (holds : SegRef → Rows) (k : Checkpointed) (c : IsCovered holds k) (block : BlockId) (entry : Entry) (fits : block.blk < 2 ^ 32)
@@ -213,8 +213,8 @@ module _ (holds : SegRef → Rows) (k : Checkpointed) (c : IsCovered holds k) (b
       → Covers (joined q) (cond (same_block q block) entry (was q)) (put_on_now q)
   covers_now joined covers q =
       by_test (λ e. Covers (joined q) e (put_on_now q)) (same_block q block) entry (was q)
-      (λ same. let is : block ≡ q = same_block_exact q block same in
-      subst (λ b. Covers (joined b) entry (put_on_now b)) is
+      (λ same. let fact : block ≡ q = same_block_exact q block same in
+      subst (λ b. Covers (joined b) entry (put_on_now b)) fact
       (record { below = rises (joined block) (was block) entry (covers block).below newer; same = λ off. contrary (sym off ∙ own_on) }))
       (λ _. record { below = (covers q).below; same = λ off. (covers q).same (none_first (is_put_on c.blocks q) _ (sym (is_on q) ∙ off)) })
 

@@ -68,14 +68,14 @@ module _ (holds : SegRef → Rows) (a : Asked) where
   settles : (s : WriterState) (work : Option WorkState) (given : Rows) (end : End) → (is_some work ≡ true → holds (part_at s.log end) ≡ given) → work ≡ s.work
       → Holds holds work given a
       → Good holds a given (settled s work end)
-  settles s None given end is here h = (tt, subst (λ o. Holds holds o given a) here h)
-  settles s (Some w) given end is here o =
+  settles s None given end fact here h = (tt, subst (λ o. Holds holds o given a) here h)
+  settles s (Some w) given end fact here o =
       goes_on s (record w { parts = w.parts ++ part_at s.log end ∷ [] }) given (record {
         slot = o.slot;
         epoch = o.epoch;
         horizon = o.horizon;
         rows = ap (λ r. r ++ rows_of w.left)
-            (rows_in-append holds w.parts (part_at s.log end ∷ []) ∙ ap (λ r. rows_in holds w.parts ++ r) (append-nil (holds (part_at s.log end)) ∙ is refl))
+            (rows_in-append holds w.parts (part_at s.log end ∷ []) ∙ ap (λ r. rows_in holds w.parts ++ r) (append-nil (holds (part_at s.log end)) ∙ fact refl))
             ∙ append_assoc (rows_in holds w.parts) given (rows_of w.left) ∙ o.rows;
       })
 
@@ -93,7 +93,7 @@ module _ (holds : SegRef → Rows) (a : Asked) where
 
 kept_one : (holds : SegRef → Rows) (r : Run) (input : In) → SettlesAsGiven holds r input → Holds holds r.state.work r.given r.asked
     → Good holds (asked_after holds r input) r.given (transition r.state input)
-kept_one holds r (Begin slot epoch pages parts horizon) is h =
+kept_one holds r (Begin slot epoch pages parts horizon) fact h =
     let asked : Asked = record { slot = slot; epoch = epoch; horizon = horizon; rows = rows_in holds parts ++ rows_of pages } in
     let work : WorkState = record { slot = slot; epoch = epoch; left = pages; parts = parts; horizon = horizon } in
     let next : WriterState = record r.state { number = r.state.number + 1 } in
@@ -101,8 +101,8 @@ kept_one holds r (Begin slot epoch pages parts horizon) is h =
       | true ↦ goes_on holds asked next work r.given (record { slot = refl; epoch = refl; horizon = refl; rows = refl })
       | false ↦ (tt, h)
     ]
-kept_one holds r (Settled end) is h = settles holds r.asked r.state r.state.work r.given end is refl h
-kept_one holds r (Ack epoch number) is h = answers holds r.asked r.state r.state.asked epoch number r.given h
+kept_one holds r (Settled end) fact h = settles holds r.asked r.state r.state.work r.given end fact refl h
+kept_one holds r (Ack epoch number) fact h = answers holds r.asked r.state r.state.asked epoch number r.given h
 
 all_kept : (holds : SegRef → Rows) (r : Run) (inputs : List In) → AllSettleAsGiven holds r inputs → Holds holds r.state.work r.given r.asked
     → Holds holds (after_inputs holds r inputs).state.work (after_inputs holds r inputs).given (after_inputs holds r inputs).asked
@@ -112,4 +112,4 @@ all_kept holds r (input ∷ inputs) all h = all_kept holds (after_input holds r 
 pub done_as_asked : (holds : SegRef → Rows) (log : LogId) (inputs : List In) (input : In) → AllSettleAsGiven holds (fresh log) inputs
     → SettlesAsGiven holds (run_of holds log inputs) input
     → DoneAsAsked holds (after_input holds (run_of holds log inputs) input).asked (transition (run_of holds log inputs).state input).outs
-done_as_asked holds log inputs input all is = (kept_one holds (run_of holds log inputs) input is (all_kept holds (fresh log) inputs all tt)).0
+done_as_asked holds log inputs input all fact = (kept_one holds (run_of holds log inputs) input fact (all_kept holds (fresh log) inputs all tt)).0

@@ -24,13 +24,13 @@ use Rattle.checkpoint.specs.Laws.{rows_of}
 -- ---- a block stands on its page
 
 any_at : {X : Type 0} (p : X → Bool) (f : ℕ → X) (n a k : ℕ) → k < n → p (f (a + k)) ≡ true → list_any p (map f (range_with_len a n)) ≡ true
-any_at p f zero a k less is = absurd (omega arith)
-any_at p f (suc n) a zero less is =
+any_at p f zero a k less fact = absurd (omega arith)
+any_at p f (suc n) a zero less fact =
     let e : a + 0 ≡ a = omega arith in
-    or_first (p (f a)) (list_any p (map f (range_with_len (a + 1) n))) (subst (λ j. p (f j) ≡ true) e is)
-any_at p f (suc n) a (suc k) less is =
+    or_first (p (f a)) (list_any p (map f (range_with_len (a + 1) n))) (subst (λ j. p (f j) ≡ true) e fact)
+any_at p f (suc n) a (suc k) less fact =
     let e : a + suc k ≡ a + 1 + k = omega arith in
-    or_second (p (f a)) (list_any p (map f (range_with_len (a + 1) n))) (any_at p f n (a + 1) k (omega arith) (subst (λ j. p (f j) ≡ true) e is))
+    or_second (p (f a)) (list_any p (map f (range_with_len (a + 1) n))) (any_at p f n (a + 1) k (omega arith) (subst (λ j. p (f j) ≡ true) e fact))
 
 -- a block stands in a run of its file that reaches it
 in_run : (q b : BlockId) (count k : ℕ) → q.ino ≡ b.ino → q.blk ≡ b.blk + k → k < count → list_any (same_block q) (blocks_run b count) ≡ true
@@ -45,7 +45,7 @@ abbrev indirect : BlockId → BlockId
 indirect q = record { ino = q.ino; blk = 16 + (q.blk - 16) / 64 * 64 }
 
 on_direct : (q : BlockId) → is_direct q.blk ≡ true → list_any (same_block q) (blocks_run (direct q) 16 ++ record { ino = q.ino; blk = 4294967295 } ∷ []) ≡ true
-on_direct q is =
+on_direct q fact =
     list_any-append (same_block q) (blocks_run (direct q) 16) (record { ino = q.ino; blk = 4294967295 } ∷ [])
     ∙ elim (nat_lt q.blk 16) as
     (λ t. nat_lt q.blk 16 ≡ t
@@ -57,7 +57,7 @@ on_direct q is =
     ] refl
 
 on_indirect : (q : BlockId) → q.blk < 2 ^ 32 → is_direct q.blk ≡ false → list_any (same_block q) (blocks_on (indirect q)) ≡ true
-on_indirect q fits is =
+on_indirect q fits fact =
     let high : 16 ≤ q.blk = grind (arith, nat_tests) in
     let low : q.blk < 4294967295 = grind (arith, nat_tests) in
     let start : (16 + (q.blk - 16) / 64 * 64 == 0) ≡ false = grind (arith, nat_tests) in
@@ -105,10 +105,10 @@ its_changed_page q blocks (f ∷ fs) fits put there =
     (λ t. same_block (first_block q) f ≡ t → (t || list_any (same_block (first_block q)) fs) ≡ true
     → list_any (on_page q) (cond ((page_with blocks f).changed) (page_with blocks f ∷ rest) rest) ≡ true) [
       | true ↦ λ same _.
-          let is : f ≡ first_block q = same_block_exact (first_block q) f same in
-          let changed : true ≡ ((page_with blocks f).changed) = sym (ap (λ g. list_any (λ b. same_block (first_block b) g) blocks) is ∙ put) in
+          let fact : f ≡ first_block q = same_block_exact (first_block q) f same in
+          let changed : true ≡ ((page_with blocks f).changed) = sym (ap (λ g. list_any (λ b. same_block (first_block b) g) blocks) fact ∙ put) in
           subst (λ u. list_any (on_page q) (cond u (page_with blocks f ∷ rest) rest) ≡ true) changed
-          (or_first _ _ (ap (λ b. list_any (same_block q) (blocks_on b)) is ∙ in_page q fits))
+          (or_first _ _ (ap (λ b. list_any (same_block q) (blocks_on b)) fact ∙ in_page q fits))
       | false ↦ λ _ more.
           let found : list_any (on_page q) rest ≡ true = its_changed_page q blocks fs fits put more in
           elim ((page_with blocks f).changed) as (λ u. list_any (on_page q) (cond u (page_with blocks f ∷ rest) rest) ≡ true) [
@@ -121,12 +121,12 @@ its_changed_page q blocks (f ∷ fs) fits put there =
 
 -- of two lists each joins to the entry or to nothing
 both : (t u : Bool) (e : Entry) → first_greatest no_entry e ≡ e → first_greatest (cond t e no_entry) (cond u e no_entry) ≡ cond (t || u) e no_entry
-both true true e is = first_greatest-itself e
-both true false e is = first_greatest-none e
-both false true e is = is
-both false false e is = first_greatest-none no_entry
+both true true e fact = first_greatest-itself e
+both true false e fact = first_greatest-none e
+both false true e fact = fact
+both false false e fact = first_greatest-none no_entry
 
-module _ (rows : List (BlockId × Entry)) (q : BlockId) (is : first_greatest no_entry (entry_of rows q) ≡ entry_of rows q) where
+module _ (rows : List (BlockId × Entry)) (q : BlockId) (fact : first_greatest no_entry (entry_of rows q) ≡ entry_of rows q) where
   join-row : (b : BlockId) (o : Option Entry) → lookup (is_at (block_cmp b)) rows ≡ o → join (row_of b o) q ≡ cond (same_block q b) (entry_of rows q) no_entry
   join-row b None found =
       elim (same_block q b) as (λ t. same_block q b ≡ t → no_entry ≡ cond t (entry_of rows q) no_entry) [
@@ -137,7 +137,7 @@ module _ (rows : List (BlockId × Entry)) (q : BlockId) (is : first_greatest no_
       join-one (b, e) q
       ∙ elim (same_block q b) as (λ t. same_block q b ≡ t → cond t (first_greatest no_entry e) no_entry ≡ cond t (entry_of rows q) no_entry) [
         | true ↦ λ same. let held_there : e ≡ entry_of rows q =
-            sym (ap (entry_of rows) (sym (same_block_exact q b same)) ∙ ap (λ o. unwrap_or o no_entry) found) in ap (first_greatest no_entry) held_there ∙ is
+            sym (ap (entry_of rows) (sym (same_block_exact q b same)) ∙ ap (λ o. unwrap_or o no_entry) found) in ap (first_greatest no_entry) held_there ∙ fact
         | false ↦ λ _. refl
       ] refl
 
@@ -147,7 +147,7 @@ module _ (rows : List (BlockId × Entry)) (q : BlockId) (is : first_greatest no_
       join-append (row_of b (lookup (is_at (block_cmp b)) rows)) (held rows bs) q
       ∙ ap (λ x. first_greatest x (join (held rows bs) q)) (join-row b (lookup (is_at (block_cmp b)) rows) refl)
       ∙ ap (first_greatest (cond (same_block q b) (entry_of rows q) no_entry)) (join-held bs)
-      ∙ both (same_block q b) (list_any (same_block q) bs) (entry_of rows q) is
+      ∙ both (same_block q b) (list_any (same_block q) bs) (entry_of rows q) fact
 
   pub join-pages : (pages : List Page) → join (rows_of (map (rows_on rows) pages)) q ≡ cond (list_any (on_page q) pages) (entry_of rows q) no_entry
   join-pages [] = refl
@@ -155,4 +155,4 @@ module _ (rows : List (BlockId × Entry)) (q : BlockId) (is : first_greatest no_
       join-append (rows_on rows p) (rows_of (map (rows_on rows) ps)) q
       ∙ ap (λ x. first_greatest x (join (rows_of (map (rows_on rows) ps)) q)) (join-held (blocks_on p.first))
       ∙ ap (first_greatest (cond (on_page q p) (entry_of rows q) no_entry)) (join-pages ps)
-      ∙ both (on_page q p) (list_any (on_page q) ps) (entry_of rows q) is
+      ∙ both (on_page q p) (list_any (on_page q) ps) (entry_of rows q) fact

@@ -128,9 +128,9 @@ flies_acked s name index generation =
       | None ↦ λ e. same s input s refl
       | Some f ↦ λ e. elim (is_of f name index generation) as
           (λ b. is_of f name index generation ≡ b → FliesOn s input (cond b (looked_at s s (noting f index)) (still s))) [
-            | true ↦ λ is. flies_looked s input s f (noting f index) e refl refl
-                (inr (ap (λ b. (cond b (noting f index) f).noted) (sym is))) (ap (λ b. fate_of s.groups (cond b (noting f index) f)) is)
-            | false ↦ λ is. same s input s refl
+            | true ↦ λ fact. flies_looked s input s f (noting f index) e refl refl
+                (inr (ap (λ b. (cond b (noting f index) f).noted) (sym fact))) (ap (λ b. fate_of s.groups (cond b (noting f index) f)) fact)
+            | false ↦ λ fact. same s input s refl
           ] refl
     ] refl
 

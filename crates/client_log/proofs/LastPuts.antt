@@ -290,8 +290,8 @@ module _ (start : LogState) (empty : start.dirty ≡ []) (history : List In) whe
   seals_parts : (items : List Item) → Seals (Parts items) (on_parts past items)
   unfolding on_parts
   seals_parts items = elim (is_idle past && has_next past.end.seq && has_text items) as (λ b. Seals (Parts items) (cond b (writes past items) (still past))) [
-    | true ↦ held_writes past (HoldsLastPuts start history (Parts items)) (λ is w. inl w) past items (inr (inl refl))
-    | false ↦ held_still past (HoldsLastPuts start history (Parts items)) (λ is w. inl w) past refl
+    | true ↦ held_writes past (HoldsLastPuts start history (Parts items)) (λ fact w. inl w) past items (inr (inl refl))
+    | false ↦ held_still past (HoldsLastPuts start history (Parts items)) (λ fact w. inl w) past refl
   ]
 
   seals_acked : (name : SegName) (index generation : ℕ) → Seals (Acked name index generation) (on_acked past name index generation)

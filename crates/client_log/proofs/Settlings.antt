@@ -105,14 +105,14 @@ tell_acked s name index generation =
       | None ↦ λ e. tt
       | Some f ↦ λ e. elim (is_of f name index generation) as
           (λ b. is_of f name index generation ≡ b → Tell s (Acked name index generation) (cond b (looked_at s s (noting f index)) (still s)).outs) [
-            | true ↦ λ is. tell_looked s (Acked name index generation) s s (noting f index) (λ due. record {
+            | true ↦ λ fact. tell_looked s (Acked name index generation) s s (noting f index) (λ due. record {
               flight = f;
               was = e;
               is_end = refl;
               are_rows = refl;
-              due = ap (λ b. fate_of s.groups (cond b (noting f index) f)) is ∙ due;
+              due = ap (λ b. fate_of s.groups (cond b (noting f index) f)) fact ∙ due;
             })
-            | false ↦ λ is. tt
+            | false ↦ λ fact. tt
           ] refl
     ] refl
 

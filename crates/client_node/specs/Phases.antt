@@ -7,13 +7,14 @@ use Rattle.client_node.specs.declared.phase.Phase.TheVariants.{Down, Opening, Se
 use Rattle.client_node.specs.declared.phase.Phase.{Phase}
 use Rattle.client_parts.specs.declared.lasting.Lasting.{Lasting}
 use Rattle.client_parts.specs.Lasting.{next_life}
-use Rattle.client_serving.specs.Crash.{falls}
+use Rattle.client_node.specs.Crash.{falls}
 use Rattle.client_serving.specs.declared.serving.Serving.{Serving}
-use Rattle.client_serving.specs.Opens.{opens}
-use Rattle.client_serving.specs.Packets.{on_packet, on_tick, serving_room}
-use Rattle.client_serving.specs.Running.{runs}
+use Rattle.client_calls.specs.Opens.{opens}
+use Rattle.client_serving.specs.Packets.{on_packet, on_tick}
+use Rattle.client_node.specs.Room.{serving_room}
+use Rattle.client_calls.specs.Running.{runs}
 use Rattle.client_serving.specs.Sends.{Done}
-use Rattle.client_serving.specs.Starting.{returned}
+use Rattle.client_node.specs.Serving.{returned}
 use Rattle.log_owner.specs.declared.ended.Owner.{Owner}
 use Rattle.log_owner.specs.declared.opened.Opened.{Opened}
 use Rattle.log_owner.specs.declared.opened.Progress.{Progress}

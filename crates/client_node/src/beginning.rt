@@ -7,6 +7,8 @@ ghost use Rattle.client_parts.specs.Lasting.{next_life};
 ghost use Rattle.log_owner.specs.declared.opening.Opening.{Opening as AnOpening};
 ghost use Rattle.node_base.specs.Beginning.{answered};
 
+use crate::crash::fall;
+use client_calls::open;
 use client_parts::Lasting;
 use client_serving::Serving;
 use log_owner::{Opening, Owner};
@@ -120,7 +122,7 @@ pub(crate) fn begin_serving(
     };
     match wish_at(&serving.lasting, number) {
         Wish::Crash => {
-            serving.fall(alloc, effects)?;
+            fall(alloc, effects, serving)?;
             cut(effects, &mut serving.lasting, number)?;
             Ok(true)
         }
@@ -129,33 +131,10 @@ pub(crate) fn begin_serving(
             Ok(false)
         }
         Wish::Call => {
-            serving.open(alloc, effects, number)?;
+            open(alloc, effects, serving, number)?;
             Ok(false)
         }
     }
-}
-
-/// What is left of a client that served, once it has crashed: all else is lost.
-pub(crate) fn what_outlives(serving: Serving) -> Lasting
-    ensures { result ≡ serving.lasting }
-{
-    let Serving {
-        lasting,
-        maps,
-        tokens,
-        log,
-        feed,
-        cache,
-        call,
-        ..
-    } = serving;
-    drop(maps);
-    drop(tokens);
-    drop(log);
-    drop(feed);
-    drop(cache);
-    drop(call);
-    lasting
 }
 
 // The client crashes: the item that is open is cut, and that of the crash is answered.

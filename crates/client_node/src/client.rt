@@ -1,16 +1,20 @@
 //! The client as a node: what each event makes of it.
 ghost use Rattle.std.specs.Prelude.{◌≡◌, ◌++◌, ℕ, IfOk, OnOk};
 ghost use Rattle.client_node.specs.declared.phase.Phase.TheVariants.{Opening as Opens};
-ghost use Rattle.client_node.specs.Phases.{on_begin, delivers, on_time, on_event, client_room, phase_room, takes};
+ghost use Rattle.client_node.specs.Phases.{on_begin, delivers, on_time, on_event, client_room, takes};
 ghost use Rattle.client_node.specs.Starting.{first_client};
 ghost use Rattle.client_serving.specs.Packets.{on_packet, on_tick};
-ghost use Rattle.client_serving.specs.Running.{runs};
+ghost use Rattle.client_calls.specs.Running.{runs};
 ghost use Rattle.node_base.specs.Setups.{IsSetup};
 ghost use Rattle.segment_format.specs.Format.{IsLog};
 
 use crate::Phase;
-use crate::beginning::{begin_down, begin_opening, begin_serving, what_outlives};
-use crate::returning::after;
+use crate::beginning::{begin_down, begin_opening, begin_serving};
+use crate::crash::what_outlives;
+use crate::returning::phase_after;
+use crate::room::phase_has_room;
+use crate::serving::serves_first;
+use client_calls::run;
 use client_parts::Lasting;
 use client_serving::Serving;
 use log_owner::Opening;
@@ -66,7 +70,7 @@ impl Client {
     {
         let groups = groups_of(alloc, setup)?;
         let lasting = Lasting::start(number, items);
-        let serving = Serving::start(alloc, lasting, setup.managers, setup.cache, groups)?;
+        let serving = serves_first(alloc, lasting, setup.managers, setup.cache, groups)?;
         Ok(Client {
             peers: Peers::of(setup),
             cache: setup.cache,
@@ -119,16 +123,6 @@ fn on_event(
         Do::Begin => begin(alloc, effects, peers, phase),
         Do::Deliver(packet) => deliver(alloc, effects, peers, cache, phase, packet),
         Do::Tick => tick(alloc, effects, cache, phase),
-    }
-}
-
-fn phase_has_room(phase: &Phase) -> bool
-    ensures { result ≡ phase_room phase.now }
-{
-    match phase {
-        Phase::Down(_) => true,
-        Phase::Opening(_, opening) => opening.has_room(),
-        Phase::Serving(serving) => serving.has_room(),
     }
 }
 
@@ -206,7 +200,7 @@ fn deliver(
         Phase::Opening(lasting, opening) => {
             let mut lasting = lasting;
             match opening.take(alloc, effects, &mut lasting.questions, packet) {
-                Ok(progress) => after(alloc, effects, lasting, cache, progress),
+                Ok(progress) => phase_after(alloc, effects, lasting, cache, progress),
                 Err(error) => {
                     drop(lasting);
                     Err(error)
@@ -238,7 +232,7 @@ fn take_and_run(
         (effects.new ≡ effects.old ++ ((on_packet serving.old packet.now).outs ++ (runs (on_packet serving.old packet.now).state).outs)) }
 {
     serving.take(alloc, effects, packet)?;
-    serving.run(alloc, effects)
+    run(alloc, effects, serving)
 }
 
 // Time passes at a client that serves, and the open call is looked at.
@@ -247,7 +241,7 @@ fn tick_and_run(alloc: Global, effects: &mut Effects, serving: &mut Serving) -> 
     ensures effects { OnOk result (effects.new ≡ effects.old ++ ((on_tick serving.old).outs ++ (runs (on_tick serving.old).state).outs)) }
 {
     serving.tick(alloc, effects)?;
-    serving.run(alloc, effects)
+    run(alloc, effects, serving)
 }
 
 // Time passes.
@@ -261,7 +255,7 @@ fn tick(alloc: Global, effects: &mut Effects, cache: u16, phase: Phase) -> Mem<P
         Phase::Opening(lasting, opening) => {
             let mut lasting = lasting;
             match opening.tick(alloc, effects, &mut lasting.questions) {
-                Ok(progress) => after(alloc, effects, lasting, cache, progress),
+                Ok(progress) => phase_after(alloc, effects, lasting, cache, progress),
                 Err(error) => {
                     drop(lasting);
                     Err(error)

@@ -5,8 +5,11 @@
 
 mod beginning;
 pub mod client;
+mod crash;
 pub mod phase;
 mod returning;
+mod room;
+mod serving;
 
 pub use client::Client;
 pub use phase::Phase;

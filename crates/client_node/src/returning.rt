@@ -8,6 +8,7 @@ ghost use Rattle.version_model.specs.declared.act.Act.TheVariants.{Back};
 ghost use Rattle.version_model.specs.declared.answer.Answer.TheVariants as answer;
 
 use crate::Phase;
+use crate::serving::serves_again;
 use client_parts::Lasting;
 use client_serving::Serving;
 use log_owner::sending::push_all;
@@ -18,7 +19,7 @@ use version_model::{Act, Answer};
 use xfs_base::{List, Mem, SegName};
 
 /// The phase after an event of an opening.
-pub(crate) fn after(
+pub(crate) fn phase_after(
     alloc: Global,
     effects: &mut Effects,
     lasting: Lasting,
@@ -70,7 +71,7 @@ fn back(
         feed,
         chain,
     } = opened;
-    match Serving::back(alloc, lasting, cache, maps, promised, log, feed) {
+    match serves_again(alloc, lasting, cache, maps, promised, log, feed) {
         Ok(serving) => {
             let mut serving = serving;
             match say_back(alloc, effects, &mut serving, chain) {

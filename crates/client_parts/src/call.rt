@@ -85,15 +85,15 @@ impl Call {
 
 impl Plan {
     /// Where a call stands once its call on blocks is answered.
-    pub fn after(self, alloc: Global, answer: BlockAnswer) -> Mem<Going>
+    pub fn answered(self, alloc: Global, answer: BlockAnswer) -> Mem<Going>
         ensures { IfOk result (λ stands. stands ≡ after_answer self answer) }
     {
         match self {
             Plan::One => Ok(Going::Ends(answer_of(answer))),
             Plan::File(plan) => {
-                let after = plan.after(alloc, &answer);
+                let next = plan.answered(alloc, &answer);
                 drop(answer);
-                stands_by(alloc, after?)
+                stands_by(alloc, next?)
             }
         }
     }

@@ -78,7 +78,13 @@ fn version_of(block: BlockId, item: &Item) -> Option<u64>
             block: other,
             ver,
             ..
-        } => { if block.is(*other) { Some(*ver) } else { None } }
+        } => {
+            if block.is_same(*other) {
+                Some(*ver)
+            } else {
+                None
+            }
+        }
         _ => None,
     }
 }

@@ -32,7 +32,7 @@ pub fn target_of(block: BlockId, place: Place) -> Target
 pub fn same_target(a: Target, b: Target) -> bool
     ensures { result ≡ same_target a b }
 {
-    a.seg.name.is(b.seg.name) && a.seg.group == b.seg.group && same_at(a.block, b.block)
+    a.seg.name.is_same(b.seg.name) && a.seg.group == b.seg.group && same_at(a.block, b.block)
 }
 
 fn same_at(a: Option<BlockAt>, b: Option<BlockAt>) -> bool
@@ -41,7 +41,7 @@ fn same_at(a: Option<BlockAt>, b: Option<BlockAt>) -> bool
     match (a, b) {
         (None, None) => true,
         (None, Some(_)) | (Some(_), None) => false,
-        (Some(a), Some(b)) => a.item == b.item && a.block.is(b.block),
+        (Some(a), Some(b)) => a.item == b.item && a.block.is_same(b.block),
     }
 }
 

@@ -1,11 +1,6 @@
-pub mod Blocks
 pub mod Bodies
-pub mod Crash
 pub mod Flights
 pub mod Follow
-pub mod Opens
 pub mod Packets
 pub mod Reads
-pub mod Running
 pub mod Sends
-pub mod Starting

@@ -2,11 +2,7 @@
 use Rattle.std.specs.Prelude.{ℕ, Bool, option_map, ◌==◌, ◌&&◌, not, nat_lt, nat_le, if◌then◌else◌, List, [], ◌∷◌, ◌++◌, Option, Some, None}
 use Rattle.std.specs.List.{flat_map}
 use Rattle.client_log.specs.declared.input.In.TheVariants as log_in
-use Rattle.xfs_base.specs.declared.block.BlockId.{BlockId}
-use Rattle.client_parts.specs.declared.call.Call.{Call}
-use Rattle.client_parts.specs.Calls.{block_of}
 use Rattle.client_parts.specs.Grants.{supplies, is_stamp, is_want}
-use Rattle.client_parts.specs.Promises.{epochs_room}
 use Rattle.client_parts.specs.Reads.{Heard, block_read, heard, fetches_again, reading_in, value_at}
 use Rattle.client_serving.specs.declared.serving.Serving.{Serving}
 use Rattle.client_serving.specs.Flights.{held_at, writes, on_stored}
@@ -14,14 +10,13 @@ use Rattle.client_serving.specs.Follow.{follows, hands, takes_back}
 use Rattle.client_serving.specs.Reads.{ends_reading, with_reading, loses}
 use Rattle.client_serving.specs.Sends.{Done, gives, gave, report}
 use Rattle.delta_feed.specs.Transition.{acknowledged, new_epoch}
-use Rattle.log_owner.specs.Opening.{log_room}
 use Rattle.log_owner.specs.Promised.{manager_set}
 use Rattle.log_owner.specs.Sending.{hello, pushes_all}
 use Rattle.node_base.specs.Asking.{next_ask, drawn}
 use Rattle.node_base.specs.declared.effects.Effect.{Effect}
 use Rattle.node_base.specs.Known.{names_known}
 use Rattle.node_base.specs.Maps.{fits, is_older, taken}
-use Rattle.node_base.specs.Room.{has_room, has_long_room}
+use Rattle.node_base.specs.Room.{has_long_room}
 use Rattle.segment_reading.specs.declared.reading.Next.{Next}
 use Rattle.segment_reading.specs.declared.reading.Next.TheVariants as next
 use Rattle.segment_reading.specs.declared.target.BlockAt.{BlockAt}
@@ -30,8 +25,7 @@ use Rattle.stripe_code.specs.declared.round.Told.TheVariants as told
 use Rattle.group_map.specs.GroupMapState.{GroupMapState}
 use Rattle.token_client.specs.declared.input.In.TheVariants as tokens
 use Rattle.token_client.specs.declared.output.Out.{Out}
-use Rattle.token_client.specs.Repetitions.{repetition}
-use Rattle.token_client.specs.State.{TokensState, epoch_of, held_of}
+use Rattle.token_client.specs.State.{TokensState, epoch_of}
 use Rattle.token_client.specs.Transition.{on_forwarded, on_recalled, on_promise}
 use Rattle.wire_msg.specs.declared.body.Body.{Body}
 use Rattle.wire_msg.specs.declared.body.Body.TheVariants as body
@@ -202,27 +196,6 @@ on_tick s =
     let w = hands s tokens.Tick in
     let l = writes w.state log_in.Tick in
     gives l.state (w.outs ++ (fetches_again (reading_in w.state.call) ++ (l.outs ++ pushes_all l.state.managers l.state.feed)))
-
--- ---- the ends of counters
-
--- the block that the open call is on
-abbrev pub open_block : Option Call → Option BlockId
-open_block None = None
-open_block (Some call) = block_of call.step
-
--- how often the want of a block was sent again; 0 where nothing is wanted
-abbrev pub asked_again : TokensState → Option BlockId → ℕ
-asked_again t None = 0
-asked_again t (Some block) = repetition (held_of t.blocks block).want
-
--- each promised epoch, and how often the open call asked again for its block, is at least 65,536 below its end
-abbrev pub tokens_room : Serving → Bool
-tokens_room s = epochs_room s.tokens && has_room (asked_again s.tokens (open_block s.call))
-
--- and so are the version of the maps, the number of the last want, and the numbers of the log
-abbrev pub serving_room : Serving → Bool
-serving_room s =
-    has_room s.maps.version && (has_room s.tokens.req && (log_room s.log && tokens_room s))
 
 -- ---- a packet
 

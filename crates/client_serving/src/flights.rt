@@ -6,7 +6,7 @@ ghost use Rattle.xfs_base.specs.Steps.{steps};
 
 use crate::Serving;
 use client_log::{In, Out};
-use client_parts::flights::{feed_rows, is_any_settling, is_dirty, is_giving, note_settled, seal};
+use client_parts::flights::{feed_rows, is_any_settling, is_dirty, is_giving, note_settled};
 use log_owner::name_of;
 use log_owner::sending::{push_all, send_store};
 use node_base::Effects;
@@ -18,7 +18,7 @@ impl Serving {
     /// Hands the log an input, and does what it says. After a segment is settled the log is sealed again
     /// where a block is still to be given up.
     #[tactic(auto, unfolding(crate::specs::Flights::writes))]
-    pub(crate) fn write(&mut self, alloc: Global, effects: &mut Effects, input: In) -> Mem<()>
+    pub fn write(&mut self, alloc: Global, effects: &mut Effects, input: In) -> Mem<()>
         ensures state { OnOk result (self.new ≡ (writes self.old input).state) }
         ensures effects { OnOk result (effects.new ≡ effects.old ++ (writes self.old input).outs) }
     {
@@ -49,13 +49,12 @@ impl Serving {
         }
     }
 
-    #[tactic(auto, unfolding(crate::specs::Follow::seals))]
     fn seal_again(&mut self, alloc: Global, effects: &mut Effects, settling: bool) -> Mem<()>
         ensures state { OnOk result (self.new ≡ (seals_again self.old settling).state) }
         ensures effects { OnOk result (effects.new ≡ effects.old ++ (seals_again self.old settling).outs) }
     {
         if settling && is_giving(alloc, &self.tokens)? {
-            seal(alloc, effects, &mut self.log)?;
+            self.seal(alloc, effects)?;
         }
         Ok(())
     }

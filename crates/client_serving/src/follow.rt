@@ -1,9 +1,9 @@
 //! What the tokens have a client do.
 ghost use Rattle.std.specs.Prelude.{◌≡◌, ◌++◌, OnOk};
-ghost use Rattle.client_serving.specs.Follow.{follows, follows_one, hands, notes_clean, notes_copy, notes_gone, takes_back};
+ghost use Rattle.client_serving.specs.Follow.{follows, follows_one, hands, notes_clean, notes_copy, notes_gone, seals, takes_back};
 
 use crate::Serving;
-use client_parts::flights::seal;
+use client_parts::flights;
 use client_parts::follow::{evict_all, send_gave, send_want};
 use client_parts::reads::end_reading;
 use node_base::Effects;
@@ -15,7 +15,7 @@ use xfs_base::{BlockId, List, Mem, Mode, Stamp};
 impl Serving {
     /// Hands the tokens an input, and does what they say.
     #[tactic(auto, unfolding(crate::specs::Follow::hands))]
-    pub(crate) fn hand(&mut self, alloc: Global, effects: &mut Effects, input: In) -> Mem<()>
+    pub fn hand(&mut self, alloc: Global, effects: &mut Effects, input: In) -> Mem<()>
         ensures state { OnOk result (self.new ≡ (hands self.old input).state) }
         ensures effects { OnOk result (effects.new ≡ effects.old ++ (hands self.old input).outs) }
     {
@@ -42,7 +42,7 @@ impl Serving {
     }
 
     // A value that is to be supplied goes to the client that the forward names, so that it is sent there.
-    #[tactic(auto, unfolding(crate::specs::Follow::follows_one, crate::specs::Follow::seals))]
+    #[tactic(auto, unfolding(crate::specs::Follow::follows_one))]
     fn follow_one(&mut self, alloc: Global, effects: &mut Effects, out: Out) -> Mem<()>
         ensures state { OnOk result (self.new ≡ (follows_one self.old out).state) }
         ensures effects { OnOk result (effects.new ≡ effects.old ++ (follows_one self.old out).outs) }
@@ -72,11 +72,20 @@ impl Serving {
                 };
                 send_gave(alloc, effects, &mut self.feed, self.managers, gave)
             }
-            Out::Flush { .. } => seal(alloc, effects, &mut self.log),
+            Out::Flush { .. } => self.seal(alloc, effects),
             Out::Read { block, place } => self.read(alloc, effects, block, place),
             Out::Ready { block } => self.note_copy(alloc, block),
             Out::Supply { .. } => Ok(()),
         }
+    }
+
+    /// Seals the log, where nothing is in flight and something waits to be written.
+    #[tactic(auto, unfolding(crate::specs::Follow::seals))]
+    pub fn seal(&mut self, alloc: Global, effects: &mut Effects) -> Mem<()>
+        ensures state { OnOk result (self.new ≡ (seals self.old).state) }
+        ensures effects { OnOk result (effects.new ≡ effects.old ++ (seals self.old).outs) }
+    {
+        flights::seal(alloc, effects, &mut self.log)
     }
 
     /// Takes a block back, as a manager recalls it; one that isn't held then leaves the cache.
@@ -117,7 +126,7 @@ impl Serving {
 
     /// A block that isn't held leaves the cache.
     #[tactic(auto, unfolding(crate::specs::Follow::notes_gone))]
-    pub(crate) fn note_gone(&mut self, alloc: Global, block: BlockId) -> Mem<()>
+    pub fn note_gone(&mut self, alloc: Global, block: BlockId) -> Mem<()>
         ensures { OnOk result (self.new ≡ notes_gone self.old block) }
     {
         if self.tokens.mode(block).is_nothing() {

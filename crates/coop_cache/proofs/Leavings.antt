@@ -43,8 +43,8 @@ module _ (block : BlockId) where
     not_same : (b : BlockId) → same_block other block ≡ false → same_block other b ≡ true → same_block block b ≡ false
     not_same b h e =
         elim (same_block block b) as (λ t. same_block block b ≡ t → t ≡ false) [
-          | true ↦ λ is. absurd (true≢false (sym (ap (same_block other) (sym (same_block_exact block b is)) ∙ e) ∙ h))
-          | false ↦ λ is. refl
+          | true ↦ λ fact. absurd (true≢false (sym (ap (same_block other) (sym (same_block_exact block b fact)) ∙ e) ∙ h))
+          | false ↦ λ fact. refl
         ] refl
 
     among_others : (bs : List BlockId) → same_block other block ≡ false → among bs ≡ true → among (without other bs) ≡ true
@@ -53,7 +53,7 @@ module _ (block : BlockId) where
         elim (same_block other b) as (λ t. same_block other b ≡ t → among (cond (not t) (b ∷ without other bs) (without other bs)) ≡ true) [
           | true ↦ λ e. among_others bs h (sym (ap (λ t. t || among bs) (not_same b h e)) ∙ a)
           | false ↦ λ e. elim (either (same_block block b) (among bs) a) as (λ _. (same_block block b || among (without other bs)) ≡ true) [
-            | inl is ↦ or_left (same_block block b) (among (without other bs)) is
+            | inl fact ↦ or_left (same_block block b) (among (without other bs)) fact
             | inr later ↦ or_right (same_block block b) (among (without other bs)) (among_others bs h later)
           ]
         ] refl

@@ -56,13 +56,13 @@ module _ (slot : ℕ) (l : slot < 8) (s : FeedState) (eight : length s.acked ≡
 
   ack_more : (n : ℕ) → now (acknowledged s slot n) ≡ max n (now s)
   ack_more n =
-      let is : acked_of s slot ≡ now s = acked_in s slot l in
+      let fact : acked_of s slot ≡ now s = acked_in s slot l in
       by_test (λ (t : FeedState). now t ≡ max n (now s)) (nat_lt slot 8 && nat_lt (acked_of s slot) n) (record s { acked = set s.acked slot n }) s
       (λ p. let less : now s < n = grind (arith, nat_tests) in get_or-set_same s.acked slot n 0 (rw eight l) ∙ omega (arith, less))
       (λ p. let limit : n ≤ now s = grind (arith, nat_tests) in omega (arith, limit))
 
   ack_own : (acker n : ℕ) → (acker == slot) ≡ true → now (acknowledged s acker n) ≡ max n (now s)
-  ack_own acker n one = let is : acker ≡ slot = grind (arith, nat_tests) in ap (λ a. now (acknowledged s a n)) is ∙ ack_more n
+  ack_own acker n one = let fact : acker ≡ slot = grind (arith, nat_tests) in ap (λ a. now (acknowledged s a n)) fact ∙ ack_more n
 
   ack_other : (acker n : ℕ) → (acker == slot) ≡ false → now (acknowledged s acker n) ≡ now s
   ack_other acker n apart =
@@ -71,9 +71,9 @@ module _ (slot : ℕ) (l : slot < 8) (s : FeedState) (eight : length s.acked ≡
 
   renew_own : (renewed : ℕ) → (renewed == slot) ≡ true → now (new_epoch s renewed) ≡ s.base
   renew_own renewed one =
-      let is : renewed ≡ slot = grind (arith, nat_tests) in
+      let fact : renewed ≡ slot = grind (arith, nat_tests) in
       let p : nat_lt slot 8 ≡ true = grind (arith, nat_tests) in
-      ap (λ r. now (new_epoch s r)) is ∙ ap (λ t. now (cond t (record s { acked = set s.acked slot s.base }) s)) p
+      ap (λ r. now (new_epoch s r)) fact ∙ ap (λ t. now (cond t (record s { acked = set s.acked slot s.base }) s)) p
       ∙ get_or-set_same s.acked slot s.base 0 (rw eight l)
 
   renew_other : (renewed : ℕ) → (renewed == slot) ≡ false → now (new_epoch s renewed) ≡ now s
@@ -88,58 +88,60 @@ later s inputs = (steps transition s inputs).state
 
 base_after : (s : FeedState) (inputs : List In) → (later s inputs).base ≡ s.base
 base_after s [] = refl
-base_after s (i ∷ is) = base_after (transition s i).state is ∙ kept_base s i
+base_after s (i ∷ fact) = base_after (transition s i).state fact ∙ kept_base s i
 
 eight_after : (s : FeedState) (inputs : List In) → length s.acked ≡ 8 → length (later s inputs).acked ≡ 8
 eight_after s [] eight = eight
-eight_after s (i ∷ is) eight = eight_after (transition s i).state is (kept_eight s i eight)
+eight_after s (i ∷ fact) eight = eight_after (transition s i).state fact (kept_eight s i eight)
 
 filed_after : (s : FeedState) (inputs : List In) → (later s inputs).filed ≡ s.filed ++ filed_by s.end inputs
 filed_after s [] = sym (append-nil s.filed)
-filed_after s (Settled seq rows ∷ is) =
+filed_after s (Settled seq rows ∷ fact) =
     let f : FiledDeltas = record { seq = seq; rows = rows } in
     elim (nat_lt s.end seq) as
-    (λ t. (later (cond t (record s { filed = s.filed ++ f ∷ []; end = seq }) s) is).filed ≡ s.filed ++ cond t (f ∷ filed_by seq is) (filed_by s.end is)) [
-      | true ↦ filed_after (record s { filed = s.filed ++ f ∷ []; end = seq }) is ∙ append_assoc s.filed (f ∷ []) (filed_by seq is)
-      | false ↦ filed_after s is
+    (λ t. (later (cond t (record s { filed = s.filed ++ f ∷ []; end = seq }) s) fact).filed ≡ s.filed ++ cond t (f ∷ filed_by seq fact) (filed_by s.end fact)) [
+      | true ↦ filed_after (record s { filed = s.filed ++ f ∷ []; end = seq }) fact ∙ append_assoc s.filed (f ∷ []) (filed_by seq fact)
+      | false ↦ filed_after s fact
     ]
-filed_after s (Ack slot applied ∷ is) =
-    filed_after (acknowledged s slot applied) is
-    ∙ by_test (λ (t : FeedState). t.filed ++ filed_by t.end is ≡ s.filed ++ filed_by s.end is) (nat_lt slot 8 && nat_lt (acked_of s slot) applied)
+filed_after s (Ack slot applied ∷ fact) =
+    filed_after (acknowledged s slot applied) fact
+    ∙ by_test (λ (t : FeedState). t.filed ++ filed_by t.end fact ≡ s.filed ++ filed_by s.end fact) (nat_lt slot 8 && nat_lt (acked_of s slot) applied)
     (record s { acked = set s.acked slot applied }) s (λ _. refl) (λ _. refl)
-filed_after s (NewEpoch slot ∷ is) =
-    filed_after (new_epoch s slot) is
-    ∙ by_test (λ (t : FeedState). t.filed ++ filed_by t.end is ≡ s.filed ++ filed_by s.end is) (nat_lt slot 8) (record s { acked = set s.acked slot s.base }) s
+filed_after s (NewEpoch slot ∷ fact) =
+    filed_after (new_epoch s slot) fact
+    ∙ by_test (λ (t : FeedState). t.filed ++ filed_by t.end fact ≡ s.filed ++ filed_by s.end fact) (nat_lt slot 8)
+    (record s { acked = set s.acked slot s.base }) s
     (λ _. refl) (λ _. refl)
-filed_after s (Push slot ∷ is) = filed_after s is
-filed_after s (Tick ∷ is) = filed_after s is
+filed_after s (Push slot ∷ fact) = filed_after s fact
+filed_after s (Tick ∷ fact) = filed_after s fact
 
 end_after : (s : FeedState) (inputs : List In) → (later s inputs).end ≡ greatest s.end (settled_numbers inputs)
 end_after s [] = refl
-end_after s (Settled seq rows ∷ is) =
-    let numbers : List ℕ = settled_numbers is in
+end_after s (Settled seq rows ∷ fact) =
+    let numbers : List ℕ = settled_numbers fact in
     let f : FiledDeltas = record { seq = seq; rows = rows } in
     elim (nat_lt s.end seq) as
-    (λ t. nat_lt s.end seq ≡ t → (later (cond t (record s { filed = s.filed ++ f ∷ []; end = seq }) s) is).end ≡ max seq (greatest s.end numbers)) [
+    (λ t. nat_lt s.end seq ≡ t → (later (cond t (record s { filed = s.filed ++ f ∷ []; end = seq }) s) fact).end ≡ max seq (greatest s.end numbers)) [
       | true ↦ λ p.
           let less : s.end < seq = grind (arith, nat_tests) in
           let is_max : seq ≡ max seq s.end = omega (arith, less) in
-          end_after (record s { filed = s.filed ++ f ∷ []; end = seq }) is ∙ ap (λ m. greatest m numbers) is_max ∙ greatest-max seq s.end numbers
+          end_after (record s { filed = s.filed ++ f ∷ []; end = seq }) fact ∙ ap (λ m. greatest m numbers) is_max ∙ greatest-max seq s.end numbers
       | false ↦ λ p.
           let limit : seq ≤ s.end = grind (arith, nat_tests) in
           let is_max : s.end ≡ max seq s.end = omega (arith, limit) in
-          end_after s is ∙ ap (λ m. greatest m numbers) is_max ∙ greatest-max seq s.end numbers
+          end_after s fact ∙ ap (λ m. greatest m numbers) is_max ∙ greatest-max seq s.end numbers
     ] refl
-end_after s (Ack slot applied ∷ is) =
-    end_after (acknowledged s slot applied) is
-    ∙ by_test (λ (t : FeedState). greatest t.end (settled_numbers is) ≡ greatest s.end (settled_numbers is)) (nat_lt slot 8 && nat_lt (acked_of s slot) applied)
+end_after s (Ack slot applied ∷ fact) =
+    end_after (acknowledged s slot applied) fact
+    ∙ by_test (λ (t : FeedState). greatest t.end (settled_numbers fact) ≡ greatest s.end (settled_numbers fact))
+    (nat_lt slot 8 && nat_lt (acked_of s slot) applied)
     (record s { acked = set s.acked slot applied }) s (λ _. refl) (λ _. refl)
-end_after s (NewEpoch slot ∷ is) =
-    end_after (new_epoch s slot) is
-    ∙ by_test (λ (t : FeedState). greatest t.end (settled_numbers is) ≡ greatest s.end (settled_numbers is)) (nat_lt slot 8)
+end_after s (NewEpoch slot ∷ fact) =
+    end_after (new_epoch s slot) fact
+    ∙ by_test (λ (t : FeedState). greatest t.end (settled_numbers fact) ≡ greatest s.end (settled_numbers fact)) (nat_lt slot 8)
     (record s { acked = set s.acked slot s.base }) s (λ _. refl) (λ _. refl)
-end_after s (Push slot ∷ is) = end_after s is
-end_after s (Tick ∷ is) = end_after s is
+end_after s (Push slot ∷ fact) = end_after s fact
+end_after s (Tick ∷ fact) = end_after s fact
 
 -- an acknowledgement counts where the slot gets no new epoch later
 ack_counts : (one renewed : Bool) (base was told n : ℕ) (acks : List ℕ) → (one ≡ true → told ≡ max n was) → (one ≡ false → told ≡ was)
@@ -160,27 +162,27 @@ renewal_counts false false base was told acks own other = ap (λ m. greatest m a
 acks_after : (slot : ℕ) → slot < 8 → (s : FeedState) → length s.acked ≡ 8 → (inputs : List In)
     → get_or (later s inputs).acked slot 0 ≡ greatest (cond (list_any (renews slot) inputs) s.base (get_or s.acked slot 0)) (acks_since slot inputs)
 acks_after slot l s eight [] = refl
-acks_after slot l s eight (Settled seq rows ∷ is) =
+acks_after slot l s eight (Settled seq rows ∷ fact) =
     let more : FeedState = record s { filed = s.filed ++ record { seq = seq; rows = rows } ∷ []; end = seq } in
-    by_test (λ (t : FeedState). get_or (later t is).acked slot 0 ≡ greatest (cond (list_any (renews slot) is) s.base (get_or s.acked slot 0))
-    (acks_since slot is)) (nat_lt s.end seq) more s
-    (λ _. acks_after slot l more eight is) (λ _. acks_after slot l s eight is)
-acks_after slot l s eight (Ack acker n ∷ is) =
+    by_test (λ (t : FeedState). get_or (later t fact).acked slot 0 ≡ greatest (cond (list_any (renews slot) fact) s.base (get_or s.acked slot 0))
+    (acks_since slot fact)) (nat_lt s.end seq) more s
+    (λ _. acks_after slot l more eight fact) (λ _. acks_after slot l s eight fact)
+acks_after slot l s eight (Ack acker n ∷ fact) =
     let t : FeedState = acknowledged s acker n in
-    let renewed : Bool = list_any (renews slot) is in
-    acks_after slot l t (kept_eight s (Ack acker n) eight) is
-    ∙ ap (λ b. greatest (cond renewed b (get_or t.acked slot 0)) (acks_since slot is)) (kept_base s (Ack acker n))
-    ∙ ack_counts (acker == slot) renewed s.base (get_or s.acked slot 0) (get_or t.acked slot 0) n (acks_since slot is) (ack_own slot l s eight acker n)
+    let renewed : Bool = list_any (renews slot) fact in
+    acks_after slot l t (kept_eight s (Ack acker n) eight) fact
+    ∙ ap (λ b. greatest (cond renewed b (get_or t.acked slot 0)) (acks_since slot fact)) (kept_base s (Ack acker n))
+    ∙ ack_counts (acker == slot) renewed s.base (get_or s.acked slot 0) (get_or t.acked slot 0) n (acks_since slot fact) (ack_own slot l s eight acker n)
     (ack_other slot l s eight acker n)
-acks_after slot l s eight (NewEpoch other ∷ is) =
+acks_after slot l s eight (NewEpoch other ∷ fact) =
     let t : FeedState = new_epoch s other in
-    let renewed : Bool = list_any (renews slot) is in
-    acks_after slot l t (kept_eight s (NewEpoch other) eight) is
-    ∙ ap (λ b. greatest (cond renewed b (get_or t.acked slot 0)) (acks_since slot is)) (kept_base s (NewEpoch other))
-    ∙ renewal_counts (other == slot) renewed s.base (get_or s.acked slot 0) (get_or t.acked slot 0) (acks_since slot is) (renew_own slot l s eight other)
+    let renewed : Bool = list_any (renews slot) fact in
+    acks_after slot l t (kept_eight s (NewEpoch other) eight) fact
+    ∙ ap (λ b. greatest (cond renewed b (get_or t.acked slot 0)) (acks_since slot fact)) (kept_base s (NewEpoch other))
+    ∙ renewal_counts (other == slot) renewed s.base (get_or s.acked slot 0) (get_or t.acked slot 0) (acks_since slot fact) (renew_own slot l s eight other)
     (renew_other slot l s eight other)
-acks_after slot l s eight (Push asked ∷ is) = acks_after slot l s eight is
-acks_after slot l s eight (Tick ∷ is) = acks_after slot l s eight is
+acks_after slot l s eight (Push asked ∷ fact) = acks_after slot l s eight fact
+acks_after slot l s eight (Tick ∷ fact) = acks_after slot l s eight fact
 
 -- ---- many inputs, from the start
 
@@ -192,8 +194,8 @@ pub record IsAfter (base : ℕ) (inputs : List In) (s : FeedState) : Type 0 wher
   pub acked_is : (slot : ℕ) → slot < 8 → get_or s.acked slot 0 ≡ acknowledged_by base slot inputs
 
 either_base : (renewed : Bool) (base was : ℕ) → was ≡ base → cond renewed base was ≡ base
-either_base true base was is = refl
-either_base false base was is = is
+either_base true base was fact = refl
+either_base false base was fact = fact
 
 pub is_after : (base : ℕ) (inputs : List In) → IsAfter base inputs (state_after base inputs)
 is_after base inputs = record {

@@ -34,24 +34,24 @@ rising_upto low (f ∷ fs) high r = All-cons (λ g. g.seq ≤ high) f fs (rising
 -- the filed segments rise from the base to the end
 pub filed_rising : (base : ℕ) (inputs : List In) → IsRising base (filed_by base inputs) (end_of base inputs)
 filed_rising base [] = omega arith
-filed_rising base (Settled seq rows ∷ is) =
-    let numbers : List ℕ = settled_numbers is in
+filed_rising base (Settled seq rows ∷ fact) =
+    let numbers : List ℕ = settled_numbers fact in
     elim (nat_lt base seq) as
     (λ t. nat_lt base seq ≡ t
-    → IsRising base (cond t (record { seq = seq; rows = rows } ∷ filed_by seq is) (filed_by base is)) (max seq (greatest base numbers))) [
+    → IsRising base (cond t (record { seq = seq; rows = rows } ∷ filed_by seq fact) (filed_by base fact)) (max seq (greatest base numbers))) [
       | true ↦ λ p.
           let above : base < seq = grind (arith, nat_tests) in
           let is_max : seq ≡ max seq base = omega (arith, above) in
-          (above, subst (IsRising seq (filed_by seq is)) (ap (λ m. greatest m numbers) is_max ∙ greatest-max seq base numbers) (filed_rising seq is))
+          (above, subst (IsRising seq (filed_by seq fact)) (ap (λ m. greatest m numbers) is_max ∙ greatest-max seq base numbers) (filed_rising seq fact))
       | false ↦ λ p.
           let below : seq ≤ base = grind (arith, nat_tests) in
           let is_max : base ≡ max seq base = omega (arith, below) in
-          subst (IsRising base (filed_by base is)) (ap (λ m. greatest m numbers) is_max ∙ greatest-max seq base numbers) (filed_rising base is)
+          subst (IsRising base (filed_by base fact)) (ap (λ m. greatest m numbers) is_max ∙ greatest-max seq base numbers) (filed_rising base fact)
     ] refl
-filed_rising base (Ack slot applied ∷ is) = filed_rising base is
-filed_rising base (NewEpoch slot ∷ is) = filed_rising base is
-filed_rising base (Push slot ∷ is) = filed_rising base is
-filed_rising base (Tick ∷ is) = filed_rising base is
+filed_rising base (Ack slot applied ∷ fact) = filed_rising base fact
+filed_rising base (NewEpoch slot ∷ fact) = filed_rising base fact
+filed_rising base (Push slot ∷ fact) = filed_rising base fact
+filed_rising base (Tick ∷ fact) = filed_rising base fact
 
 -- a block's rows are all among those of its slot
 kept : (slot : ℕ) (q : BlockId) → slot_of q.ino.0 ≡ slot → (rows : List (BlockId × Entry))

@@ -122,9 +122,9 @@ run = More (More
 
 -- What stands after the first n kinds of a list stands in it.
 listed : (n : ℕ) (k : Kind) (ks : List Kind) → In k (drop n ks) → In k ks
-listed zero k ks is = is
-listed (suc n) k [] is = absurd is
-listed (suc n) k (first ∷ ks) is = inr (listed n k ks is)
+listed zero k ks fact = fact
+listed (suc n) k [] fact = absurd fact
+listed (suc n) k (first ∷ ks) fact = inr (listed n k ks fact)
 
 pub takes_each : TakesEach run
 takes_each Kind.Bumps = listed 27 Kind.Bumps (kinds run) (inl refl)

@@ -92,11 +92,11 @@ none_read bytes rows e = let no' : ⊥ = cc in absurd no'
 
 read_more : (bytes rest : List ℕ) (row : Row) → bytes ≡ row_text row ++ rest → IsRow row → (o : Option (List Row))
     → ((more : List Row) → o ≡ Some more → IsRead rest more) → (rows : List Row) → with_row row o ≡ Some rows → IsRead bytes rows
-read_more bytes rest row text is None go rows e = none_read bytes rows (sym e)
-read_more bytes rest row text is (Some more) go rows e =
+read_more bytes rest row text fact None go rows e = none_read bytes rows (sym e)
+read_more bytes rest row text fact (Some more) go rows e =
     let same : row ∷ more ≡ rows = cc in
     let g = go more refl in
-    subst (IsRead bytes) same (text ∙ ap (λ (bs : List ℕ). row_text row ++ bs) g.0, (is, g.1))
+    subst (IsRead bytes) same (text ∙ ap (λ (bs : List ℕ). row_text row ++ bs) g.0, (fact, g.1))
 
 read_step : (bytes : List ℕ) (b : Bool) → has_row bytes ≡ b → AreBytes bytes → (o : Option (List Row))
     → ((more : List Row) → o ≡ Some more → IsRead (drop (name_length bytes) (drop 6 bytes)) more) → (rows : List Row)

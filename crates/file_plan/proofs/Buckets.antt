@@ -78,9 +78,9 @@ read_content [] = refl
 read_content (b ∷ bs) = refl
 
 pub bucket_read : (value : Content) (rows : List Row) → IsBucketOf value rows → read_bucket value ≡ Some rows
-bucket_read value rows is =
-    ap read_bucket is.text ∙ read_content (rows_text rows) ∙ ap in_order (rows_back rows (length (rows_text rows)) (omega arith) is.each)
-    ∙ ap (λ (b : Bool). cond b (Some rows) None) is.rising
+bucket_read value rows fact =
+    ap read_bucket fact.text ∙ read_content (rows_text rows) ∙ ap in_order (rows_back rows (length (rows_text rows)) (omega arith) fact.each)
+    ∙ ap (λ (b : Bool). cond b (Some rows) None) fact.rising
 
 forms : (kinds : Ino → Option Kind) (bucket : ℕ) (rows : List Row) → AllByRecursion (IsEntry kinds bucket) rows → AllByRecursion IsRow rows
 forms kinds bucket [] all = tt
@@ -88,7 +88,7 @@ forms kinds bucket (row ∷ rows) all = (all.0.form, forms kinds bucket rows all
 
 pub bucket_back : (kinds : Ino → Option Kind) (bucket : ℕ) (value : Content) (rows : List Row) → IsBucket kinds bucket value rows
     → read_bucket value ≡ Some rows
-bucket_back kinds bucket value rows is = bucket_read value rows (record { text = is.text; rising = is.rising; each = forms kinds bucket rows is.each })
+bucket_back kinds bucket value rows fact = bucket_read value rows (record { text = fact.text; rising = fact.rising; each = forms kinds bucket rows fact.each })
 
 -- ---- what names lead to
 
@@ -109,8 +109,8 @@ name_itself a = ap is_eq (tied_itself name_total a)
 -- what holds of each entry holds of the one that a name leads to
 found_step : (P : Row → Type 0) (name : Name) (row : Row) (rest : Option Node) (t : Bool) → eq_by_cmp name_cmp name row.0 ≡ t → P row
     → IfSome rest (λ node. P (name, node)) → IfSome (cond t (Some row.1) rest) (λ node. P (name, node))
-found_step P name row rest true is here more = subst (λ (n : Name). P (n, row.1)) (sym (one_name name row.0 is)) here
-found_step P name row rest false is here more = more
+found_step P name row rest true fact here more = subst (λ (n : Name). P (n, row.1)) (sym (one_name name row.0 fact)) here
+found_step P name row rest false fact here more = more
 
 pub named_each : (P : Row → Type 0) (name : Name) (rows : List Row) → AllByRecursion P rows → IfSome (named name rows) (λ node. P (name, node))
 named_each P name [] all = tt

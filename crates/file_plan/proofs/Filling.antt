@@ -105,7 +105,7 @@ module _ (file : Ino) (end : ℕ) (Q : Post) (m : ℕ) where
 -- a byte of the file by its place, also past the file's end
 byte_of : (t : Table) (file : Ino) (size : ℕ) → IsFile t file size → (k : ℕ) → k / block_size ≢ size_block
     → get_or ((tree_of t).bytes file) k 0 ≡ byte_at t file k
-byte_of t file size is k data' = ap (λ (n : ℕ). get_or (cells t file 0 n) k 0) (size_is t file size is) ∙ by (le_cases size k)
+byte_of t file size fact k data' = ap (λ (n : ℕ). get_or (cells t file 0 n) k 0) (size_is t file size fact) ∙ by (le_cases size k)
   where
     inside : k < size → get_or (cells t file 0 size) k 0 ≡ byte_at t file k
     inside less = get_or-map-range_with_len (byte_at t file) 0 size k k 0 less (omega arith)
@@ -113,7 +113,7 @@ byte_of t file size is k data' = ap (λ (n : ℕ). get_or (cells t file 0 n) k 0
     past : size ≤ k → get_or (cells t file 0 size) k 0 ≡ byte_at t file k
     past le =
         let l = length-map-range_with_len (byte_at t file) 0 size in
-        let blk = is.blocks (k / block_size) data' in
+        let blk = fact.blocks (k / block_size) data' in
         let le' : length (cells t file 0 size) ≤ k = omega (arith, l, le) in
         get_or_past (cells t file 0 size) k 0 le'
         ∙ sym (get_or_past (bytes_in (t file (k / block_size))) (k % block_size) 0 (short (eq_cases (length (bytes_in (t file (k / block_size)))) 0)))
@@ -121,7 +121,7 @@ byte_of t file size is k data' = ap (λ (n : ℕ). get_or (cells t file 0 n) k 0
         short : (length (bytes_in (t file (k / block_size))) ≡ 0) ⊎ (length (bytes_in (t file (k / block_size))) ≢ 0)
             → length (bytes_in (t file (k / block_size))) ≤ k % block_size
         short (inl e) = omega (arith, e)
-        short (inr e) = let g = (is.blocks (k / block_size) data').below (omega (arith, e)) in omega (arith, g, le)
+        short (inr e) = let g = (fact.blocks (k / block_size) data').below (omega (arith, e)) in omega (arith, g, le)
 
     by : (size ≤ k) ⊎ (k ≤ size) → get_or (cells t file 0 size) k 0 ≡ byte_at t file k
     by (inl le) = past le
@@ -135,7 +135,7 @@ byte_of t file size is k data' = ap (λ (n : ℕ). get_or (cells t file 0 n) k 0
 bytes_over : (t v u : Table) (file : Ino) (size later offset : ℕ) (new : List ℕ) → IsFile t file size → Filled file offset new t v → IsFile u file later
     → ((b : ℕ) → b ≢ size_block → u file b ≡ v file b)
     → later ≡ max size (offset + length new) → (tree_of u).bytes file ≡ overlaid ((tree_of t).bytes file) offset new
-bytes_over t v u file size later offset new is filled now same both =
+bytes_over t v u file size later offset new fact filled now same both =
     ap (λ (n : ℕ). cells u file 0 n) (size_is u file later now)
     ∙ same_lists (cells u file 0 later) (overlaid ((tree_of t).bytes file) offset new) (long ∙ sym long') (λ k d below.
     let less : k < later = omega (arith, long, below) in
@@ -149,7 +149,7 @@ bytes_over t v u file size later offset new is filled now same both =
     ∙ ap (λ (c : Content). get_or (bytes_in c) (k % block_size) 0) (same (k / block_size) data')
     ∙ filled.bytes (k / block_size) (k % block_size) data' small
     ∙ ap (λ (i : ℕ). cell (byte_at t file k) i offset new) whole_k
-    ∙ ap (λ (b : ℕ). cell b k offset new) (sym (byte_of t file size is k data'))
+    ∙ ap (λ (b : ℕ). cell b k offset new) (sym (byte_of t file size fact k data'))
     ∙ sym (overlaid_at ((tree_of t).bytes file) offset new k)
     ∙ get_or_default (overlaid ((tree_of t).bytes file) offset new) k 0 d less')
   where
@@ -157,13 +157,13 @@ bytes_over t v u file size later offset new is filled now same both =
     long = length-map-range_with_len (byte_at u file) 0 later
 
     long' : length (overlaid ((tree_of t).bytes file) offset new) ≡ later
-    long' = length_overlaid ((tree_of t).bytes file) offset new ∙ ap (λ (n : ℕ). max n (offset + length new)) (length_is t file size is) ∙ sym both
+    long' = length_overlaid ((tree_of t).bytes file) offset new ∙ ap (λ (n : ℕ). max n (offset + length new)) (length_is t file size fact) ∙ sym both
 
 raised : (size end b : ℕ) (value : Content) → size ≤ end → IsBlock size b value → IsBlock end b value
-raised size end b value le is = record { short = is.short; below = λ some. let g = is.below some in omega (arith, g, le) }
+raised size end b value le fact = record { short = fact.short; below = λ some. let g = fact.below some in omega (arith, g, le) }
 
 module _ (kinds : Ino → Option Kind) (w : World) (sound : Sound kinds w.value) (file : Ino) (k : kinds file ≡ Some kind.File) (size : ℕ)
-    (is : IsFile w.value file size) where
+    (fact : IsFile w.value file size) where
   put_meets_tree : (bytes : List ℕ) (u : Table) (later : ℕ) → ((i : Ino) (b : ℕ) → i ≢ file → u i b ≡ w.value i b) → IsFile u file later
       → (tree_of u).bytes file ≡ bytes
       → Meets kinds w.value (answered (with_bytes (tree_of w.value) file bytes) Done) Done u
@@ -182,7 +182,7 @@ module _ (kinds : Ino → Option Kind) (w : World) (sound : Sound kinds w.value)
       → Comes 2 (Measures file (Raises (offset + length new))) v
       (Owes kinds w.value (answered (with_bytes (tree_of w.value) file (overlaid ((tree_of w.value).bytes file) offset new)) Done))
   grows offset new some fits v filled =
-      measures_read v file size (ap read_size filled.sized ∙ stored_size w.value file size is) (Raises end) 1 Q (by (nat_le end size) refl)
+      measures_read v file size (ap read_size filled.sized ∙ stored_size w.value file size fact) (Raises end) 1 Q (by (nat_le end size) refl)
     where
       end : ℕ
       end = offset + length new
@@ -194,9 +194,9 @@ module _ (kinds : Ino → Option Kind) (w : World) (sound : Sound kinds w.value)
       by true e =
           let le : offset + length new ≤ size = grind (arith, nat_tests) in
           let now : IsFile v.value file size =
-          record { stored = filled.sized ∙ is.stored; bound = is.bound; blocks = λ b n. filled.blocks size (λ _. le) b n (is.blocks b n) } in
+          record { stored = filled.sized ∙ fact.stored; bound = fact.bound; blocks = λ b n. filled.blocks size (λ _. le) b n (fact.blocks b n) } in
           put_meets_tree (overlaid ((tree_of w.value).bytes file) offset new) v.value size filled.others now
-          (bytes_over w.value v.value v.value file size size offset new is filled now (λ b n. refl) (omega (arith, le)))
+          (bytes_over w.value v.value v.value file size size offset new fact filled now (λ b n. refl) (omega (arith, le)))
       by false e =
           let le : size < offset + length new = grind (arith, nat_tests) in
           let u = put_at v.value file size_block (size_content end) in
@@ -204,13 +204,13 @@ module _ (kinds : Ino → Option Kind) (w : World) (sound : Sound kinds w.value)
             stored = put_here v.value file size_block (size_content end);
             bound = fits;
             blocks = λ b n. subst (IsBlock end b) (sym (put_beside v.value file size_block (size_content end) file b n))
-                (filled.blocks end (λ _. omega arith) b n (raised size end b (w.value file b) (omega (arith, le)) (is.blocks b n)));
+                (filled.blocks end (λ _. omega arith) b n (raised size end b (w.value file b) (omega (arith, le)) (fact.blocks b n)));
           } in
           written_at v file size_block (v.ver file size_block) (size_content end)
           (λ a x. Comes 0 (after_answer (Grows file end (v.ver file size_block)) a) x Q) refl
           (put_meets_tree (overlaid ((tree_of w.value).bytes file) offset new) u end
           (λ i b h. put_other v.value file size_block (size_content end) i b h ∙ filled.others i b h) now
-          (bytes_over w.value v.value u file size end offset new is filled now (λ b n. put_beside v.value file size_block (size_content end) file b n)
+          (bytes_over w.value v.value u file size end offset new fact filled now (λ b n. put_beside v.value file size_block (size_content end) file b n)
           (omega (arith, le))))
 
   pub puts : (offset : ℕ) (new : List ℕ) → offset + length new ≤ file_end
@@ -218,9 +218,9 @@ module _ (kinds : Ino → Option Kind) (w : World) (sound : Sound kinds w.value)
       (Owes kinds w.value (answered (with_bytes (tree_of w.value) file (bytes_after ((tree_of w.value).bytes file) offset new)) Done))
   puts offset [] fits =
       more_steps 1 (twice (blocks_of 0 + 1) 2) (Measures file (Raises 0)) w Q (let e = twice_is (blocks_of 0 + 1) 2 in omega (arith, e))
-      (measures w file size is (Raises 0) 0 Q
+      (measures w file size fact (Raises 0) 0 Q
       (subst (λ (b : Bool). Comes 0 (cond b (Ends Done) (Grows file 0 (w.ver file size_block))) w Q) (sym nothing)
-      (put_meets_tree ((tree_of w.value).bytes file) w.value size (λ i b h. refl) is refl)))
+      (put_meets_tree ((tree_of w.value).bytes file) w.value size (λ i b h. refl) fact refl)))
     where
       Q : Post
       Q = Owes kinds w.value (answered (with_bytes (tree_of w.value) file ((tree_of w.value).bytes file)) Done)
@@ -281,7 +281,7 @@ put_meets path offset bytes kinds w number client sound fresh =
     replies (start (call.Put path offset bytes) ino) (length path + (2 * (blocks_of (length bytes) + 1) + 2)) [] w _
     (more_steps (length path + n) (length path + (2 * (blocks_of (length bytes) + 1) + 2)) (start (call.Put path offset bytes) ino) w _ (omega (arith, e))
     (named_first kinds kinds w sound sound (call.Put path offset bytes) ino (length path + n) (λ good.
-    by_path kinds kinds w sound sound (Puts offset bytes) n IsDir (does_put (tree_of w.value) offset bytes) (λ dir name is _.
-    looks kinds kinds w sound sound (Puts offset bytes) n (of_file (tree_of w.value) (put_of kinds w sound offset bytes)) dir name is
+    by_path kinds kinds w sound sound (Puts offset bytes) n IsDir (does_put (tree_of w.value) offset bytes) (λ dir name fact _.
+    looks kinds kinds w sound sound (Puts offset bytes) n (of_file (tree_of w.value) (put_of kinds w sound offset bytes)) dir name fact
     (λ rows before o e entry. put_found kinds w sound offset bytes dir name rows (w.ver dir (bucket_number name)) o entry))
     path good)))

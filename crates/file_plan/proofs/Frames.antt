@@ -105,10 +105,10 @@ bytes_same t u file same =
     (λ i blk. same blk i)
 
 pub file_same : (t u : Table) (file : Ino) (size : ℕ) → ((blk : ℕ) → u file blk ≡ t file blk) → IsFile t file size → IsFile u file size
-file_same t u file size same is = record {
-  stored = same size_block ∙ is.stored;
-  bound = is.bound;
-  blocks = λ blk data'. subst (IsBlock size blk) (sym (same blk)) (is.blocks blk data');
+file_same t u file size same fact = record {
+  stored = same size_block ∙ fact.stored;
+  bound = fact.bound;
+  blocks = λ blk data'. subst (IsBlock size blk) (sym (same blk)) (fact.blocks blk data');
 }
 
 pub apart_kinds : (kinds : Ino → Option Kind) (a b : Ino) (m n : Option Kind) → kinds a ≡ m → kinds b ≡ n → m ≢ n → a ≢ b
@@ -116,7 +116,7 @@ apart_kinds kinds a b m n p q h e = h (sym p ∙ ap kinds e ∙ q)
 
 -- ---- one bucket is written
 
-module _ (kinds : Ino → Option Kind) (t : Table) (sound : Sound kinds t) (dir : Ino) (is : kinds dir ≡ Some kind.Directory) (bucket : ℕ) (rows : List Row)
+module _ (kinds : Ino → Option Kind) (t : Table) (sound : Sound kinds t) (dir : Ino) (fact : kinds dir ≡ Some kind.Directory) (bucket : ℕ) (rows : List Row)
     (before : IsBucket kinds bucket (t dir bucket) rows)
     (now : List Row) (after : IsBucket kinds bucket (content_of (rows_text now)) now) where
   abbrev pub with_rows : Table
@@ -126,7 +126,7 @@ module _ (kinds : Ino → Option Kind) (t : Table) (sound : Sound kinds t) (dir 
   bucket_now = record { text = put_here t dir bucket (content_of (rows_text now)); rising = after.rising; each = after.each }
 
   pub file_beside : (ino : Ino) (n : Option Kind) → kinds ino ≡ n → n ≢ Some kind.Directory → (blk : ℕ) → with_rows ino blk ≡ t ino blk
-  file_beside ino n k other blk = put_other t dir bucket (content_of (rows_text now)) ino blk (apart_kinds kinds ino dir n (Some kind.Directory) k is other)
+  file_beside ino n k other blk = put_other t dir bucket (content_of (rows_text now)) ino blk (apart_kinds kinds ino dir n (Some kind.Directory) k fact other)
 
   bucket_of : (d : Ino) (k : ℕ) → kinds d ≡ Some kind.Directory → k < 8 → (d ≡ dir) ⊎ (d ≢ dir) → (k ≡ bucket) ⊎ (k ≢ bucket)
       → (r : List Row) × IsBucket kinds k (with_rows d k) r
@@ -197,26 +197,26 @@ length_content (b ∷ bs) = refl
 pub room_is : (kinds : Ino → Option Kind) (t : Table) (dir : Ino) (name : Name) (rows : List Row) (node : Node)
     → IsBucket kinds (bucket_number name) (t dir (bucket_number name)) rows → named name rows ≡ None
     → fits (insert_entry name_cmp rows name node) ≡ has_room t dir name
-room_is kinds t dir name rows node is none =
+room_is kinds t dir name rows node fact none =
     ap (λ (n : ℕ). nat_le n block_size)
     (length-insert name node rows none
-    ∙ ap (λ (n : ℕ). n + (6 + length name)) (sym (ap (λ (v : Content). length (bytes_in v)) is.text ∙ length_content (rows_text rows))))
+    ∙ ap (λ (n : ℕ). n + (6 + length name)) (sym (ap (λ (v : Content). length (bytes_in v)) fact.text ∙ length_content (rows_text rows))))
 
 pub bucket_more : (kinds : Ino → Option Kind) (bucket : ℕ) (value : Content) (name : Name) (rows : List Row) (node : Node) → IsBucket kinds bucket value rows
     → IsEntry kinds bucket (name, node)
     → IsBucket kinds bucket (content_of (rows_text (insert_entry name_cmp rows name node))) (insert_entry name_cmp rows name node)
-bucket_more kinds bucket value name rows node is entry = record {
+bucket_more kinds bucket value name rows node fact entry = record {
   text = refl;
-  rising = rising-insert name node rows is.rising;
-  each = all-insert (IsEntry kinds bucket) name node rows entry is.each;
+  rising = rising-insert name node rows fact.rising;
+  each = all-insert (IsEntry kinds bucket) name node rows entry fact.each;
 }
 
 pub bucket_less : (kinds : Ino → Option Kind) (bucket : ℕ) (value : Content) (name : Name) (rows : List Row) → IsBucket kinds bucket value rows
     → IsBucket kinds bucket (content_of (rows_text (without name rows))) (without name rows)
-bucket_less kinds bucket value name rows is = record {
+bucket_less kinds bucket value name rows fact = record {
   text = refl;
-  rising = from_T _ (rising-remove name rows (is_T (is_sorted name_cmp rows) is.rising));
-  each = all-remove (IsEntry kinds bucket) name rows is.each;
+  rising = from_T _ (rising-remove name rows (is_T (is_sorted name_cmp rows) fact.rising));
+  each = all-remove (IsEntry kinds bucket) name rows fact.each;
 }
 
 -- ---- a number that is nobody's may become a file's or a directory's
@@ -232,10 +232,11 @@ kept_else kinds ino made i h = ap (λ (b : Bool). cond b (Some made) (kinds i)) 
 
 entry_kept : (kinds : Ino → Option Kind) (t : Table) (ino : Ino) (made : Kind) → IsFresh kinds t ino → (bucket : ℕ) (row : Row) → IsEntry kinds bucket row
     → IsEntry (kept_as kinds ino made) bucket row
-entry_kept kinds t ino made fresh bucket row is = record {
-  form = is.form;
-  own = is.own;
-  kept = kept_else kinds ino made row.1.ino (apart_kinds kinds row.1.ino ino (Some row.1.kind) None is.kept fresh.nobody (some_nobody row.1.kind)) ∙ is.kept;
+entry_kept kinds t ino made fresh bucket row fact = record {
+  form = fact.form;
+  own = fact.own;
+  kept = kept_else kinds ino made row.1.ino (apart_kinds kinds row.1.ino ino (Some row.1.kind) None fact.kept fresh.nobody (some_nobody row.1.kind))
+      ∙ fact.kept;
 }
 
 entries_kept : (kinds : Ino → Option Kind) (t : Table) (ino : Ino) (made : Kind) → IsFresh kinds t ino → (bucket : ℕ) (rows : List Row)

@@ -49,8 +49,8 @@ few_steps (call.Mv from to) h = omega (arith, h.0, h.1)
 nothing_sound : Sound root_alone nothing_written.value
 nothing_sound = record {
   root_is_directory = refl;
-  directories = λ dir bucket is small. ([], record { text = refl; rising = refl; each = tt });
-  files = λ file is. (0, no_file nothing_written.value file (λ blk. refl));
+  directories = λ dir bucket fact small. ([], record { text = refl; rising = refl; each = tt });
+  files = λ file fact. (0, no_file nothing_written.value file (λ blk. refl));
 }
 
 rests : (x : Next) (w : World) (Q R : Post) → ((given : Answer) (now : World) → Q given now → R given now) → Rests x w Q → Rests x w R

@@ -81,8 +81,8 @@ ordered_short n (Some rows) le h = by (is_sorted name_cmp rows)
     by false = tt
 
 read_short : (value : Content) → IsValue value → Short (read_rows (bytes_in value))
-read_short None is = omega arith
-read_short (Some bytes) is = ordered_short (length bytes) (rows_from (length bytes) bytes) is.1 (λ rows e. rows_length (length bytes) bytes rows e)
+read_short None fact = omega arith
+read_short (Some bytes) fact = ordered_short (length bytes) (rows_from (length bytes) bytes) fact.1 (λ rows e. rows_length (length bytes) bytes rows e)
 
 size_short : (value : Content) → IfSome (size_in (bytes_in value)) (λ size. size ≤ file_end)
 size_short None = omega arith
@@ -248,13 +248,13 @@ in_entered (Unlinks old) ino = tt
 -- ---- answers
 
 in_got : (s : PlanState) (ver : ℕ) (value : Content) → IsValue value → IsInRange s → IsInRange (on_got s ver value)
-in_got (Ends answer) ver value is h = tt
-in_got (Walks dir name onto rest job) ver value is h = in_walked name onto rest job (read_rows (bytes_in value))
-in_got (Looks dir name job) ver value is h = in_looked dir name ver job (read_rows (bytes_in value)) (read_short value is)
-in_got (Enters dir name v rows ino job) ver value is h = h
-in_got (Syncs dir name node) ver value is h = tt
-in_got (Measures ino task) ver value is h = in_measured ino task ver (size_in (bytes_in value)) (size_short value)
-in_got (Fetches ino blk low left got) ver value is h =
+in_got (Ends answer) ver value fact h = tt
+in_got (Walks dir name onto rest job) ver value fact h = in_walked name onto rest job (read_rows (bytes_in value))
+in_got (Looks dir name job) ver value fact h = in_looked dir name ver job (read_rows (bytes_in value)) (read_short value fact)
+in_got (Enters dir name v rows ino job) ver value fact h = h
+in_got (Syncs dir name node) ver value fact h = tt
+in_got (Measures ino task) ver value fact h = in_measured ino task ver (size_in (bytes_in value)) (size_short value)
+in_got (Fetches ino blk low left got) ver value fact h =
     let k = in_block low left in
     let first = h.0.first in
     let last = h.0.last in
@@ -263,13 +263,13 @@ in_got (Fetches ino blk low left got) ver value is h =
     let f = length_cut (bytes_in value) low k in
     in_fetching ino (blk + 1) 0 (left - k) (got ++ cut_of (bytes_in value) low k) (omega arith) (λ some. omega (arith, first, last, some))
     (omega (arith, all, e, f))
-in_got (Fills ino blk bytes end) ver value is h = h
-in_got (Takes ino blk low bytes end) ver value is h = h
-in_got (Patches ino blk low bytes end v old) ver value is h = h
-in_got (Grows ino end v) ver value is h = tt
-in_got (Empties ino blk left v) ver value is h = h
-in_got (Closes ino v) ver value is h = tt
-in_got (Gathers dir blk left rows) ver value is h = in_gathered dir blk left rows (read_rows (bytes_in value)) (omega (arith, h))
+in_got (Fills ino blk bytes end) ver value fact h = h
+in_got (Takes ino blk low bytes end) ver value fact h = h
+in_got (Patches ino blk low bytes end v old) ver value fact h = h
+in_got (Grows ino end v) ver value fact h = tt
+in_got (Empties ino blk left v) ver value fact h = h
+in_got (Closes ino v) ver value fact h = tt
+in_got (Gathers dir blk left rows) ver value fact h = in_gathered dir blk left rows (read_rows (bytes_in value)) (omega (arith, h))
 
 in_written : (s : PlanState) → IsInRange s → IsInRange (on_written s)
 in_written (Ends answer) h = tt
@@ -327,10 +327,10 @@ in_synced (Closes ino v) h = tt
 in_synced (Gathers dir blk left rows) h = h
 
 pub in_after : (s : PlanState) (a : BlockAnswer) → IsAnswer a → IsInRange s → IsInRange (after_answer s a)
-in_after s (Got ver value) is h = in_got s ver value is h
-in_after s (Written ver) is h = in_written s h
-in_after s Changed is h = in_changed s h
-in_after s Synced is h = in_synced s h
+in_after s (Got ver value) fact h = in_got s ver value fact h
+in_after s (Written ver) fact h = in_written s h
+in_after s Changed fact h = in_changed s h
+in_after s Synced fact h = in_synced s h
 
 in_named : (c : FileCall) (ino : Ino) → IsInRange (start_named c ino)
 in_named (call.Mk path) ino = in_path path Exists (Makes (record { kind = kind.File; ino = ino }))

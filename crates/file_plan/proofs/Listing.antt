@@ -35,8 +35,8 @@ or_none (Some node) = refl
 
 insert_step : (q : Name) (row : Row) (more : List Row) (o : Option Node) (t : Bool) → eq_by_cmp name_cmp q row.0 ≡ t → T (below_all name_cmp row.0 more)
     → or_else (named q more) (cond t (Some row.1) o) ≡ or_else (cond t (Some row.1) (named q more)) o
-insert_step q row more o true is below = ap (λ (p : Option Node). or_else p (Some row.1)) (none_below row.0 q more (one_name q row.0 is) below)
-insert_step q row more o false is below = refl
+insert_step q row more o true fact below = ap (λ (p : Option Node). or_else p (Some row.1)) (none_below row.0 q more (one_name q row.0 fact) below)
+insert_step q row more o false fact below = refl
 
 named-insert_all : (q : Name) (rows more : List Row) → T (is_sorted name_cmp more) → named q (insert_all rows more) ≡ or_else (named q more) (named q rows)
 named-insert_all q rows [] rising = refl
@@ -52,9 +52,9 @@ rising-insert_all rows (row ∷ more) h = rising-insert_all (insert_entry name_c
 -- what a name leads to, by the entries of its bucket
 pub entries_are : (kinds : Ino → Option Kind) (t : Table) (dir : Ino) (bucket : ℕ) (rows : List Row) → IsBucket kinds bucket (t dir bucket) rows → (name : Name)
     → bucket_number name ≡ bucket → (tree_of t).entries dir name ≡ named name rows
-entries_are kinds t dir bucket rows is name own =
+entries_are kinds t dir bucket rows fact name own =
     ap (λ (k : ℕ). named name (rows_of (t dir k))) own
-    ∙ ap (λ (o : Option (List Row)). named name (unwrap_or o [])) (bucket_back kinds bucket (t dir bucket) rows is)
+    ∙ ap (λ (o : Option (List Row)). named name (unwrap_or o [])) (bucket_back kinds bucket (t dir bucket) rows fact)
 
 lt_true : (n m : ℕ) → n < m → nat_lt n m ≡ true
 lt_true n m h = grind (arith, nat_tests)
@@ -83,11 +83,11 @@ IsSoFar tree dir blk rows = (name : Name) → named name rows ≡ cond (nat_lt (
 
 one_more : (kinds : Ino → Option Kind) (t : Table) (dir : Ino) (blk : ℕ) (rows more : List Row) → IsBucket kinds blk (t dir blk) more
     → IsSoFar (tree_of t) dir blk rows → IsSoFar (tree_of t) dir (blk + 1) (insert_all rows more)
-one_more kinds t dir blk rows more is so_far name =
+one_more kinds t dir blk rows more fact so_far name =
     let b = bucket_number name in
     let E = (tree_of t).entries dir name in
-    let own = own_only kinds blk name (named name more) (named_each (IsEntry kinds blk) name more is.each) in
-    named-insert_all name rows more (is_T (is_sorted name_cmp more) is.rising)
+    let own = own_only kinds blk name (named name more) (named_each (IsEntry kinds blk) name more fact.each) in
+    named-insert_all name rows more (is_T (is_sorted name_cmp more) fact.rising)
     ∙ elim (three b blk) as (λ _. or_else (named name more) (named name rows) ≡ cond (nat_lt b (blk + 1)) E None) [
       | inl less ↦
           let l : b < blk + 1 = omega (arith, less) in
@@ -97,7 +97,7 @@ one_more kinds t dir blk rows more is so_far name =
           let l : b < blk + 1 = omega (arith, same) in
           let g : blk ≤ b = omega (arith, same) in
           ap (λ (o : Option Node). or_else (named name more) o) (so_far name ∙ ap (λ (t : Bool). cond t E None) (lt_false b blk g)) ∙ or_none (named name more)
-          ∙ sym (entries_are kinds t dir blk more is name same) ∙ ap (λ (t : Bool). cond t E None) (sym (lt_true b (blk + 1) l))
+          ∙ sym (entries_are kinds t dir blk more fact name same) ∙ ap (λ (t : Bool). cond t E None) (sym (lt_true b (blk + 1) l))
       | inr (inr more') ↦
           let l : blk + 1 ≤ b = omega (arith, more') in
           let g : blk ≤ b = omega (arith, more') in
@@ -115,7 +115,7 @@ module _ (kinds later : Ino → Option Kind) (w : World) (sound : Sound kinds w.
   gathers : (dir : Ino) → kinds dir ≡ Some kind.Directory → (left blk : ℕ) (rows : List Row) → blk + left ≡ 8 → is_sorted name_cmp rows ≡ true
       → IsSoFar (tree_of w.value) dir blk rows
       → Comes left (gathering dir blk left rows) w (Owes later w.value (shows dir))
-  gathers dir is zero blk rows eight rising so_far = record {
+  gathers dir fact zero blk rows eight rising so_far = record {
     said = (
       rows,
       record {
@@ -130,25 +130,25 @@ module _ (kinds later : Ino → Option Kind) (w : World) (sound : Sound kinds w.
     held = record { entries = λ d name i. refl; bytes = λ file i. refl };
     others = λ ino blk i. refl;
   }
-  gathers dir is (suc left) blk rows eight rising so_far =
+  gathers dir fact (suc left) blk rows eight rising so_far =
       let small : blk < 8 = omega (arith, eight) in
-      let b = sound.directories dir blk is small in
+      let b = sound.directories dir blk fact small in
       let more : blk + 1 + left ≡ 8 = omega (arith, eight) in
       subst (λ (o : Option (List Row)). Comes left (gathered dir blk left rows o) w (Owes later w.value (shows dir)))
       (sym (bucket_back kinds blk (w.value dir blk) b.0 b.1))
-      (gathers dir is left (blk + 1) (insert_all rows b.0) more (rising-insert_all rows b.0 rising) (one_more kinds w.value dir blk rows b.0 b.1 so_far))
+      (gathers dir fact left (blk + 1) (insert_all rows b.0) more (rising-insert_all rows b.0 rising) (one_more kinds w.value dir blk rows b.0 b.1 so_far))
 
   nothing_yet : (dir : Ino) → IsSoFar (tree_of w.value) dir 0 []
   nothing_yet dir name = let l : 0 ≤ bucket_number name =
       omega arith in ap (λ (t : Bool). cond t ((tree_of w.value).entries dir name) None) (sym (lt_false (bucket_number name) 0 l))
 
   gathers_all : (dir : Ino) → kinds dir ≡ Some kind.Directory → Comes 8 (gathering dir 0 8 []) w (Owes later w.value (shows dir))
-  gathers_all dir is = gathers dir is 8 0 [] refl refl (nothing_yet dir)
+  gathers_all dir fact = gathers dir fact 8 0 [] refl refl (nothing_yet dir)
 
   list_node : (name : Name) (node : Node) (b : Bool) → is_directory node ≡ b → IsEntry kinds (bucket_number name) (name, node)
       → Comes 8 (cond b (gathering node.ino 0 8 []) (Ends (File NotDir))) w (Owes later w.value (cond b (shows node.ino) (refused (tree_of w.value) NotDir)))
-  list_node name node true is entry = gathers_all node.ino (entry.kept ∙ ap Some (directory_is node is))
-  list_node name node false is entry = refuses_with kinds later w sound after 8 NotDir
+  list_node name node true fact entry = gathers_all node.ino (entry.kept ∙ ap Some (directory_is node fact))
+  list_node name node false fact entry = refuses_with kinds later w sound after 8 NotDir
 
   list_found : (dir : Ino) (name : Name) (rows : List Row) (ver : ℕ) (o : Option Node) → IfSome o (λ node. IsEntry kinds (bucket_number name) (name, node))
       → Comes 8 (looked_at dir name ver rows Lists o) w (Owes later w.value (shown_of (tree_of w.value) o))
@@ -158,8 +158,8 @@ module _ (kinds later : Ino → Option Kind) (w : World) (sound : Sound kinds w.
   lists : (path : List Name) → list_all is_good path ≡ true → Comes (length path + 8) (listing path) w (Owes later w.value (does_list (tree_of w.value) path))
   lists [] good = gathers_all root sound.root_is_directory
   lists (name ∷ rest) good =
-      by_path kinds later w sound after Lists 8 IsDir (λ dir last. shown_of (tree_of w.value) ((tree_of w.value).entries dir last)) (λ dir last is _.
-      looks kinds later w sound after Lists 8 (shown_of (tree_of w.value)) dir last is
+      by_path kinds later w sound after Lists 8 IsDir (λ dir last. shown_of (tree_of w.value) ((tree_of w.value).entries dir last)) (λ dir last fact _.
+      looks kinds later w sound after Lists 8 (shown_of (tree_of w.value)) dir last fact
       (λ rows bucket o e entry. list_found dir last rows (w.ver dir (bucket_number last)) o entry))
       (name ∷ rest) good
 

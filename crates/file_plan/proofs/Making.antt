@@ -36,53 +36,53 @@ module _ (kinds : Ino → Option Kind) (w : World) (sound : Sound kinds w.value)
       → (node : Node) → IsEntry kinds (bucket_number name) (name, node) → (given answer : Answer) → given ≡ answer
       → Meets kinds w.value (answered (with_entry (tree_of w.value) dir name (Some node)) answer) given
       (write w dir (bucket_number name) (content_of (rows_text (insert_entry name_cmp rows name node)))).value
-  holds_more dir is name rows before node entry given answer same =
+  holds_more dir fact name rows before node entry given answer same =
       let b = bucket_number name in
       let now = insert_entry name_cmp rows name node in
       let next_one = bucket_more kinds b (w.value dir b) name rows node before entry in
       record {
         said = same;
-        sound = sound_now kinds w.value sound dir is b rows before now next_one;
+        sound = sound_now kinds w.value sound dir fact b rows before now next_one;
         held = record {
-          entries = λ d q i. entries_now kinds w.value sound dir is b rows before now next_one name (Some node) refl (λ r. named-insert r name node rows) d q;
-          bytes = λ file k. bytes_same w.value (with_rows kinds w.value sound dir is b rows before now next_one) file
-              (file_beside kinds w.value sound dir is b rows before now next_one file (Some kind.File) k file_directory);
+          entries = λ d q i. entries_now kinds w.value sound dir fact b rows before now next_one name (Some node) refl (λ r. named-insert r name node rows) d q;
+          bytes = λ file k. bytes_same w.value (with_rows kinds w.value sound dir fact b rows before now next_one) file
+              (file_beside kinds w.value sound dir fact b rows before now next_one file (Some kind.File) k file_directory);
         };
-        others = λ ino blk k. file_beside kinds w.value sound dir is b rows before now next_one ino None k (nobody_directory None refl) blk;
+        others = λ ino blk k. file_beside kinds w.value sound dir fact b rows before now next_one ino None k (nobody_directory None refl) blk;
       }
 
   module _ (node : Node) (small : node.ino.0 < 2 ^ 32) (kept : kinds node.ino ≡ Some node.kind) where
-    make_room : (dir : Ino) (is : kinds dir ≡ Some kind.Directory) (name : Name) (good : is_good name ≡ true) (rows : List Row)
+    make_room : (dir : Ino) (fact : kinds dir ≡ Some kind.Directory) (name : Name) (good : is_good name ≡ true) (rows : List Row)
         (before : IsBucket kinds (bucket_number name) (w.value dir (bucket_number name)) rows) (b : Bool)
         → Comes 1 (cond b (Enters dir name (w.ver dir (bucket_number name)) (insert_entry name_cmp rows name node) node.ino (Makes node)) (Ends (File DirFull)))
         w
         (Owes kinds w.value (cond b (answered (with_entry (tree_of w.value) dir name (Some node)) (Made node.ino.0)) (refused (tree_of w.value) DirFull)))
-    make_room dir is name good rows before true =
+    make_room dir fact name good rows before true =
         enters w dir name (w.ver dir (bucket_number name)) (insert_entry name_cmp rows name node) node.ino (Makes node) 0 _ refl
-        (holds_more dir is name rows before node (record { form = record { good = good; ino = small }; own = refl; kept = kept }) (Made node.ino.0)
+        (holds_more dir fact name rows before node (record { form = record { good = good; ino = small }; own = refl; kept = kept }) (Made node.ino.0)
         (Made node.ino.0) refl)
-    make_room dir is name good rows before false = refuses_with kinds kinds w sound sound 1 DirFull
+    make_room dir fact name good rows before false = refuses_with kinds kinds w sound sound 1 DirFull
 
-    make_found : (dir : Ino) (is : kinds dir ≡ Some kind.Directory) (name : Name) (good : is_good name ≡ true) (rows : List Row)
+    make_found : (dir : Ino) (fact : kinds dir ≡ Some kind.Directory) (name : Name) (good : is_good name ≡ true) (rows : List Row)
         (before : IsBucket kinds (bucket_number name) (w.value dir (bucket_number name)) rows) (o : Option Node) → named name rows ≡ o
         → Comes 1 (looked_at dir name (w.ver dir (bucket_number name)) rows (Makes node) o) w
         (Owes kinds w.value (entered_as w.value (tree_of w.value) dir name node (Made node.ino.0) o))
-    make_found dir is name good rows before None none =
+    make_found dir fact name good rows before None none =
         subst (λ (b : Bool). Comes 1
         (cond (fits (insert_entry name_cmp rows name node))
         (Enters dir name (w.ver dir (bucket_number name)) (insert_entry name_cmp rows name node) node.ino (Makes node)) (Ends (File DirFull))) w
         (Owes kinds w.value (cond b (answered (with_entry (tree_of w.value) dir name (Some node)) (Made node.ino.0)) (refused (tree_of w.value) DirFull))))
         (room_is kinds w.value dir name rows node before none)
-        (make_room dir is name good rows before (fits (insert_entry name_cmp rows name node)))
-    make_found dir is name good rows before (Some found) some = refuses_with kinds kinds w sound sound 1 Exists
+        (make_room dir fact name good rows before (fits (insert_entry name_cmp rows name node)))
+    make_found dir fact name good rows before (Some found) some = refuses_with kinds kinds w sound sound 1 Exists
 
     pub makes : (path : List Name) → list_all is_good path ≡ true
         → Comes (length path + 1) (walking_path path Exists (Makes node)) w
         (Owes kinds w.value (at_path (tree_of w.value) Exists (does_make w.value (tree_of w.value) node) path))
     makes path good =
-        by_path kinds kinds w sound sound (Makes node) 1 Exists (does_make w.value (tree_of w.value) node) (λ dir name is fit.
-        looks kinds kinds w sound sound (Makes node) 1 (entered_as w.value (tree_of w.value) dir name node (Made node.ino.0)) dir name is
-        (λ rows before o e entry. make_found dir is name fit rows before o e))
+        by_path kinds kinds w sound sound (Makes node) 1 Exists (does_make w.value (tree_of w.value) node) (λ dir name fact fit.
+        looks kinds kinds w sound sound (Makes node) 1 (entered_as w.value (tree_of w.value) dir name node (Made node.ino.0)) dir name fact
+        (λ rows before o e entry. make_found dir fact name fit rows before o e))
         path good
 
 pub mk_meets : (path : List Name) → MeetsTree (call.Mk path)

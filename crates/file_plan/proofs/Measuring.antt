@@ -40,28 +40,28 @@ size_back (suc n) h =
     ap (λ (m : ℕ). cond (nat_le m file_end) (Some m) None) e ∙ ap (λ (b : Bool). cond b (Some (suc n)) None) (at_most (suc n) file_end h)
 
 pub stored_size : (t : Table) (file : Ino) (size : ℕ) → IsFile t file size → read_size (t file size_block) ≡ Some size
-stored_size t file size is = ap read_size is.stored ∙ size_back size is.bound
+stored_size t file size fact = ap read_size fact.stored ∙ size_back size fact.bound
 
 pub size_is : (t : Table) (file : Ino) (size : ℕ) → IsFile t file size → size_of t file ≡ size
-size_is t file size is = ap (λ (o : Option ℕ). unwrap_or o 0) (stored_size t file size is)
+size_is t file size fact = ap (λ (o : Option ℕ). unwrap_or o 0) (stored_size t file size fact)
 
 pub length_is : (t : Table) (file : Ino) (size : ℕ) → IsFile t file size → length ((tree_of t).bytes file) ≡ size
-length_is t file size is = length-map-range_with_len (byte_at t file) 0 (size_of t file) ∙ size_is t file size is
+length_is t file size fact = length-map-range_with_len (byte_at t file) 0 (size_of t file) ∙ size_is t file size fact
 
 -- the size of a file is read
 pub measures : (w : World) (file : Ino) (size : ℕ) → IsFile w.value file size → (task : Task) (n : ℕ) (Q : Post)
     → Comes n (measured_as file task (w.ver file size_block) size) w Q → Comes (suc n) (Measures file task) w Q
-measures w file size is task n Q h =
-    subst (λ (o : Option ℕ). Comes n (measured file task (w.ver file size_block) o) w Q) (sym (stored_size w.value file size is)) h
+measures w file size fact task n Q h =
+    subst (λ (o : Option ℕ). Comes n (measured file task (w.ver file size_block) o) w Q) (sym (stored_size w.value file size fact)) h
 
 module _ (kinds later : Ino → Option Kind) (w : World) (sound : Sound kinds w.value) (after : Sound later w.value) where
   size_node : (dir : Ino) (name : Name) (rows : List Row) (ver : ℕ) (node : Node) (b : Bool) → is_directory node ≡ b
       → IsEntry kinds (bucket_number name) (name, node)
       → Comes 1 (cond b (Ends (File IsDir)) (Measures node.ino Tells)) w
       (Owes later w.value (cond b (refused (tree_of w.value) IsDir) (answered (tree_of w.value) (Size (length ((tree_of w.value).bytes node.ino))))))
-  size_node dir name rows ver node true is entry = refuses_with kinds later w sound after 1 IsDir
-  size_node dir name rows ver node false is entry =
-      let f = sound.files node.ino (entry.kept ∙ ap Some (file_is node is)) in
+  size_node dir name rows ver node true fact entry = refuses_with kinds later w sound after 1 IsDir
+  size_node dir name rows ver node false fact entry =
+      let f = sound.files node.ino (entry.kept ∙ ap Some (file_is node fact)) in
       let Q = Owes later w.value (answered (tree_of w.value) (Size (length ((tree_of w.value).bytes node.ino)))) in
       measures w node.ino f.0 f.1 Tells 0 Q
       (ended 0 (Size f.0) w Q
@@ -78,9 +78,9 @@ size_meets path kinds w number client sound fresh =
     let ino = made_by number client in
     replies (start (call.Size path) ino) (length path + 1) [] w _
     (named_first kinds kinds w sound sound (call.Size path) ino (length path + 1) (λ good.
-    by_path kinds kinds w sound sound Sizes 1 IsDir (does_size (tree_of w.value)) (λ dir name is _.
+    by_path kinds kinds w sound sound Sizes 1 IsDir (does_size (tree_of w.value)) (λ dir name fact _.
     looks kinds kinds w sound sound Sizes 1
-    (of_file (tree_of w.value) (λ node. answered (tree_of w.value) (Size (length ((tree_of w.value).bytes node.ino))))) dir name is
+    (of_file (tree_of w.value) (λ node. answered (tree_of w.value) (Size (length ((tree_of w.value).bytes node.ino))))) dir name fact
     (λ rows bucket o e entry. size_found kinds kinds w sound sound dir name rows (w.ver dir (bucket_number name)) o entry))
     path good))
 
@@ -200,11 +200,11 @@ le_cases n m = elim (leb_tells n m) as (λ _. (n ≤ m) ⊎ (m ≤ n)) [ inl h �
 -- the bytes that a get reads are the cut of the file's bytes
 cut_bytes : (t : Table) (file : Ino) (size offset len : ℕ) → IsFile t file size
     → [] ++ cells t file (block_size * (offset / block_size) + offset % block_size) (min len (size - offset)) ≡ take len (drop offset ((tree_of t).bytes file))
-cut_bytes t file size offset len is =
+cut_bytes t file size offset len fact =
     let a : block_size * (offset / block_size) + offset % block_size ≡ offset = omega arith in
     ap (λ (from : ℕ). cells t file from (min len (size - offset))) a ∙ sym (take_cells t file offset len (size - offset) (le_cases len (size - offset)))
     ∙ ap (take len) (sym (drop_cells t file offset size (le_cases offset size)))
-    ∙ ap (λ (n : ℕ). take len (drop offset (cells t file 0 n))) (sym (size_is t file size is))
+    ∙ ap (λ (n : ℕ). take len (drop offset (cells t file 0 n))) (sym (size_is t file size fact))
 
 module _ (kinds later : Ino → Option Kind) (w : World) (sound : Sound kinds w.value) (after : Sound later w.value) where
   abbrev got_of : ℕ → ℕ → Node → Outcome
@@ -213,9 +213,9 @@ module _ (kinds later : Ino → Option Kind) (w : World) (sound : Sound kinds w.
   get_node : (offset len : ℕ) (name : Name) (node : Node) (b : Bool) → is_directory node ≡ b → IsEntry kinds (bucket_number name) (name, node)
       → Comes (suc (blocks_of len + 1)) (cond b (Ends (File IsDir)) (Measures node.ino (Cuts offset len))) w
       (Owes later w.value (cond b (refused (tree_of w.value) IsDir) (got_of offset len node)))
-  get_node offset len name node true is entry = refuses_with kinds later w sound after (suc (blocks_of len + 1)) IsDir
-  get_node offset len name node false is entry =
-      let f = sound.files node.ino (entry.kept ∙ ap Some (file_is node is)) in
+  get_node offset len name node true fact entry = refuses_with kinds later w sound after (suc (blocks_of len + 1)) IsDir
+  get_node offset len name node false fact entry =
+      let f = sound.files node.ino (entry.kept ∙ ap Some (file_is node fact)) in
       let Q = Owes later w.value (got_of offset len node) in
       let low : offset % block_size < block_size = omega arith in
       let fits : offset % block_size + min len (f.0 - offset) ≤ block_size * (blocks_of len + 1) = omega (arith, low) in
@@ -236,13 +236,13 @@ get_meets path offset len kinds w number client sound fresh =
     let ino = made_by number client in
     replies (start (call.Get path offset len) ino) (length path + suc (blocks_of len + 1)) [] w _
     (named_first kinds kinds w sound sound (call.Get path offset len) ino (length path + suc (blocks_of len + 1)) (λ good.
-    by_path kinds kinds w sound sound (Gets offset len) (suc (blocks_of len + 1)) IsDir (does_get (tree_of w.value) offset len) (λ dir name is _.
+    by_path kinds kinds w sound sound (Gets offset len) (suc (blocks_of len + 1)) IsDir (does_get (tree_of w.value) offset len) (λ dir name fact _.
     looks kinds kinds w sound sound (Gets offset len) (suc (blocks_of len + 1))
-    (of_file (tree_of w.value) (λ node. answered (tree_of w.value) (Bytes (take len (drop offset ((tree_of w.value).bytes node.ino)))))) dir name is
+    (of_file (tree_of w.value) (λ node. answered (tree_of w.value) (Bytes (take len (drop offset ((tree_of w.value).bytes node.ino)))))) dir name fact
     (λ rows bucket o e entry. get_found kinds kinds w sound sound offset len dir name rows (w.ver dir (bucket_number name)) o entry))
     path good))
 
 -- the size is read where only the size block is known
 pub measures_read : (w : World) (file : Ino) (size : ℕ) → read_size (w.value file size_block) ≡ Some size → (task : Task) (n : ℕ) (Q : Post)
     → Comes n (measured_as file task (w.ver file size_block) size) w Q → Comes (suc n) (Measures file task) w Q
-measures_read w file size is task n Q h = subst (λ (o : Option ℕ). Comes n (measured file task (w.ver file size_block) o) w Q) (sym is) h
+measures_read w file size fact task n Q h = subst (λ (o : Option ℕ). Comes n (measured file task (w.ver file size_block) o) w Q) (sym fact) h

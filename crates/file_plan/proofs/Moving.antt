@@ -36,18 +36,18 @@ node_itself : (node : Node) → same_node node node ≡ true
 node_itself node = ap (λ (b : Bool). b && same_ino node.ino node.ino) (kind_itself node.kind) ∙ ino_itself node.ino
 
 -- a bucket is read
-looks_at : (kinds : Ino → Option Kind) (w : World) (sound : Sound kinds w.value) (dir : Ino) (name : Name) (is : kinds dir ≡ Some kind.Directory) (job : Job)
+looks_at : (kinds : Ino → Option Kind) (w : World) (sound : Sound kinds w.value) (dir : Ino) (name : Name) (fact : kinds dir ≡ Some kind.Directory) (job : Job)
     (n : ℕ) (Q : Post)
-    → Comes n (looked_at dir name (w.ver dir (bucket_number name)) (bucket_at kinds w.value sound dir name is).0 job
-    (named name (bucket_at kinds w.value sound dir name is).0)) w Q → Comes (suc n) (Looks dir name job) w Q
-looks_at kinds w sound dir name is job n Q h =
-    let b = bucket_at kinds w.value sound dir name is in
+    → Comes n (looked_at dir name (w.ver dir (bucket_number name)) (bucket_at kinds w.value sound dir name fact).0 job
+    (named name (bucket_at kinds w.value sound dir name fact).0)) w Q → Comes (suc n) (Looks dir name job) w Q
+looks_at kinds w sound dir name fact job n Q h =
+    let b = bucket_at kinds w.value sound dir name fact in
     subst (λ (o : Option (List Row)). Comes n (looked dir name (w.ver dir (bucket_number name)) job o) w Q)
     (sym (bucket_back kinds (bucket_number name) (w.value dir (bucket_number name)) b.0 b.1)) h
 
 module _ (kinds : Ino → Option Kind) (w : World) (sound : Sound kinds w.value) (from : Ino) (from_is : kinds from ≡ Some kind.Directory) (old : Name)
     (node : Node) (there : (tree_of w.value).entries from old ≡ Some node) where
-  module _ (dir : Ino) (is : kinds dir ≡ Some kind.Directory) (name : Name) (rows : List Row)
+  module _ (dir : Ino) (fact : kinds dir ≡ Some kind.Directory) (name : Name) (rows : List Row)
       (before : IsBucket kinds (bucket_number name) (w.value dir (bucket_number name)) rows) (entry : IsEntry kinds (bucket_number name) (name, node)) where
     abbrev now : List Row
     now = insert_entry name_cmp rows name node
@@ -59,7 +59,7 @@ module _ (kinds : Ino → Option Kind) (w : World) (sound : Sound kinds w.value)
     w1 = write w dir (bucket_number name) (content_of (rows_text now))
 
     s1 : Sound kinds w1.value
-    s1 = sound_now kinds w.value sound dir is (bucket_number name) rows before now next_one
+    s1 = sound_now kinds w.value sound dir fact (bucket_number name) rows before now next_one
 
     abbrev both_ways : Outcome
     both_ways = answered (with_entry (with_entry (tree_of w.value) dir name (Some node)) from old None) Done
@@ -70,7 +70,7 @@ module _ (kinds : Ino → Option Kind) (w : World) (sound : Sound kinds w.value)
 
     entries_1 : (d : Ino) (q : Name) → (tree_of w1.value).entries d q ≡ (with_entry (tree_of w.value) dir name (Some node)).entries d q
     entries_1 d q =
-        entries_now kinds w.value sound dir is (bucket_number name) rows before now next_one name (Some node) refl (λ r. named-insert r name node rows) d q
+        entries_now kinds w.value sound dir fact (bucket_number name) rows before now next_one name (Some node) refl (λ r. named-insert r name node rows) d q
 
     abbrev rows_1 : List Row
     rows_1 = (bucket_at kinds w1.value s1 from old from_is).0
@@ -98,11 +98,11 @@ module _ (kinds : Ino → Option Kind) (w : World) (sound : Sound kinds w.value)
         bytes = λ file k. bytes_same w1.value (with_rows kinds w1.value s1 from from_is (bucket_number old) rows_1 bucket_1 (without old rows_1) less) file
             (file_beside kinds w1.value s1 from from_is (bucket_number old) rows_1 bucket_1 (without old rows_1) less file (Some kind.File) k file_directory)
             ∙ bytes_same w.value w1.value file
-            (file_beside kinds w.value sound dir is (bucket_number name) rows before now next_one file (Some kind.File) k file_directory);
+            (file_beside kinds w.value sound dir fact (bucket_number name) rows before now next_one file (Some kind.File) k file_directory);
       };
       others = λ ino blk k. file_beside kinds w1.value s1 from from_is (bucket_number old) rows_1 bucket_1 (without old rows_1) less ino None k
           (nobody_directory None refl) blk
-          ∙ file_beside kinds w.value sound dir is (bucket_number name) rows before now next_one ino None k (nobody_directory None refl) blk;
+          ∙ file_beside kinds w.value sound dir fact (bucket_number name) rows before now next_one ino None k (nobody_directory None refl) blk;
     }
 
     unlinks : Comes 2 (Looks from old (Unlinks node)) w1 (Owes kinds w.value both_ways)
@@ -133,17 +133,17 @@ module _ (kinds : Ino → Option Kind) (w : World) (sound : Sound kinds w.value)
       → (rows : List Row) → IsBucket kinds (bucket_number name) (w.value dir (bucket_number name)) rows → (o : Option Node) → named name rows ≡ o
       → Comes 4 (looked_at dir name (w.ver dir (bucket_number name)) rows (Links node from old) o) w
       (Owes kinds w.value (moved_as w.value (tree_of w.value) from old node dir name o))
-  link_found bucket entry dir is name good rows before None none =
-      links dir is name rows before (record { form = record { good = good; ino = entry.form.ino }; own = refl; kept = entry.kept }) none
-  link_found bucket entry dir is name good rows before (Some found) some = refuses_with kinds kinds w sound sound 4 Exists
+  link_found bucket entry dir fact name good rows before None none =
+      links dir fact name rows before (record { form = record { good = good; ino = entry.form.ino }; own = refl; kept = entry.kept }) none
+  link_found bucket entry dir fact name good rows before (Some found) some = refuses_with kinds kinds w sound sound 4 Exists
 
   links_path : (bucket : ℕ) → IsEntry kinds bucket (old, node) → (to : List Name) → list_all is_good to ≡ true
       → Comes (length to + 4) (walking_path to Exists (Links node from old)) w
       (Owes kinds w.value (at_path (tree_of w.value) Exists (does_link w.value (tree_of w.value) from old node) to))
   links_path bucket entry to good =
-      by_path kinds kinds w sound sound (Links node from old) 4 Exists (does_link w.value (tree_of w.value) from old node) (λ dir name is fine.
-      looks kinds kinds w sound sound (Links node from old) 4 (moved_as w.value (tree_of w.value) from old node dir name) dir name is
-      (λ rows before o e _. link_found bucket entry dir is name fine rows before o e))
+      by_path kinds kinds w sound sound (Links node from old) 4 Exists (does_link w.value (tree_of w.value) from old node) (λ dir name fact fine.
+      looks kinds kinds w sound sound (Links node from old) 4 (moved_as w.value (tree_of w.value) from old node dir name) dir name fact
+      (λ rows before o e _. link_found bucket entry dir fact name fine rows before o e))
       to good
 
 module _ (kinds : Ino → Option Kind) (w : World) (sound : Sound kinds w.value) (to : List Name) (good : list_all is_good to ≡ true) where
@@ -151,15 +151,15 @@ module _ (kinds : Ino → Option Kind) (w : World) (sound : Sound kinds w.value)
       → IsEntry kinds (bucket_number name) (name, node) → (b : Bool)
       → Comes (length to + 4) (cond b (Ends (File IsDir)) (walking_path to Exists (Links node dir name))) w
       (Owes kinds w.value (cond b (refused (tree_of w.value) IsDir) (at_path (tree_of w.value) Exists (does_link w.value (tree_of w.value) dir name node) to)))
-  move_node dir is name node there entry true = refuses_with kinds kinds w sound sound (length to + 4) IsDir
-  move_node dir is name node there entry false = links_path kinds w sound dir is name node there (bucket_number name) entry to good
+  move_node dir fact name node there entry true = refuses_with kinds kinds w sound sound (length to + 4) IsDir
+  move_node dir fact name node there entry false = links_path kinds w sound dir fact name node there (bucket_number name) entry to good
 
   move_found : (dir : Ino) → kinds dir ≡ Some kind.Directory → (name : Name) (rows : List Row) (ver : ℕ) (o : Option Node)
       → (tree_of w.value).entries dir name ≡ o → IfSome o (λ node. IsEntry kinds (bucket_number name) (name, node))
       → Comes (length to + 4) (looked_at dir name ver rows (Moves to) o) w
       (Owes kinds w.value (of_file (tree_of w.value) (λ node. at_path (tree_of w.value) Exists (does_link w.value (tree_of w.value) dir name node) to) o))
-  move_found dir is name rows ver None there entry = refuses_with kinds kinds w sound sound (length to + 4) NoEntry
-  move_found dir is name rows ver (Some node) there entry = move_node dir is name node there entry (is_directory node)
+  move_found dir fact name rows ver None there entry = refuses_with kinds kinds w sound sound (length to + 4) NoEntry
+  move_found dir fact name rows ver (Some node) there entry = move_node dir fact name node there entry (is_directory node)
 
 pub mv_meets : (from to : List Name) → MeetsTree (call.Mv from to)
 mv_meets from to kinds w number client sound fresh =
@@ -167,10 +167,10 @@ mv_meets from to kinds w number client sound fresh =
     let n = length to + 4 in
     replies (start (call.Mv from to) ino) (length from + n) [] w _
     (named_first kinds kinds w sound sound (call.Mv from to) ino (length from + n) (λ good.
-    by_path kinds kinds w sound sound (Moves to) n IsDir (does_move w.value (tree_of w.value) to) (λ dir name is _.
+    by_path kinds kinds w sound sound (Moves to) n IsDir (does_move w.value (tree_of w.value) to) (λ dir name fact _.
     looks kinds kinds w sound sound (Moves to) n
-    (of_file (tree_of w.value) (λ node. at_path (tree_of w.value) Exists (does_link w.value (tree_of w.value) dir name node) to)) dir name is
-    (λ rows before o e entry. move_found kinds w sound to (good_rest (list_all is_good from) (list_all is_good to) good) dir is name rows
+    (of_file (tree_of w.value) (λ node. at_path (tree_of w.value) Exists (does_link w.value (tree_of w.value) dir name node) to)) dir name fact
+    (λ rows before o e entry. move_found kinds w sound to (good_rest (list_all is_good from) (list_all is_good to) good) dir fact name rows
     (w.ver dir (bucket_number name)) o
     (entries_are kinds w.value dir (bucket_number name) rows before name refl ∙ e) entry))
     from (good_first (list_all is_good from) (list_all is_good to) good)))

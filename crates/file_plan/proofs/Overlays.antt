@@ -133,7 +133,7 @@ pub record Filled (file : Ino) (start : ℕ) (new : List ℕ) (t u : Table) : Ty
 pub filled_none : (file : Ino) (start : ℕ) (t : Table) → Filled file start [] t t
 filled_none file start t = record {
   bytes = λ b j n small. nothing (get_or (bytes_in (t file b)) j 0) (block_size * b + j) (le_cases start (block_size * b + j));
-  blocks = λ m below b n is. is;
+  blocks = λ m below b n fact. fact;
   sized = refl;
   others = λ i b h. refl;
 }
@@ -254,20 +254,20 @@ module _ (file : Ino) (blk low : ℕ) (in_block : low < block_size) (data' : blk
           edge (inr e) = within old (omega (arith, a, other)) (omega (arith, c, e))
 
   new_block : (m : ℕ) → block_size * blk + low + length new ≤ m → IsBlock m blk (t file blk) → IsBlock m blk value
-  new_block m fits' is = record {
-    short = omega (arith, piece_length, laid.bound, is.short, in_block);
+  new_block m fits' fact = record {
+    short = omega (arith, piece_length, laid.bound, fact.short, in_block);
     below = λ more. by more (eq_cases (length (bytes_in (t file blk))) 0);
   }
     where
       by : 0 < length (bytes_in value) → (length (bytes_in (t file blk)) ≡ 0) ⊎ (length (bytes_in (t file blk)) ≢ 0)
           → block_size * blk + length (bytes_in value) ≤ m
       by more (inl e) = omega (arith, piece_length, laid.bound, e, fits', more, some)
-      by more (inr e) = let g = is.below (omega (arith, e)) in omega (arith, piece_length, laid.bound, g, fits', more, some)
+      by more (inr e) = let g = fact.below (omega (arith, e)) in omega (arith, piece_length, laid.bound, g, fits', more, some)
 
   pub filled_more : Filled file (block_size * blk + low) new t u
   filled_more = record {
     bytes = λ b j n small. by b j n small (eq_cases b blk);
-    blocks = λ m below b n is. block m below b n is (eq_cases b blk);
+    blocks = λ m below b n fact. block m below b n fact (eq_cases b blk);
     sized = rest.sized ∙ put_beside t file blk value file size_block (λ e. data' (sym e));
     others = λ i b h. rest.others i b h ∙ put_other t file blk value i b h;
   }
@@ -281,10 +281,10 @@ module _ (file : Ino) (blk low : ℕ) (in_block : low < block_size) (data' : blk
 
       block : (m : ℕ) → (0 < length new → block_size * blk + low + length new ≤ m) → (b : ℕ) → b ≢ size_block → IsBlock m b (t file b) → (b ≡ blk) ⊎ (b ≢ blk)
           → IsBlock m b (u file b)
-      block m below b n is (inl e) =
+      block m below b n fact (inl e) =
           rest.blocks m (λ more. omega (arith, rest_length, below some, more, in_block)) b n
           (subst (λ (c : ℕ). IsBlock m c (put_at t file blk value file c)) (sym e)
-          (subst (IsBlock m blk) (sym (put_here t file blk value)) (new_block m (below some) (subst (λ (c : ℕ). IsBlock m c (t file c)) e is))))
-      block m below b n is (inr e) =
+          (subst (IsBlock m blk) (sym (put_here t file blk value)) (new_block m (below some) (subst (λ (c : ℕ). IsBlock m c (t file c)) e fact))))
+      block m below b n fact (inr e) =
           rest.blocks m (λ more. omega (arith, rest_length, below some, more, in_block)) b n
-          (subst (IsBlock m b) (sym (put_beside t file blk value file b e)) is)
+          (subst (IsBlock m b) (sym (put_beside t file blk value file b e)) fact)

@@ -94,8 +94,8 @@ rest_shorter bytes has =
 
 pub reads_more : (rows : List Row) (rest all : List ℕ) (row : Row) → has_row rest ≡ true → row ≡ front_row rest → Reads rows rest all
     → Reads (rows ++ row ∷ []) (rest_of_rows rest) all
-reads_more rows [] all row has is r = let long = row_length [] has in absurd (omega (arith, long))
-reads_more rows (b ∷ bs) all row has is r = by r.limit r.enough r.same
+reads_more rows [] all row has fact r = let long = row_length [] has in absurd (omega (arith, long))
+reads_more rows (b ∷ bs) all row has fact r = by r.limit r.enough r.same
   where
     by : (n : ℕ) → length (b ∷ bs) ≤ n → with_all rows (rows_from n (b ∷ bs)) ≡ rows_from (length all) all
         → Reads (rows ++ row ∷ []) (rest_of_rows (b ∷ bs)) all
@@ -104,7 +104,7 @@ reads_more rows (b ∷ bs) all row has is r = by r.limit r.enough r.same
       limit = n;
       enough = let less = rest_shorter (b ∷ bs) has in omega (arith, less, enough);
       same = all_more rows row (rows_from n (rest_of_rows (b ∷ bs)))
-          ∙ ap (λ (r : Row). with_all rows (with_row r (rows_from n (rest_of_rows (b ∷ bs))))) is
+          ∙ ap (λ (r : Row). with_all rows (with_row r (rows_from n (rest_of_rows (b ∷ bs))))) fact
           ∙ ap (with_all rows) (sym (front_step n b bs true has)) ∙ same;
     }
 
@@ -122,9 +122,9 @@ reads_all rows (b ∷ bs) all none r = absurd (omega (arith, none))
 
 pub reads_step : (rows : List Row) (rest all : List ℕ) (row : Row) (now : List Row) (more : List ℕ) → has_row rest ≡ true → row ≡ front_row rest
     → now ≡ rows ++ row ∷ [] → more ≡ rest_of_rows rest → Reads rows rest all → Reads now more all
-reads_step rows rest all row now more has is e f r =
+reads_step rows rest all row now more has fact e f r =
     subst (λ (rs : List Row). Reads rs more all) (sym e)
-    (subst (λ (bs : List ℕ). Reads (rows ++ row ∷ []) bs all) (sym f) (reads_more rows rest all row has is r))
+    (subst (λ (bs : List ℕ). Reads (rows ++ row ∷ []) bs all) (sym f) (reads_more rows rest all row has fact r))
 
 -- ---- names
 
@@ -148,12 +148,12 @@ good_short name good =
 -- bytes that are a value are none that are refused
 pub bad_value : (bytes : List ℕ) (n : ℕ) → IsValue (content_of bytes) → false ≡ (length bytes == 0)
     → (n ≡ length bytes) × ((length bytes ≡ 0) ⊎ (max_value < length bytes)) → ⊥
-bad_value [] n is some h = let e : false ≡ true = some in cc
-bad_value (b ∷ bs) n is some h = by h.1
+bad_value [] n fact some h = let e : false ≡ true = some in cc
+bad_value (b ∷ bs) n fact some h = by h.1
   where
     by : (length (b ∷ bs) ≡ 0) ⊎ (max_value < length (b ∷ bs)) → ⊥
     by (inl e) = omega (arith, e)
-    by (inr e) = omega (arith, e, is.1)
+    by (inr e) = omega (arith, e, fact.1)
 
 -- a front of some bytes is a value
 pub some_content : (bytes : List ℕ) (n : ℕ) → 0 < n → 0 < length bytes → content_of (take n bytes) ≡ Some (take n bytes)

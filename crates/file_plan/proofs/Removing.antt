@@ -87,40 +87,40 @@ no_block : (b : ℕ) (value : Content) → value ≡ None → IsBlock 0 b value
 no_block b value e = subst (IsBlock 0 b) (sym e) (record { short = omega arith; below = λ some. absurd (omega (arith, some)) })
 
 past_block : (size b : ℕ) (value : Content) → IsBlock size b value → blocks_of size ≤ b → IsBlock 0 b value
-past_block size b value is past = record { short = is.short; below = λ some. let k = is.below some in absurd (omega (arith, k, past, some)) }
+past_block size b value fact past = record { short = fact.short; below = λ some. let k = fact.below some in absurd (omega (arith, k, past, some)) }
 
 emptied_by : (file : Ino) (size : ℕ) (t u : Table) → IsFile t file size → Cleared file 0 (blocks_of size) t u → Emptied file t u
-emptied_by file size t u is c = record {
+emptied_by file size t u fact c = record {
   now = record { stored = c.sized; bound = omega arith; blocks = λ b data'. by b data' (c.rest b) (le_cases (blocks_of size) b) };
   others = c.others;
 }
   where
     by : (b : ℕ) → b ≢ size_block → (u file b ≡ None) ⊎ (u file b ≡ t file b) → (blocks_of size ≤ b) ⊎ (b ≤ blocks_of size) → IsBlock 0 b (u file b)
     by b data' (inl n) le = no_block b (u file b) n
-    by b data' (inr s) (inl past) = subst (IsBlock 0 b) (sym s) (past_block size b (t file b) (is.blocks b data') past)
+    by b data' (inr s) (inl past) = subst (IsBlock 0 b) (sym s) (past_block size b (t file b) (fact.blocks b data') past)
     by b data' (inr s) (inr within) = edge b data' s within (eq_cases b (blocks_of size))
       where
         edge : (b : ℕ) → b ≢ size_block → u file b ≡ t file b → b ≤ blocks_of size → (b ≡ blocks_of size) ⊎ (b ≢ blocks_of size) → IsBlock 0 b (u file b)
-        edge b data' s within (inl e) = subst (IsBlock 0 b) (sym s) (past_block size b (t file b) (is.blocks b data') (omega (arith, e)))
+        edge b data' s within (inl e) = subst (IsBlock 0 b) (sym s) (past_block size b (t file b) (fact.blocks b data') (omega (arith, e)))
         edge b data' s within (inr e) = no_block b (u file b) (c.gone b (omega arith) (omega (arith, within, e)))
 
 -- a file's size is read, and its blocks and its size go
 clears : (w : World) (file : Ino) (size : ℕ) → IsFile w.value file size → (Q : Post) → ((v : World) → Emptied file w.value v.value → Q Done v)
     → Comes 258 (Measures file Clears) w Q
-clears w file size is Q q = measures w file size is Clears 257 Q (by (size == 0) refl)
+clears w file size fact Q q = measures w file size fact Clears 257 Q (by (size == 0) refl)
   where
     some : (size == 0) ≡ false → Comes 257 (emptying file 0 (blocks_of size) (w.ver file size_block)) w Q
     some e =
-        let small : blocks_of size ≤ 256 = omega (arith, is.bound) in
+        let small : blocks_of size ≤ 256 = omega (arith, fact.bound) in
         let le : suc (blocks_of size) ≤ 257 = omega (arith, small) in
         let within : 0 + blocks_of size ≤ size_block = omega (arith, small) in
         more_steps (suc (blocks_of size)) 257 (emptying file 0 (blocks_of size) (w.ver file size_block)) w Q le
-        (empties file (w.ver file size_block) Q (blocks_of size) 0 w within refl (λ v c. q v (emptied_by file size w.value v.value is c)))
+        (empties file (w.ver file size_block) Q (blocks_of size) 0 w within refl (λ v c. q v (emptied_by file size w.value v.value fact c)))
 
     by : (b : Bool) → (size == 0) ≡ b → Comes 257 (cond b (Ends Done) (emptying file 0 (blocks_of size) (w.ver file size_block))) w Q
     by true e =
         let none : size ≡ 0 = grind (arith, nat_tests) in
-        q w (record { now = subst (λ (n : ℕ). IsFile w.value file n) none is; others = λ i b h. refl })
+        q w (record { now = subst (λ (n : ℕ). IsFile w.value file n) none fact; others = λ i b h. refl })
     by false e = some e
 
 module _ (kinds : Ino → Option Kind) (w : World) (sound : Sound kinds w.value) where
@@ -129,15 +129,15 @@ module _ (kinds : Ino → Option Kind) (w : World) (sound : Sound kinds w.value)
       → IsEntry kinds (bucket_number name) (name, node)
       → Comes 259 (cond b (Ends (File IsDir)) (leaving dir name (w.ver dir (bucket_number name)) rows node.ino Removes)) w
       (Owes kinds w.value (cond b (refused (tree_of w.value) IsDir) (answered (with_bytes (with_entry (tree_of w.value) dir name None) node.ino []) Done)))
-  remove_node dir is name rows before node true d entry = refuses_with kinds kinds w sound sound 259 IsDir
-  remove_node dir is name rows before node false d entry =
+  remove_node dir fact name rows before node true d entry = refuses_with kinds kinds w sound sound 259 IsDir
+  remove_node dir fact name rows before node false d entry =
       let b = bucket_number name in
       let now = without name rows in
       let value = content_of (rows_text now) in
       let next_one = bucket_less kinds b (w.value dir b) name rows before in
       let w1 = write w dir b value in
       let k = entry.kept ∙ ap Some (file_is node d) in
-      let s1 = sound_now kinds w.value sound dir is b rows before now next_one in
+      let s1 = sound_now kinds w.value sound dir fact b rows before now next_one in
       let f = s1.files node.ino k in
       enters w dir name (w.ver dir b) now node.ino Removes 258
       (Owes kinds w.value (answered (with_bytes (with_entry (tree_of w.value) dir name None) node.ino []) Done)) refl
@@ -146,14 +146,14 @@ module _ (kinds : Ino → Option Kind) (w : World) (sound : Sound kinds w.value)
         sound = sound_file kinds w1.value s1 node.ino k v.value e.others 0 e.now;
         held = record {
           entries = λ d' q i. entries_file kinds w1.value s1 node.ino k v.value e.others d' q i
-              ∙ entries_now kinds w.value sound dir is b rows before now next_one name None refl (λ r. named-remove r name rows (is_T _ before.rising)) d' q;
+              ∙ entries_now kinds w.value sound dir fact b rows before now next_one name None refl (λ r. named-remove r name rows (is_T _ before.rising)) d' q;
           bytes = λ file i. bytes_file kinds w1.value s1 node.ino k v.value e.others []
               (ap (λ (n : ℕ). cells v.value node.ino 0 n) (size_is v.value node.ino 0 e.now)) file
               ∙ ap (λ (bytes : List ℕ). cond (same_ino file node.ino) [] bytes)
-              (bytes_same w.value w1.value file (file_beside kinds w.value sound dir is b rows before now next_one file (Some kind.File) i file_directory));
+              (bytes_same w.value w1.value file (file_beside kinds w.value sound dir fact b rows before now next_one file (Some kind.File) i file_directory));
         };
         others = λ i blk z. others_file kinds w1.value s1 node.ino k v.value e.others i blk z
-            ∙ file_beside kinds w.value sound dir is b rows before now next_one i None z (nobody_directory None refl) blk;
+            ∙ file_beside kinds w.value sound dir fact b rows before now next_one i None z (nobody_directory None refl) blk;
       }))
 
   remove_found : (dir : Ino) → kinds dir ≡ Some kind.Directory → (name : Name) (rows : List Row)
@@ -161,16 +161,16 @@ module _ (kinds : Ino → Option Kind) (w : World) (sound : Sound kinds w.value)
       → IfSome o (λ node. IsEntry kinds (bucket_number name) (name, node))
       → Comes 259 (looked_at dir name (w.ver dir (bucket_number name)) rows Removes o) w
       (Owes kinds w.value (of_file (tree_of w.value) (λ node. answered (with_bytes (with_entry (tree_of w.value) dir name None) node.ino []) Done) o))
-  remove_found dir is name rows before None entry = refuses_with kinds kinds w sound sound 259 NoEntry
-  remove_found dir is name rows before (Some node) entry = remove_node dir is name rows before node (is_directory node) refl entry
+  remove_found dir fact name rows before None entry = refuses_with kinds kinds w sound sound 259 NoEntry
+  remove_found dir fact name rows before (Some node) entry = remove_node dir fact name rows before node (is_directory node) refl entry
 
 pub rm_meets : (path : List Name) → MeetsTree (call.Rm path)
 rm_meets path kinds w number client sound fresh =
     let ino = made_by number client in
     replies (start (call.Rm path) ino) (length path + 259) [] w _
     (named_first kinds kinds w sound sound (call.Rm path) ino (length path + 259) (λ good.
-    by_path kinds kinds w sound sound Removes 259 IsDir (does_remove (tree_of w.value)) (λ dir name is _.
+    by_path kinds kinds w sound sound Removes 259 IsDir (does_remove (tree_of w.value)) (λ dir name fact _.
     looks kinds kinds w sound sound Removes 259
-    (of_file (tree_of w.value) (λ node. answered (with_bytes (with_entry (tree_of w.value) dir name None) node.ino []) Done)) dir name is
-    (λ rows before o e entry. remove_found kinds w sound dir is name rows before o entry))
+    (of_file (tree_of w.value) (λ node. answered (with_bytes (with_entry (tree_of w.value) dir name None) node.ino []) Done)) dir name fact
+    (λ rows before o e entry. remove_found kinds w sound dir fact name rows before o entry))
     path good))

@@ -10,10 +10,10 @@ use Rattle.file_plan.specs.declared.node.Kind.{Kind}
 use Rattle.file_plan.specs.declared.node.Kind.TheVariants as kind
 use Rattle.file_plan.specs.Names.{same_ino}
 
-module _ (kinds : Ino → Option Kind) (t : Table) (sound : Sound kinds t) (file : Ino) (is : kinds file ≡ Some kind.File) (u : Table)
+module _ (kinds : Ino → Option Kind) (t : Table) (sound : Sound kinds t) (file : Ino) (fact : kinds file ≡ Some kind.File) (u : Table)
     (others : (i : Ino) (b : ℕ) → i ≢ file → u i b ≡ t i b) where
   elsewhere : (i : Ino) (n : Option Kind) → kinds i ≡ n → n ≢ Some kind.File → (b : ℕ) → u i b ≡ t i b
-  elsewhere i n k other b = others i b (apart_kinds kinds i file n (Some kind.File) k is other)
+  elsewhere i n k other b = others i b (apart_kinds kinds i file n (Some kind.File) k fact other)
 
   pub sound_file : (size : ℕ) → IsFile u file size → Sound kinds u
   sound_file size now = record {

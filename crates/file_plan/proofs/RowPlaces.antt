@@ -28,21 +28,21 @@ put_step row rest name node o e =
 
 pub put_past : (rows : List Row) (name : Name) (node : Node) (i : ℕ) (row : Row) → i < length rows → row ≡ get_or rows i row → name_cmp name row.0 ≡ Greater
     → put_from rows name node i ≡ put_from rows name node (i + 1)
-put_past rows name node i row here is greater =
+put_past rows name node i row here fact greater =
     ap (λ (rs : List Row). take i rows ++ insert_entry name_cmp rs name node) (drop_more rows i row here)
-    ∙ ap (λ (r : Row). take i rows ++ insert_entry name_cmp (r ∷ drop (i + 1) rows) name node) (sym is)
+    ∙ ap (λ (r : Row). take i rows ++ insert_entry name_cmp (r ∷ drop (i + 1) rows) name node) (sym fact)
     ∙ ap (λ (rs : List Row). take i rows ++ rs) (put_step row (drop (i + 1) rows) name node Greater greater)
     ∙ sym (append_assoc (take i rows) (row ∷ []) (insert_entry name_cmp (drop (i + 1) rows) name node))
-    ∙ ap (λ (r : Row). (take i rows ++ r ∷ []) ++ insert_entry name_cmp (drop (i + 1) rows) name node) is
+    ∙ ap (λ (r : Row). (take i rows ++ r ∷ []) ++ insert_entry name_cmp (drop (i + 1) rows) name node) fact
     ∙ ap (λ (rs : List Row). rs ++ insert_entry name_cmp (drop (i + 1) rows) name node) (sym (take_more rows i row here))
 
 pub put_before : (rows : List Row) (name : Name) (node : Node) (i : ℕ) (row : Row) → i < length rows → row ≡ get_or rows i row → name_cmp name row.0 ≡ Less
     → put_from rows name node i ≡ insert rows i (name, node)
-put_before rows name node i row here is less =
+put_before rows name node i row here fact less =
     ap (λ (rs : List Row). take i rows ++ insert_entry name_cmp rs name node) (drop_more rows i row here)
-    ∙ ap (λ (r : Row). take i rows ++ insert_entry name_cmp (r ∷ drop (i + 1) rows) name node) (sym is)
+    ∙ ap (λ (r : Row). take i rows ++ insert_entry name_cmp (r ∷ drop (i + 1) rows) name node) (sym fact)
     ∙ ap (λ (rs : List Row). take i rows ++ rs) (put_step row (drop (i + 1) rows) name node Less less)
-    ∙ ap (λ (r : Row). take i rows ++ (name, node) ∷ r ∷ drop (i + 1) rows) is
+    ∙ ap (λ (r : Row). take i rows ++ (name, node) ∷ r ∷ drop (i + 1) rows) fact
     ∙ ap (λ (rs : List Row). take i rows ++ (name, node) ∷ rs) (sym (drop_more rows i row here))
 
 one_more : (i : ℕ) → i + 1 ≡ suc i
@@ -50,9 +50,9 @@ one_more i = omega arith
 
 pub put_over : (rows : List Row) (name : Name) (node : Node) (i : ℕ) (row : Row) → i < length rows → row ≡ get_or rows i row → name_cmp name row.0 ≡ Equal
     → put_from rows name node i ≡ set rows i (name, node)
-put_over rows name node i row here is equal =
+put_over rows name node i row here fact equal =
     ap (λ (rs : List Row). take i rows ++ insert_entry name_cmp rs name node) (drop_more rows i row here)
-    ∙ ap (λ (r : Row). take i rows ++ insert_entry name_cmp (r ∷ drop (i + 1) rows) name node) (sym is)
+    ∙ ap (λ (r : Row). take i rows ++ insert_entry name_cmp (r ∷ drop (i + 1) rows) name node) (sym fact)
     ∙ ap (λ (rs : List Row). take i rows ++ rs) (put_step row (drop (i + 1) rows) name node Equal equal)
     ∙ ap (λ (n : Name). take i rows ++ (n, node) ∷ drop (i + 1) rows) (sym (one_name name row.0 (ap is_eq equal)))
     ∙ ap (λ (k : ℕ). take i rows ++ (name, node) ∷ drop k rows) (one_more i)
@@ -74,19 +74,19 @@ cut_step row rest name b e = ap (λ (t : Bool). cond t rest (row ∷ remove_entr
 
 pub cut_past : (rows : List Row) (name : Name) (i : ℕ) (row : Row) → i < length rows → row ≡ get_or rows i row → is_eq (name_cmp name row.0) ≡ false
     → cut_from rows name i ≡ cut_from rows name (i + 1)
-cut_past rows name i row here is other =
+cut_past rows name i row here fact other =
     ap (λ (rs : List Row). take i rows ++ remove_entry (is_at (name_cmp name)) rs) (drop_more rows i row here)
-    ∙ ap (λ (r : Row). take i rows ++ remove_entry (is_at (name_cmp name)) (r ∷ drop (i + 1) rows)) (sym is)
+    ∙ ap (λ (r : Row). take i rows ++ remove_entry (is_at (name_cmp name)) (r ∷ drop (i + 1) rows)) (sym fact)
     ∙ ap (λ (rs : List Row). take i rows ++ rs) (cut_step row (drop (i + 1) rows) name false other)
     ∙ sym (append_assoc (take i rows) (row ∷ []) (remove_entry (is_at (name_cmp name)) (drop (i + 1) rows)))
-    ∙ ap (λ (r : Row). (take i rows ++ r ∷ []) ++ remove_entry (is_at (name_cmp name)) (drop (i + 1) rows)) is
+    ∙ ap (λ (r : Row). (take i rows ++ r ∷ []) ++ remove_entry (is_at (name_cmp name)) (drop (i + 1) rows)) fact
     ∙ ap (λ (rs : List Row). rs ++ remove_entry (is_at (name_cmp name)) (drop (i + 1) rows)) (sym (take_more rows i row here))
 
 pub cut_here : (rows : List Row) (name : Name) (i : ℕ) (row : Row) → i < length rows → row ≡ get_or rows i row → is_eq (name_cmp name row.0) ≡ true
     → cut_from rows name i ≡ remove rows i
-cut_here rows name i row here is same =
+cut_here rows name i row here fact same =
     ap (λ (rs : List Row). take i rows ++ remove_entry (is_at (name_cmp name)) rs) (drop_more rows i row here)
-    ∙ ap (λ (r : Row). take i rows ++ remove_entry (is_at (name_cmp name)) (r ∷ drop (i + 1) rows)) (sym is)
+    ∙ ap (λ (r : Row). take i rows ++ remove_entry (is_at (name_cmp name)) (r ∷ drop (i + 1) rows)) (sym fact)
     ∙ ap (λ (rs : List Row). take i rows ++ rs) (cut_step row (drop (i + 1) rows) name true same)
     ∙ ap (λ (k : ℕ). take i rows ++ drop k rows) (one_more i)
 

@@ -29,7 +29,7 @@ bucket_small name = omega arith
 -- the entries of the bucket of a name
 pub bucket_at : (kinds : Ino → Option Kind) (t : Table) → Sound kinds t → (dir : Ino) (name : Name) → kinds dir ≡ Some kind.Directory
     → (rows : List Row) × IsBucket kinds (bucket_number name) (t dir (bucket_number name)) rows
-bucket_at kinds t sound dir name is = sound.directories dir (bucket_number name) is (bucket_small name)
+bucket_at kinds t sound dir name fact = sound.directories dir (bucket_number name) fact (bucket_small name)
 
 pub directory_is : (node : Node) → is_directory node ≡ true → node.kind ≡ kind.Directory
 directory_is node h = by node.kind h
@@ -54,8 +54,8 @@ step_into : (kinds : Ino → Option Kind) (w : World) (job : Job) (n m : ℕ) (Q
     (go : (ino : Ino) → kinds ino ≡ Some kind.Directory → Placed kinds w job n Q (more ino) → Comes m (walking ino onto rest job) w Q)
     (node : Node) (b : Bool) → is_directory node ≡ b → kinds node.ino ≡ Some node.kind → Placed kinds w job n Q (cond b (more node.ino) (Fails NotDir))
     → Comes m (cond b (walking node.ino onto rest job) (Ends (File NotDir))) w Q
-step_into kinds w job n m Q onto rest more go node true is kept h = go node.ino (kept ∙ ap Some (directory_is node is)) h
-step_into kinds w job n m Q onto rest more go node false is kept h = ended m (File NotDir) w Q h
+step_into kinds w job n m Q onto rest more go node true fact kept h = go node.ino (kept ∙ ap Some (directory_is node fact)) h
+step_into kinds w job n m Q onto rest more go node false fact kept h = ended m (File NotDir) w Q h
 
 step_to : (kinds : Ino → Option Kind) (w : World) (job : Job) (n m : ℕ) (Q : Post) (onto : Name) (rest : List Name) (more : Ino → Place)
     (go : (ino : Ino) → kinds ino ≡ Some kind.Directory → Placed kinds w job n Q (more ino) → Comes m (walking ino onto rest job) w Q)
@@ -79,9 +79,9 @@ good_rest false b h = let w : false ≡ true = h in cc
 pub walks : (kinds : Ino → Option Kind) (w : World) → Sound kinds w.value → (job : Job) (n : ℕ) (Q : Post) (dir : Ino) (name : Name) (rest : List Name)
     → kinds dir ≡ Some kind.Directory → list_all is_good (name ∷ rest) ≡ true
     → Placed kinds w job n Q (place_of (tree_of w.value) dir name rest) → Comes (over rest n) (walking dir name rest job) w Q
-walks kinds w sound job n Q dir name [] is good h = h is (good_first (is_good name) true good)
-walks kinds w sound job n Q dir name (onto ∷ rest) is good h =
-    let b = bucket_at kinds w.value sound dir name is in
+walks kinds w sound job n Q dir name [] fact good h = h fact (good_first (is_good name) true good)
+walks kinds w sound job n Q dir name (onto ∷ rest) fact good h =
+    let b = bucket_at kinds w.value sound dir name fact in
     let e = bucket_back kinds (bucket_number name) (w.value dir (bucket_number name)) b.0 b.1 in
     let kept = weaker (λ node. IsEntry kinds (bucket_number name) (name, node)) (λ node. kinds node.ino ≡ Some node.kind) (named name b.0)
     (λ node (entry : IsEntry kinds (bucket_number name) (name, node)). entry.kept) (named_each (IsEntry kinds (bucket_number name)) name b.0 b.1.each) in
@@ -97,12 +97,12 @@ Owes kinds before o given now = Meets kinds before o given now.value
 -- nothing changed
 pub unchanged : (kinds : Ino → Option Kind) (t : Table) (answer : Answer) → Sound kinds t → Meets kinds t (answered (tree_of t) answer) answer t
 unchanged kinds t answer sound =
-    record { said = refl; sound = sound; held = record { entries = λ dir name is. refl; bytes = λ file is. refl }; others = λ ino blk is. refl }
+    record { said = refl; sound = sound; held = record { entries = λ dir name fact. refl; bytes = λ file fact. refl }; others = λ ino blk fact. refl }
 
 pub unchanged_as : (kinds : Ino → Option Kind) (t : Table) (answer given : Answer) → given ≡ answer → Sound kinds t
     → Meets kinds t (answered (tree_of t) answer) given t
 unchanged_as kinds t answer given same sound =
-    record { said = same; sound = sound; held = record { entries = λ dir name is. refl; bytes = λ file is. refl }; others = λ ino blk is. refl }
+    record { said = same; sound = sound; held = record { entries = λ dir name fact. refl; bytes = λ file fact. refl }; others = λ ino blk fact. refl }
 
 -- kinds are those before a call and later those after it
 module _ (kinds later : Ino → Option Kind) (w : World) (sound : Sound kinds w.value) (after : Sound later w.value) where
@@ -121,7 +121,7 @@ module _ (kinds later : Ino → Option Kind) (w : World) (sound : Sound kinds w.
       (walks kinds w sound job (suc n) Q root name rest sound.root_is_directory good (owed (place_of (tree_of w.value) root name rest)))
     where
       owed : (p : Place) → Placed kinds w job (suc n) (Owes later w.value (at_place (tree_of w.value) does p)) p
-      owed (At dir last) = λ is fine. at dir last is fine
+      owed (At dir last) = λ fact fine. at dir last fact fine
       owed (Fails fault) = unchanged later w.value (File fault) after
 
   -- the last name's bucket is read; o is what the name leads to
@@ -130,8 +130,8 @@ module _ (kinds later : Ino → Option Kind) (w : World) (sound : Sound kinds w.
       → IfSome o (λ node. IsEntry kinds (bucket_number name) (name, node))
       → Comes n (looked_at dir name (w.ver dir (bucket_number name)) rows job o) w (Owes later w.value (O o)))
       → Comes (suc n) (Looks dir name job) w (Owes later w.value (O ((tree_of w.value).entries dir name)))
-  looks job n O dir name is does =
-      let b = bucket_at kinds w.value sound dir name is in
+  looks job n O dir name fact does =
+      let b = bucket_at kinds w.value sound dir name fact in
       let e = bucket_back kinds (bucket_number name) (w.value dir (bucket_number name)) b.0 b.1 in
       subst (λ (o : Option (List Row)). Comes n (looked dir name (w.ver dir (bucket_number name)) job o) w
       (Owes later w.value (O (named name (unwrap_or o []))))) (sym e)

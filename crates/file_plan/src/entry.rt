@@ -119,7 +119,7 @@ fn at_entry(
         }
         Job::Links { .. } => Ok(refuses(FileFault::Exists)),
         Job::Unlinks(old) => {
-            if !old.is(node) {
+            if !old.is_same(node) {
                 return Ok(PlanState::Ends(Answer::Done));
             }
             Ok(leaving(dir, name, ver, rows, ino, Job::Unlinks(old)))

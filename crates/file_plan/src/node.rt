@@ -35,7 +35,7 @@ impl Node {
     }
 
     /// Whether both are one: of one kind and of one number.
-    pub fn is(self, other: Node) -> bool
+    pub fn is_same(self, other: Node) -> bool
         ensures { result ≡ same_node self other }
     {
         match (self.kind, other.kind) {

@@ -65,7 +65,7 @@ impl FilePlan {
 
     /// The plan after one more answer. An answer that isn't one to the call that was made changes
     /// nothing.
-    pub fn after(self, alloc: Global, answer: &BlockAnswer) -> Mem<FilePlan>
+    pub fn answered(self, alloc: Global, answer: &BlockAnswer) -> Mem<FilePlan>
         ensures { IfOk result (λ plan. plan ≡ after_answer self answer.now) }
     {
         Ok(FilePlan {
@@ -202,7 +202,7 @@ pub fn plan(
 {
     let mut plan = FilePlan::start(alloc, call, made_by(number, client))?;
     for answer in so_far {
-        plan = plan.after(alloc, answer)?;
+        plan = plan.answered(alloc, answer)?;
     }
     plan.next(alloc)
 }

@@ -92,8 +92,8 @@ module _ (part : ℕ) (known : List (Option (List ℕ))) (ds : List (List ℕ)) 
 
   by_sum : (p : Option (List ℕ)) (adds : ℕ → List ℕ → List ℕ) (sum : List ℕ) → rest_onto adds 0 sum known ≡ sum_gone adds (zeros part) (gone_from 0 known ds)
       → IfSome p (λ f. f ≡ sum) → IfSome p (λ f. rest_onto adds 0 f known ≡ sum_gone adds (zeros part) (gone_from 0 known ds))
-  by_sum None adds sum left is = is
-  by_sum (Some f) adds sum left is = ap (λ (u : List ℕ). rest_onto adds 0 u known) is ∙ left
+  by_sum None adds sum left fact = fact
+  by_sum (Some f) adds sum left fact = ap (λ (u : List ℕ). rest_onto adds 0 u known) fact ∙ left
 
   -- what is found at each number of missing ones, where the sums are what these added
   found_at : (gs : List (ℕ × List ℕ)) (p q : Option (List ℕ)) → Suffices (length gs) p q → Rises 0 8 gs

@@ -22,6 +22,6 @@ one_is_read left w round all whole = record { all = all; now = now }
 -- the first of the queue is read
 pub next_is_read : (items rest : List Wanted) (w : Wanted) (round : RoundSoFar) → items ≡ w ∷ rest → All IsWanted items
     → AreReads rest (Some (record { wanted = w; round = round }))
-next_is_read items rest w round is all =
-    let whole : All IsWanted (w ∷ rest) = subst (All IsWanted) is all in
+next_is_read items rest w round fact all =
+    let whole : All IsWanted (w ∷ rest) = subst (All IsWanted) fact all in
     one_is_read rest w round (All-tail IsWanted w rest whole) (All-head IsWanted w rest whole)

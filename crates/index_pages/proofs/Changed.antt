@@ -21,19 +21,19 @@ passes : (p : BlockId → Bool) (blocks : List BlockId) → list_any p blocks �
 passes p [] h = contrary h
 passes p (b ∷ bs) h =
     elim (p b) as (λ t. p b ≡ t → (t || list_any p bs) ≡ true → Passes p (b ∷ bs)) [
-      | true ↦ λ is _. (b, contains_first b bs, is)
+      | true ↦ λ fact _. (b, contains_first b bs, fact)
       | false ↦ λ _ rest. more (passes p bs rest)
     ] refl h
   where
     more : Passes p bs → Passes p (b ∷ bs)
-    more (x, there, is) = (x, contains_rest b x bs there, is)
+    more (x, there, fact) = (x, contains_rest b x bs there, fact)
 
 any_passes : (p : BlockId → Bool) (blocks : List BlockId) (b : BlockId) → Contains blocks b → p b ≡ true → list_any p blocks ≡ true
-any_passes p [] b there is = absurd (contains_nothing b there)
-any_passes p (x ∷ xs) b there is =
+any_passes p [] b there fact = absurd (contains_nothing b there)
+any_passes p (x ∷ xs) b there fact =
     elim (contains_cases x b xs there) [
-      | inl same ↦ or_first (p x) (list_any p xs) (ap p same ∙ is)
-      | inr rest ↦ or_second (p x) (list_any p xs) (any_passes p xs b rest is)
+      | inl same ↦ or_first (p x) (list_any p xs) (ap p same ∙ fact)
+      | inr rest ↦ or_second (p x) (list_any p xs) (any_passes p xs b rest fact)
     ]
 
 module _ (blocks : List BlockId) where
@@ -52,8 +52,8 @@ module _ (blocks : List BlockId) where
       (λ t. same_block (first_block b) f ≡ t → cond t (Some k) (place_from (k + 1) (first_block b) fs) ≡ Some n) [
         | true ↦ λ same.
             let there : list_any (same_block (first_block b)) fs ≡ true = sym (any_place (k + 1) (first_block b) fs) ∙ ap is_some found in
-            let is : first_block b ≡ f = sym (same_block_exact (first_block b) f same) in
-            contrary (sym apart.0 ∙ ap (λ g. list_any (same_block g) fs) (sym is) ∙ there)
+            let fact : first_block b ≡ f = sym (same_block_exact (first_block b) f same) in
+            contrary (sym apart.0 ∙ ap (λ g. list_any (same_block g) fs) (sym fact) ∙ there)
         | false ↦ λ _. found
       ] refl
 
@@ -84,7 +84,7 @@ module _ (blocks : List BlockId) where
       elim (same_block (first_block b) f) as
       (λ t. same_block (first_block b) f ≡ t → cond t (Some k) (place_from (k + 1) (first_block b) fs) ≡ Some n
       → Contains (cond (is_changed f) (k ∷ rest) rest) n) [
-        | true ↦ λ on is.
+        | true ↦ λ on fact.
             let changed : is_changed f ≡ true = any_passes (λ c. same_block (first_block c) f) blocks b there on in
             let same : k ≡ n = cc in
             subst (λ t. Contains (cond t (k ∷ rest) rest) n) (sym changed) (subst (Contains (k ∷ rest)) same (contains_first k rest))
@@ -101,16 +101,17 @@ module _ (blocks : List BlockId) where
 pub changed_are_put_on : (calls : List Call) (number : ℕ) → Contains (changed_from 0 (after_calls no_pages calls).pages) number ↔ IsPutOn calls number
 changed_are_put_on calls number = (to, from)
   where
-    is : IsNumbered (after_calls no_pages calls) (pages_begun calls) (puts_since_clean calls)
-    is = numbered calls
+    fact : IsNumbered (after_calls no_pages calls) (pages_begun calls) (puts_since_clean calls)
+    fact = numbered calls
 
     to : Contains (changed_from 0 (after_calls no_pages calls).pages) number → IsPutOn calls number
-    to h = as_put (from_changed (puts_since_clean calls) 0 number (pages_begun calls) is.apart (subst (λ ps. Contains (changed_from 0 ps) number) is.pages h))
+    to h =
+        as_put (from_changed (puts_since_clean calls) 0 number (pages_begun calls) fact.apart (subst (λ ps. Contains (changed_from 0 ps) number) fact.pages h))
       where
         as_put : IsOn (puts_since_clean calls) 0 (pages_begun calls) number → IsPutOn calls number
-        as_put (b, there, found) = (b, there, is.numbers (first_block b) ∙ found)
+        as_put (b, there, found) = (b, there, fact.numbers (first_block b) ∙ found)
 
     from : IsPutOn calls number → Contains (changed_from 0 (after_calls no_pages calls).pages) number
     from (b, there, found) =
-        subst (λ ps. Contains (changed_from 0 ps) number) (sym is.pages)
-        (to_changed (puts_since_clean calls) 0 number (pages_begun calls) b there (sym (is.numbers (first_block b)) ∙ found))
+        subst (λ ps. Contains (changed_from 0 ps) number) (sym fact.pages)
+        (to_changed (puts_since_clean calls) 0 number (pages_begun calls) b there (sym (fact.numbers (first_block b)) ∙ found))

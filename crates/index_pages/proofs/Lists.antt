@@ -19,10 +19,10 @@ use Rattle.std.proofs.lemmas.List.{length-take-le, length-map, get_or_at, set_at
 -- a list of which the items below a place are changed, with the one at that place changed too
 pub changed_more : {X : Type 0} (f : X → X) (old xs : List X) (i : ℕ) (d e : X) → i < length old → xs ≡ map f (take i old) ++ drop i old → e ≡ get_or xs i d
     → set xs i (f e) ≡ map f (take (i + 1) old) ++ drop (i + 1) old
-changed_more f old xs i d e here is read =
+changed_more f old xs i d e here fact read =
     let rest : drop i old ≡ get_or old i d ∷ drop (i + 1) old = drop_more old i d here in
     let long : length (map f (take i old)) ≡ i = length-map (take i old) f ∙ length-take-le i old (omega arith) in
-    let is2 : xs ≡ map f (take i old) ++ get_or old i d ∷ drop (i + 1) old = is ∙ ap (λ r. map f (take i old) ++ r) rest in
+    let is2 : xs ≡ map f (take i old) ++ get_or old i d ∷ drop (i + 1) old = fact ∙ ap (λ r. map f (take i old) ++ r) rest in
     let here2 : e ≡ get_or old i d = read ∙ ap (λ r. get_or r i d) is2 ∙ get_or_at (map f (take i old)) (get_or old i d) (drop (i + 1) old) d i long in
     ap (λ r. set r i (f e)) is2 ∙ set_at (map f (take i old)) (get_or old i d) (drop (i + 1) old) (f e) i long
     ∙ ap (λ y. map f (take i old) ++ f y ∷ drop (i + 1) old) here2
@@ -54,15 +54,15 @@ pub undone : (old now : PagesState) (block : BlockId) (rows : List (BlockId × E
     → page_of old block ≡ None → now ≡ begun old block
     → rows ≡ now.rows → numbers ≡ remove_entry (is_at (block_cmp (first_block block))) now.numbers → pages ≡ take (length now.pages - 1) now.pages
     → record { rows = rows; numbers = numbers; pages = pages } ≡ old
-undone old now block rows numbers pages absent is r n p =
-    let same_rows : rows ≡ old.rows = r ∙ ap (λ (s : PagesState). s.rows) is in
-    let same_numbers : numbers ≡ old.numbers = n ∙ ap (λ (s : PagesState). remove_entry (is_at (block_cmp (first_block block))) s.numbers) is
+undone old now block rows numbers pages absent fact r n p =
+    let same_rows : rows ≡ old.rows = r ∙ ap (λ (s : PagesState). s.rows) fact in
+    let same_numbers : numbers ≡ old.numbers = n ∙ ap (λ (s : PagesState). remove_entry (is_at (block_cmp (first_block block))) s.numbers) fact
     ∙ remove-insert block_cmp_total (first_block block) (length old.pages) old.numbers absent in
-    let same_pages : pages ≡ old.pages = p ∙ ap (λ (s : PagesState). take (length s.pages - 1) s.pages) is ∙ take_push old.pages _ in
+    let same_pages : pages ≡ old.pages = p ∙ ap (λ (s : PagesState). take (length s.pages - 1) s.pages) fact ∙ take_push old.pages _ in
     λ i. record { rows = same_rows i; numbers = same_numbers i; pages = same_pages i }
 
 -- the rows so far and those to come, once a block is looked up
 pub row_more : (done now rest all : List (BlockId × Entry)) (block : BlockId) (found known : Option Entry) → found ≡ known
     → done ++ (row_of block found ++ rest) ≡ all → now ≡ done ++ row_of block known → now ++ rest ≡ all
-row_more done now rest all block found known same before is =
-    ap (λ n. n ++ rest) is ∙ append_assoc done (row_of block known) rest ∙ ap (λ o. done ++ (row_of block o ++ rest)) (sym same) ∙ before
+row_more done now rest all block found known same before fact =
+    ap (λ n. n ++ rest) fact ∙ append_assoc done (row_of block known) rest ∙ ap (λ o. done ++ (row_of block o ++ rest)) (sym same) ∙ before

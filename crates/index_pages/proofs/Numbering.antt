@@ -111,9 +111,9 @@ module _ (blocks : List BlockId) (block : BlockId) where
       list_any-append (λ b. same_block (first_block b) f) blocks (block ∷ [])
       ∙ or_last_true (list_any (λ b. same_block (first_block b) f) blocks) (same_block (first_block block) f) same
       in
-      let is : first_block block ≡ f = sym (same_block_exact (first_block block) f same) in
+      let fact : first_block block ≡ f = sym (same_block_exact (first_block block) f same) in
       let changed : true ≡ list_any (λ b. same_block (first_block b) f) (blocks ++ block ∷ []) = sym flag in
-      λ i. record { first = is i; changed = changed i }
+      λ i. record { first = fact i; changed = changed i }
 
   same_pages : (fs : List BlockId) → list_any (same_block (first_block block)) fs ≡ false
       → map (page_with blocks) fs ≡ map (page_with (blocks ++ block ∷ [])) fs

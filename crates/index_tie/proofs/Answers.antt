@@ -23,10 +23,10 @@ use Rattle.index_tie.proofs.Rows.{row_versioned}
 -- an entry that lies somewhere is of some version
 placed_row : (b : BlockId) (f : Filed) (entry : Entry) (named : index.Entry) (place : Place) → Names b f entry named → is_place entry.place place ≡ true
     → IsRow b f entry
-placed_row b f entry named place n is = by entry.ver refl
+placed_row b f entry named place n fact = by entry.ver refl
   where
     by : (v : ℕ) → entry.ver ≡ v → IsRow b f entry
-    by zero none = absurd (false≢true (sym (ap (λ (e : Entry). is_place e.place place) (n.none none)) ∙ is))
+    by zero none = absurd (false≢true (sym (ap (λ (e : Entry). is_place e.place place) (n.none none)) ∙ fact))
     by (suc v) some = record { log = named.log; seq = named.seq; is_row = n.row (omega arith); some = omega arith }
 
 abbrev live_of : Out → Entry → Entry
@@ -40,9 +40,9 @@ first_of_outs (o ∷ os) = o
 pub live_is_filed : LiveIsFiled
 live_is_filed b f w s place entry m =
     by_test (λ (o : Out). (o ∷ []) ≡ (Live entry ∷ []) → IsRow b f entry) (is_place (entry_at s b).place place) (Live (entry_at s b)) Dead
-    (λ is says.
+    (λ fact says.
     let same : entry_at s b ≡ entry = ap (λ os. live_of (first_of_outs os) (entry_at s b)) says in
-    subst (IsRow b f) same (placed_row b f (entry_at s b) (w.index s.epoch) place m.index is))
+    subst (IsRow b f) same (placed_row b f (entry_at s b) (w.index s.epoch) place m.index fact))
     (λ _ says. absurd (dead_or_live says))
   where
     dead_or_live : (Dead ∷ []) ≡ (Live entry ∷ []) → ⊥
@@ -98,7 +98,7 @@ deads_are_beats b f w s place d l q reached filed tells m lies kept_by below say
       where
         placed : None ≡ Some place → ⊥
         placed h = absurd (cc)
-    some_version (suc v) is = omega arith
+    some_version (suc v) fact = omega arith
 
     live_or_dead : (Live (entry_at s b) ∷ []) ≡ (Dead ∷ []) → ⊥
     live_or_dead h = absurd (cc)

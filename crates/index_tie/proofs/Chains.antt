@@ -29,9 +29,9 @@ use Rattle.index_tie.proofs.Tables.{first_of}
 
 no_part_rows : (slot : ℕ) (items : List Item) → AllByRecursion IsNoPart items → flat_map (part_rows slot) items ≡ []
 no_part_rows slot [] none = refl
-no_part_rows slot (Block block value ∷ is) none = no_part_rows slot is none.1
-no_part_rows slot (Delta block ver hop item ∷ is) none = no_part_rows slot is none.1
-no_part_rows slot (Part of rows ∷ is) none = absurd none.0
+no_part_rows slot (Block block value ∷ fact) none = no_part_rows slot fact none.1
+no_part_rows slot (Delta block ver hop item ∷ fact) none = no_part_rows slot fact none.1
+no_part_rows slot (Part of rows ∷ fact) none = absurd none.0
 
 -- rows of other slots say nothing of the block
 pub join_of_slot : (b : BlockId) (slot : ℕ) (rows : List (BlockId × Entry)) → slot_of b.ino.0 ≡ slot → join (filter (is_of slot) rows) b ≡ join rows b
@@ -42,7 +42,7 @@ join_of_slot b slot (m ∷ ms) its =
       | false ↦ λ other.
           let apart : same_block b m.0 ≡ true → ⊥ =
           λ same. false≢true
-          (sym other ∙ (let is : slot_of m.0.ino.0 ≡ slot = ap (λ (k : BlockId). slot_of k.ino.0) (same_block_exact b m.0 same) ∙ its in
+          (sym other ∙ (let fact : slot_of m.0.ino.0 ≡ slot = ap (λ (k : BlockId). slot_of k.ino.0) (same_block_exact b m.0 same) ∙ its in
           grind (arith, nat_tests))) in
           join_of_slot b slot ms its
           ∙ sym (join-cons m ms b ∙ ap (λ e. first_greatest e (join ms b)) (join-one m b ∙ says_nothing (same_block b m.0) apart) ∙ none-join ms b)
@@ -53,8 +53,8 @@ join_of_slot b slot (m ∷ ms) its =
     says_nothing false apart = refl
 
 told_is_said : (b : BlockId) (slot l q : ℕ) (s : Segment) → slot_of b.ino.0 ≡ slot → IsSegment l q s → join (told_of slot s) b ≡ join (rows_of s) b
-told_is_said b slot l q s its is =
-    ap (λ parts. join (parts ++ filter (is_of slot) (rows_of s)) b) (no_part_rows slot s.items is.no_parts) ∙ join_of_slot b slot (rows_of s) its
+told_is_said b slot l q s its fact =
+    ap (λ parts. join (parts ++ filter (is_of slot) (rows_of s)) b) (no_part_rows slot s.items fact.no_parts) ∙ join_of_slot b slot (rows_of s) its
 
 -- so filed segments in a row tell what is filed from one seq up to another
 pub told_range : (b : BlockId) (f : Filed) (slot l n first : ℕ) → slot_of b.ino.0 ≡ slot → IsFiled f → 0 < first → first + n ≤ suc (f.head l)
@@ -89,7 +89,7 @@ Stands f l low end None chain = chain ≡ map (f.segment l) (range_with_len low 
 Stands f l low end (Some at) chain = NextIs f l low end at chain
 
 range_first : (f : ℕ → Segment) (q n m : ℕ) → n ≡ suc m → map f (range_with_len q n) ≡ f q ∷ map f (range_with_len (q + 1) m)
-range_first f q n m is = ap (λ k. map f (range_with_len q k)) is
+range_first f q n m fact = ap (λ k. map f (range_with_len q k)) fact
 
 -- nothing is left only once the lowest is read, as each prior of those above it names a segment
 lowest : (low q seq at : ℕ) (t : Bool) → at ≡ low → seq ≡ q → low ≤ q → (low < q → t ≡ false) → (nat_lt at seq && not t) ≡ false → low ≡ q
@@ -116,14 +116,14 @@ module _ (f : Filed) (l low : ℕ) (end : End) (filed : IsFiled f) (some : 0 < l
       let from = n.from in
       let upto = n.upto in
       let head = is_end.filed in
-      let is : s ≡ f.segment l q = text l q (omega arith) (omega arith) (name ∙ n.named) in
+      let fact : s ≡ f.segment l q = text l q (omega arith) (omega arith) (name ∙ n.named) in
       let its = filed.each l q (omega arith) (omega arith) in
-      let seq : s.name.seq ≡ q = ap (λ (x : Segment). x.name.seq) is ∙ its.seq in
+      let seq : s.name.seq ≡ q = ap (λ (x : Segment). x.name.seq) fact ∙ its.seq in
       let read : s ∷ chain ≡ map (f.segment l) (range_with_len q (suc end.seq - q)) =
-      ap (λ x. x ∷ chain) is ∙ ap (λ c. f.segment l q ∷ c) n.read ∙ sym (range_first (f.segment l) q (suc end.seq - q) (end.seq - q) (omega arith)) in
+      ap (λ x. x ∷ chain) fact ∙ ap (λ c. f.segment l q ∷ c) n.read ∙ sym (range_first (f.segment l) q (suc end.seq - q) (end.seq - q) (omega arith)) in
       let prior : low < q → s.prior.pass ≡ (f.segment l (q - 1)).name.pass = λ less.
       let one : suc (q - 1) ≡ q = omega arith in
-      ap (λ (x : Segment). x.prior.pass) is ∙ sym (ap (λ k. (f.segment l k).prior.pass) one) ∙ linked (q - 1) (omega arith) (omega arith) in
+      ap (λ (x : Segment). x.prior.pass) fact ∙ sym (ap (λ k. (f.segment l k).prior.pass) one) ∙ linked (q - 1) (omega arith) (omega arith) in
       let named : low < q → is_none s.prior ≡ false = λ less.
       let boot = (filed.each l (q - 1) (omega arith) (omega arith)).boot in
       some_prior s.prior.pass.inc ((s.prior.pass.att == 0) && (s.prior.group == 0)) (subst (λ n. 0 < n) (sym (ap (λ (x : Pass). x.inc) (prior less))) boot) in
@@ -139,7 +139,7 @@ module _ (f : Filed) (l low : ℕ) (end : End) (filed : IsFiled f) (some : 0 < l
               from = omega arith;
               upto = omega arith;
               low_is = low_is;
-              named = same_name (prior_of s).name (f.segment l (q - 1)).name (ap (λ (x : Segment). x.name.log.0) is ∙ its.log ∙ sym below.log)
+              named = same_name (prior_of s).name (f.segment l (q - 1)).name (ap (λ (x : Segment). x.name.log.0) fact ∙ its.log ∙ sym below.log)
                   (ap (λ k. k - 1) seq ∙ sym below.seq) (prior less);
               read = read ∙ ap (λ k. map (f.segment l) (range_with_len k (suc end.seq - q))) one
                   ∙ ap (λ k. map (f.segment l) (range_with_len (q - 1 + 1) k)) count;

@@ -49,7 +49,7 @@ stops : (part : SegRef) (s : Segment) → s.name ≡ part.name → goes_back (pa
 stops part s named = let seq : s.name.seq ≡ part.name.seq = ap (λ n. n.seq) named in not_below part.name.seq s.name.seq (not (is_none s.prior)) seq
   where
     not_below : (low seq : ℕ) (t : Bool) → seq ≡ low → (nat_lt low seq && t) ≡ false
-    not_below low seq t is = grind (arith, nat_tests)
+    not_below low seq t fact = grind (arith, nat_tests)
 
 -- of a part one segment is read: its own
 record IsOneRead (part : SegRef) (chain : List Segment) : Type 0 where
@@ -59,7 +59,7 @@ record IsOneRead (part : SegRef) (chain : List Segment) : Type 0 where
 
 read_once : (part : SegRef) (chain : List Segment) (left : Option Source) → IsReadBack (part_source part) chain left
     → (left ≡ None → IsOneRead part chain) × ((at : Source) → left ≡ Some at → chain ≡ [])
-read_once part [] left read = ((λ none. absurd (some_is (part_source part) (sym read ∙ none))), (λ at is. refl))
+read_once part [] left read = ((λ none. absurd (some_is (part_source part) (sym read ∙ none))), (λ at fact. refl))
   where
     some_is : (at : Source) → Some at ≡ None → ⊥
     some_is at h = absurd (cc)
@@ -109,10 +109,10 @@ no_deltas slot s [] = refl
 no_deltas slot s (p ∷ ps) = no_deltas slot s ps
 
 pub parts_tell : PartsTellTheirRows
-parts_tell slot pages s is =
-    ap (λ r. flat_map (part_rows slot) s.items ++ filter (is_of slot) r) (ap (filter_map (row_of s)) is ∙ no_deltas slot s pages)
+parts_tell slot pages s fact =
+    ap (λ r. flat_map (part_rows slot) s.items ++ filter (is_of slot) r) (ap (filter_map (row_of s)) fact ∙ no_deltas slot s pages)
     ∙ append-nil (flat_map (part_rows slot) s.items)
-    ∙ ap (flat_map (part_rows slot)) is ∙ parts_hold slot pages ∙ ap rows_of_items (sym is)
+    ∙ ap (flat_map (part_rows slot)) fact ∙ parts_hold slot pages ∙ ap rows_of_items (sym fact)
 
 -- ---- and kept
 

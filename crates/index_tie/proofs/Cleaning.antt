@@ -55,9 +55,9 @@ polled_at w p e = by (nat_lt w.promised e) (nat_lt p e) refl
     by : (t u : Bool) → nat_lt w.promised e ≡ t
         → (cond t (cond u (w.polled e) (w.head w.cleaner)) (w.polled e) ≡ w.polled e)
         ⊎ ((w.promised < e) × (cond t (cond u (w.polled e) (w.head w.cleaner)) (w.polled e) ≡ w.head w.cleaner))
-    by true true is = inl refl
-    by true false is = inr (above w.promised e is, refl)
-    by false u is = inl refl
+    by true true fact = inl refl
+    by true false fact = inr (above w.promised e fact, refl)
+    by false u fact = inl refl
 
 module _ (b : BlockId) (f : Filed) where
   -- ---- what is given, where what is deleted was dropped
@@ -179,10 +179,10 @@ module _ (b : BlockId) (f : Filed) where
         → IsChecked b f dead_table name (map g checks)
     checked_map name checks g same dead k = record {
       within = k.within;
-      blocks = λ is. blocks-map g same checks ∙ k.blocks is;
-      counted = λ is has. all-map (λ c. c.block ≡ b → is_dead c.fate ≡ true → 0 < dead_table name.log.0 name.seq)
+      blocks = λ fact. blocks-map g same checks ∙ k.blocks fact;
+      counted = λ fact has. all-map (λ c. c.block ≡ b → is_dead c.fate ≡ true → 0 < dead_table name.log.0 name.seq)
           (λ c. c.block ≡ b → is_dead c.fate ≡ true → 0 < dead_table name.log.0 name.seq) g
-          (λ c so at now. so (sym (same c) ∙ at) (dead c now)) checks (k.counted is has);
+          (λ c so at now. so (sym (same c) ∙ at) (dead c now)) checks (k.counted fact has);
     }
 
     moved_fine : (p : Phase) → KnownIn p → Fine (moved_in p)
@@ -234,13 +234,13 @@ module _ (b : BlockId) (f : Filed) where
         promised = refl;
         polled = λ e. refl;
         checked = k;
-        drops = λ dead. record { within = k.within; row_dropped = λ is has. absurd (never is has dead) };
+        drops = λ dead. record { within = k.within; row_dropped = λ fact has. absurd (never fact has dead) };
       }
 
       by : (t u v : Bool) → is_filed_name f name ≡ t → has_block b f name ≡ u → all_dead checks ≡ v → Ends w name checks
-      by true true true is has dead =
+      by true true true fact has dead =
           let some : 0 < w.dead_at name.log.0 name.seq =
-          of_dead b (0 < w.dead_at name.log.0 name.seq) checks dead (ap (list_any (same_block b)) (k.blocks is) ∙ has) (k.counted is has) in
+          of_dead b (0 < w.dead_at name.log.0 name.seq) checks dead (ap (list_any (same_block b)) (k.blocks fact) ∙ has) (k.counted fact has) in
           record {
             state = drops_row w name.log.0 name.seq;
             steps = More Ended (Drops_row name.log.0 name.seq (record { counted = some }));
@@ -254,9 +254,9 @@ module _ (b : BlockId) (f : Filed) where
                   ∙ at_same name.seq 1 (w.dropped name.log.0 name.seq);
             };
           }
-      by true true false is has alive = same (λ _ _ dead. false≢true (sym alive ∙ dead))
-      by true false v is none alive = same (λ _ has _. false≢true (sym none ∙ has))
-      by false u v twin has alive = same (λ is _ _. false≢true (sym twin ∙ is))
+      by true true false fact has alive = same (λ _ _ dead. false≢true (sym alive ∙ dead))
+      by true false v fact none alive = same (λ _ has _. false≢true (sym none ∙ has))
+      by false u v twin has alive = same (λ fact _ _. false≢true (sym twin ∙ fact))
 
   looked : (w : IndexState) (j : JobState) (segment : SegRef) (was_asked : Bool) (checks : List Check) → IsChecked b f w.dead_at segment.name checks
       → Turned w (looked_at j segment was_asked checks)
@@ -277,8 +277,8 @@ module _ (b : BlockId) (f : Filed) where
       let checks = checks_from 0 read.items in
       let k : IsChecked b f w.dead_at segment.name checks = record {
         within = within;
-        blocks = λ is. blocks-checks 0 read.items ∙ ap (λ (s : Segment). blocks_of s.items) (text is);
-        counted = λ is has. weaker checks (none_dead 0 read.items);
+        blocks = λ fact. blocks-checks 0 read.items ∙ ap (λ (s : Segment). blocks_of s.items) (text fact);
+        counted = λ fact has. weaker checks (none_dead 0 read.items);
       } in
       let e = ends w segment.name checks k in
       record {
@@ -299,7 +299,7 @@ module _ (b : BlockId) (f : Filed) where
   read_turned w None (Reading j segment) k owes = by_nothing w (next j) (next_fine w.dead_at w.dropped j.left j)
   read_turned w (Some read) (Reading j segment) k owes =
       by_test (Turned w) (same_name read.name segment.name) (checking j segment (checks_from 0 read.items)) (still (Reading j segment))
-      (λ t. checked_first w j segment read owes.0 (λ is. owes.1 is (tells_apart seg_cmp_exact read.name segment.name t)))
+      (λ t. checked_first w j segment read owes.0 (λ fact. owes.1 fact (tells_apart seg_cmp_exact read.name segment.name t)))
       (λ t. by_nothing w (still (Reading j segment)) (tt, tt))
   read_turned w read p k owes = by_nothing w (still p) (k, tt)
 
@@ -324,7 +324,7 @@ module _ (b : BlockId) (f : Filed) where
           → (is_filed_name f segment.name ≡ true → has_block b f segment.name ≡ true
           → AllByRecursion (λ (c : Check). c.block ≡ b → is_dead c.fate ≡ true → 0 < table segment.name.log.0 segment.name.seq) (map (dead_at block) checks))
           → IsChecked b f table segment.name (map (dead_at block) checks)
-      dead_checks table all = record { within = k.within; blocks = λ is. blocks-map (dead_at block) (dead_block block) checks ∙ k.blocks is; counted = all }
+      dead_checks table all = record { within = k.within; blocks = λ fact. blocks-map (dead_at block) (dead_block block) checks ∙ k.blocks fact; counted = all }
 
       -- a check of another block is as dead as it was
       elsewhere : same_block b block ≡ false → (c : Check) → (c.block ≡ b → is_dead c.fate ≡ true → 0 < w.dead_at segment.name.log.0 segment.name.seq)
@@ -334,17 +334,17 @@ module _ (b : BlockId) (f : Filed) where
           by_test (λ (d : Check). (c.block ≡ b → is_dead c.fate ≡ true → 0 < w.dead_at segment.name.log.0 segment.name.seq) → d.block ≡ b
           → is_dead d.fate ≡ true → 0 < w.dead_at segment.name.log.0 segment.name.seq)
           (same_block c.block block) (record c { fate = after_dead c.fate }) c
-          (λ t so at dead. let is : block ≡ b = same_block_exact c.block block t ∙ at in
-          absurd (false≢true (sym other ∙ ap (same_block b) is ∙ same_block_itself b)))
+          (λ t so at dead. let fact : block ≡ b = same_block_exact c.block block t ∙ at in
+          absurd (false≢true (sym other ∙ ap (same_block b) fact ∙ same_block_itself b)))
           (λ t so. so)
 
       by : (t u v : Bool) → is_filed_name f segment.name ≡ t → has_block b f segment.name ≡ u → same_block b block ≡ v
           → Turned w (looked_at j segment (any_asked checks) (map (dead_at block) checks))
-      by true true true is has same =
+      by true true true fact has same =
           let l = segment.name.log.0 in
           let q = segment.name.seq in
           let at : block ≡ b = same_block_exact b block same in
-          let was = told at is has in
+          let was = told at fact has in
           let v = counts w epoch l q in
           let now : v.dead_at l q ≡ epoch = at_same l (cond (q == q) epoch (w.dead_at l q)) (w.dead_at l q) ∙ at_same q epoch (w.dead_at l q) in
           let some : 0 < v.dead_at l q = subst (λ n. 0 < n) (sym now) was.0 in
@@ -359,15 +359,15 @@ module _ (b : BlockId) (f : Filed) where
             polled = t.polled;
             fine = t.fine;
           }
-      by true true false is has other =
+      by true true false fact has other =
           looked w j segment (any_asked checks) (map (dead_at block) checks)
           (dead_checks w.dead_at (λ is_ has_. all-map (λ c. c.block ≡ b → is_dead c.fate ≡ true → 0 < w.dead_at segment.name.log.0 segment.name.seq)
           (λ c. c.block ≡ b → is_dead c.fate ≡ true → 0 < w.dead_at segment.name.log.0 segment.name.seq) (dead_at block) (elsewhere other) checks
-          (k.counted is has)))
-      by true false v is none same =
+          (k.counted fact has)))
+      by true false v fact none same =
           looked w j segment (any_asked checks) (map (dead_at block) checks) (dead_checks w.dead_at (λ _ has. absurd (false≢true (sym none ∙ has))))
       by false u v twin has same =
-          looked w j segment (any_asked checks) (map (dead_at block) checks) (dead_checks w.dead_at (λ is _. absurd (false≢true (sym twin ∙ is))))
+          looked w j segment (any_asked checks) (map (dead_at block) checks) (dead_checks w.dead_at (λ fact _. absurd (false≢true (sym twin ∙ fact))))
   dead_turned w block epoch p k told latest = by_nothing w (still p) (k, tt)
 
   -- ---- all inputs
@@ -393,7 +393,7 @@ module _ (b : BlockId) (f : Filed) where
     where
       still_promised : (promise_of b s ≡ 0) ⊎ (w.promised ≡ promise_of b s) → (promise_of b s ≡ 0) ⊎ (t.state.promised ≡ promise_of b s)
       still_promised (inl none) = inl none
-      still_promised (inr is) = inr (t.promised ∙ is)
+      still_promised (inr fact) = inr (t.promised ∙ fact)
 
   stays_same : (w : IndexState) (s : CleaningState) (d : Done) → Cleans b f w s → promise_of b d.state ≡ promise_of b s
       → Known b f w.dead_at w.dropped d.state.phase → AllByRecursion (DeletesDropped b f w.dropped) d.outs → StaysOn w d
@@ -405,7 +405,7 @@ module _ (b : BlockId) (f : Filed) where
     where
       as_before : (promise_of b s ≡ 0) ⊎ (w.promised ≡ promise_of b s) → (promise_of b d.state ≡ 0) ⊎ (w.promised ≡ promise_of b d.state)
       as_before (inl none) = inl (same ∙ none)
-      as_before (inr is) = inr (is ∙ sym same)
+      as_before (inr fact) = inr (fact ∙ sym same)
 
   quiet : (w : IndexState) (s : CleaningState) → Cleans b f w s → StaysOn w (still s)
   quiet w s c = stays_same w s (still s) c refl c.known tt
@@ -497,8 +497,8 @@ module _ (b : BlockId) (f : Filed) where
       (λ _. quiet w s c)
     where
       latest : (promise_of b s ≡ 0) ⊎ (w.promised ≡ promise_of b s) → epoch ≡ promise_of b s → 0 < epoch → epoch ≡ w.promised
-      latest (inl none) is some = absurd (omega arith)
-      latest (inr same) is some = is ∙ sym same
+      latest (inl none) fact some = absurd (omega arith)
+      latest (inr same) fact some = fact ∙ sym same
 
   pub read_stays : (w : IndexState) (s : CleaningState) (read : Option Segment) → Cleans b f w s → ReadFor f read s.phase
       → StaysOn w (transition s (input.Read read))

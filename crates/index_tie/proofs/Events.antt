@@ -47,7 +47,7 @@ module _ (part : ℕ) (holds : SegRef → Rows) where
 
   by_manager : (n : Net) (b : BlockId) (i : View part holds b n) (e : ℕ) (s : SlotState) → ((d : ℕ) (t : SlotState) → n.slots d ≡ Some t → t.epoch ≡ d)
       → s.epoch ≡ e → Runs b n.filed i.state e s → View part holds b (with_slot n e s)
-  by_manager n b i e s epochs is r =
+  by_manager n b i e s epochs fact r =
       let w = i.state in
       let v = r.state in
       let f = n.filed in
@@ -82,24 +82,24 @@ module _ (part : ℕ) (holds : SegRef → Rows) where
   -- the whole, once the slot of an epoch has stepped
   pub with_slot_good : (n : Net) (e : ℕ) (s : SlotState) → Good part holds n → s.epoch ≡ e → (e ≡ 0 → ⊥)
       → ((b : BlockId) → slot_of b.ino.0 ≡ part → (i : View part holds b n) → Runs b n.filed i.state e s) → Good part holds (with_slot n e s)
-  with_slot_good n e s g is some runs = record {
+  with_slot_good n e s g fact some runs = record {
     filed = g.filed;
     epochs = put_each (λ d o. (t : SlotState) → o ≡ Some t → t.epoch ≡ d) n.slots e (Some s)
-        (λ t same. subst (λ (x : SlotState). x.epoch ≡ e) (some_is s t same) is) (λ d other. g.epochs d);
+        (λ t same. subst (λ (x : SlotState). x.epoch ≡ e) (some_is s t same) fact) (λ d other. g.epochs d);
     begun = put_each (λ d o. d ≡ 0 → o ≡ None) n.slots e (Some s) (λ is_zero. absurd (some is_zero)) (λ d other is_zero. ap n.slots is_zero ∙ g.begun) 0 refl;
-    views = λ b inside. by_manager n b (g.views b inside) e s g.epochs is (runs b inside (g.views b inside));
+    views = λ b inside. by_manager n b (g.views b inside) e s g.epochs fact (runs b inside (g.views b inside));
   }
 
   pub not_zero : (n : Net) (e : ℕ) (s : SlotState) → Good part holds n → n.slots e ≡ Some s → e ≡ 0 → ⊥
-  not_zero n e s g at is = some_none s (sym at ∙ ap n.slots is ∙ g.begun)
+  not_zero n e s g at fact = some_none s (sym at ∙ ap n.slots fact ∙ g.begun)
 
   -- a slot takes an input
   takes : (n : Net) (e : ℕ) (s : SlotState) (x : slot_inputs.In) → Good part holds n → n.slots e ≡ Some s
       → ((b : BlockId) → slot_of b.ino.0 ≡ part → Brings b n.filed s x) → Good part holds (with_slot n e (slot.transition s x).state)
   takes n e s x g at brings =
-      let is = g.epochs e s at in
-      with_slot_good n e (slot.transition s x).state g (epoch_stays s x ∙ is) (not_zero n e s g at)
-      (λ b inside i. subst (λ d. Runs b n.filed i.state d (slot.transition s x).state) is
+      let fact = g.epochs e s at in
+      with_slot_good n e (slot.transition s x).state g (epoch_stays s x ∙ fact) (not_zero n e s g at)
+      (λ b inside i. subst (λ d. Runs b n.filed i.state d (slot.transition s x).state) fact
       (applies_are_merges b n.filed i.state s x i.reached g.filed i.tells (i.slots e s at) (brings b inside)))
 
   pub gets_deltas : (n : Net) (e : ℕ) (s : SlotState) (log : LogId) (first upto : ℕ) (rows : List (BlockId × Entry)) → Good part holds n → n.slots e ≡ Some s
@@ -154,8 +154,8 @@ module _ (part : ℕ) (holds : SegRef → Rows) where
   filing : (n : Net) (l : ℕ) (s : Segment) → Good part holds n → 0 < l → l ≤ 9 → IsSegment l (suc (n.filed.head l)) s
       → ((b : BlockId) → slot_of b.ino.0 ≡ part → (i : View part holds b n) → Files b (with_segment n.filed l s) i.state)
       → Good part holds (record n { filed = with_segment n.filed l s })
-  filing n l s g some limit is files = record {
-    filed = filed_more n.filed l s g.filed some limit is;
+  filing n l s g some limit fact files = record {
+    filed = filed_more n.filed l s g.filed some limit fact;
     epochs = g.epochs;
     begun = g.begun;
     views = λ b inside. by_files n b (g.views b inside) l s (files b inside (g.views b inside));
@@ -168,13 +168,13 @@ module _ (part : ℕ) (holds : SegRef → Rows) where
     where
       by : (v : ℕ) → w.joined.version ≡ v → w.joined.version < ver
       by zero none = omega arith
-      by (suc v) is = let j = (index_is_join_always w reached).all.its_version (omega arith) in let t = tells.version w.joined.log w.joined.seq in let a =
+      by (suc v) fact = let j = (index_is_join_always w reached).all.its_version (omega arith) in let t = tells.version w.joined.log w.joined.seq in let a =
           above w.joined.log w.joined.seq in omega arith
 
   pub client_files : (n : Net) (l : ℕ) (s : Segment) → Good part holds n → 0 < l → l < 9 → IsSegment l (suc (n.filed.head l)) s
       → ((b : BlockId) → slot_of b.ino.0 ≡ part → IsNewer b n.filed s) → Good part holds (record n { filed = with_segment n.filed l s })
-  client_files n l s g some less is newer = filing n l s g some (omega arith) is (λ b inside i.
-      clients_file b n.filed i.state l s i.reached g.filed i.tells some is (record {
+  client_files n l s g some less fact newer = filing n l s g some (omega arith) fact (λ b inside i.
+      clients_file b n.filed i.state l s i.reached g.filed i.tells some fact (record {
         client = less;
         new = λ more. above_top b n.filed i.state (said_of s b).ver i.reached i.tells more ((newer b inside).newer more);
         first_hand = (newer b inside).first_hand;
@@ -182,8 +182,8 @@ module _ (part : ℕ) (holds : SegRef → Rows) where
 
   pub cleaner_files_one : (n : Net) (s : Segment) → Good part holds n → IsSegment 9 (suc (n.filed.head 9)) s
       → ((b : BlockId) → slot_of b.ino.0 ≡ part → 0 < (said_of s b).ver → IsMove b n.sent s) → Good part holds (record n { filed = with_segment n.filed 9 s })
-  cleaner_files_one n s g is moves = filing n 9 s g (omega arith) (omega arith) is (λ b inside i.
-      cleaner_files b n.filed i.state s i.reached g.filed i.tells is (λ more.
+  cleaner_files_one n s g fact moves = filing n 9 s g (omega arith) (omega arith) fact (λ b inside i.
+      cleaner_files b n.filed i.state s i.reached g.filed i.tells fact (λ more.
       let m = moves b inside more in
       let row = found part holds b (Sound part holds b n i.state) (AnsweredLive b m.entry) n.sent i.sent m.answered refl in
       moves_are_copies b n.filed m.entry (said_of s b) row m.version m.hop))

@@ -52,10 +52,10 @@ from_before b f l first upto (suc n) at below some ends =
         let less = is_less at first before in
         between_same first upto (fed_at f l at) (map (fed_at f l) (range_with_len (at + 1) n)) b (outside first at upto less) ∙ go less
     by false here go =
-        let is = is_first at first below here in
+        let fact = is_first at first below here in
         let count : suc n ≡ suc upto - first = omega arith in
         all_within b f l first upto (suc n) at (omega arith) ends
-        ∙ ap (λ k. join (flat_map (rows_at f l) (range_with_len k (suc n))) b) (sym is)
+        ∙ ap (λ k. join (flat_map (rows_at f l) (range_with_len k (suc n))) b) (sym fact)
         ∙ ap (λ k. join (flat_map (rows_at f l) (range_with_len first k)) b) count
 
 at_least : (least : ℕ) (ns : List ℕ) → least ≤ greatest least ns

@@ -47,9 +47,9 @@ names_stay b f g e named more n = record {
   version = n.version;
   hop = n.hop;
   row = λ some.
-      let is = n.row some in
-      let within = is_filed b f named.log named.seq (subst (λ (x : Entry). 0 < x.ver) is some) in
-      is ∙ sym (row_stays b f g named.log named.seq more within.1);
+      let fact = n.row some in
+      let within = is_filed b f named.log named.seq (subst (λ (x : Entry). 0 < x.ver) fact some) in
+      fact ∙ sym (row_stays b f g named.log named.seq more within.1);
   none = n.none;
 }
 
@@ -150,9 +150,9 @@ module _ (b : BlockId) (f : Filed) (w : IndexState) (l : ℕ) (s : Segment) wher
   -- a table that has this at the new seq
   table_more : (P : Entry → ℕ) (table : ℕ → ℕ → ℕ) (n : ℕ) → w.head l ≡ f.head l → ((m q : ℕ) → table m q ≡ P (row_at f b m q)) → n ≡ P (said_of s b)
       → (m q : ℕ) → put_at table l (suc (w.head l)) n m q ≡ P (row_at (with_segment f l s) b m q)
-  table_more P table n head same is m q =
+  table_more P table n head same fact m q =
       ap (λ h. cond (m == l) (cond (q == suc h) n (table m q)) (table m q)) head
-      ∙ ap (λ k. cond (m == l) (cond (q == suc (f.head l)) k (table m q)) (table m q)) is
+      ∙ ap (λ k. cond (m == l) (cond (q == suc (f.head l)) k (table m q)) (table m q)) fact
       ∙ ap (λ k. cond (m == l) (cond (q == suc (f.head l)) (P (said_of s b)) k) k) (same m q) ∙ row_more P m q
 
   -- the index once the log filed what the segment says
@@ -177,7 +177,7 @@ module _ (b : BlockId) (f : Filed) (w : IndexState) (l : ℕ) (s : Segment) wher
 
 -- each segment is what it has to be
 pub filed_more : (f : Filed) (l : ℕ) (s : Segment) → IsFiled f → 0 < l → l ≤ 9 → IsSegment l (suc (f.head l)) s → IsFiled (with_segment f l s)
-filed_more f l s filed some limit is = record {
+filed_more f l s filed some limit fact = record {
   others = put_each (λ m n. (m ≡ 0) ⊎ (9 < m) → n ≡ 0) f.head l (suc (f.head l)) (λ out. absurd (outside out)) (λ m other out. filed.others m out);
   each = λ m q more within. by m q more (m == l) (q == suc (f.head l)) within (λ e. grind (arith, nat_tests, e)) (λ e. grind (arith, nat_tests, e))
       (λ e. grind (arith, nat_tests, e));
@@ -189,7 +189,7 @@ filed_more f l s filed some limit is = record {
 
     by : (m q : ℕ) → 0 < q → (t u : Bool) → q ≤ cond t (suc (f.head l)) (f.head m) → (t ≡ true → m ≡ l) → (u ≡ true → q ≡ suc (f.head l))
         → (u ≡ false → q ≡ suc (f.head l) → ⊥) → IsSegment m q (cond t (cond u s (f.segment m q)) (f.segment m q))
-    by m q more true true within same last past = subst (λ k. IsSegment k q s) (sym (same refl)) (subst (λ k. IsSegment l k s) (sym (last refl)) is)
+    by m q more true true within same last past = subst (λ k. IsSegment k q s) (sym (same refl)) (subst (λ k. IsSegment l k s) (sym (last refl)) fact)
     by m q more true false within same last past =
         let apart = past refl in
         let at : f.head m ≡ f.head l = ap f.head (same refl) in
@@ -202,16 +202,16 @@ filed_more f l s filed some limit is = record {
 -- ---- who files
 
 pub clients_file : ClientsFile
-clients_file b f w l s reached filed tells some is news = by (said_of s b).ver refl
+clients_file b f w l s reached filed tells some fact news = by (said_of s b).ver refl
   where
     by : (v : ℕ) → (said_of s b).ver ≡ v → Files b (with_segment f l s) w
     by zero none =
-        let nothing : said_of s b ≡ no_entry = join_has Versioned b (rows_of s) (λ _. refl) (versioned_of (rows_of s) is.versions) none in
+        let nothing : said_of s b ≡ no_entry = join_has Versioned b (rows_of s) (λ _. refl) (versioned_of (rows_of s) fact.versions) none in
         record {
           state = files_none w l;
           steps = More Ended (Files_none l (record { named = some }));
           frame = refl;
-          filed = let c = news.client in filed_more f l s filed some (omega arith) is;
+          filed = let c = news.client in filed_more f l s filed some (omega arith) fact;
           tells = tells_more b f w l s 0 0 w.joined w.version_log w.version_seq tells (sym none) (sym (ap (λ (e : Entry). e.hop) nothing));
         }
     by (suc v) has =
@@ -224,23 +224,23 @@ clients_file b f w l s reached filed tells some is news = by (said_of s b).ver r
           state = u;
           steps = More Ended (File l version (record { named = some; client = omega arith; new = news.new more }));
           frame = refl;
-          filed = filed_more f l s filed some (omega arith) is;
+          filed = filed_more f l s filed some (omega arith) fact;
           tells = tells_more b f w l s version 0 u.joined u.version_log u.version_seq tells refl (sym (news.first_hand more));
         }
 
 cleaner_files_at : (b : BlockId) (f : Filed) (w : IndexState) (s : Segment) → IsFiled f → Tells b f w → 0 < w.cleaner → w.cleaner ≤ 9
     → IsSegment w.cleaner (suc (f.head w.cleaner)) s → (0 < (said_of s b).ver → IsCopy b f (said_of s b))
     → Files b (with_segment f w.cleaner s) w
-cleaner_files_at b f w s filed tells some limit is copy = by (said_of s b).ver refl
+cleaner_files_at b f w s filed tells some limit fact copy = by (said_of s b).ver refl
   where
     by : (v : ℕ) → (said_of s b).ver ≡ v → Files b (with_segment f w.cleaner s) w
     by zero none =
-        let nothing : said_of s b ≡ no_entry = join_has Versioned b (rows_of s) (λ _. refl) (versioned_of (rows_of s) is.versions) none in
+        let nothing : said_of s b ≡ no_entry = join_has Versioned b (rows_of s) (λ _. refl) (versioned_of (rows_of s) fact.versions) none in
         record {
           state = files_none w w.cleaner;
           steps = More Ended (Files_none w.cleaner (record { named = some }));
           frame = refl;
-          filed = filed_more f w.cleaner s filed some limit is;
+          filed = filed_more f w.cleaner s filed some limit fact;
           tells = tells_more b f w w.cleaner s 0 0 w.joined w.version_log w.version_seq tells (sym none) (sym (ap (λ (e : Entry). e.hop) nothing));
         }
     by (suc v) has =
@@ -257,12 +257,12 @@ cleaner_files_at b f w s filed tells some limit is copy = by (said_of s b).ver r
           state = u;
           steps = More Ended (Copies l q (record { filed = omega arith; some = omega arith }));
           frame = refl;
-          filed = filed_more f w.cleaner s filed some limit is;
+          filed = filed_more f w.cleaner s filed some limit fact;
           tells = tells_more b f w w.cleaner s (w.version l q) (suc (w.hop l q)) u.joined w.version_log w.version_seq tells (its ∙ sym version)
               (ap suc (tells.hop l q) ∙ sym c.hop);
         }
 
 pub cleaner_files : CleanerFiles
-cleaner_files b f w s reached filed tells is copy =
+cleaner_files b f w s reached filed tells fact copy =
     subst (λ l. IsSegment l (suc (f.head l)) s → Files b (with_segment f l s) w) tells.cleaner
-    (λ at. let c = tells.cleaner in cleaner_files_at b f w s filed tells (omega arith) (omega arith) at copy) is
+    (λ at. let c = tells.cleaner in cleaner_files_at b f w s filed tells (omega arith) (omega arith) at copy) fact

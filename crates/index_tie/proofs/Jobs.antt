@@ -135,9 +135,9 @@ module _ (part : ℕ) (holds : SegRef → Rows) where
   told_for : (n : Net) (b : BlockId) (i : View part holds b n) (number epoch : ℕ) (name : SegName) (d : ℕ) (p : Phase)
       → Sound part holds b n i.state (AnsweredDead number b name d epoch) → epoch ≡ promise_of b n.job → IsInHand name p
       → ToldFor b n.filed i.state epoch p
-  told_for n b i number epoch name d (Checking j segment checks) known at hand = λ is has. (
+  told_for n b i number epoch name d (Checking j segment checks) known at hand = λ fact has. (
     known.1,
-    ap (λ (x : SegName). i.state.told epoch x.log.0 x.seq) hand ∙ known.2 refl (sym (ap (is_filed_name n.filed) hand) ∙ is) (within i.job.promised),
+    ap (λ (x : SegName). i.state.told epoch x.log.0 x.seq) hand ∙ known.2 refl (sym (ap (is_filed_name n.filed) hand) ∙ fact) (within i.job.promised),
   )
     where
       within : (promise_of b n.job ≡ 0) ⊎ (i.state.promised ≡ promise_of b n.job) → d ≤ epoch

@@ -44,7 +44,11 @@ dropped_stays b f g dropped more_dropped name more drops k =
     let same : g.segment l q ≡ f.segment l q = more.segment l q k.within.some filed in
     let its : is_filed_name g name ≡ is_filed_name f name = ap (λ (s : Segment). same_name name s.name) same in
     let has : has_block b g name ≡ has_block b f name = ap (λ (s : Segment). list_any (same_block b) (blocks_of s.items)) same in
-    record { within = record { some = k.within.some; filed = omega arith }; row_dropped = λ is any. drops l q (k.row_dropped (sym its ∙ is) (sym has ∙ any)) }
+    record {
+      within = record { some = k.within.some; filed = omega arith };
+      row_dropped = λ fact any. drops l q (k.row_dropped (sym its ∙ fact) (sym has
+          ∙ any));
+    }
 
 known_stays : (b : BlockId) (f g : Filed) (dead more_dead dropped more_dropped : ℕ → ℕ → ℕ) (p : Phase) → IsMore f g → ((l q : ℕ) → dead l q ≤ more_dead l q)
     → ((l q : ℕ) → dropped l q ≡ 1 → more_dropped l q ≡ 1) → Known b f dead dropped p
@@ -60,8 +64,8 @@ known_stays b f g dead more_dead dropped more_dropped (Checking j segment checks
     let has : has_block b g name ≡ has_block b f name = ap (λ (s : Segment). list_any (same_block b) (blocks_of s.items)) same in
     record {
       within = record { some = k.within.some; filed = omega arith };
-      blocks = λ is. k.blocks (sym its ∙ is) ∙ sym (ap (λ (s : Segment). blocks_of s.items) same);
-      counted = λ is any. all_more checks (k.counted (sym its ∙ is) (sym has ∙ any));
+      blocks = λ fact. k.blocks (sym its ∙ fact) ∙ sym (ap (λ (s : Segment). blocks_of s.items) same);
+      counted = λ fact any. all_more checks (k.counted (sym its ∙ fact) (sym has ∙ any));
     }
   where
     all_more : (cs : List Check) → AllByRecursion (λ (c : Check). c.block ≡ b → is_dead c.fate ≡ true → 0 < dead segment.name.log.0 segment.name.seq) cs
@@ -78,4 +82,4 @@ jobs_stay b f g w v s more promised counted drops c =
   where
     as_before : (promise_of b s ≡ 0) ⊎ (w.promised ≡ promise_of b s) → (promise_of b s ≡ 0) ⊎ (v.promised ≡ promise_of b s)
     as_before (inl none) = inl none
-    as_before (inr is) = inr (promised ∙ is)
+    as_before (inr fact) = inr (promised ∙ fact)

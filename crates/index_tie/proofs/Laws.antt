@@ -45,7 +45,7 @@ indexes_are_joins b f w s reached filed tells m =
   where
     by : (v : ℕ) → (entry_at s b).ver ≡ v → (entry_at s b ≡ no_entry) ⊎ IsAppliedRow b f s (entry_at s b)
     by zero none = inl (m.index.none none)
-    by (suc v) is =
+    by (suc v) fact =
         let e = s.epoch in
         let named = w.index e in
         let j = (index_is_join_always w reached).each e m.active in
@@ -101,9 +101,9 @@ place_lies s item place = by (item == no_item)
 
 all_lie : (s : Segment) (items : List Item) → AllByRecursion (λ row. LiesIn s row.1) (filter_map (row_of s) items)
 all_lie s [] = tt
-all_lie s (Block block value ∷ is) = all_lie s is
-all_lie s (Delta block ver hop item ∷ is) = (place_lies s item, all_lie s is)
-all_lie s (Part slot rows ∷ is) = all_lie s is
+all_lie s (Block block value ∷ fact) = all_lie s fact
+all_lie s (Delta block ver hop item ∷ fact) = (place_lies s item, all_lie s fact)
+all_lie s (Part slot rows ∷ fact) = all_lie s fact
 
 pub places_are_exact : PlacesAreExact
 places_are_exact b f entry named place filed n lies = by entry.ver refl
@@ -143,7 +143,7 @@ dropped_is_outdated b f w s place reached filed tells m lies dropped counted =
     let d = dead_stays_always w reached in
     let newer = d.stays l q e (d.counted l q dropped) counted m.active (sym exact.log) (sym exact.seq) in
     let highest = (index_is_join_always w reached).all in
-    let is : w.version w.joined.log w.joined.seq ≡ w.joined.version = highest.its_version (omega arith) in
+    let fact : w.version w.joined.log w.joined.seq ≡ w.joined.version = highest.its_version (omega arith) in
     let row : (row_at f b named.log named.seq).ver ≡ (entry_at s b).ver = row_version (entry_at s b).ver refl in
     let here : w.version l q ≡ (row_at f b named.log named.seq).ver =
     tells.version l q ∙ ap (λ k. (row_at f b k q).ver) exact.log ∙ ap (λ k. (row_at f b named.log k).ver) exact.seq in
@@ -174,7 +174,7 @@ one_log w a x l q p some version hop = by (nat_lt a w.cleaner) (nat_lt l w.clean
     ] refl
 
     copied : (m r : ℕ) → m ≡ w.cleaner → 0 < w.version m r → 0 < w.hop m r
-    copied m r is more = subst (λ k. 0 < w.version k r → 0 < w.hop k r) (sym is) (p.copy_hop r) more
+    copied m r fact more = subst (λ k. 0 < w.version k r → 0 < w.hop k r) (sym fact) (p.copy_hop r) more
 
     by : (t u : Bool) → nat_lt a w.cleaner ≡ t → nat_lt l w.cleaner ≡ u → a ≡ l
     by true true c d = (p.one_place a x l q (below a w.cleaner c) (below l w.cleaner d) some version).0

@@ -54,10 +54,10 @@ lines_are_linked logs books l low high are some limit least upto q from above =
     let filed_y = e.line_filed q (omega arith) (omega arith) in
     let seq_x = e.line_seq (suc q) (omega arith) (omega arith) in
     let seq_y = e.line_seq q (omega arith) (omega arith) in
-    let is : w.prior_of x ≡ y = (one_line_always w i.reached i.clean).linked x y filed_x filed_y (omega arith) (omega arith) in
+    let fact : w.prior_of x ≡ y = (one_line_always w i.reached i.clean).linked x y filed_x filed_y (omega arith) (omega arith) in
     let book = book_always w i.reached in
     let named = book.named y (book.filed_booked y filed_y) in
-    (i.pages x filed_x).follows (omega arith) ∙ ap (pass_of w) is ∙ sym (i.pages y filed_y).pass
+    (i.pages x filed_x).follows (omega arith) ∙ ap (pass_of w) fact ∙ sym (i.pages y filed_y).pass
 
 pub filed_names_are_ends : FiledNamesAreEnds
 filed_names_are_ends logs books l x end are some limit filed seq pass =
@@ -66,8 +66,8 @@ filed_names_are_ends logs books l x end are some limit filed seq pass =
     let e = is_end l w (books l) i in
     let head = head_in logs books l some limit in
     let within = e.filed_head x filed in
-    let is : w.line end.seq ≡ x = ap w.line seq ∙ e.filed_line x filed in
-    record { filed = omega arith; named = pass ∙ sym (i.pages x filed).pass ∙ sym (ap (λ k. (books l k).name.pass) is) }
+    let fact : w.line end.seq ≡ x = ap w.line seq ∙ e.filed_line x filed in
+    record { filed = omega arith; named = pass ∙ sym (i.pages x filed).pass ∙ sym (ap (λ k. (books l k).name.pass) fact) }
 
 -- the feed has what stands on the line
 same_feed : (l : ℕ) (w : State) (book : ℕ → Segment) → IsLog l w book → w.phase ≡ 4 → (q : ℕ) → w.feed_base < q → q ≤ w.head → w.feed q ≡ w.line q

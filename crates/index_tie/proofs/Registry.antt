@@ -166,8 +166,8 @@ module _ (part : ℕ) (holds : SegRef → Rows) where
   -- a Live is a filed row
   lives : (n : Net) (s : SlotState) (k : BlockId) (place : Place) (b : BlockId) (w : IndexState) → Manages b n.filed w s
       → slot.is_place (slot.entry_at s k).place place ≡ true → k ≡ b → IsRow b n.filed (slot.entry_at s k)
-  lives n s k place b w m is at =
-      let here : slot.is_place (slot.entry_at s b).place place ≡ true = ap (λ x. slot.is_place (slot.entry_at s x).place place) (sym at) ∙ is in
+  lives n s k place b w m fact at =
+      let here : slot.is_place (slot.entry_at s b).place place ≡ true = ap (λ x. slot.is_place (slot.entry_at s x).place place) (sym at) ∙ fact in
       subst (λ x. IsRow b n.filed (slot.entry_at s x)) (sym at)
       (live_is_filed b n.filed w s place (slot.entry_at s b) m (ap (λ t. cond t (Live (slot.entry_at s b)) Dead ∷ []) here))
 
@@ -176,13 +176,13 @@ module _ (part : ℕ) (holds : SegRef → Rows) where
       → (b : BlockId) (i : View part holds b n) → Sound part holds b n i.state (Checked number b place d)
       → slot.is_place (slot.entry_at s b).place place ≡ false → is_filed_name n.filed place.seg.name ≡ true → d ≤ e
       → Sends b n i (AnsweredDead number b place.seg.name d e ∷ [])
-  tells_dead n e s number place d g at b i asked elsewhere is low =
+  tells_dead n e s number place d g at b i asked elsewhere fact low =
       let w = i.state in
       let l = place.seg.name.log.0 in
       let q = place.seg.name.seq in
       let same = g.epochs e s at in
       let can : CanBeat w d s.epoch l q =
-      deads_are_beats b n.filed w s place d l q i.reached g.filed i.tells (i.slots e s at) (asked.1 refl is) (omega arith) asked.0.below
+      deads_are_beats b n.filed w s place d l q i.reached g.filed i.tells (i.slots e s at) (asked.1 refl fact) (omega arith) asked.0.below
       (ap (λ t. cond t (Live (slot.entry_at s b)) Dead ∷ []) elsewhere) in
       let v = beats w e l q in
       let m = record n { sent = AnsweredDead number b place.seg.name d e ∷ n.sent } in
@@ -224,7 +224,7 @@ module _ (part : ℕ) (holds : SegRef → Rows) where
       let known = found part holds b (Sound part holds b n w) (Checked number k place d) n.sent i.sent asked in
       by_test (λ (o : Out). Sends b n i (answer_packets number k name d e (o ∷ []))) (slot.is_place (slot.entry_at s k).place place)
       (Live (slot.entry_at s k)) Dead
-      (λ is. still_sends b n i (AnsweredLive k (slot.entry_at s k) ∷ []) (lives n s k place b w (i.slots e s at) is, tt))
+      (λ fact. still_sends b n i (AnsweredLive k (slot.entry_at s k) ∷ []) (lives n s k place b w (i.slots e s at) fact, tt))
       (λ elsewhere. by known elsewhere (same_block k b) (is_filed_name n.filed name) (nat_le d e) refl refl refl)
     where
       untold : Sound part holds b n i.state (Checked number k place d) → ((k ≡ b) → is_filed_name n.filed place.seg.name ≡ true → d ≤ e → ⊥)
@@ -235,7 +235,7 @@ module _ (part : ℕ) (holds : SegRef → Rows) where
               asked_as b n (record n { sent = AnsweredDead number k place.seg.name d e ∷ n.sent }) i.state i.state place.seg.name d refl refl
                   (λ x y. refl) known.0,
               above_zero e (not_zero part holds n e s g at),
-              λ same is low. absurd (never same is low),
+              λ same fact low. absurd (never same fact low),
             ),
             tt,
           )
@@ -243,14 +243,14 @@ module _ (part : ℕ) (holds : SegRef → Rows) where
       by : Sound part holds b n i.state (Checked number k place d) → slot.is_place (slot.entry_at s k).place place ≡ false → (t u v : Bool) → same_block k b ≡ t
           → is_filed_name n.filed place.seg.name ≡ u → nat_le d e ≡ v
           → Sends b n i (AnsweredDead number k place.seg.name d e ∷ [])
-      by known elsewhere true true true same is low =
+      by known elsewhere true true true same fact low =
           let it : b ≡ k = same_block_exact k b same in
           subst (λ x. Sound part holds b n i.state (Checked number x place d) → slot.is_place (slot.entry_at s x).place place ≡ false
           → Sends b n i (AnsweredDead number x place.seg.name d e ∷ [])) it
-          (λ here there. tells_dead n e s number place d g at b i here there is (within_is d e low)) known elsewhere
-      by known elsewhere true true false same is late = untold known (λ _ _ low. let x = past_is d e late in omega arith)
-      by known elsewhere true false v same twin low = untold known (λ _ is _. false≢true (sym twin ∙ is))
-      by known elsewhere false u v other is low = untold known (λ at_b _ _. false≢true (sym other ∙ ap (same_block k) (sym at_b) ∙ same_block_itself k))
+          (λ here there. tells_dead n e s number place d g at b i here there fact (within_is d e low)) known elsewhere
+      by known elsewhere true true false same fact late = untold known (λ _ _ low. let x = past_is d e late in omega arith)
+      by known elsewhere true false v same twin low = untold known (λ _ fact _. false≢true (sym twin ∙ fact))
+      by known elsewhere false u v other fact low = untold known (λ at_b _ _. false≢true (sym other ∙ ap (same_block k) (sym at_b) ∙ same_block_itself k))
 
   pub answers : (n : Net) (e : ℕ) (s : SlotState) (number : ℕ) (k : BlockId) (place : Place) (d : ℕ) → Good part holds n → n.slots e ≡ Some s
       → In (Checked number k place d) n.sent
@@ -324,7 +324,7 @@ module _ (part : ℕ) (holds : SegRef → Rows) where
       still_sends b n i (Checked n.number k place d ∷ []) (
         (
           record { within = within; below = omega arith; promised = asked_low n d b inside i promised },
-          (λ at is. ap (λ x. (row_at n.filed x place.seg.name.log.0 place.seg.name.seq).place) (sym at) ∙ lies is),
+          (λ at fact. ap (λ x. (row_at n.filed x place.seg.name.log.0 place.seg.name.seq).place) (sym at) ∙ lies fact),
         ),
         tt,
       ))
@@ -457,9 +457,9 @@ module _ (part : ℕ) (holds : SegRef → Rows) where
       (λ b inside i.
       let w = i.state in
       let known = found part holds b (Sound part holds b n w) (CleanerReported e (end_of c.state.reports 9).seq) n.sent i.sent has.reported in
-      let is = has.epoch in
+      let fact = has.epoch in
       let same = i.epoch in
       let may : MayBegin w news.epoch c.state.reports =
-      subst (λ k. MayBegin w k c.state.reports) (sym is) (record { begun = omega arith; fresh = i.none e none; heard = known.1; reported = known.0 }) in
+      subst (λ k. MayBegin w k c.state.reports) (sym fact) (record { begun = omega arith; fresh = i.none e none; heard = known.1; reported = known.0 }) in
       takeovers_are_activations b n.filed w news groups clients inputs input e index beliefs applied i.reached g.filed i.tells (inside ∙ sym has.slot) hands
       (takeover_told n e news c index beliefs applied over has b i) may)

@@ -39,7 +39,7 @@ versioned_of (m ∷ ms) all = ((λ zero. absurd (let some = all.0 in omega arith
 pub by_filed : (P : List (BlockId × Entry) → Type 0) (f : Filed) (l q : ℕ) → (0 < q → q ≤ f.head l → P (rows_of (f.segment l q))) → P [] → P (rows_at f l q)
 by_filed P f l q here else_ =
     elim (nat_lt 0 q && nat_le q (f.head l)) as (λ t. (nat_lt 0 q && nat_le q (f.head l)) ≡ t → P (cond t (rows_of (f.segment l q)) [])) [
-      | true ↦ λ is. here (grind (arith, nat_tests)) (grind (arith, nat_tests))
+      | true ↦ λ fact. here (grind (arith, nat_tests)) (grind (arith, nat_tests))
       | false ↦ λ _. else_
     ] refl
 

@@ -40,8 +40,8 @@ use Rattle.index_tie.proofs.Views.{View, Sound, Good, found}
 -- ---- each thing that happens
 
 keeps_good : (part : ℕ) (holds : SegRef → Rows) (n m : Net) → Happens part holds n m → Good part holds n → Good part holds m
-keeps_good part holds n m (ClientFiles l s some less is newer) g = client_files part holds n l s g some less is newer
-keeps_good part holds n m (CleanerFiles s is copies) g = cleaner_files_one part holds n s g is copies
+keeps_good part holds n m (ClientFiles l s some less fact newer) g = client_files part holds n l s g some less fact newer
+keeps_good part holds n m (CleanerFiles s fact copies) g = cleaner_files_one part holds n s g fact copies
 keeps_good part holds n m (GetsDeltas e s log first upto rows at known tell) g = gets_deltas part holds n e s log first upto rows g at known tell
 keeps_good part holds n m (GetsOther e s i at of) g = gets_other part holds n e s i g at of
 keeps_good part holds n m (Answers e s number b place d at asked) g = answers part holds n e s number b place d g at asked
@@ -141,11 +141,11 @@ module _ (any : ℕ → ℕ → Segment) (b : BlockId) where
     }));
     tells = begun_tells;
     slots = put_each (λ e o. (s : SlotState) → o ≡ Some s → Manages b none_filed begun_state s) (λ e. None) 1 (Some (started 1 [] [] zeros))
-        (λ s is. subst (Manages b none_filed begun_state) (some_is (started 1 [] [] zeros) s is)
+        (λ s fact. subst (Manages b none_filed begun_state) (some_is (started 1 [] [] zeros) s fact)
         (record { active = refl; applied = λ l some. sym (zero_at zeros all_zeros (l - 1)); index = names_nothing b none_filed 0 }))
-        (λ e other s is. absurd (some_none s (sym is)));
+        (λ e other s fact. absurd (some_none s (sym fact)));
     none = put_each (λ e o. o ≡ None → begun_state.active e ≡ 0) (λ e. None) 1 (Some (started 1 [] [] zeros))
-        (λ is. absurd (some_none (started 1 [] [] zeros) is)) (λ e other is. at_other e 1 1 0 other);
+        (λ fact. absurd (some_none (started 1 [] [] zeros) fact)) (λ e other fact. at_other e 1 1 0 other);
     epoch = refl;
     horizon = λ e l some limit. of_log_in ones l some limit ∙ one_at (l - 1) (omega arith);
     parts = λ e. record {
@@ -166,7 +166,7 @@ opens : (part : ℕ) (holds : SegRef → Rows) (any : ℕ → ℕ → Segment) �
 opens part holds any = record {
   filed = record { others = λ l out. refl; each = λ l q some limit. absurd (omega arith) };
   epochs = put_each (λ e o. (s : SlotState) → o ≡ Some s → s.epoch ≡ e) (λ e. None) 1 (Some (started 1 [] [] zeros))
-      (λ s is. ap (λ (x : SlotState). x.epoch) (sym (some_is (started 1 [] [] zeros) s is))) (λ e other s is. absurd (some_none s (sym is)));
+      (λ s fact. ap (λ (x : SlotState). x.epoch) (sym (some_is (started 1 [] [] zeros) s fact))) (λ e other s fact. absurd (some_none s (sym fact)));
   begun = refl;
   views = λ b inside. begins any b part holds;
 }
@@ -193,21 +193,21 @@ is_dropped b f dropped name (x ∷ xs) all (inl same) = subst (IsDropped b f dro
 is_dropped b f dropped name (x ∷ xs) all (inr rest) = is_dropped b f dropped name xs all.1 rest
 
 pub newest_is_never_deleted : NewestIsNeverDeleted
-newest_is_never_deleted part holds n b name m at is has newest =
+newest_is_never_deleted part holds n b name m at fact has newest =
     let g = good_always part holds n b m in
     let i = g.views b m.inside in
     let d = is_dropped b n.filed i.state.dropped name n.deleted i.deleted at in
-    newest_is_kept b n.filed i.state name.log.0 name.seq i.reached g.filed i.tells newest (d.row_dropped is has)
+    newest_is_kept b n.filed i.state name.log.0 name.seq i.reached g.filed i.tells newest (d.row_dropped fact has)
 
 pub reigning_is_outdated : ReigningIsOutdated
-reigning_is_outdated part holds n b e s place m at reigns lies deleted is has =
+reigning_is_outdated part holds n b e s place m at reigns lies deleted fact has =
     let g = good_always part holds n b m in
     let i = g.views b m.inside in
     let w = i.state in
     let l = place.seg.name.log.0 in
     let q = place.seg.name.seq in
     let d = is_dropped b n.filed w.dropped place.seg.name n.deleted i.deleted deleted in
-    let dropped = d.row_dropped is has in
+    let dropped = d.row_dropped fact has in
     let dead = dead_stays_always w i.reached in
     let counted = dead.counted l q dropped in
     let reigned = dead.reigned l q counted in

@@ -67,7 +67,7 @@ rows-indexed_all i (m ∷ ms) = rows-indexed_all (indexed i m) ms
 pub answering : (s : SlotState) (blocks : List BlockId) → Same s (steps finished_at s blocks).state
 answering s blocks =
     steps_keep finished_at (Same s)
-    (λ t k same. by_finished_at (λ r. Same s r.state) t k same (λ job is. record { epoch = same.epoch; applied = same.applied; index = same.index })) s blocks
+    (λ t k same. by_finished_at (λ r. Same s r.state) t k same (λ job fact. record { epoch = same.epoch; applied = same.applied; index = same.index })) s blocks
     (same_itself s)
 
 leads_on : (applied first upto : ℕ) → joins_on applied first upto ≡ true → (first ≤ suc applied) × (applied < upto)

@@ -7,15 +7,15 @@ pub at_same : {X : Type 0} (e : ℕ) (x y : X) → cond (e == e) x y ≡ x
 at_same e x y = by (e == e) (grind (arith, nat_tests))
   where
     by : (t : Bool) → t ≡ true → cond t x y ≡ x
-    by true is = refl
-    by false is = absurd (cc)
+    by true fact = refl
+    by false fact = absurd (cc)
 
 pub at_other : {X : Type 0} (d e : ℕ) (x y : X) → (d ≡ e → ⊥) → cond (d == e) x y ≡ y
-at_other d e x y other = by (d == e) (λ is. grind (arith, nat_tests))
+at_other d e x y other = by (d == e) (λ fact. grind (arith, nat_tests))
   where
     by : (t : Bool) → (t ≡ true → d ≡ e) → cond t x y ≡ y
-    by true is = absurd (other (is refl))
-    by false is = refl
+    by true fact = absurd (other (fact refl))
+    by false fact = refl
 
 -- what holds of the new value at its place, and of the old ones elsewhere, holds of each
 pub put_each : {X : Type 0} (P : ℕ → X → Type 0) (f : ℕ → X) (c : ℕ) (x : X) → P c x → ((d : ℕ) → (d ≡ c → ⊥) → P d (f d)) → (d : ℕ) → P d (put f c x d)
@@ -27,19 +27,19 @@ put_each P f c x here there d = by (d == c) (λ e. grind (arith, nat_tests, e)) 
 
 -- the two outcomes of a test
 pub first_of : {X : Type 0} (t : Bool) (x y : X) → t ≡ true → cond t x y ≡ x
-first_of true x y is = refl
-first_of false x y is = absurd (cc)
+first_of true x y fact = refl
+first_of false x y fact = absurd (cc)
 
 pub second_of : {X : Type 0} (t : Bool) (x y : X) → t ≡ false → cond t x y ≡ y
-second_of true x y is = absurd (cc)
-second_of false x y is = refl
+second_of true x y fact = absurd (cc)
+second_of false x y fact = refl
 
 -- what tests say
 pub within_is : (a b : ℕ) → nat_le a b ≡ true → a ≤ b
-within_is a b is = grind (arith, nat_tests)
+within_is a b fact = grind (arith, nat_tests)
 
 pub past_is : (a b : ℕ) → nat_le a b ≡ false → b < a
-past_is a b is = grind (arith, nat_tests)
+past_is a b fact = grind (arith, nat_tests)
 
 pub less_is : (a b : ℕ) → a < b → nat_lt a b ≡ true
 less_is a b less = grind (arith, nat_tests)

@@ -120,8 +120,8 @@ of_log_out xs l (inr past) = second_of (nat_lt 0 l && nat_le l 9) (get_or xs (l 
 pub by_log : (P : ℕ → Type 0) → ((l : ℕ) → 0 < l → l ≤ 9 → P l) → ((l : ℕ) → (l ≡ 0) ⊎ (9 < l) → P l) → (l : ℕ) → P l
 by_log P here there zero = there zero (inl refl)
 by_log P here there (suc n) = elim (nat_le (suc n) 9) as (λ t. nat_le (suc n) 9 ≡ t → P (suc n)) [
-  | true ↦ λ is. here (suc n) (omega arith) (grind (arith, nat_tests))
-  | false ↦ λ is. there (suc n) (inr (grind (arith, nat_tests)))
+  | true ↦ λ fact. here (suc n) (omega arith) (grind (arith, nat_tests))
+  | false ↦ λ fact. there (suc n) (inr (grind (arith, nat_tests)))
 ] refl
 
 pub applied_in : (horizon : List ℕ) (rs : List Report) (l : ℕ) → 0 < l → l ≤ 9 → of_log (reports.applied_of horizon rs) l ≡ applied_at horizon rs l
@@ -173,9 +173,9 @@ module _ (b : BlockId) (f : Filed) (w : IndexState) (slot epoch : ℕ) (horizon 
 
     -- the next log
     next_is : (k n : ℕ) → 0 < k → k ≤ 9 → n ≡ applied_at horizon rs k → (l : ℕ) → put (upto k) k n l ≡ upto (suc k) l
-    next_is k n some limit is =
+    next_is k n some limit fact =
         put_each (λ l m. m ≡ upto (suc k) l) (upto k) k n
-        (is ∙ sym (applied_in horizon rs k some limit) ∙ sym (first_of (nat_lt k (suc k)) (of_log applied k) (below horizon k) (grind (arith, nat_tests))))
+        (fact ∙ sym (applied_in horizon rs k some limit) ∙ sym (first_of (nat_lt k (suc k)) (of_log applied k) (below horizon k) (grind (arith, nat_tests))))
         (λ l other. ap (λ t. cond t (of_log applied l) (below horizon l)) (same_test l k other))
 
     stays_is : (k : ℕ) → 0 < k → k ≤ 9 → (end_of rs k).seq < horizon_at horizon k → (l : ℕ) → upto k l ≡ upto (suc k) l
@@ -276,8 +276,8 @@ applied_most : (end low head : ℕ) → low ≤ suc head → (low ≤ end → en
 applied_most end low head floor filed = by (nat_le low end) refl
   where
     by : (t : Bool) → nat_le low end ≡ t → max end (low - 1) ≤ head
-    by true is = let a : low ≤ end = grind (arith, nat_tests) in let b = filed a in omega arith
-    by false is = let a : end < low = grind (arith, nat_tests) in omega arith
+    by true fact = let a : low ≤ end = grind (arith, nat_tests) in let b = filed a in omega arith
+    by false fact = let a : end < low = grind (arith, nat_tests) in omega arith
 
 activated : (b : BlockId) (f : Filed) (w : IndexState) (news : SlotNews) (c : Course) (epoch : ℕ) (rows : List (BlockId × Entry))
     (beliefs : List (BlockId × ℕ × Mode)) (numbers : List ℕ)
@@ -333,8 +333,8 @@ activated b f w news c epoch rows beliefs numbers reached filed tells its over t
     }
   where
     past : (d : ℕ) → (d ≡ 0) ⊎ (9 < d) → 0 < d → (n : ℕ) → n ≡ 9 → n ≤ d - 1
-    past d (inl none) some n is = absurd (omega arith)
-    past d (inr more) some n is = omega arith
+    past d (inl none) some n fact = absurd (omega arith)
+    past d (inr more) some n fact = omega arith
 
 pub takeovers_are_activations : TakeoversAreActivations
 takeovers_are_activations b f w news groups clients inputs input epoch rows beliefs numbers reached filed tells its hands told may =

@@ -115,14 +115,14 @@ module _ (part : ℕ) (holds : SegRef → Rows) (b : BlockId) where
       (omega arith, omega arith)
   sound_later n m w v (Checked number k place d) t s = (
     asked_later n m w v place.seg.name d t s.0,
-    λ at is. ap (λ (e : Entry). e.place) (row_stays b n.filed m.filed place.seg.name.log.0 place.seg.name.seq t.more s.0.within.filed)
-        ∙ s.1 at (sym (same_test n.filed m.filed place.seg.name t.more s.0.within) ∙ is),
+    λ at fact. ap (λ (e : Entry). e.place) (row_stays b n.filed m.filed place.seg.name.log.0 place.seg.name.seq t.more s.0.within.filed)
+        ∙ s.1 at (sym (same_test n.filed m.filed place.seg.name t.more s.0.within) ∙ fact),
   )
   sound_later n m w v (AnsweredLive k entry) t s = λ at. row_later n.filed m.filed entry t.more (s at)
   sound_later n m w v (AnsweredDead number k name d e) t s = (
     asked_later n m w v name d t s.0,
     s.1,
-    λ at is low. t.past.told e name.log.0 name.seq (s.2 at (sym (same_test n.filed m.filed name t.more s.0.within) ∙ is) low),
+    λ at fact low. t.past.told e name.log.0 name.seq (s.2 at (sym (same_test n.filed m.filed name t.more s.0.within) ∙ fact) low),
   )
 
   pub all_later : (n m : Net) (w v : IndexState) (ps : List Packet) → Later n m w v → AllByRecursion (Sound n w) ps → AllByRecursion (Sound m v) ps

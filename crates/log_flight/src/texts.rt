@@ -131,7 +131,7 @@ fn may_come(awaited: Option<BlockId>, number: usize, item: &Item) -> bool
         (None, Item::Delta { item, .. }) => *item == NO_ITEM,
         (None, _) => true,
         (Some(awaited), Item::Delta { block, item, .. }) => {
-            block.is(awaited) && usize::from(*item) + 1 == number
+            block.is_same(awaited) && usize::from(*item) + 1 == number
         }
         (Some(_), _) => false,
     }

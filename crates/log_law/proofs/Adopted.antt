@@ -33,14 +33,14 @@ use Rattle.log_law.proofs.Stages.{calm, variant, variant_map, Stage, calm_on, fo
 -- ---- the segment is in flight
 
 in_more : (ps : List Packet) (p : Packet) → In p ps → In p (ps ++ [])
-in_more [] p is = absurd is
+in_more [] p fact = absurd fact
 in_more (q ∷ qs) p (inl e) = inl e
-in_more (q ∷ qs) p (inr is) = inr (in_more qs p is)
+in_more (q ∷ qs) p (inr fact) = inr (in_more qs p fact)
 
 in_first : (ps qs : List Packet) (p : Packet) → In p ps → In p (ps ++ qs)
-in_first [] qs p is = absurd is
+in_first [] qs p fact = absurd fact
 in_first (q ∷ ps) qs p (inl e) = inl e
-in_first (q ∷ ps) qs p (inr is) = inr (in_first ps qs p is)
+in_first (q ∷ ps) qs p (inr fact) = inr (in_first ps qs p fact)
 
 abbrev empty : ℕ → ShelfState
 empty v = new_shelf
@@ -58,8 +58,8 @@ flies = record {
   low = refl;
   registry = refl;
   is_owner = ap (λ (d : log.Done). Serving d.state) starts;
-  sent = λ p is. in_more (log_packets (log.transition first_log (log_in.Parts [])).outs) p
-      (subst (In p) (sym (ap (λ (d : log.Done). log_packets d.outs) starts ∙ sends_all)) is);
+  sent = λ p fact. in_more (log_packets (log.transition first_log (log_in.Parts [])).outs) p
+      (subst (In p) (sym (ap (λ (d : log.Done). log_packets d.outs) starts ∙ sends_all)) fact);
   shelves = λ v. refl;
   filed = ap (λ (d : log.Done). log_filed setting.log d.outs ++ []) starts ∙ sends_none;
   last = ap (λ (d : log.Done). d.state.flight) starts;
@@ -91,7 +91,7 @@ unfolding piece
 answer v place = refl
 
 fallen : Stage 2 (Opening hailing) [] kept_all
-fallen = restarts (crashes (forget third [] (λ p is. absurd is))) refl
+fallen = restarts (crashes (forget third [] (λ p fact. absurd fact))) refl
   where
     first : Stage 1 (Serving (writing none_noted)) (StoredSent name 0 1 ∷ stores) kept_one
     first = serves flies 1 (stores_at 0) (StoredSent name 0 1 ∷ []) (omega arith) (λ sees own. sees _ (inl refl)) (answer 1 0)
@@ -160,12 +160,12 @@ listed = forget third all_fenced picked
     picked p (inr (inl e)) = inr (inl e)
     picked p (inr (inr (inl e))) = inr (inr (inl e))
     picked p (inr (inr (inr (inl e)))) = inr (inr (inr (inr (inr (inr (inr (inr (inl e))))))))
-    picked p (inr (inr (inr (inr is)))) = absurd is
+    picked p (inr (inr (inr (inr fact)))) = absurd fact
 
 -- a list came
 came_list : {inc : ℕ} {owner : Owner} {told : List Packet} {shelf : ℕ → ShelfState} (s : Stage inc owner told shelf) (v place : ℕ) → inc ≡ 2
     → In (fenced v place) told → In (FencedSent v s.net.inc 1 (meta_of segment place ∷ [])) s.net.sent
-came_list s v place two is = subst (λ c. In (FencedSent v c 1 (meta_of segment place ∷ [])) s.net.sent) (sym (s.boot ∙ two)) (s.sent (fenced v place) is)
+came_list s v place two fact = subst (λ c. In (FencedSent v c 1 (meta_of segment place ∷ [])) s.net.sent) (sym (s.boot ∙ two)) (s.sent (fenced v place) fact)
 
 -- ---- the segment is picked, and read back
 
@@ -217,7 +217,7 @@ half_read = scans less (scan_in.Got 3 1 1 (piece segment group 0)) reading_back 
     picked : (p : Packet) → In p fetched → In p (FragmentSent (piece segment group 1) ∷ FragmentSent (piece segment group 0) ∷ asks_again)
     picked p (inl e) = inl e
     picked p (inr (inl e)) = inr (inl e)
-    picked p (inr (inr is)) = absurd is
+    picked p (inr (inr fact)) = absurd fact
 
     less : Stage 2 (Opening reading_back) fetched fetched_two
     less = forget second fetched picked
@@ -264,8 +264,8 @@ module _ {told : List Packet} {shelf : ℕ → ShelfState} (s : Stage 2 (Opening
     low = ap (λ (n : Net). n.low) now ∙ s.low;
     registry = ap (λ (n : Net). n.registry) now ∙ s.registry;
     is_owner = ap (λ (n : Net). n.owner) now ∙ begun (λ d. Writing (segment ∷ []) d.state);
-    sent = λ p is. subst (In p) (sym (ap (λ (n : Net). n.sent) now ∙ begun (λ d. log_packets d.outs ++ s.net.sent)))
-        (in_first (log_packets (log.all_sends (opening_flight none_noted))) s.net.sent p (subst (In p) (sym opening_sends) is));
+    sent = λ p fact. subst (In p) (sym (ap (λ (n : Net). n.sent) now ∙ begun (λ d. log_packets d.outs ++ s.net.sent)))
+        (in_first (log_packets (log.all_sends (opening_flight none_noted))) s.net.sent p (subst (In p) (sym opening_sends) fact));
     shelves = λ v. ap (λ (n : Net). n.shelves v) now ∙ s.shelves v;
     filed = ap (λ (n : Net). n.filed) now
         ∙ (begun (λ d. log_filed setting.log d.outs ++ s.net.filed)
@@ -318,7 +318,7 @@ all_noted = notes one (log_in.Acked opening_name 1 1) (segment ∷ []) (opening_
     stored p (inl e) = inl e
     stored p (inr (inl e)) = inr (inl e)
     stored p (inr (inr (inl e))) = inr (inr (inl e))
-    stored p (inr (inr (inr is))) = absurd is
+    stored p (inr (inr (inr fact))) = absurd fact
 
     one : Stage 2 (Writing (segment ∷ []) (opening_log noted_one)) all_stored last_all
     one = notes (forget third all_stored stored) (log_in.Acked opening_name 0 1) (segment ∷ []) (opening_log none_noted) (opening_log noted_one)

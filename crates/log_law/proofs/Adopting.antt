@@ -34,7 +34,7 @@ module _ (g : Setting) (w : State) (book : ℕ → Segment) (fixed : Fixed g w) 
     pub below : w.seq_of number < w.opening_seq
 
   on_path : (x : ℕ) (ts : List Segment) → Chained g w book highest x ts → (t : Segment) → In t ts → OnPath t
-  on_path x [] h t is = absurd is
+  on_path x [] h t fact = absurd fact
   on_path x (s ∷ ss) h t (inl e) =
       record { number = h.0; booked = h.1; in_book = e ∙ h.2; there = ap (back w) depth ∙ sym (back_chained g w book highest h.0 ss h.5); below = less }
     where
@@ -43,7 +43,7 @@ module _ (g : Setting) (w : State) (book : ℕ → Segment) (fixed : Fixed g w) 
 
       less : w.seq_of h.0 < w.opening_seq
       less = let a = h.4 in let b : w.seq_of h.0 ≡ g.seq_of h.0 = ap (λ k. k h.0) fixed.seq_of in let c = opening_at in omega arith
-  on_path x (s ∷ ss) h t (inr is) = on_path h.0 ss h.5 t is
+  on_path x (s ∷ ss) h t (inr fact) = on_path h.0 ss h.5 t fact
 
 module _ (k : Below) (g : Setting) (none : g.doubts ≡ false) (first : Net) (serves : is_serving first.owner ≡ true) (n : Net) (run : Runs g first n)
     (a : Along k g none first serves n run) (chain : List Segment) (s : LogState) (e : n.owner ≡ Writing chain s) where
@@ -75,7 +75,7 @@ module _ (k : Below) (g : Setting) (none : g.doubts ≡ false) (first : Net) (se
         where
           clash : (p q : ℕ) → p ≡ q → p ≡ 0 → 0 < q → ⊥
           clash p q a b c = omega arith
-      by (inr is) = is
+      by (inr fact) = fact
 
   pub adopted : (t : Segment) → In t chain → IsAdopted g run n t
   adopted t among = by (nat_lt h.w.head (h.w.seq_of p.number)) refl
@@ -124,11 +124,11 @@ module _ (k : Below) (g : Setting) (none : g.doubts ≡ false) (first : Net) (se
           inr (attempt (a.flown p.number p.booked boot law.next))
 
       by : (b : Bool) → nat_lt h.w.head (h.w.seq_of p.number) ≡ b → IsAdopted g run n t
-      by true is = inr (beyond (less (h.w.head) (h.w.seq_of p.number) is) (h.w.content_of p.number) refl)
+      by true fact = inr (beyond (less (h.w.head) (h.w.seq_of p.number) fact) (h.w.content_of p.number) refl)
         where
           less : (x y : ℕ) → nat_lt x y ≡ true → x < y
           less x y e = grind (arith, nat_tests)
-      by false is = inl (no_further (more (h.w.head) (h.w.seq_of p.number) is))
+      by false fact = inl (no_further (more (h.w.head) (h.w.seq_of p.number) fact))
         where
           more : (x y : ℕ) → nat_lt x y ≡ false → y ≤ x
           more x y e = grind (arith, nat_tests)

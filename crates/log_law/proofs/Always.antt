@@ -39,14 +39,14 @@ begins_seen k g m whole = record {
   hellos = [];
   fixed = record { servers = refl; seq_of = refl; incarnation_of = refl; attempt_of = refl };
   reached = record { names = g.names; run = More Done (Learns (present_at m) (record { known = whole.seen.past })) };
-  paged = λ x is. absurd (none_one 0 refl is);
+  paged = λ x fact. absurd (none_one 0 refl fact);
   spelled = record {
-    fits = λ x is. absurd (none_one 0 refl is);
-    text = λ x is. absurd (none_one 0 refl is);
-    bytes = λ x is. absurd (none_one 0 refl is);
-    grouped = λ x y is to named. absurd (none_one 0 refl is);
+    fits = λ x fact. absurd (none_one 0 refl fact);
+    text = λ x fact. absurd (none_one 0 refl fact);
+    bytes = λ x fact. absurd (none_one 0 refl fact);
+    grouped = λ x y fact to named. absurd (none_one 0 refl fact);
   };
-  flown = record { all = λ x is. absurd (none_one 0 refl is); booked = λ s is. absurd is };
+  flown = record { all = λ x fact. absurd (none_one 0 refl fact); booked = λ s fact. absurd fact };
   shelves = λ v. record { of = refl; keeps = λ x. refl; each = tt; marks = λ x. refl };
   nobody = λ x. refl;
   registry = λ v. refl;
@@ -60,16 +60,16 @@ begins_seen k g m whole = record {
       end_seq = g.names.none;
       flight = refl;
     },
-    record { ran = ran_first g.log 1 no_end m; grouped = λ y is named. absurd (none_one 0 refl is) },
+    record { ran = ran_first g.log 1 no_end m; grouped = λ y fact named. absurd (none_one 0 refl fact) },
   );
   picked = tt;
-  sent = λ p is. absurd is;
-  asked = λ a is. absurd is;
-  filed = λ name is. absurd is;
+  sent = λ p fact. absurd fact;
+  asked = λ a fact. absurd fact;
+  filed = λ name fact. absurd fact;
   calm = λ none. refl;
   highest = inl refl;
   dropped = λ x. inl refl;
-  gone = λ name is. absurd is;
+  gone = λ name fact. absurd fact;
 }
   where
     first : State
@@ -85,25 +85,25 @@ IsSure g n o h = g.doubts ≡ false → EndsRestart n o → h.w.pick_low ≤ h.w
 -- the opening segment is settled: the owner serves
 ends_so : (g : Setting) (n : Net) (chain : List Segment) (s : LogState) (d : log.Done) → n.owner ≡ Writing chain s → d.state.flight ≡ None
     → EndsRestart n (after_writing g n chain d)
-ends_so g n chain s d is none = (ap is_writing is, ap (λ o. is_serving (after_flight g n chain d o).owner) none)
+ends_so g n chain s d fact none = (ap is_writing fact, ap (λ o. is_serving (after_flight g n chain d o).owner) none)
 
 -- whatever happens, it is seen
 pub keeps : (k : Below) (g : Setting) (n o : Net) (h : View g n) → Happens g n o → IsSure g n o h → Next g n h o
-keeps k g n o h (Acts s i is came texts) sure = serving_view k g n h s i is came texts
-keeps k g n o h (Writes chain s i is came texts) sure =
-    writing_view k g n h chain s i is came texts (λ none lands. sure none (ends_so g n chain s (log.transition s i) is lands))
-keeps k g n o h (Opens s i is came can) sure = opens_view k g n h s i is came can
+keeps k g n o h (Acts s i fact came texts) sure = serving_view k g n h s i fact came texts
+keeps k g n o h (Writes chain s i fact came texts) sure =
+    writing_view k g n h chain s i fact came texts (λ none lands. sure none (ends_so g n chain s (log.transition s i) fact lands))
+keeps k g n o h (Opens s i fact came can) sure = opens_view k g n h s i fact came can
 keeps k g n o h Crashes sure = crash_view k g n h
-keeps k g n o h (Restarts is) sure = restart_view k g n h is
-keeps k g n o h (Renews m high doubts is came) sure = renew_view k g n h m doubts is came
+keeps k g n o h (Restarts fact) sure = restart_view k g n h fact
+keeps k g n o h (Renews m high doubts fact came) sure = renew_view k g n h m doubts fact came
 keeps k g n o h (Serves v deed some came) sure = serves_view k g n h v deed some came
 keeps k g n o h (Bars v log pass) sure = bars_view k g n h v log pass
 keeps k g n o h (Lists v) sure = lists_view k g n h v
 keeps k g n o h (Hears v generation up reached) sure = hears_view k g n h v generation up reached
-keeps k g n o h (Raises low name up is below) sure = raises_view k g n h low name up is below
+keeps k g n o h (Raises low name up fact below) sure = raises_view k g n h low name up fact below
 keeps k g n o h (Publishes m whole) sure = publishes_view k g n h m whole
-keeps k g n o h (Welcomes inc ask news m is low whole) sure = welcomes_view k g n h inc ask news m is low whole
-keeps k g n o h (Drops lists meta is among below) sure = drops_view k g n h lists meta is among below
+keeps k g n o h (Welcomes inc ask news m fact low whole) sure = welcomes_view k g n h inc ask news m fact low whole
+keeps k g n o h (Drops lists meta fact among below) sure = drops_view k g n h lists meta fact among below
 
 -- where restarts may be doubtful, nothing is asked
 pub seen_always : (k : Below) (g : Setting) (n o : Net) → g.doubts ≡ true → Runs g n o → View g n → View g o

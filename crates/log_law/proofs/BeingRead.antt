@@ -45,10 +45,10 @@ point_is g seq pass = by (pass.inc == 0)
     by false some = refl
     by true some = absurd (omega arith)
 
-module _ (k : Below) (read : ReadWhole) (g : Setting) (n : Net) (h : View g n) (s : ScanState) (is : n.owner ≡ Opening s) (b : Backward)
+module _ (k : Below) (read : ReadWhole) (g : Setting) (n : Net) (h : View g n) (s : ScanState) (fact : n.owner ≡ Opening s) (b : Backward)
     (r : ReadingState) (at : s.stage ≡ Reads b (Some r)) (kept : In r.target.seg.name n.dropped → ⊥) where
   opened : ScanShown g h.w h.book h.hellos s
-  opened = subst (OwnerShown g h.w h.book h.hellos) is h.owner
+  opened = subst (OwnerShown g h.w h.book h.hellos) fact h.owner
 
   shown : ReadingShown g h.w h.book s.opening b × (is_bottom s.opening.low b.next ≡ false) × LooksFor g h.book h.w.booked b.next (Some r)
   shown = subst (StageShown g h.w h.book h.hellos s.opening) at opened.stage
@@ -136,6 +136,6 @@ module _ (k : Below) (read : ReadWhole) (g : Setting) (n : Net) (h : View g n) (
   }
 
 pub what_is_read_is_whole : Below → ReadWhole → WhatIsReadIsWhole
-what_is_read_is_whole k read g n m s is b r at kept =
-    let w = is_whole k read (doubtful g) n (seen k g n m) s is b r at kept in
+what_is_read_is_whole k read g n m s fact b r at kept =
+    let w = is_whole k read (doubtful g) n (seen k g n m) s fact b r at kept in
     record { text = w.text; flown = w.flown; named = w.named; grouped = w.grouped; whole = w.whole }

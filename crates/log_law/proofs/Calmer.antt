@@ -91,13 +91,13 @@ module _ (g : Setting) where
       by (Some f) = refl
 
   happens_so : (n o : Net) → Happens g n o → Happens any n o
-  happens_so n o (Acts s i is came texts) = Acts s i is came texts
-  happens_so n o (Writes chain s i is came texts) = subst (Happens any n) (writing_so n chain (log.transition s i)) (Writes chain s i is came texts)
-  happens_so n o (Opens s i is came can) =
-      subst (Happens any n) (scan_so n s (scan.transition s i)) (Opens s i is (came_so n i came) (start_so n.inc (scan.transition s i) can))
+  happens_so n o (Acts s i fact came texts) = Acts s i fact came texts
+  happens_so n o (Writes chain s i fact came texts) = subst (Happens any n) (writing_so n chain (log.transition s i)) (Writes chain s i fact came texts)
+  happens_so n o (Opens s i fact came can) =
+      subst (Happens any n) (scan_so n s (scan.transition s i)) (Opens s i fact (came_so n i came) (start_so n.inc (scan.transition s i) can))
   happens_so n o Crashes = Crashes
-  happens_so n o (Restarts is) = Restarts is
-  happens_so n o (Renews m high doubts is came) = Renews m high refl is came
+  happens_so n o (Restarts fact) = Restarts fact
+  happens_so n o (Renews m high doubts fact came) = Renews m high refl fact came
   happens_so n o (Serves v (Stores f generation) some came) = Serves v (Stores f generation) some came
   happens_so n o (Serves v (Fetches name) some came) = Serves v (Fetches name) some came
   happens_so n o (Serves v (Fences inc) some came) = Serves v (Fences inc) some came
@@ -107,10 +107,10 @@ module _ (g : Setting) where
   happens_so n o (Bars v l pass) = Bars v l pass
   happens_so n o (Lists v) = Lists v
   happens_so n o (Hears v generation up reached) = Hears v generation up reached
-  happens_so n o (Raises low name up is below) = Raises low name up is below
+  happens_so n o (Raises low name up fact below) = Raises low name up fact below
   happens_so n o (Publishes m whole) = Publishes m (map_so n.registry m whole)
-  happens_so n o (Welcomes inc ask news m is low whole) = Welcomes inc ask news m is low (map_so n.registry m whole)
-  happens_so n o (Drops lists meta is among below) = Drops lists meta is among below
+  happens_so n o (Welcomes inc ask news m fact low whole) = Welcomes inc ask news m fact low (map_so n.registry m whole)
+  happens_so n o (Drops lists meta fact among below) = Drops lists meta fact among below
 
   runs_so : (n o : Net) → Runs g n o → Runs any n o
   runs_so n o Begun = Begun

@@ -39,9 +39,9 @@ landed s i l (Settled end rows ∷ os) all name (inl e) =
     (all.0.flight, all.0.was, sym (e ∙ ap (λ (z : End). record { log = l; seq = z.seq; pass = z.pass }) all.0.is_end))
 landed s i l (Settled end rows ∷ os) all name (inr among) = landed s i l os all.1 name among
 
-module _ (g : Setting) (n : Net) (h : View g n) (s : LogState) (is : n.owner ≡ Serving s) where
+module _ (g : Setting) (n : Net) (h : View g n) (s : LogState) (fact : n.owner ≡ Serving s) where
   there : ServesShown g h.w h.book s × Behind g h.w h.book s
-  there = subst (OwnerShown g h.w h.book h.hellos) is h.owner
+  there = subst (OwnerShown g h.w h.book h.hellos) fact h.owner
 
   -- ---- the end
 
@@ -51,7 +51,7 @@ module _ (g : Setting) (n : Net) (h : View g n) (s : LogState) (is : n.owner ≡
         x.seq in omega arith
 
     last : (name : SegName) → In name n.filed → name.seq ≤ s.end.seq
-    last name among = let a = within k g none n h name among in let b = served_head k g n h (h.calm none) s is in omega arith
+    last name among = let a = within k g none n h name among in let b = served_head k g n h (h.calm none) s fact in omega arith
 
     filed : 0 < s.end.seq → In (record { log = s.log; seq = s.end.seq; pass = s.end.pass }) n.filed
     filed some = by h.highest
@@ -100,10 +100,10 @@ module _ (g : Setting) (n : Net) (h : View g n) (s : LogState) (is : n.owner ≡
   flown_name f name flies e = ap (λ l. record { log = l; seq = f.segment.name.seq; pass = f.segment.name.pass }) (of_log f flies) ∙ e
 
 pub ends_are_last : Below → EndsAreLast
-ends_are_last k g n none m calm s is = end_is_last g n (along_moment k g none n m calm).view s is k none
+ends_are_last k g n none m calm s fact = end_is_last g n (along_moment k g none n m calm).view s fact k none
 
 pub files_its_flight : Below → FilesItsFlight
-files_its_flight k g n o m s is (Acts t i is_t came texts) name among =
+files_its_flight k g n o m s fact (Acts t i is_t came texts) name among =
     ⊎_elim (λ new. inr (flies (landed t i g.log (log.transition t i).outs (k.logs.due t i) name new))) inl
     (in_either (log_filed g.log (log.transition t i).outs) n.filed name among)
   where
@@ -112,16 +112,16 @@ files_its_flight k g n o m s is (Acts t i is_t came texts) name among =
 
     flies : (f : FlightState) × (t.flight ≡ Some f) × (record { log = g.log; seq = f.segment.name.seq; pass = f.segment.name.pass } ≡ name) → IsFlight s name
     flies f = (f.0, ap (λ (z : LogState). z.flight) (sym same) ∙ f.1, flown_name (doubtful g) n (seen k g n m) t is_t f.0 name f.1 f.2)
-files_its_flight k g n o m s is (Writes chain t i is_t came texts) name among = absurd cc
-files_its_flight k g n o m s is (Opens t i is_t came can) name among = absurd cc
-files_its_flight k g n o m s is Crashes name among = inl among
-files_its_flight k g n o m s is (Restarts down) name among = inl among
-files_its_flight k g n o m s is (Renews map high doubts down came) name among = inl among
-files_its_flight k g n o m s is (Serves v deed some came) name among = inl among
-files_its_flight k g n o m s is (Bars v l pass) name among = inl among
-files_its_flight k g n o m s is (Lists v) name among = inl among
-files_its_flight k g n o m s is (Hears v generation up reached) name among = inl among
-files_its_flight k g n o m s is (Raises low highest up under below) name among = inl among
-files_its_flight k g n o m s is (Publishes map whole) name among = inl among
-files_its_flight k g n o m s is (Welcomes inc ask news map hello low whole) name among = inl among
-files_its_flight k g n o m s is (Drops lists meta listed within below) name among = inl among
+files_its_flight k g n o m s fact (Writes chain t i is_t came texts) name among = absurd cc
+files_its_flight k g n o m s fact (Opens t i is_t came can) name among = absurd cc
+files_its_flight k g n o m s fact Crashes name among = inl among
+files_its_flight k g n o m s fact (Restarts down) name among = inl among
+files_its_flight k g n o m s fact (Renews map high doubts down came) name among = inl among
+files_its_flight k g n o m s fact (Serves v deed some came) name among = inl among
+files_its_flight k g n o m s fact (Bars v l pass) name among = inl among
+files_its_flight k g n o m s fact (Lists v) name among = inl among
+files_its_flight k g n o m s fact (Hears v generation up reached) name among = inl among
+files_its_flight k g n o m s fact (Raises low highest up under below) name among = inl among
+files_its_flight k g n o m s fact (Publishes map whole) name among = inl among
+files_its_flight k g n o m s fact (Welcomes inc ask news map hello low whole) name among = inl among
+files_its_flight k g n o m s fact (Drops lists meta listed within below) name among = inl among

@@ -41,9 +41,9 @@ abbrev pub Fed : Net → Type 0
 Fed n = is_serving n.owner ≡ true → (name : SegName) → In name n.filed → n.low ≤ name.seq → In name n.feed
 
 pub in_either : (xs ys : List SegName) (x : SegName) → In x (xs ++ ys) → In x xs ⊎ In x ys
-in_either [] ys x is = inr is
+in_either [] ys x fact = inr fact
 in_either (z ∷ xs) ys x (inl e) = inl (inl e)
-in_either (z ∷ xs) ys x (inr is) = ⊎_elim (λ a. inl (inr a)) inr (in_either xs ys x is)
+in_either (z ∷ xs) ys x (inr fact) = ⊎_elim (λ a. inl (inr a)) inr (in_either xs ys x fact)
 
 -- a point above 0 is of the pass that it names
 pub passes : (g : Setting) (p : Pass) (q y : ℕ) → 0 < y → point g q p ≡ y → p ≡ (name_of g y).pass
@@ -70,7 +70,7 @@ settled_filed l end (Settled e' rows ∷ os) e = inl (λ i. record { log = l; se
 -- ---- a restart ends: the chain has each filed segment from the least horizon on
 
 module _ (k : Below) (g : Setting) (none : g.doubts ≡ false) (n : Net) (h : View g n) (chain : List Segment) (s : LogState) (i : Input)
-    (is : n.owner ≡ Writing chain s) (o : Net) (t : Next g n h o)
+    (fact : n.owner ≡ Writing chain s) (o : Net) (t : Next g n h o)
     (serves : o.owner ≡ Serving (log.transition s i).state) (files : o.filed ≡ log_filed g.log (log.transition s i).outs ++ (names_of chain ++ n.filed))
     (low : o.low ≡ n.low) where
   abbrev pub d : log.Done
@@ -83,7 +83,7 @@ module _ (k : Below) (g : Setting) (none : g.doubts ≡ false) (n : Net) (h : Vi
   u = t.view.w
 
   pub before : WritingShown g h.w h.book chain s × Behind g h.w h.book s
-  before = subst (OwnerShown g h.w h.book h.hellos) is h.owner
+  before = subst (OwnerShown g h.w h.book h.hellos) fact h.owner
 
   pub after : ServesShown g u v.book d.state × Behind g u v.book d.state
   after = subst (OwnerShown g u v.book v.hellos) serves v.owner
@@ -261,30 +261,30 @@ scans_not g n s d = by (chain_in d.outs) d.state.opening.groups
 module _ (k : Below) (g : Setting) (none : g.doubts ≡ false) (n : Net) (h : View g n) (fed : Fed n) where
   writes_fed : (chain : List Segment) (s : LogState) (i : Input) → n.owner ≡ Writing chain s → Next g n h (after_writing g n chain (log.transition s i))
       → Fed (after_writing g n chain (log.transition s i))
-  writes_fed chain s i is t = by (log.transition s i).state.flight refl
+  writes_fed chain s i fact t = by (log.transition s i).state.flight refl
     where
       by : (o : Option FlightState) → (log.transition s i).state.flight ≡ o → Fed (after_writing g n chain (log.transition s i))
       by (Some f) e serving name among above = contrary (sym (ap (λ o. is_serving (after_flight g n chain (log.transition s i) o).owner) e) ∙ serving)
       by None e serving name among above = subst (λ o. In name (after_flight g n chain (log.transition s i) o).feed) (sym e)
-          (fed_there k g none n h chain s i is (after_writing g n chain (log.transition s i)) t
+          (fed_there k g none n h chain s i fact (after_writing g n chain (log.transition s i)) t
           (ap (λ o. (after_flight g n chain (log.transition s i) o).owner) e) (ap (λ o. (after_flight g n chain (log.transition s i) o).filed) e)
           (ap (λ o. (after_flight g n chain (log.transition s i) o).low) e) name among above)
 
   pub now_fed : (o : Net) → Happens g n o → Next g n h o → Fed o
-  now_fed o (Acts s i is came texts) t serving name among above =
+  now_fed o (Acts s i fact came texts) t serving name among above =
       ⊎_elim (λ new. in_left (log_filed g.log (log.transition s i).outs) n.feed name new)
-      (λ old. in_right (log_filed g.log (log.transition s i).outs) n.feed name (fed (ap is_serving is) name old above))
+      (λ old. in_right (log_filed g.log (log.transition s i).outs) n.feed name (fed (ap is_serving fact) name old above))
       (in_either (log_filed g.log (log.transition s i).outs) n.filed name among)
-  now_fed o (Writes chain s i is came texts) t serving name among above = writes_fed chain s i is t serving name among above
-  now_fed o (Opens s i is came can) t serving name among above = contrary (sym (scans_not g n s (scan.transition s i)) ∙ serving)
+  now_fed o (Writes chain s i fact came texts) t serving name among above = writes_fed chain s i fact t serving name among above
+  now_fed o (Opens s i fact came can) t serving name among above = contrary (sym (scans_not g n s (scan.transition s i)) ∙ serving)
   now_fed o Crashes t serving name among above = contrary serving
-  now_fed o (Restarts is) t serving name among above = contrary serving
-  now_fed o (Renews m high doubts is came) t serving name among above = contrary (sym none ∙ doubts)
+  now_fed o (Restarts fact) t serving name among above = contrary serving
+  now_fed o (Renews m high doubts fact came) t serving name among above = contrary (sym none ∙ doubts)
   now_fed o (Serves server deed some came) t serving name among above = fed serving name among above
   now_fed o (Bars server l pass) t serving name among above = fed serving name among above
   now_fed o (Lists server) t serving name among above = fed serving name among above
   now_fed o (Hears server generation up reached) t serving name among above = fed serving name among above
-  now_fed o (Raises low name up is below) t serving m among above = fed serving m among (let a = up in omega arith)
+  now_fed o (Raises low name up fact below) t serving m among above = fed serving m among (let a = up in omega arith)
   now_fed o (Publishes m whole) t serving name among above = fed serving name among above
-  now_fed o (Welcomes inc ask news m is low whole) t serving name among above = fed serving name among above
-  now_fed o (Drops lists meta is among_them below) t serving name among above = fed serving name among above
+  now_fed o (Welcomes inc ask news m fact low whole) t serving name among above = fed serving name among above
+  now_fed o (Drops lists meta fact among_them below) t serving name among above = fed serving name among above

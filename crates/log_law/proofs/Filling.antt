@@ -28,9 +28,9 @@ module _ (g : Setting) (n : Net) (h : View g n) (v : ℕ) (f : Fragment) (i : Is
     pub describes : i.meta ≡ meta_of (h.book number) index
 
   listed_one : (ms : List FragMeta) → AllMetas h.book h.w.booked ms → In i.meta ms → Listed
-  listed_one [] all is = absurd is
+  listed_one [] all fact = absurd fact
   listed_one (m ∷ ms) all (inl e) = record { number = all.0.0; index = all.0.1; booked = all.0.2; describes = e ∙ all.0.3 }
-  listed_one (m ∷ ms) all (inr is) = listed_one ms all.1 is
+  listed_one (m ∷ ms) all (inr fact) = listed_one ms all.1 fact
 
   abbrev it : Listed
   it = listed_one i.lists (h.sent (ListedSent i.lists) i.sent) i.among

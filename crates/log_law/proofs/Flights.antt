@@ -63,8 +63,8 @@ module _ (g : Setting) where
 
         by : (o : Option FlightState) → s.flight ≡ o → FlightShown g h.book o s.inc s.end.seq (h.w.booked h.w.flight) h.w.flight h.w.noted
             → FlightOf h.w s.flight x
-        by None is shown = absurd (none_booked shown)
-        by (Some f) is shown =
+        by None fact shown = absurd (none_booked shown)
+        by (Some f) fact shown =
             let page = h.paged h.w.flight shown.is_booked in
             let f_seq : f.segment.name.seq ≡ s.end.seq + 1 = ap (λ (z : Segment). z.name.seq) shown.segment ∙ shown.next in
             let f_boot : f.segment.name.pass.inc ≡ s.inc = ap (λ (z : Segment). z.name.pass.inc) shown.segment ∙ shown.own in
@@ -81,7 +81,7 @@ module _ (g : Setting) where
             ∙ (sym (ap (λ (z : SegName). z.pass.inc) page.named) ∙ ap (λ (z : Segment). z.name.pass.inc) (sym shown.segment)) in
             record {
               flight = f;
-              flying = is;
+              flying = fact;
               seq = (let a = next in omega arith);
               boot = (let a = boot in omega arith);
               content = (k.protocol.book h.w h.reached).one_content x h.w.flight booked shown.is_booked (let a = next in omega arith)

@@ -85,48 +85,48 @@ flying (Some f) flown highest next s (inr was) = inl was
 
 module _ (k : Below) (g : Setting) (m : Net) (h : View (doubtful g) m) where
   ran_there : (s : LogState) → m.owner ≡ Serving s → Ran s
-  ran_there s is = (subst (OwnerShown (doubtful g) h.w h.book h.hellos) is h.owner).1.ran
+  ran_there s fact = (subst (OwnerShown (doubtful g) h.w h.book h.hellos) fact h.owner).1.ran
 
   ran_writing : (chain : List Segment) (s : LogState) → m.owner ≡ Writing chain s → Ran s
-  ran_writing chain s is = (subst (OwnerShown (doubtful g) h.w h.book h.hellos) is h.owner).1.ran
+  ran_writing chain s fact = (subst (OwnerShown (doubtful g) h.w h.book h.hellos) fact h.owner).1.ran
 
   -- the boot of an owner that is up, or down
   boot_up : (x : Owner) → m.owner ≡ x → boot_of m ≡ (if is_down x then suc m.inc else m.inc)
-  boot_up x is = ap (λ z. if is_down z then suc m.inc else m.inc) is
+  boot_up x fact = ap (λ z. if is_down z then suc m.inc else m.inc) fact
 
   number_there : (x : Owner) → m.owner ≡ x → next_number m.owner ≡ next_number x
-  number_there x is = ap next_number is
+  number_there x fact = ap next_number fact
 
   writes_on : (chain : List Segment) (s : LogState) (d : log.Done) → m.owner ≡ Writing chain s → Writes_next s d → (o : Option FlightState) → d.state.flight ≡ o
       → InBoot m (after_flight g m chain d o)
-  writes_on chain s d is w None at = record {
-    boot = sym (boot_up (Writing chain s) is);
-    rises = (let a = number_there (Writing chain s) is in let b = w.rises in omega arith);
+  writes_on chain s d fact w None at = record {
+    boot = sym (boot_up (Writing chain s) fact);
+    rises = (let a = number_there (Writing chain s) fact in let b = w.rises in omega arith);
     flown = λ x among. inl among;
   }
-  writes_on chain s d is w (Some f) at = record {
-    boot = sym (boot_up (Writing chain s) is);
-    rises = (let a = number_there (Writing chain s) is in let b = w.rises in omega arith);
+  writes_on chain s d fact w (Some f) at = record {
+    boot = sym (boot_up (Writing chain s) fact);
+    rises = (let a = number_there (Writing chain s) fact in let b = w.rises in omega arith);
     flown = flying (Some f) m.flown (d.state.end.seq + 1) (subst (λ z. IfSome z (λ f. f.segment.name.seq ≡ d.state.end.seq + 1)) at w.next);
   }
 
   opens_on : (s : ScanState) (d : scan.Done) → m.owner ≡ Opening s → (o : Option Told) (groups : Option GroupMapState) → InBoot m (after_told g m s d o groups)
-  opens_on s d is None groups = record {
-    boot = sym (boot_up (Opening s) is);
-    rises = (let a = number_there (Opening s) is in omega arith);
+  opens_on s d fact None groups = record {
+    boot = sym (boot_up (Opening s) fact);
+    rises = (let a = number_there (Opening s) fact in omega arith);
     flown = λ x among. inl among;
   }
-  opens_on s d is (Some t) None = record {
-    boot = sym (boot_up (Opening s) is);
-    rises = (let a = number_there (Opening s) is in omega arith);
+  opens_on s d fact (Some t) None = record {
+    boot = sym (boot_up (Opening s) fact);
+    rises = (let a = number_there (Opening s) fact in omega arith);
     flown = λ x among. inl among;
   }
-  opens_on s d is (Some t) (Some map) =
+  opens_on s d fact (Some t) (Some map) =
       let w : Writes_next (started g.log m.inc t.end map) (first_write g m.inc t.end map) =
       writes_next k (started g.log m.inc t.end map) (log_in.Parts []) (ran_first g.log m.inc t.end map) in
       record {
-        boot = sym (boot_up (Opening s) is);
-        rises = (let a = number_there (Opening s) is in omega arith);
+        boot = sym (boot_up (Opening s) fact);
+        rises = (let a = number_there (Opening s) fact in omega arith);
         flown = flying (first_write g m.inc t.end map).state.flight m.flown ((first_write g m.inc t.end map).state.end.seq + 1) w.next;
       }
 
@@ -146,27 +146,27 @@ module _ (k : Below) (g : Setting) (m : Net) (h : View (doubtful g) m) where
   }
 
   falls : (n : Net) (x : Owner) → m.owner ≡ x → Since n m → Since n (record m { owner = Down; feed = [] })
-  falls n Down is since = goes_on n m (record m { owner = Down; feed = [] }) (record {
-    boot = sym (boot_up Down is);
-    rises = (let a = number_there Down is in omega arith);
+  falls n Down fact since = goes_on n m (record m { owner = Down; feed = [] }) (record {
+    boot = sym (boot_up Down fact);
+    rises = (let a = number_there Down fact in omega arith);
     flown = λ s among. inl among;
   }) since
-  falls n (Opening s) is since = falls_up n (boot_up (Opening s) is) since
-  falls n (Writing chain s) is since = falls_up n (boot_up (Writing chain s) is) since
-  falls n (Serving s) is since = falls_up n (boot_up (Serving s) is) since
+  falls n (Opening s) fact since = falls_up n (boot_up (Opening s) fact) since
+  falls n (Writing chain s) fact since = falls_up n (boot_up (Writing chain s) fact) since
+  falls n (Serving s) fact since = falls_up n (boot_up (Serving s) fact) since
 
   happens_since : (n o : Net) → Since n m → Happens g m o → Since n o
-  happens_since n o since (Acts s i is came texts) =
-      let w : Writes_next s (log.transition s i) = writes_next k s i (ran_there s is) in
+  happens_since n o since (Acts s i fact came texts) =
+      let w : Writes_next s (log.transition s i) = writes_next k s i (ran_there s fact) in
       goes_on n m o (record {
-        boot = sym (boot_up (Serving s) is);
-        rises = (let a = number_there (Serving s) is in let b = w.rises in omega arith);
+        boot = sym (boot_up (Serving s) fact);
+        rises = (let a = number_there (Serving s) fact in let b = w.rises in omega arith);
         flown = flying (log.transition s i).state.flight m.flown ((log.transition s i).state.end.seq + 1) w.next;
       }) since
-  happens_since n o since (Writes chain s i is came texts) =
-      goes_on n m o (writes_on chain s (log.transition s i) is (writes_next k s i (ran_writing chain s is)) (log.transition s i).state.flight refl) since
-  happens_since n o since (Opens s i is came can) =
-      goes_on n m o (opens_on s (scan.transition s i) is (chain_in (scan.transition s i).outs) (scan.transition s i).state.opening.groups) since
+  happens_since n o since (Writes chain s i fact came texts) =
+      goes_on n m o (writes_on chain s (log.transition s i) fact (writes_next k s i (ran_writing chain s fact)) (log.transition s i).state.flight refl) since
+  happens_since n o since (Opens s i fact came can) =
+      goes_on n m o (opens_on s (scan.transition s i) fact (chain_in (scan.transition s i).outs) (scan.transition s i).state.opening.groups) since
   happens_since n o since Crashes = falls n m.owner refl since
   happens_since n o since (Restarts down) = goes_on n m o (record {
     boot = sym (boot_up Down down);
@@ -182,7 +182,7 @@ module _ (k : Below) (g : Setting) (m : Net) (h : View (doubtful g) m) where
   happens_since n o since (Bars v l pass) = goes_on n m o (aside o refl refl refl) since
   happens_since n o since (Lists v) = goes_on n m o (aside o refl refl refl) since
   happens_since n o since (Hears v generation up reached) = goes_on n m o (aside o refl refl refl) since
-  happens_since n o since (Raises low name up is below) = goes_on n m o (aside o refl refl refl) since
+  happens_since n o since (Raises low name up fact below) = goes_on n m o (aside o refl refl refl) since
   happens_since n o since (Publishes map whole) = goes_on n m o (aside o refl refl refl) since
   happens_since n o since (Welcomes inc ask news map hello low whole) = goes_on n m o (aside o refl refl refl) since
   happens_since n o since (Drops lists meta listed within below) = goes_on n m o (aside o refl refl refl) since

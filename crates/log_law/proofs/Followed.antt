@@ -87,7 +87,7 @@ module _ (g : Setting) (n : Net) (h : View g n) where
   lacks_there : (v x : ℕ) → h.w.holds v x ≡ 0 → (h.w.dropped x ≡ 1 → ⊥) → Lacks n (name_of g x) v
   lacks_there v x holds kept = (
     none_kept (h.book x) _ _ _ _ ((h.shelves v).keeps x) holds,
-    λ is. (let d = h.gone (name_of g x) is in kept (ap h.w.dropped (one_number g x d.number d.named) ∙ d.dropped)),
+    λ fact. (let d = h.gone (name_of g x) fact in kept (ap h.w.dropped (one_number g x d.number d.named) ∙ d.dropped)),
   )
 
 -- ---- over one event
@@ -276,11 +276,11 @@ module _ (k : Below) (g : Setting) (none : g.doubts ≡ false) (a : Net) (serves
           where
             clash : (p q : ℕ) → p ≡ q → p ≡ 0 → 0 < q → ⊥
             clash p q a b c = omega arith
-        is_filed (inr is) = subst (λ z. In (name_of g z) n.filed) ends.its_end is
+        is_filed (inr fact) = subst (λ z. In (name_of g z) n.filed) ends.its_end fact
 
         newest : (name : SegName) → In name n.filed → name.seq ≤ (h.book highest).name.seq
-        newest name is =
-            let d = h.filed name is in
+        newest name fact =
+            let d = h.filed name fact in
             let a = ends.filed_head d.0 d.2 in
             let b : h.w.seq_of d.0 ≡ name.seq = ap (λ t. t d.0) h.fixed.seq_of ∙ ap (λ (z : SegName). z.seq) (sym d.1) in
             let c = seq in
@@ -357,7 +357,7 @@ along k g none first serves seen fed gapless n (On {m = m} run happens) s = on (
 -- along the run of a moment
 pub along_moment : (k : Below) (g : Setting) (none : g.doubts ≡ false) (n : Net) (m : Moment g n) → IsSureRun m.run
     → Along k g none (opening g m.map) refl n m.run
-along_moment k g none n m calm = along k g none (opening g m.map) refl first (λ serving name is above. absurd is) gapless n m.run calm
+along_moment k g none n m calm = along k g none (opening g m.map) refl first (λ serving name fact above. absurd fact) gapless n m.run calm
   where
     first : View g (opening g m.map)
     first = begins_seen k g m.map m.whole

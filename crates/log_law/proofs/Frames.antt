@@ -100,9 +100,9 @@ module _ (g : Setting) (w u : State) (book : ℕ → Segment) (by : Apart w u) w
 
   pub later_apart : Later w u book book
   later_apart = record {
-    booked = same (λ o. (x : ℕ) → w.booked x ≡ 1 → o.booked x ≡ 1) (λ x is. is);
-    segment = λ x is. refl;
-    stores = same (λ o. (p : StorePacket) → In p w.stores → In p o.stores) (λ p is. is);
+    booked = same (λ o. (x : ℕ) → w.booked x ≡ 1 → o.booked x ≡ 1) (λ x fact. fact);
+    segment = λ x fact. refl;
+    stores = same (λ o. (p : StorePacket) → In p w.stores → In p o.stores) (λ p fact. fact);
     storeds = by.storeds;
     fragments = by.fragments;
     fenceds = by.fenceds;

@@ -54,15 +54,15 @@ one_more n highest head less before there q some up = by (nat_lt highest q) refl
 
 module _ (k : Below) (g : Setting) (n : Net) (h : View g n) (clean : h.w.clean ≡ 1) where
   pub served_head : (s : LogState) → n.owner ≡ Serving s → h.w.head ≡ s.end.seq
-  served_head s is = sym (k.protocol.head h.w h.reached clean).end_seq ∙ (ap (λ f. f h.w.end) h.fixed.seq_of ∙ there.0.end_seq)
+  served_head s fact = sym (k.protocol.head h.w h.reached clean).end_seq ∙ (ap (λ f. f h.w.end) h.fixed.seq_of ∙ there.0.end_seq)
     where
       there : ServesShown g h.w h.book s × Behind g h.w h.book s
-      there = subst (OwnerShown g h.w h.book h.hellos) is h.owner
+      there = subst (OwnerShown g h.w h.book h.hellos) fact h.owner
 
 -- ---- a restart ends: the chain has each number from above the head on
 
 module _ (k : Below) (g : Setting) (none : g.doubts ≡ false) (n : Net) (h : View g n) (chain : List Segment) (s : LogState) (i : Input)
-    (is : n.owner ≡ Writing chain s) (o : Net) (t : Next g n h o)
+    (fact : n.owner ≡ Writing chain s) (o : Net) (t : Next g n h o)
     (serves : o.owner ≡ Serving (log.transition s i).state) (files : o.filed ≡ log_filed g.log (log.transition s i).outs ++ (names_of chain ++ n.filed))
     (low : o.low ≡ n.low) (gapless : Gapless n h.w.head) where
   -- down the chain
@@ -104,16 +104,16 @@ module _ (k : Below) (g : Setting) (none : g.doubts ≡ false) (n : Net) (h : Vi
 
           by_depth : (b : Bool) → nat_lt s.end.seq (q + length chain) ≡ b → Has o q
           by_depth true f =
-              reaches q s.end.seq (before k g none n h chain s i is o t serves files low).0.read.next chain (less_of s.end.seq (q + length chain) f) less
-              (before k g none n h chain s i is o t serves files low).0.read.chained
-              (in_files k g none n h chain s i is o t serves files low)
-          by_depth false f = absurd (not_below k g none n h chain s i is o t serves files low q some above (more_of s.end.seq (q + length chain) f))
+              reaches q s.end.seq (before k g none n h chain s i fact o t serves files low).0.read.next chain (less_of s.end.seq (q + length chain) f) less
+              (before k g none n h chain s i fact o t serves files low).0.read.chained
+              (in_files k g none n h chain s i fact o t serves files low)
+          by_depth false f = absurd (not_below k g none n h chain s i fact o t serves files low q some above (more_of s.end.seq (q + length chain) f))
 
   pub ended : Gapless o t.view.w.head
-  ended = ⊎_elim stays lands (rises k g none n h chain s i is o t serves files low)
+  ended = ⊎_elim stays lands (rises k g none n h chain s i fact o t serves files low)
     where
       at : t.view.w.head ≡ (log.transition s i).state.end.seq
-      at = head_at k g none n h chain s i is o t serves files low
+      at = head_at k g none n h chain s i fact o t serves files low
 
       stays : (settled_ends (log.transition s i).outs ≡ []) × ((log.transition s i).state.end ≡ s.end) → Gapless o t.view.w.head
       stays e q some less = to_top q some (let a = at in let b = ap (λ (z : End). z.seq) e.1 in omega arith)
@@ -147,17 +147,17 @@ module _ (k : Below) (g : Setting) (none : g.doubts ≡ false) (n : Net) (h : Vi
   -- the log of an owner that serves
   acts : (s : LogState) (i : Input) → n.owner ≡ Serving s → Happens g n (after_log g n (log.transition s i))
       → (t : Next g n h (after_log g n (log.transition s i))) → Gapless (after_log g n (log.transition s i)) t.view.w.head
-  acts s i is happens t = ⊎_elim stays lands rises_here
+  acts s i fact happens t = ⊎_elim stays lands rises_here
     where
       behind : Behind g h.w h.book s
-      behind = (subst (OwnerShown g h.w h.book h.hellos) is h.owner).1
+      behind = (subst (OwnerShown g h.w h.book h.hellos) fact h.owner).1
 
       rises_here : EndRisesByOne s (log.transition s i)
       rises_here = subst (λ (x : LogState). EndRisesByOne x (log.transition x i)) (sym behind.ran.reaches)
           (k.logs.rises behind.ran.log behind.ran.inc behind.ran.end behind.ran.groups behind.ran.history i)
 
       was : h.w.head ≡ s.end.seq
-      was = served_head k g n h (h.calm none) s is
+      was = served_head k g n h (h.calm none) s fact
 
       at : t.view.w.head ≡ (log.transition s i).state.end.seq
       at = served_head k g _ t.view (t.view.calm none) (log.transition s i).state refl
@@ -179,27 +179,27 @@ module _ (k : Below) (g : Setting) (none : g.doubts ≡ false) (n : Net) (h : Vi
   writes : (chain : List Segment) (s : LogState) (i : Input) → n.owner ≡ Writing chain s → Happens g n (after_writing g n chain (log.transition s i))
       → (t : Next g n h (after_writing g n chain (log.transition s i)))
       → Gapless (after_writing g n chain (log.transition s i)) t.view.w.head
-  writes chain s i is happens t = by (log.transition s i).state.flight refl
+  writes chain s i fact happens t = by (log.transition s i).state.flight refl
     where
       by : (f : Option FlightState) → (log.transition s i).state.flight ≡ f → Gapless (after_writing g n chain (log.transition s i)) t.view.w.head
       by (Some f) e =
           not_serving (after_writing g n chain (log.transition s i)) happens t (ap (λ x. is_serving (after_flight g n chain (log.transition s i) x).owner) e)
-      by None e = ended k g none n h chain s i is (after_writing g n chain (log.transition s i)) t
+      by None e = ended k g none n h chain s i fact (after_writing g n chain (log.transition s i)) t
           (ap (λ x. (after_flight g n chain (log.transition s i) x).owner) e) (ap (λ x. (after_flight g n chain (log.transition s i) x).filed) e)
           (ap (λ x. (after_flight g n chain (log.transition s i) x).low) e) gapless
 
   pub now_gapless : (o : Net) → Happens g n o → (t : Next g n h o) → Gapless o t.view.w.head
-  now_gapless o (Acts s i is came texts) t = acts s i is (Acts s i is came texts) t
-  now_gapless o (Writes chain s i is came texts) t = writes chain s i is (Writes chain s i is came texts) t
-  now_gapless o (Opens s i is came can) t = not_serving o (Opens s i is came can) t (scans_not g n s (scan.transition s i))
+  now_gapless o (Acts s i fact came texts) t = acts s i fact (Acts s i fact came texts) t
+  now_gapless o (Writes chain s i fact came texts) t = writes chain s i fact (Writes chain s i fact came texts) t
+  now_gapless o (Opens s i fact came can) t = not_serving o (Opens s i fact came can) t (scans_not g n s (scan.transition s i))
   now_gapless o Crashes t = not_serving o Crashes t refl
-  now_gapless o (Restarts is) t = not_serving o (Restarts is) t refl
-  now_gapless o (Renews m high doubts is came) t = contrary (sym none ∙ doubts)
+  now_gapless o (Restarts fact) t = not_serving o (Restarts fact) t refl
+  now_gapless o (Renews m high doubts fact came) t = contrary (sym none ∙ doubts)
   now_gapless o (Serves v deed some came) t = aside o (Serves v deed some came) t refl
   now_gapless o (Bars v l pass) t = aside o (Bars v l pass) t refl
   now_gapless o (Lists v) t = aside o (Lists v) t refl
   now_gapless o (Hears v generation up reached) t = aside o (Hears v generation up reached) t refl
-  now_gapless o (Raises low name up is below) t = aside o (Raises low name up is below) t refl
+  now_gapless o (Raises low name up fact below) t = aside o (Raises low name up fact below) t refl
   now_gapless o (Publishes m whole) t = aside o (Publishes m whole) t refl
-  now_gapless o (Welcomes inc ask news m is low whole) t = aside o (Welcomes inc ask news m is low whole) t refl
-  now_gapless o (Drops lists meta is among below) t = aside o (Drops lists meta is among below) t refl
+  now_gapless o (Welcomes inc ask news m fact low whole) t = aside o (Welcomes inc ask news m fact low whole) t refl
+  now_gapless o (Drops lists meta fact among below) t = aside o (Drops lists meta fact among below) t refl

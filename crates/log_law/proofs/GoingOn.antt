@@ -73,7 +73,7 @@ LowIsFiled n = (n.low ≤ 1) ⊎ ((name : SegName) × In name n.filed × (n.low 
 
 module _ (k : Below) (g : Setting) (n : Net) (h : View g n) (low : LowIsFiled n) (next : AllHaveNext n) where
   booked_next : (x : ℕ) → h.w.booked x ≡ 1 → has_next (h.book x).name.seq ≡ true
-  booked_next x is = next (h.book x) (h.flown.all x is)
+  booked_next x fact = next (h.book x) (h.flown.all x fact)
 
   filed_next : (name : SegName) → In name n.filed → has_next name.seq ≡ true
   filed_next name among =
@@ -98,12 +98,12 @@ module _ (k : Below) (g : Setting) (n : Net) (h : View g n) (low : LowIsFiled n)
 
   -- behind a booked segment, or the one before it
   at_goes : (x i : ℕ) → h.w.booked x ≡ 1 → GoesOn (end_at (meta_of (h.book x) i))
-  at_goes x i is = (let a = booked_next x is in let f = h.spelled.fits x is in (a, (next_fits (h.book x).name.seq a, f.name.1, f.group)))
+  at_goes x i fact = (let a = booked_next x fact in let f = h.spelled.fits x fact in (a, (next_fits (h.book x).name.seq a, f.name.1, f.group)))
 
   before_goes : (x i : ℕ) → h.w.booked x ≡ 1 → GoesOn (end_before (meta_of (h.book x) i))
-  before_goes x i is =
-      let a = next_below ((h.book x).name.seq - 1) (h.book x).name.seq (omega arith) (booked_next x is) in
-      let f = h.spelled.fits x is in (a, (next_fits ((h.book x).name.seq - 1) a, f.prior.0, f.prior.1))
+  before_goes x i fact =
+      let a = next_below ((h.book x).name.seq - 1) (h.book x).name.seq (omega arith) (booked_next x fact) in
+      let f = h.spelled.fits x fact in (a, (next_fits ((h.book x).name.seq - 1) a, f.prior.0, f.prior.1))
 
   in_goes : (lists : List Listing) (m : FragMeta) (group : Group) → IsMeta h.book h.w.booked m → GoesOn (start_in lists m group)
   in_goes lists m group meta =
@@ -114,8 +114,8 @@ module _ (k : Below) (g : Setting) (n : Net) (h : View g n) (low : LowIsFiled n)
   -- the one that is picked is listed
   newest_meta : (bound from : ℕ) (lists : List Listing) (m : FragMeta) → AllListed g h.w h.book bound lists → newest (counting from lists) ≡ Some m
       → IsMeta h.book h.w.booked m
-  newest_meta bound from lists m all is =
-      let c = counted_listed from lists m (in_contained m (counting from lists) (picked_is from lists m is).counts) in
+  newest_meta bound from lists m all fact =
+      let c = counted_listed from lists m (in_contained m (counting from lists) (picked_is from lists m fact).counts) in
       its_meta h.book h.w.booked c.0.held m (kept_list g h.w h.book bound lists c.0 all c.1).seen.whole c.2
 
   start_goes : (groups : Option GroupMapState) (bound from : ℕ) (lists : List Listing) → AllListed g h.w h.book bound lists → from ≤ n.low
@@ -127,8 +127,8 @@ module _ (k : Below) (g : Setting) (n : Net) (h : View g n) (low : LowIsFiled n)
       by_group m meta (Some group) = in_goes lists m group meta
 
       by : (o : Option FragMeta) → newest (counting from lists) ≡ o → IfSome (start_from groups lists from o) GoesOn
-      by None is = none_goes from le
-      by (Some m) is = by_group m (newest_meta bound from lists m all is) (known_group groups m.group)
+      by None fact = none_goes from le
+      by (Some m) fact = by_group m (newest_meta bound from lists m all fact) (known_group groups m.group)
 
   -- ---- what an input brings
 
@@ -204,7 +204,7 @@ module _ (k : Below) (g : Setting) (n : Net) (h : View (doubtful g) n) (goes : G
       (record { flown = λ s among. inr among; filed = λ name among. in_right (log_filed g.log d.outs) n.filed name among })
       tt goes
 
-  module _ (s : ScanState) (i : Input) (is : n.owner ≡ Opening s) (came : CameToScan g n i) where
+  module _ (s : ScanState) (i : Input) (fact : n.owner ≡ Opening s) (came : CameToScan g n i) where
     abbrev d : scan.Done
     d = scan.transition s i
 
@@ -217,7 +217,7 @@ module _ (k : Below) (g : Setting) (n : Net) (h : View (doubtful g) n) (goes : G
     came_so scan_in.Tick c = c
 
     pub it_keeps : AllHaveNext n → Keeps GoesOn d
-    it_keeps next = input_keeps k (doubtful g) n h goes.low next s is i (came_so i came) (subst StartGoes is (goes.start next))
+    it_keeps next = input_keeps k (doubtful g) n h goes.low next s fact i (came_so i came) (subst StartGoes fact (goes.start next))
 
     opens_goes : (o : Option Told) (groups : Option GroupMapState) → Goes (after_told g n s d o groups)
     opens_goes None groups = record {
@@ -244,15 +244,15 @@ module _ (k : Below) (g : Setting) (n : Net) (h : View (doubtful g) n) (goes : G
   }
 
   happens_goes : (o : Net) → Happens g n o → Goes o
-  happens_goes o (Acts s i is came texts) =
+  happens_goes o (Acts s i fact came texts) =
       goes_by n o refl
       (record {
         flown = λ x among. with_more (log.transition s i).state.flight n.flown x among;
         filed = λ name among. in_right (log_filed g.log (log.transition s i).outs) n.filed name among;
       })
       tt goes
-  happens_goes o (Writes chain s i is came texts) = writes_goes chain (log.transition s i) (log.transition s i).state.flight
-  happens_goes o (Opens s i is came can) = opens_goes s i is came (chain_in (scan.transition s i).outs) (scan.transition s i).state.opening.groups
+  happens_goes o (Writes chain s i fact came texts) = writes_goes chain (log.transition s i) (log.transition s i).state.flight
+  happens_goes o (Opens s i fact came can) = opens_goes s i fact came (chain_in (scan.transition s i).outs) (scan.transition s i).state.opening.groups
   happens_goes o Crashes = goes_by n o refl (record { flown = λ s among. among; filed = λ name among. among }) tt goes
   happens_goes o (Restarts down) = goes_by n o refl (record { flown = λ s among. among; filed = λ name among. among }) tt goes
   happens_goes o (Renews m high doubts down came) = goes_by n o refl (record { flown = λ s among. among; filed = λ name among. among }) tt goes
@@ -260,7 +260,7 @@ module _ (k : Below) (g : Setting) (n : Net) (h : View (doubtful g) n) (goes : G
   happens_goes o (Bars v l pass) = aside o refl refl refl refl
   happens_goes o (Lists v) = aside o refl refl refl refl
   happens_goes o (Hears v generation up reached) = aside o refl refl refl refl
-  happens_goes o (Raises low name up is below) = record { low = inr (name, is, below); start = goes.start }
+  happens_goes o (Raises low name up fact below) = record { low = inr (name, fact, below); start = goes.start }
   happens_goes o (Publishes m whole) = aside o refl refl refl refl
   happens_goes o (Welcomes inc ask news m hello low whole) = aside o refl refl refl refl
   happens_goes o (Drops lists meta listed within below) = aside o refl refl refl refl
@@ -271,9 +271,9 @@ run_goes k g n o at goes (On {m = m} run happens) =
     happens_goes k g m (seen k g m (record { map = at.map; whole = at.whole; run = then_on at.run run })) (run_goes k g n m at goes run) o happens
 
 pub openings_go_on : Below → OpeningsGoOn
-openings_go_on k g n m next s is i came =
+openings_go_on k g n m next s fact i came =
     told_end GoesOn (scan.transition s i).outs
-    (it_keeps k g n (seen k g n m) (run_goes k g first n began (record { low = inl (omega arith); start = λ next. tt }) m.run) s i is came next).tells
+    (it_keeps k g n (seen k g n m) (run_goes k g first n began (record { low = inl (omega arith); start = λ next. tt }) m.run) s i fact came next).tells
   where
     first : Net
     first = opening g m.map

@@ -12,9 +12,9 @@ use Rattle.log_law.proofs.Views.{OwnerShown, View}
 use Rattle.log_law.proofs.Wholeness.{seen}
 
 pub priors_name_groups : Below → PriorsNameGroups
-priors_name_groups k g n m s t is to named =
+priors_name_groups k g n m s t fact to named =
     let h : View (doubtful g) n = seen k g n m in
-    let x = h.flown.booked s is in
+    let x = h.flown.booked s fact in
     let y = h.flown.booked t to in
     ap (λ (b : Segment). b.group) y.2
     ∙ (h.spelled.grouped x.0 y.0 x.1 y.1

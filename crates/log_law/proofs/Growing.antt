@@ -83,9 +83,9 @@ module _ (g : Setting) (w v : State) (book later : ℕ → Segment) (on : Later 
   -- what is booked is spelled as before, where nothing more is booked
   pub spelled_on : ((x : ℕ) → v.booked x ≡ 1 → w.booked x ≡ 1) → IsSpelled g book w.booked → IsSpelled g later v.booked
   spelled_on back s = record {
-    fits = λ x is. subst (λ b. Fits b) (sym (on.segment x (back x is))) (s.fits x (back x is));
-    text = λ x is. subst (λ b. IsText (text_of b) b) (sym (on.segment x (back x is))) (s.text x (back x is));
-    bytes = λ x is. subst (λ b. IsBytes (text_of b)) (sym (on.segment x (back x is))) (s.bytes x (back x is));
+    fits = λ x fact. subst (λ b. Fits b) (sym (on.segment x (back x fact))) (s.fits x (back x fact));
+    text = λ x fact. subst (λ b. IsText (text_of b) b) (sym (on.segment x (back x fact))) (s.text x (back x fact));
+    bytes = λ x fact. subst (λ b. IsBytes (text_of b)) (sym (on.segment x (back x fact))) (s.bytes x (back x fact));
     grouped = λ x y at to named.
         ap (λ (b : Segment). b.group) (on.segment y (back y to))
         ∙ (s.grouped x y (back x at) (back y to)

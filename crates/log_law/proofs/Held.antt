@@ -22,9 +22,9 @@ use Rattle.log_law.proofs.Wholeness.{seen}
 
 module _ (g : Setting) (w : State) (book : ℕ → Segment) (flown : List Segment) (f : Flown w book flown) where
   chain_flew : (highest x : ℕ) (chain : List Segment) → Chained g w book highest x chain → (t : Segment) → In t chain → In t flown
-  chain_flew highest x [] h t is = absurd is
+  chain_flew highest x [] h t fact = absurd fact
   chain_flew highest x (s ∷ chain) h t (inl e) = subst (λ z. In z flown) (sym (e ∙ h.2)) (f.all h.0 h.1)
-  chain_flew highest x (s ∷ chain) h t (inr is) = chain_flew highest h.0 chain h.5 t is
+  chain_flew highest x (s ∷ chain) h t (inr fact) = chain_flew highest h.0 chain h.5 t fact
 
   one_flew : (flight : FlightState) (inc seq x : ℕ) (noted : ℕ → ℕ) → Flying g book flight inc seq (w.booked x) x noted → In flight.segment flown
   one_flew flight inc seq x noted h = subst (λ z. In z flown) (sym h.segment) (f.all x h.is_booked)
@@ -57,11 +57,11 @@ what_flew_is_of_the_log k g n m s among =
 module _ (w : State) (book : ℕ → Segment) (flown : List Segment) (f : Flown w book flown) where
   listed_flew : (ms : List FragMeta) → AllMetas book w.booked ms → (meta : FragMeta) → In meta ms
       → (s : Segment) × In s flown × (meta.name ≡ s.name) × (meta.group ≡ s.group)
-  listed_flew [] all meta is = absurd is
+  listed_flew [] all meta fact = absurd fact
   listed_flew (m ∷ ms) all meta (inl e) =
       (let x = all.0 in
       (book x.0, f.all x.0 x.2, ap (λ (m : FragMeta). m.name) (e ∙ x.3), ap (λ (m : FragMeta). m.group) (e ∙ x.3)))
-  listed_flew (m ∷ ms) all meta (inr is) = listed_flew ms all.1 meta is
+  listed_flew (m ∷ ms) all meta (inr fact) = listed_flew ms all.1 meta fact
 
 pub what_is_listed_flew : Below → WhatIsListedFlew
 what_is_listed_flew k g n m lists sent meta among =

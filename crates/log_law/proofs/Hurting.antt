@@ -110,9 +110,9 @@ some_unhurt hurt (suc c) = by (hurt c) refl (some_unhurt hurt c)
   where
     by : (n : ℕ) → hurt c ≡ n → ((i : ℕ) × (i < c) × (hurt i ≡ 0)) ⊎ ((i : ℕ) → i < c → 0 < hurt i)
         → ((i : ℕ) × (i < suc c) × (hurt i ≡ 0)) ⊎ ((i : ℕ) → i < suc c → 0 < hurt i)
-    by n is (inl a) = inl (a.0, (let b = a.1 in omega arith), a.2)
-    by zero is (inr all) = inl (c, omega arith, is)
-    by (suc n) is (inr all) = inr each
+    by n fact (inl a) = inl (a.0, (let b = a.1 in omega arith), a.2)
+    by zero fact (inr all) = inl (c, omega arith, fact)
+    by (suc n) fact (inr all) = inr each
       where
         each : (i : ℕ) → i < suc c → 0 < hurt i
         each i less = ⊎_elim (λ below. all i below) (λ same. (let e = ap hurt same in omega arith)) (last i c less)

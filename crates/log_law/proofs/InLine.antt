@@ -29,7 +29,7 @@ module _ (k : Below) (g : Setting) (none : g.doubts ≡ false) (n : Net) (h : Vi
     pub seq : h.w.seq_of number ≡ name.seq
 
   pub number_of : (name : SegName) → In name n.filed → Filed name
-  number_of name is = let f = h.filed name is in record {
+  number_of name fact = let f = h.filed name fact in record {
     number = f.0;
     named = f.1;
     filed = f.2;
@@ -45,10 +45,10 @@ module _ (k : Below) (g : Setting) (none : g.doubts ≡ false) (n : Net) (h : Vi
 
   linked : (s t : Segment) → In s n.flown → In t n.flown → In s.name n.filed → In t.name n.filed → suc t.name.seq ≡ s.name.seq → n.low < s.name.seq
       → s.prior.pass ≡ t.name.pass
-  linked s t is it fs ft next above =
+  linked s t fact it fs ft next above =
       let x = number_of s.name fs in
       let y = number_of t.name ft in
-      let b = h.flown.booked s is in
+      let b = h.flown.booked s fact in
       let same : b.0 ≡ x.number = one_number g b.0 x.number (sym (page k g n h b.0 b.1).named ∙ (ap (λ (z : Segment). z.name) (sym b.2) ∙ x.named)) in
       let prior : h.w.prior_of x.number ≡ y.number =
       law.linked x.number y.number x.filed y.filed (let p = x.seq in let q = y.seq in omega arith) (let p = x.seq in let l = h.low in omega arith) in
@@ -59,14 +59,14 @@ module _ (k : Below) (g : Setting) (none : g.doubts ≡ false) (n : Net) (h : Vi
 
   -- a filed name is no further than the head
   pub within : (name : SegName) → In name n.filed → name.seq ≤ h.w.head
-  within name is = let x = number_of name is in let a = x.seq in let b =
+  within name fact = let x = number_of name fact in let a = x.seq in let b =
       (k.protocol.head h.w h.reached (h.calm none)).filed_head x.number x.filed in omega arith
 
   pub one_line : Gapless n h.w.head → OneLine g n
-  one_line gapless = record { no_two = no_two; no_gap = λ name is q some less. gapless q some (let a = within name is in omega arith); linked = linked }
+  one_line gapless = record { no_two = no_two; no_gap = λ name fact q some less. gapless q some (let a = within name fact in omega arith); linked = linked }
 
 pub logs_stay_in_line : Below → LogsStayInLine
 logs_stay_in_line k g n none m sure = (let a = along_moment k g none n m sure in one_line k g none n a.view a.gapless)
 
 pub the_feed_is_whole : Below → TheFeedIsWhole
-the_feed_is_whole k g n none m sure s is name among above = (along_moment k g none n m sure).fed (ap is_serving is) name among above
+the_feed_is_whole k g n none m sure s fact name among above = (along_moment k g none n m sure).fed (ap is_serving fact) name among above

@@ -96,8 +96,8 @@ module _ (k : Below) (g : Setting) (w : State) (book : ℕ → Segment) (reached
         by : (o : Option FlightState) → next.flight ≡ o
             → FlightShown g t.later o next.inc next.end.seq (t.world.booked t.world.flight) t.world.flight t.world.noted → IfSome o (IsNext next)
             → IfSome o (λ f. IsWritten f.segment) → Aloft x
-        by None is shown line text = absurd (let a = (k.protocol.book t.world now_reached).named x booked in let b = shown in omega arith)
-        by (Some f) is shown line text = record { flight = f; flying = is; segment = shown.segment ∙ ap t.later (sym e); in_line = line; written = text }
+        by None fact shown line text = absurd (let a = (k.protocol.book t.world now_reached).named x booked in let b = shown in omega arith)
+        by (Some f) fact shown line text = record { flight = f; flying = fact; segment = shown.segment ∙ ap t.later (sym e); in_line = line; written = text }
 
     -- what is booked was so before, or is in flight
     old_or_new : (x : ℕ) → t.world.booked x ≡ 1 → (w.booked x ≡ 1) ⊎ Aloft x
@@ -137,9 +137,9 @@ module _ (k : Below) (g : Setting) (w : State) (book : ℕ → Segment) (reached
 
             by : (o : Option FlightState) → o ≡ Some l.flight → FlightShown g book o s.inc s.end.seq (w.booked w.flight) w.flight w.noted
                 → (t.later y).group ≡ next.end.group
-            by None is shown = absurd cc
-            by (Some f) is shown =
-                let f_is : f ≡ l.flight = ap (λ o. or_this f o) is in
+            by None fact shown = absurd cc
+            by (Some f) fact shown =
+                let f_is : f ≡ l.flight = ap (λ o. or_this f o) fact in
                 let seg : l.flight.segment ≡ t.later w.flight =
                 ap (λ (z : FlightState). z.segment) (sym f_is) ∙ (shown.segment ∙ sym (t.frame.segment w.flight shown.is_booked)) in
                 let now = t.frame.booked w.flight shown.is_booked in
@@ -166,11 +166,11 @@ module _ (k : Below) (g : Setting) (w : State) (book : ℕ → Segment) (reached
         let q = paged x booked in
         let r = page y to in
         let some : 0 < (book x).prior.pass.inc = subst (λ (n : SegName). 0 < n.pass.inc) named r.boot in
-        let is : w.prior_of x ≡ y =
+        let fact : w.prior_of x ≡ y =
         q.follows ∙ (point_some g ((book x).name.seq - 1) (book x).prior.pass some
         ∙ (ap (λ (n : SegName). g.code n.seq n.pass.inc n.pass.att) (sym named ∙ r.named) ∙ coded g y)) in
         let positive = (k.protocol.book t.world now_reached).named y to in
-        subst (λ z. w.booked z ≡ 1) is ((k.protocol.book w reached).prior_booked x booked (omega arith))
+        subst (λ z. w.booked z ≡ 1) fact ((k.protocol.book w reached).prior_booked x booked (omega arith))
 
     new_priors : (x y : ℕ) → t.world.booked x ≡ 1 → t.world.booked y ≡ 1 → (t.later y).name ≡ name_at g.log (end_below (t.later x))
         → (t.later y).group ≡ (t.later x).prior.group
@@ -212,11 +212,11 @@ module _ (k : Below) (g : Setting) (w : State) (book : ℕ → Segment) (reached
     now_flown flown f = record { all = all; booked = by next.flight refl after }
       where
         with_more : (o : Option FlightState) (b : Segment) → In b flown → In b (flown_with o flown)
-        with_more None b is = is
-        with_more (Some x) b is = inr is
+        with_more None b fact = fact
+        with_more (Some x) b fact = inr fact
 
         first_one : (o : Option FlightState) (z : FlightState) (b : Segment) → o ≡ Some z → z.segment ≡ b → In b (flown_with o flown)
-        first_one o z b is e = subst (λ p. In b (flown_with p flown)) (sym is) (inl (sym e))
+        first_one o z b fact e = subst (λ p. In b (flown_with p flown)) (sym fact) (inl (sym e))
 
         all : (x : ℕ) → t.world.booked x ≡ 1 → In (t.later x) (flown_with next.flight flown)
         all x booked =
@@ -224,11 +224,11 @@ module _ (k : Below) (g : Setting) (w : State) (book : ℕ → Segment) (reached
             (λ (a : Aloft x). first_one next.flight a.flight (t.later x) a.flying a.segment) (old_or_new x booked)
 
         old : (b : Segment) → In b flown → (x : ℕ) × (t.world.booked x ≡ 1) × (b ≡ t.later x)
-        old b is = let z = f.booked b is in (z.0, t.frame.booked z.0 z.1, z.2 ∙ sym (t.frame.segment z.0 z.1))
+        old b fact = let z = f.booked b fact in (z.0, t.frame.booked z.0 z.1, z.2 ∙ sym (t.frame.segment z.0 z.1))
 
         by : (o : Option FlightState) → next.flight ≡ o
             → FlightShown g t.later o next.inc next.end.seq (t.world.booked t.world.flight) t.world.flight t.world.noted → (b : Segment)
             → In b (flown_with o flown) → (x : ℕ) × (t.world.booked x ≡ 1) × (b ≡ t.later x)
-        by None same_ shown b is = old b is
+        by None same_ shown b fact = old b fact
         by (Some z) same_ shown b (inl e) = (t.world.flight, shown.is_booked, e ∙ shown.segment)
-        by (Some z) same_ shown b (inr is) = old b is
+        by (Some z) same_ shown b (inr fact) = old b fact

@@ -53,20 +53,20 @@ packets_shown g w book hellos (Settled end rows ∷ os) said = packets_shown g w
 -- and what it files is filed
 pub filed_said : (g : Setting) (w : State) (book : ℕ → Segment) (outs : List Out) (names : List SegName) → AllSaid g w.booked book w.stores w.filed outs
     → ((name : SegName) → In name names → IsFiled g w name) → (name : SegName) → In name (log_filed g.log outs ++ names) → IsFiled g w name
-filed_said g w book [] names said old name is = old name is
-filed_said g w book (Send f m ∷ os) names said old name is = filed_said g w book os names said.1 old name is
+filed_said g w book [] names said old name fact = old name fact
+filed_said g w book (Send f m ∷ os) names said old name fact = filed_said g w book os names said.1 old name fact
 filed_said g w book (Settled end rows ∷ os) names said old name (inl e) =
     (said.0.0, e ∙ (λ i. record { log = g.log; seq = said.0.2 i; pass = said.0.3 i }), said.0.1)
-filed_said g w book (Settled end rows ∷ os) names said old name (inr is) = filed_said g w book os names said.1 old name is
+filed_said g w book (Settled end rows ∷ os) names said old name (inr fact) = filed_said g w book os names said.1 old name fact
 
 pub in_right : (xs ys : List SegName) (x : SegName) → In x ys → In x (xs ++ ys)
-in_right [] ys x is = is
-in_right (y ∷ xs) ys x is = inr (in_right xs ys x is)
+in_right [] ys x fact = fact
+in_right (y ∷ xs) ys x fact = inr (in_right xs ys x fact)
 
 pub in_left : (xs ys : List SegName) (x : SegName) → In x xs → In x (xs ++ ys)
-in_left [] ys x is = absurd is
+in_left [] ys x fact = absurd fact
 in_left (y ∷ xs) ys x (inl e) = inl e
-in_left (y ∷ xs) ys x (inr is) = inr (in_left xs ys x is)
+in_left (y ∷ xs) ys x (inr fact) = inr (in_left xs ys x fact)
 
 module _ (k : Below) (g : Setting) (n : Net) (h : View g n) where
   module _ (P : State → (ℕ → Segment) → Type 0) (outs : List Out) (t : Goes g h.w h.book P outs) where
@@ -79,10 +79,10 @@ module _ (k : Below) (g : Setting) (n : Net) (h : View g n) where
       booked = t.frame.booked;
       segment = t.frame.segment;
       stores = t.frame.stores;
-      storeds = λ p is. at (λ o. In p o.storeds) is;
-      fragments = λ p is. at (λ o. In p o.fragments) is;
-      fenceds = λ p is. at (λ o. In p o.fenceds) is;
-      dropped = λ x is. at (λ o. o.dropped x ≡ 1) is;
+      storeds = λ p fact. at (λ o. In p o.storeds) fact;
+      fragments = λ p fact. at (λ o. In p o.fragments) fact;
+      fenceds = λ p fact. at (λ o. In p o.fenceds) fact;
+      dropped = λ x fact. at (λ o. o.dropped x ≡ 1) fact;
       registry = λ x. at (λ o. h.w.registry_generation x ≤ o.registry_generation x) (omega arith);
       incarnation = at (λ o. h.w.incarnation ≤ o.incarnation) (omega arith);
       low = at (λ o. h.w.low ≤ o.low) (omega arith);
@@ -128,7 +128,7 @@ module _ (k : Below) (g : Setting) (n : Net) (h : View g n) where
       flown = v.flown;
       shelves = λ u. subst (λ ss. ShelfShown g t.world t.later u (ss u)) (sym v.keeps.shelves)
           (at (λ o. Shelved g t.later t.world.booked (o.generation u) (o.holds u) (o.kept_index u) (o.marked u) (n.shelves u))
-          (shelf_on g h.book t.later h.w.booked t.world.booked (λ x is. (t.frame.booked x is, t.frame.segment x is)) (h.w.generation u) (h.w.holds u)
+          (shelf_on g h.book t.later h.w.booked t.world.booked (λ x fact. (t.frame.booked x fact, t.frame.segment x fact)) (h.w.generation u) (h.w.holds u)
           (h.w.kept_index u) (h.w.marked u) (n.shelves u) (h.shelves u)));
       nobody = λ x. at (λ o. o.holds 0 x ≡ 0) (h.nobody x);
       registry = λ u. subst (λ r. t.world.registry_generation u ≡ r u) (sym v.keeps.registry) (at (λ o. o.registry_generation u ≡ n.registry u) (h.registry u));
@@ -136,14 +136,14 @@ module _ (k : Below) (g : Setting) (n : Net) (h : View g n) where
       inc = at (λ o. o.incarnation ≡ n.inc) h.inc ∙ sym v.keeps.inc;
       owner = v.owner;
       picked = v.picked;
-      sent = λ p is. all_shown g t.world t.later hellos new n.sent v.shown
-          (λ q among. shown_on g h.w t.world h.book t.later later_goes h.hellos hellos v.grows q (h.sent q among)) p (subst (In p) v.sends is);
-      asked = λ a is. at (λ o. (a.inc ≤ o.incarnation) × (a.low ≤ o.low)) (v.asked a is);
+      sent = λ p fact. all_shown g t.world t.later hellos new n.sent v.shown
+          (λ q among. shown_on g h.w t.world h.book t.later later_goes h.hellos hellos v.grows q (h.sent q among)) p (subst (In p) v.sends fact);
+      asked = λ a fact. at (λ o. (a.inc ≤ o.incarnation) × (a.low ≤ o.low)) (v.asked a fact);
       filed = v.filed;
       calm = λ none. t.frame.calm none (h.calm none);
       highest = v.highest;
-      gone = λ name is.
-          (let d = h.gone name (subst (In name) v.keeps.dropped is) in
+      gone = λ name fact.
+          (let d = h.gone name (subst (In name) v.keeps.dropped fact) in
           record { number = d.number; named = d.named; dropped = later_goes.dropped d.number d.dropped });
       dropped = λ x. subst (λ ds. (t.world.dropped x ≡ 0) ⊎ In (name_of g x) ds) (sym v.keeps.dropped)
           (at (λ o. (o.dropped x ≡ 0) ⊎ In (name_of g x) n.dropped) (h.dropped x));
@@ -162,7 +162,7 @@ module _ (k : Below) (g : Setting) (n : Net) (h : View g n) where
 
     -- what was filed stays so
     pub filed_still : (name : SegName) → In name n.filed → IsFiled g t.world name
-    filed_still name is = let f = h.filed name is in (f.0, f.1, t.frame.filed f.0 f.2)
+    filed_still name fact = let f = h.filed name fact in (f.0, f.1, t.frame.filed f.0 f.2)
 
     -- the end is filed, where what the log files is
     pub topped : (names : List SegName) → ((name : SegName) → In name n.filed → In name names)
@@ -171,5 +171,5 @@ module _ (k : Below) (g : Setting) (n : Net) (h : View g n) where
       where
         by : EndFollows g h.w t.world outs → (h.w.end ≡ 0) ⊎ In (name_of g h.w.end) n.filed → (t.world.end ≡ 0) ⊎ In (name_of g t.world.end) names
         by (inl e) (inl none) = inl (e ∙ none)
-        by (inl e) (inr is) = inr (old _ (subst (λ z. In (name_of g z) n.filed) (sym e) is))
-        by (inr is) before = inr (new _ is)
+        by (inl e) (inr fact) = inr (old _ (subst (λ z. In (name_of g z) n.filed) (sym e) fact))
+        by (inr fact) before = inr (new _ fact)

@@ -31,10 +31,10 @@ module _ (k : Below) (g : Setting) (n : Net) (h : View g n) where
     steps = More Done (Hears v generation (record { rises = (let e = h.registry v in omega arith); reached = (let e = (h.shelves v).of in omega arith) }));
     apart = record {
       seat = refl;
-      storeds = λ p is. is;
-      fragments = λ p is. is;
-      fenceds = λ p is. is;
-      dropped = λ x is. is;
+      storeds = λ p fact. fact;
+      fragments = λ p fact. fact;
+      fenceds = λ p fact. fact;
+      dropped = λ x fact. fact;
       registry = λ y. rises y;
       low = omega arith;
     };
@@ -60,14 +60,14 @@ module _ (k : Below) (g : Setting) (n : Net) (h : View g n) where
   -- ---- the least horizon rises
 
   pub raises_view : (low : ℕ) (name : SegName) → n.low ≤ low → In name n.filed → low ≤ suc name.seq → Next g n h (record n { low = low })
-  raises_view low name up is below = turned k g n h _ (raises h.w low) [] (record {
+  raises_view low name up fact below = turned k g n h _ (raises h.w low) [] (record {
     steps = More Done (Raises low (record { rises = (let e = h.low in omega arith); filed = within }));
     apart = record {
       seat = refl;
-      storeds = λ p is. is;
-      fragments = λ p is. is;
-      fenceds = λ p is. is;
-      dropped = λ x is. is;
+      storeds = λ p fact. fact;
+      fragments = λ p fact. fact;
+      fenceds = λ p fact. fact;
+      dropped = λ x fact. fact;
       registry = λ y. omega arith;
       low = (let e = h.low in let u = up in omega arith);
     };
@@ -85,7 +85,7 @@ module _ (k : Below) (g : Setting) (n : Net) (h : View g n) where
     where
       within : h.w.clean ≡ 1 → low ≤ suc h.w.head
       within clean =
-          let f = h.filed name is in
+          let f = h.filed name fact in
           let a = (k.protocol.head h.w h.reached clean).filed_head f.0 f.2 in
           let e : h.w.seq_of f.0 ≡ name.seq = ap (λ t. t f.0) h.fixed.seq_of ∙ ap (λ (z : SegName). z.seq) (sym f.1) in
           let b = below in
@@ -121,7 +121,7 @@ module _ (k : Below) (g : Setting) (n : Net) (h : View g n) where
 
   pub welcomes_view : (inc ask : ℕ) (news : List SlotNews) (m : GroupMapState) → In (HelloSent inc ask) n.sent → least_horizon g.log.0 news ≡ n.low
       → WholeMap g n.registry m → Next g n h (record n { sent = WelcomeSent inc ask news m ∷ n.sent })
-  welcomes_view inc ask news m is low whole = turned k g n h _ h.w (WelcomeSent inc ask news m ∷ []) (record {
+  welcomes_view inc ask news m fact low whole = turned k g n h _ h.w (WelcomeSent inc ask news m ∷ []) (record {
     steps = Done;
     apart = nothing_apart k g n h;
     rests = record { inc = refl; owner = refl; filed = refl; flown = refl; picked = refl };
@@ -137,7 +137,7 @@ module _ (k : Below) (g : Setting) (n : Net) (h : View g n) where
   })
     where
       hello : HelloSeen h.hellos inc ask
-      hello = h.sent (HelloSent inc ask) is
+      hello = h.sent (HelloSent inc ask) fact
 
       seen : WelcomeSeen g h.w h.hellos inc ask news m
       seen = record {
@@ -151,7 +151,7 @@ module _ (k : Below) (g : Setting) (n : Net) (h : View g n) where
 
   pub drops_view : (lists : List FragMeta) (meta : FragMeta) → In (ListedSent lists) n.sent → In meta lists → meta.name.seq < n.low
       → Next g n h (record n { sent = DeleteSent meta.name ∷ n.sent; dropped = meta.name ∷ n.dropped })
-  drops_view lists meta is among below = dropped_one (found lists (h.sent (ListedSent lists) is) among)
+  drops_view lists meta fact among below = dropped_one (found lists (h.sent (ListedSent lists) fact) among)
     where
       Found : Type 0
       Found = (x : ℕ) × (h.w.booked x ≡ 1) × (meta.name ≡ name_of g x)

@@ -37,9 +37,9 @@ use Rattle.log_law.proofs.Picking.{pick_stays}
 -- what the chain files, beside what was filed
 chain_said : (g : Setting) (w : State) (chain : List Segment) (names : List SegName) → AllFiled g w chain
     → ((name : SegName) → In name names → IsFiled g w name) → (name : SegName) → In name (names_of chain ++ names) → IsFiled g w name
-chain_said g w [] names all old name is = old name is
+chain_said g w [] names all old name fact = old name fact
 chain_said g w (c ∷ cs) names all old name (inl e) = (all.0.0, e ∙ all.0.1, all.0.2)
-chain_said g w (c ∷ cs) names all old name (inr is) = chain_said g w cs names all.1 old name is
+chain_said g w (c ∷ cs) names all old name (inr fact) = chain_said g w cs names all.1 old name fact
 
 module _ (k : Below) (g : Setting) (n : Net) (h : View g n) where
   owner_there : (o : Owner) → n.owner ≡ o → OwnerShown g h.w h.book h.hellos o
@@ -55,12 +55,12 @@ module _ (k : Below) (g : Setting) (n : Net) (h : View g n) where
   serving_brings (log_in.Maps m) came = (h.sent (MapSent m) came).seen
   serving_brings log_in.Tick came = tt
 
-  module _ (s : LogState) (i : Input) (is : n.owner ≡ Serving s) (came : CameToLog n i) (texts : WritesText (log.transition s i)) where
+  module _ (s : LogState) (i : Input) (fact : n.owner ≡ Serving s) (came : CameToLog n i) (texts : WritesText (log.transition s i)) where
     abbrev served : log.Done
     served = log.transition s i
 
     as_it_serves : Serves g h.w h.book s × Behind g h.w h.book s
-    as_it_serves = owner_there (Serving s) is
+    as_it_serves = owner_there (Serving s) fact
 
     abbrev Now : State → (ℕ → Segment) → Type 0
     Now v later = Serves g v later served.state
@@ -100,14 +100,14 @@ module _ (k : Below) (g : Setting) (n : Net) (h : View g n) where
   writing_brings (log_in.Maps m) came = (h.sent (MapSent m) came).seen
   writing_brings log_in.Tick came = tt
 
-  module _ (chain : List Segment) (s : LogState) (i : Input) (is : n.owner ≡ Writing chain s) (came : CameToWriter n i)
+  module _ (chain : List Segment) (s : LogState) (i : Input) (fact : n.owner ≡ Writing chain s) (came : CameToWriter n i)
       (texts : WritesText (log.transition s i))
       (premise : g.doubts ≡ false → (log.transition s i).state.flight ≡ None → h.w.pick_low ≤ h.w.head → Undoubted h.w) where
     abbrev d : log.Done
     d = log.transition s i
 
     there : WritingShown g h.w h.book chain s × Behind g h.w h.book s
-    there = owner_there (Writing chain s) is
+    there = owner_there (Writing chain s) fact
 
     abbrev P : State → (ℕ → Segment) → Type 0
     P = OpeningShown g chain d.state
@@ -131,7 +131,7 @@ module _ (k : Below) (g : Setting) (n : Net) (h : View g n) where
       asked = h.asked;
       owner = (v, now_behind k g h.w h.book h.reached h.paged h.spelled s i P d.outs t there.1 before texts after);
       picked = pick_stays h.w t.world (let p = there.0.phase in omega arith) t.steps (ap (λ (o : Others). o.incarnation) t.frame.others)
-          ∙ subst (PickShown h.w.pick_low n.picked) is h.picked;
+          ∙ subst (PickShown h.w.pick_low n.picked) fact h.picked;
       sends = refl;
       shown = packets_shown g t.world t.later h.hellos d.outs t.said;
       filed = filed_said g t.world t.later d.outs n.filed t.said (filed_still k g n h P d.outs t);
@@ -176,8 +176,8 @@ module _ (k : Below) (g : Setting) (n : Net) (h : View g n) where
     world = crashes h.w;
     later = h.book;
     steps = More Done Crashes;
-    frame = record { others = refl; booked = λ x is. is; segment = λ x is. refl; stores = λ p is. is; filed = λ x is. is; calm = λ none c. c };
-    fresh = λ x is. inl is;
+    frame = record { others = refl; booked = λ x fact. fact; segment = λ x fact. refl; stores = λ p fact. fact; filed = λ x fact. fact; calm = λ none c. c };
+    fresh = λ x fact. inl fact;
     paged = h.paged;
     shows = refl;
     said = tt;
@@ -204,14 +204,14 @@ module _ (k : Below) (g : Setting) (n : Net) (h : View g n) where
   -- ---- it restarts, and server 0, which is none, is asked at once
 
   pub restart_view : n.owner ≡ Down → Next g n h (record n { inc = suc n.inc; owner = Opening (started g.log (suc n.inc)) })
-  restart_view is = record {
+  restart_view fact = record {
     view = record {
       w = v;
       book = h.book;
       hellos = h.hellos;
       fixed = record { servers = h.fixed.servers; seq_of = h.fixed.seq_of; incarnation_of = h.fixed.incarnation_of; attempt_of = h.fixed.attempt_of };
       reached = k.protocol.goes_on h.w v h.reached
-          (More (More Done (Begins (record { down = owner_there Down is }))) (Fences 0 (suc h.w.incarnation) (record { begun = omega arith })));
+          (More (More Done (Begins (record { down = owner_there Down fact }))) (Fences 0 (suc h.w.incarnation) (record { begun = omega arith })));
       paged = h.paged;
       spelled = h.spelled;
       flown = record { all = h.flown.all; booked = h.flown.booked };
@@ -230,7 +230,7 @@ module _ (k : Below) (g : Setting) (n : Net) (h : View g n) where
       dropped = h.dropped;
       gone = λ name among. (let d = h.gone name among in record { number = d.number; named = d.named; dropped = d.dropped });
     };
-    steps = More (More Done (Begins (record { down = owner_there Down is }))) (Fences 0 (suc h.w.incarnation) (record { begun = omega arith }));
+    steps = More (More Done (Begins (record { down = owner_there Down fact }))) (Fences 0 (suc h.w.incarnation) (record { begun = omega arith }));
     by = inr (record { generation = refl; holds = refl; dropped = refl });
     fallen = λ down. contrary down;
     steady = λ serving. record { served = refl; head = refl; booked = λ x booked boot. booked };

@@ -18,10 +18,10 @@ use Rattle.log_law.proofs.Wholeness.{seen}
 
 module _ (g : Setting) (n : Net) (h : View g n) (s : Segment) (r : RoundSoFar) (i : IsReading g n s r) (text : List ℕ) (read : state_of r ≡ Read text) where
   brought : (x : ℕ) × (h.w.booked x ≡ 1) × (s ≡ h.book x) → Brings s text
-  brought x = record { text = is; read = ap answer_of is ∙ answer }
+  brought x = record { text = fact; read = ap answer_of fact ∙ answer }
     where
-      is : text ≡ text_of s
-      is = brings g n h x.0 x.1 r i.is_round (i.count ∙ ap (λ (z : Segment). length (g.stripe z.group).members) x.2)
+      fact : text ≡ text_of s
+      fact = brings g n h x.0 x.1 r i.is_round (i.count ∙ ap (λ (z : Segment). length (g.stripe z.group).members) x.2)
           (i.parity ∙ ap (λ (z : Segment). (g.stripe z.group).parity) x.2)
           (subst (λ (z : Segment). AllCame n z.name r.answers) x.2 i.came) text read ∙ ap text_of (sym x.2)
 
@@ -30,6 +30,6 @@ module _ (g : Setting) (n : Net) (h : View g n) (s : Segment) (r : RoundSoFar) (
           (answer_again (text_of (h.book x.0)) (h.book x.0) (h.spelled.fits x.0 x.1) (h.spelled.text x.0 x.1))
 
 pub a_place_names_one_content : Below → APlaceNamesOneContent
-a_place_names_one_content k g n m s is r i text read =
+a_place_names_one_content k g n m s fact r i text read =
     brought (doubtful g) n (seen k g n m) s r (record { is_round = i.is_round; count = i.count; parity = i.parity; came = i.came }) text read
-    ((seen k g n m).flown.booked s is)
+    ((seen k g n m).flown.booked s fact)

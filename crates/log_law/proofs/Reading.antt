@@ -55,9 +55,9 @@ module _ (n : Net) (name : SegName) where
       by : (t : Told) → a.told ≡ t → ToldCame n name a.told
           → ((i : ℕ) → bytes_in i rest ≡ None) ⊎ ((f : Fragment) × In (FragmentSent f) n.sent × (f.meta.name ≡ name))
           → ((i : ℕ) → bytes_in i (a ∷ rest) ≡ None) ⊎ ((f : Fragment) × In (FragmentSent f) n.sent × (f.meta.name ≡ name))
-      by (Held f) is came more = inr (let c = subst (ToldCame n name) is came in (f, c.0, c.1))
-      by (Missing generation) is came (inl none) = inl (λ i. ap (λ t. bytes_in i (record { server = a.server; told = t } ∷ rest)) is ∙ none i)
-      by (Missing generation) is came (inr f) = inr f
+      by (Held f) fact came more = inr (let c = subst (ToldCame n name) fact came in (f, c.0, c.1))
+      by (Missing generation) fact came (inl none) = inl (λ i. ap (λ t. bytes_in i (record { server = a.server; told = t } ∷ rest)) fact ∙ none i)
+      by (Missing generation) fact came (inr f) = inr f
 
 pub none_counted : (f : ℕ → Option (List ℕ)) → ((i : ℕ) → f i ≡ None) → (from n : ℕ) → count_by is_some (map f (range_with_len from n)) ≡ 0
 none_counted f none from zero = refl

@@ -86,7 +86,7 @@ module _ (g : Setting) (w : State) (book : ℕ → Segment) where
 
 -- ---- an opening that tells its chain
 
-module _ (k : Below) (g : Setting) (n : Net) (h : View g n) (s : ScanState) (i : scan_ins.In) (is : n.owner ≡ Opening s) (came : CameToScan g n i) where
+module _ (k : Below) (g : Setting) (n : Net) (h : View g n) (s : ScanState) (i : scan_ins.In) (fact : n.owner ≡ Opening s) (came : CameToScan g n i) where
   abbrev d : scan.Done
   d = scan.transition s i
 
@@ -94,7 +94,7 @@ module _ (k : Below) (g : Setting) (n : Net) (h : View g n) (s : ScanState) (i :
   Shown v later = Scanned g v later h.hellos d.state d.outs × BooksNothing h.w v × PicksAtHorizon h.w v
 
   abbrev to : Goes g h.w h.book Shown []
-  to = k.machines.scans g h.w h.book h.hellos s i h.fixed h.reached h.paged h.spelled (as_it_opens k g n h s i is came) (brings k g n h s i is came i came)
+  to = k.machines.scans g h.w h.book h.hellos s i h.fixed h.reached h.paged h.spelled (as_it_opens k g n h s i fact came) (brings k g n h s i fact came i came)
 
   abbrev w : State
   w = to.world
@@ -143,12 +143,12 @@ came_so g n (scan_in.Maps m) c = c
 came_so g n scan_in.Tick c = c
 
 pub openings_read_down : Below → OpeningsReadDown
-openings_read_down k g n m s is i came = reads_down k (doubtful g) n (seen k g n m) s i is (came_so g n i came)
+openings_read_down k g n m s fact i came = reads_down k (doubtful g) n (seen k g n m) s i fact (came_so g n i came)
 
 -- ---- the event that ends a restart
 
 module _ (k : Below) (g : Setting) (none : g.doubts ≡ false) (n : Net) (m : Moment g n) (chain : List Segment) (s : LogState) (i : Input)
-    (is : n.owner ≡ Writing chain s) (happens : Happens g n (after_writing g n chain (log.transition s i))) (calm : IsSureRun (On m.run happens))
+    (fact : n.owner ≡ Writing chain s) (happens : Happens g n (after_writing g n chain (log.transition s i))) (calm : IsSureRun (On m.run happens))
     (lands : (log.transition s i).state.flight ≡ None) where
   abbrev o : Net
   o = after_writing g n chain (log.transition s i)
@@ -190,8 +190,8 @@ module _ (k : Below) (g : Setting) (none : g.doubts ≡ false) (n : Net) (m : Mo
         let before = k.protocol.head was a.view.reached (a.view.calm none) in
         let after = k.protocol.head u then.view.reached (then.view.calm none) in
         let b : was.incarnation_of f.number ≤ was.served = before.line_boot f.number f.filed in
-        let p = (feeding.before k g none n a.view chain s i is o then serves files same_low).0.phase in
-        let q = (feeding.after k g none n a.view chain s i is o then serves files same_low).0.phase in
+        let p = (feeding.before k g none n a.view chain s i fact o then serves files same_low).0.phase in
+        let q = (feeding.after k g none n a.view chain s i fact o then serves files same_low).0.phase in
         let c : was.served < was.incarnation = (k.protocol.owner was a.view.reached).opening (omega arith) (omega arith) in
         let d : u.incarnation ≡ u.served = (k.protocol.owner u then.view.reached).serving q in
         let e : u.line u.head ≡ f.number = ap u.line (sym highest) ∙ after.filed_line f.number still in
@@ -206,10 +206,10 @@ module _ (k : Below) (g : Setting) (none : g.doubts ≡ false) (n : Net) (m : Mo
     upto = ⊎_elim stays ends rises
       where
         head_at : u.head ≡ (log.transition s i).state.end.seq
-        head_at = feeding.head_at k g none n a.view chain s i is o then serves files same_low
+        head_at = feeding.head_at k g none n a.view chain s i fact o then serves files same_low
 
         rises : EndRisesByOne s (log.transition s i)
-        rises = feeding.rises k g none n a.view chain s i is o then serves files same_low
+        rises = feeding.rises k g none n a.view chain s i fact o then serves files same_low
 
         still : u.filed f.number ≡ 1
         still = past.filed f.number f.filed
@@ -244,25 +244,25 @@ module _ (k : Below) (g : Setting) (none : g.doubts ≡ false) (n : Net) (m : Mo
                 absurd (not_the_end still (omega arith) (omega arith))
 
 one_log : (o : Owner) (chain c : List Segment) (s t : LogState) → o ≡ Writing chain s → o ≡ Writing c t → s ≡ t
-one_log o chain c s t is it = cc
+one_log o chain c s t fact it = cc
 
 pub reopens_behind : Below → ReopensBehind
-reopens_behind k g n o none m (Writes chain s i is came texts) calm ends c t it name among = by (log.transition s i).state.flight refl
+reopens_behind k g n o none m (Writes chain s i fact came texts) calm ends c t it name among = by (log.transition s i).state.flight refl
   where
     by : (x : Option FlightState) → (log.transition s i).state.flight ≡ x → name.seq ≤ t.end.seq
-    by None lands = subst (λ (z : LogState). name.seq ≤ z.end.seq) (one_log n.owner chain c s t is it)
-        (upto k g none n m chain s i is (Writes chain s i is came texts) calm lands name among)
+    by None lands = subst (λ (z : LogState). name.seq ≤ z.end.seq) (one_log n.owner chain c s t fact it)
+        (upto k g none n m chain s i fact (Writes chain s i fact came texts) calm lands name among)
     by (Some f) flies = contrary (sym (ap (λ x. is_serving (after_flight g n chain (log.transition s i) x).owner) flies) ∙ ends.1)
-reopens_behind k g n o none m (Acts s i is came texts) calm ends c t it name among = contrary (sym (ap is_writing is) ∙ ends.0)
-reopens_behind k g n o none m (Opens s i is came can) calm ends c t it name among = contrary (sym (ap is_writing is) ∙ ends.0)
+reopens_behind k g n o none m (Acts s i fact came texts) calm ends c t it name among = contrary (sym (ap is_writing fact) ∙ ends.0)
+reopens_behind k g n o none m (Opens s i fact came can) calm ends c t it name among = contrary (sym (ap is_writing fact) ∙ ends.0)
 reopens_behind k g n o none m Crashes calm ends c t it name among = contrary ends.1
-reopens_behind k g n o none m (Restarts is) calm ends c t it name among = contrary ends.1
-reopens_behind k g n o none m (Renews map high doubts is came) calm ends c t it name among = contrary (sym none ∙ doubts)
+reopens_behind k g n o none m (Restarts fact) calm ends c t it name among = contrary ends.1
+reopens_behind k g n o none m (Renews map high doubts fact came) calm ends c t it name among = contrary (sym none ∙ doubts)
 reopens_behind k g n o none m (Serves v deed some came) calm ends c t it name among = contrary (sym (ap is_serving it) ∙ ends.1)
 reopens_behind k g n o none m (Bars v l pass) calm ends c t it name among = contrary (sym (ap is_serving it) ∙ ends.1)
 reopens_behind k g n o none m (Lists v) calm ends c t it name among = contrary (sym (ap is_serving it) ∙ ends.1)
 reopens_behind k g n o none m (Hears v generation up reached) calm ends c t it name among = contrary (sym (ap is_serving it) ∙ ends.1)
-reopens_behind k g n o none m (Raises low highest up is below) calm ends c t it name among = contrary (sym (ap is_serving it) ∙ ends.1)
+reopens_behind k g n o none m (Raises low highest up fact below) calm ends c t it name among = contrary (sym (ap is_serving it) ∙ ends.1)
 reopens_behind k g n o none m (Publishes map whole) calm ends c t it name among = contrary (sym (ap is_serving it) ∙ ends.1)
-reopens_behind k g n o none m (Welcomes inc ask news map is low whole) calm ends c t it name among = contrary (sym (ap is_serving it) ∙ ends.1)
-reopens_behind k g n o none m (Drops lists meta is listed below) calm ends c t it name among = contrary (sym (ap is_serving it) ∙ ends.1)
+reopens_behind k g n o none m (Welcomes inc ask news map fact low whole) calm ends c t it name among = contrary (sym (ap is_serving it) ∙ ends.1)
+reopens_behind k g n o none m (Drops lists meta fact listed below) calm ends c t it name among = contrary (sym (ap is_serving it) ∙ ends.1)

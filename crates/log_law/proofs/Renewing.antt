@@ -22,7 +22,7 @@ use Rattle.log_law.proofs.Logs.{ran_first}
 use Rattle.log_law.proofs.Next.{Next}
 use Rattle.log_law.proofs.Views.{OwnerShown, View}
 
-module _ (k : Below) (g : Setting) (n : Net) (h : View g n) (m : GroupMapState) (doubts : g.doubts ≡ true) (is : n.owner ≡ Down)
+module _ (k : Below) (g : Setting) (n : Net) (h : View g n) (m : GroupMapState) (doubts : g.doubts ≡ true) (fact : n.owner ≡ Down)
     (came : In (MapSent m) n.sent) where
   map : WholeMap g h.w.registry_generation m
   map = h.sent (MapSent m) came
@@ -31,7 +31,7 @@ module _ (k : Below) (g : Setting) (n : Net) (h : View g n) (m : GroupMapState) 
   w = learns (restarts h.w) (present_at m)
 
   steps : Steps h.w w
-  steps = More (More Done (Restarts (record { down = subst (OwnerShown g h.w h.book h.hellos) is h.owner })))
+  steps = More (More Done (Restarts (record { down = subst (OwnerShown g h.w h.book h.hellos) fact h.owner })))
       (Learns (present_at m) (record { known = map.seen.past }))
 
   later : Later h.w w h.book h.book

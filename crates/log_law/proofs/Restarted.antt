@@ -31,19 +31,19 @@ use Rattle.log_law.proofs.Views.{OwnerShown}
 
 -- a name of a chain
 in_names : (chain : List Segment) (name : SegName) → In name (names_of chain) → (t : Segment) × In t chain × (t.name ≡ name)
-in_names [] name is = absurd is
+in_names [] name fact = absurd fact
 in_names (t ∷ ts) name (inl e) = (t, inl refl, sym e)
-in_names (t ∷ ts) name (inr is) = let z = in_names ts name is in (z.0, inr z.1, z.2)
+in_names (t ∷ ts) name (inr fact) = let z = in_names ts name fact in (z.0, inr z.1, z.2)
 
 -- what was read back is booked
 in_book : (g : Setting) (w : State) (book : ℕ → Segment) (highest x : ℕ) (ts : List Segment) → Chained g w book highest x ts → (t : Segment) → In t ts
     → (y : ℕ) × (w.booked y ≡ 1) × (t ≡ book y)
-in_book g w book highest x [] c t is = absurd is
+in_book g w book highest x [] c t fact = absurd fact
 in_book g w book highest x (b ∷ bs) c t (inl e) = (c.0, c.1, e ∙ c.2)
-in_book g w book highest x (b ∷ bs) c t (inr is) = in_book g w book highest c.0 bs c.5 t is
+in_book g w book highest x (b ∷ bs) c t (inr fact) = in_book g w book highest c.0 bs c.5 t fact
 
 module _ (k : Below) (g : Setting) (n : Net) (none : g.doubts ≡ false) (m : Moment g n) (chain : List Segment) (s : LogState) (i : Input)
-    (is : n.owner ≡ Writing chain s) where
+    (fact : n.owner ≡ Writing chain s) where
   abbrev o : Net
   o = after_writing g n chain (log.transition s i)
 
@@ -52,7 +52,7 @@ module _ (k : Below) (g : Setting) (n : Net) (none : g.doubts ≡ false) (m : Mo
     a = along_moment k g none n m calm.0
 
     shown : WritingShown g a.view.w a.view.book chain s
-    shown = (subst (OwnerShown g a.view.w a.view.book a.view.hellos) is a.view.owner).0
+    shown = (subst (OwnerShown g a.view.w a.view.book a.view.hellos) fact a.view.owner).0
 
     in_flown : (x : ℕ) → a.view.w.booked x ≡ 1 → In (a.view.book x) o.flown
     in_flown x booked = (grows g n o happens).flown (a.view.book x) (a.view.flown.all x booked)
@@ -93,7 +93,7 @@ module _ (k : Below) (g : Setting) (n : Net) (none : g.doubts ≡ false) (m : Mo
     -- what was read back
     chain_tells : (t : Segment) → In t chain → In t.name o.filed → In t.name n.filed ⊎ TellsOnlyTheTail m o t.name
     chain_tells t among filed =
-        ⊎_elim (λ near. inl (old near)) (λ far. inr (t, there, refl, far)) (adopted k g none (opening g m.map) refl n m.run a chain s is t among)
+        ⊎_elim (λ near. inl (old near)) (λ far. inr (t, there, refl, far)) (adopted k g none (opening g m.map) refl n m.run a chain s fact t among)
       where
         x : (y : ℕ) × (a.view.w.booked y ≡ 1) × (t ≡ a.view.book y)
         x = in_book g a.view.w a.view.book s.end.seq shown.read.next chain shown.read.chained t among
@@ -132,22 +132,22 @@ module _ (k : Below) (g : Setting) (n : Net) (none : g.doubts ≡ false) (m : Mo
         read was = ⊎_elim (λ there. back (in_names chain name there)) inl (in_either (names_of chain) n.filed name was)
 
 pub a_restart_files_the_tail : Below → ARestartFilesTheTail
-a_restart_files_the_tail k g n o none m (Acts s i is came texts) calm ends name among = contrary (sym (ap is_writing is) ∙ ends.0)
-a_restart_files_the_tail k g n o none m (Writes chain s i is came texts) calm ends name among = by (log.transition s i).state.flight refl
+a_restart_files_the_tail k g n o none m (Acts s i fact came texts) calm ends name among = contrary (sym (ap is_writing fact) ∙ ends.0)
+a_restart_files_the_tail k g n o none m (Writes chain s i fact came texts) calm ends name among = by (log.transition s i).state.flight refl
   where
     by : (f : Option FlightState) → (log.transition s i).state.flight ≡ f
         → In name n.filed ⊎ TellsOnlyTheTail m (after_writing g n chain (log.transition s i)) name
     by (Some f) e = contrary (sym (ap (λ x. is_serving (after_flight g n chain (log.transition s i) x).owner) e) ∙ ends.1)
-    by None e = tells k g n none m chain s i is (Writes chain s i is came texts) calm e name among
-a_restart_files_the_tail k g n o none m (Opens s i is came can) calm ends name among = contrary (sym (ap is_writing is) ∙ ends.0)
+    by None e = tells k g n none m chain s i fact (Writes chain s i fact came texts) calm e name among
+a_restart_files_the_tail k g n o none m (Opens s i fact came can) calm ends name among = contrary (sym (ap is_writing fact) ∙ ends.0)
 a_restart_files_the_tail k g n o none m Crashes calm ends name among = contrary ends.1
-a_restart_files_the_tail k g n o none m (Restarts is) calm ends name among = contrary ends.1
-a_restart_files_the_tail k g n o none m (Renews map high doubts is came) calm ends name among = contrary (sym none ∙ doubts)
+a_restart_files_the_tail k g n o none m (Restarts fact) calm ends name among = contrary ends.1
+a_restart_files_the_tail k g n o none m (Renews map high doubts fact came) calm ends name among = contrary (sym none ∙ doubts)
 a_restart_files_the_tail k g n o none m (Serves v deed some came) calm ends name among = inl among
 a_restart_files_the_tail k g n o none m (Bars v l pass) calm ends name among = inl among
 a_restart_files_the_tail k g n o none m (Lists v) calm ends name among = inl among
 a_restart_files_the_tail k g n o none m (Hears v generation up reached) calm ends name among = inl among
-a_restart_files_the_tail k g n o none m (Raises low highest up is below) calm ends name among = inl among
+a_restart_files_the_tail k g n o none m (Raises low highest up fact below) calm ends name among = inl among
 a_restart_files_the_tail k g n o none m (Publishes map whole) calm ends name among = inl among
-a_restart_files_the_tail k g n o none m (Welcomes inc ask news map is low whole) calm ends name among = inl among
-a_restart_files_the_tail k g n o none m (Drops lists meta is listed below) calm ends name among = inl among
+a_restart_files_the_tail k g n o none m (Welcomes inc ask news map fact low whole) calm ends name among = inl among
+a_restart_files_the_tail k g n o none m (Drops lists meta fact listed below) calm ends name among = inl among

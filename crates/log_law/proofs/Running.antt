@@ -119,34 +119,34 @@ first_stage = record {
   net = after_log setting (opening setting the_map) (log.transition first_log (log_in.Parts []));
   run = On Begun (Acts first_log (log_in.Parts []) refl tt (subst WritesText (sym starts) written));
   owner = ap (λ (d : log.Done). Serving d.state) starts;
-  sent = λ p is. in_more (log_packets (log.transition first_log (log_in.Parts [])).outs) p
-      (subst (In p) (sym (ap (λ (d : log.Done). log_packets d.outs) starts ∙ sends_all)) is);
-  shelves = λ v is. refl;
+  sent = λ p fact. in_more (log_packets (log.transition first_log (log_in.Parts [])).outs) p
+      (subst (In p) (sym (ap (λ (d : log.Done). log_packets d.outs) starts ∙ sends_all)) fact);
+  shelves = λ v fact. refl;
 }
   where
     in_more : (ps : List Packet) (p : Packet) → In p ps → In p (ps ++ [])
-    in_more [] p is = absurd is
+    in_more [] p fact = absurd fact
     in_more (q ∷ qs) p (inl e) = inl e
-    in_more (q ∷ qs) p (inr is) = inr (in_more qs p is)
+    in_more (q ∷ qs) p (inr fact) = inr (in_more qs p fact)
 
 in_after : (ps qs : List Packet) (p : Packet) → In p qs → In p (ps ++ qs)
-in_after [] qs p is = is
-in_after (x ∷ ps) qs p is = inr (in_after ps qs p is)
+in_after [] qs p fact = fact
+in_after (x ∷ ps) qs p fact = inr (in_after ps qs p fact)
 
 -- an empty shelf keeps the fragment
 answer : (v place : ℕ) (s : ShelfState) → s ≡ new_shelf → answers setting v s (Stores (piece segment group place) 1) ≡ stored place ∷ []
 unfolding piece
-answer v place s is = subst (λ z. answers setting v z (Stores (piece segment group place) 1) ≡ stored place ∷ []) (sym is) refl
+answer v place s fact = subst (λ z. answers setting v z (Stores (piece segment group place) 1) ≡ stored place ∷ []) (sym fact) refl
 
 -- a server keeps what a Store brings
 keeps : (noted : List Bool) (told : List Packet) (v place : ℕ) (fresh : List ℕ) → 0 < v → ((u : ℕ) → In u fresh → (u == v) ≡ false) → In (store v place) told
     → Stage noted told (v ∷ fresh) → Stage noted (stored place ∷ told) fresh
-keeps noted told v place fresh some others is s = record {
+keeps noted told v place fresh some others fact s = record {
   net = record s.net {
     shelves = put s.net.shelves v (shelf_after setting (s.net.shelves v) deed);
     sent = answers setting v (s.net.shelves v) deed ++ s.net.sent;
   };
-  run = On s.run (Serves v deed some (λ own. s.sent (store v place) is));
+  run = On s.run (Serves v deed some (λ own. s.sent (store v place) fact));
   owner = s.owner;
   sent = sent;
   shelves = λ u among. ap (λ t. cond t (shelf_after setting (s.net.shelves v) deed) (s.net.shelves u)) (others u among) ∙ s.shelves u (inr among);
@@ -162,9 +162,9 @@ keeps noted told v place fresh some others is s = record {
 -- a Stored is noted
 notes : (noted more : List Bool) (told : List Packet) (place : ℕ) → In (stored place) told
     → log.transition (writing noted) (log_in.Acked name place 1) ≡ record { state = writing more; outs = [] } → Stage noted told [] → Stage more told []
-notes noted more told place is e s = record {
+notes noted more told place fact e s = record {
   net = after_log setting s.net (log.transition (writing noted) (log_in.Acked name place 1));
-  run = On s.run (Acts (writing noted) (log_in.Acked name place 1) s.owner (s.sent (stored place) is) (subst WritesText (sym e) written));
+  run = On s.run (Acts (writing noted) (log_in.Acked name place 1) s.owner (s.sent (stored place) fact) (subst WritesText (sym e) written));
   owner = ap (λ (d : log.Done). Serving d.state) e;
   sent = λ p among. in_after (log_packets (log.transition (writing noted) (log_in.Acked name place 1)).outs) s.net.sent p (s.sent p among);
   shelves = λ v among. absurd among;
@@ -175,18 +175,18 @@ all_stored = stored 2 ∷ stored 1 ∷ stored 0 ∷ stores
 
 stored_stage : Stage none_noted all_stored []
 stored_stage =
-    keeps none_noted (stored 1 ∷ stored 0 ∷ stores) 3 2 [] (omega arith) (λ u is. absurd is) (inr (inr (inr (inr (inl refl)))))
+    keeps none_noted (stored 1 ∷ stored 0 ∷ stores) 3 2 [] (omega arith) (λ u fact. absurd fact) (inr (inr (inr (inr (inl refl)))))
     (keeps none_noted (stored 0 ∷ stores) 2 1 (3 ∷ []) (omega arith) three (inr (inr (inl refl)))
     (keeps none_noted stores 1 0 (2 ∷ 3 ∷ []) (omega arith) two_three (inl refl) first_stage))
   where
     three : (u : ℕ) → In u (3 ∷ []) → (u == 2) ≡ false
     three u (inl e) = ap (λ z. z == 2) e
-    three u (inr is) = absurd is
+    three u (inr fact) = absurd fact
 
     two_three : (u : ℕ) → In u (2 ∷ 3 ∷ []) → (u == 1) ≡ false
     two_three u (inl e) = ap (λ z. z == 1) e
     two_three u (inr (inl e)) = ap (λ z. z == 1) e
-    two_three u (inr (inr is)) = absurd is
+    two_three u (inr (inr fact)) = absurd fact
 
 noted_stage : Stage noted_two all_stored []
 noted_stage =

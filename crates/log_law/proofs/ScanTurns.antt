@@ -44,23 +44,23 @@ use Rattle.log_law.proofs.Picking.{pick_stays}
 -- ---- questions
 
 pub asked_more : (inc low : ℕ) (outs : List Out) (hellos : List Asked) (a : Asked) → In a hellos → In a (asked_by inc low outs hellos)
-asked_more inc low [] hellos a is = is
-asked_more inc low (Hello ask ∷ os) hellos a is = inr (asked_more inc low os hellos a is)
-asked_more inc low (Fence server ∷ os) hellos a is = asked_more inc low os hellos a is
-asked_more inc low (Fetch server name ask ∷ os) hellos a is = asked_more inc low os hellos a is
-asked_more inc low (Chain segments end prior ∷ os) hellos a is = asked_more inc low os hellos a is
-asked_more inc low (Lost name ∷ os) hellos a is = asked_more inc low os hellos a is
+asked_more inc low [] hellos a fact = fact
+asked_more inc low (Hello ask ∷ os) hellos a fact = inr (asked_more inc low os hellos a fact)
+asked_more inc low (Fence server ∷ os) hellos a fact = asked_more inc low os hellos a fact
+asked_more inc low (Fetch server name ask ∷ os) hellos a fact = asked_more inc low os hellos a fact
+asked_more inc low (Chain segments end prior ∷ os) hellos a fact = asked_more inc low os hellos a fact
+asked_more inc low (Lost name ∷ os) hellos a fact = asked_more inc low os hellos a fact
 
 asked_past : (inc low highest high : ℕ) (outs : List Out) (hellos : List Asked) → inc ≤ highest → low ≤ high
     → ((a : Asked) → In a hellos → (a.inc ≤ highest) × (a.low ≤ high)) → (a : Asked) → In a (asked_by inc low outs hellos) → (a.inc ≤ highest) × (a.low ≤ high)
-asked_past inc low highest high [] hellos i l old a is = old a is
+asked_past inc low highest high [] hellos i l old a fact = old a fact
 asked_past inc low highest high (Hello ask ∷ os) hellos i l old a (inl e) =
     (let x = ap (λ (z : Asked). z.inc) e in let b = i in omega arith, let x = ap (λ (z : Asked). z.low) e in let b = l in omega arith)
-asked_past inc low highest high (Hello ask ∷ os) hellos i l old a (inr is) = asked_past inc low highest high os hellos i l old a is
-asked_past inc low highest high (Fence server ∷ os) hellos i l old a is = asked_past inc low highest high os hellos i l old a is
-asked_past inc low highest high (Fetch server name ask ∷ os) hellos i l old a is = asked_past inc low highest high os hellos i l old a is
-asked_past inc low highest high (Chain segments end prior ∷ os) hellos i l old a is = asked_past inc low highest high os hellos i l old a is
-asked_past inc low highest high (Lost name ∷ os) hellos i l old a is = asked_past inc low highest high os hellos i l old a is
+asked_past inc low highest high (Hello ask ∷ os) hellos i l old a (inr fact) = asked_past inc low highest high os hellos i l old a fact
+asked_past inc low highest high (Fence server ∷ os) hellos i l old a fact = asked_past inc low highest high os hellos i l old a fact
+asked_past inc low highest high (Fetch server name ask ∷ os) hellos i l old a fact = asked_past inc low highest high os hellos i l old a fact
+asked_past inc low highest high (Chain segments end prior ∷ os) hellos i l old a fact = asked_past inc low highest high os hellos i l old a fact
+asked_past inc low highest high (Lost name ∷ os) hellos i l old a fact = asked_past inc low highest high os hellos i l old a fact
 
 -- what an opening sends is shown, with these questions and more
 scan_shown : (g : Setting) (w : State) (book : ℕ → Segment) (inc low : ℕ) (outs : List Out) (hellos all : List Asked) → inc ≤ w.incarnation
@@ -68,7 +68,7 @@ scan_shown : (g : Setting) (w : State) (book : ℕ → Segment) (inc low : ℕ) 
 scan_shown g w book inc low [] hellos all i grows = tt
 scan_shown g w book inc low (Hello ask ∷ os) hellos all i grows = (
   record { question = record { inc = inc; ask = ask; low = low }; among = grows _ (inl refl); boot = refl; number = refl },
-  scan_shown g w book inc low os hellos all i (λ a is. grows a (inr is)),
+  scan_shown g w book inc low os hellos all i (λ a fact. grows a (inr fact)),
 )
 scan_shown g w book inc low (Fence server ∷ os) hellos all i grows = (i, scan_shown g w book inc low os hellos all i grows)
 scan_shown g w book inc low (Fetch server name ask ∷ os) hellos all i grows = scan_shown g w book inc low os hellos all i grows
@@ -108,9 +108,9 @@ over_rests o (scan_in.Missing ask server generation) = record { over = refl; qui
 over_rests o (scan_in.Maps groups) = record { over = refl; quiet = refl }
 over_rests o scan_in.Tick = record { over = refl; quiet = refl }
 
-module _ (k : Below) (g : Setting) (n : Net) (h : View g n) (s : ScanState) (i : Input) (is : n.owner ≡ Opening s) (came : CameToScan g n i) where
+module _ (k : Below) (g : Setting) (n : Net) (h : View g n) (s : ScanState) (i : Input) (fact : n.owner ≡ Opening s) (came : CameToScan g n i) where
   pub as_it_opens : ScanShown g h.w h.book h.hellos s
-  as_it_opens = subst (OwnerShown g h.w h.book h.hellos) is h.owner
+  as_it_opens = subst (OwnerShown g h.w h.book h.hellos) fact h.owner
 
   pub brings : (j : Input) → CameToScan g n j → BringsScan g h.w h.book h.hellos s j
   brings (scan_in.Welcome ask news groups) c = let seen : WelcomeSeen g h.w h.hellos n.inc ask news c.0.0 = h.sent (WelcomeSent n.inc ask news c.0.0) c.0.1 in (
@@ -149,7 +149,7 @@ module _ (k : Below) (g : Setting) (n : Net) (h : View g n) (s : ScanState) (i :
 
   -- where it reads back, the horizon of the pick is the one that was kept
   picks : t.world.phase ≡ 2 → t.world.read_low ≡ d.state.opening.low → (s.stage ≡ Over → ⊥) → t.world.pick_low ≡ picked_by n s d
-  picks phase low before_end = by s.stage refl as_it_opens.stage (subst (PickShown h.w.pick_low n.picked) is h.picked)
+  picks phase low before_end = by s.stage refl as_it_opens.stage (subst (PickShown h.w.pick_low n.picked) fact h.picked)
     where
       first : h.w.phase ≡ 1 → t.world.pick_low ≡ d.state.opening.low
       first before = t.shows.2.begins before phase ∙ low

@@ -37,7 +37,7 @@ server_apart v w u by = record {
   storeds = by.storeds;
   fragments = by.fragments;
   fenceds = by.fenceds;
-  dropped = λ x is. ap (λ (z : State). z.dropped x) by.others ∙ is;
+  dropped = λ x fact. ap (λ (z : State). z.dropped x) by.others ∙ fact;
   registry = λ y. (let e = ap (λ (z : State). z.registry_generation y) by.others in omega arith);
   low = (let e = ap (λ (z : State). z.low) by.others in omega arith);
 }
@@ -181,7 +181,7 @@ module _ (k : Below) (g : Setting) (n : Net) (h : View g n) where
     sends = refl;
     shown = told_shown d.world v deed (ap (λ (z : State). z.text_of) d.frame.others) (ap (λ (z : State). z.booked) d.frame.others) d.tells;
     dropped = λ x. subst (λ (z : State). (z.dropped x ≡ 0) ⊎ In (name_of g x) n.dropped) (sym d.frame.others) (h.dropped x);
-    gone = λ name is. inl is;
+    gone = λ name fact. inl fact;
     servers = λ y. servers_after v deed d y;
   })
     where
@@ -194,10 +194,10 @@ module _ (k : Below) (g : Setting) (n : Net) (h : View g n) where
   nothing_apart =
       record {
         seat = refl;
-        storeds = λ p is. is;
-        fragments = λ p is. is;
-        fenceds = λ p is. is;
-        dropped = λ x is. is;
+        storeds = λ p fact. fact;
+        fragments = λ p fact. fact;
+        fenceds = λ p fact. fact;
+        dropped = λ x fact. fact;
         registry = λ y. omega arith;
         low = omega arith;
       }
@@ -219,9 +219,9 @@ module _ (k : Below) (g : Setting) (n : Net) (h : View g n) where
           holds = λ y x other. refl;
           index = λ y x other. refl;
           marked = λ y x other. refl;
-          storeds = λ p is. is;
-          fragments = λ p is. is;
-          fenceds = λ p is. is;
+          storeds = λ p fact. fact;
+          fragments = λ p fact. fact;
+          fenceds = λ p fact. fact;
         })
         (fence_shown (n.shelves v) (side_of h.w v) log pass (h.shelves v));
     nobody = h.nobody;
@@ -230,7 +230,7 @@ module _ (k : Below) (g : Setting) (n : Net) (h : View g n) where
     sends = refl;
     shown = tt;
     dropped = h.dropped;
-    gone = λ name is. inl is;
+    gone = λ name fact. inl fact;
     servers = λ v. inl refl;
   })
 
@@ -246,6 +246,6 @@ module _ (k : Below) (g : Setting) (n : Net) (h : View g n) where
     sends = refl;
     shown = (metas_listed g h.book h.w.booked (n.shelves v).held (h.shelves v).each, tt);
     dropped = h.dropped;
-    gone = λ name is. inl is;
+    gone = λ name fact. inl fact;
     servers = λ v. inl refl;
   })

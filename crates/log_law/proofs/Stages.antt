@@ -77,9 +77,9 @@ pub record Stage (inc : ℕ) (owner : Owner) (told : List Packet) (shelf : ℕ �
   pub stays : flight_in owner flown ≡ flown
 
 both : (xs ys zs : List Packet) → ((p : Packet) → In p ys → In p zs) → (p : Packet) → In p (xs ++ ys) → In p (xs ++ zs)
-both [] ys zs more p is = more p is
+both [] ys zs more p fact = more p fact
 both (x ∷ xs) ys zs more p (inl e) = inl e
-both (x ∷ xs) ys zs more p (inr is) = inr (both xs ys zs more p is)
+both (x ∷ xs) ys zs more p (inr fact) = inr (both xs ys zs more p fact)
 
 module _ {inc : ℕ} {owner : Owner} {told : List Packet} {shelf : ℕ → ShelfState} (s : Stage inc owner told shelf) where
   pub calm_on : (o : Net) (h : Happens calm s.net o) → IsSureRun (On s.run h)
@@ -97,7 +97,7 @@ module _ {inc : ℕ} {owner : Owner} {told : List Packet} {shelf : ℕ → Shelf
     low = s.low;
     registry = s.registry;
     is_owner = s.is_owner;
-    sent = λ p is. s.sent p (sub p is);
+    sent = λ p fact. s.sent p (sub p fact);
     shelves = s.shelves;
     filed = s.filed;
     last = s.last;
@@ -115,7 +115,7 @@ module _ {inc : ℕ} {owner : Owner} {told : List Packet} {shelf : ℕ → Shelf
     low = s.low;
     registry = s.registry;
     is_owner = s.is_owner;
-    sent = λ p is. subst (λ ps. In p (ps ++ s.net.sent)) (sym (ap (λ z. answers calm v z deed) (s.shelves v) ∙ e)) (both new told s.net.sent s.sent p is);
+    sent = λ p fact. subst (λ ps. In p (ps ++ s.net.sent)) (sym (ap (λ z. answers calm v z deed) (s.shelves v) ∙ e)) (both new told s.net.sent s.sent p fact);
     shelves = λ u i. cond (u == v) (shelf_after calm (s.shelves v i) deed) (s.shelves u i);
     filed = s.filed;
     last = same_last;
@@ -194,7 +194,7 @@ module _ {inc : ℕ} {owner : Owner} {told : List Packet} {shelf : ℕ → Shelf
   }
 
   -- the opening goes on
-  module _ (i : scan_ins.In) (st : ScanState) (d : scan.Done) (is : owner ≡ Opening st) (e : scan.transition st i ≡ d) (none : chain_in d.outs ≡ None)
+  module _ (i : scan_ins.In) (st : ScanState) (d : scan.Done) (fact : owner ≡ Opening st) (e : scan.transition st i ≡ d) (none : chain_in d.outs ≡ None)
       (came : CameToScan calm s.net i) where
     can : CanStart calm s.net.inc (scan.transition st i)
     can = subst (λ o. IfSome o (StartsWith calm s.net.inc (scan.transition st i))) (sym (ap (λ (x : scan.Done). chain_in x.outs) e ∙ none)) tt
@@ -205,14 +205,14 @@ module _ {inc : ℕ} {owner : Owner} {told : List Packet} {shelf : ℕ → Shelf
     pub scans : Stage inc (Opening d.state) (scan_packets inc d.outs ++ told) shelf
     scans = record {
       net = after_scan calm s.net st (scan.transition st i);
-      run = On s.run (Opens st i (s.is_owner ∙ is) came can);
-      sure = calm_on _ (Opens st i (s.is_owner ∙ is) came can);
+      run = On s.run (Opens st i (s.is_owner ∙ fact) came can);
+      sure = calm_on _ (Opens st i (s.is_owner ∙ fact) came can);
       boot = ap (λ (n : Net). n.inc) now ∙ s.boot;
       low = ap (λ (n : Net). n.low) now ∙ s.low;
       registry = ap (λ (n : Net). n.registry) now ∙ s.registry;
       is_owner = ap (λ (n : Net). n.owner) now;
-      sent = λ p is. subst (In p) (sym (ap (λ (n : Net). n.sent) now ∙ ap (λ c. scan_packets c d.outs ++ s.net.sent) s.boot))
-          (both (scan_packets inc d.outs) told s.net.sent s.sent p is);
+      sent = λ p fact. subst (In p) (sym (ap (λ (n : Net). n.sent) now ∙ ap (λ c. scan_packets c d.outs ++ s.net.sent) s.boot))
+          (both (scan_packets inc d.outs) told s.net.sent s.sent p fact);
       shelves = λ v. ap (λ (n : Net). n.shelves v) now ∙ s.shelves v;
       filed = ap (λ (n : Net). n.filed) now ∙ s.filed;
       last = ap (λ (n : Net). flight_in n.owner (last_flight s.run)) now ∙ s.last;
@@ -220,12 +220,12 @@ module _ {inc : ℕ} {owner : Owner} {told : List Packet} {shelf : ℕ → Shelf
     }
 
   -- the opening segment's Stored is noted
-  module _ (i : Input) (chain : List Segment) (l more : LogState) (f : FlightState) (is : owner ≡ Writing chain l) (flies : more.flight ≡ Some f)
+  module _ (i : Input) (chain : List Segment) (l more : LogState) (f : FlightState) (fact : owner ≡ Writing chain l) (flies : more.flight ≡ Some f)
       (e : log.transition l i ≡ record { state = more; outs = [] })
       (came : (name : SegName) × (index : ℕ) × (generation : ℕ) × (i ≡ log_in.Acked name index generation) × In (StoredSent name index generation) told)
       (text : IsWritten f.segment) where
     happens : Happens calm s.net (after_writing calm s.net chain (log.transition l i))
-    happens = Writes chain l i (s.is_owner ∙ is) (subst (CameToWriter s.net) (sym came.3) (s.sent _ came.4))
+    happens = Writes chain l i (s.is_owner ∙ fact) (subst (CameToWriter s.net) (sym came.3) (s.sent _ came.4))
         (subst WritesText (sym e) (subst (λ o. IfSome o (λ (z : FlightState). IsWritten z.segment)) (sym flies) text))
 
     noted : after_writing calm s.net chain (log.transition l i) ≡ after_flight calm s.net chain (record { state = more; outs = [] }) (Some f)
@@ -240,7 +240,7 @@ module _ {inc : ℕ} {owner : Owner} {told : List Packet} {shelf : ℕ → Shelf
       low = ap (λ (n : Net). n.low) noted ∙ s.low;
       registry = ap (λ (n : Net). n.registry) noted ∙ s.registry;
       is_owner = ap (λ (n : Net). n.owner) noted;
-      sent = λ p is. subst (In p) (sym (ap (λ (n : Net). n.sent) noted)) (s.sent p is);
+      sent = λ p fact. subst (In p) (sym (ap (λ (n : Net). n.sent) noted)) (s.sent p fact);
       shelves = λ v. ap (λ (n : Net). n.shelves v) noted ∙ s.shelves v;
       filed = ap (λ (n : Net). n.filed) noted ∙ s.filed;
       last = ap (λ (n : Net). flight_in n.owner (last_flight s.run)) noted ∙ s.last;

@@ -90,7 +90,7 @@ keep : (w v u : State) → u.incarnation_of ≡ v.incarnation_of → v.incarnati
 keep w v u names boot booked o = record {
   names = names ∙ o.names;
   boot = (let a = o.boot in let b = boot in omega arith);
-  fresh = λ x is. ⊎_elim inl (λ later. inr (let e = ap (λ f. f x) names in omega arith)) (o.fresh x (ap (λ f. f x) (sym booked) ∙ is));
+  fresh = λ x fact. ⊎_elim inl (λ later. inr (let e = ap (λ f. f x) names in omega arith)) (o.fresh x (ap (λ f. f x) (sym booked) ∙ fact));
 }
 
 books : (w v u : State) (y : ℕ) → u.incarnation_of ≡ v.incarnation_of → u.incarnation ≡ v.incarnation → ((x : ℕ) → u.booked x ≡ 1 → (v.booked x ≡ 1) ⊎ (x ≡ y))
@@ -98,8 +98,8 @@ books : (w v u : State) (y : ℕ) → u.incarnation_of ≡ v.incarnation_of → 
 books w v u y names boot booked own o = record {
   names = names ∙ o.names;
   boot = (let a = o.boot in let b = boot in omega arith);
-  fresh = λ x is. ⊎_elim (λ old. ⊎_elim inl (λ later. inr (let e = ap (λ f. f x) names in omega arith)) (o.fresh x old))
-      (λ same. inr (let e = ap (λ f. f x) names in let d = ap v.incarnation_of same in let b = o.boot in let c = own in omega arith)) (booked x is);
+  fresh = λ x fact. ⊎_elim (λ old. ⊎_elim inl (λ later. inr (let e = ap (λ f. f x) names in omega arith)) (o.fresh x old))
+      (λ same. inr (let e = ap (λ f. f x) names in let d = ap v.incarnation_of same in let b = o.boot in let c = own in omega arith)) (booked x fact);
 }
 
 own_step : (w v u : State) → Step v u → Own w v → Own w u
@@ -130,7 +130,7 @@ own_step w v u (Opens x text count server can) o = books w v u x refl refl (book
 own_step w v u (Serves path lowest sure can) o = keep w v u refl (omega arith) refl o
 
 pub own : (w v : State) → Steps w v → Own w v
-own w v Done = record { names = refl; boot = omega arith; fresh = λ x is. inl is }
+own w v Done = record { names = refl; boot = omega arith; fresh = λ x fact. inl fact }
 own w v (More {v = u} run step) = own_step w u v step (own w u run)
 
 -- ---- an opening that goes on in its boot
@@ -146,6 +146,6 @@ steady k w u reached run some less now_some now_less same = by (course w u less 
     by (inl p) = record {
       served = p.served;
       head = p.head;
-      booked = λ x is boot. ⊎_elim (λ old. old) (λ later. absurd (let t = there in let s = same in omega arith)) ((own w u run).fresh x is);
+      booked = λ x fact boot. ⊎_elim (λ old. old) (λ later. absurd (let t = there in let s = same in omega arith)) ((own w u run).fresh x fact);
     }
     by (inr q) = absurd (let t = there in let s = same in let a = q.0 in omega arith)

@@ -50,12 +50,12 @@ module _ (k : Below) (g : Setting) (none : g.doubts ≡ false) (n : Net) (h : Vi
   writes_some : (chain : List Segment) (s : LogState) (i : Input) → n.owner ≡ Writing chain s → CameToWriter n i
       → (t : Next g n h (after_writing g n chain (log.transition s i))) → is_serving (after_writing g n chain (log.transition s i)).owner ≡ true
       → 0 < t.view.w.head
-  writes_some chain s i is came t serving = by (log.transition s i).state.flight refl
+  writes_some chain s i fact came t serving = by (log.transition s i).state.flight refl
     where
       by : (f : Option FlightState) → (log.transition s i).state.flight ≡ f → 0 < t.view.w.head
       by (Some f) e = contrary (sym (ap (λ x. is_serving (after_flight g n chain (log.transition s i) x).owner) e) ∙ serving)
       by None e = ⊎_elim (λ r. absurd (stays_or_settles s shown.flight shown.is_flight n i came (e, r.0))) (λ r. let a = at in let b = r.1 in omega arith)
-          (rises k g none n h chain s i is _ t serves files low)
+          (rises k g none n h chain s i fact _ t serves files low)
         where
           serves : (after_writing g n chain (log.transition s i)).owner ≡ Serving (log.transition s i).state
           serves = ap (λ x. (after_flight g n chain (log.transition s i) x).owner) e
@@ -67,26 +67,26 @@ module _ (k : Below) (g : Setting) (none : g.doubts ≡ false) (n : Net) (h : Vi
           low = ap (λ x. (after_flight g n chain (log.transition s i) x).low) e
 
           shown : WritingShown g h.w h.book chain s
-          shown = (before k g none n h chain s i is _ t serves files low).0
+          shown = (before k g none n h chain s i fact _ t serves files low).0
 
           at : t.view.w.head ≡ (log.transition s i).state.end.seq
-          at = head_at k g none n h chain s i is _ t serves files low
+          at = head_at k g none n h chain s i fact _ t serves files low
 
   some_head : (o : Net) → Happens g n o → (t : Next g n h o) → EndsRestart n o → 0 < t.view.w.head
-  some_head o (Acts s i is came texts) t ends = contrary (sym (ap is_writing is) ∙ ends.0)
-  some_head o (Writes chain s i is came texts) t ends = writes_some chain s i is came t ends.1
-  some_head o (Opens s i is came can) t ends = contrary (sym (ap is_writing is) ∙ ends.0)
+  some_head o (Acts s i fact came texts) t ends = contrary (sym (ap is_writing fact) ∙ ends.0)
+  some_head o (Writes chain s i fact came texts) t ends = writes_some chain s i fact came t ends.1
+  some_head o (Opens s i fact came can) t ends = contrary (sym (ap is_writing fact) ∙ ends.0)
   some_head o Crashes t ends = contrary ends.1
-  some_head o (Restarts is) t ends = contrary ends.1
-  some_head o (Renews m high doubts is came) t ends = contrary (sym (ap is_writing is) ∙ ends.0)
+  some_head o (Restarts fact) t ends = contrary ends.1
+  some_head o (Renews m high doubts fact came) t ends = contrary (sym (ap is_writing fact) ∙ ends.0)
   some_head o (Serves v deed some came) t ends = absurd (not_both n.owner ends.0 ends.1)
   some_head o (Bars v l pass) t ends = absurd (not_both n.owner ends.0 ends.1)
   some_head o (Lists v) t ends = absurd (not_both n.owner ends.0 ends.1)
   some_head o (Hears v generation up reached) t ends = absurd (not_both n.owner ends.0 ends.1)
-  some_head o (Raises low name up is below) t ends = absurd (not_both n.owner ends.0 ends.1)
+  some_head o (Raises low name up fact below) t ends = absurd (not_both n.owner ends.0 ends.1)
   some_head o (Publishes m whole) t ends = absurd (not_both n.owner ends.0 ends.1)
-  some_head o (Welcomes inc ask news m is low whole) t ends = absurd (not_both n.owner ends.0 ends.1)
-  some_head o (Drops lists meta is among below) t ends = absurd (not_both n.owner ends.0 ends.1)
+  some_head o (Welcomes inc ask news m fact low whole) t ends = absurd (not_both n.owner ends.0 ends.1)
+  some_head o (Drops lists meta fact among below) t ends = absurd (not_both n.owner ends.0 ends.1)
 
   -- an owner that opens is of a later boot than the last that served
   opens_later : is_writing n.owner ≡ true → h.w.served < h.w.incarnation
@@ -147,7 +147,7 @@ module _ (k : Below) (g : Setting) (none : g.doubts ≡ false) (n : Net) (h : Vi
 -- ---- the tail
 
 module _ (k : Below) (g : Setting) (n o : Net) (none : g.doubts ≡ false) (m : Moment g n) (happens : Happens g n o) (calm : IsSureRun (On m.run happens))
-    (ends : EndsRestart n o) (f : FlightState) (is : last_flight m.run ≡ Some f) where
+    (ends : EndsRestart n o) (f : FlightState) (fact : last_flight m.run ≡ Some f) where
   a : Along k g none (opening g m.map) refl n m.run
   a = along_moment k g none n m calm.0
 
@@ -158,7 +158,7 @@ module _ (k : Below) (g : Setting) (n o : Net) (none : g.doubts ≡ false) (m : 
   w = a.view.w
 
   at : (f.segment.name.seq ≡ suc w.head) × (f.segment.name.pass.inc ≡ w.served)
-  at = subst (λ l. IfSome l (λ z. (z.segment.name.seq ≡ suc w.head) × (z.segment.name.pass.inc ≡ w.served))) is a.flight_at
+  at = subst (λ l. IfSome l (λ z. (z.segment.name.seq ≡ suc w.head) × (z.segment.name.pass.inc ≡ w.served))) fact a.flight_at
 
   gapless : Gapless o t.view.w.head
   gapless = now_gapless k g none n a.view a.gapless o happens t
@@ -200,7 +200,7 @@ module _ (k : Below) (g : Setting) (n o : Net) (none : g.doubts ≡ false) (m : 
           (ap (λ z. z x) a.view.fixed.seq_of ∙ (ap (λ (z : SegName). z.seq) (sym number) ∙ there.2))
 
       same : kept.flight ≡ f
-      same = some_one kept.flight f (sym kept.flying ∙ is)
+      same = some_one kept.flight f (sym kept.flying ∙ fact)
         where
           some_one : (p q : FlightState) → Some p ≡ Some q → p ≡ q
           some_one p q e = cc
@@ -225,4 +225,4 @@ module _ (k : Below) (g : Setting) (n o : Net) (none : g.doubts ≡ false) (m : 
           other p q e = grind (arith, nat_tests)
 
 pub a_tail_is_filed_or_never : Below → ATailIsFiledOrNever
-a_tail_is_filed_or_never k g n o none m happens calm ends f is = tail_of k g n o none m happens calm ends f is
+a_tail_is_filed_or_never k g n o none m happens calm ends f fact = tail_of k g n o none m happens calm ends f fact

@@ -23,9 +23,9 @@ AllShown g w book hellos (p ∷ ps) = Shown g w book hellos p × AllShown g w bo
 
 pub all_shown : (g : Setting) (w : State) (book : ℕ → Segment) (hellos : List Asked) (ps qs : List Packet) → AllShown g w book hellos ps
     → ((p : Packet) → In p qs → Shown g w book hellos p) → (p : Packet) → In p (ps ++ qs) → Shown g w book hellos p
-all_shown g w book hellos [] qs all old p is = old p is
+all_shown g w book hellos [] qs all old p fact = old p fact
 all_shown g w book hellos (r ∷ rs) qs all old p (inl e) = subst (λ z. Shown g w book hellos z) (sym e) all.0
-all_shown g w book hellos (r ∷ rs) qs all old p (inr is) = all_shown g w book hellos rs qs all.1 old p is
+all_shown g w book hellos (r ∷ rs) qs all old p (inr fact) = all_shown g w book hellos rs qs all.1 old p fact
 
 -- what an event of others leaves as it was in the small world
 pub record Rests (n m : Net) : Type 0 where
@@ -69,25 +69,26 @@ module _ (k : Below) (g : Setting) (n : Net) (h : View g n) where
     owner = subst (OwnerShown g u h.book h.hellos) (sym t.rests.owner) (owner_apart g h.w u h.book t.apart k h.hellos n.owner h.owner);
     picked = same g h.w u h.book t.apart (λ o. PickShown o.pick_low m.picked m.owner)
         (subst (PickShown h.w.pick_low m.picked) (sym t.rests.owner) (subst (λ z. PickShown h.w.pick_low z n.owner) (sym t.rests.picked) h.picked));
-    sent = λ p is. all_shown g u h.book h.hellos new n.sent t.shown
+    sent = λ p fact. all_shown g u h.book h.hellos new n.sent t.shown
         (λ q among. shown_on g h.w u h.book h.book (later_apart g h.w u h.book t.apart) h.hellos h.hellos (λ a in_. in_) q (h.sent q among)) p
-        (subst (In p) t.sends is);
-    asked = λ a is.
-        (same g h.w u h.book t.apart (λ o. a.inc ≤ o.incarnation) (h.asked a is).0, (let b = (h.asked a is).1 in let up = t.apart.low in omega arith));
-    filed = λ name is. same g h.w u h.book t.apart (λ o. (x : ℕ) × (name ≡ name_of g x) × (o.filed x ≡ 1)) (h.filed name (subst (In name) t.rests.filed is));
+        (subst (In p) t.sends fact);
+    asked = λ a fact.
+        (same g h.w u h.book t.apart (λ o. a.inc ≤ o.incarnation) (h.asked a fact).0, (let b = (h.asked a fact).1 in let up = t.apart.low in omega arith));
+    filed = λ name fact. same g h.w u h.book t.apart (λ o. (x : ℕ) × (name ≡ name_of g x)
+        × (o.filed x ≡ 1)) (h.filed name (subst (In name) t.rests.filed fact));
     calm = λ none. same g h.w u h.book t.apart (λ o. o.clean ≡ 1) (h.calm none);
     highest = same g h.w u h.book t.apart (λ o. (o.end ≡ 0) ⊎ In (name_of g o.end) m.filed)
         (subst (λ names. (h.w.end ≡ 0) ⊎ In (name_of g h.w.end) names) (sym t.rests.filed) h.highest);
     dropped = t.dropped;
-    gone = λ name is. ⊎_elim (λ old. (let d = h.gone name old in record { number = d.number; named = d.named; dropped = t.apart.dropped d.number d.dropped }))
-        (λ new_one. new_one) (t.gone name is);
+    gone = λ name fact. ⊎_elim (λ old. (let d = h.gone name old in record { number = d.number; named = d.named; dropped = t.apart.dropped d.number d.dropped }))
+        (λ new_one. new_one) (t.gone name fact);
   }
 
   steady_apart : (m : Net) (u : State) (new : List Packet) → Turn m u new → Steady h.w u
   steady_apart m u new t = record {
     served = same g h.w u h.book t.apart (λ o. o.served ≡ h.w.served) refl;
     head = same g h.w u h.book t.apart (λ o. o.head ≡ h.w.head) refl;
-    booked = λ x. same g h.w u h.book t.apart (λ o. o.booked x ≡ 1 → o.incarnation_of x ≡ o.served → h.w.booked x ≡ 1) (λ is boot. is);
+    booked = λ x. same g h.w u h.book t.apart (λ o. o.booked x ≡ 1 → o.incarnation_of x ≡ o.served → h.w.booked x ≡ 1) (λ fact boot. fact);
   }
 
   pub turned : (m : Net) (u : State) (new : List Packet) → Turn m u new → Next g n h m

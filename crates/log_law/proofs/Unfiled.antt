@@ -90,33 +90,33 @@ module _ (l : LogId) where
   module _ (s : LogState) (clear : s.dirty ≡ []) where
     acked_turns : (o : Option FlightState) → s.flight ≡ o → (name : SegName) (index generation : ℕ) → Turned (on_acked s name index generation)
     unfolding on_acked
-    acked_turns None is name index generation =
+    acked_turns None fact name index generation =
         subst (λ (o : Option FlightState). Turned (elim o [
           | None ↦ still s
           | Some f ↦ cond (is_of f name index generation) (looked_at s s (noting f index)) (still s)
-        ])) (sym is) (inl refl)
-    acked_turns (Some f) is name index generation =
+        ])) (sym fact) (inl refl)
+    acked_turns (Some f) fact name index generation =
         subst (λ (o : Option FlightState). Turned (elim o [
           | None ↦ still s
           | Some f ↦ cond (is_of f name index generation) (looked_at s s (noting f index)) (still s)
-        ])) (sym is)
+        ])) (sym fact)
         (by_test Turned (is_of f name index generation) (looked_at s s (noting f index)) (still s) (λ _. looks s s (noting f index) clear) (λ _. inl refl))
 
     maps_turn : (o : Option FlightState) → s.flight ≡ o → (m : GroupMapState) → Turned (on_maps s m)
     unfolding on_maps
-    maps_turn None is m =
+    maps_turn None fact m =
         subst (λ (o : Option FlightState). Turned (elim o [ None ↦ still (record s { groups = m }) | Some f ↦ looked_at s (record s { groups = m }) f ]))
-        (sym is) (inl refl)
-    maps_turn (Some f) is m =
+        (sym fact) (inl refl)
+    maps_turn (Some f) fact m =
         subst (λ (o : Option FlightState). Turned (elim o [ None ↦ still (record s { groups = m }) | Some f ↦ looked_at s (record s { groups = m }) f ]))
-        (sym is) (looks s (record s { groups = m }) f clear)
+        (sym fact) (looks s (record s { groups = m }) f clear)
 
     tick_turns : (o : Option FlightState) → s.flight ≡ o → Turned (on_tick s)
     unfolding on_tick
-    tick_turns None is = subst (λ (o : Option FlightState). Turned (elim o [ None ↦ still s | Some f ↦ record { state = s; outs = all_sends f } ])) (sym is)
+    tick_turns None fact = subst (λ (o : Option FlightState). Turned (elim o [ None ↦ still s | Some f ↦ record { state = s; outs = all_sends f } ])) (sym fact)
         (inl refl)
-    tick_turns (Some f) is =
-        subst (λ (o : Option FlightState). Turned (elim o [ None ↦ still s | Some f ↦ record { state = s; outs = all_sends f } ])) (sym is)
+    tick_turns (Some f) fact =
+        subst (λ (o : Option FlightState). Turned (elim o [ None ↦ still s | Some f ↦ record { state = s; outs = all_sends f } ])) (sym fact)
         (inl (all_none f))
 
     writer_turns : (n : Net) (i : log_ins.In) → CameToWriter n i → Turned (transition s i)
@@ -131,16 +131,16 @@ module _ (l : LogId) where
 
 module _ (g : Setting) (m : Net) (h : View (doubtful g) m) where
   not_serving : (x : Owner) → m.owner ≡ x → is_serving x ≡ true → is_serving m.owner ≡ false → ⊥
-  not_serving x is serves none = contrary (sym none ∙ (ap is_serving is ∙ serves))
+  not_serving x fact serves none = contrary (sym none ∙ (ap is_serving fact ∙ serves))
 
   writes_none : (chain : List Segment) (s : LogState) (i : log_ins.In) → m.owner ≡ Writing chain s → CameToWriter m i → (o : Option FlightState)
       → (transition s i).state.flight ≡ o
       → is_serving (after_flight g m chain (transition s i) o).owner ≡ false → (after_flight g m chain (transition s i) o).filed ≡ m.filed
-  writes_none chain s i is came None at none = contrary (sym none)
-  writes_none chain s i is came (Some f) at none = by (writer_turns g.log s clear m i came)
+  writes_none chain s i fact came None at none = contrary (sym none)
+  writes_none chain s i fact came (Some f) at none = by (writer_turns g.log s clear m i came)
     where
       clear : s.dirty ≡ []
-      clear = (subst (OwnerShown (doubtful g) h.w h.book h.hellos) is h.owner).0.clear
+      clear = (subst (OwnerShown (doubtful g) h.w h.book h.hellos) fact h.owner).0.clear
 
       by : Turned g.log (transition s i) → (after_flight g m chain (transition s i) (Some f)).filed ≡ m.filed
       by (inl nothing) = ap (λ xs. xs ++ m.filed) nothing
@@ -152,9 +152,9 @@ module _ (g : Setting) (m : Net) (h : View (doubtful g) m) where
   told_none s d (Some t) (Some map) = ap (λ xs. xs ++ m.filed) (parts_none g.log (started g.log m.inc t.end map))
 
   happens_none : (o : Net) → is_serving m.owner ≡ false → is_serving o.owner ≡ false → Happens g m o → o.filed ≡ m.filed
-  happens_none o before none (Acts s i is came texts) = absurd (not_serving (Serving s) is refl before)
-  happens_none o before none (Writes chain s i is came texts) = writes_none chain s i is came (transition s i).state.flight refl none
-  happens_none o before none (Opens s i is came can) =
+  happens_none o before none (Acts s i fact came texts) = absurd (not_serving (Serving s) fact refl before)
+  happens_none o before none (Writes chain s i fact came texts) = writes_none chain s i fact came (transition s i).state.flight refl none
+  happens_none o before none (Opens s i fact came can) =
       told_none s (scan.transition s i) (chain_in (scan.transition s i).outs) (scan.transition s i).state.opening.groups
   happens_none o before none Crashes = refl
   happens_none o before none (Restarts down) = refl
@@ -163,28 +163,28 @@ module _ (g : Setting) (m : Net) (h : View (doubtful g) m) where
   happens_none o before none (Bars v log pass) = refl
   happens_none o before none (Lists v) = refl
   happens_none o before none (Hears v generation up reached) = refl
-  happens_none o before none (Raises low name up is below) = refl
+  happens_none o before none (Raises low name up fact below) = refl
   happens_none o before none (Publishes map whole) = refl
   happens_none o before none (Welcomes inc ask news map hello low whole) = refl
   happens_none o before none (Drops lists meta listed within below) = refl
 
 -- an owner that serves, and then doesn't, has fallen: the next boot is another
 falls : (g : Setting) (m o : Net) (s : LogState) → m.owner ≡ Serving s → is_serving o.owner ≡ false → boot_of o ≡ boot_of m → Happens g m o → ⊥
-falls g m o s is none same (Acts t i e came texts) = contrary (sym none)
-falls g m o s is none same (Writes chain t i e came texts) = absurd (let a : Writing chain t ≡ Serving s = sym e ∙ is in cc)
-falls g m o s is none same (Opens t i e came can) = absurd (let a : Opening t ≡ Serving s = sym e ∙ is in cc)
-falls g m o s is none same Crashes =
-    let up : boot_of m ≡ m.inc = ap (λ x. cond (is_down x) (suc m.inc) m.inc) is in omega (arith, same, up)
-falls g m o s is none same (Restarts e) = absurd (let a : Down ≡ Serving s = sym e ∙ is in cc)
-falls g m o s is none same (Renews map high doubts e came) = absurd (let a : Down ≡ Serving s = sym e ∙ is in cc)
-falls g m o s is none same (Serves v deed some came) = contrary (sym none ∙ ap is_serving is)
-falls g m o s is none same (Bars v log pass) = contrary (sym none ∙ ap is_serving is)
-falls g m o s is none same (Lists v) = contrary (sym none ∙ ap is_serving is)
-falls g m o s is none same (Hears v generation up reached) = contrary (sym none ∙ ap is_serving is)
-falls g m o s is none same (Raises low name up within below) = contrary (sym none ∙ ap is_serving is)
-falls g m o s is none same (Publishes map whole) = contrary (sym none ∙ ap is_serving is)
-falls g m o s is none same (Welcomes inc ask news map hello low whole) = contrary (sym none ∙ ap is_serving is)
-falls g m o s is none same (Drops lists meta listed within below) = contrary (sym none ∙ ap is_serving is)
+falls g m o s fact none same (Acts t i e came texts) = contrary (sym none)
+falls g m o s fact none same (Writes chain t i e came texts) = absurd (let a : Writing chain t ≡ Serving s = sym e ∙ fact in cc)
+falls g m o s fact none same (Opens t i e came can) = absurd (let a : Opening t ≡ Serving s = sym e ∙ fact in cc)
+falls g m o s fact none same Crashes =
+    let up : boot_of m ≡ m.inc = ap (λ x. cond (is_down x) (suc m.inc) m.inc) fact in omega (arith, same, up)
+falls g m o s fact none same (Restarts e) = absurd (let a : Down ≡ Serving s = sym e ∙ fact in cc)
+falls g m o s fact none same (Renews map high doubts e came) = absurd (let a : Down ≡ Serving s = sym e ∙ fact in cc)
+falls g m o s fact none same (Serves v deed some came) = contrary (sym none ∙ ap is_serving fact)
+falls g m o s fact none same (Bars v log pass) = contrary (sym none ∙ ap is_serving fact)
+falls g m o s fact none same (Lists v) = contrary (sym none ∙ ap is_serving fact)
+falls g m o s fact none same (Hears v generation up reached) = contrary (sym none ∙ ap is_serving fact)
+falls g m o s fact none same (Raises low name up within below) = contrary (sym none ∙ ap is_serving fact)
+falls g m o s fact none same (Publishes map whole) = contrary (sym none ∙ ap is_serving fact)
+falls g m o s fact none same (Welcomes inc ask news map hello low whole) = contrary (sym none ∙ ap is_serving fact)
+falls g m o s fact none same (Drops lists meta listed within below) = contrary (sym none ∙ ap is_serving fact)
 
 -- ---- along a run
 

@@ -27,7 +27,7 @@ kept_is g s (Some f) booked holds index k one = ap Some k.2
 
 -- a fragment of a segment is the one at the place that it names
 at_its_place : (g : Setting) (s : Segment) (f : Fragment) (i : ℕ) → f ≡ fragment_of g s i → f ≡ fragment_of g s f.meta.index
-at_its_place g s f i is = is ∙ ap (fragment_of g s) (sym (ap (λ (z : Fragment). z.meta.index) is))
+at_its_place g s f i fact = fact ∙ ap (fragment_of g s) (sym (ap (λ (z : Fragment). z.meta.index) fact))
 
 module _ (k : Below) (g : Setting) (n : Net) (h : View g n) where
   abbrev pub page : (x : ℕ) → h.w.booked x ≡ 1
@@ -43,7 +43,7 @@ module _ (k : Below) (g : Setting) (n : Net) (h : View g n) where
     where
       by : (h.w.dropped x ≡ 0) ⊎ In (name_of g x) n.dropped → h.w.dropped x ≡ 0
       by (inl e) = e
-      by (inr is) = absurd (kept (subst (λ z. In z n.dropped) (sym (page x booked).named) is))
+      by (inr fact) = absurd (kept (subst (λ z. In z n.dropped) (sym (page x booked).named) fact))
 
   -- ---- whole
 
@@ -76,16 +76,21 @@ module _ (k : Below) (g : Setting) (n : Net) (h : View g n) where
   logs_whole = record { flown = flown; striped = striped; whole = whole }
     where
       striped : (s : Segment) → In s n.flown → 0 < length (members_of g s)
-      striped s is =
-          let b = h.flown.booked s is in
+      striped s fact =
+          let b = h.flown.booked s fact in
           subst (λ z. 0 < length (members_of g z)) (sym b.2) (subst (λ m. 0 < m) (page b.0 b.1).counted ((k.protocol.book h.w h.reached).some_member b.0 b.1))
 
       flown : (name : SegName) → In name n.filed → (s : Segment) × In s n.flown × (s.name ≡ name)
-      flown name is = let f = h.filed name is in let booked = filed_booked f.0 f.2 in (h.book f.0, h.flown.all f.0 booked, (page f.0 booked).named ∙ sym f.1)
+      flown name fact = let f = h.filed name fact in let booked = filed_booked f.0 f.2 in (
+        h.book f.0,
+        h.flown.all f.0 booked,
+        (page f.0 booked).named
+            ∙ sym f.1,
+      )
 
       whole : (s : Segment) → In s n.flown → In s.name n.filed → (In s.name n.dropped → ⊥) → (place : ℕ) → place < length (members_of g s)
           → Holds g n s place ⊎ IsLater g n s place
-      whole s is filed kept = by (h.flown.booked s is) (h.filed s.name filed)
+      whole s fact filed kept = by (h.flown.booked s fact) (h.filed s.name filed)
         where
           by : (x : ℕ) × (h.w.booked x ≡ 1) × (s ≡ h.book x) → IsFiled g h.w s.name → (place : ℕ) → place < length (members_of g s)
               → Holds g n s place ⊎ IsLater g n s place
@@ -98,15 +103,15 @@ module _ (k : Below) (g : Setting) (n : Net) (h : View g n) where
 
   -- a fragment of a booked segment is one of a segment that was in flight
   piece : (f : Fragment) (x i : ℕ) → h.w.booked x ≡ 1 → f ≡ fragment_of g (h.book x) i → (s : Segment) × In s n.flown × (f ≡ fragment_of g s f.meta.index)
-  piece f x i booked is = (h.book x, h.flown.all x booked, at_its_place g (h.book x) f i is)
+  piece f x i booked fact = (h.book x, h.flown.all x booked, at_its_place g (h.book x) f i fact)
 
   pub one_text : OneText g n
   one_text = record {
-    one = λ s t is to same. one s t (h.flown.booked s is) (h.flown.booked t to) same;
+    one = λ s t fact to same. one s t (h.flown.booked s fact) (h.flown.booked t to) same;
     held = held;
-    stored = λ v generation f is.
-        (let s : StoreSeen g h.w.booked h.book h.w.stores v f generation = h.sent (StoreSent v f generation) is in piece f s.name s.index s.known s.fragment);
-    told = λ f is. (let s : FragmentSeen g h.w h.book f = h.sent (FragmentSent f) is in piece f s.name s.index s.known s.is_piece);
+    stored = λ v generation f fact.
+        (let s : StoreSeen g h.w.booked h.book h.w.stores v f generation = h.sent (StoreSent v f generation) fact in piece f s.name s.index s.known s.fragment);
+    told = λ f fact. (let s : FragmentSeen g h.w h.book f = h.sent (FragmentSent f) fact in piece f s.name s.index s.known s.is_piece);
   }
     where
       one : (s t : Segment) → (x : ℕ) × (h.w.booked x ≡ 1) × (s ≡ h.book x) → (y : ℕ) × (h.w.booked y ≡ 1) × (t ≡ h.book y) → s.name ≡ t.name → s ≡ t
@@ -118,7 +123,7 @@ module _ (k : Below) (g : Setting) (n : Net) (h : View g n) where
 
       held : (v : ℕ) (name : SegName) (f : Fragment) → name.log ≡ g.log → held_at (n.shelves v).held name ≡ Some f
           → (s : Segment) × In s n.flown × (s.name ≡ name) × (f ≡ fragment_of g s f.meta.index)
-      held v name f of is = (h.book x, h.flown.all x there.1, (page x there.1).named ∙ sym named, at_its_place g (h.book x) f (h.w.kept_index v x) there.2)
+      held v name f of fact = (h.book x, h.flown.all x there.1, (page x there.1).named ∙ sym named, at_its_place g (h.book x) f (h.w.kept_index v x) there.2)
         where
           x : ℕ
           x = g.code name.seq name.pass.inc name.pass.att
@@ -127,7 +132,7 @@ module _ (k : Below) (g : Setting) (n : Net) (h : View g n) where
           named = ap (λ l. record { log = l; seq = name.seq; pass = name.pass }) of ∙ sym (name_coded g name.seq name.pass.inc name.pass.att)
 
           there : (h.w.holds v x ≡ 1) × (h.w.booked x ≡ 1) × (f ≡ fragment_of g (h.book x) (h.w.kept_index v x))
-          there = subst (λ o. Kept g (h.book x) o (h.w.booked x) (h.w.holds v x) (h.w.kept_index v x)) (ap (held_at (n.shelves v).held) (sym named) ∙ is)
+          there = subst (λ o. Kept g (h.book x) o (h.w.booked x) (h.w.holds v x) (h.w.kept_index v x)) (ap (held_at (n.shelves v).held) (sym named) ∙ fact)
               ((h.shelves v).keeps x)
 
 module _ (k : Below) (g : Setting) (n : Net) (m : Moment g n) where

@@ -21,8 +21,8 @@ use Rattle.xfs_base.specs.declared.segment.Prior.{Prior}
 use Rattle.log_law.proofs.Wholeness.{seen}
 
 booked_is_written : (k : Below) (g : Setting) (n : Net) (h : View g n) (s : Segment) → In s n.flown → IsOfLog g s
-booked_is_written k g n h s is =
-    let b = h.flown.booked s is in
+booked_is_written k g n h s fact =
+    let b = h.flown.booked s fact in
     let page = h.paged b.0 b.1 in
     subst (IsOfLog g) (sym b.2) (record {
       log = ap (λ (z : SegName). z.log) page.named;
@@ -33,17 +33,17 @@ booked_is_written k g n h s is =
     })
 
 pub what_flew_is_written : Below → WhatFlewIsWritten
-what_flew_is_written k g n m s is =
-    let w = booked_is_written k (doubtful g) n (seen k g n m) s is in record { log = w.log; seq = w.seq; boot = w.boot; written = w.written }
+what_flew_is_written k g n m s fact =
+    let w = booked_is_written k (doubtful g) n (seen k g n m) s fact in record { log = w.log; seq = w.seq; boot = w.boot; written = w.written }
 
 pub what_flies_is_next : Below → WhatFliesIsNext
-what_flies_is_next k g n m s is f flies = by s.flight flies in_line
+what_flies_is_next k g n m s fact f flies = by s.flight flies in_line
   where
     h : View (doubtful g) n
     h = seen k g n m
 
     ran : Ran s
-    ran = (subst (OwnerShown (doubtful g) h.w h.book h.hellos) is h.owner).1.ran
+    ran = (subst (OwnerShown (doubtful g) h.w h.book h.hellos) fact h.owner).1.ran
 
     in_line : IsInLine s
     in_line = subst IsInLine (sym ran.reaches) (k.logs.next ran.log ran.inc ran.end ran.groups ran.history)
@@ -54,10 +54,10 @@ what_flies_is_next k g n m s is f flies = by s.flight flies in_line
 
 -- ---- what was read back
 
-module _ (k : Below) (g : Setting) (n : Net) (h : View g n) (chain : List Segment) (s : LogState) (is : n.owner ≡ Writing chain s) (f : FlightState)
+module _ (k : Below) (g : Setting) (n : Net) (h : View g n) (chain : List Segment) (s : LogState) (fact : n.owner ≡ Writing chain s) (f : FlightState)
     (flies : s.flight ≡ Some f) where
   shown : WritingShown g h.w h.book chain s × Behind g h.w h.book s
-  shown = subst (OwnerShown g h.w h.book h.hellos) is h.owner
+  shown = subst (OwnerShown g h.w h.book h.hellos) fact h.owner
 
   next : IsNext s f
   next = by s.flight flies (subst IsInLine (sym shown.1.ran.reaches)
@@ -95,4 +95,4 @@ module _ (k : Below) (g : Setting) (n : Net) (h : View g n) (chain : List Segmen
   is_linked = linked s.end.seq shown.0.read.next chain shown.0.read.chained
 
 pub what_is_read_back_is_linked : Below → WhatIsReadBackIsLinked
-what_is_read_back_is_linked k g n m chain s is f flies = is_linked k (doubtful g) n (seen k g n m) chain s is f flies
+what_is_read_back_is_linked k g n m chain s fact f flies = is_linked k (doubtful g) n (seen k g n m) chain s fact f flies

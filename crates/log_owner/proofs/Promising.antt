@@ -103,7 +103,7 @@ module _ (K : Promised → Type 0) where
 
   hails_so : (k : Known) (q : Questions) (s : Scanning) (i : In) → IsNoWelcome i → AwaitsFirst (stage.Scanning s) → Holds (scans_on k q s i).progress
   unfolding scans_on said follows scan.on_fenced scan.on_told scan.on_tick
-  hails_so k q s i other is = subst (λ st. Holds (stepped k q s (scan.takes s.scan.opening st i)).progress) (sym is) (by_input i other)
+  hails_so k q s i other fact = subst (λ st. Holds (stepped k q s (scan.takes s.scan.opening st i)).progress) (sym fact) (by_input i other)
     where
       by_input : (i : In) → IsNoWelcome i → Holds (stepped k q s (scan.takes s.scan.opening scan_stage.Hails i)).progress
       by_input (input.Welcome ask news groups) other = absurd other
@@ -117,7 +117,7 @@ module _ (K : Promised → Type 0) where
 
   scans_so : (k : Known) (q : Questions) (s : Scanning) (i : In) → IsNoWelcome i → AwaitsFirst (stage.Scanning s) ⊎ K k.promised
       → Holds (scans_on k q s i).progress
-  scans_so k q s i other (inl is) = hails_so k q s i other is
+  scans_so k q s i other (inl fact) = hails_so k q s i other fact
   scans_so k q s i other (inr h) = scans_on_so k q s i h
 
   writes_at : (k : Known) (s : Settling) (i : LogIn) → ⊥ ⊎ K k.promised → Holds (writes k s i).state

@@ -74,7 +74,7 @@ settled_alone w one noted j member = inl (subst (λ k. w.noted k ≡ 1) (sym (ze
 -- the second attempt of a flight, on server 0
 pub second_attempt : (w : State) (x : ℕ) → w.servers ≡ 1 → 0 < w.flight → 0 < x → w.seq_of x ≡ w.seq_of w.flight → w.incarnation_of x ≡ w.incarnation
     → w.attempt_of w.flight ≡ 1 → w.attempt_of x ≡ 2 → CanRestripe w x 1 first_server
-second_attempt w x alone flying named same_seq own was is =
+second_attempt w x alone flying named same_seq own was fact =
     record { flying = flying; named = named; same_seq = same_seq; own = own; later = omega arith; group = one_server w alone }
 
 -- the first segment, below a horizon of 2

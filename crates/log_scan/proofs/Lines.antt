@@ -115,23 +115,23 @@ module _ (log : LogId) where
     prior_is = refl;
   }
 
-  module _ (o : Opening) (is : IsOpening log o) where
+  module _ (o : Opening) (fact : IsOpening log o) where
     keeps_stay : (stage : Stage) → IsStage log stage → Keeps log (stays o stage)
-    keeps_stay stage st = record { opening = is; stage = st; outs = tt }
+    keeps_stay stage st = record { opening = fact; stage = st; outs = tt }
 
     keeps_anew : (stage : Stage) → IsStage log stage → Keeps log (asks_anew o stage)
-    keeps_anew stage st = record { opening = record { of_log = is.of_log; low = is.low }; stage = st; outs = (tt, tt) }
+    keeps_anew stage st = record { opening = record { of_log = fact.of_log; low = fact.low }; stage = st; outs = (tt, tt) }
 
     keeps_chain : (b : Backward) → SoFar log b → Keeps log (goes o Over (chain_of b ∷ []))
-    keeps_chain b so = record { opening = is; stage = tt; outs = (chain_tells b so, tt) }
+    keeps_chain b so = record { opening = fact; stage = tt; outs = (chain_tells b so, tt) }
 
     keeps_begins_in : (b : Backward) (g : Option Group) → SoFar log b → 1 ≤ b.next.seq → Keeps log (begins_in o b g)
     keeps_begins_in b None so some = keeps_anew (Reads b None) (record { so_far = so; some = some; looks = tt })
     keeps_begins_in b (Some g) so some =
         let r = reading.begun (target_at o.log b.next) g (o.ask + 1) in
         record {
-          opening = record { of_log = is.of_log; low = is.low };
-          stage = record { so_far = so; some = some; looks = ap (λ l. target_at l b.next) is.of_log };
+          opening = record { of_log = fact.of_log; low = fact.low };
+          stage = record { so_far = so; some = some; looks = ap (λ l. target_at l b.next) fact.of_log };
           outs = fetches_tell r.target.seg.name r.ask (to_ask r);
         }
 
@@ -146,7 +146,7 @@ module _ (log : LogId) where
         (λ t. keeps_chain b so)
         (λ t. (
         let below : o.low ≤ b.next.seq = ltb-false b.next.seq o.low (or_parts (nat_lt b.next.seq o.low) (names_none b.next) t).0 in
-        keeps_begins b so (omega (arith, below, is.low))
+        keeps_begins b so (omega (arith, below, fact.low))
         ))
 
     -- a segment of the next name was read
@@ -160,14 +160,14 @@ module _ (log : LogId) where
     unfolding goes_on
     keeps_goes_on b r next.Wait back name = keeps_stay (Reads b (Some r)) back
     keeps_goes_on b r next.Ask back name = record {
-      opening = record { of_log = is.of_log; low = is.low };
+      opening = record { of_log = fact.of_log; low = fact.low };
       stage = back;
       outs = fetches_tell r.target.seg.name r.ask (to_ask r);
     }
     keeps_goes_on b r next.Again back name = keeps_anew (Reads b (Some r)) back
     keeps_goes_on b r (next.Read s) back name =
         keeps_follows (with_segment b s) (so_far_more b s back.so_far back.some (name ∙ ap (λ t. t.seg.name) back.looks))
-    keeps_goes_on b r next.Lost back name = record { opening = is; stage = tt; outs = (tt, tt) }
+    keeps_goes_on b r next.Lost back name = record { opening = fact; stage = tt; outs = (tt, tt) }
 
     keeps_step : (b : Backward) (r : ReadingState) (step : reading.Step) → IsBack log b (Some r) → KeepsTarget r step
         → Keeps log (goes_on o b step.state step.next)
@@ -195,62 +195,63 @@ module _ (log : LogId) where
     keeps_picks lists = keeps_picks_at lists (start_of o.groups lists o.low)
 
   risen : (o : Opening) (least : ℕ) → IsOpening log o → IsOpening log (rises o least)
-  risen o least is = record { of_log = is.of_log; low = (let one = is.low in omega (arith, one)) }
+  risen o least fact = record { of_log = fact.of_log; low = (let one = fact.low in omega (arith, one)) }
 
   keeps_welcomed : (o : Opening) (stage : Stage) (least : ℕ) → IsOpening log o → IsStage log stage → Keeps log (welcomed o stage least)
-  keeps_welcomed o Hails least is st = record { opening = is; stage = tt; outs = fences_tell (awaited o.groups []) }
-  keeps_welcomed o (Gathers lists) least is st = keeps_stay o is (Gathers lists) tt
-  keeps_welcomed o (Asks lists) least is st = keeps_picks (rises o least) (risen o least is) lists
-  keeps_welcomed o (Reads b r) least is st = keeps_confirms (rises o least) (risen o least is) b r st
-  keeps_welcomed o Over least is st = keeps_stay o is Over tt
+  keeps_welcomed o Hails least fact st = record { opening = fact; stage = tt; outs = fences_tell (awaited o.groups []) }
+  keeps_welcomed o (Gathers lists) least fact st = keeps_stay o fact (Gathers lists) tt
+  keeps_welcomed o (Asks lists) least fact st = keeps_picks (rises o least) (risen o least fact) lists
+  keeps_welcomed o (Reads b r) least fact st = keeps_confirms (rises o least) (risen o least fact) b r st
+  keeps_welcomed o Over least fact st = keeps_stay o fact Over tt
 
   keeps_on_welcome : (o : Opening) (stage : Stage) (ask : ℕ) (news : List SlotNews) (groups : GroupMapState) → IsOpening log o → IsStage log stage
       → Keeps log (on_welcome o stage ask news groups)
   unfolding on_welcome
-  keeps_on_welcome o stage ask news groups is st =
+  keeps_on_welcome o stage ask news groups fact st =
       by_test (λ (d : Done). Keeps log d) ((ask == o.ask) && (can_ask o && awaits_welcome stage))
       (welcomed (record o { groups = Some groups }) stage (least_horizon o.log.0 news)) (stays o stage)
-      (λ t. keeps_welcomed (record o { groups = Some groups }) stage (least_horizon o.log.0 news) (record { of_log = is.of_log; low = is.low }) st)
-      (λ t. keeps_stay o is stage st)
+      (λ t. keeps_welcomed (record o { groups = Some groups }) stage (least_horizon o.log.0 news) (record { of_log = fact.of_log; low = fact.low }) st)
+      (λ t. keeps_stay o fact stage st)
 
   keeps_with_list : (o : Opening) (lists : List Listing) → IsOpening log o → Keeps log (with_list o lists)
   unfolding with_list
-  keeps_with_list o lists is =
+  keeps_with_list o lists fact =
       by_test (λ (d : Done). Keeps log d) (length (awaited o.groups lists) == 0) (asks_anew o (Asks lists)) (stays o (Gathers lists))
-      (λ t. keeps_anew o is (Asks lists) tt)
-      (λ t. keeps_stay o is (Gathers lists) tt)
+      (λ t. keeps_anew o fact (Asks lists) tt)
+      (λ t. keeps_stay o fact (Gathers lists) tt)
 
   keeps_on_fenced : (o : Opening) (stage : Stage) (l : Listing) → IsOpening log o → IsStage log stage → Keeps log (on_fenced o stage l)
   unfolding on_fenced
-  keeps_on_fenced o Hails l is st = keeps_stay o is Hails tt
-  keeps_on_fenced o (Gathers lists) l is st =
+  keeps_on_fenced o Hails l fact st = keeps_stay o fact Hails tt
+  keeps_on_fenced o (Gathers lists) l fact st =
       by_test (λ (d : Done). Keeps log d) (can_ask o && awaits o.groups lists l.server) (with_list o (lists ++ l ∷ [])) (stays o (Gathers lists))
-      (λ t. keeps_with_list o (lists ++ l ∷ []) is)
-      (λ t. keeps_stay o is (Gathers lists) tt)
-  keeps_on_fenced o (Asks lists) l is st = keeps_stay o is (Asks lists) tt
-  keeps_on_fenced o (Reads b r) l is st = keeps_stay o is (Reads b r) st
-  keeps_on_fenced o Over l is st = keeps_stay o is Over tt
+      (λ t. keeps_with_list o (lists ++ l ∷ []) fact)
+      (λ t. keeps_stay o fact (Gathers lists) tt)
+  keeps_on_fenced o (Asks lists) l fact st = keeps_stay o fact (Asks lists) tt
+  keeps_on_fenced o (Reads b r) l fact st = keeps_stay o fact (Reads b r) st
+  keeps_on_fenced o Over l fact st = keeps_stay o fact Over tt
 
   keeps_heard_with : (o : Opening) (b : Backward) (r : ReadingState) (groups : Option GroupMapState) (ask server : ℕ) (t : Told) → IsOpening log o
       → IsBack log b (Some r) → Keeps log (heard_with o b r groups ask server t)
-  keeps_heard_with o b r None ask server t is back = keeps_stay o is (Reads b (Some r)) back
-  keeps_heard_with o b r (Some groups) ask server t is back = keeps_step o is b r (on_answer r groups ask server t) back (answered_keeps r groups ask server t)
+  keeps_heard_with o b r None ask server t fact back = keeps_stay o fact (Reads b (Some r)) back
+  keeps_heard_with o b r (Some groups) ask server t fact back =
+      keeps_step o fact b r (on_answer r groups ask server t) back (answered_keeps r groups ask server t)
 
   keeps_heard : (o : Opening) (b : Backward) (r : Option ReadingState) (ask server : ℕ) (t : Told) → IsOpening log o → IsBack log b r
       → Keeps log (heard o b r ask server t)
-  keeps_heard o b None ask server t is back = keeps_stay o is (Reads b None) back
-  keeps_heard o b (Some r) ask server t is back =
+  keeps_heard o b None ask server t fact back = keeps_stay o fact (Reads b None) back
+  keeps_heard o b (Some r) ask server t fact back =
       by_test (λ (d : Done). Keeps log d) (can_ask o) (heard_with o b r o.groups ask server t) (stays o (Reads b (Some r)))
-      (λ e. keeps_heard_with o b r o.groups ask server t is back)
-      (λ e. keeps_stay o is (Reads b (Some r)) back)
+      (λ e. keeps_heard_with o b r o.groups ask server t fact back)
+      (λ e. keeps_stay o fact (Reads b (Some r)) back)
 
   keeps_on_told : (o : Opening) (stage : Stage) (ask server : ℕ) (t : Told) → IsOpening log o → IsStage log stage → Keeps log (on_told o stage ask server t)
   unfolding on_told
-  keeps_on_told o Hails ask server t is st = keeps_stay o is Hails tt
-  keeps_on_told o (Gathers lists) ask server t is st = keeps_stay o is (Gathers lists) tt
-  keeps_on_told o (Asks lists) ask server t is st = keeps_stay o is (Asks lists) tt
-  keeps_on_told o (Reads b r) ask server t is st = keeps_heard o b r ask server t is st
-  keeps_on_told o Over ask server t is st = keeps_stay o is Over tt
+  keeps_on_told o Hails ask server t fact st = keeps_stay o fact Hails tt
+  keeps_on_told o (Gathers lists) ask server t fact st = keeps_stay o fact (Gathers lists) tt
+  keeps_on_told o (Asks lists) ask server t fact st = keeps_stay o fact (Asks lists) tt
+  keeps_on_told o (Reads b r) ask server t fact st = keeps_heard o b r ask server t fact st
+  keeps_on_told o Over ask server t fact st = keeps_stay o fact Over tt
 
   again_tells : (o : Opening) (r : Option ReadingState) → AllByRecursion (TellsLinked log) (asked_again o r)
   again_tells o None = (tt, tt)
@@ -267,12 +268,13 @@ module _ (log : LogId) where
   tick_tells o Over = tt
 
   keeps_takes : (o : Opening) (stage : Stage) (input : In) → IsOpening log o → IsStage log stage → Keeps log (takes o stage input)
-  keeps_takes o stage (Welcome ask news groups) is st = keeps_on_welcome o stage ask news groups is st
-  keeps_takes o stage (Fenced server generation held) is st = keeps_on_fenced o stage (record { server = server; generation = generation; held = held }) is st
-  keeps_takes o stage (Got ask server generation fragment) is st = keeps_on_told o stage ask server _ is st
-  keeps_takes o stage (Missing ask server generation) is st = keeps_on_told o stage ask server _ is st
-  keeps_takes o stage (Maps groups) is st = record { opening = record { of_log = is.of_log; low = is.low }; stage = st; outs = tt }
-  keeps_takes o stage Tick is st = record { opening = is; stage = st; outs = tick_tells o stage }
+  keeps_takes o stage (Welcome ask news groups) fact st = keeps_on_welcome o stage ask news groups fact st
+  keeps_takes o stage (Fenced server generation held) fact st =
+      keeps_on_fenced o stage (record { server = server; generation = generation; held = held }) fact st
+  keeps_takes o stage (Got ask server generation fragment) fact st = keeps_on_told o stage ask server _ fact st
+  keeps_takes o stage (Missing ask server generation) fact st = keeps_on_told o stage ask server _ fact st
+  keeps_takes o stage (Maps groups) fact st = record { opening = record { of_log = fact.of_log; low = fact.low }; stage = st; outs = tt }
+  keeps_takes o stage Tick fact st = record { opening = fact; stage = st; outs = tick_tells o stage }
 
   -- ---- over any history
 

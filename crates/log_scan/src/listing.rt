@@ -31,7 +31,7 @@ impl Listing {
 fn has_name(name: SegName, metas: &[FragMeta]) -> bool
     ensures { result ≡ has_name name metas.now }
 {
-    metas.iter().any(|meta| meta.name.is(name))
+    metas.iter().any(|meta| meta.name.is_same(name))
 }
 
 /// Whether the list of this server is among these.

@@ -44,17 +44,17 @@ module _ (g : Setting) (w : State) (book : ℕ → Segment) (x : ℕ) (s : Segme
 
   -- the group of the map is a group there
   pub stripe_group : w.servers ≡ suc g.servers → IsStripe g m group → Group w (length group.members) (server_of group.members)
-  stripe_group servers is =
-      record { some = is.some; known = λ j below. subst (λ n. server_of group.members j < n) (sym servers) (is.exist j below); distinct = is.differ }
+  stripe_group servers fact =
+      record { some = fact.some; known = λ j below. subst (λ n. server_of group.members j < n) (sym servers) (fact.exist j below); distinct = fact.differ }
 
   -- the book of what is booked
   pub booked_pages : s.name ≡ name_of g x → 0 < s.name.pass.inc → s.group ≡ group.id → prior ≡ point g (s.name.seq - 1) s.prior.pass
       → content ≡ g.content s.items → IsStripe g m group → ((v : ℕ) → w.owner_generation v ≡ present_at m v) → Book g w book
       → Book g booked_state (with_page book x s)
-  booked_pages named boot of after tells is known paged y booked = by (y == x) refl booked
+  booked_pages named boot of after tells fact known paged y booked = by (y == x) refl booked
     where
       stripe : g.stripe s.group ≡ stripe_of_group group
-      stripe = ap g.stripe of ∙ is.named
+      stripe = ap g.stripe of ∙ fact.named
 
       by : (t : Bool) → (y == x) ≡ t → cond t 1 (w.booked y) ≡ 1
           → Page g y (cond t s (book y)) (cond t (g.number (text_of s)) (w.text_of y)) (cond t (length group.members) (w.member_count y))
@@ -69,7 +69,7 @@ module _ (g : Setting) (w : State) (book : ℕ → Segment) (x : ℕ) (s : Segme
         at_server = λ j. ap (λ (z : Stripe). server_of z.members j) (sym stripe);
         at_generation =
             λ j below. known (server_of group.members j)
-            ∙ (sym (is.present j (subst (λ (z : Stripe). j < length z.members) stripe below)) ∙ ap (λ (z : Stripe). generation_of z.members j) (sym stripe));
+            ∙ (sym (fact.present j (subst (λ (z : Stripe). j < length z.members) stripe below)) ∙ ap (λ (z : Stripe). generation_of z.members j) (sym stripe));
         follows = after;
         tells = tells;
       }

@@ -156,7 +156,7 @@ past v = either (has_server the_map v) (slice_index (1 ∷ 1 ∷ 1 ∷ []) (v - 
 
 -- the one group that the map has
 only : (id : ℕ) (g : Group) → group_of the_map id ≡ Some g → group ≡ g
-only id g is = by (1 == id) is
+only id g fact = by (1 == id) fact
   where
     by : (t : Bool) → cond t (Some group) None ≡ Some g → group ≡ g
     by true e = ap (λ o. unwrap_or o group) e
@@ -169,10 +169,10 @@ pub whole_map : WholeMap setting (λ v. 1) the_map
 whole_map = record {
   seen = record { whole = whole; past = past };
   size = refl;
-  named = λ id g is. ap stripe_of_group (only id g is);
-  some = λ id g is. subst (λ (z : Group). (j : ℕ) → j < length z.members → 0 < server_of z.members j) (only id g is)
+  named = λ id g fact. ap stripe_of_group (only id g fact);
+  some = λ id g fact. subst (λ (z : Group). (j : ℕ) → j < length z.members → 0 < server_of z.members j) (only id g fact)
       (λ j below. (let p = number j below in omega arith));
-  cut = λ id g is. subst (λ (z : Group). IsCut (length z.members) z.parity) (only id g is) three;
+  cut = λ id g fact. subst (λ (z : Group). IsCut (length z.members) z.parity) (only id g fact) three;
 }
 
 pub some_setting : SomeSetting

@@ -20,16 +20,17 @@ pub one_step : (w v : State) → Step w v → Steps w v
 one_step w v s = More Done s
 
 pub by_nothing : (g : Setting) (w : State) (book : ℕ → Segment) → ByOwner g w w book book
-by_nothing g w book = record { others = refl; booked = λ x is. is; segment = λ x is. refl; stores = λ p is. is; filed = λ x is. is; calm = λ none c. c }
+by_nothing g w book =
+    record { others = refl; booked = λ x fact. fact; segment = λ x fact. refl; stores = λ p fact. fact; filed = λ x fact. fact; calm = λ none c. c }
 
 pub by_through : (g : Setting) (w v u : State) (book later last : ℕ → Segment) → ByOwner g w v book later → ByOwner g v u later last → ByOwner g w u book last
 by_through g w v u book later last p q = record {
   calm = λ none c. q.calm none (p.calm none c);
   others = q.others ∙ p.others;
-  booked = λ x is. q.booked x (p.booked x is);
-  segment = λ x is. q.segment x (p.booked x is) ∙ p.segment x is;
-  stores = λ x is. q.stores x (p.stores x is);
-  filed = λ x is. q.filed x (p.filed x is);
+  booked = λ x fact. q.booked x (p.booked x fact);
+  segment = λ x fact. q.segment x (p.booked x fact) ∙ p.segment x fact;
+  stores = λ x fact. q.stores x (p.stores x fact);
+  filed = λ x fact. q.filed x (p.filed x fact);
 }
 
 module _ (g : Setting) where
@@ -58,20 +59,20 @@ module _ (g : Setting) where
   said_both w book (o ∷ os) more h k = (h.0, said_both w book os more h.1 k)
 
   filed_left : (outs more : List Out) (name : SegName) → In name (log_filed g.log outs) → In name (log_filed g.log (outs ++ more))
-  filed_left [] more name is = absurd is
-  filed_left (Send f m ∷ os) more name is = filed_left os more name is
+  filed_left [] more name fact = absurd fact
+  filed_left (Send f m ∷ os) more name fact = filed_left os more name fact
   filed_left (Settled end rows ∷ os) more name (inl e) = inl e
-  filed_left (Settled end rows ∷ os) more name (inr is) = inr (filed_left os more name is)
+  filed_left (Settled end rows ∷ os) more name (inr fact) = inr (filed_left os more name fact)
 
   filed_right : (outs more : List Out) (name : SegName) → In name (log_filed g.log more) → In name (log_filed g.log (outs ++ more))
-  filed_right [] more name is = is
-  filed_right (Send f m ∷ os) more name is = filed_right os more name is
-  filed_right (Settled end rows ∷ os) more name is = inr (filed_right os more name is)
+  filed_right [] more name fact = fact
+  filed_right (Send f m ∷ os) more name fact = filed_right os more name fact
+  filed_right (Settled end rows ∷ os) more name fact = inr (filed_right os more name fact)
 
   end_follows_through : (w v u : State) (outs more : List Out) → EndFollows g w v outs → EndFollows g v u more → EndFollows g w u (outs ++ more)
   end_follows_through w v u outs more (inl e) (inl f) = inl (f ∙ e)
-  end_follows_through w v u outs more (inr is) (inl f) = inr (filed_left outs more _ (subst (λ z. In (name_of g z) (log_filed g.log outs)) (sym f) is))
-  end_follows_through w v u outs more a (inr is) = inr (filed_right outs more _ is)
+  end_follows_through w v u outs more (inr fact) (inl f) = inr (filed_left outs more _ (subst (λ z. In (name_of g z) (log_filed g.log outs)) (sym f) fact))
+  end_follows_through w v u outs more a (inr fact) = inr (filed_right outs more _ fact)
 
   module _ (P : State → (ℕ → Segment) → Type 0) where
     -- nothing happens
@@ -82,7 +83,7 @@ module _ (g : Setting) where
           later = book;
           steps = Done;
           frame = by_nothing g w book;
-          fresh = λ x is. inl is;
+          fresh = λ x fact. inl fact;
           paged = paged;
           shows = shows;
           said = tt;
@@ -97,7 +98,7 @@ module _ (g : Setting) where
       later = u.later;
       steps = steps_through w t.world u.world t.steps u.steps;
       frame = by_through g w t.world u.world book t.later u.later t.frame u.frame;
-      fresh = λ x is. ⊎_elim (λ old. inl (same x old)) inr (u.fresh x is);
+      fresh = λ x fact. ⊎_elim (λ old. inl (same x old)) inr (u.fresh x fact);
       paged = u.paged;
       shows = u.shows;
       said = said_both u.world u.later outs more (said_on t.world u.world t.later u.later outs u.frame t.said) u.said;

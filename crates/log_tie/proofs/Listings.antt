@@ -27,16 +27,16 @@ contained_in x (y ∷ ys) (inl e) = subst (λ z. Contains (y ∷ ys) z) (sym e) 
 contained_in x (y ∷ ys) (inr k) = contains_rest y x ys (contained_in x ys k)
 
 pub in_front : {X : Type 0} (x : X) (xs ys : List X) → In x xs → In x (xs ++ ys)
-in_front x [] ys is = absurd is
+in_front x [] ys fact = absurd fact
 in_front x (z ∷ xs) ys (inl e) = inl e
 in_front x (z ∷ xs) ys (inr k) = inr (in_front x xs ys k)
 
 pub in_back : {X : Type 0} (x : X) (xs ys : List X) → In x ys → In x (xs ++ ys)
-in_back x [] ys is = is
-in_back x (z ∷ xs) ys is = inr (in_back x xs ys is)
+in_back x [] ys fact = fact
+in_back x (z ∷ xs) ys fact = inr (in_back x xs ys fact)
 
 pub in_either : {X : Type 0} (x : X) (xs ys : List X) → In x (xs ++ ys) → In x xs ⊎ In x ys
-in_either x [] ys is = inr is
+in_either x [] ys fact = inr fact
 in_either x (z ∷ xs) ys (inl e) = inl (inl e)
 in_either x (z ∷ xs) ys (inr k) = elim (in_either x xs ys k) [ inl a ↦ inl (inr a) | inr b ↦ inr b ]
 
@@ -51,20 +51,20 @@ some_passes {X = X} p (x ∷ xs) h = by (p x) refl h (λ k. some_passes p xs k)
     by false e k more = let y = more k in (y.0, inr y.1, y.2)
 
 pub it_passes : {X : Type 0} (p : X → Bool) (xs : List X) (x : X) → In x xs → p x ≡ true → list_any p xs ≡ true
-it_passes p [] x is h = absurd is
+it_passes p [] x fact h = absurd fact
 it_passes p (y ∷ ys) x (inl e) h = or_first (p y) (list_any p ys) (ap p (sym e) ∙ h)
 it_passes p (y ∷ ys) x (inr k) h = or_second (p y) (list_any p ys) (it_passes p ys x k h)
 
 pub none_passes : {X : Type 0} (p : X → Bool) (xs : List X) (x : X) → list_any p xs ≡ false → In x xs → p x ≡ false
-none_passes p xs x none is = by (p x) refl
+none_passes p xs x none fact = by (p x) refl
   where
     by : (t : Bool) → p x ≡ t → p x ≡ false
-    by true e = contrary (sym none ∙ it_passes p xs x is e)
+    by true e = contrary (sym none ∙ it_passes p xs x fact e)
     by false e = e
 
 in_filtered : {X : Type 0} (p : X → Bool) (xs : List X) (x : X) → In x (filter p xs) → In x xs × (p x ≡ true)
-in_filtered p [] x is = absurd is
-in_filtered p (y ∷ ys) x is = by (p y) refl is (λ k. in_filtered p ys x k)
+in_filtered p [] x fact = absurd fact
+in_filtered p (y ∷ ys) x fact = by (p y) refl fact (λ k. in_filtered p ys x k)
   where
     by : (t : Bool) → p y ≡ t → In x (cond t (y ∷ filter p ys) (filter p ys)) → (In x (filter p ys) → In x ys × (p x ≡ true)) → In x (y ∷ ys) × (p x ≡ true)
     by true e (inl k) more = (inl k, ap p k ∙ e)
@@ -72,8 +72,8 @@ in_filtered p (y ∷ ys) x is = by (p y) refl is (λ k. in_filtered p ys x k)
     by false e k more = (inr (more k).0, (more k).1)
 
 filtered_in : {X : Type 0} (p : X → Bool) (xs : List X) (x : X) → In x xs → p x ≡ true → In x (filter p xs)
-filtered_in p [] x is h = absurd is
-filtered_in p (y ∷ ys) x is h = by (p y) refl is (λ k. filtered_in p ys x k h)
+filtered_in p [] x fact h = absurd fact
+filtered_in p (y ∷ ys) x fact h = by (p y) refl fact (λ k. filtered_in p ys x k h)
   where
     by : (t : Bool) → p y ≡ t → In x (y ∷ ys) → (In x ys → In x (filter p ys)) → In x (cond t (y ∷ filter p ys) (filter p ys))
     by true e (inl k) more = inl k
@@ -90,18 +90,18 @@ pub test_le : (a b : ℕ) → a ≤ b → nat_le a b ≡ true
 test_le a b h = grind (arith, nat_tests)
 
 pub counted_listed : (low : ℕ) (ls : List Listing) (x : FragMeta) → In x (counting low ls) → (l : Listing) × In l ls × In x l.held × (low ≤ x.name.seq)
-counted_listed low [] x is = absurd is
-counted_listed low (l ∷ ls) x is = elim (in_either x (above low l.held) (counting low ls) is) [
+counted_listed low [] x fact = absurd fact
+counted_listed low (l ∷ ls) x fact = elim (in_either x (above low l.held) (counting low ls) fact) [
   | inl a ↦ (let h = in_filtered (λ m. nat_le low m.name.seq) l.held x a in (l, inl refl, h.0, le_test low x.name.seq h.1))
   | inr b ↦ (let h = counted_listed low ls x b in (h.0, inr h.1, h.2, h.3))
 ]
 
 pub listed_counted : (low : ℕ) (ls : List Listing) (l : Listing) (x : FragMeta) → In l ls → In x l.held → low ≤ x.name.seq → In x (counting low ls)
-listed_counted low [] l x of is up = absurd of
-listed_counted low (k ∷ ks) l x (inl e) is up =
+listed_counted low [] l x of fact up = absurd of
+listed_counted low (k ∷ ks) l x (inl e) fact up =
     in_front x (above low k.held) (counting low ks)
-    (filtered_in (λ m. nat_le low m.name.seq) k.held x (subst (λ (z : Listing). In x z.held) e is) (test_le low x.name.seq up))
-listed_counted low (k ∷ ks) l x (inr of) is up = in_back x (above low k.held) (counting low ks) (listed_counted low ks l x of is up)
+    (filtered_in (λ m. nat_le low m.name.seq) k.held x (subst (λ (z : Listing). In x z.held) e fact) (test_le low x.name.seq up))
+listed_counted low (k ∷ ks) l x (inr of) fact up = in_back x (above low k.held) (counting low ks) (listed_counted low ks l x of fact up)
 
 -- ---- names
 
@@ -112,7 +112,7 @@ pub same_itself : (n : SegName) → same_name n n ≡ true
 same_itself n = grind (arith, nat_tests)
 
 pub in_named : (ms : List FragMeta) (x : FragMeta) → In x ms → has_name x.name ms ≡ true
-in_named ms x is = it_passes (λ m. same_name m.name x.name) ms x is (same_itself x.name)
+in_named ms x fact = it_passes (λ m. same_name m.name x.name) ms x fact (same_itself x.name)
 
 -- ---- the list of a server
 
@@ -138,7 +138,7 @@ no_list (l ∷ ls) v h = by (l.server == v) h (λ k. no_list ls v k)
     by false k more = more k
 
 pub has_in : (ls : List Listing) (l : Listing) → In l ls → has_list l.server ls ≡ true
-has_in ls l is = it_passes (λ k. k.server == l.server) ls l is (itself l.server)
+has_in ls l fact = it_passes (λ k. k.server == l.server) ls l fact (itself l.server)
 
 -- one more list, of another server
 pub has_more : (ls : List Listing) (l : Listing) (v : ℕ) → has_list v ls ≡ false → (l.server ≡ v → ⊥) → has_list v (ls ++ l ∷ []) ≡ false
@@ -167,14 +167,14 @@ range_has from (suc n) v low high = by (from == v) refl (λ up. range_has (from 
     by false e more = inr (more (next e))
 
 pub none_filtered : (p : ℕ → Bool) (xs : List ℕ) (v : ℕ) → length (filter p xs) ≡ 0 → In v xs → p v ≡ false
-none_filtered p xs v none is = by (p v) refl
+none_filtered p xs v none fact = by (p v) refl
   where
     empty : (ys : List ℕ) → length ys ≡ 0 → In v ys → ⊥
     empty [] e k = k
     empty (y ∷ ys) e k = let z = e in omega arith
 
     by : (t : Bool) → p v ≡ t → p v ≡ false
-    by true e = absurd (empty (filter p xs) none (filtered_in p xs v is e))
+    by true e = absurd (empty (filter p xs) none (filtered_in p xs v fact e))
     by false e = e
 
 -- ---- whether a member lacks it
@@ -231,13 +231,13 @@ whole_member l name m h same =
 pub whole_lists : (ls : List Listing) (name : SegName) (ms : List Member) → is_torn ls name ms ≡ false → (j : ℕ) → j < length ms → (l : Listing) → In l ls
     → l.server ≡ server_of ms j
     → (has_name name l.held ≡ true) ⊎ (l.generation ≡ generation_of ms j → ⊥)
-whole_lists ls name [] h j b l is same = absurd (let a = b in omega arith)
-whole_lists ls name (m ∷ ms) h zero b l is same = whole_member l name m (none_passes (lacks name m) ls l (first (list_any (lacks name m) ls) h) is) same
+whole_lists ls name [] h j b l fact same = absurd (let a = b in omega arith)
+whole_lists ls name (m ∷ ms) h zero b l fact same = whole_member l name m (none_passes (lacks name m) ls l (first (list_any (lacks name m) ls) h) fact) same
   where
     first : (t : Bool) → (t || is_torn ls name ms) ≡ false → t ≡ false
     first true k = k
     first false k = refl
-whole_lists ls name (m ∷ ms) h (suc j) b l is same = whole_lists ls name ms (second (list_any (lacks name m) ls) h) j (omega arith) l is same
+whole_lists ls name (m ∷ ms) h (suc j) b l fact same = whole_lists ls name ms (second (list_any (lacks name m) ls) h) j (omega arith) l fact same
   where
     second : (t : Bool) → (t || is_torn ls name ms) ≡ false → is_torn ls name ms ≡ false
     second true k = contrary (sym k)

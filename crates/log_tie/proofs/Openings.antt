@@ -107,9 +107,9 @@ module _ (g : Setting) where
   -- what is filed where an opening serves
   serves_files : (w : State) (lowest sure y : ℕ) → lowest ≤ w.seq_of y → w.seq_of y < w.opening_seq → path w (w.seq_of y) ≡ y
       → (serves w (path w) lowest sure).filed y ≡ 1
-  serves_files w lowest sure y above below is =
+  serves_files w lowest sure y above below fact =
       by (y == w.flight) (nat_lt (w.seq_of y) lowest) (nat_lt (w.seq_of y) w.opening_seq) (path w (w.seq_of y) == y) (more (w.seq_of y) lowest above)
-      (less (w.seq_of y) w.opening_seq below) (ap (λ z. z == y) is ∙ itself y)
+      (less (w.seq_of y) w.opening_seq below) (ap (λ z. z == y) fact ∙ itself y)
     where
       less : (a b : ℕ) → a < b → nat_lt a b ≡ true
       less a b h = grind (arith, nat_tests)
@@ -161,7 +161,7 @@ module _ (g : Setting) (w : State) (book : ℕ → Segment) (fixed : Fixed g w) 
         phase = refl;
         clear = refl;
         base = shown.base;
-        read = shown_on g w _ book later start.seq chain (λ y is. (by.booked y is, by.segment y is)) paged pages refl refl refl refl shown.read;
+        read = shown_on g w _ book later start.seq chain (λ y fact. (by.booked y fact, by.segment y fact)) paged pages refl refl refl refl shown.read;
         flight = f;
         is_flight = refl;
         flying = record {
@@ -187,8 +187,8 @@ module _ (g : Setting) (w : State) (book : ℕ → Segment) (fixed : Fixed g w) 
       f : FlightState
       f = flights.flown (log.next_name s) (log.prior_from start) [] group
 
-      is : IsStripe g m group
-      is = shown.map g.log.0 (start.seq + 1)
+      fact : IsStripe g m group
+      fact = shown.map g.log.0 (start.seq + 1)
 
       some : 0 < w.incarnation
       some = let b = (always w reached).shelf.boots.not_yet_served (let p = shown.phase in omega arith) (let p = shown.phase in omega arith) in omega arith
@@ -205,7 +205,7 @@ module _ (g : Setting) (w : State) (book : ℕ → Segment) (fixed : Fixed g w) 
         named = some_number g x (let e = g.its_seq (start.seq + 1) w.incarnation 1 in omega arith);
         next = let e : w.seq_of x ≡ start.seq + 1 = ap (λ k. k x) fixed.seq_of ∙ g.its_seq _ _ _ in let o = shown.read.opening in omega arith;
         own = ap (λ k. k x) fixed.incarnation_of ∙ g.its_incarnation _ _ _;
-        group = stripe_group g w book x f.segment group m w.base 0 fixed.servers is;
+        group = stripe_group g w book x f.segment group m w.base 0 fixed.servers fact;
       }
 
       new : w.booked x ≡ 1 → ⊥
@@ -213,7 +213,7 @@ module _ (g : Setting) (w : State) (book : ℕ → Segment) (fixed : Fixed g w) 
 
       pages : Book g v later
       pages = booked_pages g w book x f.segment group m w.base 0 (sym (name_coded g (start.seq + 1) w.incarnation 1)) some refl
-          (shown.base ∙ ap (λ q. point g q start.pass) (omega arith)) (sym g.no_content) is shown.known paged
+          (shown.base ∙ ap (λ q. point g q start.pass) (omega arith)) (sym g.no_content) fact shown.known paged
 
       booked : v.booked x ≡ 1
       booked = grind (arith, nat_tests)
@@ -222,20 +222,20 @@ module _ (g : Setting) (w : State) (book : ℕ → Segment) (fixed : Fixed g w) 
       here = page_here book x f.segment
 
       stripe : stripe_of_group f.group ≡ g.stripe (later x).group
-      stripe = sym is.named ∙ ap (λ (z : Segment). g.stripe z.group) (sym here)
+      stripe = sym fact.named ∙ ap (λ (z : Segment). g.stripe z.group) (sym here)
 
       by : ByOwner g w v book later
       by = record {
         others = refl;
-        booked = λ y is. put_one y is;
-        segment = λ y is. page_there w book x f.segment new y is;
-        stores = λ p is. is;
-        filed = λ y is. is;
+        booked = λ y fact. put_one y fact;
+        segment = λ y fact. page_there w book x f.segment new y fact;
+        stores = λ p fact. fact;
+        filed = λ y fact. fact;
         calm = λ none c. c;
       }
         where
           put_one : (y : ℕ) → w.booked y ≡ 1 → v.booked y ≡ 1
-          put_one y is = grind (arith, nat_tests)
+          put_one y fact = grind (arith, nat_tests)
 
   -- it is settled, and the owner serves
   serves_goes : (chain : List Segment) (s : LogState) (f : FlightState) (sure : ℕ) → WritingShown g w book chain s
@@ -255,13 +255,13 @@ module _ (g : Setting) (w : State) (book : ℕ → Segment) (fixed : Fixed g w) 
         }));
     frame = record {
       others = refl;
-      booked = λ x is. is;
-      segment = λ x is. refl;
-      stores = λ p is. is;
-      filed = λ x is. stays x is;
+      booked = λ x fact. fact;
+      segment = λ x fact. refl;
+      stores = λ p fact. fact;
+      filed = λ x fact. stays x fact;
       calm = λ none c. ap (λ z. if z == 1 then w.clean else 0) (is_sure none) ∙ c;
     };
-    fresh = λ x is. inl is;
+    fresh = λ x fact. inl fact;
     paged = paged;
     shows = (
       record {
@@ -281,14 +281,14 @@ module _ (g : Setting) (w : State) (book : ℕ → Segment) (fixed : Fixed g w) 
       lowest = shown.read.lowest
 
       stays : (x : ℕ) → w.filed x ≡ 1 → (serves w (path w) lowest sure).filed x ≡ 1
-      stays x is = by (x == w.flight) (nat_lt (w.seq_of x) lowest) (nat_lt (w.seq_of x) w.opening_seq) (path w (w.seq_of x) == x)
+      stays x fact = by (x == w.flight) (nat_lt (w.seq_of x) lowest) (nat_lt (w.seq_of x) w.opening_seq) (path w (w.seq_of x) == x)
         where
           by : (p q r t : Bool) → (if p then 1 else if q then w.filed x else if r then (if t then 1 else w.filed x) else w.filed x) ≡ 1
           by true q r t = refl
-          by false true r t = is
-          by false false false t = is
+          by false true r t = fact
+          by false false false t = fact
           by false false true true = refl
-          by false false true false = is
+          by false false true false = fact
 
       here : (serves w (path w) lowest sure).filed w.flight ≡ 1
       here = by (w.flight == w.flight) (itself w.flight)
@@ -339,7 +339,7 @@ module _ (g : Setting) (chain : List Segment) where
       frame = t.frame;
       fresh = t.fresh;
       paged = t.paged;
-      shows = inl (aloft_writes t.world t.later s f h (λ x is. (t.frame.booked x is, t.frame.segment x is)) t.paged t.shows);
+      shows = inl (aloft_writes t.world t.later s f h (λ x fact. (t.frame.booked x fact, t.frame.segment x fact)) t.paged t.shows);
       said = t.said;
       end_follows = t.end_follows;
     }
@@ -350,8 +350,9 @@ module _ (g : Setting) (chain : List Segment) where
           world = w;
           later = book;
           steps = Done;
-          frame = record { others = refl; booked = λ x is. is; segment = λ x is. refl; stores = λ p is. is; filed = λ x is. is; calm = λ none c. c };
-          fresh = λ x is. inl is;
+          frame =
+              record { others = refl; booked = λ x fact. fact; segment = λ x fact. refl; stores = λ p fact. fact; filed = λ x fact. fact; calm = λ none c. c };
+          fresh = λ x fact. inl fact;
           paged = paged;
           shows = inl h;
           said = tt;
@@ -422,8 +423,8 @@ module _ (g : Setting) (chain : List Segment) where
           world = record w { stores = t.all };
           later = book;
           steps = t.steps;
-          frame = record { others = refl; booked = λ x is. is; segment = λ x is. refl; stores = t.grown; filed = λ x is. is; calm = λ none c. c };
-          fresh = λ x is. inl is;
+          frame = record { others = refl; booked = λ x fact. fact; segment = λ x fact. refl; stores = t.grown; filed = λ x fact. fact; calm = λ none c. c };
+          fresh = λ x fact. inl fact;
           paged = paged;
           shows = inl (record {
             writes = record { log = h.writes.log; inc = h.writes.inc; some = h.writes.some; map = h.writes.map; known = h.writes.known };
@@ -475,7 +476,7 @@ module _ (g : Setting) (chain : List Segment) where
               phase = h.phase;
               clear = h.clear;
               base = h.base;
-              read = shown_on g w v book book s.end.seq chain (λ x is. (is, refl)) paged paged refl refl refl refl h.read;
+              read = shown_on g w v book book s.end.seq chain (λ x fact. (fact, refl)) paged paged refl refl refl refl h.read;
               flight = h.flight;
               is_flight = h.is_flight;
               flying = record {
@@ -489,8 +490,8 @@ module _ (g : Setting) (chain : List Segment) where
               };
             } in
             goes_after g _ w v book _ step
-            (record { others = refl; booked = λ x is. is; segment = λ x is. refl; stores = λ p is. is; filed = λ x is. is; calm = λ none c. c })
-            (λ x is. is) refl
+            (record { others = refl; booked = λ x fact. fact; segment = λ x fact. refl; stores = λ p fact. fact; filed = λ x fact. fact; calm = λ none c. c })
+            (λ x fact. fact) refl
             (looks_goes v book
             (record { servers = fixed.servers; seq_of = fixed.seq_of; incarnation_of = fixed.incarnation_of; attempt_of = fixed.attempt_of }) paged
             (reached_by w v reached step refl) s s (flights.noting h.flight index) there there
@@ -510,7 +511,8 @@ module _ (g : Setting) (chain : List Segment) where
         subst (λ o. Owed w book (elim o [ None ↦ still (record s { groups = m }) | Some f ↦ log.looked_at s (record s { groups = m }) f ])) (sym h.is_flight)
         (by_test w book fixed paged reached (log.can_follow (record s { groups = m }) h.flight (fate_of m h.flight)) _ _
         (λ t premise. goes_after g _ w v book _ step
-        (record { others = refl; booked = λ x is. is; segment = λ x is. refl; stores = λ p is. is; filed = λ x is. is; calm = λ none c. c }) (λ x is. is) refl
+        (record { others = refl; booked = λ x fact. fact; segment = λ x fact. refl; stores = λ p fact. fact; filed = λ x fact. fact; calm = λ none c. c })
+        (λ x fact. fact) refl
         (follows_goes v book
         (record { servers = fixed.servers; seq_of = fixed.seq_of; incarnation_of = fixed.incarnation_of; attempt_of = fixed.attempt_of }) paged
         (reached_by w v reached step refl) (record s { groups = m }) h.flight there h.flying premise))
@@ -528,7 +530,7 @@ module _ (g : Setting) (chain : List Segment) where
           phase = h.phase;
           clear = h.clear;
           base = h.base;
-          read = shown_on g w v book book s.end.seq chain (λ x is. (is, refl)) paged paged refl refl refl refl h.read;
+          read = shown_on g w v book book s.end.seq chain (λ x fact. (fact, refl)) paged paged refl refl refl refl h.read;
           flight = h.flight;
           is_flight = h.is_flight;
           flying = h.flying;

@@ -34,26 +34,26 @@ module _ (g : Setting) (w : State) (book : ℕ → Segment) (bound : ℕ) where
     pub exists : l.server < suc g.servers
 
   pub kept_list : (ls : List Listing) (l : Listing) → AllListed g w book bound ls → In l ls → ItsKept l
-  kept_list [] l all is = absurd is
+  kept_list [] l all fact = absurd fact
   kept_list (k ∷ ls) l all (inl e) = subst ItsKept (sym e) (record { seen = all.0.seen; past = all.0.past; exists = all.0.exists })
-  kept_list (k ∷ ls) l all (inr is) = kept_list ls l all.1 is
+  kept_list (k ∷ ls) l all (inr fact) = kept_list ls l all.1 fact
 
   -- and it is the one of its server
   pub its_own : (ls : List Listing) (l : Listing) → AllListed g w book bound ls → In l ls → listing_of ls l.server ≡ l
-  its_own [] l all is = absurd is
+  its_own [] l all fact = absurd fact
   its_own (k ∷ ls) l all (inl e) = ap (λ t. cond t k (listing_of ls l.server)) (ap (λ (z : Listing). k.server == z.server) e ∙ itself k.server) ∙ sym e
-  its_own (k ∷ ls) l all (inr is) = by (k.server == l.server) refl (its_own ls l all.1 is)
+  its_own (k ∷ ls) l all (inr fact) = by (k.server == l.server) refl (its_own ls l all.1 fact)
     where
       by : (t : Bool) → (k.server == l.server) ≡ t → listing_of ls l.server ≡ l → cond t k (listing_of ls l.server) ≡ l
-      by true e more = contrary (sym all.0.only ∙ (ap (λ z. has_list z ls) (equal k.server l.server e) ∙ has_in ls l is))
+      by true e more = contrary (sym all.0.only ∙ (ap (λ z. has_list z ls) (equal k.server l.server e) ∙ has_in ls l fact))
       by false e more = more
 
 -- a meta that is listed is of a booked segment
 meta_booked : (book : ℕ → Segment) (booked : ℕ → ℕ) (ms : List FragMeta) (x : FragMeta) → AllMetas book booked ms → In x ms
     → (y : ℕ) × (i : ℕ) × (booked y ≡ 1) × (x ≡ meta_of (book y) i)
-meta_booked book booked [] x all is = absurd is
+meta_booked book booked [] x all fact = absurd fact
 meta_booked book booked (k ∷ ms) x all (inl e) = (all.0.0, all.0.1, all.0.2, e ∙ all.0.3)
-meta_booked book booked (k ∷ ms) x all (inr is) = meta_booked book booked ms x all.1 is
+meta_booked book booked (k ∷ ms) x all (inr fact) = meta_booked book booked ms x all.1 fact
 
 -- what a number tells of the kept list of a server, or of server 0
 pub record TellsList (g : Setting) (w : State) (ls : List Listing) (bound v : ℕ) : Type 0 where
@@ -131,11 +131,11 @@ module _ (g : Setting) (w : State) (book : ℕ → Segment) (fixed : Fixed g w) 
   listed_meta v x h = named_in (name_of g x) (listing_of ls v).held (one_flag _ (sym ((told v).lists x) ∙ h))
 
   has_metas : (v : ℕ) (y : FragMeta) → In y (listing_of ls v).held → has_list v ls ≡ true
-  has_metas v y is = by (has_list v ls) refl
+  has_metas v y fact = by (has_list v ls) refl
     where
       by : (t : Bool) → has_list v ls ≡ t → has_list v ls ≡ true
       by true e = e
-      by false e = absurd (subst (In y) (no_list ls v e) is)
+      by false e = absurd (subst (In y) (no_list ls v e) fact)
 
   name_seq : (x : ℕ) (n : SegName) → n ≡ name_of g x → w.seq_of x ≡ n.seq
   name_seq x n named = ap (λ k. k x) fixed.seq_of ∙ sym (ap (λ (z : SegName). z.seq) named)

@@ -167,17 +167,17 @@ module _ (g : Setting) (v : State) (book : ℕ → Segment) (hellos : List Asked
     where
       asked : (a : Asked) → In a (question (o.ask + 1) ∷ hellos) → a.inc ≡ v.incarnation → a.ask ≤ o.ask + 1
       asked a (inl e) boot = let k = ap (λ (z : Asked). z.ask) e in omega arith
-      asked a (inr is) boot = let k = f.asked a is boot in omega arith
+      asked a (inr fact) boot = let k = f.asked a fact boot in omega arith
 
   pub sees_again : (o : Opening) (stage : Stage) → Framed o → StageShown g v book (question o.ask ∷ hellos) o stage → Sees (goes o stage (Hello o.ask ∷ []))
   sees_again o stage f h = record { shown = record { log = f.log; inc = f.inc; horizon = f.horizon; asked = asked; stage = h }; gives = (tt, tt) }
     where
       asked : (a : Asked) → In a (question o.ask ∷ hellos) → a.inc ≡ v.incarnation → a.ask ≤ o.ask
       asked a (inl e) boot = let k = ap (λ (z : Asked). z.ask) e in omega arith
-      asked a (inr is) boot = f.asked a is boot
+      asked a (inr fact) boot = f.asked a fact boot
 
   framed_drawn : (o : Opening) (ask : ℕ) → o.ask ≤ ask → Framed o → Framed (record o { ask = ask })
-  framed_drawn o ask more f = record { log = f.log; inc = f.inc; horizon = f.horizon; asked = λ a is boot. (let k = f.asked a is boot in omega arith) }
+  framed_drawn o ask more f = record { log = f.log; inc = f.inc; horizon = f.horizon; asked = λ a fact boot. (let k = f.asked a fact boot in omega arith) }
 
   -- a reading is seen alike after a question
   asked_reading : (o : Opening) (ask : ℕ) (b : Backward) → ReadingShown g v book o b → ReadingShown g v book (record o { ask = ask }) b
@@ -215,7 +215,7 @@ module _ (g : Setting) (v : State) (book : ℕ → Segment) (hellos : List Asked
     where
       after : (a : Asked) → In a (question (o.ask + 1) ∷ hellos) → a.inc ≡ v.incarnation → a.ask ≡ o.ask + 1 → bound ≤ a.low
       after a (inl e) boot same = let k = ap (λ (z : Asked). z.low) e in omega arith
-      after a (inr is) boot same = let k = f.asked a is boot in omega arith
+      after a (inr fact) boot same = let k = f.asked a fact boot in omega arith
 
   -- ---- reading back
 
@@ -293,7 +293,7 @@ module _ (g : Setting) (v : State) (book : ℕ → Segment) (hellos : List Asked
     -- one more segment is read: it is the booked one that the end names
     segment_read : (o : Opening) (b : Backward) (s : Segment) (y : ℕ) → ReadingShown g v book o b → is_bottom o.low b.next ≡ false
         → s.name ≡ name_at g.log b.next → v.booked y ≡ 1 → s ≡ book y → ReadingShown g v book o (with_segment b s)
-    segment_read o b s y h more named booked is = record {
+    segment_read o b s y h more named booked fact = record {
       phase = h.phase;
       mapped = h.mapped;
       base = h.base;
@@ -303,11 +303,11 @@ module _ (g : Setting) (v : State) (book : ℕ → Segment) (hellos : List Asked
       past = h.past;
       from = subst (AllFrom v.pick_low) (sym turned) (above, h.from);
       chained = subst (Chained g v book b.start.seq (point g (s.name.seq - 1) s.prior.pass)) (sym turned)
-          (y, booked, is, after, there, subst (λ z. Chained g v book b.start.seq z (reverse b.chain)) at_y h.chained);
+          (y, booked, fact, after, there, subst (λ z. Chained g v book b.start.seq z (reverse b.chain)) at_y h.chained);
       seq = (let a = h.seq in let c = seq in let d = some_seq in
           let e : length (reverse (b.chain ++ s ∷ [])) ≡ suc (length (reverse b.chain)) = ap length turned in omega arith);
       grouped = λ z of named.
-          (spelled.grouped y z booked of (named ∙ ap (λ (t : Segment). name_at g.log (end_below t)) is) ∙ ap (λ (t : Segment). t.prior.group) (sym is));
+          (spelled.grouped y z booked of (named ∙ ap (λ (t : Segment). name_at g.log (end_below t)) fact) ∙ ap (λ (t : Segment). t.prior.group) (sym fact));
     }
       where
         turned : reverse (b.chain ++ s ∷ []) ≡ s ∷ reverse b.chain
@@ -317,7 +317,7 @@ module _ (g : Setting) (v : State) (book : ℕ → Segment) (hellos : List Asked
         page = paged y booked
 
         its_name : s.name ≡ name_of g y
-        its_name = ap (λ (z : Segment). z.name) is ∙ page.named
+        its_name = ap (λ (z : Segment). z.name) fact ∙ page.named
 
         seq : s.name.seq ≡ b.next.seq
         seq = ap (λ (n : SegName). n.seq) named
@@ -330,13 +330,13 @@ module _ (g : Setting) (v : State) (book : ℕ → Segment) (hellos : List Asked
             seq_there in omega arith
 
         some_inc : 0 < b.next.pass.inc
-        some_inc = subst (λ (n : SegName). 0 < n.pass.inc) (ap (λ (z : Segment). z.name) (sym is) ∙ named) page.boot
+        some_inc = subst (λ (n : SegName). 0 < n.pass.inc) (ap (λ (z : Segment). z.name) (sym fact) ∙ named) page.boot
 
         at_y : point g b.next.seq b.next.pass ≡ y
         at_y = point_some g b.next.seq b.next.pass some_inc ∙ (ap (λ (n : SegName). g.code n.seq n.pass.inc n.pass.att) (sym named ∙ its_name) ∙ coded g y)
 
         after : v.prior_of y ≡ point g (s.name.seq - 1) s.prior.pass
-        after = page.follows ∙ ap (λ (z : Segment). point g (z.name.seq - 1) z.prior.pass) (sym is)
+        after = page.follows ∙ ap (λ (z : Segment). point g (z.name.seq - 1) z.prior.pass) (sym fact)
 
         there : g.seq_of y + length (reverse b.chain) ≡ b.start.seq
         there = let a = h.seq in let c = seq_there in omega arith

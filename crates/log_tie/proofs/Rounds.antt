@@ -80,27 +80,27 @@ module _ (g : Setting) (w : State) (book : ℕ → Segment) (paged : Book g w bo
     where
       by : (t : Told) → a.told ≡ t → ToldPiece g book w.booked e t → ((i : ℕ) → bytes_in i rest ≡ None) ⊎ FirstHeld rest
           → ((i : ℕ) → bytes_in i (a ∷ rest) ≡ None) ⊎ FirstHeld (a ∷ rest)
-      by (Held f) is told more = inr (record { fragment = f; piece = told.0; named = told.1; long = ap (λ t. reading_len t) is })
+      by (Held f) fact told more = inr (record { fragment = f; piece = told.0; named = told.1; long = ap (λ t. reading_len t) fact })
         where
           reading_len : Told → Option ℕ
           reading_len t = len_in (record { server = a.server; told = t } ∷ rest)
-      by (Missing generation) is told (inl none) = inl (λ i. ap (λ t. bytes_in i (record { server = a.server; told = t } ∷ rest)) is ∙ none i)
-      by (Missing generation) is told (inr h) =
+      by (Missing generation) fact told (inl none) = inl (λ i. ap (λ t. bytes_in i (record { server = a.server; told = t } ∷ rest)) fact ∙ none i)
+      by (Missing generation) fact told (inr h) =
           inr (record {
             fragment = h.fragment;
             piece = h.piece;
             named = h.named;
-            long = ap (λ t. len_in (record { server = a.server; told = t } ∷ rest)) is ∙ h.long;
+            long = ap (λ t. len_in (record { server = a.server; told = t } ∷ rest)) fact ∙ h.long;
           })
 
   -- ---- the booked segment of the name
 
-  module _ (y : ℕ) (is : w.booked y ≡ 1) (named : (book y).name ≡ name_at g.log e) (group : (book y).group ≡ e.group) where
+  module _ (y : ℕ) (fact : w.booked y ≡ 1) (named : (book y).name ≡ name_at g.log e) (group : (book y).group ≡ e.group) where
     -- a fragment of the name is its own
     piece_here : (f : Fragment) → IsPiece g book w.booked f → f.meta.name ≡ name_at g.log e → f ≡ fragment_of g (book y) f.meta.index
     piece_here f p of =
         let same : p.0 ≡ y =
-        one_number g p.0 y (sym (paged p.0 p.2).named ∙ (ap (λ (z : Fragment). z.meta.name) (sym p.3) ∙ (of ∙ (sym named ∙ (paged y is).named)))) in
+        one_number g p.0 y (sym (paged p.0 p.2).named ∙ (ap (λ (z : Fragment). z.meta.name) (sym p.3) ∙ (of ∙ (sym named ∙ (paged y fact).named)))) in
         p.3 ∙ (ap (λ z. fragment_of g (book z) p.1) same ∙ ap (fragment_of g (book y)) (ap (λ (z : Fragment). z.meta.index) (sym p.3)))
 
     module _ (r : RoundSoFar) (shown : Shown r) where
@@ -147,7 +147,7 @@ module _ (g : Setting) (w : State) (book : ℕ → Segment) (paged : Book g w bo
       joined_is : is_enough r ≡ true → joined parts r.parity (length (text_of (book y))) ≡ text_of (book y)
       joined_is enough =
           let cut = round_cut r parts shown.is_round refl in
-          gives_back parts (text_of (book y)) (spelled.bytes y is) r.parity cut are
+          gives_back parts (text_of (book y)) (spelled.bytes y fact) r.parity cut are
           (few_missing r.parity cut.some cut.few (missing_from 0 parts)
           (enough_in r parts shown.is_round refl (le_test (count_of r) (count_by is_some parts) enough)))
 
@@ -184,8 +184,8 @@ module _ (g : Setting) (w : State) (book : ℕ → Segment) (paged : Book g w bo
 
   text_read : (r : ReadingState) (groups : GroupMapState) (bytes : List ℕ) (y : ℕ) → w.booked y ≡ 1 → bytes ≡ text_of (book y) → (t : Segment)
       → (judged r groups (round.Read bytes)).next ≡ next.Read t → t ≡ book y
-  text_read r groups bytes y is text t reads =
-      let answer : answer_of bytes ≡ Ok (book y) = ap answer_of text ∙ answer_again (text_of (book y)) (book y) (spelled.fits y is) (spelled.text y is) in
+  text_read r groups bytes y fact text t reads =
+      let answer : answer_of bytes ≡ Ok (book y) = ap answer_of text ∙ answer_again (text_of (book y)) (book y) (spelled.fits y fact) (spelled.text y fact) in
       by_test (λ (o : Option Segment). (read_as r o).next ≡ next.Read t → t ≡ book y) (is_target r.target groups (book y)) (Some (book y)) None (λ k same. cc)
       (λ k same. absurd cc)
       (subst (λ (a : Result Segment SegError). (read_as r (segment_found r.target groups a)).next ≡ next.Read t) answer reads)

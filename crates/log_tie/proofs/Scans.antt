@@ -79,7 +79,7 @@ module _ (g : Setting) (w : State) (book : ℕ → Segment) (hellos : List Asked
         later = book;
         steps = steps;
         frame = by;
-        fresh = λ x is. inl (back x is);
+        fresh = λ x fact. inl (back x fact);
         paged = pages;
         shows = (shows, back, picks);
         said = tt;
@@ -96,8 +96,15 @@ module _ (g : Setting) (w : State) (book : ℕ → Segment) (hellos : List Asked
   -- by none
   goes_still : (d : Done) → Sees g w book hellos d → To d
   goes_still d shows =
-      goes_by w d Still (record { others = refl; booked = λ x is. is; segment = λ x is. refl; stores = λ p is. is; filed = λ x is. is; calm = λ none c. c })
-      (λ x is. is) (no_pick _ refl refl) paged refl shows
+      goes_by w d Still (record {
+        others = refl;
+        booked = λ x fact. fact;
+        segment = λ x fact. refl;
+        stores = λ p fact. fact;
+        filed = λ x fact. fact;
+        calm = λ none c. c;
+      })
+      (λ x fact. fact) (no_pick _ refl refl) paged refl shows
 
   framed_of : (o : Opening) (stage : Stage) → ScanShown g w book hellos (record { opening = o; stage = stage }) → Framed g w book hellos o
   framed_of o stage h = record { log = h.log; inc = h.inc; horizon = h.horizon; asked = h.asked }
@@ -114,7 +121,8 @@ module _ (g : Setting) (w : State) (book : ℕ → Segment) (hellos : List Asked
     goes_learned : (d : Done) → Sees g learned book hellos d → To d
     goes_learned d shows =
         goes_by learned d learning
-        (record { others = refl; booked = λ x is. is; segment = λ x is. refl; stores = λ p is. is; filed = λ x is. is; calm = λ none c. c }) (λ x is. is)
+        (record { others = refl; booked = λ x fact. fact; segment = λ x fact. refl; stores = λ p fact. fact; filed = λ x fact. fact; calm = λ none c. c })
+        (λ x fact. fact)
         (no_pick _ refl refl) paged refl shows
 
     mapped_there : Mapped g learned (Some m)
@@ -228,7 +236,14 @@ module _ (g : Setting) (w : State) (book : ℕ → Segment) (hellos : List Asked
 
         goes_cut : (d : Done) → Sees g cut book hellos d → To d
         goes_cut d shows = goes_by cut d (More learning (Cuts (max o.low least) (record { rises = (let a = h.low in omega arith); known = risen_known })))
-            (record { others = refl; booked = λ x is. is; segment = λ x is. refl; stores = λ p is. is; filed = λ x is. is; calm = λ none c. c }) (λ x is. is)
+            (record {
+              others = refl;
+              booked = λ x fact. fact;
+              segment = λ x fact. refl;
+              stores = λ p fact. fact;
+              filed = λ x fact. fact;
+              calm = λ none c. c;
+            }) (λ x fact. fact)
             (no_pick _ refl refl) paged refl shows
 
         cut_fixed : Fixed g cut
@@ -292,7 +307,7 @@ module _ (g : Setting) (w : State) (book : ℕ → Segment) (hellos : List Asked
             goes_by v (follows risen (read_from start)) steps by back
             (record { begins = λ a b. picked; stays = λ a. absurd (let p = k.gathering.phase in omega arith) }) pages end
             (follows_shown g v book hellos risen (read_from start)
-            (record { log = f.log; inc = f.inc ∙ sym inc; horizon = (let a = risen_known in omega arith); asked = λ a is boot. f.asked a is (boot ∙ inc) })
+            (record { log = f.log; inc = f.inc ∙ sym inc; horizon = (let a = risen_known in omega arith); asked = λ a fact boot. f.asked a fact (boot ∙ inc) })
             (record {
               phase = phase;
               mapped = mapped;
@@ -313,12 +328,12 @@ module _ (g : Setting) (w : State) (book : ℕ → Segment) (hellos : List Asked
             (Picks_none lists_of (max o.low least)
             (picks_nothing g learned book learned_fixed paged learned_reached m whole k.bound
             (max o.low least) lists gathering.kept gathering.phantom k.every k.begun later risen_known gathering.phase none)))
-            (record { others = refl; booked = λ x is. is; segment = λ x is. refl; stores = λ p is. is; filed = λ x is. is; calm = λ none c. c })
-            (λ x is. is) paged refl refl (record { map = m; taken = refl; whole = whole; known = λ u. refl }) refl
+            (record { others = refl; booked = λ x fact. fact; segment = λ x fact. refl; stores = λ p fact. fact; filed = λ x fact. fact; calm = λ none c. c })
+            (λ x fact. fact) paged refl refl (record { map = m; taken = refl; whole = whole; known = λ u. refl }) refl
             (let a = low_some in omega arith) refl refl refl refl none_named
           where
             none_named : IsGrouped g book w.booked (end_of_none (max o.low least - 1))
-            none_named y is named = let a = (paged y is).boot in let b = ap (λ (n : SegName). n.pass.inc) named in absurd (omega arith)
+            none_named y fact named = let a = (paged y fact).boot in let b = ap (λ (n : SegName). n.pass.inc) named in absurd (omega arith)
 
         module _ (b : FragMeta) (one : BestOne b) (group : Group) (of : group_of m b.group ≡ Some group) where
           page : Page g one.number (book one.number) (w.text_of one.number) (w.member_count one.number) (w.member_server one.number)
@@ -332,15 +347,15 @@ module _ (g : Setting) (w : State) (book : ℕ → Segment) (hellos : List Asked
           seq = ap (λ t. t one.number) fixed.seq_of ∙ sym (ap (λ (z : SegName). z.seq) one.named)
 
           kept_grouped : IsGrouped g book w.booked (end_at b)
-          kept_grouped y is named =
+          kept_grouped y fact named =
               let same : y ≡ one.number =
               one_number g y one.number
-              (sym (paged y is).named ∙ (named ∙ ap (λ (n : SegName). name_at g.log (record { seq = n.seq; pass = n.pass; group = b.group })) one.named)) in
+              (sym (paged y fact).named ∙ (named ∙ ap (λ (n : SegName). name_at g.log (record { seq = n.seq; pass = n.pass; group = b.group })) one.named)) in
               ap (λ z. (book z).group) same ∙ ap (λ (z : FragMeta). z.group) (sym one.describes)
 
           prior_grouped : IsGrouped g book w.booked (end_before b)
-          prior_grouped y is named =
-              spelled.grouped one.number y one.booked is (named ∙ ap (λ (z : FragMeta). name_at g.log (end_before z)) one.describes)
+          prior_grouped y fact named =
+              spelled.grouped one.number y one.booked fact (named ∙ ap (λ (z : FragMeta). name_at g.log (end_before z)) one.describes)
               ∙ ap (λ (z : FragMeta). z.prior.group) (sym one.describes)
 
           kept_goes : is_torn lists b.name group.members ≡ false → To (follows risen (read_from (end_at b)))
@@ -349,8 +364,8 @@ module _ (g : Setting) (w : State) (book : ℕ → Segment) (hellos : List Asked
               (Picks_kept lists_of (max o.low least) one.number
               (keeps_it g learned book learned_fixed paged learned_reached m whole k.bound
               (max o.low least) lists gathering.kept gathering.phantom k.every k.begun later risen_known b one group of gathering.phase none)))
-              (record { others = refl; booked = λ x is. is; segment = λ x is. refl; stores = λ p is. is; filed = λ x is. is; calm = λ none c. c })
-              (λ x is. is) paged refl refl (record { map = m; taken = refl; whole = whole; known = λ u. refl })
+              (record { others = refl; booked = λ x fact. fact; segment = λ x fact. refl; stores = λ p fact. fact; filed = λ x fact. fact; calm = λ none c. c })
+              (λ x fact. fact) paged refl refl (record { map = m; taken = refl; whole = whole; known = λ u. refl })
               (sym (point_some g b.name.seq b.name.pass some_inc ∙ (ap (λ (z : SegName). g.code z.seq z.pass.inc z.pass.att) one.named ∙ coded g one.number)))
               (let a = seq in omega arith) refl refl refl refl kept_grouped
 
@@ -361,8 +376,8 @@ module _ (g : Setting) (w : State) (book : ℕ → Segment) (hellos : List Asked
               (Picks_prior lists_of (max o.low least) one.number l.place
               (discards_it g learned book learned_fixed paged learned_reached m whole k.bound
               (max o.low least) lists gathering.kept gathering.phantom k.every k.begun later risen_known b one group of gathering.phase l)))
-              (record { others = refl; booked = λ x is. is; segment = λ x is. refl; stores = λ p is. is; filed = λ x is. is; calm = λ none c. c })
-              (λ x is. is) paged refl refl (record { map = m; taken = refl; whole = whole; known = λ u. refl })
+              (record { others = refl; booked = λ x fact. fact; segment = λ x fact. refl; stores = λ p fact. fact; filed = λ x fact. fact; calm = λ none c. c })
+              (λ x fact. fact) paged refl refl (record { map = m; taken = refl; whole = whole; known = λ u. refl })
               (page.follows ∙ ap (λ (z : FragMeta). point g (z.name.seq - 1) z.prior.pass) (sym one.describes))
               (let a = (always w reached).shelf.priors.seq_some one.number one.booked in let q = seq in omega arith) refl refl refl refl prior_grouped
 
@@ -529,7 +544,7 @@ module _ (g : Setting) (w : State) (book : ℕ → Segment) (hellos : List Asked
       after : (a : Asked) → In a (record { inc = w.incarnation; ask = o.ask; low = w.low } ∷ hellos) → a.inc ≡ w.incarnation → a.ask ≡ o.ask
           → h.stage.bound ≤ a.low
       after a (inl e) boot same = let k = ap (λ (z : Asked). z.low) e in let p = h.stage.past in omega arith
-      after a (inr is) boot same = h.stage.no_older a is boot same
+      after a (inr fact) boot same = h.stage.no_older a fact boot same
   tick_goes o (Reads b None) h =
       goes_still (goes o (Reads b None) (Hello o.ask ∷ [])) (sees_again g w book hellos o (Reads b None) (framed_of o (Reads b None) h) h.stage)
   tick_goes o (Reads b (Some r)) h = by_test (λ outs. To (goes o (Reads b (Some r)) outs)) (is_asking r.stage) (fetches r) (Hello o.ask ∷ [])
@@ -574,4 +589,4 @@ scan_starts g w book hellos fixed reached paged down nobody old = record {
     some = let a = (always w reached).shelf.horizons.begin_some in let b = (always w reached).shelf.horizons.begin_past in omega arith
 
     asked : (a : Asked) → In a hellos → a.inc ≡ suc w.incarnation → a.ask ≤ 1
-    asked a is boot = let k = old a is in absurd (omega arith)
+    asked a fact boot = let k = old a fact in absurd (omega arith)

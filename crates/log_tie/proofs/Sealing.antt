@@ -51,7 +51,7 @@ module _ (g : Setting) (w : State) (book : ℕ → Segment) (fixed : Fixed g w) 
           others = by.others;
           booked = by.booked;
           segment = by.segment;
-          stores = λ p is. t.grown p (by.stores p is);
+          stores = λ p fact. t.grown p (by.stores p fact);
           filed = by.filed;
           calm = by.calm;
         };
@@ -75,7 +75,7 @@ module _ (g : Setting) (w : State) (book : ℕ → Segment) (fixed : Fixed g w) 
     unfolding log.launched
     writes_goes items shown idle dirty =
         launch _ v later f x (More Done (Seals x _ _ _ _ can)) by (books_one w x) refl pages booked (sym here)
-        (sym (is.named) ∙ ap (λ (z : Segment). g.stripe z.group) (sym here)) (λ stores. record {
+        (sym (fact.named) ∙ ap (λ (z : Segment). g.stripe z.group) (sym here)) (λ stores. record {
           writes = record { log = shown.writes.log; inc = shown.writes.inc; some = shown.writes.some; map = shown.writes.map; known = shown.writes.known };
           phase = shown.phase;
           end = shown.end;
@@ -84,7 +84,7 @@ module _ (g : Setting) (w : State) (book : ℕ → Segment) (fixed : Fixed g w) 
             some = can.named;
             is_booked = booked;
             segment = sym here;
-            stripe = sym (is.named) ∙ ap (λ (z : Segment). g.stripe z.group) (sym here);
+            stripe = sym (fact.named) ∙ ap (λ (z : Segment). g.stripe z.group) (sym here);
             own = ap (λ (z : Segment). z.name.pass.inc) here;
             next = ap (λ (z : Segment). z.name.seq) here;
             notes = λ i noted. contrary (sym (nothing_noted i) ∙ noted);
@@ -97,8 +97,8 @@ module _ (g : Setting) (w : State) (book : ℕ → Segment) (fixed : Fixed g w) 
         f : FlightState
         f = flights.flown fresh_name (log.prior_from s.end) items group
 
-        is : IsStripe g s.groups group
-        is = shown.writes.map s.log.0 (s.end.seq + 1)
+        fact : IsStripe g s.groups group
+        fact = shown.writes.map s.log.0 (s.end.seq + 1)
 
         v : State
         v = booked_state g w book x f.segment group s.groups w.end (g.content items)
@@ -116,7 +116,7 @@ module _ (g : Setting) (w : State) (book : ℕ → Segment) (fixed : Fixed g w) 
           named = some_number g x (let e = g.its_seq (s.end.seq + 1) s.inc 1 in omega arith);
           next = let e = ap (λ k. k w.end) fixed.seq_of in let d = shown.end_seq in let q = seq in omega arith;
           own = ap (λ k. k x) fixed.incarnation_of ∙ (g.its_incarnation _ _ _ ∙ shown.writes.inc);
-          group = stripe_group g w book x f.segment group s.groups w.end (g.content items) fixed.servers is;
+          group = stripe_group g w book x f.segment group s.groups w.end (g.content items) fixed.servers fact;
         }
 
         new : w.booked x ≡ 1 → ⊥
@@ -126,7 +126,7 @@ module _ (g : Setting) (w : State) (book : ℕ → Segment) (fixed : Fixed g w) 
         pages = booked_pages g w book x f.segment group s.groups w.end (g.content items)
             (sym (name_coded g (s.end.seq + 1) s.inc 1
             ∙ ap (λ l. record { log = l; seq = s.end.seq + 1; pass = record { inc = s.inc; att = 1 } }) (sym shown.writes.log)))
-            shown.writes.some refl (shown.end ∙ ap (λ q. point g q s.end.pass) (omega arith)) refl is shown.writes.known paged
+            shown.writes.some refl (shown.end ∙ ap (λ q. point g q s.end.pass) (omega arith)) refl fact shown.writes.known paged
 
         booked : v.booked x ≡ 1
         booked = grind (arith, nat_tests)
@@ -137,12 +137,12 @@ module _ (g : Setting) (w : State) (book : ℕ → Segment) (fixed : Fixed g w) 
         by : ByOwner g w v book later
         by = record {
           others = refl;
-          booked = λ y is. put_one y is;
-          segment = λ y is. page_there w book x f.segment new y is;
-          stores = λ p is. is;
-          filed = λ y is. is;
+          booked = λ y fact. put_one y fact;
+          segment = λ y fact. page_there w book x f.segment new y fact;
+          stores = λ p fact. fact;
+          filed = λ y fact. fact;
           calm = λ none c. c;
         }
           where
             put_one : (y : ℕ) → w.booked y ≡ 1 → v.booked y ≡ 1
-            put_one y is = grind (arith, nat_tests)
+            put_one y fact = grind (arith, nat_tests)

@@ -33,7 +33,7 @@ module _ (g : Setting) (w : State) (book : ℕ → Segment) where
       → ((j k : ℕ) → j ≡ k + i → k < length ms
       → (j < w.member_count x) × (w.member_server x j ≡ server_of ms k) × (w.member_generation x j ≡ generation_of ms k)) → Sent stores (sends f ms i)
   unfolding piece
-  sent_from f x [] i stores booked segment stripe paged at = record { all = stores; steps = Done; grown = λ p is. is; said = tt }
+  sent_from f x [] i stores booked segment stripe paged at = record { all = stores; steps = Done; grown = λ p fact. fact; said = tt }
   sent_from f x (m ∷ ms) i stores booked segment stripe paged at =
       by (is_noted f.noted i) (λ stores. sent_from f x ms (i + 1) stores booked segment stripe paged (λ j k e below. at j (suc k) (omega arith) (omega arith)))
     where
@@ -60,7 +60,7 @@ module _ (g : Setting) (w : State) (book : ℕ → Segment) where
       by false more = let t = more (packet ∷ stores) in record {
         all = t.all;
         steps = first t;
-        grown = λ p is. t.grown p (inr is);
+        grown = λ p fact. t.grown p (inr fact);
         said = (
           record {
             name = x;

@@ -156,8 +156,8 @@ module _ (g : Setting) where
           world = record w { stores = t.all };
           later = book;
           steps = t.steps;
-          frame = record { others = refl; booked = λ x is. is; segment = λ x is. refl; stores = t.grown; filed = λ x is. is; calm = λ none c. c };
-          fresh = λ x is. inl is;
+          frame = record { others = refl; booked = λ x fact. fact; segment = λ x fact. refl; stores = t.grown; filed = λ x fact. fact; calm = λ none c. c };
+          fresh = λ x fact. inl fact;
           paged = paged;
           shows = record {
             writes = record { log = h.writes.log; inc = h.writes.inc; some = h.writes.some; map = h.writes.map; known = h.writes.known };
@@ -192,13 +192,13 @@ module _ (g : Setting) where
         -- nothing is in flight behind a settled segment, so nothing was booked
         nothing_flies : (t : Goes g w book (ServesAs after_it) (Settled (end_from f.segment) (rows_of f.segment) ∷ [])) (x : ℕ) → t.world.booked x ≡ 1
             → x ≡ t.world.flight → w.booked x ≡ 1
-        nothing_flies t x is e = let a = (always t.world (reached_by w t.world reached t.steps t.frame.others)).shelf.texts.booked_name x is in let b =
+        nothing_flies t x fact e = let a = (always t.world (reached_by w t.world reached t.steps t.frame.others)).shelf.texts.booked_name x fact in let b =
             t.shows.flight in absurd (omega arith)
 
         settling : Goes g w book (ServesAs after_it) (Settled (end_from f.segment) (rows_of f.segment) ∷ [])
             → To w book (saying (Settled (end_from f.segment) (rows_of f.segment) ∷ []) (log.if_full after_it))
         settling t = goes_through g (ServesAs (log.if_full after_it).state) (ServesAs after_it) w book _ _ t
-            (λ x is. ⊎_elim (λ old. old) (λ e. nothing_flies t x is e) (t.fresh x is))
+            (λ x fact. ⊎_elim (λ old. old) (λ e. nothing_flies t x fact e) (t.fresh x fact))
             (full_goes t.world t.later (fixed_by g w t.world fixed t.frame.others) t.paged
             (reached_by w t.world reached t.steps t.frame.others) after_it t.shows)
 
@@ -231,7 +231,7 @@ module _ (g : Setting) where
         later = t.later;
         steps = steps_through w v t.world steps t.steps;
         frame = by_through g w v t.world book book t.later by t.frame;
-        fresh = λ x is. ⊎_elim (λ old. inl (back x old)) inr (t.fresh x is);
+        fresh = λ x fact. ⊎_elim (λ old. inl (back x old)) inr (t.fresh x fact);
         paged = t.paged;
         shows = t.shows;
         said = t.said;
@@ -240,7 +240,7 @@ module _ (g : Setting) where
     where
       after_end : EndFollows g v t.world outs → EndFollows g w t.world outs
       after_end (inl e) = inl (e ∙ same)
-      after_end (inr is) = inr is
+      after_end (inr fact) = inr fact
 
   pub noted_more : (noted : List Bool) (table : ℕ → ℕ) (index : ℕ) → ((i : ℕ) → is_noted noted i ≡ true → table i ≡ 1) → (i : ℕ)
       → is_noted (slice_set noted index true) i ≡ true → put table index 1 i ≡ 1
@@ -276,8 +276,15 @@ module _ (g : Setting) where
                 More Done (Notes (record { name = seen.number; index = index; generation = generation })
                 (record { sent = seen.sent; flying = shown.some; named = same })) in
                 goes_after _ w v book _ step
-                (record { others = refl; booked = λ x is. is; segment = λ x is. refl; stores = λ p is. is; filed = λ x is. is; calm = λ none c. c })
-                (λ x is. is) refl
+                (record {
+                  others = refl;
+                  booked = λ x fact. fact;
+                  segment = λ x fact. refl;
+                  stores = λ p fact. fact;
+                  filed = λ x fact. fact;
+                  calm = λ none c. c;
+                })
+                (λ x fact. fact) refl
                 (looks_goes v book
                 (record { servers = fixed.servers; seq_of = fixed.seq_of; incarnation_of = fixed.incarnation_of; attempt_of = fixed.attempt_of }) paged
                 (reached_by w v reached step refl) s (flights.noting f index)
@@ -319,7 +326,7 @@ module _ (g : Setting) where
         step = More Done (Learns (present_at m) (record { known = seen.past }))
 
         frame : ByOwner g w v book book
-        frame = record { others = refl; booked = λ x is. is; segment = λ x is. refl; stores = λ p is. is; filed = λ x is. is; calm = λ none c. c }
+        frame = record { others = refl; booked = λ x fact. fact; segment = λ x fact. refl; stores = λ p fact. fact; filed = λ x fact. fact; calm = λ none c. c }
 
         shown_there : Serves g v book (record s { groups = m })
         shown_there =
@@ -337,10 +344,10 @@ module _ (g : Setting) where
         by : (o : Option FlightState) → s.flight ≡ o → FlightShown g book o s.inc s.end.seq (w.booked w.flight) w.flight w.noted
             → To w book (elim o [ None ↦ still (record s { groups = m }) | Some f ↦ log.looked_at s (record s { groups = m }) f ])
         by None e shown =
-            goes_after _ w v book [] step frame (λ x is. is) refl
+            goes_after _ w v book [] step frame (λ x fact. fact) refl
             (nothing v book fixed_there paged (reached_by w v reached step refl) (record s { groups = m }) shown_there)
         by (Some f) e shown = by_test w book fixed paged reached s (log.can_follow (record s { groups = m }) f (fate_of m f)) _ _
-            (λ t. goes_after _ w v book _ step frame (λ x is. is) refl
+            (λ t. goes_after _ w v book _ step frame (λ x fact. fact) refl
             (follows_goes v book fixed_there paged (reached_by w v reached step refl) (record s { groups = m }) f shown_there shown))
             (λ t. nothing w book fixed paged reached s h)
 

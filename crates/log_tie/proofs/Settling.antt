@@ -95,13 +95,13 @@ module _ (g : Setting) (w : State) (book : ℕ → Segment) (fixed : Fixed g w) 
   unfolding log.restriped log.launched
   restriped_goes f writes h =
       launch g w book fixed paged _ v later f' x (More Done (Restripes x _ _ _ can)) by (books_one w x) refl pages booked (sym here)
-      (sym is.named ∙ ap (λ (z : Segment). g.stripe z.group) (sym here)) (λ stores. record {
+      (sym fact.named ∙ ap (λ (z : Segment). g.stripe z.group) (sym here)) (λ stores. record {
         writes = record { log = writes.log; inc = writes.inc; some = writes.some; map = writes.map; known = writes.known };
         flying = record {
           some = can.named;
           is_booked = booked;
           segment = sym here;
-          stripe = sym is.named ∙ ap (λ (z : Segment). g.stripe z.group) (sym here);
+          stripe = sym fact.named ∙ ap (λ (z : Segment). g.stripe z.group) (sym here);
           own = ap (λ (z : Segment). z.name.pass.inc) here ∙ (ap (λ (z : Segment). z.name.pass.inc) h.segment ∙ h.own);
           next = ap (λ (z : Segment). z.name.seq) here ∙ (ap (λ (z : Segment). z.name.seq) h.segment ∙ h.next);
           notes = λ i noted. contrary (sym (nothing_noted i) ∙ noted);
@@ -121,8 +121,8 @@ module _ (g : Setting) (w : State) (book : ℕ → Segment) (fixed : Fixed g w) 
       f' : FlightState
       f' = flights.flown name f.segment.prior f.segment.items group
 
-      is : IsStripe g s.groups group
-      is = writes.map s.log.0 f.segment.name.seq
+      fact : IsStripe g s.groups group
+      fact = writes.map s.log.0 f.segment.name.seq
 
       named : f.segment.name ≡ name_of g w.flight
       named = flight_name f h
@@ -150,7 +150,7 @@ module _ (g : Setting) (w : State) (book : ℕ → Segment) (fixed : Fixed g w) 
         later = let e : w.attempt_of x ≡ f.segment.name.pass.att + 1 = ap (λ k. k x) fixed.attempt_of ∙ g.its_attempt _ _ _ in
             let d : w.attempt_of w.flight ≡ f.segment.name.pass.att = ap (λ k. k w.flight) fixed.attempt_of ∙ sym (ap (λ (n : SegName). n.pass.att) named) in
             omega arith;
-        group = stripe_group g w book x f'.segment group s.groups (w.prior_of w.flight) (w.content_of w.flight) fixed.servers is;
+        group = stripe_group g w book x f'.segment group s.groups (w.prior_of w.flight) (w.content_of w.flight) fixed.servers fact;
       }
 
       new : w.booked x ≡ 1 → ⊥
@@ -173,20 +173,20 @@ module _ (g : Setting) (w : State) (book : ℕ → Segment) (fixed : Fixed g w) 
             pass = record { inc = f.segment.name.pass.inc; att = f.segment.name.pass.att + 1 };
           }) named ∙ sym (name_coded g f.segment.name.seq f.segment.name.pass.inc (f.segment.name.pass.att + 1)))
           (let a = writes.some in let e = ap (λ (z : Segment). z.name.pass.inc) h.segment ∙ h.own in omega arith) refl
-          (page.follows ∙ ap (λ (z : Segment). point g (z.name.seq - 1) z.prior.pass) (sym h.segment)) content is writes.known paged
+          (page.follows ∙ ap (λ (z : Segment). point g (z.name.seq - 1) z.prior.pass) (sym h.segment)) content fact writes.known paged
 
       by : ByOwner g w v book later
       by = record {
         others = refl;
-        booked = λ y is. put_one y is;
-        segment = λ y is. page_there w book x f'.segment new y is;
-        stores = λ p is. is;
-        filed = λ y is. is;
+        booked = λ y fact. put_one y fact;
+        segment = λ y fact. page_there w book x f'.segment new y fact;
+        stores = λ p fact. fact;
+        filed = λ y fact. fact;
         calm = λ none c. c;
       }
         where
           put_one : (y : ℕ) → w.booked y ≡ 1 → v.booked y ≡ 1
-          put_one y is = grind (arith, nat_tests)
+          put_one y fact = grind (arith, nat_tests)
 
   -- it waits on
   pub waits_goes : (f : FlightState) → Writes g w s → FlyingHere f → Goes g w book (Aloft s f) []
@@ -195,8 +195,9 @@ module _ (g : Setting) (w : State) (book : ℕ → Segment) (fixed : Fixed g w) 
         world = w;
         later = book;
         steps = Done;
-        frame = record { others = refl; booked = λ x is. is; segment = λ x is. refl; stores = λ p is. is; filed = λ x is. is; calm = λ none c. c };
-        fresh = λ x is. inl is;
+        frame =
+            record { others = refl; booked = λ x fact. fact; segment = λ x fact. refl; stores = λ p fact. fact; filed = λ x fact. fact; calm = λ none c. c };
+        fresh = λ x fact. inl fact;
         paged = paged;
         shows = record { writes = writes; flying = h; standing = refl };
         said = tt;
@@ -243,8 +244,16 @@ module _ (g : Setting) (w : State) (book : ℕ → Segment) (fixed : Fixed g w) 
     world = settles w;
     later = book;
     steps = More Done (Settles (record { serving = shown.phase; flying = h.some; settled = settled_there f shown.writes h all }));
-    frame = record { others = refl; booked = λ x is. is; segment = λ x is. refl; stores = λ p is. is; filed = λ x is. put_one x is; calm = λ none c. c };
-    fresh = λ x is. inl is;
+    frame =
+        record {
+          others = refl;
+          booked = λ x fact. fact;
+          segment = λ x fact. refl;
+          stores = λ p fact. fact;
+          filed = λ x fact. put_one x fact;
+          calm = λ none c. c;
+        };
+    fresh = λ x fact. inl fact;
     paged = paged;
     shows = record {
       writes = record { log = shown.writes.log; inc = shown.writes.inc; some = shown.writes.some; map = shown.writes.map; known = shown.writes.known };
@@ -258,7 +267,7 @@ module _ (g : Setting) (w : State) (book : ℕ → Segment) (fixed : Fixed g w) 
   }
     where
       put_one : (x : ℕ) → w.filed x ≡ 1 → (settles w).filed x ≡ 1
-      put_one x is = grind (arith, nat_tests)
+      put_one x fact = grind (arith, nat_tests)
 
       here : (settles w).filed w.flight ≡ 1
       here = grind (arith, nat_tests)

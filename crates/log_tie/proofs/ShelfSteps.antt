@@ -56,9 +56,9 @@ module _ (g : Setting) (w : State) (book : ℕ → Segment) (v : ℕ) (s : Shelf
       holds = λ k x other. refl;
       index = λ k x other. refl;
       marked = λ k x other. refl;
-      storeds = λ p is. is;
-      fragments = λ p is. is;
-      fenceds = λ p is. is;
+      storeds = λ p fact. fact;
+      fragments = λ p fact. fact;
+      fenceds = λ p fact. fact;
     };
     shows = shows;
     tells = told;
@@ -106,9 +106,9 @@ module _ (g : Setting) (w : State) (book : ℕ → Segment) (v : ℕ) (s : Shelf
         holds = λ k x other. elsewhere w.holds v seen.name 1 k x other;
         index = λ k x other. elsewhere w.kept_index v seen.name seen.index k x other;
         marked = λ k x other. refl;
-        storeds = λ p is. inr is;
-        fragments = λ p is. is;
-        fenceds = λ p is. is;
+        storeds = λ p fact. inr fact;
+        fragments = λ p fact. fact;
+        fenceds = λ p fact. fact;
       };
       shows = subst (λ (z : ShelfState). ShelfShown g (accepts w packet) book v z) (sym (taken absent))
           (subst (λ (q : (ℕ → ℕ) × (ℕ → ℕ)). Shelved g book w.booked (w.generation v) q.0 q.1 (w.marked v) (record s { held = with_fragment f s.held }))
@@ -133,9 +133,9 @@ module _ (g : Setting) (w : State) (book : ℕ → Segment) (v : ℕ) (s : Shelf
         holds = λ k x other. refl;
         index = λ k x other. refl;
         marked = λ k x other. refl;
-        storeds = λ p is. inr is;
-        fragments = λ p is. is;
-        fenceds = λ p is. is;
+        storeds = λ p fact. inr fact;
+        fragments = λ p fact. fact;
+        fenceds = λ p fact. fact;
       };
       shows = subst (λ (z : ShelfState). ShelfShown g w book v z)
           (sym (ap (λ b. cond b (kept s f) s) t ∙ ap (λ b. cond b s (record s { held = with_fragment f s.held })) present)) h;
@@ -168,8 +168,8 @@ module _ (g : Setting) (w : State) (book : ℕ → Segment) (v : ℕ) (s : Shelf
   -- what is held of a name of the log is a fragment of the booked segment of that name
   found : (fs : List Fragment) → AllPieces g book w.booked fs → (name : SegName) (f : Fragment) → is_of_log g name ≡ true → held_at fs name ≡ Some f
       → IsPiece g book w.booked f × (f.meta.name ≡ name)
-  found [] all name f own is = contrary (ap is_some is)
-  found (z ∷ zs) all name f own is = by (λ k. found zs all.1 name f own k) (same_name name z.meta.name) refl is
+  found [] all name f own fact = contrary (ap is_some fact)
+  found (z ∷ zs) all name f own fact = by (λ k. found zs all.1 name f own k) (same_name name z.meta.name) refl fact
     where
       by : (held_at zs name ≡ Some f → IsPiece g book w.booked f × (f.meta.name ≡ name)) → (t : Bool) → same_name name z.meta.name ≡ t
           → cond t (Some z) (held_at zs name) ≡ Some f → IsPiece g book w.booked f × (f.meta.name ≡ name)
@@ -184,7 +184,7 @@ module _ (g : Setting) (w : State) (book : ℕ → Segment) (v : ℕ) (s : Shelf
     where
       by : (a : Bool) → is_of_log g name ≡ a → (o : Option Fragment) → held_at s.held name ≡ o → Did g w book v s (Fetches name)
       by false other o e = rests (Fetches name) h (λ f own. contrary (sym other ∙ own))
-      by true own None e = rests (Fetches name) h (λ f _ is. contrary (ap is_some (sym e ∙ is)))
+      by true own None e = rests (Fetches name) h (λ f _ fact. contrary (ap is_some (sym e ∙ fact)))
       by true own (Some f) e = record {
         world = tells w v x;
         steps = More Done (TellsStep v x (record { held = held }));
@@ -194,14 +194,14 @@ module _ (g : Setting) (w : State) (book : ℕ → Segment) (v : ℕ) (s : Shelf
           holds = λ k x other. refl;
           index = λ k x other. refl;
           marked = λ k x other. refl;
-          storeds = λ p is. is;
-          fragments = λ p is. inr is;
-          fenceds = λ p is. is;
+          storeds = λ p fact. fact;
+          fragments = λ p fact. inr fact;
+          fenceds = λ p fact. fact;
         };
         shows = h;
-        tells = λ z _ is. subst
+        tells = λ z _ fact. subst
             (λ (y : Fragment). (k : ℕ) × (i : ℕ) × (w.booked k ≡ 1) × (name ≡ name_of g k) × (y ≡ fragment_of g (book k) i)
-            × In (record { name = k; text = w.text_of k }) (tells w v x).fragments) (ap (λ o. unwrap_or o f) (sym e ∙ is))
+            × In (record { name = k; text = w.text_of k }) (tells w v x).fragments) (ap (λ o. unwrap_or o f) (sym e ∙ fact))
             (x, there.0.1, there.0.2, named, there.0.3, inl (λ i. record { name = x; text = sym ((always w reached).shelf.texts.held_text v x held) i }));
       }
         where
@@ -237,9 +237,9 @@ module _ (g : Setting) (w : State) (book : ℕ → Segment) (v : ℕ) (s : Shelf
       holds = λ k x other. refl;
       index = λ k x other. refl;
       marked = λ k x other. refl;
-      storeds = λ p is. is;
-      fragments = λ p is. is;
-      fenceds = λ p is. inr is;
+      storeds = λ p fact. fact;
+      fragments = λ p fact. fact;
+      fenceds = λ p fact. inr fact;
     };
     shows = fenced inc;
     tells = (
@@ -266,9 +266,9 @@ module _ (g : Setting) (w : State) (book : ℕ → Segment) (v : ℕ) (s : Shelf
           holds = λ k x other. elsewhere w.holds v seen.number 0 k x other;
           index = λ k x other. refl;
           marked = λ k x other. elsewhere w.marked v seen.number 1 k x other;
-          storeds = λ p is. is;
-          fragments = λ p is. is;
-          fenceds = λ p is. is;
+          storeds = λ p fact. fact;
+          fragments = λ p fact. fact;
+          fenceds = λ p fact. fact;
         };
         shows = subst (λ (q : (ℕ → ℕ) × (ℕ → ℕ)). Shelved g book w.booked (w.generation v) q.0 (w.kept_index v) q.1 (on_delete s name))
             (λ i. (sym (at_place w.holds v seen.number 0) i, sym (at_place w.marked v seen.number 1) i))
@@ -304,9 +304,9 @@ module _ (g : Setting) (w : State) (book : ℕ → Segment) (v : ℕ) (s : Shelf
           holds = λ k x other. elsewhere w.holds v seen.name 1 k x other;
           index = λ k x other. elsewhere w.kept_index v seen.name seen.index k x other;
           marked = λ k x other. refl;
-          storeds = λ p is. is;
-          fragments = λ p is. is;
-          fenceds = λ p is. is;
+          storeds = λ p fact. fact;
+          fragments = λ p fact. fact;
+          fenceds = λ p fact. fact;
         };
         shows = subst
             (λ (z : ShelfState). Shelved g book w.booked (w.generation v) (put_at w.holds v seen.name 1 v) (put_at w.kept_index v seen.name seen.index v)
@@ -327,9 +327,9 @@ module _ (g : Setting) (w : State) (book : ℕ → Segment) (v : ℕ) (s : Shelf
       holds = λ k x other. there 0 (w.holds k x) k other;
       index = λ k x other. refl;
       marked = λ k x other. there 0 (w.marked k x) k other;
-      storeds = λ p is. is;
-      fragments = λ p is. is;
-      fenceds = λ p is. is;
+      storeds = λ p fact. fact;
+      fragments = λ p fact. fact;
+      fenceds = λ p fact. fact;
     };
     shows = by (v == v) (itself v);
     tells = tt;

@@ -56,8 +56,8 @@ module _ (g : Setting) (book : ℕ → Segment) (booked : ℕ → ℕ) (generati
   pub shelf_with : (f : Fragment) (x i : ℕ) → is_held s f.meta.name ≡ false → f.meta.name ≡ name_of g x → booked x ≡ 1 → f ≡ fragment_of g (book x) i
       → Shelved g book booked generation (λ y. if y == x then 1 else holds y) (λ y. if y == x then i else index y) marked
       (record s { held = with_fragment f s.held })
-  shelf_with f x i absent named known is =
-      record { of = h.of; keeps = keeps; each = pieces_with g book booked f s.held (λ own. (x, i, known, is)) h.each; marks = h.marks }
+  shelf_with f x i absent named known fact =
+      record { of = h.of; keeps = keeps; each = pieces_with g book booked f s.held (λ own. (x, i, known, fact)) h.each; marks = h.marks }
     where
       keeps : (y : ℕ)
           → Kept g (book y) (held_at (with_fragment f s.held) (name_of g y)) (booked y) (if y == x then 1 else holds y) (if y == x then i else index y)
@@ -67,7 +67,7 @@ module _ (g : Setting) (book : ℕ → Segment) (booked : ℕ → ℕ) (generati
           (by (y == x) refl)
         where
           by : (t : Bool) → (y == x) ≡ t → Kept g (book y) (cond t (Some f) (held_at s.held (name_of g y))) (booked y) (cond t 1 (holds y)) (cond t i (index y))
-          by true a = let same = equal y x a in (refl, ap booked same ∙ known, is ∙ ap (λ z. fragment_of g (book z) i) (sym same))
+          by true a = let same = equal y x a in (refl, ap booked same ∙ known, fact ∙ ap (λ z. fragment_of g (book z) i) (sym same))
           by false a = h.keeps y
 
   -- a fragment of another log is kept

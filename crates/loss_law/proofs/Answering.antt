@@ -41,14 +41,14 @@ pub record RoundSo (P : ℕ → ℕ → Type 0) (servers : List ℕ) (parity : �
 pub taken_so : (P : ℕ → ℕ → Type 0) (servers : List ℕ) (parity : ℕ) (r : RoundSoFar) (server : ℕ) (t : Told) → RoundSo P servers parity r → asks r server ≡ true
     → ToldSo P server t → RoundSo P servers parity (taken r server t)
 unfolding taken
-taken_so P servers parity r server t so asked is =
+taken_so P servers parity r server t so asked fact =
     by_test (RoundSo P servers parity) (has_answered r.answers server) r (record r { answers = r.answers ++ record { server = server; told = t } ∷ [] })
     (λ e. so) (λ e. record {
       its_servers = so.its_servers;
       its_parity = so.its_parity;
       single = single_more r.answers (record { server = server; told = t }) so.single e;
       asked = asked_more r.servers r.answers (record { server = server; told = t }) so.asked asked;
-      told = so_more P r.answers (record { server = server; told = t }) so.told is;
+      told = so_more P r.answers (record { server = server; told = t }) so.told fact;
     })
 
 pairs_in : RoundState → List (ℕ × ℕ)

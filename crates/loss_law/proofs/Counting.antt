@@ -96,8 +96,8 @@ all_counted [] ms apart among = omega arith
 all_counted (p ∷ ps) ms apart among = let a = all_counted ps ms apart.1 among.1 in let b = strict p ps ms apart.0 among.0 in omega arith
 
 marked_lacks : (lack : ℕ → Bool) (ps : List (ℕ × ℕ)) → Each (λ p. lack p.0 ≡ true) ps → (v : ℕ) → is_in v ps ≡ true → lack v ≡ true
-marked_lacks lack [] each v is = contrary is
-marked_lacks lack (p ∷ ps) each v is = by (marked_lacks lack ps each.1 v) (p.0 == v) refl is
+marked_lacks lack [] each v fact = contrary fact
+marked_lacks lack (p ∷ ps) each v fact = by (marked_lacks lack ps each.1 v) (p.0 == v) refl fact
   where
     by : (is_in v ps ≡ true → lack v ≡ true) → (t : Bool) → (p.0 == v) ≡ t → (t || is_in v ps) ≡ true → lack v ≡ true
     by further true e rest = ap lack (sym (same_way p.0 v e)) ∙ each.0

@@ -54,7 +54,7 @@ module _ (g : Setting) (n : Net) (s : Segment)
   lost_disks = let a = counted_places lack later (members_of g s) each_later in let b = torn.torn in omega arith
 
 pub a_torn_segment_lost_disks : LogsStayWhole → ATornSegmentLostDisks
-a_torn_segment_lost_disks whole g n moment s is filed torn = lost_disks g n s ((whole g n moment).whole s is filed torn.kept) torn
+a_torn_segment_lost_disks whole g n moment s fact filed torn = lost_disks g n s ((whole g n moment).whole s fact filed torn.kept) torn
 
 -- ---- what is read
 
@@ -71,12 +71,12 @@ module _ (whole : WhatIsReadIsWhole) (g : Setting) (segment : SegRef) where
     where
       by : IsWhole g p segment → IsLost g segment p
       by w =
-          let is : ref_of w.text ≡ segment = λ i. record { name = w.named i; group = w.grouped i } in
+          let fact : ref_of w.text ≡ segment = λ i. record { name = w.named i; group = w.grouped i } in
           record {
             torn = torn;
             whole = w;
-            disks = subst (λ (z : SegRef). (g.stripe z.group).parity < disks_lost g p z) is
-                (lost_disks g p w.text w.whole (subst (λ z. IsTorn g z p) (sym is) torn));
+            disks = subst (λ (z : SegRef). (g.stripe z.group).parity < disks_lost g p z) fact
+                (lost_disks g p w.text w.whole (subst (λ z. IsTorn g z p) (sym fact) torn));
           }
 
   pub once_lost : (start n : Net) (run : Runs g start n) → ((p : Net) → Runs g start p → Moment g p)
@@ -96,10 +96,10 @@ fragments_go_with_disks g n o moment later v name own held gone kept =
     by ((passed g n o (passed g (opening g moment.map) n (first_base g moment.map) moment.run).base later).holds v name own held)
   where
     unheld : (found : Option Fragment) → found ≡ None → is_some found ≡ true → ⊥
-    unheld None e is = contrary is
-    unheld (Some f) e is = absurd cc
+    unheld None e fact = contrary fact
+    unheld (Some f) e fact = absurd cc
 
     by : HeldOn n o v name → (n.shelves v).generation < (o.shelves v).generation
-    by (inl is) = absurd (unheld (held_at (o.shelves v).held name) gone is)
+    by (inl fact) = absurd (unheld (held_at (o.shelves v).held name) gone fact)
     by (inr (inl less)) = less
-    by (inr (inr is)) = absurd (kept is)
+    by (inr (inr fact)) = absurd (kept fact)

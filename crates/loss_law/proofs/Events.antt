@@ -79,8 +79,8 @@ owners g n o new sends fresh shelves low dropped boot = record {
   fresh = fresh;
   shelves = λ v. subst (λ ss. ShelfOn g n (n.shelves v) (ss v)) (sym shelves) (shelf_same g n (n.shelves v));
   low = (let a = low in omega arith);
-  stays = λ name is. subst (In name) (sym dropped) is;
-  drops = λ name is. inl (subst (In name) dropped is);
+  stays = λ name fact. subst (In name) (sym dropped) fact;
+  drops = λ name fact. inl (subst (In name) dropped fact);
   boot = boot;
 }
 
@@ -96,10 +96,10 @@ app_assoc : (xs ys zs : List Packet) → xs ++ (ys ++ zs) ≡ (xs ++ ys) ++ zs
 app_assoc [] ys zs = refl
 app_assoc (x ∷ xs) ys zs = ap (λ l. x ∷ l) (app_assoc xs ys zs)
 
-module _ (g : Setting) (n : Net) (s : ScanState) (d : scan.Done) (is : n.owner ≡ Opening s) (up : s.opening.ask ≤ d.state.opening.ask)
+module _ (g : Setting) (n : Net) (s : ScanState) (d : scan.Done) (fact : n.owner ≡ Opening s) (up : s.opening.ask ≤ d.state.opening.ask)
     (asked : AllAskedBy d.state.opening.ask d.outs) where
   asked_on : (ask : ℕ) → AskedBy ask n.owner → AskedBy ask (Opening d.state)
-  asked_on ask old = let a : ask ≤ s.opening.ask = subst (AskedBy ask) is old in let b = up in omega arith
+  asked_on ask old = let a : ask ≤ s.opening.ask = subst (AskedBy ask) fact old in let b = up in omega arith
 
   goes_grows : Grows g n (scans_on n s d)
   goes_grows = owners g n (scans_on n s d) (scan_packets n.inc d.outs) refl
@@ -165,16 +165,16 @@ taken g n s i base fits came = by i came (takes_so s.opening s.stage i)
 -- ---- each event
 
 pub grows : (g : Setting) (n o : Net) → Base g n → Happens g n o → Grows g n o
-grows g n o base (Acts s i is came texts) =
+grows g n o base (Acts s i fact came texts) =
     owners g n (after_log g n (log.transition s i)) (log_packets (log.transition s i).outs) refl
     (only g n (after_log g n (log.transition s i)) (log.transition s i).outs) refl refl refl (inl (refl, λ ask old. tt))
-grows g n o base (Writes chain s i is came texts) = writes_grows g n chain (log.transition s i) (log.transition s i).state.flight
-grows g n o base (Opens s i is came can) =
-    let t = taken g n s i base (base.opening s is) came in
-    scan_grows g n s (scan.transition s i) is t.up t.asked (chain_in (scan.transition s i).outs) (scan.transition s i).state.opening.groups
+grows g n o base (Writes chain s i fact came texts) = writes_grows g n chain (log.transition s i) (log.transition s i).state.flight
+grows g n o base (Opens s i fact came can) =
+    let t = taken g n s i base (base.opening s fact) came in
+    scan_grows g n s (scan.transition s i) fact t.up t.asked (chain_in (scan.transition s i).outs) (scan.transition s i).state.opening.groups
 grows g n o base Crashes = owners g n _ [] refl tt refl refl refl (inl (refl, λ ask old. tt))
-grows g n o base (Restarts is) = owners g n _ [] refl tt refl refl refl (inr refl)
-grows g n o base (Renews m high doubts is came) = owners g n _ [] refl tt refl refl refl (inr refl)
+grows g n o base (Restarts fact) = owners g n _ [] refl tt refl refl refl (inr refl)
+grows g n o base (Renews m high doubts fact came) = owners g n _ [] refl tt refl refl refl (inr refl)
 grows g n o base (Serves v deed some came) = record {
   new = answers g v (n.shelves v) deed;
   sends = refl;
@@ -183,8 +183,8 @@ grows g n o base (Serves v deed some came) = record {
       (λ t. subst (λ z. ShelfOn g n (n.shelves z) (shelf_after g (n.shelves v) deed)) (sym (equal u v t)) (deed_on g n v deed came))
       (λ t. shelf_same g n (n.shelves u));
   low = omega arith;
-  stays = λ name is. is;
-  drops = λ name is. inl is;
+  stays = λ name fact. fact;
+  drops = λ name fact. inl fact;
   boot = inl (refl, λ ask old. old);
 }
 grows g n o base (Bars v l pass) = record {
@@ -195,13 +195,13 @@ grows g n o base (Bars v l pass) = record {
       (λ t. subst (λ z. ShelfOn g n (n.shelves z) (on_fence (n.shelves v) l pass)) (sym (equal u v t)) (fence_on g n (n.shelves v) l pass))
       (λ t. shelf_same g n (n.shelves u));
   low = omega arith;
-  stays = λ name is. is;
-  drops = λ name is. inl is;
+  stays = λ name fact. fact;
+  drops = λ name fact. inl fact;
   boot = inl (refl, λ ask old. old);
 }
 grows g n o base (Lists v) = owners g n _ (ListedSent (listed g (n.shelves v)) ∷ []) refl (tt, tt) refl refl refl (inl (refl, λ ask old. old))
 grows g n o base (Hears v generation up reached) = owners g n _ [] refl tt refl refl refl (inl (refl, λ ask old. old))
-grows g n o base (Raises low name up is below) =
+grows g n o base (Raises low name up fact below) =
     record {
       new = [];
       sends = refl;
@@ -213,9 +213,9 @@ grows g n o base (Raises low name up is below) =
       boot = inl (refl, λ ask old. old);
     }
 grows g n o base (Publishes m whole) = owners g n _ (MapSent m ∷ []) refl (whole.named, tt) refl refl refl (inl (refl, λ ask old. old))
-grows g n o base (Welcomes inc ask news m is low whole) =
-    owners g n _ (WelcomeSent inc ask news m ∷ []) refl ((is, low), tt) refl refl refl (inl (refl, λ ask old. old))
-grows g n o base (Drops lists meta is among below) = record {
+grows g n o base (Welcomes inc ask news m fact low whole) =
+    owners g n _ (WelcomeSent inc ask news m ∷ []) refl ((fact, low), tt) refl refl refl (inl (refl, λ ask old. old))
+grows g n o base (Drops lists meta fact among below) = record {
   new = DeleteSent meta.name ∷ [];
   sends = refl;
   fresh = (inl refl, tt);
@@ -237,28 +237,28 @@ writes_none g n chain d (Some f) s e = cc
 
 -- an opening after it is of the log
 pub fits_then : (g : Setting) (n o : Net) → Base g n → Happens g n o → (t : ScanState) → o.owner ≡ Opening t → Fits g t.opening
-fits_then g n o base (Acts s i is came texts) t e = absurd cc
-fits_then g n o base (Writes chain s i is came texts) t e = absurd (writes_none g n chain (log.transition s i) (log.transition s i).state.flight t e)
-fits_then g n o base (Opens s i is came can) t e =
-    subst (λ (z : ScanState). Fits g z.opening) (sym (opened_to g n s (scan.transition s i) t e)) (taken g n s i base (base.opening s is) came).fits
+fits_then g n o base (Acts s i fact came texts) t e = absurd cc
+fits_then g n o base (Writes chain s i fact came texts) t e = absurd (writes_none g n chain (log.transition s i) (log.transition s i).state.flight t e)
+fits_then g n o base (Opens s i fact came can) t e =
+    subst (λ (z : ScanState). Fits g z.opening) (sym (opened_to g n s (scan.transition s i) t e)) (taken g n s i base (base.opening s fact) came).fits
 fits_then g n o base Crashes t e = absurd cc
-fits_then g n o base (Restarts is) t e = subst (λ (z : ScanState). Fits g z.opening) (same e) (record { log = refl; groups = λ id group none. absurd cc })
+fits_then g n o base (Restarts fact) t e = subst (λ (z : ScanState). Fits g z.opening) (same e) (record { log = refl; groups = λ id group none. absurd cc })
   where
     same : Opening (started g.log (suc n.inc)) ≡ Opening t → started g.log (suc n.inc) ≡ t
     same e = cc
-fits_then g n o base (Renews m high doubts is came) t e = absurd cc
+fits_then g n o base (Renews m high doubts fact came) t e = absurd cc
 fits_then g n o base (Serves v deed some came) t e = base.opening t e
 fits_then g n o base (Bars v l pass) t e = base.opening t e
 fits_then g n o base (Lists v) t e = base.opening t e
 fits_then g n o base (Hears v generation up reached) t e = base.opening t e
-fits_then g n o base (Raises low name up is below) t e = base.opening t e
+fits_then g n o base (Raises low name up fact below) t e = base.opening t e
 fits_then g n o base (Publishes m whole) t e = base.opening t e
-fits_then g n o base (Welcomes inc ask news m is low whole) t e = base.opening t e
-fits_then g n o base (Drops lists meta is among below) t e = base.opening t e
+fits_then g n o base (Welcomes inc ask news m fact low whole) t e = base.opening t e
+fits_then g n o base (Drops lists meta fact among below) t e = base.opening t e
 
 pub base_then : (g : Setting) (n o : Net) → Base g n → Happens g n o → Base g o
 base_then g n o base e = base_on g n o (grows g n o base e) base (fits_then g n o base e)
 
 -- at first nothing is known, and nothing needs to be
 pub first_base : (g : Setting) (m : GroupMapState) → Base g (opening g m)
-first_base g m = record { packets = λ p is. absurd is; below = λ name is. absurd is; opening = λ s is. absurd cc }
+first_base g m = record { packets = λ p fact. absurd fact; below = λ name fact. absurd fact; opening = λ s fact. absurd cc }

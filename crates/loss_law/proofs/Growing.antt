@@ -82,20 +82,20 @@ pub record Grows (g : Setting) (n o : Net) : Type 0 where
 
 -- what was sent is new or old
 pub told : (g : Setting) (n o : Net) (new : List Packet) → AllSayNew g n o new → (p : Packet) → In p (new ++ n.sent) → SaysNew g n o p ⊎ In p n.sent
-told g n o [] all p is = inr is
+told g n o [] all p fact = inr fact
 told g n o (q ∷ qs) all p (inl e) = inl (subst (SaysNew g n o) (sym e) all.0)
-told g n o (q ∷ qs) all p (inr is) = told g n o qs all.1 p is
+told g n o (q ∷ qs) all p (inr fact) = told g n o qs all.1 p fact
 
 old_stays : (new old : List Packet) (p : Packet) → In p old → In p (new ++ old)
-old_stays [] old p is = is
-old_stays (q ∷ qs) old p is = inr (old_stays qs old p is)
+old_stays [] old p fact = fact
+old_stays (q ∷ qs) old p fact = inr (old_stays qs old p fact)
 
 module _ (g : Setting) (n o : Net) (grows : Grows g n o) where
   pub sent_stays : (p : Packet) → In p n.sent → In p o.sent
-  sent_stays p is = subst (In p) (sym grows.sends) (old_stays grows.new n.sent p is)
+  sent_stays p fact = subst (In p) (sym grows.sends) (old_stays grows.new n.sent p fact)
 
   pub sent_then : (p : Packet) → In p o.sent → SaysNew g n o p ⊎ In p n.sent
-  sent_then p is = told g n o grows.new grows.fresh p (subst (In p) grows.sends is)
+  sent_then p fact = told g n o grows.new grows.fresh p (subst (In p) grows.sends fact)
 
   hello_on : (inc ask : ℕ) → BootOn n o → (inc ≤ n.inc) × (inc ≡ n.inc → AskedBy ask n.owner) → (inc ≤ o.inc) × (inc ≡ o.inc → AskedBy ask o.owner)
   hello_on inc ask (inl goes) says = (let a = goes.0 in let b = says.0 in omega arith, λ e. goes.1 ask (says.1 (let a = goes.0 in omega arith)))
@@ -127,8 +127,8 @@ module _ (g : Setting) (n o : Net) (grows : Grows g n o) where
 
   pub base_on : Base g n → ((s : ScanState) → o.owner ≡ Opening s → Fits g s.opening) → Base g o
   base_on base fits = record {
-    packets = λ p is. by p (sent_then p is);
-    below = λ name is. under name (grows.drops name is);
+    packets = λ p fact. by p (sent_then p fact);
+    below = λ name fact. under name (grows.drops name fact);
     opening = fits;
   }
     where

@@ -38,16 +38,16 @@ at_least : (a b : ℕ) → b ≤ max a b
 at_least a b = omega arith
 
 module _ (g : Setting) (Was Now : SegRef → Type 0) (start n o : Net) (run : Runs g start n) (e : Happens g n o) (grows : Grows g n o) (boot : o.inc ≡ n.inc)
-    (base : Base g n) (s : ScanState) (is : n.owner ≡ Opening s) (up : is_opening o.owner ≡ true → (seg : SegRef) → Was seg → Now seg)
+    (base : Base g n) (s : ScanState) (fact : n.owner ≡ Opening s) (up : is_opening o.owner ≡ true → (seg : SegRef) → Was seg → Now seg)
     (torn_now : (seg : SegRef) → IsRead s.stage seg → IsTorn g seg n → Was seg) where
   abbrev To : Done → Type 0
-  To d = Goes g Was Now start n o run e grows boot base s is up torn_now d
+  To d = Goes g Was Now start n o run e grows boot base s fact up torn_now d
 
   abbrev Alike : OpeningState → Type 0
-  Alike p = Like g Was Now start n o run e grows boot base s is up torn_now p
+  Alike p = Like g Was Now start n o run e grows boot base s fact up torn_now p
 
   own : Alike s.opening
-  own = record { ask = refl; log = (base.opening s is).log; groups = (base.opening s is).groups }
+  own = record { ask = refl; log = (base.opening s fact).log; groups = (base.opening s fact).groups }
 
   -- the opening stays where it stands, with the same question
   still : (p : OpeningState) (stage : Stage) (outs : List Out) → p.ask ≡ s.opening.ask → StageKept g Was run s.opening.ask stage → Loses (WasTorn Was s) outs
@@ -76,9 +76,9 @@ module _ (g : Setting) (Was Now : SegRef → Type 0) (start n o : Net) (run : Ru
     unfolding scan.confirms
     confirms_goes b None at k =
         by_test To (scan.is_bottom risen.low b.next) (goes risen Over (scan.chain_of b ∷ [])) (scan.begins_round risen b)
-        (λ t. over_goes g Was Now start n o run e grows boot base s is up torn_now risen b)
-        (λ t. round_goes g Was Now start n o run e grows boot base s is up torn_now risen b risen_alike)
-    confirms_goes b (Some r) at k = confirmed g Was Now start n o run e grows boot base s is up torn_now b r at k risen risen_alike reached
+        (λ t. over_goes g Was Now start n o run e grows boot base s fact up torn_now risen b)
+        (λ t. round_goes g Was Now start n o run e grows boot base s fact up torn_now risen b risen_alike)
+    confirms_goes b (Some r) at k = confirmed g Was Now start n o run e grows boot base s fact up torn_now b r at k risen risen_alike reached
       where
         reached : (d : Doubts g Was run s.opening.ask r.target.seg) → d.bound ≤ risen.low
         reached d =
@@ -91,7 +91,7 @@ module _ (g : Setting) (Was Now : SegRef → Type 0) (start n o : Net) (run : Ru
         → To (scan.welcomed (record s.opening { groups = Some m }) stage least)
     welcomed_goes Hails at k = record { kept = λ opens. tt; lost = fences_lose (WasTorn Was s) (scan.awaited (Some m) []) }
     welcomed_goes (Gathers lists) at k = record { kept = λ opens. tt; lost = tt }
-    welcomed_goes (Asks lists) at k = picks_goes g Was Now start n o run e grows boot base s is up torn_now risen lists risen_alike
+    welcomed_goes (Asks lists) at k = picks_goes g Was Now start n o run e grows boot base s fact up torn_now risen lists risen_alike
     welcomed_goes (Reads b r) at k = confirms_goes b r at k
     welcomed_goes Over at k = record { kept = λ opens. tt; lost = tt }
 
@@ -139,7 +139,7 @@ module _ (g : Setting) (Was Now : SegRef → Type 0) (start n o : Net) (run : Ru
         → To (scan.heard_with s.opening b r groups ask server t)
     heard_with_goes b r None at k = still s.opening (Reads b (Some r)) [] refl k tt
     heard_with_goes b r (Some groups) at k =
-        answered g Was Now start n o run e grows boot base s is up torn_now b r at k groups ask server t own (true_then b r at)
+        answered g Was Now start n o run e grows boot base s fact up torn_now b r at k groups ask server t own (true_then b r at)
 
     heard_goes : (b : Backward) (r : Option ReadingState) → s.stage ≡ Reads b r → ReadKept g Was run s.opening.ask b r
         → To (scan.heard s.opening b r ask server t)

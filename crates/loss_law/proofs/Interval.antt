@@ -30,22 +30,22 @@ module _ (g : Setting) where
   held_further n m o v name own base grown up (inl held) = by ((grown.shelves v).holds name own held)
     where
       by : (is_held (o.shelves v) name ≡ true) ⊎ (((m.shelves v).generation < (o.shelves v).generation) ⊎ In (DeleteSent name) m.sent) → HeldOn n o v name
-      by (inl is) = inl is
+      by (inl fact) = inl fact
       by (inr (inl less)) = inr (inl (omega arith))
       by (inr (inr sent)) = inr (inr (grown.stays name (base.packets (DeleteSent name) sent)))
   held_further n m o v name own base grown up (inr (inl less)) = inr (inl (let a = (grown.shelves v).up in omega arith))
-  held_further n m o v name own base grown up (inr (inr is)) = inr (inr (grown.stays name is))
+  held_further n m o v name own base grown up (inr (inr fact)) = inr (inr (grown.stays name fact))
 
   pub passed : (n o : Net) → Base g n → Runs g n o → Passed g n o
-  passed n o base Begun = record { base = base; up = λ v. omega arith; stays = λ name is. is; holds = λ v name own is. inl is }
+  passed n o base Begun = record { base = base; up = λ v. omega arith; stays = λ name fact. fact; holds = λ v name own fact. inl fact }
   passed n o base (On {m = m} run e) = on (passed n m base run)
     where
       on : Passed g n m → Passed g n o
       on p = let grown : Grows g m o = grows g m o p.base e in record {
         base = base_then g m o p.base e;
         up = λ v. (let a = p.up v in let b = (grown.shelves v).up in omega arith);
-        stays = λ name is. grown.stays name (p.stays name is);
-        holds = λ v name own is. held_further n m o v name own p.base grown (p.up v) (p.holds v name own is);
+        stays = λ name fact. grown.stays name (p.stays name fact);
+        holds = λ v name own fact. held_further n m o v name own p.base grown (p.up v) (p.holds v name own fact);
       }
 
   -- at a moment up to this one the server lacked the segment, in this generation
@@ -67,8 +67,8 @@ module _ (g : Setting) where
   none_left (Some f) never = absurd (never refl)
 
   not_held : (o : Option Fragment) → o ≡ None → is_some o ≡ true → ⊥
-  not_held None e is = contrary is
-  not_held (Some f) e is = absurd cc
+  not_held None e fact = contrary fact
+  not_held (Some f) e fact = absurd cc
 
   pub lacks_between : (name : SegName) (m n : Net) (v generation : ℕ) → name.log ≡ g.log → Base g m → Before name m v generation → Between name m n v generation
       → (In name n.dropped → ⊥) → is_none (held_at (m.shelves v).held name) ≡ true
@@ -87,6 +87,6 @@ module _ (g : Setting) where
       unheld held = by (on.holds v name own held)
         where
           by : HeldOn m two.at v name → ⊥
-          by (inl is) = not_held (held_at (two.at.shelves v).held name) two.lacks.nothing is
+          by (inl fact) = not_held (held_at (two.at.shelves v).held name) two.lacks.nothing fact
           by (inr (inl less)) = let a = to.up v in let b = one.lacks.in_generation in let c = two.lacks.in_generation in omega arith
-          by (inr (inr is)) = kept (end.stays name is)
+          by (inr (inr fact)) = kept (end.stays name fact)

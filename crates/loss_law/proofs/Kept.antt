@@ -89,8 +89,8 @@ once_keeps keeps P Begun once = once.0
 once_keeps keeps P (On run e) once = once.0
 
 pub once_now : {g : Setting} {n m : Net} (keeps : Owner → Bool) (P : Net → Type 0) (run : Runs g n m) → keeps m.owner ≡ true → P m → Once keeps P run
-once_now keeps P Begun is now = (is, now)
-once_now keeps P (On run e) is now = (is, inl now)
+once_now keeps P Begun fact now = (fact, now)
+once_now keeps P (On run e) fact now = (fact, inl now)
 
 -- ---- an event goes by
 
@@ -125,7 +125,7 @@ module _ (g : Setting) (Was Now : SegRef → Type 0) (start n o : Net) (run : Ru
       record { bound = d.bound; torn = λ above. up seg (d.torn above); past = (let a = d.past in let b = grows.low in omega arith); heard = heard }
     where
       heard : (news : List SlotNews) (m : GroupMapState) → In (WelcomeSent o.inc ask news m) o.sent → d.bound ≤ least_horizon g.log.0 news
-      heard news m is = by (sent_then g n o grows (WelcomeSent o.inc ask news m) is)
+      heard news m fact = by (sent_then g n o grows (WelcomeSent o.inc ask news m) fact)
         where
           by : (In (HelloSent o.inc ask) n.sent × (least_horizon g.log.0 news ≡ n.low)) ⊎ In (WelcomeSent o.inc ask news m) n.sent
               → d.bound ≤ least_horizon g.log.0 news

@@ -54,20 +54,20 @@ single_more (x ∷ xs) a single none = let p =
 
 pub asked_more : (servers : List ℕ) (xs : List Answer) (a : Answer) → AllAsked servers xs → list_any (λ s. s == a.server) servers ≡ true
     → AllAsked servers (xs ++ a ∷ [])
-asked_more servers [] a all is = (is, tt)
-asked_more servers (x ∷ xs) a all is = (all.0, asked_more servers xs a all.1 is)
+asked_more servers [] a all fact = (fact, tt)
+asked_more servers (x ∷ xs) a all fact = (all.0, asked_more servers xs a all.1 fact)
 
 pub so_more : (P : ℕ → ℕ → Type 0) (xs : List Answer) (a : Answer) → AllSo P xs → ToldSo P a.server a.told → AllSo P (xs ++ a ∷ [])
-so_more P [] a all is = (is, tt)
-so_more P (x ∷ xs) a all is = (all.0, so_more P xs a all.1 is)
+so_more P [] a all fact = (fact, tt)
+so_more P (x ∷ xs) a all fact = (all.0, so_more P xs a all.1 fact)
 
 pub so_on : (P Q : ℕ → ℕ → Type 0) → ((v generation : ℕ) → P v generation → Q v generation) → (xs : List Answer) → AllSo P xs → AllSo Q xs
 so_on P Q up [] all = tt
 so_on P Q up (x ∷ xs) all = (by x.told all.0, so_on P Q up xs all.1)
   where
     by : (t : Told) → ToldSo P x.server t → ToldSo Q x.server t
-    by (Held f) is = tt
-    by (Missing generation) is = up x.server generation is
+    by (Held f) fact = tt
+    by (Missing generation) fact = up x.server generation fact
 
 -- ---- the pairs of a round
 
@@ -92,8 +92,8 @@ each_missing P [] all = tt
 each_missing P (x ∷ xs) all = by (each_missing P xs all.1) x.told all.0
   where
     by : Each (λ p. P p.0 p.1) (missing_in xs) → (t : Told) → ToldSo P x.server t → Each (λ p. P p.0 p.1) (missing_told x.server t (missing_in xs))
-    by rest (Held f) is = rest
-    by rest (Missing generation) is = (is, rest)
+    by rest (Held f) fact = rest
+    by rest (Missing generation) fact = (fact, rest)
 
 pub among_missing : (servers : List ℕ) (xs : List Answer) → AllAsked servers xs → Each (Among servers) (missing_in xs)
 among_missing servers [] all = tt
@@ -150,8 +150,8 @@ same_number a b e = grind (arith, nat_tests)
 
 -- what is true of the pairs before is true of one that was among them
 pub found_before : (P : ℕ → ℕ → Type 0) (p : ℕ × ℕ) (before : List (ℕ × ℕ)) → Each (λ q. P q.0 q.1) before → list_any (same_pair p) before ≡ true → P p.0 p.1
-found_before P p [] all is = contrary is
-found_before P p (q ∷ qs) all is = by (found_before P p qs all.1) (same_pair p q) refl is
+found_before P p [] all fact = contrary fact
+found_before P p (q ∷ qs) all fact = by (found_before P p qs all.1) (same_pair p q) refl fact
   where
     by : (list_any (same_pair p) qs ≡ true → P p.0 p.1) → (t : Bool) → same_pair p q ≡ t → (t || list_any (same_pair p) qs) ≡ true → P p.0 p.1
     by further true e rest =

@@ -87,7 +87,7 @@ pub same_ask : (a b : ℕ) → (a == b) ≡ true → a ≡ b
 same_ask a b e = grind (arith, nat_tests)
 
 module _ (g : Setting) (Was Now : SegRef → Type 0) (start n o : Net) (run : Runs g start n) (e : Happens g n o) (grows : Grows g n o) (boot : o.inc ≡ n.inc)
-    (base : Base g n) (s : ScanState) (is : n.owner ≡ Opening s) (up : is_opening o.owner ≡ true → (seg : SegRef) → Was seg → Now seg)
+    (base : Base g n) (s : ScanState) (fact : n.owner ≡ Opening s) (up : is_opening o.owner ≡ true → (seg : SegRef) → Was seg → Now seg)
     (torn_now : (seg : SegRef) → IsRead s.stage seg → IsTorn g seg n → Was seg) where
   -- what is to be shown of what it does: what is known of it stays so while it is an opening, and what it says is lost is earned
   pub record Goes (d : Done) : Type 0 where
@@ -106,7 +106,7 @@ module _ (g : Setting) (Was Now : SegRef → Type 0) (start n o : Net) (run : Ru
     where
       by : P o ⊎ Once (has_drawn ask) P run → P o
       by (inl now) = now
-      by (inr old) = absurd (not_drawn ask s.opening.ask less (subst (λ z. has_drawn ask z ≡ true) is (once_keeps (has_drawn ask) P run old)))
+      by (inr old) = absurd (not_drawn ask s.opening.ask less (subst (λ z. has_drawn ask z ≡ true) fact (once_keeps (has_drawn ask) P run old)))
 
   -- this moment
   now_middle : (seg : SegRef) (kept : List (ℕ × ℕ)) → Each (λ p. Before g seg.name n p.0 p.1) kept → ((kept ≡ [] → ⊥) → IsRead s.stage seg)
@@ -261,7 +261,7 @@ module _ (g : Setting) (Was Now : SegRef → Type 0) (start n o : Net) (run : Ru
             none_before : (inc : ℕ) → inc ≡ n.inc → In (WelcomeSent inc (s.opening.ask + 1) news m) n.sent → ⊥
             none_before inc same old =
                 let hello = base.packets (HelloSent inc (s.opening.ask + 1)) (base.packets (WelcomeSent inc (s.opening.ask + 1) news m) old) in
-                let late : s.opening.ask + 1 ≤ s.opening.ask = subst (AskedBy (s.opening.ask + 1)) is (hello.1 same) in
+                let late : s.opening.ask + 1 ≤ s.opening.ask = subst (AskedBy (s.opening.ask + 1)) fact (hello.1 same) in
                 omega arith
 
             by : (In (HelloSent o.inc (s.opening.ask + 1)) n.sent × (least_horizon g.log.0 news ≡ n.low))

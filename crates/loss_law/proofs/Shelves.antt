@@ -29,15 +29,15 @@ pub record ShelfOn (g : Setting) (n : Net) (s t : ShelfState) : Type 0 where
       → (is_held t name ≡ true) ⊎ ((s.generation < t.generation) ⊎ In (DeleteSent name) n.sent)
 
 pub shelf_same : (g : Setting) (n : Net) (s : ShelfState) → ShelfOn g n s s
-shelf_same g n s = record { up = omega arith; holds = λ name own is. inl is }
+shelf_same g n s = record { up = omega arith; holds = λ name own fact. inl fact }
 
 none_found : (o : Option Fragment) → is_some o ≡ false → o ≡ None
 none_found None e = refl
 none_found (Some f) e = contrary (sym e)
 
 found_too : (t : Bool) (f : Fragment) (o : Option Fragment) → is_some o ≡ true → is_some (cond t (Some f) o) ≡ true
-found_too true f o is = refl
-found_too false f o is = is
+found_too true f o fact = refl
+found_too false f o fact = fact
 
 less_min : (a b : ℕ) → a < b → a < min (a + 1) b
 less_min a b less = omega arith
@@ -48,14 +48,14 @@ at_most a b less = omega arith
 kept_on : (g : Setting) (n : Net) (s : ShelfState) (f : Fragment) → ShelfOn g n s (kept s f)
 kept_on g n s f = by_test (ShelfOn g n s) (is_held s f.meta.name) s (record s { held = with_fragment f s.held }) (λ e. shelf_same g n s) (λ e. record {
   up = omega arith;
-  holds = λ name own is. inl
-      (ap is_some (held-with f s.held name (none_found (held_at s.held f.meta.name) e)) ∙ found_too (same_name name f.meta.name) f (held_at s.held name) is);
+  holds = λ name own fact. inl
+      (ap is_some (held-with f s.held name (none_found (held_at s.held f.meta.name) e)) ∙ found_too (same_name name f.meta.name) f (held_at s.held name) fact);
 })
 
 pub fence_on : (g : Setting) (n : Net) (s : ShelfState) (log : LogId) (pass : Pass) → ShelfOn g n s (on_fence s log pass)
 fence_on g n s log pass =
     by_test (ShelfOn g n s) (is_greater (pass_cmp pass (fence_of s.fences log))) (record s { fences = insert_entry log_cmp s.fences log pass }) s
-    (λ e. record { up = omega arith; holds = λ name own is. inl is }) (λ e. shelf_same g n s)
+    (λ e. record { up = omega arith; holds = λ name own fact. inl fact }) (λ e. shelf_same g n s)
 
 delete_on : (g : Setting) (n : Net) (s : ShelfState) (name : SegName) → (is_of_log g name ≡ true → In (DeleteSent name) n.sent)
     → ShelfOn g n s (on_delete s name)
@@ -63,14 +63,14 @@ delete_on g n s name came = record { up = omega arith; holds = holds }
   where
     holds : (q : SegName) → q.log ≡ g.log → is_held s q ≡ true
         → (is_held (on_delete s name) q ≡ true) ⊎ ((s.generation < s.generation) ⊎ In (DeleteSent q) n.sent)
-    holds q own is = by (same_name name q) refl
+    holds q own fact = by (same_name name q) refl
       where
         by : (t : Bool) → same_name name q ≡ t → (is_held (on_delete s name) q ≡ true) ⊎ ((s.generation < s.generation) ⊎ In (DeleteSent q) n.sent)
         by true e =
             let same : name ≡ q = one_name name q e in
             let of : is_of_log g name ≡ true = ap (is_of_log g) same ∙ (ap (λ (l : LogId). l.0 == g.log.0) own ∙ itself g.log.0) in
             inr (inr (subst (λ z. In (DeleteSent z) n.sent) same (came of)))
-        by false e = inl (ap is_some (held-without name s.held q ∙ ap (λ t. cond t None (held_at s.held q)) e) ∙ is)
+        by false e = inl (ap is_some (held-without name s.held q ∙ ap (λ t. cond t None (held_at s.held q)) e) ∙ fact)
 
 pub deed_on : (g : Setting) (n : Net) (v : ℕ) (deed : Deed) → CameToServer g n v deed → ShelfOn g n (n.shelves v) (shelf_after g (n.shelves v) deed)
 deed_on g n v (Stores f generation) came =
@@ -84,4 +84,4 @@ deed_on g n v (Fills f) came =
     (λ e. kept_on g n (n.shelves v) f)
 deed_on g n v Loses came =
     let less : (n.shelves v).generation < min ((n.shelves v).generation + 1) u32_end = less_min (n.shelves v).generation u32_end came in
-    record { up = at_most _ _ less; holds = λ name own is. inr (inl less) }
+    record { up = at_most _ _ less; holds = λ name own fact. inr (inl less) }

@@ -33,13 +33,13 @@ module _ (g : Setting) (seg : SegRef) (own : seg.name.log ≡ g.log) (m n : Net)
       (λ p one two. lacks_between g seg.name m n p.0 p.1 own base one two kept)
       both
       (each_on (λ p. list_any (same_pair p) before ≡ true) (λ p. Before g seg.name m p.0 p.1)
-      (λ p is. found_before (Before g seg.name m) p before first is) both (each_passes (λ p. list_any (same_pair p) before) now))
+      (λ p fact. found_before (Before g seg.name m) p before first fact) both (each_passes (λ p. list_any (same_pair p) before) now))
       (each_filter (λ p. Between g seg.name m n p.0 p.1) (λ p. list_any (same_pair p) before) now second)
 
   pub is_torn : (servers : List ℕ) (parity : ℕ) → servers ≡ servers_of members → parity ≡ (g.stripe seg.group).parity
       → Each (λ p. Before g seg.name m p.0 p.1) before → Each (λ p. Between g seg.name m n p.0 p.1) now → Apart now → Each (Among servers) now
       → parity < length both → IsTorn g seg m
-  is_torn servers parity of same first second apart among many = record { torn = torn; kept = λ is. kept ((passed g m n base later).stays seg.name is) }
+  is_torn servers parity of same first second apart among many = record { torn = torn; kept = λ fact. kept ((passed g m n base later).stays seg.name fact) }
     where
       all : length both ≤ count_by (λ (k : Member). lack k.server) members
       all = counted lack both members

@@ -49,7 +49,7 @@ has_drawn ask (Serving s) = false
 
 -- the event by which an opening takes an input
 abbrev pub Takes : {g : Setting} {n o : Net} → Happens g n o → ScanState → Input → Type 0
-Takes (Opens s i is came can) t j = (s ≡ t) × (i ≡ j)
+Takes (Opens s i fact came can) t j = (s ≡ t) × (i ≡ j)
 Takes other t j = ⊥
 
 -- a server is of this generation and holds no fragment of the name

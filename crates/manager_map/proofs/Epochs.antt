@@ -73,10 +73,10 @@ move_epoch slots move slot within small =
     at_slot : (same : Bool) → (move.slot == slot) ≡ same
         → cond same (next_entry (entry_at slots move.slot) move.manager).epoch (entry_at slots slot).epoch ≡ min ((entry_at slots slot).epoch + cond same 1 0)
         (2 ^ 32 - 1)
-    at_slot true is =
+    at_slot true fact =
         let one : move.slot ≡ slot = grind (arith, nat_tests) in
         ap (λ at. (next_entry (entry_at slots at) move.manager).epoch) one ∙ next_entry_epoch (entry_at slots slot) move.manager small
-    at_slot false is = omega arith
+    at_slot false fact = omega arith
 
 sums : (epoch next one rest all last : ℕ) → next ≡ min (epoch + one) last → all ≡ one + rest → min (next + rest) last ≡ min (epoch + all) last
 sums epoch next one rest all last first count = omega arith

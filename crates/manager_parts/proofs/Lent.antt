@@ -26,12 +26,12 @@ module _ {Y : Type 0} where
     -- the slot is there: the event made this of it
     pub as_found : {R E : Type 0} (result one : Result R E) (p : MutBor SlotPhase) → r ≡ Some p → (more made : Y) → more ≡ made → result ≡ one
         → OnOk one (made ≡ f (Some p.now)) → OnOk result (more ≡ f (slice_get table slot))
-    as_found result one p is more made same_more same_result e =
+    as_found result one p fact more made same_more same_result e =
         subst (λ o. OnOk o (more ≡ f (slice_get table slot))) (sym same_result)
-        (ok_to one (made ≡ f (Some p.now)) (more ≡ f (slice_get table slot)) (λ h. same_more ∙ h ∙ sym (ap f (there ∙ ap (option_map (λ x. x.now)) is))) e)
+        (ok_to one (made ≡ f (Some p.now)) (more ≡ f (slice_get table slot)) (λ h. same_more ∙ h ∙ sym (ap f (there ∙ ap (option_map (λ x. x.now)) fact))) e)
 
     -- there is no such slot
     pub as_missing : {R E : Type 0} (result : Result R E) → r ≡ None → (more made : Y) → more ≡ made → made ≡ f None
         → OnOk result (more ≡ f (slice_get table slot))
-    as_missing result is more made same_more e =
-        ok_all result (more ≡ f (slice_get table slot)) (same_more ∙ e ∙ sym (ap f (there ∙ ap (option_map (λ x. x.now)) is)))
+    as_missing result fact more made same_more e =
+        ok_all result (more ≡ f (slice_get table slot)) (same_more ∙ e ∙ sym (ap f (there ∙ ap (option_map (λ x. x.now)) fact)))

@@ -11,10 +11,10 @@ use Rattle.usage_table.specs.Counts.{blocks_at}
 use Rattle.takeover.specs.Course.{MayStart}
 
 -- no segment has more of the rows than there are
-live_in-most : (seg : SegName) (rows : List (BlockId × Entry)) → live_in seg rows ≤ length rows
-live_in-most seg [] = omega arith
-live_in-most seg (r ∷ rs) =
-    let rest : live_in seg rs ≤ length rs = live_in-most seg rs in
+live_in-limit : (seg : SegName) (rows : List (BlockId × Entry)) → live_in seg rows ≤ length rows
+live_in-limit seg [] = omega arith
+live_in-limit seg (r ∷ rs) =
+    let rest : live_in seg rs ≤ length rs = live_in-limit seg rs in
     let one : blocks_at (segment_of r.1) seg ≤ 1 = at_most_one (segment_of r.1) in
     omega arith
   where
@@ -24,6 +24,6 @@ live_in-most seg (r ∷ rs) =
 
 pub has_few : (index : List (BlockId × Entry)) (applied : List ℕ) → MayStart index applied → (seg : SegName) → live_in seg index < 2 ^ 32
 has_few index applied may seg =
-    let limit : live_in seg index ≤ length index = live_in-most seg index in
+    let limit : live_in seg index ≤ length index = live_in-limit seg index in
     let few : length index ≤ u32_end = may.few in
     omega arith

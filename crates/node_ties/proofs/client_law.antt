@@ -14,12 +14,13 @@ mod Giving
 mod Orders
 mod Caching
 mod CachingSteps
+mod CachingThrough
 mod Versions
 mod Unsettled
 mod UnsettledSteps
 mod UnsettledAlways
 mod Fetching
-mod Groups
+pub mod Groups
 mod Standing
 mod Unserving
 mod Stamps

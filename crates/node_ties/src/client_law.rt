@@ -4,10 +4,11 @@
 //! `specs/client_law/Events.antt` says what holds after any events. `proofs/client_law/Keeping.antt` says what a fact
 //! of a client's tokens, log and cache has to show to be kept; `Arriving`, `Packets`, `Calls` and `Happening` walk
 //! through all events once, and take any such fact along. Each fact has a file of its own: `Asking`, `Fetching`,
-//! `Caching`, `Unsettled`, `Giving`, `Groups`, `Stamps`, and `Unserving` for a client that doesn't serve.
+//! `Caching` (with `CachingSteps` and `CachingThrough`), `Unsettled`, `Giving`, `Groups`, `Stamps`, and `Unserving`
+//! for a client that doesn't serve.
 
 ghost use Rattle.node_ties.specs.client_law.Asking.{AsksForOneBlockAlways};
-ghost use Rattle.node_ties.specs.client_law.Caching.{CachesJustWhatIsClean, CopiesOnlyClean, EvictsOnlyClean, SettlesOnlyClean};
+ghost use Rattle.node_ties.specs.client_law.Caching.{CachesJustWhatIsClean, CachesThroughAnyEvent, CopiesOnlyClean, EvictsOnlyClean, SettlesOnlyClean};
 ghost use Rattle.node_ties.specs.client_law.Fetching.{WantsEndByAnAnswer};
 ghost use Rattle.node_ties.specs.client_law.Giving.{PutsOffWhatIsDirty};
 ghost use Rattle.node_ties.specs.client_law.Groups.{StripesByPresentGroupsAlways};
@@ -37,15 +38,19 @@ pub fn puts_off_what_is_dirty()
 ///
 /// - `clean`: after any events the cache of a client has just the blocks that it holds and that are clean, each
 ///   once, and what would leave it for one more such block is held and clean.
-/// - `evicts`: wherever the cache has none but such blocks, within an event too, what leaves it for one more is
-///   held and clean as it leaves, and then it has none but such blocks again.
-/// - `copies`, `settles`: it has none but such blocks at both places of an event where a block goes into it: where
-///   a copy came, and before each block of a segment that is settled.
+/// - `evicts`: wherever the cache has none but such blocks, what leaves it for one more is held and clean as it
+///   leaves, and then it has none but such blocks again.
+/// - `copies`, `settles`: of a client whose cache is exact, it has none but such blocks once a copy is held that came,
+///   and before each block of a segment that is settled.
+/// - `through`: after any events the cache is exact within the next one, too, between any two of its parts: once a
+///   packet was taken, but for a block that was just granted to be written; once time passed, and once a call began;
+///   then after each call on blocks; and after each thing that the log says.
 pub fn caches_what_is_clean()
     ensures clean { CachesJustWhatIsClean }
     ensures evicts { EvictsOnlyClean }
     ensures copies { CopiesOnlyClean }
     ensures settles { SettlesOnlyClean }
+    ensures through { CachesThroughAnyEvent }
 {}
 
 /// After any events just the dirty blocks of a client whose newest version isn't in flight wait to be written

@@ -68,7 +68,7 @@ place_step : (p : ℕ → Bool) (from k : ℕ) → p from ≡ true → from ≤ 
 place_step p from k here low later = at (from == k) refl
   where
     at : (t : Bool) → (from == k) ≡ t → p k ≡ true
-    at true same = let is : from ≡ k = grind (arith, nat_tests) in ap p (sym is) ∙ here
+    at true same = let fact : from ≡ k = grind (arith, nat_tests) in ap p (sym fact) ∙ here
     at false other = later (grind (arith, nat_tests))
 
 all_places : (p : ℕ → Bool) (from n k : ℕ) → list_all p (range_with_len from n) ≡ true → from ≤ k → k < from + n → p k ≡ true
@@ -121,8 +121,8 @@ inc_rises incs manager inc q newer =
 
     at : (t : Bool) → eq_by_cmp nat_cmp q manager ≡ t → inc_of incs q ≤ cond t inc (inc_of incs q)
     at true same =
-        let is : q ≡ manager = tells_apart exact_unsigned q manager same in
-        let here : inc_of incs q ≡ inc_of incs manager = ap (inc_of incs) is in
+        let fact : q ≡ manager = tells_apart exact_unsigned q manager same in
+        let here : inc_of incs q ≡ inc_of incs manager = ap (inc_of incs) fact in
         omega (arith, less)
     at false other = omega arith
 

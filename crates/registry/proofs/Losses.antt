@@ -28,9 +28,9 @@ twice a b n m few short room = omega arith
 
 room_for : (groups : GroupMapState) (server : ℕ) → IsGroupMap groups → has_room groups ≡ true
     → length groups.groups + length (filter (is_hit server) groups.groups) ≤ 4294967295
-room_for groups server is room =
+room_for groups server fact room =
     let none : is_some (slice_get groups.groups 2147483647) ≡ false =
-    ap is_some (sym (find-numbered 1 groups.groups 2147483647 is.by_id)) ∙ not_true (is_some (group_of groups 2147483648)) room in
+    ap is_some (sym (find-numbered 1 groups.groups 2147483647 fact.by_id)) ∙ not_true (is_some (group_of groups 2147483648)) room in
     twice (length groups.groups) (length (filter (is_hit server) groups.groups)) 2147483647 4294967295 (few_or_there groups.groups 2147483647 none)
     (filter_short (is_hit server) groups.groups) (lit≤ tt)
 
@@ -40,8 +40,8 @@ module _ (groups : GroupMapState) (server generation : ℕ) (may : may_lose grou
     where
       at : (t : Bool) → ((server == 0) || nat_lt groups.servers server) ≡ t
           → cond t false (nat_lt (generation_at groups.generations server) generation && has_room groups) ≡ true → IsServer groups.servers server
-      at true is h = contrary h
-      at false is h = (grind (arith, nat_tests), grind (arith, nat_tests))
+      at true fact h = contrary h
+      at false fact h = (grind (arith, nat_tests), grind (arith, nat_tests))
 
   known : (nat_lt (generation_at groups.generations server) generation && has_room groups) ≡ true
   known = at ((server == 0) || nat_lt groups.servers server) may
@@ -58,10 +58,10 @@ module _ (groups : GroupMapState) (server generation : ℕ) (may : may_lose grou
       grind (arith, nat_tests)
 
   pub loss_room : IsGroupMap groups → length groups.groups + length (filter (is_hit server) groups.groups) ≤ 4294967295
-  loss_room is = room_for groups server is (and_second (nat_lt (generation_at groups.generations server) generation) (has_room groups) known)
+  loss_room fact = room_for groups server fact (and_second (nat_lt (generation_at groups.generations server) generation) (has_room groups) known)
 
   pub loss_kept : IsGroupMap groups → IsGroupMap (lost groups server generation)
-  loss_kept is = IsGroupMap-lost groups server generation loss_exists (loss_room is) is
+  loss_kept fact = IsGroupMap-lost groups server generation loss_exists (loss_room fact) fact
 
 pub loss_heard : (s : BoardState) (server generation : ℕ) → hears_server s server generation ≡ true → may_lose s.groups server generation ≡ true
 loss_heard s server generation hears = and_second (nat_lt s.version 4294967295) (may_lose s.groups server generation) hears

@@ -86,11 +86,11 @@ module _ (manager : ℕ) where
       at : (t : Bool) → (from == slot) ≡ t
           → (from + 1 ≤ slot → entry_at (fold (raise_one manager) es (range_with_len from (suc n))) slot ≡ again (entry_at (raise_one manager es from) slot))
           → entry_at (fold (raise_one manager) es (range_with_len from (suc n))) slot ≡ again (entry_at es slot)
-      at true is _ =
+      at true fact _ =
           let same : from ≡ slot = grind (arith, nat_tests) in
           raised-before (raise_one manager es from) (from + 1) n slot (omega arith)
           ∙ ap (λ f. entry_at (raise_one manager es f) slot) same ∙ raise-own es slot small within
-      at false is rest =
+      at false fact rest =
           let below : from < slot = grind (arith, nat_tests) in
           rest (omega (arith, below)) ∙ ap again (raise-other es from slot (λ same. absurd (omega (arith, below, same))))
 
@@ -108,10 +108,10 @@ module _ (manager : ℕ) where
       (omega arith))
     where
       at : (t : Bool) → (from == slot) ≡ t → (from + 1 ≤ slot → can_rise_one manager es slot ≡ true) → can_rise_one manager es slot ≡ true
-      at true is _ =
+      at true fact _ =
           let same : from ≡ slot = grind (arith, nat_tests) in
           ap (can_rise_one manager es) (sym same) ∙ and_first (can_rise_one manager es from) (rest_can es from n) all
-      at false is rest =
+      at false fact rest =
           let below : from < slot = grind (arith, nat_tests) in
           rest (omega (arith, below))
 

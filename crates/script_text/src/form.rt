@@ -5,7 +5,7 @@ ghost use Rattle.script_text.specs.Words.{words};
 ghost use Rattle.script_text.specs.Forms.{parts, verb, all_forms, is_digit, are_digits, is_numbered, looks, piece_of, behind_part, has_words, is_net};
 ghost use Rattle.script_text.specs.Reading.{form_of};
 
-use crate::word::{Words, is};
+use crate::word::{Words, spells};
 
 /// What a line asks for, by its words.
 #[derive(Clone, Copy)]
@@ -298,10 +298,10 @@ fn looks(part: Part, verb: &[u8], word: &[u8]) -> bool
     ensures { result ≡ looks part verb.now word.now }
 {
     match part {
-        Part::Cleaner => is(word, b"cl"),
-        Part::Registry => is(word, b"reg"),
-        Part::Network => is(word, b"net"),
-        Part::Verb => is(word, verb),
+        Part::Cleaner => spells(word, b"cl"),
+        Part::Registry => spells(word, b"reg"),
+        Part::Network => spells(word, b"net"),
+        Part::Verb => spells(word, verb),
         Part::Client => is_numbered(b'c', word),
         Part::Manager => is_numbered(b'm', word),
         Part::Server => is_numbered(b's', word),

@@ -7,7 +7,7 @@ ghost use Rattle.script_text.specs.Reading.{form_in, read_after, read_item};
 
 use crate::form::{form_of, is_net};
 use crate::part::read_number;
-use crate::word::{Words, is};
+use crate::word::{Words, spells};
 use crate::work::work_of;
 use crate::{Form, Kind, LineError};
 use std::alloc::Global;
@@ -28,7 +28,7 @@ fn is_timed(line: &[u8]) -> bool
     ensures { result ≡ is_timed (words line.now) }
 {
     let mut words = Words::of(line);
-    is(words.next(), b"after")
+    spells(words.next(), b"after")
 }
 
 /// What stands behind the first two words.
@@ -74,7 +74,7 @@ fn read_after(line: &[u8]) -> Result<u32, LineError>
     ensures { Answers result (read_after (words line.now)) }
 {
     let mut words = Words::of(line);
-    if is(words.next(), b"after") {
+    if spells(words.next(), b"after") {
         read_number(0, u32::MAX, &mut words)
     } else {
         Ok(0)

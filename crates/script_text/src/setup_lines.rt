@@ -7,7 +7,7 @@ ghost use Rattle.script_text.specs.Reading.{number_for, new_server, servers_from
 
 use crate::part::number_in;
 use crate::stage::Stage;
-use crate::word::{Words, is};
+use crate::word::{Words, spells};
 use std::alloc::Global;
 use xfs_base::{GroupSetup, List, Mem, Setup};
 
@@ -36,7 +36,7 @@ fn number_for(name: &[u8], least: u32, limit: u32, line: &[u8]) -> Option<u32>
     ensures range { IfSome result (λ n. n ≤ limit) }
 {
     let mut words = Words::of(line);
-    if !is(words.next(), name) || words.is_end() {
+    if !spells(words.next(), name) || words.is_end() {
         return None;
     }
     let number = words.next();
@@ -107,9 +107,9 @@ fn group_of(alloc: Global, servers: u8, line: &[u8]) -> Mem<Option<GroupSetup>>
 {
     let mut words = Words::of(line);
     let name = words.next();
-    if is(name, b"group") {
+    if spells(name, b"group") {
         Ok(enough_for(1, servers_from(alloc, servers, &mut words)?))
-    } else if is(name, b"group2") {
+    } else if spells(name, b"group2") {
         Ok(enough_for(2, servers_from(alloc, servers, &mut words)?))
     } else {
         Ok(None)
@@ -134,7 +134,7 @@ fn acts_said(line: &[u8]) -> Option<Said>
     ensures { result ≡ acts_said (words line.now) }
 {
     let mut words = Words::of(line);
-    if is(words.next(), b"acts") && words.is_end() {
+    if spells(words.next(), b"acts") && words.is_end() {
         Some(Said::Acts)
     } else {
         None
@@ -196,14 +196,14 @@ pub fn said_at(alloc: Global, stage: Stage, setup: &Setup, line: &[u8]) -> Mem<O
 fn is_setup_word(word: &[u8]) -> bool
     ensures { result ≡ is_setup_word word.now }
 {
-    is(word, b"xfs")
-        || is(word, b"clients")
-        || is(word, b"managers")
-        || is(word, b"servers")
-        || is(word, b"group")
-        || is(word, b"group2")
-        || is(word, b"cache")
-        || is(word, b"acts")
+    spells(word, b"xfs")
+        || spells(word, b"clients")
+        || spells(word, b"managers")
+        || spells(word, b"servers")
+        || spells(word, b"group")
+        || spells(word, b"group2")
+        || spells(word, b"cache")
+        || spells(word, b"acts")
 }
 
 /// Whether a line begins with a word that begins lines of the setup.

@@ -9,8 +9,8 @@ ghost use Rattle.script_text.specs.Reading.{number_of};
 use std::marker::Model;
 use std::str;
 
-/// Whether two rows of bytes are the same.
-pub fn is(word: &[u8], text: &[u8]) -> bool
+/// Whether a word is spelt as this text is.
+pub fn spells(word: &[u8], text: &[u8]) -> bool
     ensures { result ≡ bytes_eq word.now text.now }
 {
     word == text

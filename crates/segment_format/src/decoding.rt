@@ -123,7 +123,7 @@ fn items_of(
     let mut seen = Seen::nothing();
     for _ in 0..count {
         let item = item_of(alloc, version, seen, reader)?;
-        seen = seen.after(&item);
+        seen = seen.with_item(&item);
         items.push(item)?;
     }
     if seen.awaited.is_some() {

@@ -46,7 +46,7 @@ impl Seen {
     }
 
     /// What is seen behind this item.
-    pub fn after(self, item: &Item) -> Seen
+    pub fn with_item(self, item: &Item) -> Seen
         requires { self.others + self.deltas < 65535 }
         ensures { result ≡ seen_after item.now self }
     {
@@ -97,7 +97,7 @@ impl Seen {
     {
         match self.awaited {
             None => item == NO_ITEM,
-            Some(awaited) => block.is(awaited.block) && item == awaited.item,
+            Some(awaited) => block.is_same(awaited.block) && item == awaited.item,
         }
     }
 

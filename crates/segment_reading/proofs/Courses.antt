@@ -88,7 +88,7 @@ module _ (target : Target) (group : Group) where
   ends_holds : (h : Heard) (ended : List (List (ℕ × ℕ))) (pairs : List (ℕ × ℕ)) → missing_of group h ≡ pairs
       → After (ends (standing h ended h.answers Asking) pairs) h ended
   unfolding first_of
-  ends_holds h ended pairs is = subst (λ (ps : List (ℕ × ℕ)). After (ends (standing h ended h.answers Asking) ps) h ended) is
+  ends_holds h ended pairs fact = subst (λ (ps : List (ℕ × ℕ)). After (ends (standing h ended h.answers Asking) ps) h ended) fact
       (record {
         told = h.answers;
         stage = if are_gone group.parity (first_of ended) (missing_of group h) then Doubted else Between;

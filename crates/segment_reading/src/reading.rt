@@ -244,7 +244,9 @@ fn may_be(target: &Target, round: &Round, told: &Told) -> bool
 {
     match told {
         Told::Missing(_) => true,
-        Told::Held(fragment) => { fragment.meta.name.is(target.seg.name) && round.fits(fragment) }
+        Told::Held(fragment) => {
+            fragment.meta.name.is_same(target.seg.name) && round.fits(fragment)
+        }
     }
 }
 
@@ -265,7 +267,7 @@ fn found(alloc: Global, target: &Target, groups: &GroupMap, bytes: &[u8]) -> Mem
 {
     match decode(alloc, bytes) {
         Ok(segment) => {
-            if target.is(&segment, groups) {
+            if target.is_met_by(&segment, groups) {
                 Ok(Some(segment))
             } else {
                 drop(segment);

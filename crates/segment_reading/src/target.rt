@@ -27,13 +27,15 @@ pub struct Target {
 impl Target {
     /// Whether the segment is the one that is looked for: it has the name, its prior, where it has one, is
     /// in a group that is known, and the item, where one is looked for, is a Block of the block.
-    pub fn is(&self, segment: &Segment, groups: &GroupMap) -> bool
+    pub fn is_met_by(&self, segment: &Segment, groups: &GroupMap) -> bool
         ensures { result ≡ is_target self.now groups.now segment.now }
     {
         let Some(at) = self.block else {
-            return self.seg.name.is(segment.name) && is_known(segment.prior, groups);
+            return self.seg.name.is_same(segment.name) && is_known(segment.prior, groups);
         };
-        self.seg.name.is(segment.name) && is_known(segment.prior, groups) && is_block(segment, at)
+        self.seg.name.is_same(segment.name)
+            && is_known(segment.prior, groups)
+            && is_block(segment, at)
     }
 }
 

@@ -88,7 +88,7 @@ live_in-insert seg block entry (r ∷ rs) sorted =
 -- ---- one merge
 
 pub held_counted : (i : Indexed) → IsCounted i → (block : BlockId) → ForSome (segment_of (entry_of i.rows block)) (λ seg. 0 < count_of i.usage seg)
-held_counted i counted block = λ seg is. subst (λ n. 0 < n) (sym (counted.counted seg)) (held_lives i.rows block seg is)
+held_counted i counted block = λ seg fact. subst (λ n. 0 < n) (sym (counted.counted seg)) (held_lives i.rows block seg fact)
 
 pub keeps-counted : (i : Indexed) (m : BlockId × Entry) → IsCounted i → IsCounted (indexed i m)
 unfolding indexed merged
@@ -130,8 +130,8 @@ grown i m counted seg =
 
 pub fits_first : (usage : List (SegName × ℕ)) (m : BlockId × Entry) (ms : List (BlockId × Entry)) → Fits usage (m ∷ ms)
     → ForSome (segment_of m.1) (λ seg. count_of usage seg < 2 ^ 32 - 1)
-fits_first usage m ms fits = λ seg is.
-    let one : blocks_at (segment_of m.1) seg ≡ 1 = ap (λ end. blocks_at end seg) is ∙ one_at seg in
+fits_first usage m ms fits = λ seg fact.
+    let one : blocks_at (segment_of m.1) seg ≡ 1 = ap (λ end. blocks_at end seg) fact ∙ one_at seg in
     let room : count_of usage seg + (blocks_at (segment_of m.1) seg + live_in seg ms) < 2 ^ 32 = fits seg (omega arith) in
     omega arith
 
@@ -142,10 +142,10 @@ fits_more i m ms counted fits = λ seg some.
     omega arith
 
 -- no segment has more of the rows than there are
-live_in-most : (seg : SegName) (rows : List (BlockId × Entry)) → live_in seg rows ≤ length rows
-live_in-most seg [] = omega arith
-live_in-most seg (r ∷ rs) =
-    let rest : live_in seg rs ≤ length rs = live_in-most seg rs in
+live_in-limit : (seg : SegName) (rows : List (BlockId × Entry)) → live_in seg rows ≤ length rows
+live_in-limit seg [] = omega arith
+live_in-limit seg (r ∷ rs) =
+    let rest : live_in seg rs ≤ length rs = live_in-limit seg rs in
     let one : blocks_at (segment_of r.1) seg ≤ 1 = at_most_one (segment_of r.1) in
     omega arith
   where
@@ -177,7 +177,7 @@ can_rise-at more usage (r ∷ rs) seg room some =
 pub room_fits : (usage : List (SegName × ℕ)) (rows : List (BlockId × Entry)) → has_room (length rows) usage rows ≡ true → Fits usage rows
 room_fits usage rows room = λ seg some.
     let can : length rows ≤ 2 ^ 32 - 1 - count_of usage seg = can_rise-at (length rows) usage rows seg room some in
-    let limit : live_in seg rows ≤ length rows = live_in-most seg rows in
+    let limit : live_in seg rows ≤ length rows = live_in-limit seg rows in
     omega arith
 
 -- ---- from nothing, and over all

@@ -38,15 +38,15 @@ belief bs h = lookup (is_at (holder_cmp h)) bs
 -- ---- without the beliefs of a block
 
 dropped_from : (at of : Bool) (x below found : Option Bool) → (at ≡ true → of ≡ true) → found ≡ cond of None below → found ≡ cond of None (cond at x below)
-dropped_from true true x below found so is = is
-dropped_from true false x below found so is = absurd (let f : false ≡ true = so refl in cc)
-dropped_from false of x below found so is = is
+dropped_from true true x below found so fact = fact
+dropped_from true false x below found so fact = absurd (let f : false ≡ true = so refl in cc)
+dropped_from false of x below found so fact = fact
 
 kept_in : (at of : Bool) (x below found : Option Bool) → (at ≡ true → of ≡ false) → found ≡ cond of None below
     → cond at x found ≡ cond of None (cond at x below)
-kept_in true true x below found so is = absurd (let f : true ≡ false = so refl in cc)
-kept_in true false x below found so is = refl
-kept_in false of x below found so is = is
+kept_in true true x below found so fact = absurd (let f : true ≡ false = so refl in cc)
+kept_in true false x below found so fact = refl
+kept_in false of x below found so fact = fact
 
 abbrev nothing_held : Option Bool
 nothing_held = None
@@ -91,10 +91,10 @@ apart_test q h apart same = apart (tells_apart holder_cmp_exact q h same)
 
 least-owned_by : (bs : List (Holder × Bool)) (h q : Holder) → (q ≡ h → ⊥) → share (belief (owned_by bs h) q) ≤ share (belief bs q)
 least-owned_by bs h q apart =
-    let is : belief (owned_by bs h) q ≡ cond (eq_by_cmp holder_cmp q h) (Some true) (cond (same_block q.block h.block) None (belief bs q)) =
+    let fact : belief (owned_by bs h) q ≡ cond (eq_by_cmp holder_cmp q h) (Some true) (cond (same_block q.block h.block) None (belief bs q)) =
     lookup-insert_entry holder_cmp_total q h true (without_block bs h.block)
     ∙ ap (cond (eq_by_cmp holder_cmp q h) (Some true)) (belief-without_block q h.block bs) in
-    subst (λ o. share o ≤ share (belief bs q)) (sym is)
+    subst (λ o. share o ≤ share (belief bs q)) (sym fact)
     (least_cond (eq_by_cmp holder_cmp q h) (same_block q.block h.block) (belief bs q) (apart_test q h apart))
 
 least-held_by : (bs : List (Holder × Bool)) (h q : Holder) → (q ≡ h → ⊥) → share (belief (held_by bs h) q) ≤ share (belief bs q)
@@ -120,9 +120,9 @@ asker-held_by bs h =
     ⊎ (share (belief (cond t bs (insert_entry holder_cmp bs h false)) h) ≤ share (belief bs h))) [
       | true ↦ inr (omega arith)
       | false ↦ inl
-          (let is : belief (insert_entry holder_cmp bs h false) h ≡ Some false = lookup-insert_entry holder_cmp_total h h false bs
+          (let fact : belief (insert_entry holder_cmp bs h false) h ≡ Some false = lookup-insert_entry holder_cmp_total h h false bs
           ∙ ap (λ t. cond t (Some false) (belief bs h)) (holder_laws.refl h) in let one : share (belief (insert_entry holder_cmp bs h false) h) ≡ 1 =
-          ap share is in omega arith)
+          ap share fact in omega arith)
     ]
 
 -- the asker has no more than it wanted, or than it had

@@ -68,9 +68,9 @@ before_all block h below =
 past_all : (block : BlockId) (h k : Holder) → is_le (holder_cmp (holder block 0) h) ≡ true → same_block h.block block ≡ false → holder_cmp h k ≡ Less
     → same_block k.block block ≡ false
 past_all block h k le past lt = refuted (same_block k.block block) (λ same.
-    let is : block ≡ k.block = same_block_exact k.block block same in
+    let fact : block ≡ k.block = same_block_exact k.block block same in
     let below : ordering_then (block_cmp h.block block) (nat_cmp h.client k.client) ≡ Less =
-    ap (λ b. ordering_then (block_cmp h.block b) (nat_cmp h.client k.client)) is ∙ lt in
+    ap (λ b. ordering_then (block_cmp h.block b) (nat_cmp h.client k.client)) fact ∙ lt in
     let tied : block_cmp h.block block ≡ Equal =
     met (block_cmp block h.block) (block_cmp h.block block) (nat_cmp 0 h.client) (nat_cmp h.client k.client)
     (block_cmp_total.antisymm block h.block) le below in

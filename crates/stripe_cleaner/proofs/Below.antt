@@ -19,7 +19,7 @@ use Rattle.xfs_base.specs.declared.segment.SegRef.{SegRef}
 use Rattle.xfs_base.specs.Steps.{still}
 use Rattle.xfs_base.proofs.Booleans.{by_test, and_first, and_second}
 use Rattle.stripe_cleaner.specs.declared.checks.Check.{Check}
-use Rattle.stripe_cleaner.specs.declared.counting.Rank.{Rank}
+use Rattle.stripe_cleaner.specs.declared.counting.Fullness.{Fullness}
 use Rattle.stripe_cleaner.specs.declared.input.In.{In}
 use Rattle.stripe_cleaner.specs.declared.input.In.TheVariants as input
 use Rattle.stripe_cleaner.specs.declared.output.Out.{Out}
@@ -29,7 +29,7 @@ use Rattle.stripe_cleaner.specs.declared.phase.Phase.TheVariants.{Greeting, List
 use Rattle.stripe_cleaner.specs.Candidates.{is_cleaned, is_candidate, least_horizon, candidates_with_one, candidates_with}
 use Rattle.stripe_cleaner.specs.Checks.{all_dead, any_asked, live_at, dead_at, moved_at, moves, questions, checks_from, is_awaited, place_in}
 use Rattle.stripe_cleaner.specs.CleaningState.{CleaningState, started}
-use Rattle.stripe_cleaner.specs.Counting.{CountingState, rank_cmp, rank_of, ranked_with_one, ranked, segment_at, chosen, has_usage, is_counted, awaited_slots, all_slots}
+use Rattle.stripe_cleaner.specs.Counting.{CountingState, fullness_cmp, fullness_of, by_fullness_with_one, by_fullness, segment_at, chosen, has_usage, is_counted, awaited_slots, all_slots}
 use Rattle.stripe_cleaner.specs.Histories.{state_after, IsWelcomed, IsBelow, EmptiesBelow}
 use Rattle.stripe_cleaner.specs.Job.{Turn, next_of, next, deletes, servers_of, deleting, counted, left_to_delete, same_name, on_deleted, checking, on_read, looked_at, is_moving, on_moved}
 use Rattle.stripe_cleaner.specs.JobState.{JobState}
@@ -77,24 +77,25 @@ candidate_is_below slots name h =
     and_second (is_cleaned name.log.0) (nat_lt name.seq (least_horizon slots name.log.0)) h in
     grind (arith, nat_tests, below)
 
--- ---- the ranking
+-- ---- the order of emptying
 
 module _ (P : SegName → Type 0) where
-  ranked_from : (usages : _) (candidates : List (SegName × ℕ)) (es : List (Rank × ℕ)) → AllByRecursion P (keys_of candidates)
-      → AllByRecursion (λ (r : Rank). P r.name) (keys_of es)
-      → AllByRecursion (λ (r : Rank). P r.name) (keys_of (fold (ranked_with_one usages) es candidates))
-  ranked_from usages [] es all sofar = sofar
-  ranked_from usages (c ∷ cs) es all sofar =
-      ranked_from usages cs (ranked_with_one usages es c) all.1 (all_put (λ (r : Rank). P r.name) rank_cmp es (rank_of usages c.0) c.1 sofar all.0)
+  by_fullness_from : (usages : _) (candidates : List (SegName × ℕ)) (es : List (Fullness × ℕ)) → AllByRecursion P (keys_of candidates)
+      → AllByRecursion (λ (r : Fullness). P r.name) (keys_of es)
+      → AllByRecursion (λ (r : Fullness). P r.name) (keys_of (fold (by_fullness_with_one usages) es candidates))
+  by_fullness_from usages [] es all sofar = sofar
+  by_fullness_from usages (c ∷ cs) es all sofar =
+      by_fullness_from usages cs (by_fullness_with_one usages es c) all.1
+      (all_put (λ (r : Fullness). P r.name) fullness_cmp es (fullness_of usages c.0) c.1 sofar all.0)
 
-  first_from : (n : ℕ) (es : List (Rank × ℕ)) → AllByRecursion (λ (r : Rank). P r.name) (keys_of es)
+  first_from : (n : ℕ) (es : List (Fullness × ℕ)) → AllByRecursion (λ (r : Fullness). P r.name) (keys_of es)
       → AllByRecursion (λ (s : SegRef). P s.name) (map segment_at (take n es))
   first_from zero es all = tt
   first_from (suc n) [] all = tt
   first_from (suc n) (e ∷ es) all = (all.0, first_from n es all.1)
 
   chosen_from : (count : ℕ) (c : CountingState) → AllByRecursion P (keys_of c.candidates) → AllByRecursion (λ (s : SegRef). P s.name) (chosen count c)
-  chosen_from count c all = first_from count (ranked c) (ranked_from c.usages c.candidates [] all tt)
+  chosen_from count c all = first_from count (by_fullness c) (by_fullness_from c.usages c.candidates [] all tt)
 
 -- ---- in each phase
 

@@ -10,7 +10,7 @@ use Rattle.xfs_base.specs.declared.segment.SegName.{SegName}
 use Rattle.xfs_base.specs.declared.segment.SegRef.{SegRef}
 use Rattle.stripe_cleaner.specs.declared.checks.Check.{Check}
 use Rattle.stripe_cleaner.specs.declared.checks.Fate.TheVariants.{Asked}
-use Rattle.stripe_cleaner.specs.declared.counting.Rank.{Rank}
+use Rattle.stripe_cleaner.specs.declared.counting.Fullness.{Fullness}
 use Rattle.stripe_cleaner.specs.Checks.{check_of, checks_from}
 use Rattle.stripe_cleaner.specs.declared.output.Out.TheVariants.{UsageAsk}
 use Rattle.stripe_cleaner.specs.Counting.{segment_at, has_usage, awaited_among, live_in}
@@ -32,14 +32,14 @@ same_item n (Part slot rows) = refl
 
 pub checks_past : (n : ℕ) (items : List Item) → checks_from (min n no_item) items ≡ checks_from n items
 checks_past n [] = refl
-checks_past n (i ∷ is) =
+checks_past n (i ∷ fact) =
     let e : min (min n no_item + 1) no_item ≡ min (n + 1) no_item = omega arith in
-    let rest : checks_from (min n no_item + 1) is ≡ checks_from (n + 1) is =
-    sym (checks_past (min n no_item + 1) is) ∙ ap (λ m. checks_from m is) e ∙ checks_past (n + 1) is in
+    let rest : checks_from (min n no_item + 1) fact ≡ checks_from (n + 1) fact =
+    sym (checks_past (min n no_item + 1) fact) ∙ ap (λ m. checks_from m fact) e ∙ checks_past (n + 1) fact in
     λ k. same_item n i k ++ rest k
 
 -- the segment that comes is the next of those that are chosen
-pub first_step : (left : List SegRef) (count : ℕ) (e : Rank × ℕ) (rest : List (Rank × ℕ)) → length left < count
+pub first_step : (left : List SegRef) (count : ℕ) (e : Fullness × ℕ) (rest : List (Fullness × ℕ)) → length left < count
     → (left ++ segment_at e ∷ []) ++ map segment_at (take (count - length (left ++ segment_at e ∷ [])) rest) ≡ left
     ++ map segment_at (take (count - length left) (e ∷ rest))
 first_step left count e rest lt =
@@ -49,7 +49,7 @@ first_step left count e rest lt =
     ∙ ap (λ m. left ++ map segment_at (take m (e ∷ rest))) (sym k)
 
 -- once so many are chosen, no other is
-pub first_full : (left : List SegRef) (count : ℕ) (e : Rank × ℕ) (rest : List (Rank × ℕ)) → count ≤ length left
+pub first_full : (left : List SegRef) (count : ℕ) (e : Fullness × ℕ) (rest : List (Fullness × ℕ)) → count ≤ length left
     → left ++ map segment_at (take (count - length left) rest) ≡ left ++ map segment_at (take (count - length left) (e ∷ rest))
 first_full left count e rest le =
     let k : count - length left ≡ 0 = omega arith in
@@ -84,10 +84,10 @@ live_step usages name live slots i d lt = at_drop_more (fold (λ sum slot. sum +
 -- a list of which the items below a place are changed, with the one at that place changed too
 pub changed_more : {X : Type 0} (f : X → X) (old xs : List X) (i : ℕ) (d e : X) → i < length old → xs ≡ map f (take i old) ++ drop i old → e ≡ get_or xs i d
     → set xs i (f e) ≡ map f (take (i + 1) old) ++ drop (i + 1) old
-changed_more f old xs i d e here is read =
+changed_more f old xs i d e here fact read =
     let rest : drop i old ≡ get_or old i d ∷ drop (i + 1) old = drop_more old i d here in
     let long : length (map f (take i old)) ≡ i = length-map (take i old) f ∙ length-take-le i old (omega arith) in
-    let is2 : xs ≡ map f (take i old) ++ get_or old i d ∷ drop (i + 1) old = is ∙ ap (λ r. map f (take i old) ++ r) rest in
+    let is2 : xs ≡ map f (take i old) ++ get_or old i d ∷ drop (i + 1) old = fact ∙ ap (λ r. map f (take i old) ++ r) rest in
     let here2 : e ≡ get_or old i d = read ∙ ap (λ r. get_or r i d) is2 ∙ get_or_at (map f (take i old)) (get_or old i d) (drop (i + 1) old) d i long in
     ap (λ r. set r i (f e)) is2 ∙ set_at (map f (take i old)) (get_or old i d) (drop (i + 1) old) (f e) i long
     ∙ ap (λ y. map f (take i old) ++ f y ∷ drop (i + 1) old) here2

@@ -11,7 +11,7 @@ use Rattle.usage_table.specs.Counts.{count_of}
 use Rattle.xfs_base.specs.declared.segment.SegName.{SegName}
 use Rattle.xfs_base.specs.declared.segment.SegRef.{SegRef}
 use Rattle.xfs_base.specs.Segments.{seg_cmp}
-use Rattle.stripe_cleaner.specs.declared.counting.Rank.{Rank}
+use Rattle.stripe_cleaner.specs.declared.counting.Fullness.{Fullness}
 pub use Rattle.xfs_base.specs.Limits.{all_slots}
 
 pub record CountingState : Type 0 where
@@ -47,22 +47,22 @@ abbrev pub live_count : List (ℕ × List (SegName × ℕ)) → SegName → ℕ
 live_count usages name = live_among usages name all_slots
 
 -- by live count, then log, number and pass
-abbrev pub rank_cmp : Rank → Rank → Ordering
-rank_cmp a b = ordering_then (nat_cmp a.live b.live) (seg_cmp a.name b.name)
+abbrev pub fullness_cmp : Fullness → Fullness → Ordering
+fullness_cmp a b = ordering_then (nat_cmp a.live b.live) (seg_cmp a.name b.name)
 
-abbrev pub rank_of : List (ℕ × List (SegName × ℕ)) → SegName → Rank
-rank_of usages name = record { live = live_count usages name; name = name }
+abbrev pub fullness_of : List (ℕ × List (SegName × ℕ)) → SegName → Fullness
+fullness_of usages name = record { live = live_count usages name; name = name }
 
-abbrev pub ranked_with_one : List (ℕ × List (SegName × ℕ)) → List (Rank × ℕ) → SegName × ℕ → List (Rank × ℕ)
-ranked_with_one usages ranked e = insert_entry rank_cmp ranked (rank_of usages e.0) e.1
+abbrev pub by_fullness_with_one : List (ℕ × List (SegName × ℕ)) → List (Fullness × ℕ) → SegName × ℕ → List (Fullness × ℕ)
+by_fullness_with_one usages by_fullness e = insert_entry fullness_cmp by_fullness (fullness_of usages e.0) e.1
 
--- the candidates, each with its group, by rank
-abbrev pub ranked : CountingState → List (Rank × ℕ)
-ranked c = fold (ranked_with_one c.usages) [] c.candidates
+-- the candidates, each with its group, the least full first
+abbrev pub by_fullness : CountingState → List (Fullness × ℕ)
+by_fullness c = fold (by_fullness_with_one c.usages) [] c.candidates
 
-abbrev pub segment_at : Rank × ℕ → SegRef
+abbrev pub segment_at : Fullness × ℕ → SegRef
 segment_at e = record { name = e.0.name; group = e.1 }
 
--- the candidates of least rank, so many, in order
+-- the candidates that are least full, so many, in order
 abbrev pub chosen : ℕ → CountingState → List SegRef
-chosen count c = map segment_at (take count (ranked c))
+chosen count c = map segment_at (take count (by_fullness c))

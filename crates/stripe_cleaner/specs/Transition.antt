@@ -101,7 +101,7 @@ heard l server held = record l { awaited = without l.awaited server; candidates 
 abbrev pub on_list : ℕ → List FragMeta → ListingState → Turn
 on_list server held l = if is_among l.awaited server then listed (heard l server held) else still (Listing l)
 
--- once all counts are in, the candidates of least rank are emptied, in order
+-- once all counts are in, the least full candidates are emptied, in order
 abbrev pub counted : ℕ → CountingState → Turn
 counted count c = if is_counted c.usages then next (record { groups = c.groups; left = chosen count c; deleted = 0 }) else still (Counting c)
 

@@ -120,7 +120,7 @@ impl Check {
         requires { entry.hop < u32_end }
         ensures { self.new ≡ live_at block entry self.old }
     {
-        if self.block.is(block) {
+        if self.block.is_same(block) {
             self.fate.after_live(entry);
         }
     }
@@ -128,7 +128,7 @@ impl Check {
     fn dead_at(&mut self, block: BlockId)
         ensures { self.new ≡ dead_at block self.old }
     {
-        if self.block.is(block) {
+        if self.block.is_same(block) {
             self.fate.after_dead();
         }
     }

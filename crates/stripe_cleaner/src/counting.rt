@@ -6,7 +6,7 @@ ghost use Rattle.std.specs.Map.{remove_entry};
 ghost use Rattle.std.specs.BTreeMap.{is_at, insert_entry};
 ghost use Rattle.xfs_base.specs.Limits.{u32_end};
 ghost use Rattle.usage_table.specs.Counts.{count_of};
-ghost use Rattle.stripe_cleaner.specs.Counting.{has_usage, is_counted, awaited_among, awaited_slots, live_in, live_among, live_count, rank_of, ranked, chosen, segment_at};
+ghost use Rattle.stripe_cleaner.specs.Counting.{has_usage, is_counted, awaited_among, awaited_slots, live_in, live_among, live_count, fullness_of, by_fullness, chosen, segment_at};
 ghost use Rattle.stripe_cleaner.specs.Transition.{usage_asks, forgotten, forgetting, counted, usage_with, on_counts};
 
 use crate::job::Job;
@@ -23,7 +23,7 @@ const SLOTS: [u8; 8] = [0, 1, 2, 3, 4, 5, 6, 7];
 
 /// By what the candidates are chosen, the least first: live blocks, then log, number and pass.
 #[derive(Clone, Copy, PartialEq, Eq, PartialOrd, Ord)]
-pub struct Rank {
+pub struct Fullness {
     /// How many live blocks the segment has.
     pub live: u64,
     /// The segment.
@@ -46,7 +46,7 @@ impl Model for Counting {
     ghost view = { λ c. record { groups = c.groups; candidates = c.candidates.entries; usages = c.usages.entries } };
 }
 
-impl Crosses for Rank {}
+impl Crosses for Fullness {}
 
 impl Crosses for Counting {}
 
@@ -167,21 +167,21 @@ impl Counting {
         Job::begin(groups, left)
     }
 
-    // The candidates of least rank, so many, in order.
+    // The candidates that are least full, so many, in order.
     fn chosen(&self, alloc: Global, count: u32) -> Mem<VecDeque<SegRef>>
         ensures { IfOk result (λ left. left.items ≡ chosen count self.now) }
     {
-        let ranked = self.ranked(alloc)?;
-        first_ranked(alloc, count, &ranked)
+        let by_fullness = self.by_fullness(alloc)?;
+        first_by_fullness(alloc, count, &by_fullness)
     }
 
-    // The candidates by rank.
-    fn ranked(&self, alloc: Global) -> Mem<BTreeMap<Rank, u32>>
-        ensures { IfOk result (λ all. all.entries ≡ ranked self.now) }
+    // The candidates, the least full first.
+    fn by_fullness(&self, alloc: Global) -> Mem<BTreeMap<Fullness, u32>>
+        ensures { IfOk result (λ all. all.entries ≡ by_fullness self.now) }
     {
         let mut all = BTreeMap::new(alloc);
         for (name, group) in &self.candidates {
-            all.insert(rank_of(&self.usages, *name), *group)?;
+            all.insert(fullness_of(&self.usages, *name), *group)?;
         }
         Ok(all)
     }
@@ -240,10 +240,10 @@ fn add_usage_asks(outs: &mut List<Out>, usages: &Usages, slots: &[u8]) -> Mem<()
     Ok(())
 }
 
-fn rank_of(usages: &Usages, name: SegName) -> Rank
-    ensures { result ≡ rank_of usages.now.entries name }
+fn fullness_of(usages: &Usages, name: SegName) -> Fullness
+    ensures { result ≡ fullness_of usages.now.entries name }
 {
-    Rank {
+    Fullness {
         live: live_count(usages, name, &SLOTS),
         name,
     }
@@ -291,14 +291,18 @@ fn count_of(counts: &[(SegName, u32)], name: SegName) -> u32
 }
 
 // The first of these, so many.
-fn first_ranked(alloc: Global, count: u32, ranked: &BTreeMap<Rank, u32>) -> Mem<VecDeque<SegRef>>
-    ensures { IfOk result (λ left. left.items ≡ map segment_at (take count ranked.now.entries)) }
+fn first_by_fullness(
+    alloc: Global,
+    count: u32,
+    by_fullness: &BTreeMap<Fullness, u32>,
+) -> Mem<VecDeque<SegRef>>
+    ensures { IfOk result (λ left. left.items ≡ map segment_at (take count by_fullness.now.entries)) }
 {
     let mut left = VecDeque::new(alloc);
-    for (rank, group) in ranked {
+    for (fullness, group) in by_fullness {
         if left.len() < count as usize {
             left.push_back(SegRef {
-                name: rank.name,
+                name: fullness.name,
                 group: *group,
             })?;
         }

@@ -43,9 +43,9 @@ each_index P f from zero all = All-nil P
 each_index P f from (suc n) all = All-cons P (f from) (map f (range_with_len (from + 1) n)) (all from) (each_index P f (from + 1) n all)
 
 pub round_lengths : (r : RoundSoFar) → IsRound r → HasLengths (part_of (unwrap_or (len_in r.answers) 0) (count_of r)) (parts_in r.n r.answers)
-round_lengths r is =
+round_lengths r fact =
     each_index (λ p. IfSome p (λ f. length f ≡ part_of (unwrap_or (len_in r.answers) 0) (count_of r))) (λ index. bytes_in index r.answers) 0 r.n
-    (λ index. bytes_long r.n (count_of r) (unwrap_or (len_in r.answers) 0) index r.answers is.parts)
+    (λ index. bytes_long r.n (count_of r) (unwrap_or (len_in r.answers) 0) index r.answers fact.parts)
 
 -- ---- one more answer
 
@@ -105,36 +105,36 @@ old_told : (n count : ℕ) (answers : List Answer) (more : Option ℕ) (before :
     → All (λ a. TellsPart n count (unwrap_or (or_else before more) 0) a.told) answers
 unfolding or_else
 old_told n count answers more None none all = none_in n count (unwrap_or more 0) answers none
-old_told n count answers more (Some len) is all = all
+old_told n count answers more (Some len) fact all = all
 
 -- one more answer that fits keeps a round a round
 pub pushed_is_round : (r : RoundSoFar) (server : ℕ) (told : Told) → IsRound r → told_fits r told ≡ true
     → IsRound (record r { answers = r.answers ++ record { server = server; told = told } ∷ [] })
-pushed_is_round r server told is fit =
+pushed_is_round r server told fact fit =
     let a : Answer = record { server = server; told = told } in
     let more = len_told told None in
     let P = λ (o : Option ℕ) (b : Answer). TellsPart r.n (count_of r) (unwrap_or o 0) b.told in
     record {
-      cut = is.cut;
+      cut = fact.cut;
       parts = subst (λ (o : Option ℕ). All (P o) (r.answers ++ a ∷ [])) (sym (len-push r.answers a))
-          (All-append (P (or_else (len_in r.answers) more)) r.answers (a ∷ []) (old_told r.n (count_of r) r.answers more (len_in r.answers) refl is.parts)
+          (All-append (P (or_else (len_in r.answers) more)) r.answers (a ∷ []) (old_told r.n (count_of r) r.answers more (len_in r.answers) refl fact.parts)
           (All-cons (P (or_else (len_in r.answers) more)) a [] (new_told r told fit) (All-nil (P (or_else (len_in r.answers) more)))));
     }
 
 -- ---- what joining asks of a round
 
 pub round_cut : (r : RoundSoFar) (ps : List (Option (List ℕ))) → IsRound r → ps ≡ parts_in r.n r.answers → IsCut (length ps) r.parity
-round_cut r ps is e =
+round_cut r ps fact e =
     let many : length ps ≡ r.n = ap (λ (qs : List (Option (List ℕ))). length qs) e ∙ length-map-range_with_len (λ index. bytes_in index r.answers) 0 r.n in
-    subst (λ (n : ℕ). IsCut n r.parity) (sym many) is.cut
+    subst (λ (n : ℕ). IsCut n r.parity) (sym many) fact.cut
 
 pub round_parts : (r : RoundSoFar) (ps : List (Option (List ℕ))) → IsRound r → ps ≡ parts_in r.n r.answers
     → HasLengths (part_of (unwrap_or (len_in r.answers) 0) (length ps - r.parity)) ps
-round_parts r ps is e =
+round_parts r ps fact e =
     let many : length ps ≡ r.n = ap (λ (qs : List (Option (List ℕ))). length qs) e ∙ length-map-range_with_len (λ index. bytes_in index r.answers) 0 r.n in
     let len = unwrap_or (len_in r.answers) 0 in
     subst (λ (n : ℕ). HasLengths (part_of len (n - r.parity)) ps) (sym many)
-    (subst (λ (qs : List (Option (List ℕ))). HasLengths (part_of len (count_of r)) qs) (sym e) (round_lengths r is))
+    (subst (λ (qs : List (Option (List ℕ))). HasLengths (part_of len (count_of r)) qs) (sym e) (round_lengths r fact))
 
 few_excess : (parity : ℕ) → 1 ≤ parity → parity ≤ 2 → (gone : List ℕ) → length gone ≤ parity → excess parity gone ≡ None
 few_excess zero some limit gone few = absurd (omega arith)
@@ -166,7 +166,7 @@ missing_and_there i (Some f ∷ ps) =
 -- where enough is in, no more is missing than the parity makes good
 pub enough_in : (r : RoundSoFar) (ps : List (Option (List ℕ))) → IsRound r → ps ≡ parts_in r.n r.answers → count_of r ≤ count_by is_some ps
     → excess r.parity (missing_from 0 ps) ≡ None
-enough_in r ps is e enough =
+enough_in r ps fact e enough =
     let many : length ps ≡ r.n = ap (λ (qs : List (Option (List ℕ))). length qs) e ∙ length-map-range_with_len (λ index. bytes_in index r.answers) 0 r.n in
     let all = missing_and_there 0 ps in
-    few_excess r.parity is.cut.some is.cut.few (missing_from 0 ps) (omega (arith, is.cut.least))
+    few_excess r.parity fact.cut.some fact.cut.few (missing_from 0 ps) (omega (arith, fact.cut.least))

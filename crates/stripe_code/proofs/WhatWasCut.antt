@@ -102,7 +102,7 @@ module _ (r : RoundSoFar) (text : List ℕ) (round : IsRound r) (bytes : IsBytes
     len_is = by (len_or_none text r.n r.parity r.answers told)
       where
         by : LenOrNone text r.n r.parity (len_in r.answers) (λ i. bytes_in i r.answers) → len_in r.answers ≡ Some (length text)
-        by (inl is) = is
+        by (inl fact) = fact
         by (inr none) = absurd (let a = none_counted (λ i. bytes_in i r.answers) none 0 r.n in let b = round.cut.least in let c = enough in omega arith)
 
     joined_is : joined parts r.parity (unwrap_or (len_in r.answers) 0) ≡ text
@@ -117,6 +117,6 @@ reads_what_was_cut r text found round bytes told =
     by_test (λ (s : RoundState). s ≡ Read found → found ≡ text) (is_enough r)
     (Read (joined (parts_in r.n r.answers) r.parity (unwrap_or (len_in r.answers) 0)))
     (if have_answered r.answers r.servers then Short (missing_in r.answers) else Waiting)
-    (λ t same. (let is = joined_is r text round bytes told (leb-true (count_of r) (count_by is_some (parts_in r.n r.answers)) t) in cc))
+    (λ t same. (let fact = joined_is r text round bytes told (leb-true (count_of r) (count_by is_some (parts_in r.n r.answers)) t) in cc))
     (λ t. by_test (λ (s : RoundState). s ≡ Read found → found ≡ text) (have_answered r.answers r.servers) (Short (missing_in r.answers)) Waiting
     (λ k same. absurd cc) (λ k same. absurd cc))

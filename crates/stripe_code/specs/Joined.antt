@@ -3,7 +3,21 @@ use Rattle.std.specs.Prelude.{ℕ, ◌-◌, ◌==◌, if◌then◌else◌, List,
 use Rattle.std.specs.List.{concat}
 use Rattle.stripe_code.specs.declared.joining.JoinError.{JoinError}
 use Rattle.stripe_code.specs.declared.joining.JoinError.TheVariants.{TwoGone, ThreeGone}
-pub use Rattle.fragment_sums.specs.Recovered.{HasLengths, AreOf, AreRising, missing_from, part_at, rest_onto, one_gone, lower_of, both_of, two_gone, recovered_at, recovered, filled}
+pub use Rattle.fragment_sums.specs.Recovered.{
+  HasLengths,
+  AreOf,
+  AreRising,
+  missing_from,
+  part_at,
+  rest_onto,
+  one_gone,
+  lower_of,
+  both_of,
+  two_gone,
+  recovered_at,
+  recovered,
+  filled,
+}
 
 -- what is said where more are missing than the parity makes good: the first of them
 abbrev pub excess : ℕ → List ℕ → Option JoinError

@@ -60,8 +60,8 @@ greatest_of c n v vs later some = go (nat_lt 0 (greatest_by c (n + 1) vs)) refl
     more m h = grind (arith, nat_tests)
 
     rest : (m k : ℕ) (t : Bool) → m ≡ n + 1 + k → max (if t then n else 0) m ≡ n + suc k
-    rest m k true is = grind (arith, nat_tests)
-    rest m k false is = grind (arith, nat_tests)
+    rest m k true fact = grind (arith, nat_tests)
+    rest m k false fact = grind (arith, nat_tests)
 
     first : (m : ℕ) → nat_lt 0 m ≡ false → 0 < max (if v.writer == c then n else 0) m → (v.writer ≡ c) × (max (if v.writer == c then n else 0) m ≡ n + 0)
     first m none some = (grind (arith, nat_tests), grind (arith, nat_tests))
@@ -106,7 +106,7 @@ module _ (logs : Bool) (members part : ℕ) (b : BlockId) (n : Net) (v : View lo
     reigns = v.reigns;
     manages = same_manager logs members part b n v (pinning w pinned) refl refl (λ d. refl) (λ d. refl) refl v.manages.job;
     past = v.past;
-    sent = λ p is. carried_on logs part b w (pinning w pinned) p
+    sent = λ p fact. carried_on logs part b w (pinning w pinned) p
         (record {
           epoch = refl;
           wants = λ x h. h;
@@ -116,7 +116,7 @@ module _ (logs : Bool) (members part : ℕ) (b : BlockId) (n : Net) (v : View lo
           reports = λ x h. h;
           lasts = owed logs (Lasts w (pinning w pinned)) (λ _. record { join = omega arith; value = λ m _. refl });
         })
-        (v.sent p is);
+        (v.sent p fact);
     kept = v.kept;
     acts = told_;
   }
@@ -132,7 +132,7 @@ unacted false members part b n v more same = pinned_view false members part b n 
 reads_here : (members part : ℕ) (b : BlockId) (n : Net) → View true members part b n → (c : ℕ) (value : Option (List ℕ)) → 0 < c → c < members → n.up c ≡ true
     → is_held (held_of (n.tokens c).blocks b).mode ≡ true → (held_of (n.tokens c).blocks b).value ≡ Some value
     → View true members part b (acted n (act.Read c b (held_of (n.tokens c).blocks b).ver value ∷ []))
-reads_here members part b n v c value pos less up held is =
+reads_here members part b n v c value pos less up held fact =
     let w = v.world in
     let x = w.client c in
     let ver = (held_of (n.tokens c).blocks b).ver in
@@ -140,7 +140,7 @@ reads_here members part b n v c value pos less up held is =
     let mode = shown.mode in
     let some = some_rank (held_of (n.tokens c).blocks b).mode held in
     let known = shown.version in
-    let text : x.value ≡ number value = subst (λ o. ValueShown number o x.value) is shown.value in
+    let text : x.value ≡ number value = subst (λ o. ValueShown number o x.value) fact shown.value in
     pinned_view true members part b n v (reads w c).pinned (n.acts ++ act.Read c b ver value ∷ []) (More v.steps (Reads c (record { holds = omega arith })))
     ((λ i. ReadBlock c (known i) (text i) ∷ v.acts i)
     ∙ sym (acts_on b n.acts (act.Read c b ver value)
@@ -150,15 +150,15 @@ pub apart_blocks : (b k : BlockId) → (k ≡ b → ⊥) → same_block k b ≡ 
 apart_blocks b k other = go (same_block k b) refl
   where
     go : (t : Bool) → same_block k b ≡ t → t ≡ false
-    go true is = absurd (other (sym (same_block_exact k b is)))
-    go false is = refl
+    go true fact = absurd (other (sym (same_block_exact k b fact)))
+    go false fact = refl
 
 pub reads_view : (logs : Bool) (members part : ℕ) (b : BlockId) (n : Net) → View logs members part b n → (c : ℕ) (block : BlockId) (value : Option (List ℕ))
     → 0 < c → c < members → n.up c ≡ true
     → is_held (held_of (n.tokens c).blocks block).mode ≡ true → (held_of (n.tokens c).blocks block).value ≡ Some value
     → View logs members part b (acted n (act.Read c block (held_of (n.tokens c).blocks block).ver value ∷ []))
-reads_view false members part b n v c block value pos less up held is = unacted false members part b n v _ tt
-reads_view true members part b n v c block value pos less up held is =
+reads_view false members part b n v c block value pos less up held fact = unacted false members part b n v _ tt
+reads_view true members part b n v c block value pos less up held fact =
     at_block (setting b c 0)
     (λ k. is_held (held_of (n.tokens c).blocks k).mode ≡ true → (held_of (n.tokens c).blocks k).value ≡ Some value
     → View true members part b (acted n (act.Read c k (held_of (n.tokens c).blocks k).ver value ∷ [])))
@@ -168,7 +168,7 @@ reads_view true members part b n v c block value pos less up held is =
     unacted true members part b n v (n.acts ++ act.Read c k ver value ∷ [])
     (acts_on b n.acts (act.Read c k ver value)
     ∙ ap (λ t. if t then ReadBlock c ver (number value) ∷ acts_of b n.acts else acts_of b n.acts) (apart_blocks b k other)))
-    block held is
+    block held fact
 
 -- ---- syncs
 
@@ -204,7 +204,7 @@ syncs_true members part b n v apart c pos less up clean = go (nat_lt 0 version) 
     may : nat_lt 0 version ≡ true → MaySync v.world c version
     may h =
         let g = greatest_is c 1 versions (some h) in
-        let is : version ≡ suc g.place = let e = g.greatest in omega arith in
+        let fact : version ≡ suc g.place = let e = g.greatest in omega arith in
         let settles = shown.settled in
         let known = shown.version in
         let limit = upto (held_of (n.tokens c).blocks b).settled (held_of (n.tokens c).blocks b).ver (clean b) in
@@ -212,7 +212,7 @@ syncs_true members part b n v apart c pos less up clean = go (nat_lt 0 version) 
           serving = shown.serving;
           clean = omega arith;
           known = let below = g.below in let newest = history.newest in let same = matches.length in omega arith;
-          mine = sym (matches.writers version) ∙ ap (block.history (acts_of b n.acts)).writer is ∙ history.writers g.place g.version g.there ∙ g.mine;
+          mine = sym (matches.writers version) ∙ ap (block.history (acts_of b n.acts)).writer fact ∙ history.writers g.place g.version g.there ∙ g.mine;
         }
 
     go : (t : Bool) → nat_lt 0 version ≡ t → View true members part b (acted n (act.Synced c ∷ []))

@@ -106,15 +106,15 @@ pub falls_keep : (logs : Bool) (members part : ℕ) (n m : Net) → Happens logs
 falls_keep logs members part n m (Acts c end x serves own) i = wrote_kept n.up n.acts c (n.tokens c) x i
 falls_keep logs members part n m (Elsewhere c end x serves other) i = i
 falls_keep logs members part n m (Reports c end serves) i = i
-falls_keep logs members part n m (GetsCopy c end block stamp inc req entry serves is) i = i
-falls_keep logs members part n m (GetsOwn c end block stamp inc req entry value serves is accepts room) i =
+falls_keep logs members part n m (GetsCopy c end block stamp inc req entry serves fact) i = i
+falls_keep logs members part n m (GetsOwn c end block stamp inc req entry value serves fact accepts room) i =
     kept_on n.up n.up n.acts (act.Wrote c block value) i tt i.waits
-falls_keep logs members part n m (Declines c end block stamp inc req entry serves is accepts) i = i
-falls_keep logs members part n m (GetsRecall c end block stamp keep serves is) i = i
-falls_keep logs members part n m (GetsForward c other block stamp inc req ver value pos less is up serves held) i = i
-falls_keep logs members part n m (GetsSupply c end block stamp inc req ver value serves is) i = i
+falls_keep logs members part n m (Declines c end block stamp inc req entry serves fact accepts) i = i
+falls_keep logs members part n m (GetsRecall c end block stamp keep serves fact) i = i
+falls_keep logs members part n m (GetsForward c other block stamp inc req ver value pos less fact up serves held) i = i
+falls_keep logs members part n m (GetsSupply c end block stamp inc req ver value serves fact) i = i
 falls_keep logs members part n m (Fetches c end block value serves there) i = i
-falls_keep logs members part n m (Reads c block value pos less up held is) i =
+falls_keep logs members part n m (Reads c block value pos less up held fact) i =
     let h = history_after n.acts nothing_yet in
     let ver = (held_of (n.tokens c).blocks block).ver in
     kept_on n.up n.up n.acts (act.Read c block ver value) i tt
@@ -124,8 +124,8 @@ falls_keep logs members part n m (Syncs c pos less up clean) i = kept_on n.up n.
 falls_keep logs members part n m (Seals c rows pos less up free newest) i = i
 falls_keep logs members part n m (Files c pos less up flies) i = i
 falls_keep logs members part n m (GetsDeltas e s log first upto rows at known some covers) i = i
-falls_keep logs members part n m (GetsWant e s c inc req again block mode end at is) i = i
-falls_keep logs members part n m (GetsGave e s c block stamp end at is) i = i
+falls_keep logs members part n m (GetsWant e s c inc req again block mode end at fact) i = i
+falls_keep logs members part n m (GetsGave e s c block stamp end at fact) i = i
 falls_keep logs members part n m (Ticks e s at) i = i
 falls_keep logs members part n m (Crashes c flight falls pos less up once so) i = fell_kept n.up n.acts c flight falls up once i
 falls_keep logs members part n m (Returns c inc epochs chain count pos less up later rises flies) i = back_kept n.up n.acts c chain i

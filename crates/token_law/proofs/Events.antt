@@ -51,48 +51,48 @@ keeps logs members part n m (Reports c end serves) sure i = record {
   ran = i.ran;
   views = λ b inside. report_view logs members part b n (i.views b inside) c end serves.some serves.within serves.up serves.end_is (i.sound c) inside;
 }
-keeps logs members part n m (GetsCopy c end block stamp inc req entry serves is) sure i =
+keeps logs members part n m (GetsCopy c end block stamp inc req entry serves fact) sure i =
     let x = input.Granted block stamp inc req Copy entry in
     client_good logs members part n i c end (client.transition (n.tokens c) x) serves (transition_sound logs members part n i c x)
-    (λ b inside v. takes_inputs logs (setting b c (n.tokens c).inc) end v.world (n.tokens c) x (ready logs members part n i b v c end serves) (v.sent _ is))
-keeps logs members part n m (GetsOwn c end block stamp inc req entry value serves is accepts room) sure i =
+    (λ b inside v. takes_inputs logs (setting b c (n.tokens c).inc) end v.world (n.tokens c) x (ready logs members part n i b v c end serves) (v.sent _ fact))
+keeps logs members part n m (GetsOwn c end block stamp inc req entry value serves fact accepts room) sure i =
     let d = client.transition (n.tokens c) (input.Granted block stamp inc req Own entry) in
     let sound = (transition-follows (λ b. Unit {0}) d.state (transition_sound logs members part n i c (input.Granted block stamp inc req Own entry))
     (input.Wrote block value) (λ b h. tt)).sound in
     record {
       sound = put_each (λ k x. IsSound x) n.tokens c (laws.granted_and_wrote (n.tokens c) stamp inc req block entry value).state sound (λ k other. i.sound k);
       ran = i.ran;
-      views = λ b inside. owns_view logs members part n i b (i.views b inside) c end block stamp inc req entry value serves is accepts room;
+      views = λ b inside. owns_view logs members part n i b (i.views b inside) c end block stamp inc req entry value serves fact accepts room;
     }
-keeps logs members part n m (Declines c end block stamp inc req entry serves is accepts) sure i =
+keeps logs members part n m (Declines c end block stamp inc req entry serves fact accepts) sure i =
     let d = client.transition (n.tokens c) (input.Granted block stamp inc req Own entry) in
     client_good logs members part n i c end (laws.granted_and_evicted (n.tokens c) stamp inc req block entry) serves
     (transition-follows (λ b. Unit {0}) d.state (transition_sound logs members part n i c (input.Granted block stamp inc req Own entry)) (input.Evict block)
     (λ b h. tt)).sound
-    (λ b inside v. declines_took logs members part n i b v c end block stamp inc req entry serves (v.sent _ is) accepts)
-keeps logs members part n m (GetsRecall c end block stamp keep serves is) sure i =
+    (λ b inside v. declines_took logs members part n i b v c end block stamp inc req entry serves (v.sent _ fact) accepts)
+keeps logs members part n m (GetsRecall c end block stamp keep serves fact) sure i =
     let x = input.Recalled block stamp keep in
     client_good logs members part n i c end (client.transition (n.tokens c) x) serves (transition_sound logs members part n i c x)
-    (λ b inside v. takes_inputs logs (setting b c (n.tokens c).inc) end v.world (n.tokens c) x (ready logs members part n i b v c end serves) (v.sent _ is))
-keeps logs members part n m (GetsForward c other block stamp inc req ver value pos less is up serves held) sure i = record {
+    (λ b inside v. takes_inputs logs (setting b c (n.tokens c).inc) end v.world (n.tokens c) x (ready logs members part n i b v c end serves) (v.sent _ fact))
+keeps logs members part n m (GetsForward c other block stamp inc req ver value pos less fact up serves held) sure i = record {
   sound = i.sound;
   ran = i.ran;
-  views = λ b inside. supply_view logs members part b n (i.views b inside) c other block stamp inc req ver value pos less is up serves held;
+  views = λ b inside. supply_view logs members part b n (i.views b inside) c other block stamp inc req ver value pos less fact up serves held;
 }
-keeps logs members part n m (GetsSupply c end block stamp inc req ver value serves is) sure i =
+keeps logs members part n m (GetsSupply c end block stamp inc req ver value serves fact) sure i =
     let x = input.Supplied block stamp inc req ver value in
     client_good logs members part n i c end (client.transition (n.tokens c) x) serves (transition_sound logs members part n i c x)
     (λ b inside v. takes_inputs logs (setting b c (n.tokens c).inc) end v.world (n.tokens c) x (ready logs members part n i b v c end serves)
-    (supply_brings logs members part n i b v c block stamp inc req ver value is))
+    (supply_brings logs members part n i b v c block stamp inc req ver value fact))
 keeps logs members part n m (Fetches c end block value serves there) sure i =
     let x = input.Fetched block value in
     client_good logs members part n i c end (client.transition (n.tokens c) x) serves (transition_sound logs members part n i c x)
     (λ b inside v. takes_inputs logs (setting b c (n.tokens c).inc) end v.world (n.tokens c) x (ready logs members part n i b v c end serves)
     (fetch_brings logs members part n i b v c end block value serves there))
-keeps logs members part n m (Reads c block value pos less up held is) sure i = record {
+keeps logs members part n m (Reads c block value pos less up held fact) sure i = record {
   sound = i.sound;
   ran = i.ran;
-  views = λ b inside. reads_view logs members part b n (i.views b inside) c block value pos less up held is;
+  views = λ b inside. reads_view logs members part b n (i.views b inside) c block value pos less up held fact;
 }
 keeps logs members part n m (Syncs c pos less up clean) sure i = record {
   sound = i.sound;
@@ -117,20 +117,20 @@ keeps logs members part n m (GetsDeltas e s log first upto_ rows at known some c
   ran = ran_put n.slots e (slot.transition s (told.Deltas log first upto_ rows)).state (on s (told.Deltas log first upto_ rows) (i.ran e s at)) i.ran;
   views = λ b inside. deltas_event logs members part n i b inside (i.views b inside) e s log first upto_ rows at known covers;
 }
-keeps logs members part n m (GetsWant e s c inc req again block mode end at is) sure i =
+keeps logs members part n m (GetsWant e s c inc req again block mode end at fact) sure i =
     let x = told.Want c block inc req again mode end in
     record {
       sound = i.sound;
       ran = ran_put n.slots e (slot.transition s x).state (on s x (i.ran e s at)) i.ran;
-      views = λ b inside. let v = i.views b inside in slot_event logs members part n i b v e s x at (λ _. v.sent _ is) (λ _. tt) (takes-transition s x tt).0;
+      views = λ b inside. let v = i.views b inside in slot_event logs members part n i b v e s x at (λ _. v.sent _ fact) (λ _. tt) (takes-transition s x tt).0;
     }
-keeps logs members part n m (GetsGave e s c block stamp end at is) sure i =
+keeps logs members part n m (GetsGave e s c block stamp end at fact) sure i =
     let x = told.Gave c block stamp end in
     record {
       sound = i.sound;
       ran = ran_put n.slots e (slot.transition s x).state (on s x (i.ran e s at)) i.ran;
       views = λ b inside. (let v = i.views b inside in
-          let h = v.sent _ is in
+          let h = v.sent _ fact in
           slot_event logs members part n i b v e s x at (λ _. (h.0, λ same of_epoch. (h.1 same).1 of_epoch)) (λ _. tt) (takes-transition s x tt).0);
     }
 keeps logs members part n m (Ticks e s at) sure i =

@@ -90,8 +90,12 @@ seals_newest : SealsNewest (knows wrote) rows
 seals_newest = record { once = (refl, tt); newest = λ k. go k (same_block example_block k) refl }
   where
     go : (k : BlockId) (t : Bool) → same_block example_block k ≡ t → IsNewest (held_of (knows wrote).blocks k) (row_in rows k)
-    go k true is = subst (λ x. IsNewest (held_of (knows wrote).blocks x) (row_in rows x)) (sym (same_block_exact example_block k is)) (inr (refl, refl, refl))
-    go k false is = inl (ap (λ t. if t then record { version = 1; value = example_value } else nothing_said) is)
+    go k true fact = subst (λ x. IsNewest (held_of (knows wrote).blocks x) (row_in rows x)) (sym (same_block_exact example_block k fact)) (inr (
+      refl,
+      refl,
+      refl,
+    ))
+    go k false fact = inl (ap (λ t. if t then record { version = 1; value = example_value } else nothing_said) fact)
 
 abbrev n4 : Net
 n4 = record n3 { books = sealed n3.books 1 rows }
@@ -127,7 +131,7 @@ abbrev n6 : Net
 n6 = record n5 { slots = put n5.slots 1 (Some z2) }
 
 same_place : (p : Place) → Some place ≡ Some p → (p.seg.name.log.0 ≡ 1) × (p.seg.name.seq ≡ 1)
-same_place p is = let same = some_one place p is in (ap (λ (x : Place). x.seg.name.log.0) (sym same), ap (λ (x : Place). x.seg.name.seq) (sym same))
+same_place p fact = let same = some_one place p fact in (ap (λ (x : Place). x.seg.name.log.0) (sym same), ap (λ (x : Place). x.seg.name.seq) (sym same))
 
 covers_here : Covers n5.books example_block 1 1 (slot.entry_at z1 example_block) (entry_of (indexed_all z1.index deltas).rows example_block)
 unfolding indexed merged
@@ -147,8 +151,8 @@ nothing_of : (k : BlockId) → same_block example_block k ≡ false → entry_of
 nothing_of k differs = ap (λ t. unwrap_or (cond t (Some entry) None) no_entry) (apart (eq_by_cmp block_cmp k example_block) refl)
   where
     apart : (t : Bool) → eq_by_cmp block_cmp k example_block ≡ t → t ≡ false
-    apart true is = contrary (sym differs ∙ ap (λ (x : BlockId). same_block example_block x) (tells_apart block_cmp_exact k example_block is))
-    apart false is = refl
+    apart true fact = contrary (sym differs ∙ ap (λ (x : BlockId). same_block example_block x) (tells_apart block_cmp_exact k example_block fact))
+    apart false fact = refl
 
 covers_there : (k : BlockId) → same_block example_block k ≡ false → Covers n5.books k 1 1 (slot.entry_at z1 k) (entry_of (indexed_all z1.index deltas).rows k)
 unfolding indexed merged
@@ -166,10 +170,10 @@ deltas_cover : DeltasCover 1 n5.books z1 (record { 0 = 1 }) 1 deltas
 deltas_cover = record { filed = omega arith; each = λ k inside. go k (same_block example_block k) refl }
   where
     go : (k : BlockId) (t : Bool) → same_block example_block k ≡ t → Covers n5.books k 1 1 (slot.entry_at z1 k) (entry_of (indexed_all z1.index deltas).rows k)
-    go k true is =
+    go k true fact =
         subst (λ x. Covers n5.books x 1 1 (slot.entry_at z1 x) (entry_of (indexed_all z1.index deltas).rows x))
-        (sym (same_block_exact example_block k is)) covers_here
-    go k false is = covers_there k is
+        (sym (same_block_exact example_block k fact)) covers_here
+    go k false fact = covers_there k fact
 
 step6 : Happens true 3 1 n5 n6
 step6 = GetsDeltas 1 z1 (record { 0 = 1 }) 1 1 deltas refl (omega arith) (omega arith) (λ latest. deltas_cover)

@@ -126,8 +126,8 @@ module _ (logs : Bool) (members part : ℕ) (b : BlockId) (n : Net) (v : View lo
     sound = v.sound;
     reigns = ap n.slots epoch ∙ v.reigns;
     manages = manages;
-    past = λ e s is. (let p = (v.past e s is).0 in omega arith, (v.past e s is).1);
-    sent = λ p is. carried_on logs part b w u p grows (v.sent p is);
+    past = λ e s fact. (let p = (v.past e s fact).0 in omega arith, (v.past e s fact).1);
+    sent = λ p fact. carried_on logs part b w u p grows (v.sent p fact);
     kept = kept;
     acts = acts_more u step a told_;
   }
@@ -144,20 +144,20 @@ module _ (logs : Bool) (members part : ℕ) (b : BlockId) (n : Net) (v : View lo
       → Kept b n.books w
       → fall_of b falls ≡ fall_from b (held c) (said n.books c (suc (n.books.end c)) b) → (acts : List block.Act)
       → FellBlock c (w.client c).settled (max (w.client c).settled (flying_row w c).version) ∷ acts ≡ with_fall c (fall_of b falls) acts
-  tells_dirty c falls shown dirty kept is acts =
+  tells_dirty c falls shown dirty kept fact acts =
       let row = said n.books c (suc (n.books.end c)) b in
       let f : Fall = record { block = b; low = (held c).settled; high = max (held c).settled row.version } in
       let settles = shown.settled in
       let flies = in_flight c kept in
-      (λ i. FellBlock c (settles i) (max (settles i) (flies i)) ∷ acts) ∙ sym (ap (λ o. with_fall c o acts) (is ∙ ap (λ t. if t then Some f else None) dirty))
+      (λ i. FellBlock c (settles i) (max (settles i) (flies i)) ∷ acts) ∙ sym (ap (λ o. with_fall c o acts) (fact ∙ ap (λ t. if t then Some f else None) dirty))
 
   tells_clean : (c : ℕ) (falls : List Fall) → is_dirty (held c) ≡ false → fall_of b falls ≡ fall_from b (held c) (said n.books c (suc (n.books.end c)) b)
       → (acts : List block.Act)
       → acts ≡ with_fall c (fall_of b falls) acts
-  tells_clean c falls clean is acts =
+  tells_clean c falls clean fact acts =
       let row = said n.books c (suc (n.books.end c)) b in
       let f : Fall = record { block = b; low = (held c).settled; high = max (held c).settled row.version } in
-      sym (ap (λ o. with_fall c o acts) (is ∙ ap (λ t. if t then Some f else None) clean))
+      sym (ap (λ o. with_fall c o acts) (fact ∙ ap (λ t. if t then Some f else None) clean))
 
   pub crash_view : (c : ℕ) (flight : Option (ℕ × ℕ)) (falls : List Fall) → 0 < c → c < members → n.up c ≡ true
       → Premise logs (FallsSo n.books c (n.tokens c) flight falls)
@@ -165,22 +165,22 @@ module _ (logs : Bool) (members part : ℕ) (b : BlockId) (n : Net) (v : View lo
   crash_view c flight falls pos less up so =
       elim (nat_lt (w.client c).settled (w.client c).version) as
       (λ t. nat_lt (w.client c).settled (w.client c).version ≡ t → View logs members part b (acted (record n { up = put n.up c false }) (a ∷ []))) [
-        | true ↦ λ is.
+        | true ↦ λ fact.
             let u = crashes_dirty w c in
-            let step : Step logs w u = CrashesDirty c (record { dirty = below _ _ is }) in
+            let step : Step logs w u = CrashesDirty c (record { dirty = below _ _ fact }) in
             fall c u a pos less up step refl refl refl (same_manager u refl refl (λ d. refl) (λ d. refl) refl v.manages.job)
             (all_same u refl refl refl refl refl refl (More Done step)) v.kept
             (λ k other. put_there w.fallen c 1 k other) (λ _. put_here w.fallen c 1)
             (owed_both logs (Kept b n.books w) (FallsSo n.books c (n.tokens c) flight falls) (Tells u step a)
-            (λ kept f. tells_dirty c falls shown (sym (shown_dirty shown) ∙ is) kept (f.each b)) v.kept so)
-        | false ↦ λ is.
+            (λ kept f. tells_dirty c falls shown (sym (shown_dirty shown) ∙ fact) kept (f.each b)) v.kept so)
+        | false ↦ λ fact.
             let u = crashes_clean w c in
-            let step : Step logs w u = CrashesClean c (record { clean = above _ _ is }) in
+            let step : Step logs w u = CrashesClean c (record { clean = above _ _ fact }) in
             fall c u a pos less up step refl refl refl (same_manager u refl refl (λ d. refl) (λ d. refl) refl v.manages.job)
             (all_same u refl refl refl refl refl refl (More Done step)) v.kept
-            (λ k other. refl) (λ dirty. contrary (sym is ∙ (shown_dirty shown ∙ dirty)))
+            (λ k other. refl) (λ dirty. contrary (sym fact ∙ (shown_dirty shown ∙ dirty)))
             (owed_on logs (FallsSo n.books c (n.tokens c) flight falls) (Tells u step a)
-            (λ f. tells_clean c falls (sym (shown_dirty shown) ∙ is) (f.each b)) so)
+            (λ f. tells_clean c falls (sym (shown_dirty shown) ∙ fact) (f.each b)) so)
       ] refl
     where
       a : Act
@@ -227,7 +227,7 @@ module _ (logs : Bool) (members part : ℕ) (b : BlockId) (n : Net) (v : View lo
               serving = refl;
               boot = refl;
               incarnation = refl;
-              stamps = record { promised = refl; past = omega arith; now = λ is. absurd (let p = v.positive in omega arith); old = λ is. gone.stamp };
+              stamps = record { promised = refl; past = omega arith; now = λ fact. absurd (let p = v.positive in omega arith); old = λ fact. gone.stamp };
               mode = gone.mode;
               counted = omega arith;
               want = gone.want;
@@ -244,9 +244,9 @@ module _ (logs : Bool) (members part : ℕ) (b : BlockId) (n : Net) (v : View lo
         slot = v.slot;
         sound = v.sound;
         reigns = ap n.slots epoch ∙ v.reigns;
-        past = λ e s is. (let p = (v.past e s is).0 in omega arith, (v.past e s is).1);
+        past = λ e s fact. (let p = (v.past e s fact).0 in omega arith, (v.past e s fact).1);
         manages = manages;
-        sent = λ p is. carried_on logs part b w u p grows (v.sent p is);
+        sent = λ p fact. carried_on logs part b w u p grows (v.sent p fact);
         kept = kept;
         acts = told_;
       }
@@ -261,22 +261,22 @@ module _ (logs : Bool) (members part : ℕ) (b : BlockId) (n : Net) (v : View lo
       elim (adopts n.acts c chain) as (λ t. adopts n.acts c chain ≡ t
       → View logs members part b
       (acted (record n { tokens = put n.tokens c (fresh_tokens inc epochs); up = put n.up c true; books = reopened n.books c t }) (act.Back c chain ∷ []))) [
-        | true ↦ λ is.
+        | true ↦ λ fact.
             let u = restarts_adopting w c inc promised in
-            let step : Step logs w u = RestartsAdopting c inc promised may (adopting is) in
+            let step : Step logs w u = RestartsAdopting c inc promised may (adopting fact) in
             back_from c inc epochs u (filed n.books c) (n.acts ++ act.Back c chain ∷ []) pos less up (More v.steps step) refl refl refl refl
             (same_manager u refl refl (λ d. refl) (λ d. refl) refl v.manages.job)
             (all_same u refl refl refl refl refl refl (More Done step))
             (owed_on logs (Kept b n.books w) (Kept b (filed n.books c) u) (λ kept. filed_seen b n.books w.end w.flight w.rows kept c) v.kept)
-            (acts_more u step (act.Back c chain) (owed logs (Tells u step (act.Back c chain)) (λ _ acts. ap (λ t. BackBlock c t ∷ acts) (sym is))))
-        | false ↦ λ is.
+            (acts_more u step (act.Back c chain) (owed logs (Tells u step (act.Back c chain)) (λ _ acts. ap (λ t. BackBlock c t ∷ acts) (sym fact))))
+        | false ↦ λ fact.
             let u = restarts_discarding w c inc promised in
             let step : Step logs w u = RestartsDiscarding c inc promised may in
             back_from c inc epochs u (discarded n.books c) (n.acts ++ act.Back c chain ∷ []) pos less up (More v.steps step) refl refl refl refl
             (same_manager u refl refl (λ d. refl) (λ d. refl) refl v.manages.job)
             (all_same u refl refl refl refl refl refl (More Done step))
             (owed_on logs (Kept b n.books w) (Kept b (discarded n.books c) u) (λ kept. discarded_seen b n.books w.end w.flight w.rows kept c) v.kept)
-            (acts_more u step (act.Back c chain) (owed logs (Tells u step (act.Back c chain)) (λ _ acts. ap (λ t. BackBlock c t ∷ acts) (sym is))))
+            (acts_more u step (act.Back c chain) (owed logs (Tells u step (act.Back c chain)) (λ _ acts. ap (λ t. BackBlock c t ∷ acts) (sym fact))))
       ] refl
     where
       promised : ℕ
@@ -294,9 +294,9 @@ module _ (logs : Bool) (members part : ℕ) (b : BlockId) (n : Net) (v : View lo
           record { member = let m = v.many in omega arith; down = gone.serving; later = omega arith; promise = omega arith }
 
       adopting : adopts n.acts c chain ≡ true → Premise logs (TailAdopted w c)
-      adopting is =
+      adopting fact =
           owed_both logs (Kept b n.books w) (adopts n.acts c chain ≡ true → n.books.flying c ≡ true) (TailAdopted w c)
-          (λ kept h. record { in_flight = kept.flights c ∙ ap flag (h is) }) v.kept flies
+          (λ kept h. record { in_flight = kept.flights c ∙ ap flag (h fact) }) v.kept flies
 
   -- ---- a client that serves a Forward
 
@@ -305,14 +305,14 @@ module _ (logs : Bool) (members part : ℕ) (b : BlockId) (n : Net) (v : View lo
       → client.serves (n.tokens c) b stamp ver ≡ true
       → (held_of (n.tokens c).blocks b).value ≡ Some value → entry.ver ≡ ver → SentOffer other w stamp inc req Copy (entry_seen entry)
       → Premise logs (Supplies stamp.epoch ver value w)
-  supplies_so c other stamp inc req ver value entry pos less up serves is same sent = go logs w (shown_up c pos less up) sent v.steps
+  supplies_so c other stamp inc req ver value entry pos less up serves fact same sent = go logs w (shown_up c pos less up) sent v.steps
     where
       go : (l : Bool) (u : World) → Shows (setting b c (n.tokens c).inc) u.epoch (local_of (n.tokens c) b) (u.client c)
           → SentOffer other u stamp inc req Copy (entry_seen entry) → Steps l (start members) u
           → Premise l (Supplies stamp.epoch ver value u)
       go true u shown sent steps = λ reigns.
           let i = always members u steps in
-          let newest = supplies_newest (setting b c (n.tokens c).inc) u (n.tokens c) stamp ver value shown (holders_newest u i c) serves is in
+          let newest = supplies_newest (setting b c (n.tokens c).inc) u (n.tokens c) stamp ver value shown (holders_newest u i c) serves fact in
           record { joined = let joined = offers_joined u i _ (sent.offered reigns) in omega arith; content = newest.0 }
       go false u shown sent steps = tt
 
@@ -320,7 +320,7 @@ module _ (logs : Bool) (members part : ℕ) (b : BlockId) (n : Net) (v : View lo
       → In (ForwardSent c other block stamp inc req ver) n.sent → n.up c ≡ true
       → client.serves (n.tokens c) block stamp ver ≡ true → (held_of (n.tokens c).blocks block).value ≡ Some value
       → View logs members part b (record n { sent = SupplySent other block stamp inc req ver value ∷ n.sent })
-  supply_view c other block stamp inc req ver value pos less is up serves value_is = record {
+  supply_view c other block stamp inc req ver value pos less fact up serves value_is = record {
     world = w;
     steps = v.steps;
     many = v.many;
@@ -341,7 +341,7 @@ module _ (logs : Bool) (members part : ℕ) (b : BlockId) (n : Net) (v : View lo
     where
       new : Carried logs part b w (SupplySent other block stamp inc req ver value)
       new same =
-          let h = v.sent _ is same in (
+          let h = v.sent _ fact same in (
             h.0,
             h.1,
             h.2,

@@ -62,7 +62,7 @@ module _ (logs : Bool) (members part : ℕ) (b : BlockId) (n : Net) (v : View lo
     reigns = v.reigns;
     manages = same_manager logs members part b n v (logged w end flight rows) refl refl (λ d. refl) (λ d. refl) refl v.manages.job;
     past = v.past;
-    sent = λ p is. carried_on logs part b w (logged w end flight rows) p
+    sent = λ p fact. carried_on logs part b w (logged w end flight rows) p
         (record {
           epoch = refl;
           wants = λ x h. h;
@@ -72,7 +72,7 @@ module _ (logs : Bool) (members part : ℕ) (b : BlockId) (n : Net) (v : View lo
           reports = λ x h. h;
           lasts = owed logs (Lasts w (logged w end flight rows)) (λ _. record { join = omega arith; value = λ m _. refl });
         })
-        (v.sent p is);
+        (v.sent p fact);
     kept = kept;
     acts = told_;
   }
@@ -119,7 +119,7 @@ module _ (logs : Bool) (members part : ℕ) (b : BlockId) (n : Net) (v : View lo
             (subst (λ i. Shows (setting b c i) w.epoch (local_of s b) (u.client c)) (sym shows.boot) shows))
             (λ d other pos less. subst (λ x. ClientShown (n.up d) b d (n.tokens d) w.epoch x) (sym (put_there w.client c _ d other)) (v.clients d pos less));
         manages = same_manager logs members part b n v u refl refl (λ d. refl) (λ d. refl) refl v.manages.job;
-        sent = λ p is. carried_on logs part b f u p
+        sent = λ p fact. carried_on logs part b f u p
             (record {
               epoch = refl;
               wants = λ x h. h;
@@ -138,7 +138,7 @@ module _ (logs : Bool) (members part : ℕ) (b : BlockId) (n : Net) (v : View lo
               recalls = λ x h. h;
               reports = λ x h. h;
               lasts = owed logs (Lasts w f) (λ _. record { join = omega arith; value = λ m _. refl });
-            }) (v.sent p is));
+            }) (v.sent p fact));
         kept = kept;
         acts = told_;
       }
@@ -206,7 +206,7 @@ files_true members part b n v c s pos less up sound flies same =
     let ver = shown.version in
     settled_view true members part b n v c (said n.books c (suc (n.books.end c)) b).version w.flight w.rows s (filed n.books c) pos less up sound v.steps v.acts
     (record { in_flight = flown b n.books w c v.kept flies })
-    row (let is = row in omega arith) same (filed_seen b n.books w.end w.flight w.rows v.kept c)
+    row (let fact = row in omega arith) same (filed_seen b n.books w.end w.flight w.rows v.kept c)
 
 -- where they don't, any version may be
 files_false : (members part : ℕ) (b : BlockId) (n : Net) (v : View false members part b n) (c : ℕ) (s : TokensState) (ver : ℕ) → 0 < c → c < members

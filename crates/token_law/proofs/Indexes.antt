@@ -25,8 +25,8 @@ nothing_of_nobody true members w some steps = cleaner_empty w some (always membe
 nothing_of_nobody false members w some steps = tt
 
 unplaced : (o : Option Place) → placed_of o ≡ 0 → o ≡ None
-unplaced None is = refl
-unplaced (Some p) is = absurd (omega arith)
+unplaced None fact = refl
+unplaced (Some p) fact = absurd (omega arith)
 
 module _ (b : BlockId) (k : Books) (w : World) (seen : Kept b k w) where
   pub filed_of : (e : Entry) → IsFiled k b e → Filed w (entry_seen e)

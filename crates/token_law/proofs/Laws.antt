@@ -47,7 +47,7 @@ holds_none Own h = absurd (omega arith)
 
 module _ (logs : Bool) (members part : ℕ) (n : Net) (b : BlockId) (m : Moment logs members part n b) where
   seen : (c : ℕ) → IsClient members c → View logs members part b n
-  seen c is = (always logs members part n (let w = is.within in omega arith) m.run).good.views b m.inside
+  seen c fact = (always logs members part n (let w = fact.within in omega arith) m.run).good.views b m.inside
 
   is_owned : (v : View logs members part b n) → Owned v.world
   is_owned v = owned logs members v.world v.steps
@@ -58,7 +58,7 @@ module _ (logs : Bool) (members part : ℕ) (n : Net) (b : BlockId) (m : Moment 
   promised_is v c false shown = shown.promised
 
   promised_by : (v : View logs members part b n) (c : ℕ) → IsClient members c → v.world.epoch ≤ (v.world.client c).promised
-  promised_by v c is = epoch_promised v.world (is_owned v) c (let many = v.many in let within = is.within in omega arith)
+  promised_by v c fact = epoch_promised v.world (is_owned v) c (let many = v.many in let within = fact.within in omega arith)
 
   -- the slot that reigns is the one that is seen
   reigning : (v : View logs members part b n) (e : ℕ) (s : SlotState) → Reigns n e s → s ≡ v.slot
@@ -69,46 +69,46 @@ module _ (logs : Bool) (members part : ℕ) (n : Net) (b : BlockId) (m : Moment 
       some_one s v.slot (sym r.active ∙ ap n.slots same ∙ v.reigns)
 
 pub one_owner : OneOwner
-one_owner logs members part n b m c d is is2 up up2 own held =
-    let v = seen logs members part n b m c is in
+one_owner logs members part n b m c d fact is2 up up2 own held =
+    let v = seen logs members part n b m c fact in
     let mode = (shown_up logs members part b n v d is2.some is2.within up2).mode in
     let some = holds_some (held_of (n.tokens d).blocks b).mode held in
     single_owner v.world (is_owned logs members part n b m v) c d
-    ((shown_up logs members part b n v c is.some is.within up).mode ∙ owns_two (held_of (n.tokens c).blocks b).mode own) (omega arith)
+    ((shown_up logs members part b n v c fact.some fact.within up).mode ∙ owns_two (held_of (n.tokens c).blocks b).mode own) (omega arith)
 
 pub active_promised : ActiveEpochsPromised
-active_promised logs members part n b m e s active c is =
-    let v = seen logs members part n b m c is in
+active_promised logs members part n b m e s active c fact =
+    let v = seen logs members part n b m c fact in
     let below = (v.past e s active).0 in
-    let high = promised_by logs members part n b m v c is in
-    let same = promised_is logs members part n b m v c (n.up c) (v.clients c is.some is.within)
+    let high = promised_by logs members part n b m v c fact in
+    let same = promised_is logs members part n b m v c (n.up c) (v.clients c fact.some fact.within)
     ∙ ap (epoch_of (n.tokens c).epochs) (equal_numbers (slot_of b.ino.0) part m.inside) in
     omega arith
 
 pub holdings_believed : HoldingsBelieved
-holdings_believed logs members part n b m e s r c is up =
-    let v = seen logs members part n b m c is in
+holdings_believed logs members part n b m e s r c fact up =
+    let v = seen logs members part n b m c fact in
     let covered = (beliefs_cover v.world (is_owned logs members part n b m v)).held c in
     let believed = v.manages.belief c in
-    let mode = (shown_up logs members part b n v c is.some is.within up).mode in
+    let mode = (shown_up logs members part b n v c fact.some fact.within up).mode in
     subst (λ (x : SlotState). mode_number (held_of (n.tokens c).blocks b).mode ≤ share_of x.beliefs b c) (sym (reigning logs members part n b m v e s r))
     (omega arith)
 
 pub grants_believed : GrantsBelieved
-grants_believed logs members part n b m e s r c is up stamp inc req mode entry sent accepted =
-    let v = seen logs members part n b m c is in
-    let shown = shown_up logs members part b n v c is.some is.within up in
+grants_believed logs members part n b m e s r c fact up stamp inc req mode entry sent accepted =
+    let v = seen logs members part n b m c fact in
+    let shown = shown_up logs members part b n v c fact.some fact.within up in
     let may = taking logs (setting b c (n.tokens c).inc) 0 v.world (local_of (n.tokens c) b) stamp inc req mode (entry_seen entry) shown
-    (promised_by logs members part n b m v c is) (v.sent _ sent refl) accepted in
+    (promised_by logs members part n b m v c fact) (v.sent _ sent refl) accepted in
     let covered = acceptable_believed v.world (is_owned logs members part n b m v) _ may.1.sent may.1.live in
     let believed = v.manages.belief c in
     subst (λ (x : SlotState). mode_number mode ≤ share_of x.beliefs b c) (sym (reigning logs members part n b m v e s r)) (omega arith)
 
 pub nobody_holds : NobodyHoldsAfterFall
-nobody_holds logs members part n b m c d is is2 down dirty up =
-    let v = seen logs members part n b m c is in
+nobody_holds logs members part n b m c d fact is2 down dirty up =
+    let v = seen logs members part n b m c fact in
     let mode = (shown_up logs members part b n v d is2.some is2.within up).mode in
-    let none = no_holder_after_fall v.world (is_owned logs members part n b m v) c d (v.fell c is.some is.within down dirty) in
+    let none = no_holder_after_fall v.world (is_owned logs members part n b m v) c d (v.fell c fact.some fact.within down dirty) in
     holds_none (held_of (n.tokens d).blocks b).mode (omega arith)
 
 -- ---- acts, where logs keep their word
@@ -121,20 +121,20 @@ no_clients : (part : ℕ) (b : BlockId) (n m : Net) → Happens true 0 part n m 
 no_clients part b n m (Acts c end x serves own) i = absurd (let less = serves.within in omega arith)
 no_clients part b n m (Elsewhere c end x serves other) i = i
 no_clients part b n m (Reports c end serves) i = i
-no_clients part b n m (GetsCopy c end block stamp inc req entry serves is) i = i
-no_clients part b n m (GetsOwn c end block stamp inc req entry value serves is accepts room) i = absurd (let less = serves.within in omega arith)
-no_clients part b n m (Declines c end block stamp inc req entry serves is accepts) i = i
-no_clients part b n m (GetsRecall c end block stamp keep serves is) i = i
-no_clients part b n m (GetsForward c other block stamp inc req ver value pos less is up serves held) i = i
-no_clients part b n m (GetsSupply c end block stamp inc req ver value serves is) i = i
+no_clients part b n m (GetsCopy c end block stamp inc req entry serves fact) i = i
+no_clients part b n m (GetsOwn c end block stamp inc req entry value serves fact accepts room) i = absurd (let less = serves.within in omega arith)
+no_clients part b n m (Declines c end block stamp inc req entry serves fact accepts) i = i
+no_clients part b n m (GetsRecall c end block stamp keep serves fact) i = i
+no_clients part b n m (GetsForward c other block stamp inc req ver value pos less fact up serves held) i = i
+no_clients part b n m (GetsSupply c end block stamp inc req ver value serves fact) i = i
 no_clients part b n m (Fetches c end block value serves there) i = i
-no_clients part b n m (Reads c block value pos less up held is) i = absurd (omega arith)
+no_clients part b n m (Reads c block value pos less up held fact) i = absurd (omega arith)
 no_clients part b n m (Syncs c pos less up clean) i = absurd (omega arith)
 no_clients part b n m (Seals c rows pos less up free newest) i = i
 no_clients part b n m (Files c pos less up flies) i = i
 no_clients part b n m (GetsDeltas e s log first upto rows at known some covers) i = i
-no_clients part b n m (GetsWant e s c inc req again block mode end at is) i = i
-no_clients part b n m (GetsGave e s c block stamp end at is) i = i
+no_clients part b n m (GetsWant e s c inc req again block mode end at fact) i = i
+no_clients part b n m (GetsGave e s c block stamp end at fact) i = i
 no_clients part b n m (Ticks e s at) i = i
 no_clients part b n m (Crashes c flight falls pos less up once so) i = absurd (omega arith)
 no_clients part b n m (Returns c inc epochs chain count pos less up later rises flies) i = absurd (omega arith)
@@ -160,25 +160,25 @@ falls_are_apart logs members part n run = (falls_kept logs members part n run).a
 -- ---- flights, where logs keep their word
 
 pub flights_are_newer : FlightsAreNewer
-flights_are_newer members part n b m c is some l q filed =
-    let v = seen true members part n b m c is in
+flights_are_newer members part n b m c fact some l q filed =
+    let v = seen true members part n b m c fact in
     let w = v.world in
     let whole = invariant members w v.steps in
     let row = ap (λ e. (w.rows c (suc e)).version) (v.kept.ends c) ∙ ap (λ (r : abstract.Row). r.version) (v.kept.says c (suc (n.books.end c))) in
     let other = ap (λ (r : abstract.Row). r.version) (v.kept.says l q) in
     let end = v.kept.ends l in
-    let above = (flights_new w whole c (let many = v.many in let within = is.within in omega arith)).above (omega arith) in
+    let above = (flights_new w whole c (let many = v.many in let within = fact.within in omega arith)).above (omega arith) in
     let limit = (join_is_join w whole).upper l q (omega arith) in
     omega arith
 
 pub grants_are_of_the_newest : GrantsAreOfTheNewest
-grants_are_of_the_newest members part n b m c is up stamp inc req mode entry sent accepted l q filed =
-    let v = seen true members part n b m c is in
+grants_are_of_the_newest members part n b m c fact up stamp inc req mode entry sent accepted l q filed =
+    let v = seen true members part n b m c fact in
     let w = v.world in
     let whole = invariant members w v.steps in
-    let shown = shown_up true members part b n v c is.some is.within up in
+    let shown = shown_up true members part b n v c fact.some fact.within up in
     let may = taking true (setting b c (n.tokens c).inc) 0 w (local_of (n.tokens c) b) stamp inc req mode (entry_seen entry) shown
-    (promised_by true members part n b m v c is) (v.sent _ sent refl) accepted in
+    (promised_by true members part n b m v c fact) (v.sent _ sent refl) accepted in
     let told = acceptable_joins w whole _ may.1.sent may.1.live in
     let row = ap (λ (r : abstract.Row). r.version) (v.kept.says l q) in
     let end = v.kept.ends l in

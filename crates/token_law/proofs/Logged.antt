@@ -42,20 +42,20 @@ pub record BooksWhole (members : ℕ) (k : Books) : Type 0 where
 
 module _ (b : BlockId) (k : Books) (end flight : ℕ → ℕ) (rows : ℕ → ℕ → abstract.Row) (seen : LogsSeen b k end flight rows) (l : ℕ) where
   flies : (t : Bool) (n : ℕ) → n ≡ flag t → (m : ℕ) → put flight l n m ≡ flag (put k.flying l t m)
-  flies t n is = put_each_two (λ m x y. x ≡ flag y) flight k.flying l n t is (λ m other. seen.flights m)
+  flies t n fact = put_each_two (λ m x y. x ≡ flag y) flight k.flying l n t fact (λ m other. seen.flights m)
 
   -- the next segment says this
   said_next : (new : List (BlockId × Row)) (r : abstract.Row) → r ≡ row_seen (row_in new b) → (m q : ℕ)
       → put rows l (put (rows l) (suc (end l)) r) m q ≡ row_seen (row_in (put k.rows l (put (k.rows l) (suc (k.end l)) new) m q) b)
-  said_next new r is m q =
+  said_next new r fact m q =
       subst (λ e. put rows l (put (rows l) (suc e) r) m q ≡ row_seen (row_in (put k.rows l (put (k.rows l) (suc (k.end l)) new) m q) b)) (sym (seen.ends l))
       (put_each_two (λ n f g. (p : ℕ) → f p ≡ row_seen (row_in (g p) b)) rows k.rows l (put (rows l) (suc (k.end l)) r) (put (k.rows l) (suc (k.end l)) new)
-      (put_each_two (λ p x xs. x ≡ row_seen (row_in xs b)) (rows l) (k.rows l) (suc (k.end l)) r new is (λ p other. seen.says l p))
+      (put_each_two (λ p x xs. x ≡ row_seen (row_in xs b)) (rows l) (k.rows l) (suc (k.end l)) r new fact (λ p other. seen.says l p))
       (λ n other p. seen.says n p) m q)
 
   pub sealed_seen : (new : List (BlockId × Row)) (r : abstract.Row) → r ≡ row_seen (row_in new b)
       → LogsSeen b (sealed k l new) end (put flight l 1) (put rows l (put (rows l) (suc (end l)) r))
-  sealed_seen new r is = record { ends = seen.ends; flights = flies true 1 refl; says = said_next new r is }
+  sealed_seen new r fact = record { ends = seen.ends; flights = flies true 1 refl; says = said_next new r fact }
 
   -- where it says nothing of the block, and nothing stood there
   pub sealed_without : (new : List (BlockId × Row)) → row_in new b ≡ nothing_said → k.rows l (suc (k.end l)) ≡ []
@@ -89,7 +89,7 @@ first_on : (k : Books) (l : ℕ) (rows : List (BlockId × Row)) → ((m : ℕ) �
     → put k.rows l (put (k.rows l) (suc (k.end l)) rows) m 0 ≡ []
 first_on k l rows none =
     put_each (λ m f. f 0 ≡ []) k.rows l (put (k.rows l) (suc (k.end l)) rows)
-    (put_each (λ q xs. q ≡ 0 → xs ≡ []) (k.rows l) (suc (k.end l)) rows (λ is. absurd (omega arith)) (λ q other is. ap (k.rows l) is ∙ none l) 0 refl)
+    (put_each (λ q xs. q ≡ 0 → xs ≡ []) (k.rows l) (suc (k.end l)) rows (λ fact. absurd (omega arith)) (λ q other fact. ap (k.rows l) fact ∙ none l) 0 refl)
     (λ m other. none m)
 
 module _ (members : ℕ) where
@@ -135,20 +135,20 @@ pub books_keep : (members part : ℕ) (n m : Net) → Happens true members part 
 books_keep members part n m (Acts c end x serves own) i = i
 books_keep members part n m (Elsewhere c end x serves other) i = i
 books_keep members part n m (Reports c end serves) i = i
-books_keep members part n m (GetsCopy c end block stamp inc req entry serves is) i = i
-books_keep members part n m (GetsOwn c end block stamp inc req entry value serves is accepts room) i = i
-books_keep members part n m (Declines c end block stamp inc req entry serves is accepts) i = i
-books_keep members part n m (GetsRecall c end block stamp keep serves is) i = i
-books_keep members part n m (GetsForward c other block stamp inc req ver value pos less is up serves held) i = i
-books_keep members part n m (GetsSupply c end block stamp inc req ver value serves is) i = i
+books_keep members part n m (GetsCopy c end block stamp inc req entry serves fact) i = i
+books_keep members part n m (GetsOwn c end block stamp inc req entry value serves fact accepts room) i = i
+books_keep members part n m (Declines c end block stamp inc req entry serves fact accepts) i = i
+books_keep members part n m (GetsRecall c end block stamp keep serves fact) i = i
+books_keep members part n m (GetsForward c other block stamp inc req ver value pos less fact up serves held) i = i
+books_keep members part n m (GetsSupply c end block stamp inc req ver value serves fact) i = i
 books_keep members part n m (Fetches c end block value serves there) i = i
-books_keep members part n m (Reads c block value pos less up held is) i = i
+books_keep members part n m (Reads c block value pos less up held fact) i = i
 books_keep members part n m (Syncs c pos less up clean) i = i
 books_keep members part n m (Seals c rows pos less up free newest) i = whole_sealed members n.books c rows (λ _. newest.once) i
 books_keep members part n m (Files c pos less up flies) i = whole_filed members n.books c i
 books_keep members part n m (GetsDeltas e s log first upto rows at known some covers) i = i
-books_keep members part n m (GetsWant e s c inc req again block mode end at is) i = i
-books_keep members part n m (GetsGave e s c block stamp end at is) i = i
+books_keep members part n m (GetsWant e s c inc req again block mode end at fact) i = i
+books_keep members part n m (GetsGave e s c block stamp end at fact) i = i
 books_keep members part n m (Ticks e s at) i = i
 books_keep members part n m (Crashes c flight falls pos less up once so) i = i
 books_keep members part n m (Returns c inc epochs chain count pos less up later rises flies) i =

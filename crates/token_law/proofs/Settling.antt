@@ -52,24 +52,24 @@ one_of_two h first then_ limit = go (is_settled_by h first) refl
     within a m k p = grind (arith, nat_tests)
 
     later : (t : Bool) → (nat_lt first then_ && nat_le then_ h.ver) ≡ t → is_settled_by h first ≡ true → OneOfTwo h first then_
-    later true news is = record {
+    later true news fact = record {
       ver = then_;
       below = limit;
-      decides = ap (λ t. settled_by (if t then version_settled h first else h) then_) is
+      decides = ap (λ t. settled_by (if t then version_settled h first else h) then_) fact
           ∙ ap (λ t. if t then version_settled h then_ else version_settled h first) news
-          ∙ sym (ap (λ t. if t then version_settled h then_ else h) (both h.settled first then_ h.ver is news));
+          ∙ sym (ap (λ t. if t then version_settled h then_ else h) (both h.settled first then_ h.ver fact news));
     }
-    later false news is = record {
+    later false news fact = record {
       ver = first;
-      below = within h.settled first h.ver is;
-      decides = ap (λ t. settled_by (if t then version_settled h first else h) then_) is
+      below = within h.settled first h.ver fact;
+      decides = ap (λ t. settled_by (if t then version_settled h first else h) then_) fact
           ∙ ap (λ t. if t then version_settled h then_ else version_settled h first) news
-          ∙ sym (ap (λ t. if t then version_settled h first else h) is);
+          ∙ sym (ap (λ t. if t then version_settled h first else h) fact);
     }
 
     go : (t : Bool) → is_settled_by h first ≡ t → OneOfTwo h first then_
-    go true is = later (nat_lt first then_ && nat_le then_ h.ver) refl is
-    go false is = record { ver = then_; below = limit; decides = ap (λ t. settled_by (if t then version_settled h first else h) then_) is }
+    go true fact = later (nat_lt first then_ && nat_le then_ h.ver) refl fact
+    go false fact = record { ver = then_; below = limit; decides = ap (λ t. settled_by (if t then version_settled h first else h) then_) fact }
 
 module _ (b : BlockId) where
   pub settled_here : (s : TokensState) (ver : ℕ) → local_of (client.on_settled s b ver).state b ≡ once_settled (local_of s b) ver
@@ -96,8 +96,8 @@ module _ (b : BlockId) where
   by_row P k here there = go (same_block k b) refl
     where
       go : (t : Bool) → same_block k b ≡ t → P
-      go true is = here is
-      go false is = there is (λ same. contrary (sym is ∙ ap (λ (x : BlockId). same_block x b) same ∙ same_block_itself b))
+      go true fact = here fact
+      go false fact = there fact (λ same. contrary (sym fact ∙ ap (λ (x : BlockId). same_block x b) same ∙ same_block_itself b))
 
   -- none of these rows is of the block
   none_of_it : (s : TokensState) (rows : List (BlockId × Row)) → list_any (λ (r : BlockId × Row). same_block b r.0) rows ≡ false
@@ -122,13 +122,13 @@ module _ (b : BlockId) where
       go t ((k, row) ∷ rs) once =
           let u = (client.on_settled t k row.version).state in
           by_row (local_of (all_settled u rs) b ≡ once_settled (local_of t b) (row_in ((k, row) ∷ rs) b).version) k
-          (λ is. let same : b ≡ k = same_block_exact k b is in
+          (λ fact. let same : b ≡ k = same_block_exact k b fact in
           none_of_it u rs (ap (λ (x : BlockId). list_any (λ (r : BlockId × Row). same_block x r.0) rs) same ∙ once.0)
           ∙ ap (λ (x : BlockId). local_of (client.on_settled t x row.version).state b) (sym same) ∙ settled_here t row.version
-          ∙ ap (λ y. once_settled (local_of t b) (if y then row else row_in rs b).version) (sym is))
-          (λ is other.
+          ∙ ap (λ y. once_settled (local_of t b) (if y then row else row_in rs b).version) (sym fact))
+          (λ fact other.
           go u rs once.1 ∙ ap (λ (l : Local). once_settled l (row_in rs b).version) (settled_there t k row.version other)
-          ∙ ap (λ y. once_settled (local_of t b) (if y then row else row_in rs b).version) (sym is))
+          ∙ ap (λ y. once_settled (local_of t b) (if y then row else row_in rs b).version) (sym fact))
 
   -- where one may, some version that the client had decides
   pub record Decides (s : TokensState) (rows : List (BlockId × Row)) : Type 0 where

@@ -49,23 +49,24 @@ use Rattle.token_law.proofs.Taking.{Good}
 -- all slots came from a start, once another is put that did
 pub ran_put : (slots : ℕ → Option SlotState) (e : ℕ) (s : SlotState) → Ran s → ((k : ℕ) (z : SlotState) → slots k ≡ Some z → Ran z) → (k : ℕ) (z : SlotState)
     → put slots e (Some s) k ≡ Some z → Ran z
-ran_put slots e s new all = put_each (λ k o. (z : SlotState) → o ≡ Some z → Ran z) slots e (Some s) (λ z is. subst Ran (some_one s z is) new) (λ k other. all k)
+ran_put slots e s new all = put_each (λ k o. (z : SlotState) → o ≡ Some z
+    → Ran z) slots e (Some s) (λ z fact. subst Ran (some_one s z fact) new) (λ k other. all k)
 
 module _ (logs : Bool) (members part : ℕ) (n : Net) (i : Good logs members part n) where
   pub slot_event : (b : BlockId) (v : View logs members part b n) (e : ℕ) (s : SlotState) (x : slot_in.In) → n.slots e ≡ Some s
       → (e ≡ v.world.epoch → slot_inputs.Brings logs b v.world s x) → (e < v.world.epoch → IsNotTick x) → (slot.transition s x).state.epoch ≡ s.epoch
       → View logs members part b (after_slot n e (slot.transition s x))
-  slot_event b v e s x is brings news stays =
+  slot_event b v e s x fact brings news stays =
       ⊎_elim
       (λ same.
-      let eq : v.slot ≡ s = some_one v.slot s (sym v.reigns ∙ ap n.slots (sym same) ∙ is) in
+      let eq : v.slot ≡ s = some_one v.slot s (sym v.reigns ∙ ap n.slots (sym same) ∙ fact) in
       subst (λ (z : SlotState). View logs members part b (after_slot n e (slot.transition z x))) eq
       (subst (λ k. View logs members part b (after_slot n k (slot.transition v.slot x))) (sym same)
       (slot_view logs members part b n v (slot.transition v.slot x) (subst (λ (z : SlotState). (slot.transition z x).state.epoch ≡ z.epoch) (sym eq) stays)
       (sound-transition v.slot x v.sound)
       (sound_takes logs b v.world v.slot x v.sound v.manages (subst (λ (z : SlotState). slot_inputs.Brings logs b v.world z x) (sym eq) (brings same))))))
       (λ other.
-      let p = v.past e s is in
+      let p = v.past e s fact in
       let old : e < v.world.epoch = below e v.world.epoch p.0 other in
       let turns = (takes-transition s x (news old)).1 in
       let of_slot = p.1 in
@@ -81,15 +82,15 @@ module _ (logs : Bool) (members part : ℕ) (n : Net) (i : Good logs members par
   -- a manager ticks: the latest one shows what it sends again, and of a deposed one that is of an epoch before the reigning one
   pub tick_event : (b : BlockId) (v : View logs members part b n) (e : ℕ) (s : SlotState) → n.slots e ≡ Some s
       → View logs members part b (after_slot n e (slot.transition s told.Tick))
-  tick_event b v e s is =
+  tick_event b v e s fact =
       elim (nat_lt e v.world.epoch) as (λ t. nat_lt e v.world.epoch ≡ t → View logs members part b (after_slot n e (slot.transition s told.Tick))) [
         | true ↦ λ h.
-            let p = v.past e s is in
+            let p = v.past e s fact in
             let of_slot = p.1 in
             let old : e < v.world.epoch = below e v.world.epoch h in
             stale_view logs members part b n v e s (slot_packets (all_sent s.jobs)) old p.1
-            (λ q new. told_carried logs members part b n v v.world (all_sent s.jobs) (tick_stale b v.world s (i.ran e s is) (omega arith)) q new)
-        | false ↦ λ h. slot_event b v e s told.Tick is (λ _. tt) (λ old. absurd (not_below e v.world.epoch h old)) refl
+            (λ q new. told_carried logs members part b n v v.world (all_sent s.jobs) (tick_stale b v.world s (i.ran e s fact) (omega arith)) q new)
+        | false ↦ λ h. slot_event b v e s told.Tick fact (λ _. tt) (λ old. absurd (not_below e v.world.epoch h old)) refl
       ] refl
     where
       below : (a c : ℕ) → nat_lt a c ≡ true → a < c
@@ -103,12 +104,15 @@ module _ (logs : Bool) (members part : ℕ) (n : Net) (i : Good logs members par
       → (v : View logs members part b n) (e : ℕ) (s : SlotState) (log : LogId) (first upto : ℕ) (rows : List (BlockId × Entry)) → n.slots e ≡ Some s
       → log.0 - 1 < length s.applied → Premise logs (IsLatest n e → DeltasCover part n.books s log upto rows)
       → View logs members part b (after_slot n e (slot.transition s (told.Deltas log first upto rows)))
-  deltas_event b inside v e s log first upto rows is known covers =
-      slot_event b v e s (told.Deltas log first upto rows) is (λ same. (known, seen same)) (λ _. tt) (takes-transition s (told.Deltas log first upto rows) tt).0
+  deltas_event b inside v e s log first upto rows fact known covers =
+      slot_event b v e s (told.Deltas log first upto rows) fact (λ same. (
+        known,
+        seen same,
+      )) (λ _. tt) (takes-transition s (told.Deltas log first upto rows) tt).0
     where
       seen : e ≡ v.world.epoch → Premise logs (IndexCovers v.world log.0 upto (entry_seen (entry_of (indexed_all s.index rows).rows b)))
       seen same =
-          let eq : v.slot ≡ s = some_one v.slot s (sym v.reigns ∙ ap n.slots (sym same) ∙ is) in
+          let eq : v.slot ≡ s = some_one v.slot s (sym v.reigns ∙ ap n.slots (sym same) ∙ fact) in
           owed_both logs (Kept b n.books v.world) (IsLatest n e → DeltasCover part n.books s log upto rows)
           (IndexCovers v.world log.0 upto (entry_seen (entry_of (indexed_all s.index rows).rows b)))
           (λ kept c.
@@ -145,7 +149,7 @@ module _ (logs : Bool) (members part : ℕ) (n : Net) (i : Good logs members par
           [ true ↦ λ h. grind (arith, nat_tests) | false ↦ λ h. absurd (other (grind (arith, nat_tests))) ] refl
 
       taken : SlotState → n.slots epoch ≡ None → (s : SlotState) → n.slots epoch ≡ Some s → ⊥
-      taken z h s is = let clash : None ≡ Some s = sym h ∙ is in absurd (cc)
+      taken z h s fact = let clash : None ≡ Some s = sym h ∙ fact in absurd (cc)
 
       gathered_at : (b : BlockId) → is_in_slot part b ≡ true → (v : View logs members part b n) → (later : v.world.epoch < epoch)
           → Premise logs
@@ -156,7 +160,7 @@ module _ (logs : Bool) (members part : ℕ) (n : Net) (i : Good logs members par
       gathered_at b inside v later =
           gathers logs members part b n v epoch index applied rows ends none order all each reports_sent
           (owed_on logs (IsLatest n epoch → Gathered members part n.books index applied ends) (Gathered members part n.books index applied ends)
-          (λ g. g (λ k z is. let p = (v.past k z is).0 in omega arith)) gathered) inside
+          (λ g. g (λ k z fact. let p = (v.past k z fact).0 in omega arith)) gathered) inside
 
       alone : (b : BlockId) (v : View logs members part b n) → v.world.epoch < epoch
           → OwnsAlone (slot.started epoch index (all_reported rows order) applied).beliefs
@@ -186,7 +190,7 @@ module _ (logs : Bool) (members part : ℕ) (n : Net) (i : Good logs members par
       at b inside v false h =
           let other : epoch ≡ v.world.epoch → ⊥ = λ same. taken v.slot none v.slot (ap n.slots same ∙ v.reigns) in
           stale_view logs members part b n v epoch (slot.started epoch index (all_reported rows order) applied) []
-          (below epoch v.world.epoch (limit v.world.epoch epoch h) other) refl (λ p is. absurd is)
+          (below epoch v.world.epoch (limit v.world.epoch epoch h) other) refl (λ p fact. absurd fact)
 
   -- a client returns, with empty segments behind what it found
   pub returned_view : (b : BlockId) → is_in_slot part b ≡ true → Premise logs (BooksWhole members n.books)

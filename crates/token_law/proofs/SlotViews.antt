@@ -27,16 +27,16 @@ module _ (logs : Bool) (members part : ℕ) (b : BlockId) (n : Net) (v : View lo
   w = v.world
 
   pub told_carried : (u : World) (outs : List tellings.Out) → AllTold b u outs → (p : Packet) → In p (slot_packets outs) → Carried logs part b u p
-  told_carried u [] told_ p is = absurd is
-  told_carried u (telling.Grant client_ block stamp inc req mode entry ∷ os) told_ p is =
-      ⊎_elim (λ e. subst (Carried logs part b u) (sym e) told_.0) (λ r. told_carried u os told_.1 p r) is
-  told_carried u (telling.Forward passer block stamp client_ inc req ver ∷ os) told_ p is =
-      ⊎_elim (λ e. subst (Carried logs part b u) (sym e) told_.0) (λ r. told_carried u os told_.1 p r) is
-  told_carried u (telling.Recall client_ block stamp keep ∷ os) told_ p is =
-      ⊎_elim (λ e. subst (Carried logs part b u) (sym e) told_.0) (λ r. told_carried u os told_.1 p r) is
-  told_carried u (telling.Applied log upto_ ∷ os) told_ p is = told_carried u os told_.1 p is
-  told_carried u (telling.Live entry ∷ os) told_ p is = told_carried u os told_.1 p is
-  told_carried u (telling.Dead ∷ os) told_ p is = told_carried u os told_.1 p is
+  told_carried u [] told_ p fact = absurd fact
+  told_carried u (telling.Grant client_ block stamp inc req mode entry ∷ os) told_ p fact =
+      ⊎_elim (λ e. subst (Carried logs part b u) (sym e) told_.0) (λ r. told_carried u os told_.1 p r) fact
+  told_carried u (telling.Forward passer block stamp client_ inc req ver ∷ os) told_ p fact =
+      ⊎_elim (λ e. subst (Carried logs part b u) (sym e) told_.0) (λ r. told_carried u os told_.1 p r) fact
+  told_carried u (telling.Recall client_ block stamp keep ∷ os) told_ p fact =
+      ⊎_elim (λ e. subst (Carried logs part b u) (sym e) told_.0) (λ r. told_carried u os told_.1 p r) fact
+  told_carried u (telling.Applied log upto_ ∷ os) told_ p fact = told_carried u os told_.1 p fact
+  told_carried u (telling.Live entry ∷ os) told_ p fact = told_carried u os told_.1 p fact
+  told_carried u (telling.Dead ∷ os) told_ p fact = told_carried u os told_.1 p fact
 
   -- the reigning manager's
   pub slot_view : (d : slot.Done) → d.state.epoch ≡ v.slot.epoch → Sound d.state → managed.Runs logs b w d → View logs members part b (after_slot n w.epoch d)
@@ -57,9 +57,9 @@ module _ (logs : Bool) (members part : ℕ) (b : BlockId) (n : Net) (v : View lo
         reigns = ap (put n.slots w.epoch (Some d.state)) epoch ∙ put_here n.slots w.epoch (Some d.state);
         manages = t.shows;
         past = put_each (λ e o. (s : SlotState) → o ≡ Some s → (e ≤ t.world.epoch) × (s.epoch ≡ e)) n.slots w.epoch (Some d.state)
-            (λ s is. (omega arith, ap (λ (x : SlotState). x.epoch) (sym (some_one d.state s is)) ∙ stays ∙ v.manages.epoch))
-            (λ e other s is. (let p = (v.past e s is).0 in omega arith, (v.past e s is).1));
-        sent = λ p is. ⊎_elim (λ new. told_carried t.world d.outs t.told p new)
+            (λ s fact. (omega arith, ap (λ (x : SlotState). x.epoch) (sym (some_one d.state s fact)) ∙ stays ∙ v.manages.epoch))
+            (λ e other s fact. (let p = (v.past e s fact).0 in omega arith, (v.past e s fact).1));
+        sent = λ p fact. ⊎_elim (λ new. told_carried t.world d.outs t.told p new)
             (λ old. carried_on logs part b w t.world p (record {
               epoch = epoch;
               wants = λ x h. subst (In x) (sym (ap (λ (u : World). u.wants) same)) h;
@@ -69,7 +69,7 @@ module _ (logs : Bool) (members part : ℕ) (b : BlockId) (n : Net) (v : View lo
               reports = λ x h. subst (In x) (sym (ap (λ (u : World). u.reports) same)) h;
               lasts = lasts_by logs members w t.world v.steps t.steps;
             }) (v.sent p old))
-            (either_in p (slot_packets d.outs) n.sent is);
+            (either_in p (slot_packets d.outs) n.sent fact);
         kept = owed_on logs (Kept b n.books w) (Kept b n.books t.world) (subst (λ (u : World). Kept b n.books u) (sym same)) v.kept;
         acts = owed_on logs (told (start members) w v.steps ≡ acts_of b n.acts)
             (told (start members) t.world (steps_through (start members) w t.world v.steps t.steps) ≡ acts_of b n.acts)
@@ -79,25 +79,25 @@ module _ (logs : Bool) (members part : ℕ) (b : BlockId) (n : Net) (v : View lo
   -- what a deposed manager says is heard by nobody
   pub stale_carried : (epoch turn last : ℕ) (outs : List tellings.Out) → epoch < w.epoch → CountsTurns epoch turn outs last → (p : Packet)
       → In p (slot_packets outs) → Carried logs part b w p
-  stale_carried epoch turn last [] old turns p is = absurd is
-  stale_carried epoch turn last (telling.Grant client_ block stamp inc req mode entry ∷ os) old turns p is =
+  stale_carried epoch turn last [] old turns p fact = absurd fact
+  stale_carried epoch turn last (telling.Grant client_ block stamp inc req mode entry ∷ os) old turns p fact =
       ⊎_elim (λ e. subst (Carried logs part b w) (sym e)
       (λ _. let at_epoch = ap (λ (x : Stamp). x.epoch) turns.0 in let at_turn = ap (λ (x : Stamp). x.turn) turns.0 in
       record { low = omega arith; some = omega arith; offered = λ reigns. absurd (omega arith) }))
-      (λ r. stale_carried epoch (turn + 1) last os old turns.1 p r) is
-  stale_carried epoch turn last (telling.Forward passer block stamp client_ inc req ver ∷ os) old turns p is =
+      (λ r. stale_carried epoch (turn + 1) last os old turns.1 p r) fact
+  stale_carried epoch turn last (telling.Forward passer block stamp client_ inc req ver ∷ os) old turns p fact =
       ⊎_elim (λ e. subst (Carried logs part b w) (sym e)
       (λ _. let at_epoch = ap (λ (x : Stamp). x.epoch) turns.0 in let at_turn = ap (λ (x : Stamp). x.turn) turns.0 in
       (record { ver = ver; hop = 0; place = None }, refl, record { low = omega arith; some = omega arith; offered = λ reigns. absurd (omega arith) })))
-      (λ r. stale_carried epoch (turn + 1) last os old turns.1 p r) is
-  stale_carried epoch turn last (telling.Recall client_ block stamp keep ∷ os) old turns p is =
+      (λ r. stale_carried epoch (turn + 1) last os old turns.1 p r) fact
+  stale_carried epoch turn last (telling.Recall client_ block stamp keep ∷ os) old turns p fact =
       ⊎_elim (λ e. subst (Carried logs part b w) (sym e)
       (λ _. let at_epoch = ap (λ (x : Stamp). x.epoch) turns.0 in let at_turn = ap (λ (x : Stamp). x.turn) turns.0 in
       record { low = omega arith; some = omega arith; recalled = λ reigns. absurd (omega arith) }))
-      (λ r. stale_carried epoch (turn + 1) last os old turns.1 p r) is
-  stale_carried epoch turn last (telling.Applied log upto_ ∷ os) old turns p is = stale_carried epoch turn last os old turns p is
-  stale_carried epoch turn last (telling.Live entry ∷ os) old turns p is = stale_carried epoch turn last os old turns p is
-  stale_carried epoch turn last (telling.Dead ∷ os) old turns p is = stale_carried epoch turn last os old turns p is
+      (λ r. stale_carried epoch (turn + 1) last os old turns.1 p r) fact
+  stale_carried epoch turn last (telling.Applied log upto_ ∷ os) old turns p fact = stale_carried epoch turn last os old turns p fact
+  stale_carried epoch turn last (telling.Live entry ∷ os) old turns p fact = stale_carried epoch turn last os old turns p fact
+  stale_carried epoch turn last (telling.Dead ∷ os) old turns p fact = stale_carried epoch turn last os old turns p fact
 
   -- a manager's that doesn't reign
   pub stale_view : (e : ℕ) (x : SlotState) (outs : List Packet) → e < w.epoch → x.epoch ≡ e → ((p : Packet) → In p outs → Carried logs part b w p)
@@ -116,8 +116,8 @@ module _ (logs : Bool) (members part : ℕ) (b : BlockId) (n : Net) (v : View lo
     manages = v.manages;
     reigns = put_there n.slots e (Some x) w.epoch (λ same. absurd (omega arith)) ∙ v.reigns;
     past = put_each (λ k o. (s : SlotState) → o ≡ Some s → (k ≤ w.epoch) × (s.epoch ≡ k)) n.slots e (Some x)
-        (λ s is. (omega arith, ap (λ (z : SlotState). z.epoch) (sym (some_one x s is)) ∙ is_of)) (λ k other s is. v.past k s is);
-    sent = λ p is. ⊎_elim (new p) (λ h. v.sent p h) (either_in p outs n.sent is);
+        (λ s fact. (omega arith, ap (λ (z : SlotState). z.epoch) (sym (some_one x s fact)) ∙ is_of)) (λ k other s fact. v.past k s fact);
+    sent = λ p fact. ⊎_elim (new p) (λ h. v.sent p h) (either_in p outs n.sent fact);
     kept = v.kept;
     acts = v.acts;
   }

@@ -56,12 +56,12 @@ waiting-transition s (Want client block inc req again mode end) w =
     by_want (λ r. Waiting r.state.jobs) s want end w (λ _ _. w)
     (λ _. waiting-put s.jobs block (record { want = want; awaited = recalls s.epoch s.turn (not (is_own mode)) (recalled_from s want) }) refl w)
 waiting-transition s (Gave client block stamp end) w =
-    by_gave (λ r. Waiting r.state.jobs) s client block stamp end w (λ job is _. waiting-removed s.jobs block w)
-    (λ job is. waiting-put s.jobs block (record { want = job.want; awaited = noted job.awaited client stamp end }) (w.own block job is) w)
+    by_gave (λ r. Waiting r.state.jobs) s client block stamp end w (λ job fact _. waiting-removed s.jobs block w)
+    (λ job fact. waiting-put s.jobs block (record { want = job.want; awaited = noted job.awaited client stamp end }) (w.own block job fact) w)
 waiting-transition s (Deltas log first upto rows) w =
     by_deltas (λ r. Waiting r.state.jobs) s log first upto rows w w
     (λ _. steps_keep finished_at (λ (z : SlotState). Waiting z.jobs)
-    (λ z block v. by_finished_at (λ r. Waiting r.state.jobs) z block v (λ job is. waiting-removed z.jobs block v))
+    (λ z block v. by_finished_at (λ r. Waiting r.state.jobs) z block v (λ job fact. waiting-removed z.jobs block v))
     (with_deltas s log upto rows) (ready_blocks s.jobs (applied_upto s.applied log upto)) w)
 waiting-transition s (Check block place) w = w
 waiting-transition s Tick w = w
@@ -90,4 +90,4 @@ sent-stale b w epoch turn (a ∷ rows) old all =
     ]
 
 pub tick_stale : (b : BlockId) (w : World) (s : SlotState) → Ran s → s.epoch < w.epoch → AllTold b w (all_sent s.jobs)
-tick_stale b w s r old = all_sent-told false b w s.jobs (waiting s r).sorted (λ job is. sent-stale b w s.epoch s.turn job.awaited old (given s r b job is))
+tick_stale b w s r old = all_sent-told false b w s.jobs (waiting s r).sorted (λ job fact. sent-stale b w s.epoch s.turn job.awaited old (given s r b job fact))

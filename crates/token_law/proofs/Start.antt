@@ -61,7 +61,7 @@ serving_is c members less = grind (arith, nat_tests)
 pub begins : (logs : Bool) (members part : ℕ) → 0 < members → Good logs members part opening
 begins logs members part some = record {
   sound = λ c. started-sound 1 ones;
-  ran = ran_put (λ e. None) 1 (slot.started 1 [] [] zeros) (begun 1 [] [] zeros) (λ k z is. absurd (cc));
+  ran = ran_put (λ e. None) 1 (slot.started 1 [] [] zeros) (begun 1 [] [] zeros) (λ k z fact. absurd (cc));
   views = λ b inside. record {
     world = start members;
     steps = Ended;
@@ -77,8 +77,8 @@ begins logs members part some = record {
       stamps = record {
         promised = sym (all_ones (slot_of b.ino.0) (below_eight b.ino.0));
         past = omega arith;
-        now = λ is. absurd (omega arith);
-        old = λ is. refl;
+        now = λ fact. absurd (omega arith);
+        old = λ fact. refl;
       };
       mode = refl;
       counted = omega arith;
@@ -101,15 +101,16 @@ begins logs members part some = record {
       job = record { nothing = λ d. refl; paid = λ d. omega arith };
     };
     past = put_each (λ e o. (s : SlotState) → o ≡ Some s → (e ≤ 1) × (s.epoch ≡ e)) (λ e. None) 1 (Some (slot.started 1 [] [] zeros))
-        (λ s is. (omega arith, ap (λ (x : SlotState). x.epoch) (sym (some_one (slot.started 1 [] [] zeros) s is)))) (λ e other s is. absurd (clash s is));
-    sent = λ p is. absurd is;
+        (λ s fact. (omega arith, ap (λ (x : SlotState). x.epoch) (sym (some_one (slot.started 1 [] [] zeros) s fact))))
+        (λ e other s fact. absurd (clash s fact));
+    sent = λ p fact. absurd fact;
     kept = owed logs (Kept b no_books (start members)) (λ _. record { ends = λ l. refl; flights = λ l. refl; says = λ l q. refl });
     acts = owed logs (told {logs = logs} (start members) (start members) Ended ≡ acts_of b []) (λ _. refl);
   };
 }
   where
     clash : (s : SlotState) → None ≡ Some s → ⊥
-    clash s is = absurd (cc)
+    clash s fact = absurd (cc)
 
 -- the small world is seen, and what logs that keep their word are asked for holds
 pub record Whole (logs : Bool) (members part : ℕ) (n : Net) : Type 0 where

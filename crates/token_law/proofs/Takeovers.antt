@@ -49,16 +49,16 @@ use Rattle.token_law.proofs.Views.{setting, ClientShown, some_one, Supplies, Car
 pub carried_rise : (logs : Bool) (part : ℕ) (b : BlockId) (w : World) (epoch : ℕ) (report : ℕ → packets.Report) (applied : ℕ → ℕ) (e : abstract_entry.Entry)
     (p : Packet) → w.epoch < epoch → Carried logs part b w p → Carried logs part b (takeover.activates w epoch report applied e) p
 carried_rise logs part b w epoch report applied e (WantSent c inc req again block mode end) later h = h
-carried_rise logs part b w epoch report applied e (GrantSent c block stamp inc req mode entry) later h = λ is. let k = h is in let low =
+carried_rise logs part b w epoch report applied e (GrantSent c block stamp inc req mode entry) later h = λ fact. let k = h fact in let low =
     k.low in record { low = omega arith; some = k.some; offered = λ reigns. absurd (omega arith) }
-carried_rise logs part b w epoch report applied e (RecallSent c block stamp keep) later h = λ is. let k = h is in let low =
+carried_rise logs part b w epoch report applied e (RecallSent c block stamp keep) later h = λ fact. let k = h fact in let low =
     k.low in record { low = omega arith; some = k.some; recalled = λ reigns. absurd (omega arith) }
 carried_rise logs part b w epoch report applied e (GaveSent c block stamp end) later h =
-    (h.0, λ is. let low = (h.1 is).0 in (omega arith, λ reigns. absurd (omega arith)))
-carried_rise logs part b w epoch report applied e (ForwardSent passer c block stamp inc req ver) later h = λ is. let k = h is in let low =
+    (h.0, λ fact. let low = (h.1 fact).0 in (omega arith, λ reigns. absurd (omega arith)))
+carried_rise logs part b w epoch report applied e (ForwardSent passer c block stamp inc req ver) later h = λ fact. let k = h fact in let low =
     k.2.low in (k.0, k.1, record { low = omega arith; some = k.2.some; offered = λ reigns. absurd (omega arith) })
-carried_rise logs part b w epoch report applied e (SupplySent c block stamp inc req ver value) later h = λ is.
-    let k = h is in
+carried_rise logs part b w epoch report applied e (SupplySent c block stamp inc req ver value) later h = λ fact.
+    let k = h fact in
     let low = k.2.low in (
       k.0,
       k.1,
@@ -154,8 +154,8 @@ module _ (logs : Bool) (members part : ℕ) (b : BlockId) (n : Net) (v : View lo
       at : (c : ℕ) → 0 < c → Told members part b now epoch rows ends c
       at c pos =
           elim (nat_lt c members) as (λ t. nat_lt c members ≡ t → Told members part b now epoch rows ends c) [
-            | true ↦ λ is.
-                let h = v.sent _ (reports_sent c pos (less c members is)) in
+            | true ↦ λ fact.
+                let h = v.sent _ (reports_sent c pos (less c members fact)) in
                 record {
                   blocks = h.0;
                   report = record { client = c; epoch = epoch; mode = mode_number (held_of h.0 b).mode; end = ends c };
@@ -166,18 +166,18 @@ module _ (logs : Bool) (members part : ℕ) (b : BlockId) (n : Net) (v : View lo
                   asked = λ _. refl;
                   mode = λ _. refl;
                   end = λ _ _. refl;
-                  nothing = λ no. absurd (no (less c members is));
+                  nothing = λ no. absurd (no (less c members fact));
                 }
-            | false ↦ λ is. record {
+            | false ↦ λ fact. record {
               blocks = [];
               report = record { client = c; epoch = epoch; mode = 0; end = 0 };
               sorted = nothing_in_order;
-              same = λ _ l. absurd (no_less c members is l);
-              sent = λ l. absurd (no_less c members is l);
+              same = λ _ l. absurd (no_less c members fact l);
+              sent = λ l. absurd (no_less c members fact l);
               sender = λ _. refl;
               asked = λ _. refl;
               mode = λ _. refl;
-              end = λ _ l. absurd (no_less c members is l);
+              end = λ _ l. absurd (no_less c members fact l);
               nothing = λ _. refl;
             }
           ] refl
@@ -256,12 +256,12 @@ module _ (logs : Bool) (members part : ℕ) (b : BlockId) (n : Net) (v : View lo
         (λ c less. let within : c < members = let m = v.many in omega arith in covered c within (one_numbers c 0))
         (λ c some. put_there (applied_of applied) 0 (old.end 0) c (λ same. absurd (omega arith)));
     past = put_each (λ e o. (s : SlotState) → o ≡ Some s → (e ≤ epoch) × (s.epoch ≡ e)) n.slots epoch (Some begun)
-        (λ s is. (omega arith, ap (λ (x : SlotState). x.epoch) (sym (some_one begun s is))))
-        (λ e other s is. (let p = (v.past e s is).0 in omega arith, (v.past e s is).1));
-    sent = λ p is. carried_rise logs part b now epoch report upto entry p later
+        (λ s fact. (omega arith, ap (λ (x : SlotState). x.epoch) (sym (some_one begun s fact))))
+        (λ e other s fact. (let p = (v.past e s fact).0 in omega arith, (v.past e s fact).1));
+    sent = λ p fact. carried_rise logs part b now epoch report upto entry p later
         (carried_on logs part b old now p
         (record { epoch = refl; wants = λ x h. h; gaves = λ x h. h; offers = λ x h. h; recalls = λ x h. h; reports = λ x h. inr h; lasts = unchanged })
-        (v.sent p is));
+        (v.sent p fact));
     kept = v.kept;
     acts = v.acts;
   }
@@ -317,5 +317,5 @@ module _ (logs : Bool) (members part : ℕ) (b : BlockId) (n : Net) (v : View lo
       no_less c n h l = grind (arith, nat_tests)
 
       belief_is : (k : ℕ) (t : Bool) → nat_lt k now.members ≡ t → cond t (report k).mode 0 ≡ mode_number (held_of (blocks k) b).mode
-      belief_is k true is = (hears k).mode (let m = v.many in let l = less k now.members is in omega arith)
-      belief_is k false is = sym ((hears k).nothing (λ l. no_less k now.members is (let m = v.many in omega arith)))
+      belief_is k true fact = (hears k).mode (let m = v.many in let l = less k now.members fact in omega arith)
+      belief_is k false fact = sym ((hears k).nothing (λ l. no_less k now.members fact (let m = v.many in omega arith)))

@@ -175,11 +175,11 @@ module _ (logs : Bool) (members part : ℕ) (n : Net) (i : Good logs members par
       → nat_lt entry.ver (2 ^ 64 - 1) ≡ true
       → View logs members part b
       (acted (after_client n c end (laws.granted_and_wrote (n.tokens c) stamp inc req block entry value)) (act.Wrote c block value ∷ []))
-  owns_view b v c end block stamp inc req entry value serves is accepts room =
+  owns_view b v c end block stamp inc req entry value serves fact accepts room =
       let more = n.acts ++ act.Wrote c block value ∷ [] in
       client_view logs members part b n v c end (writes_of b c block value)
       (laws.granted_and_wrote (n.tokens c) stamp inc req block entry value) more serves.some serves.up
-      (owns_acted b v c end block stamp inc req entry value serves (v.sent _ is) accepts room)
+      (owns_acted b v c end block stamp inc req entry value serves (v.sent _ fact) accepts room)
       (owed logs (writes_of b c block value ++ acts_of b n.acts ≡ acts_of b more) (λ _. adds_write b c block value))
 
   -- a grant that is let go
@@ -213,8 +213,8 @@ module _ (logs : Bool) (members part : ℕ) (n : Net) (i : Good logs members par
   pub supply_brings : (b : BlockId) (v : View logs members part b n) (c : ℕ) (block : BlockId) (stamp : Stamp) (inc req ver : ℕ) (value : Option (List ℕ))
       → In (SupplySent c block stamp inc req ver value) n.sent
       → laws.Brings logs (setting b c (n.tokens c).inc) v.world (n.tokens c) (input.Supplied block stamp inc req ver value)
-  supply_brings b v c block stamp inc req ver value is = λ same.
-      let h = v.sent _ is same in
+  supply_brings b v c block stamp inc req ver value fact = λ same.
+      let h = v.sent _ fact same in
       record {
         hop = h.0.hop;
         place = h.0.place;
@@ -228,7 +228,7 @@ module _ (logs : Bool) (members part : ℕ) (n : Net) (i : Good logs members par
   pub fetch_brings : (b : BlockId) (v : View logs members part b n) (c end : ℕ) (block : BlockId) (value : Option (List ℕ)) → IsServing logs members n c end
       → Premise logs (ReadsThere n.books (n.tokens c) block value)
       → laws.Brings logs (setting b c (n.tokens c).inc) v.world (n.tokens c) (input.Fetched block value)
-  fetch_brings b v c end block value serves there = λ same f is.
+  fetch_brings b v c end block value serves there = λ same f fact.
       owed_both logs (Kept b n.books v.world) (ReadsThere n.books (n.tokens c) block value) (PlaceRead v.world c (number value))
       (λ kept reads.
       let w = v.world in
@@ -237,9 +237,9 @@ module _ (logs : Bool) (members part : ℕ) (n : Net) (i : Good logs members par
       let q = f.place.seg.name.seq in
       let shown = (shown_up logs members part b n v c serves.some serves.within serves.up).fetch in
       let open_ : FetchShown (Some f) x.fetching x.fetch =
-      subst (λ o. FetchShown o x.fetching x.fetch) (ap (λ (k : BlockId). (held_of (n.tokens c).blocks k).fetch) (sym same) ∙ is) shown in
+      subst (λ o. FetchShown o x.fetching x.fetch) (ap (λ (k : BlockId). (held_of (n.tokens c).blocks k).fetch) (sym same) ∙ fact) shown in
       record {
-        content = ap number (reads f is ∙ ap (λ (k : BlockId). (said n.books l q k).value) same)
+        content = ap number (reads f fact ∙ ap (λ (k : BlockId). (said n.books l q k).value) same)
             ∙ sym (ap (λ (r : abstract_entry.Row). r.value) (kept.says l q))
             ∙ sym (ap (λ (e : abstract_entry.Entry). (w.rows e.log e.segment).value) open_.1.1);
       })

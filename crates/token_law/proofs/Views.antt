@@ -53,8 +53,8 @@ use Rattle.token_law.proofs.Premises.{owed, owed_on, owed_both}
 use Rattle.token_law.proofs.Logged.{Kept}
 
 pub either_in : {X : Type 0} (p : X) (xs ys : List X) → In p (xs ++ ys) → In p xs ⊎ In p ys
-either_in p [] ys is = inr is
-either_in p (x ∷ xs) ys is = ⊎_elim (λ e. inl (inl e)) (λ r. ⊎_elim (λ h. inl (inr h)) inr (either_in p xs ys r)) is
+either_in p [] ys fact = inr fact
+either_in p (x ∷ xs) ys fact = ⊎_elim (λ e. inl (inl e)) (λ r. ⊎_elim (λ h. inl (inr h)) inr (either_in p xs ys r)) fact
 
 -- client c at block b
 abbrev pub setting : BlockId → ℕ → ℕ → Setting
@@ -87,7 +87,7 @@ put_each_three {X = X} {Y = Y} {Z = Z} P f g h c x y z here there d =
     (one_numbers d c)
 
 pub some_one : {A : Type 0} (x y : A) → Some x ≡ Some y → x ≡ y
-some_one {A = A} x y is = ap (λ (o : Option A). unwrap_or o x) is
+some_one {A = A} x y fact = ap (λ (o : Option A). unwrap_or o x) fact
 
 -- the value is the history's of that version, which is filed
 pub record IsValue (ver : ℕ) (value : Option (List ℕ)) (join_version : ℕ) (value_at : ℕ → ℕ) : Type 0 where
@@ -163,20 +163,21 @@ pub record Grows (logs : Bool) (w v : World) : Type 0 where
   pub lasts : Premise logs (Lasts w v)
 
 supplied_on : (epoch ver : ℕ) (value : Option (List ℕ)) (w v : World) → v.epoch ≡ w.epoch → Lasts w v → Supplies epoch ver value w → Supplies epoch ver value v
-supplied_on epoch ver value w v same lasts h = λ is.
-    let k = h (is ∙ same) in
+supplied_on epoch ver value w v same lasts h = λ fact.
+    let k = h (fact ∙ same) in
     record { joined = let a = k.joined in let j = lasts.join in omega arith; content = k.content ∙ sym (lasts.value ver k.joined) }
 
 pub carried_on : (logs : Bool) (part : ℕ) (b : BlockId) (w v : World) (p : Packet) → Grows logs w v → Carried logs part b w p → Carried logs part b v p
-carried_on logs part b w v (WantSent c inc req again block mode end) g h = (h.0, λ is. g.wants _ (h.1 is))
-carried_on logs part b w v (GrantSent c block stamp inc req mode entry) g h = λ is. offer_on c w v stamp inc req mode (entry_seen entry) g.epoch g.offers (h is)
-carried_on logs part b w v (RecallSent c block stamp keep) g h = λ is. recall_on c w v stamp keep g.epoch g.recalls (h is)
+carried_on logs part b w v (WantSent c inc req again block mode end) g h = (h.0, λ fact. g.wants _ (h.1 fact))
+carried_on logs part b w v (GrantSent c block stamp inc req mode entry) g h =
+    λ fact. offer_on c w v stamp inc req mode (entry_seen entry) g.epoch g.offers (h fact)
+carried_on logs part b w v (RecallSent c block stamp keep) g h = λ fact. recall_on c w v stamp keep g.epoch g.recalls (h fact)
 carried_on logs part b w v (GaveSent c block stamp end) g h =
-    (h.0, λ is. let k = h.1 is in let e = g.epoch in let low = k.0 in (omega arith, λ of_epoch. g.gaves _ (k.1 (of_epoch ∙ e))))
-carried_on logs part b w v (ForwardSent passer c block stamp inc req ver) g h = λ is. let k =
-    h is in (k.0, k.1, offer_on c w v stamp inc req Copy (entry_seen k.0) g.epoch g.offers k.2)
-carried_on logs part b w v (SupplySent c block stamp inc req ver value) g h = λ is.
-    let k = h is in (
+    (h.0, λ fact. let k = h.1 fact in let e = g.epoch in let low = k.0 in (omega arith, λ of_epoch. g.gaves _ (k.1 (of_epoch ∙ e))))
+carried_on logs part b w v (ForwardSent passer c block stamp inc req ver) g h = λ fact. let k =
+    h fact in (k.0, k.1, offer_on c w v stamp inc req Copy (entry_seen k.0) g.epoch g.offers k.2)
+carried_on logs part b w v (SupplySent c block stamp inc req ver value) g h = λ fact.
+    let k = h fact in (
       k.0,
       k.1,
       offer_on c w v stamp inc req Copy (entry_seen k.0) g.epoch g.offers k.2,
@@ -207,18 +208,19 @@ managed_on b s c w v by m = record {
 
 pub said_carried : (logs : Bool) (part : ℕ) (b : BlockId) (c i inc end : ℕ) (v : World) (outs : List outputs.Out) → 0 < c → i ≡ inc
     → AllSaid (setting b c i) end v outs → (p : Packet) → In p (client_packets c inc end outs) → Carried logs part b v p
-said_carried logs part b c i inc end v [] some one said p is = absurd is
-said_carried logs part b c i inc end v (output.Want block req again mode ∷ os) some one said p is =
+said_carried logs part b c i inc end v [] some one said p fact = absurd fact
+said_carried logs part b c i inc end v (output.Want block req again mode ∷ os) some one said p fact =
     ⊎_elim (λ e. subst (Carried logs part b v) (sym e)
     (some, λ same. subst (λ k. In (record { client = c; incarnation = k; request = req; mode = mode_number mode; end = end }) v.wants) one (said.0 same)))
-    (λ r. said_carried logs part b c i inc end v os some one said.1 p r) is
-said_carried logs part b c i inc end v (output.Gave block stamp ∷ os) some one said p is =
+    (λ r. said_carried logs part b c i inc end v os some one said.1 p r) fact
+said_carried logs part b c i inc end v (output.Gave block stamp ∷ os) some one said p fact =
     ⊎_elim (λ e. subst (Carried logs part b v) (sym e) (some, λ same. ((said.0 same).0, λ _. (said.0 same).1)))
-    (λ r. said_carried logs part b c i inc end v os some one said.1 p r) is
-said_carried logs part b c i inc end v (output.Supply block ver value ∷ os) some one said p is = said_carried logs part b c i inc end v os some one said.1 p is
-said_carried logs part b c i inc end v (output.Flush block ∷ os) some one said p is = said_carried logs part b c i inc end v os some one said.1 p is
-said_carried logs part b c i inc end v (output.Read block place ∷ os) some one said p is = said_carried logs part b c i inc end v os some one said.1 p is
-said_carried logs part b c i inc end v (output.Ready block ∷ os) some one said p is = said_carried logs part b c i inc end v os some one said.1 p is
+    (λ r. said_carried logs part b c i inc end v os some one said.1 p r) fact
+said_carried logs part b c i inc end v (output.Supply block ver value ∷ os) some one said p fact =
+    said_carried logs part b c i inc end v os some one said.1 p fact
+said_carried logs part b c i inc end v (output.Flush block ∷ os) some one said p fact = said_carried logs part b c i inc end v os some one said.1 p fact
+said_carried logs part b c i inc end v (output.Read block place ∷ os) some one said p fact = said_carried logs part b c i inc end v os some one said.1 p fact
+said_carried logs part b c i inc end v (output.Ready block ∷ os) some one said p fact = said_carried logs part b c i inc end v os some one said.1 p fact
 
 pub by_client_grows : (logs : Bool) (c : ℕ) (w v : World) → ByClient c w v → Premise logs (Lasts w v) → Grows logs w v
 by_client_grows logs c w v by lasts = record {
@@ -237,8 +239,8 @@ module _ (logs : Bool) (members part : ℕ) (b : BlockId) (n : Net) (v : View lo
 
   -- where logs keep their word, the end of a client's log is the one that is known there
   pub end_owed : (c end : ℕ) → Premise logs (end ≡ n.books.end c) → Premise logs (SettledEnd w c end)
-  end_owed c end is =
-      owed_both logs (Kept b n.books w) (end ≡ n.books.end c) (SettledEnd w c end) (λ kept same. record { last_filed = same ∙ sym (kept.ends c) }) v.kept is
+  end_owed c end fact =
+      owed_both logs (Kept b n.books w) (end ≡ n.books.end c) (SettledEnd w c end) (λ kept same. record { last_filed = same ∙ sym (kept.ends c) }) v.kept fact
 
   -- a client took an input, and acted so
   pub client_view : (c end : ℕ) (acts : List block.Act) (d : client.Done) (more : List Act) → 0 < c → n.up c ≡ true
@@ -267,11 +269,11 @@ module _ (logs : Bool) (members part : ℕ) (b : BlockId) (n : Net) (v : View lo
         sound = v.sound;
         reigns = ap n.slots epoch ∙ v.reigns;
         manages = managed_on b v.slot c w t.world t.frame v.manages;
-        past = λ e s is. (let p = (v.past e s is).0 in omega arith, (v.past e s is).1);
-        sent = λ p is. ⊎_elim (λ new. said_carried logs part b c (n.tokens c).inc d.state.inc end t.world d.outs some (sym t.shows.boot) t.said p new)
+        past = λ e s fact. (let p = (v.past e s fact).0 in omega arith, (v.past e s fact).1);
+        sent = λ p fact. ⊎_elim (λ new. said_carried logs part b c (n.tokens c).inc d.state.inc end t.world d.outs some (sym t.shows.boot) t.said p new)
             (λ old. carried_on logs part b w t.world p (by_client_grows logs c w t.world t.frame (lasts_by logs members w t.world v.steps t.steps))
             (v.sent p old))
-            (either_in p (client_packets c d.state.inc end d.outs) n.sent is);
+            (either_in p (client_packets c d.state.inc end d.outs) n.sent fact);
         kept = owed_on logs (Kept b n.books w) (Kept b n.books t.world) (subst (λ (u : World). Kept b n.books u) (sym t.frame.others)) v.kept;
         acts = owed_both logs (told (start members) w v.steps ≡ acts_of b n.acts) (acts ++ acts_of b n.acts ≡ acts_of b more)
             (told (start members) t.world (steps_through (start members) w t.world v.steps t.steps) ≡ acts_of b more)
@@ -312,7 +314,7 @@ module _ (logs : Bool) (members part : ℕ) (b : BlockId) (n : Net) (v : View lo
           index = v.manages.index;
           job = v.manages.job;
         };
-        sent = λ p is. ⊎_elim
+        sent = λ p fact. ⊎_elim
             (λ e. subst (Carried logs part b u) (sym e) (
               (n.tokens c).blocks,
               sound.sorted,
@@ -326,7 +328,7 @@ module _ (logs : Bool) (members part : ℕ) (b : BlockId) (n : Net) (v : View lo
             ))
             (λ old. carried_on logs part b w u p
             (record { epoch = refl; wants = λ x h. h; gaves = λ x h. h; offers = λ x h. h; recalls = λ x h. h; reports = λ x h. inr h; lasts = unchanged })
-            (v.sent p old)) is;
+            (v.sent p old)) fact;
         kept = v.kept;
         acts = v.acts;
       }

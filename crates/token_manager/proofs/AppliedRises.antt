@@ -33,7 +33,7 @@ Rises s r = (log : ℕ) → applied_of s.applied log ≤ applied_of r.state.appl
 
 rises-finished : (s : SlotState) (blocks : List BlockId) → Rises s (steps finished_at s blocks)
 rises-finished s blocks = steps_keep finished_at (λ t. (log : ℕ) → applied_of s.applied log ≤ applied_of t.applied log)
-    (λ t block so_far. by_finished_at (λ r. (log : ℕ) → applied_of s.applied log ≤ applied_of r.state.applied log) t block so_far (λ job is. so_far)) s blocks
+    (λ t block so_far. by_finished_at (λ r. (log : ℕ) → applied_of s.applied log ≤ applied_of r.state.applied log) t block so_far (λ job fact. so_far)) s blocks
     (λ log. omega arith)
 
 pub rises-transition : (s : SlotState) (input : In) → Rises s (transition s input)
@@ -53,10 +53,10 @@ rises-transition s Tick = λ log. omega arith
 
 pub rises-all : (s : SlotState) (inputs : List In) → Rises s (steps transition s inputs)
 rises-all s [] = λ log. omega arith
-rises-all s (i ∷ is) = λ log.
+rises-all s (i ∷ fact) = λ log.
     let first : applied_of s.applied log ≤ applied_of (transition s i).state.applied log = rises-transition s i log in
-    let rest : applied_of (transition s i).state.applied log ≤ applied_of (state_after (transition s i).state is).applied log =
-    rises-all (transition s i).state is log in
+    let rest : applied_of (transition s i).state.applied log ≤ applied_of (state_after (transition s i).state fact).applied log =
+    rises-all (transition s i).state fact log in
     omega arith
 
 -- ---- the counts

@@ -54,10 +54,10 @@ more_elsewhere bs want q other =
     let apart : eq_by_cmp holder_cmp q h ≡ true → ⊥ = apart_test q h (λ p. other (ap (λ (x : Holder). x.block) p)) in
     elim (is_own want.mode) as (λ t. share (belief bs q) ≤ share (belief (cond t (owned_by bs h) (held_by bs h)) q)) [
       | true ↦
-          let is : belief (owned_by bs h) q ≡ cond (eq_by_cmp holder_cmp q h) (Some true) (cond (same_block q.block h.block) None (belief bs q)) =
+          let fact : belief (owned_by bs h) q ≡ cond (eq_by_cmp holder_cmp q h) (Some true) (cond (same_block q.block h.block) None (belief bs q)) =
           lookup-insert_entry holder_cmp_total q h true (without_block bs h.block)
           ∙ ap (cond (eq_by_cmp holder_cmp q h) (Some true)) (belief-without_block q h.block bs) in
-          subst (λ o. share (belief bs q) ≤ share o) (sym is)
+          subst (λ o. share (belief bs q) ≤ share o) (sym fact)
           (kept_cond (eq_by_cmp holder_cmp q h) (same_block q.block h.block) (belief bs q) apart (λ same. other (sym (same_block_exact q.block h.block same))))
       | false ↦ elim (is_some (belief bs h)) as (λ t. share (belief bs q) ≤ share (belief (cond t bs (insert_entry holder_cmp bs h false)) q)) [
         | true ↦ omega arith
@@ -216,8 +216,8 @@ any_awaits (a ∷ rest) client stamp any = at (answers client stamp a) refl any 
   where
     at : (t : Bool) → answers client stamp a ≡ t → t || list_any (answers client stamp) rest ≡ true
         → (list_any (answers client stamp) rest ≡ true → Awaits rest client) → Awaits (a ∷ rest) client
-    at true is _ later = inl (answered client stamp a is)
-    at false is any later = inr (later any)
+    at true fact _ later = inl (answered client stamp a fact)
+    at false fact any later = inr (later any)
 
 -- after its answer nothing is awaited of the client
 no_longer : (awaited : List Awaited) (client : ℕ) (stamp : Stamp) (end : ℕ) → OneEach awaited → list_any (answers client stamp) awaited ≡ true
@@ -228,11 +228,11 @@ no_longer (a ∷ rest) client stamp end once any waits = at (answers client stam
     at : (t : Bool) → answers client stamp a ≡ t → t || list_any (answers client stamp) rest ≡ true
         → Awaits (cond t (record a { end = Some end }) a ∷ noted rest client stamp end) client
         → (list_any (answers client stamp) rest ≡ true → Awaits (noted rest client stamp end) client → ⊥) → ⊥
-    at true is _ waits later =
-        let a_is = answered client stamp a is in
+    at true fact _ waits later =
+        let a_is = answered client stamp a fact in
         ⊎_elim (λ h. let e : Some end ≡ None = h.1 in absurd (cc))
         (λ r. once.0 a_is.1 (subst (Awaits rest) (sym a_is.0) (noted-awaits rest client stamp end client r))) waits
-    at false is any waits later = ⊎_elim (λ h. once.0 h.1 (subst (Awaits rest) (sym h.0) (any_awaits rest client stamp any))) (later any) waits
+    at false fact any waits later = ⊎_elim (λ h. once.0 h.1 (subst (Awaits rest) (sym h.0) (any_awaits rest client stamp any))) (later any) waits
 
 -- ---- the state
 
@@ -260,66 +260,67 @@ other_holder h k other same = other (ap (λ (x : Holder). x.block) same)
 -- a want that waits for one block, where none waits for the other, waits for another block
 other_block : (jobs : List (BlockId × Job)) (block b : BlockId) (job : Job) → Waiting jobs → job_at jobs block ≡ None → job_at jobs b ≡ Some job
     → job.want.block ≡ block → ⊥
-other_block jobs block b job w none is same =
-    let here : job_at jobs block ≡ Some job = subst (λ x. job_at jobs x ≡ Some job) (sym (w.own b job is) ∙ same) is in
+other_block jobs block b job w none fact same =
+    let here : job_at jobs block ≡ Some job = subst (λ x. job_at jobs x ≡ Some job) (sym (w.own b job fact) ∙ same) fact in
     let clash : None ≡ Some job = sym none ∙ here in
     absurd (cc)
 
 exact-finished : (s : SlotState) (want : Wanted) → Waiting s.jobs → Exact s → job_at s.jobs want.block ≡ None → Exact (finished s want).state
 exact-finished s want w exact none = record {
-  only = λ block job is c waits. must_kept s.beliefs (want_met s.beliefs want) job.want c
-      (more_elsewhere s.beliefs want (holder job.want.block c) (other_block s.jobs want.block block job w none is)) (exact.only block job is c waits);
+  only = λ block job fact c waits. must_kept s.beliefs (want_met s.beliefs want) job.want c
+      (more_elsewhere s.beliefs want (holder job.want.block c) (other_block s.jobs want.block block job w none fact)) (exact.only block job fact c waits);
   once = exact.once;
 }
 
 exact-recalled : (s : SlotState) (job : Job) (turn : ℕ) → ((c : ℕ) → Awaits job.awaited c → MustGiveWay s.beliefs job.want c) → OneEach job.awaited → Exact s
     → Exact (record s { jobs = insert_entry block_cmp s.jobs job.want.block job; turn = turn })
 exact-recalled s job turn only once exact = record {
-  only = λ b found is. at (eq_by_cmp block_cmp b job.want.block) b found (sym (lookup-insert_entry block_cmp_total b job.want.block job s.jobs) ∙ is);
-  once = λ b found is. each (eq_by_cmp block_cmp b job.want.block) b found (sym (lookup-insert_entry block_cmp_total b job.want.block job s.jobs) ∙ is);
+  only = λ b found fact. at (eq_by_cmp block_cmp b job.want.block) b found (sym (lookup-insert_entry block_cmp_total b job.want.block job s.jobs) ∙ fact);
+  once = λ b found fact. each (eq_by_cmp block_cmp b job.want.block) b found (sym (lookup-insert_entry block_cmp_total b job.want.block job s.jobs) ∙ fact);
 }
   where
     at : (t : Bool) (b : BlockId) (found : Job) → cond t (Some job) (job_at s.jobs b) ≡ Some found → (c : ℕ) → Awaits found.awaited c
         → MustGiveWay s.beliefs found.want c
-    at true b found is = subst (λ (j : Job). (c : ℕ) → Awaits j.awaited c → MustGiveWay s.beliefs j.want c) (ap (λ (o : Option Job). unwrap_or o job) is) only
-    at false b found is = exact.only b found is
+    at true b found fact = subst (λ (j : Job). (c : ℕ) → Awaits j.awaited c
+        → MustGiveWay s.beliefs j.want c) (ap (λ (o : Option Job). unwrap_or o job) fact) only
+    at false b found fact = exact.only b found fact
 
     each : (t : Bool) (b : BlockId) (found : Job) → cond t (Some job) (job_at s.jobs b) ≡ Some found → OneEach found.awaited
-    each true b found is = subst (λ (j : Job). OneEach j.awaited) (ap (λ (o : Option Job). unwrap_or o job) is) once
-    each false b found is = exact.once b found is
+    each true b found fact = subst (λ (j : Job). OneEach j.awaited) (ap (λ (o : Option Job). unwrap_or o job) fact) once
+    each false b found fact = exact.once b found fact
 
 exact-let_go : (s : SlotState) (block : BlockId) → Waiting s.jobs → Exact s → Exact (let_go s block)
 exact-let_go s block w exact = record {
-  only = λ b job is. exact.only b job (was_there (eq_by_cmp block_cmp block b) (job_at s.jobs b) job (sym (after_removal s.jobs block b w.sorted) ∙ is));
-  once = λ b job is. exact.once b job (was_there (eq_by_cmp block_cmp block b) (job_at s.jobs b) job (sym (after_removal s.jobs block b w.sorted) ∙ is));
+  only = λ b job fact. exact.only b job (was_there (eq_by_cmp block_cmp block b) (job_at s.jobs b) job (sym (after_removal s.jobs block b w.sorted) ∙ fact));
+  once = λ b job fact. exact.once b job (was_there (eq_by_cmp block_cmp block b) (job_at s.jobs b) job (sym (after_removal s.jobs block b w.sorted) ∙ fact));
 }
 
 -- wants for other blocks lose nobody by an answer
 kept_given : (s : SlotState) (want : Wanted) (client : ℕ) (block b : BlockId) (job : Job) → Sound s → Exact s → job_at s.jobs b ≡ Some job
     → (job.want.block ≡ block → ⊥) → (c : ℕ) → Awaits job.awaited c → MustGiveWay (given s want client block).beliefs job.want c
-kept_given s want client block b job sound exact is other c waits =
+kept_given s want client block b job sound exact fact other c waits =
     must_kept s.beliefs (given s want client block).beliefs job.want c
     (more_others s.beliefs (holder block client) (holder job.want.block c) (not (is_own want.mode)) sound.sorted
-    (other_holder (holder job.want.block c) (holder block client) other)) (exact.only b job is c waits)
+    (other_holder (holder job.want.block c) (holder block client) other)) (exact.only b job fact c waits)
 
 exact-all_given : (s : SlotState) (want : Wanted) (client : ℕ) (block : BlockId) → Sound s → Exact s → Exact (all_given s client block want)
 exact-all_given s want client block sound exact =
     let w = sound.waiting in
     let removed = waiting-removed s.jobs block w in
     let was : (b : BlockId) (job : Job) → job_at (without_job s.jobs block) b ≡ Some job → job_at s.jobs b ≡ Some job =
-    λ b job is. was_there (eq_by_cmp block_cmp block b) (job_at s.jobs b) job (sym (after_removal s.jobs block b w.sorted) ∙ is) in
+    λ b job fact. was_there (eq_by_cmp block_cmp block b) (job_at s.jobs b) job (sym (after_removal s.jobs block b w.sorted) ∙ fact) in
     record {
-      only = λ b job is. kept_given s want client block b job sound exact (was b job is)
-          (other_block (without_job s.jobs block) block b job removed (gone s.jobs block w.sorted) is);
-      once = λ b job is. exact.once b job (was b job is);
+      only = λ b job fact. kept_given s want client block b job sound exact (was b job fact)
+          (other_block (without_job s.jobs block) block b job removed (gone s.jobs block w.sorted) fact);
+      once = λ b job fact. exact.once b job (was b job fact);
     }
 
 exact-gave_one : (s : SlotState) (job : Job) (client : ℕ) (block : BlockId) (stamp : Stamp) (end : ℕ) → Sound s → Exact s → job_at s.jobs block ≡ Some job
     → list_any (answers client stamp) job.awaited ≡ true
     → Exact (gave_one s client block job.want (noted job.awaited client stamp end))
 exact-gave_one s job client block stamp end sound exact mine any = record {
-  only = λ b found is. at (eq_by_cmp block_cmp b block) b found refl (sym (lookup-insert_entry block_cmp_total b block waits_on s.jobs) ∙ is);
-  once = λ b found is. each (eq_by_cmp block_cmp b block) b found (sym (lookup-insert_entry block_cmp_total b block waits_on s.jobs) ∙ is);
+  only = λ b found fact. at (eq_by_cmp block_cmp b block) b found refl (sym (lookup-insert_entry block_cmp_total b block waits_on s.jobs) ∙ fact);
+  once = λ b found fact. each (eq_by_cmp block_cmp b block) b found (sym (lookup-insert_entry block_cmp_total b block waits_on s.jobs) ∙ fact);
 }
   where
     waits_on : Job
@@ -336,17 +337,17 @@ exact-gave_one s job client block stamp end sound exact mine any = record {
 
     at : (t : Bool) (b : BlockId) (found : Job) → eq_by_cmp block_cmp b block ≡ t → cond t (Some waits_on) (job_at s.jobs b) ≡ Some found → (c : ℕ)
         → Awaits found.awaited c → MustGiveWay (given s job.want client block).beliefs found.want c
-    at true b found _ is =
+    at true b found _ fact =
         subst (λ (j : Job). (c : ℕ) → Awaits j.awaited c → MustGiveWay (given s job.want client block).beliefs j.want c)
-        (ap (λ (o : Option Job). unwrap_or o waits_on) is) left
-    at false b found apart is = kept_given s job.want client block b found sound exact is
-        (λ same. false≢true (sym apart ∙ subst (λ x. eq_by_cmp block_cmp b x ≡ true) (sym (sound.waiting.own b found is) ∙ same) (block_laws.refl b)))
+        (ap (λ (o : Option Job). unwrap_or o waits_on) fact) left
+    at false b found apart fact = kept_given s job.want client block b found sound exact fact
+        (λ same. false≢true (sym apart ∙ subst (λ x. eq_by_cmp block_cmp b x ≡ true) (sym (sound.waiting.own b found fact) ∙ same) (block_laws.refl b)))
 
     each : (t : Bool) (b : BlockId) (found : Job) → cond t (Some waits_on) (job_at s.jobs b) ≡ Some found → OneEach found.awaited
-    each true b found is =
-        subst (λ (j : Job). OneEach j.awaited) (ap (λ (o : Option Job). unwrap_or o waits_on) is)
+    each true b found fact =
+        subst (λ (j : Job). OneEach j.awaited) (ap (λ (o : Option Job). unwrap_or o waits_on) fact)
         (noted-once job.awaited client stamp end (exact.once block job mine))
-    each false b found is = exact.once b found is
+    each false b found fact = exact.once b found fact
 
 exact-steps : (s : SlotState) (applied : List ℕ) (blocks : List BlockId) → Sound s → Exact s → ReadyAt s.jobs applied blocks
     → Exact (steps finished_at s blocks).state
@@ -355,11 +356,12 @@ exact-steps s applied (b ∷ bs) sound exact ready =
     let w = sound.waiting in
     let one : Exact (finished_at s b).state =
     by_finished_at (λ r. Exact r.state) s b exact
-    (λ job is. exact-finished (let_go s b) job.want (waiting-removed s.jobs b w) (exact-let_go s b w exact)
-    (subst (λ x. job_at (without_job s.jobs b) x ≡ None) (sym (w.own b job is)) (gone s.jobs b w.sorted))) in
+    (λ job fact. exact-finished (let_go s b) job.want (waiting-removed s.jobs b w) (exact-let_go s b w exact)
+    (subst (λ x. job_at (without_job s.jobs b) x ≡ None) (sym (w.own b job fact)) (gone s.jobs b w.sorted))) in
     let next : Sound (finished_at s b).state =
-    by_finished_at (λ r. Sound r.state) s b sound (λ job is. sound-answered s applied b job sound is (ready b (contains_first b bs) job is)) in
-    exact-steps (finished_at s b).state applied bs next one (λ block has job is. ready block (contains_rest b block bs has) job (jobs_fewer s b block job w is))
+    by_finished_at (λ r. Sound r.state) s b sound (λ job fact. sound-answered s applied b job sound fact (ready b (contains_first b bs) job fact)) in
+    exact-steps (finished_at s b).state applied bs next one (λ block has job fact. ready block (contains_rest b block bs has) job
+    (jobs_fewer s b block job w fact))
 
 -- ---- the inputs
 
@@ -376,10 +378,10 @@ exact-transition s (Want client block inc req again mode end) sound exact =
 exact-transition s (Gave client block stamp end) sound exact =
     let w = sound.waiting in
     by_gave_answered (λ r. Exact r.state) s client block stamp end exact
-    (λ job is _. exact-finished (all_given s client block job.want) job.want (waiting-removed s.jobs block w)
+    (λ job fact _. exact-finished (all_given s client block job.want) job.want (waiting-removed s.jobs block w)
     (exact-all_given s job.want client block sound exact)
-    (subst (λ x. job_at (without_job s.jobs block) x ≡ None) (sym (w.own block job is)) (gone s.jobs block w.sorted)))
-    (λ job is any. exact-gave_one s job client block stamp end sound exact is any)
+    (subst (λ x. job_at (without_job s.jobs block) x ≡ None) (sym (w.own block job fact)) (gone s.jobs block w.sorted)))
+    (λ job fact any. exact-gave_one s job client block stamp end sound exact fact any)
 exact-transition s (Deltas log first upto rows) sound exact =
     by_deltas (λ r. Exact r.state) s log first upto rows exact exact
     (λ _. exact-steps (with_deltas s log upto rows) (applied_upto s.applied log upto) (ready_blocks s.jobs (applied_upto s.applied log upto))
@@ -392,12 +394,12 @@ exact-transition s Tick sound exact = exact
 pub guarded-all : (epoch : ℕ) (index : List (BlockId × Entry)) (beliefs : List (BlockId × ℕ × Mode)) (applied : List ℕ) (inputs : List In)
     → OwnsAlone (started epoch index beliefs applied).beliefs → IsGuarded (state_after (started epoch index beliefs applied) inputs)
 guarded-all epoch index beliefs applied inputs alone =
-    let first : Exact (started epoch index beliefs applied) = record { only = λ block job is. absurd (cc); once = λ block job is. absurd (cc) } in
+    let first : Exact (started epoch index beliefs applied) = record { only = λ block job fact. absurd (cc); once = λ block job fact. absurd (cc) } in
     let last : Sound (state_after (started epoch index beliefs applied) inputs) × Exact (state_after (started epoch index beliefs applied) inputs) =
     steps_keep transition (λ t. Sound t × Exact t) (λ t input both. (sound-transition t input both.0, exact-transition t input both.0 both.1))
     (started epoch index beliefs applied) inputs (sound-start epoch index beliefs applied alone, first)
     in
     record {
       alone = last.0.alone;
-      awaits = λ block job is client. ((λ waits. last.1.only block job is client waits), λ way. last.0.awaits block job is client way.0 way.1);
+      awaits = λ block job fact client. ((λ waits. last.1.only block job fact client waits), λ way. last.0.awaits block job fact client way.0 way.1);
     }

@@ -55,13 +55,13 @@ unfolding gave_noted
 by_gave Q s client block stamp end same done noted_ = by_job (job_at s.jobs block) refl
   where
     by_job : (o : Option Job) → job_at s.jobs block ≡ o → Q (gave_job s client block stamp end o)
-    by_job None is = same
-    by_job (Some job) is =
+    by_job None fact = same
+    by_job (Some job) fact =
         let awaited = noted job.awaited client stamp end in
         choose Q (list_any (answers client stamp) job.awaited) (gave_noted s client block job.want awaited) (still s)
         (λ _. choose Q (is_ready s.applied awaited) (gave_last s client block job.want) (still (gave_one s client block job.want awaited))
-        (λ ready. choose Q (has_turns s.turn 1) (finished (all_given s client block job.want) job.want) (still s) (λ _. done job is ready) (λ _. same))
-        (λ _. noted_ job is))
+        (λ ready. choose Q (has_turns s.turn 1) (finished (all_given s client block job.want) job.want) (still s) (λ _. done job fact ready) (λ _. same))
+        (λ _. noted_ job fact))
         (λ _. same)
 
 -- the same, with the recall that is answered
@@ -75,13 +75,13 @@ unfolding gave_noted
 by_gave_answered Q s client block stamp end same done noted_ = by_job (job_at s.jobs block) refl
   where
     by_job : (o : Option Job) → job_at s.jobs block ≡ o → Q (gave_job s client block stamp end o)
-    by_job None is = same
-    by_job (Some job) is =
+    by_job None fact = same
+    by_job (Some job) fact =
         let awaited = noted job.awaited client stamp end in
         choose Q (list_any (answers client stamp) job.awaited) (gave_noted s client block job.want awaited) (still s)
         (λ any. choose Q (is_ready s.applied awaited) (gave_last s client block job.want) (still (gave_one s client block job.want awaited))
-        (λ _. choose Q (has_turns s.turn 1) (finished (all_given s client block job.want) job.want) (still s) (λ _. done job is any) (λ _. same))
-        (λ _. noted_ job is any))
+        (λ _. choose Q (has_turns s.turn 1) (finished (all_given s client block job.want) job.want) (still s) (λ _. done job fact any) (λ _. same))
+        (λ _. noted_ job fact any))
         (λ _. same)
 
 -- where an answer is the last, the want is answered
@@ -109,5 +109,5 @@ unfolding finished_at
 by_finished_at Q s block same done = by_job (job_at s.jobs block) refl
   where
     by_job : (o : Option Job) → job_at s.jobs block ≡ o → Q (finished_job s block o)
-    by_job None is = same
-    by_job (Some job) is = done job is
+    by_job None fact = same
+    by_job (Some job) fact = done job fact

@@ -204,13 +204,13 @@ sound-finished s want sound none room = record {
   sorted = sorted-want_met s.beliefs want sound.sorted;
   waiting = sound.waiting;
   alone = alone-want_met s.beliefs want sound.alone room;
-  awaits = λ block job is. awaits-less s.beliefs (want_met s.beliefs want) job
-      (λ c. least s.beliefs want (holder job.want.block c) (λ p. other_block block job is (ap (λ (h : Holder). h.block) p))) (sound.awaits block job is);
+  awaits = λ block job fact. awaits-less s.beliefs (want_met s.beliefs want) job
+      (λ c. least s.beliefs want (holder job.want.block c) (λ p. other_block block job fact (ap (λ (h : Holder). h.block) p))) (sound.awaits block job fact);
 }
   where
     other_block : (block : BlockId) (job : Job) → job_at s.jobs block ≡ Some job → job.want.block ≡ want.block → ⊥
-    other_block block job is same =
-        let here : job_at s.jobs want.block ≡ Some job = subst (λ b. job_at s.jobs b ≡ Some job) (sym (sound.waiting.own block job is) ∙ same) is in
+    other_block block job fact same =
+        let here : job_at s.jobs want.block ≡ Some job = subst (λ b. job_at s.jobs b ≡ Some job) (sym (sound.waiting.own block job fact) ∙ same) fact in
         let clash : None ≡ Some job = sym none ∙ here in
         absurd (cc)
 
@@ -221,12 +221,12 @@ sound-put s block job turn mine all sound = record {
   sorted = sound.sorted;
   waiting = waiting-put s.jobs block job mine sound.waiting;
   alone = sound.alone;
-  awaits = λ b found is. at (eq_by_cmp block_cmp b block) b found (sym (lookup-insert_entry block_cmp_total b block job s.jobs) ∙ is);
+  awaits = λ b found fact. at (eq_by_cmp block_cmp b block) b found (sym (lookup-insert_entry block_cmp_total b block job s.jobs) ∙ fact);
 }
   where
     at : (t : Bool) (b : BlockId) (found : Job) → cond t (Some job) (job_at s.jobs b) ≡ Some found → AwaitsAll s.beliefs found
-    at true b found is = subst (AwaitsAll s.beliefs) (ap (λ (o : Option Job). unwrap_or o job) is) all
-    at false b found is = sound.awaits b found is
+    at true b found fact = subst (AwaitsAll s.beliefs) (ap (λ (o : Option Job). unwrap_or o job) fact) all
+    at false b found fact = sound.awaits b found fact
 
 -- a want no longer waits
 pub sound-let_go : (s : SlotState) (block : BlockId) → Sound s → Sound (let_go s block)
@@ -234,8 +234,8 @@ sound-let_go s block sound = record {
   sorted = sound.sorted;
   waiting = waiting-removed s.jobs block sound.waiting;
   alone = sound.alone;
-  awaits = λ b job is. sound.awaits b job
-      (was_there (eq_by_cmp block_cmp block b) (job_at s.jobs b) job (sym (after_removal s.jobs block b sound.waiting.sorted) ∙ is));
+  awaits = λ b job fact. sound.awaits b job
+      (was_there (eq_by_cmp block_cmp block b) (job_at s.jobs b) job (sym (after_removal s.jobs block b sound.waiting.sorted) ∙ fact));
 }
 
 -- a client gave a block up
@@ -248,16 +248,16 @@ sound-given s want client block sound =
       waiting = sound.waiting;
       alone = λ b c d apart. both_less _ _ (share_of s.beliefs b c) (share_of s.beliefs b d) (less s.beliefs h (holder b c) keep sound.sorted)
           (less s.beliefs h (holder b d) keep sound.sorted) (sound.alone b c d apart);
-      awaits = λ b job is. awaits-less s.beliefs (given_up s.beliefs h keep) job (λ c. less s.beliefs h (holder job.want.block c) keep sound.sorted)
-          (sound.awaits b job is);
+      awaits = λ b job fact. awaits-less s.beliefs (given_up s.beliefs h keep) job (λ c. less s.beliefs h (holder job.want.block c) keep sound.sorted)
+          (sound.awaits b job fact);
     }
 
 -- after the answer the others are still awaited
 pub awaits-given : (s : SlotState) (job : Job) (client : ℕ) (block : BlockId) (stamp : Stamp) (end : ℕ) → Sound s → job_at s.jobs block ≡ Some job
     → AwaitsAll (given s job.want client block).beliefs (record { want = job.want; awaited = noted job.awaited client stamp end })
-awaits-given s job client block stamp end sound is c apart more =
+awaits-given s job client block stamp end sound fact c apart more =
     let h = holder block client in
-    let mine : job.want.block ≡ block = sound.waiting.own block job is in
+    let mine : job.want.block ≡ block = sound.waiting.own block job fact in
     let left : share_of (given s job.want client block).beliefs block client + wanted_share job.want.mode ≤ 2 = kept s.beliefs h job.want.mode sound.sorted in
     let other : c ≡ client → ⊥ =
     λ same. clash (share_of (given s job.want client block).beliefs job.want.block c + wanted_share job.want.mode) more
@@ -265,7 +265,7 @@ awaits-given s job client block stamp end sound is c apart more =
     (subst (λ x. share_of (given s job.want client block).beliefs block x + wanted_share job.want.mode ≤ 2) (sym same) left)) in
     awaits-noted job.awaited client stamp end c other
     (awaits-less s.beliefs (given s job.want client block).beliefs job
-    (λ x. less s.beliefs h (holder job.want.block x) (not (is_own job.want.mode)) sound.sorted) (sound.awaits block job is) c apart more)
+    (λ x. less s.beliefs h (holder job.want.block x) (not (is_own job.want.mode)) sound.sorted) (sound.awaits block job fact) c apart more)
   where
     clash : (n : ℕ) → 2 < n → n ≤ 2 → ⊥
     clash n more limit = omega arith
@@ -305,9 +305,9 @@ not_first first block same below =
 pub ready_finds : (jobs : List (BlockId × Job)) (applied : List ℕ) → IsStrictlySortedBy block_cmp (keys_of jobs)
     → ReadyAt jobs applied (ready_blocks jobs applied)
 unfolding IsStrictlySortedBy
-ready_finds [] applied sorted block has job is = absurd (contains_nothing block has)
-ready_finds (e ∷ es) applied sorted block has job is =
-    at (is_at (block_cmp block) e.0) refl is (is_ready applied e.1.awaited) refl has (λ h j. ready_finds es applied sorted.1 block h job j)
+ready_finds [] applied sorted block has job fact = absurd (contains_nothing block has)
+ready_finds (e ∷ es) applied sorted block has job fact =
+    at (is_at (block_cmp block) e.0) refl fact (is_ready applied e.1.awaited) refl has (λ h j. ready_finds es applied sorted.1 block h job j)
   where
     at : (t : Bool) → is_at (block_cmp block) e.0 ≡ t → cond t (Some e.1) (job_at es block) ≡ Some job → (r : Bool) → is_ready applied e.1.awaited ≡ r
         → Contains (cond r (e.0 ∷ ready_blocks es applied) (ready_blocks es applied)) block
@@ -321,24 +321,24 @@ ready_finds (e ∷ es) applied sorted block has job is =
 
 pub sound-answered : (s : SlotState) (applied : List ℕ) (block : BlockId) (job : Job) → Sound s → job_at s.jobs block ≡ Some job
     → is_ready applied job.awaited ≡ true → Sound (finished (let_go s block) job.want).state
-sound-answered s applied block job sound is ready =
+sound-answered s applied block job sound fact ready =
     sound-finished (let_go s block) job.want (sound-let_go s block sound)
-    (subst (λ x. job_at (without_job s.jobs block) x ≡ None) (sym (sound.waiting.own block job is)) (gone s.jobs block sound.waiting.sorted))
-    (leaves_room s.beliefs applied job (sound.awaits block job is) ready)
+    (subst (λ x. job_at (without_job s.jobs block) x ≡ None) (sym (sound.waiting.own block job fact)) (gone s.jobs block sound.waiting.sorted))
+    (leaves_room s.beliefs applied job (sound.awaits block job fact) ready)
 
 pub jobs_fewer : (s : SlotState) (block b : BlockId) (job : Job) → Waiting s.jobs → job_at (finished_at s block).state.jobs b ≡ Some job
     → job_at s.jobs b ≡ Some job
-jobs_fewer s block b job w = by_finished_at (λ r. job_at r.state.jobs b ≡ Some job → job_at s.jobs b ≡ Some job) s block (λ is. is)
-    (λ _ _ is. was_there (eq_by_cmp block_cmp block b) (job_at s.jobs b) job (sym (after_removal s.jobs block b w.sorted) ∙ is))
+jobs_fewer s block b job w = by_finished_at (λ r. job_at r.state.jobs b ≡ Some job → job_at s.jobs b ≡ Some job) s block (λ fact. fact)
+    (λ _ _ fact. was_there (eq_by_cmp block_cmp block b) (job_at s.jobs b) job (sym (after_removal s.jobs block b w.sorted) ∙ fact))
 
 pub sound-steps : (s : SlotState) (applied : List ℕ) (blocks : List BlockId) → Sound s → ReadyAt s.jobs applied blocks
     → Sound (steps finished_at s blocks).state
 sound-steps s applied [] sound ready = sound
 sound-steps s applied (b ∷ bs) sound ready =
     let one : Sound (finished_at s b).state =
-    by_finished_at (λ r. Sound r.state) s b sound (λ job is. sound-answered s applied b job sound is (ready b (contains_first b bs) job is)) in
+    by_finished_at (λ r. Sound r.state) s b sound (λ job fact. sound-answered s applied b job sound fact (ready b (contains_first b bs) job fact)) in
     sound-steps (finished_at s b).state applied bs one
-    (λ block has job is. ready block (contains_rest b block bs has) job (jobs_fewer s b block job sound.waiting is))
+    (λ block has job fact. ready block (contains_rest b block bs has) job (jobs_fewer s b block job sound.waiting fact))
 
 -- ---- the inputs
 
@@ -353,13 +353,13 @@ sound-transition s (Want client block inc req again mode end) sound =
     (λ c apart more. awaits-recalls s.epoch s.turn (not (is_own mode)) (recalled_from s want) c (found_by s.beliefs want c apart more)) sound)
 sound-transition s (Gave client block stamp end) sound =
     by_gave (λ r. Sound r.state) s client block stamp end sound
-    (λ job is ready. sound-finished (all_given s client block job.want) job.want
+    (λ job fact ready. sound-finished (all_given s client block job.want) job.want
     (sound-let_go (given s job.want client block) block (sound-given s job.want client block sound))
-    (subst (λ x. job_at (without_job s.jobs block) x ≡ None) (sym (sound.waiting.own block job is)) (gone s.jobs block sound.waiting.sorted))
+    (subst (λ x. job_at (without_job s.jobs block) x ≡ None) (sym (sound.waiting.own block job fact)) (gone s.jobs block sound.waiting.sorted))
     (leaves_room (given s job.want client block).beliefs s.applied (record { want = job.want; awaited = noted job.awaited client stamp end })
-    (awaits-given s job client block stamp end sound is) ready))
-    (λ job is. sound-put (given s job.want client block) block (record { want = job.want; awaited = noted job.awaited client stamp end }) s.turn
-    (sound.waiting.own block job is) (awaits-given s job client block stamp end sound is) (sound-given s job.want client block sound))
+    (awaits-given s job client block stamp end sound fact) ready))
+    (λ job fact. sound-put (given s job.want client block) block (record { want = job.want; awaited = noted job.awaited client stamp end }) s.turn
+    (sound.waiting.own block job fact) (awaits-given s job client block stamp end sound fact) (sound-given s job.want client block sound))
 sound-transition s (Deltas log first upto rows) sound =
     by_deltas (λ r. Sound r.state) s log first upto rows sound sound
     (λ _. sound-steps (with_deltas s log upto rows) (applied_upto s.applied log upto) (ready_blocks s.jobs (applied_upto s.applied log upto))
@@ -378,5 +378,5 @@ sound-start epoch index beliefs applied alone = record {
   sorted = sorted-all [] beliefs no_beliefs;
   waiting = nobody_waits;
   alone = alone;
-  awaits = λ block job is. absurd (cc);
+  awaits = λ block job fact. absurd (cc);
 }

@@ -91,19 +91,19 @@ was_there false o job h = h
 pub waiting-removed : (jobs : List (BlockId × Job)) (block : BlockId) → Waiting jobs → Waiting (without_job jobs block)
 waiting-removed jobs block w = record {
   sorted = sorted_remove block_cmp (is_at (block_cmp block)) jobs w.sorted;
-  own = λ b job is. w.own b job (was_there (eq_by_cmp block_cmp block b) (job_at jobs b) job (sym (after_removal jobs block b w.sorted) ∙ is));
+  own = λ b job fact. w.own b job (was_there (eq_by_cmp block_cmp block b) (job_at jobs b) job (sym (after_removal jobs block b w.sorted) ∙ fact));
 }
 
 pub waiting-put : (jobs : List (BlockId × Job)) (block : BlockId) (job : Job) → job.want.block ≡ block → Waiting jobs
     → Waiting (insert_entry block_cmp jobs block job)
 waiting-put jobs block job mine w = record {
   sorted = sorted_insert block_cmp block_cmp_total block job jobs w.sorted;
-  own = λ b found is. put_own b found (eq_by_cmp block_cmp b block) refl (sym (lookup-insert_entry block_cmp_total b block job jobs) ∙ is);
+  own = λ b found fact. put_own b found (eq_by_cmp block_cmp b block) refl (sym (lookup-insert_entry block_cmp_total b block job jobs) ∙ fact);
 }
   where
     put_own : (b : BlockId) (found : Job) (t : Bool) → eq_by_cmp block_cmp b block ≡ t → cond t (Some job) (job_at jobs b) ≡ Some found → found.want.block ≡ b
-    put_own b found true same is = ap (λ (o : Option Job). (unwrap_or o job).want.block) (sym is) ∙ mine ∙ sym (tells_apart block_cmp_exact b block same)
-    put_own b found false apart is = w.own b found is
+    put_own b found true same fact = ap (λ (o : Option Job). (unwrap_or o job).want.block) (sym fact) ∙ mine ∙ sym (tells_apart block_cmp_exact b block same)
+    put_own b found false apart fact = w.own b found fact
 
 -- ---- the inputs
 
@@ -116,10 +116,10 @@ record Bars (s : SlotState) (r : Done) : Type 0 where
 -- a want that waited is answered
 bars-answered : (s t : SlotState) (block : BlockId) (job : Job) → Waiting s.jobs → job_at s.jobs block ≡ Some job → t.jobs ≡ without_job s.jobs block
     → Bars s (finished t job.want)
-bars-answered s t block job w is jobs = record {
+bars-answered s t block job w fact jobs = record {
   given = λ b g.
       let one : job.want.block ≡ b = answer_gives t job.want (passers t job.want) b g in
-      ap (λ js. job_at js b) jobs ∙ subst (λ x. job_at (without_job s.jobs block) x ≡ None) (sym (w.own block job is) ∙ one) (gone s.jobs block w.sorted);
+      ap (λ js. job_at js b) jobs ∙ subst (λ x. job_at (without_job s.jobs block) x ≡ None) (sym (w.own block job fact) ∙ one) (gone s.jobs block w.sorted);
   waiting = subst Waiting (sym jobs) (waiting-removed s.jobs block w);
   none_more = λ b none. ap (λ js. job_at js b) jobs ∙ still_gone s.jobs block b w.sorted none;
 }
@@ -128,7 +128,7 @@ bars-same : (s : SlotState) → Waiting s.jobs → Bars s (still s)
 bars-same s w = record { given = λ b g. absurd g; waiting = w; none_more = λ b none. none }
 
 bars-one : (s : SlotState) (block : BlockId) → Waiting s.jobs → Bars s (finished_at s block)
-bars-one s block w = by_finished_at (Bars s) s block (bars-same s w) (λ job is. bars-answered s (let_go s block) block job w is refl)
+bars-one s block w = by_finished_at (Bars s) s block (bars-same s w) (λ job fact. bars-answered s (let_go s block) block job w fact refl)
 
 bars-steps : (s : SlotState) (blocks : List BlockId) → Waiting s.jobs → Bars s (steps finished_at s blocks)
 bars-steps s [] w = bars-same s w
@@ -170,10 +170,10 @@ barred-transition s (Want client block inc req again mode end) w =
     })
 barred-transition s (Gave client block stamp end) w =
     by_gave Barred s client block stamp end (barred s (still s) (bars-same s w))
-    (λ job is _. barred s (finished (all_given s client block job.want) job.want) (bars-answered s (all_given s client block job.want) block job w is refl))
-    (λ job is. record {
+    (λ job fact _. barred s (finished (all_given s client block job.want) job.want) (bars-answered s (all_given s client block job.want) block job w fact refl))
+    (λ job fact. record {
       given = λ b g. absurd g;
-      waiting = waiting-put s.jobs block (record { want = job.want; awaited = noted job.awaited client stamp end }) (w.own block job is) w;
+      waiting = waiting-put s.jobs block (record { want = job.want; awaited = noted job.awaited client stamp end }) (w.own block job fact) w;
     })
 barred-transition s (Deltas log first upto rows) w =
     by_deltas Barred s log first upto rows (barred s (still s) (bars-same s w)) (record { given = λ b g. absurd g; waiting = w })
@@ -188,7 +188,7 @@ barred-transition s Tick w = record { given = λ b g. absurd (all_sent_gives b s
 
 pub nobody_waits : Waiting []
 unfolding IsStrictlySortedBy
-nobody_waits = record { sorted = tt; own = λ b job is. absurd (cc) }
+nobody_waits = record { sorted = tt; own = λ b job fact. absurd (cc) }
 
 waiting-all : (s : SlotState) (inputs : List In) → Waiting s.jobs → Waiting (state_after s inputs).jobs
 waiting-all = steps_keep transition (λ t. Waiting t.jobs) (λ t input w. (barred-transition t input w).waiting)

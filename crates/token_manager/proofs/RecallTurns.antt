@@ -62,7 +62,7 @@ module _ (s : SlotState) (stands : Stands s) where
   given-put : (block : BlockId) (job : Job) (turn : ℕ) → s.turn ≤ turn → All (IsGivenOut s.epoch turn) job.awaited → (b : BlockId) (found : Job)
       → job_at (insert_entry block_cmp s.jobs block job) b ≡ Some found
       → All (IsGivenOut s.epoch turn) found.awaited
-  given-put block job turn less new b found is = at (eq_by_cmp block_cmp b block) (sym (lookup-insert_entry block_cmp_total b block job s.jobs) ∙ is)
+  given-put block job turn less new b found fact = at (eq_by_cmp block_cmp b block) (sym (lookup-insert_entry block_cmp_total b block job s.jobs) ∙ fact)
     where
       at : (t : Bool) → cond t (Some job) (job_at s.jobs b) ≡ Some found → All (IsGivenOut s.epoch turn) found.awaited
       at true one = subst (λ (j : Job). All (IsGivenOut s.epoch turn) j.awaited) (ap (λ (o : Option Job). unwrap_or o job) one) new
@@ -70,14 +70,14 @@ module _ (s : SlotState) (stands : Stands s) where
 
   -- once a want is answered
   given-removed : (block b : BlockId) (found : Job) → job_at (without_job s.jobs block) b ≡ Some found → All (IsGivenOut s.epoch (s.turn + 1)) found.awaited
-  given-removed block b found is =
+  given-removed block b found fact =
       given-later s.epoch s.turn (s.turn + 1) found.awaited (omega arith)
-      (stands.given b found (was_there (eq_by_cmp block_cmp block b) (job_at s.jobs b) found (sym (after_removal s.jobs block b stands.waiting.sorted) ∙ is)))
+      (stands.given b found (was_there (eq_by_cmp block_cmp block b) (job_at s.jobs b) found (sym (after_removal s.jobs block b stands.waiting.sorted) ∙ fact)))
 
   stands-finished_at : (block : BlockId) → Stands (finished_at s block).state
   stands-finished_at block =
       by_finished_at (λ r. Stands r.state) s block stands
-      (λ job is. record { waiting = waiting-removed s.jobs block stands.waiting; given = given-removed block })
+      (λ job fact. record { waiting = waiting-removed s.jobs block stands.waiting; given = given-removed block })
 
 stands-steps : (s : SlotState) (blocks : List BlockId) → Stands s → Stands (steps finished_at s blocks).state
 stands-steps = steps_keep finished_at Stands (λ t block stands. stands-finished_at t stands block)
@@ -91,7 +91,7 @@ stands-transition s (Want client block inc req again mode end) stands =
     by_want (λ r. Stands r.state) s want end stands
     (λ _ _. record {
       waiting = stands.waiting;
-      given = λ b found is. given-later s.epoch s.turn (s.turn + 1) found.awaited (omega arith) (stands.given b found is);
+      given = λ b found fact. given-later s.epoch s.turn (s.turn + 1) found.awaited (omega arith) (stands.given b found fact);
     })
     (λ _. record {
       waiting = waiting-put s.jobs block job refl stands.waiting;
@@ -99,12 +99,12 @@ stands-transition s (Want client block inc req again mode end) stands =
     })
 stands-transition s (Gave client block stamp end) stands =
     by_gave (λ r. Stands r.state) s client block stamp end stands
-    (λ job is _. record { waiting = waiting-removed s.jobs block stands.waiting; given = given-removed s stands block })
-    (λ job is.
+    (λ job fact _. record { waiting = waiting-removed s.jobs block stands.waiting; given = given-removed s stands block })
+    (λ job fact.
     let after : Job = record { want = job.want; awaited = noted job.awaited client stamp end } in
     record {
-      waiting = waiting-put s.jobs block after (stands.waiting.own block job is) stands.waiting;
-      given = given-put s stands block after s.turn (omega arith) (given-noted s.epoch s.turn job.awaited client stamp end (stands.given block job is));
+      waiting = waiting-put s.jobs block after (stands.waiting.own block job fact) stands.waiting;
+      given = given-put s stands block after s.turn (omega arith) (given-noted s.epoch s.turn job.awaited client stamp end (stands.given block job fact));
     })
 stands-transition s (Deltas log first upto rows) stands =
     by_deltas (λ r. Stands r.state) s log first upto rows stands stands
@@ -117,4 +117,4 @@ pub given-all : (epoch : ℕ) (index : List (BlockId × Entry)) (beliefs : List 
     → RecallsAreGivenOut (state_after (started epoch index beliefs applied) inputs)
 given-all epoch index beliefs applied inputs =
     (steps_keep transition Stands stands-transition (started epoch index beliefs applied) inputs
-    (record { waiting = nobody_waits; given = λ b job is. absurd (cc) })).given
+    (record { waiting = nobody_waits; given = λ b job fact. absurd (cc) })).given

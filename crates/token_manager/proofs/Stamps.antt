@@ -17,11 +17,11 @@ record AreTurns (epoch turn last : ℕ) (stamps : List Stamp) : Type 0 where
   upto : last ≡ turn + length stamps
 
 no_turns : (epoch turn last : ℕ) → last ≡ turn → AreTurns epoch turn last []
-no_turns epoch turn last is = record { in_order = refl; upto = omega (arith, is) }
+no_turns epoch turn last fact = record { in_order = refl; upto = omega (arith, fact) }
 
 one_turn : (epoch turn last : ℕ) (said : Stamp) (stamps : List Stamp) → said ≡ stamp epoch (turn + 1) → AreTurns epoch (turn + 1) last stamps
     → AreTurns epoch turn last (said ∷ stamps)
-one_turn epoch turn last said stamps is rest = record { in_order = λ i. is i ∷ rest.in_order i; upto = omega (arith, rest.upto) }
+one_turn epoch turn last said stamps fact rest = record { in_order = λ i. fact i ∷ rest.in_order i; upto = omega (arith, rest.upto) }
 
 are_counted : (epoch turn last : ℕ) (outs : List Out) → CountsTurns epoch turn outs last → AreTurns epoch turn last (stamps_in outs)
 are_counted epoch turn last [] h = no_turns epoch turn last h

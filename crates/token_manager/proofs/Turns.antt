@@ -44,7 +44,7 @@ takes-answer s want (c ∷ cs) = (refl, refl)
 
 takes-finished_at : (s : SlotState) (block : BlockId) → Takes s (finished_at s block)
 takes-finished_at s block =
-    by_finished_at (Takes s) s block (refl, refl) (λ job is. (refl, takes-answer (let_go s block) job.want (passers (let_go s block) job.want)))
+    by_finished_at (Takes s) s block (refl, refl) (λ job fact. (refl, takes-answer (let_go s block) job.want (passers (let_go s block) job.want)))
 
 takes-steps : (s : SlotState) (blocks : List BlockId) → Takes s (steps finished_at s blocks)
 takes-steps s [] = (refl, refl)
@@ -64,7 +64,7 @@ takes-transition s (Want client block inc req again mode end) _ =
     (λ _. (refl, takes-recalls s.epoch s.turn block (not (is_own mode)) (recalled_from s want)))
 takes-transition s (Gave client block stamp end) _ =
     by_gave (Takes s) s client block stamp end (refl, refl)
-    (λ job is ready. (refl, takes-answer (all_given s client block job.want) job.want (passers (all_given s client block job.want) job.want)))
+    (λ job fact ready. (refl, takes-answer (all_given s client block job.want) job.want (passers (all_given s client block job.want) job.want)))
     (λ _ _. (refl, refl))
 takes-transition s (Deltas log first upto rows) _ =
     by_deltas (Takes s) s log first upto rows (refl, refl) (refl, refl)

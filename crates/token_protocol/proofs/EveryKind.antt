@@ -7,9 +7,9 @@ use Rattle.token_protocol.specs.OtherExample.{other_kinds}
 
 -- What stands after the first n kinds of a list stands in it.
 listed : (n : ℕ) (k : Kind) (ks : List Kind) → In k (drop n ks) → In k ks
-listed zero k ks is = is
-listed (suc n) k [] is = absurd is
-listed (suc n) k (first ∷ ks) is = inr (listed n k ks is)
+listed zero k ks fact = fact
+listed (suc n) k [] fact = absurd fact
+listed (suc n) k (first ∷ ks) fact = inr (listed n k ks fact)
 
 pub every_kind : (k : Kind) → (k ≡ Kind.Loses → ⊥) → In k example_kinds ⊎ In k other_kinds
 every_kind Kind.Asks apart = inl (listed 4 Kind.Asks example_kinds (inl refl))

@@ -31,14 +31,14 @@ Included {X = X} {Y = Y} sees sent here = (x : X) (y : Y) → In x sent → sees
 -- It stays so where more is sent here.
 pub included_more : {X Y : Type 0} (sees : X → Y → Type 0) (sent : List X) (here more : List Y) → Included sees sent here → ((y : Y) → In y here → In y more)
     → Included sees sent more
-included_more sees sent here more i grows x y is seen = grows y (i x y is seen)
+included_more sees sent here more i grows x y fact seen = grows y (i x y fact seen)
 
 -- It stays so where a packet is sent, if what that is seen as was sent here.
 pub included_sent : {X Y : Type 0} (sees : X → Y → Type 0) (sent : List X) (here : List Y) (new : X) → Included sees sent here
     → ((y : Y) → sees new y → In y here)
     → Included sees (new ∷ sent) here
-included_sent {X = X} sees sent here new i also x y (inl is) seen = also y (subst (λ (z : X). sees z y) is seen)
-included_sent sees sent here new i also x y (inr is) seen = i x y is seen
+included_sent {X = X} sees sent here new i also x y (inl fact) seen = also y (subst (λ (z : X). sees z y) fact seen)
+included_sent sees sent here new i also x y (inr fact) seen = i x y fact seen
 
 -- A Forward and a Supply bear the version alone of the entry that was offered, so the offer that they are seen as is not fixed by them, and `Included`
 -- would be false of them. Each sent packet that speaks of the block is seen as some packet that was sent here.
@@ -48,10 +48,10 @@ Met {X = X} {Y = Y} speaks sees sent here = (x : X) → In x sent → speaks x �
 -- It stays so where more is sent here.
 pub met_more : {X Y : Type 0} (speaks : X → Type 0) (sees : X → Y → Type 0) (sent : List X) (here more : List Y) → Met speaks sees sent here
     → ((y : Y) → In y here → In y more) → Met speaks sees sent more
-met_more speaks sees sent here more i grows x is says = let m = i x is says in (m.0, grows m.0 m.1, m.2)
+met_more speaks sees sent here more i grows x fact says = let m = i x fact says in (m.0, grows m.0 m.1, m.2)
 
 -- It stays so where a packet is sent, if some packet that it is seen as was sent here.
 pub met_sent : {X Y : Type 0} (speaks : X → Type 0) (sees : X → Y → Type 0) (sent : List X) (here : List Y) (new : X) → Met speaks sees sent here
     → (speaks new → (y : Y) × In y here × sees new y) → Met speaks sees (new ∷ sent) here
-met_sent {X = X} {Y = Y} speaks sees sent here new i also x (inl is) = subst (λ (z : X). speaks z → (y : Y) × In y here × sees z y) (sym is) also
-met_sent speaks sees sent here new i also x (inr is) = i x is
+met_sent {X = X} {Y = Y} speaks sees sent here new i also x (inl fact) = subst (λ (z : X). speaks z → (y : Y) × In y here × sees z y) (sym fact) also
+met_sent speaks sees sent here new i also x (inr fact) = i x fact

@@ -15,13 +15,13 @@ taken n x e s seen low high some same above =
     )
 
 pub equal : EqualSeen
-equal n x e s seen low high same is =
+equal n x e s seen low high same fact =
     let promised = seen.promised in
-    let epoch = ap (λ (z : Stamp). z.epoch) is in
-    seen.now (omega arith) ∙ ap (λ (z : Stamp). z.turn) is
+    let epoch = ap (λ (z : Stamp). z.epoch) fact in
+    seen.now (omega arith) ∙ ap (λ (z : Stamp). z.turn) fact
 
 pub stamped : StampedSeen
-stamped n x e s seen is = record { promised = seen.promised; past = omega arith; now = λ h. refl; old = λ h. absurd (omega arith) }
+stamped n x e s seen fact = record { promised = seen.promised; past = omega arith; now = λ h. refl; old = λ h. absurd (omega arith) }
 
 pub activated : ActivationSeen
 activated n x e f seen later = record {
@@ -35,4 +35,4 @@ pub promised : PromiseSeen
 promised n x e f seen = record { promised = refl; past = seen.past; now = seen.now; old = seen.old }
 
 pub unheard : (w : World) → EpochPromised w → Unheard w
-unheard w promise c e member below is = let p = promise c member in omega arith
+unheard w promise c e member below fact = let p = promise c member in omega arith

@@ -102,9 +102,9 @@ module _ (logs : Bool) (b : BlockId) where
   -- the want that waits for this block is answered
   let_go-runs : (w : World) (s : SlotState) (job : Job) → Sound s → Manages b s w → job_at s.jobs b ≡ Some job → is_ready s.applied job.awaited ≡ true
       → Runs logs b w (finished (let_go s b) job.want)
-  let_go-runs w s job sound m is ready =
+  let_go-runs w s job sound m fact ready =
       let waits : Waits job s.epoch w.awaited w.keep w.owed w.applied w.wants w.recalls =
-      subst (λ o. JobShown o s.epoch w.awaited w.keep w.owed w.applied w.wants w.recalls) is m.job in
+      subst (λ o. JobShown o s.epoch w.awaited w.keep w.owed w.applied w.wants w.recalls) fact m.job in
       let none : job_at (let_go s b).jobs b ≡ None = gone s.jobs b sound.waiting.sorted in
       let idle : Idle w.awaited w.owed w.applied = record {
         nothing = λ d. zero_is (w.awaited d) (λ more. ready_none s.applied job.awaited d ready (waits.only d more));
@@ -120,14 +120,14 @@ module _ (logs : Bool) (b : BlockId) where
         index = m.index;
         job = subst (λ o. JobShown o s.epoch w.awaited w.keep w.owed w.applied w.wants w.recalls) (sym none) idle;
       } in
-      finished-at logs b w (let_go s b) job.want waits.end (sound.waiting.own b job is) shown none waits.something
-      (leaves_room s.beliefs s.applied job (sound.awaits b job is) ready) waits.asked waits.asker
+      finished-at logs b w (let_go s b) job.want waits.end (sound.waiting.own b job fact) shown none waits.something
+      (leaves_room s.beliefs s.applied job (sound.awaits b job fact) ready) waits.asked waits.asker
 
   -- a want for another block is answered
   let_go-there : (w : World) (s : SlotState) (block : BlockId) (job : Job) → Sound s → Manages b s w → (block ≡ b → ⊥) → job_at s.jobs block ≡ Some job
       → Runs logs b w (finished (let_go s block) job.want)
-  let_go-there w s block job sound m other is =
-      let apart : job.want.block ≡ b → ⊥ = λ same. other (sym (sound.waiting.own block job is) ∙ same) in
+  let_go-there w s block job sound m other fact =
+      let apart : job.want.block ≡ b → ⊥ = λ same. other (sym (sound.waiting.own block job fact) ∙ same) in
       let u = let_go s block in
       turns-runs logs b w s (finished u job.want) 1 m refl refl (λ c. more_elsewhere s.beliefs job.want (holder b c) (λ same. apart (sym same))) refl refl
       (after_removal s.jobs block b sound.waiting.sorted
@@ -139,8 +139,8 @@ module _ (logs : Bool) (b : BlockId) where
       → ((job : Job) → job_at s.jobs block ≡ Some job → is_ready s.applied job.awaited ≡ true) → Runs logs b w (finished_at s block)
   one-runs w s block sound m ready =
       by_block b (λ k. ((job : Job) → job_at s.jobs k ≡ Some job → is_ready s.applied job.awaited ≡ true) → Runs logs b w (finished_at s k))
-      (λ r. by_finished_at (Runs logs b w) s b (runs_nowhere logs b w s m) (λ job is. let_go-runs w s job sound m is (r job is)))
-      (λ k other _. by_finished_at (Runs logs b w) s k (runs_nowhere logs b w s m) (λ job is. let_go-there w s k job sound m other is)) block ready
+      (λ r. by_finished_at (Runs logs b w) s b (runs_nowhere logs b w s m) (λ job fact. let_go-runs w s job sound m fact (r job fact)))
+      (λ k other _. by_finished_at (Runs logs b w) s k (runs_nowhere logs b w s m) (λ job fact. let_go-there w s k job sound m other fact)) block ready
 
   runs_through : (w : World) (s : SlotState) (d e : Done) (t : Runs logs b w d) → Runs logs b t.world e → Runs logs b w (saying d.outs e)
   runs_through w s d e t u =
@@ -154,20 +154,20 @@ module _ (logs : Bool) (b : BlockId) where
       }
 
   same_applied : (s : SlotState) (block : BlockId) → (finished_at s block).state.applied ≡ s.applied
-  same_applied s block = by_finished_at (λ d. d.state.applied ≡ s.applied) s block refl (λ job is. refl)
+  same_applied s block = by_finished_at (λ d. d.state.applied ≡ s.applied) s block refl (λ job fact. refl)
 
   many-run : (w : World) (s : SlotState) (applied : List ℕ) (blocks : List BlockId) → s.applied ≡ applied → Sound s → Manages b s w
       → ReadyAt s.jobs applied blocks → Runs logs b w (steps finished_at s blocks)
-  many-run w s applied [] is sound m ready = runs_nowhere logs b w s m
-  many-run w s applied (k ∷ ks) is sound m ready =
+  many-run w s applied [] fact sound m ready = runs_nowhere logs b w s m
+  many-run w s applied (k ∷ ks) fact sound m ready =
       let d = finished_at s k in
       let here : (job : Job) → job_at s.jobs k ≡ Some job → is_ready s.applied job.awaited ≡ true =
-      λ job h. subst (λ a. is_ready a job.awaited ≡ true) (sym is) (ready k (contains_first k ks) job h) in
+      λ job h. subst (λ a. is_ready a job.awaited ≡ true) (sym fact) (ready k (contains_first k ks) job h) in
       let t = one-runs w s k sound m here in
       let next : Sound d.state =
       by_finished_at (λ r. Sound r.state) s k sound (λ job h. sound-answered s applied k job sound h (ready k (contains_first k ks) job h)) in
       runs_through w s d (steps finished_at d.state ks) t
-      (many-run t.world d.state applied ks (same_applied s k ∙ is) next t.shows
+      (many-run t.world d.state applied ks (same_applied s k ∙ fact) next t.shows
       (λ block has job h. ready block (contains_rest k block ks has) job (jobs_fewer s k block job sound.waiting h)))
 
   pub takes_deltas : (w : World) (s : SlotState) (log : LogId) (first upto : ℕ) (rows : List (BlockId × Entry)) → Sound s → Manages b s w
@@ -196,7 +196,7 @@ module _ (logs : Bool) (b : BlockId) where
         world = t.world;
         steps = steps_through w v t.world (More Ended (Applies log.0 upto e (record { forward = less }) covers)) t.steps;
         quiet = both_quiet logs w v t.world (More Ended (Applies log.0 upto e (record { forward = less }) covers)) t.steps refl t.quiet;
-        frame = by_through w v t.world (record { others = refl; offers = λ p is. is; recalls = λ r is. is }) t.frame;
+        frame = by_through w v t.world (record { others = refl; offers = λ p fact. fact; recalls = λ r fact. fact }) t.frame;
         shows = t.shows;
         told = (tt, t.told);
       })
@@ -230,11 +230,11 @@ module _ (logs : Bool) (b : BlockId) where
             let one : b ≡ e.0 = tells_apart block_cmp_exact b e.0 same in
             told_both b w (sent e.0 e.1.awaited) (all_sent es)
             (subst (λ k. AllTold b w (sent k e.1.awaited)) one (resent e.1 (ap (λ t. cond t (Some e.1) (job_at es b)) same)))
-            (rest_ (λ job is. absurd (no_end job (job_at es b) (subst (λ k. job_at es k ≡ None) (sym one) (nobody_below e.0 es sorted.0)) is)))
+            (rest_ (λ job fact. absurd (no_end job (job_at es b) (subst (λ k. job_at es k ≡ None) (sym one) (nobody_below e.0 es sorted.0)) fact)))
         | false ↦ λ apart.
             told_both b w (sent e.0 e.1.awaited) (all_sent es)
             (sent-there w e.0 e.1.awaited (λ same. false≢true (sym apart ∙ subst (λ k. eq_by_cmp block_cmp b k ≡ true) (sym same) (block_laws.refl b))))
-            (rest_ (λ job is. resent job (ap (λ t. cond t (Some e.1) (job_at es b)) apart ∙ is)))
+            (rest_ (λ job fact. resent job (ap (λ t. cond t (Some e.1) (job_at es b)) apart ∙ fact)))
       ] refl
 
   sent-here : (w : World) (leave : Bool) (epoch : ℕ) (rows : List Awaited) → epoch ≡ w.epoch → AllAwaited leave epoch w.awaited w.keep w.recalls rows
@@ -262,12 +262,12 @@ module _ (logs : Bool) (b : BlockId) where
     quiet = refl;
     frame = by_nothing w;
     shows = m;
-    told = all_sent-told w s.jobs sound.waiting.sorted (λ job is.
-        sent-here w (not (is_own job.want.mode)) s.epoch job.awaited m.epoch (waits job is).each);
+    told = all_sent-told w s.jobs sound.waiting.sorted (λ job fact.
+        sent-here w (not (is_own job.want.mode)) s.epoch job.awaited m.epoch (waits job fact).each);
   }
     where
       waits : (job : Job) → job_at s.jobs b ≡ Some job → Waits job s.epoch w.awaited w.keep w.owed w.applied w.wants w.recalls
-      waits job is = subst (λ o. JobShown o s.epoch w.awaited w.keep w.owed w.applied w.wants w.recalls) is m.job
+      waits job fact = subst (λ o. JobShown o s.epoch w.awaited w.keep w.owed w.applied w.wants w.recalls) fact m.job
 
   pub takes_check : (w : World) (s : SlotState) (block : BlockId) (place : Place) → Manages b s w → Runs logs b w (on_check s block place)
   takes_check w s block place m = record {

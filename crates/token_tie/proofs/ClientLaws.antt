@@ -63,8 +63,8 @@ takes_inputs logs g end w s (Wrote block value) r b =
     no_acts false acts none = refl
 
     differs : (k : BlockId) → (k ≡ g.block → ⊥) → (t : Bool) → same_block k g.block ≡ t → t ≡ false
-    differs k o true is = absurd (o (sym (same_block_exact k g.block is)))
-    differs k o false is = refl
+    differs k o true fact = absurd (o (sym (same_block_exact k g.block fact)))
+    differs k o false fact = refl
 takes_inputs logs g end w s (Settled block ver) r b =
     at_block g (λ k. (k ≡ g.block → is_settled_by (held_of s.blocks k) ver ≡ false) → Took logs g end w (on_settled s k ver))
     (λ c. takes.on_settled-still logs g end w s r ver (c refl))
@@ -107,7 +107,7 @@ module _ (logs : Bool) (g : Setting) (end : ℕ) (w : World) (s : TokensState) (
   y = record (w.client g.client) { settled = max (w.client g.client).settled (flying_row w g.client).version }
 
   shown : (n : ℕ) → y.settled ≡ n → Shows g w.epoch (record l { held = record h { settled = n } }) y
-  shown n is = record {
+  shown n fact = record {
     client = r.shows.client;
     serving = r.shows.serving;
     boot = r.shows.boot;
@@ -117,7 +117,7 @@ module _ (logs : Bool) (g : Setting) (end : ℕ) (w : World) (s : TokensState) (
     counted = r.shows.counted;
     want = r.shows.want;
     version = r.shows.version;
-    settled = is;
+    settled = fact;
     value = r.shows.value;
     fetch = r.shows.fetch;
   }

@@ -93,7 +93,7 @@ module _ (g : Setting) where
           state = record (with_held s block (asked (held_of s.blocks block) (s.req + 1) mode)) { req = s.req + 1 };
           outs = Want block (s.req + 1) 0 mode ∷ [];
         }) (still s)
-        (λ t. apart_put s _ (s.req + 1) _ (omega arith) (λ end w. (λ is. absurd (other is), tt))) (λ t. apart_still s)
+        (λ t. apart_put s _ (s.req + 1) _ (omega arith) (λ end w. (λ fact. absurd (other fact), tt))) (λ t. apart_still s)
 
     pub on_need-apart : (s : TokensState) (mode : Mode) → Apart s (on_need s block mode)
     unfolding on_need
@@ -136,7 +136,7 @@ module _ (g : Setting) where
         let h = held_of s.blocks block in
         by_test (Apart s) (is_dirty h) (record { state = with_held s block (put_off h stamp keep); outs = Flush block ∷ [] })
         (record { state = with_held s block (given_up h stamp keep); outs = Gave block stamp ∷ [] })
-        (λ t. apart_with s _ _ (λ end w. (tt, tt))) (λ t. apart_with s _ _ (λ end w. (λ is. absurd (other is), tt)))
+        (λ t. apart_with s _ _ (λ end w. (tt, tt))) (λ t. apart_with s _ _ (λ end w. (λ fact. absurd (other fact), tt)))
 
     pub on_recalled-apart : (s : TokensState) (stamp : Stamp) (keep : Bool) → Apart s (on_recalled s block stamp keep)
     unfolding on_recalled recalled recalled_above recalled_again
@@ -146,7 +146,7 @@ module _ (g : Setting) where
         (λ t. by_test (Apart s) (can_refetch s block) (saying (refetch s block).outs (give (refetch s block).state block stamp keep)) (still s)
         (λ t. apart_through s (refetch s block) _ (refetch-apart s) (give-apart (refetch s block).state stamp keep)) (λ t. apart_still s))
         (λ t. by_test (Apart s) (was_answered (held_of s.blocks block) stamp) (record { state = s; outs = Gave block stamp ∷ [] }) (still s)
-        (λ t. record { rises = omega arith; same = refl; quiet = λ end w. (λ is. absurd (other is), tt) }) (λ t. apart_still s)))
+        (λ t. record { rises = omega arith; same = refl; quiet = λ end w. (λ fact. absurd (other fact), tt) }) (λ t. apart_still s)))
         (λ t. apart_still s)
 
     pub on_wrote-apart : (s : TokensState) (value : Option (List ℕ)) → Apart s (on_wrote s block value)
@@ -186,7 +186,7 @@ module _ (g : Setting) where
 
     repeated-apart : (s : TokensState) (v : Option Wanted) → Apart s (repeated s block v)
     repeated-apart s None = apart_still s
-    repeated-apart s (Some v) = apart_with s _ _ (λ end w. (λ is. absurd (other is), tt))
+    repeated-apart s (Some v) = apart_with s _ _ (λ end w. (λ fact. absurd (other fact), tt))
 
     pub ask_again-apart : (s : TokensState) → Apart s (ask_again s block)
     unfolding ask_again

@@ -28,23 +28,23 @@ pub both_quiet : (logs : Bool) (w v u : World) (s : Steps logs w v) (t : Steps l
 both_quiet logs w v u s t p q = told_through logs w v u s t ∙ (λ i. q i ++ p i)
 
 pub by_nothing : (c : ℕ) (w : World) → ByClient c w w
-by_nothing c w = record { others = refl; client = λ d other. refl; wants = λ p is. is; gaves = λ x is. is }
+by_nothing c w = record { others = refl; client = λ d other. refl; wants = λ p fact. fact; gaves = λ x fact. fact }
 
 pub by_through : (c : ℕ) (w v u : World) → ByClient c w v → ByClient c v u → ByClient c w u
 by_through c w v u p q = record {
   others = q.others ∙ p.others;
   client = λ d other. q.client d other ∙ p.client d other;
-  wants = λ x is. q.wants x (p.wants x is);
-  gaves = λ x is. q.gaves x (p.gaves x is);
+  wants = λ x fact. q.wants x (p.wants x fact);
+  gaves = λ x fact. q.gaves x (p.gaves x fact);
 }
 
 module _ (logs : Bool) (g : Setting) (end : ℕ) where
   -- what was sent stays sent
   pub said_on : (w v : World) (outs : List Out) → ByClient g.client w v → AllSaid g end w outs → AllSaid g end v outs
   said_on w v [] by h = tt
-  said_on w v (Want block req again mode ∷ os) by h = (λ is. by.wants _ (h.0 is), said_on w v os by h.1)
+  said_on w v (Want block req again mode ∷ os) by h = (λ fact. by.wants _ (h.0 fact), said_on w v os by h.1)
   said_on w v (Gave block stamp ∷ os) by h =
-      (λ is. (let e = ap (λ (u : World). u.epoch) by.others in let low = (h.0 is).0 in omega arith, by.gaves _ (h.0 is).1), said_on w v os by h.1)
+      (λ fact. (let e = ap (λ (u : World). u.epoch) by.others in let low = (h.0 fact).0 in omega arith, by.gaves _ (h.0 fact).1), said_on w v os by h.1)
   said_on w v (Supply block ver value ∷ os) by h = (tt, said_on w v os by h.1)
   said_on w v (Flush block ∷ os) by h = (tt, said_on w v os by h.1)
   said_on w v (Read block place ∷ os) by h = (tt, said_on w v os by h.1)
@@ -71,12 +71,12 @@ module _ (logs : Bool) (g : Setting) (end : ℕ) where
       → v.client ≡ put w.client g.client x → rest v ≡ rest w
       → ((p : packets.Want) → In p w.wants → In p v.wants) → ((y : packets.Gave) → In y w.gaves → In y v.gaves) → Shows g w.epoch l x → AllSaid g end v outs
       → Acts logs g end w acts l outs
-  acts_by w v acts l outs x step told_ is others wants gaves shows said = record {
+  acts_by w v acts l outs x step told_ fact others wants gaves shows said = record {
     world = v;
     steps = More Done step;
     tells = told_;
-    frame = record { others = others; client = λ d other. ap (λ f. f d) is ∙ put_there w.client g.client x d other; wants = wants; gaves = gaves };
-    shows = subst (Shows g w.epoch l) (sym (ap (λ f. f g.client) is ∙ put_here w.client g.client x)) shows;
+    frame = record { others = others; client = λ d other. ap (λ f. f d) fact ∙ put_there w.client g.client x d other; wants = wants; gaves = gaves };
+    shows = subst (Shows g w.epoch l) (sym (ap (λ f. f g.client) fact ∙ put_here w.client g.client x)) shows;
     said = said;
   }
 

@@ -56,13 +56,13 @@ unfolding gave_noted
 by_gave_both Q s client block stamp end same done on = by_job (job_at s.jobs block) refl
   where
     by_job : (o : Option Job) → job_at s.jobs block ≡ o → Q (gave_job s client block stamp end o)
-    by_job None is = same
-    by_job (Some job) is =
+    by_job None fact = same
+    by_job (Some job) fact =
         let awaited = noted job.awaited client stamp end in
         by_test Q (list_any (answers client stamp) job.awaited) (gave_noted s client block job.want awaited) (still s)
         (λ any. by_test Q (is_ready s.applied awaited) (gave_last s client block job.want) (still (gave_one s client block job.want awaited))
-        (λ ready. by_test Q (has_turns s.turn 1) (finished (all_given s client block job.want) job.want) (still s) (λ _. done job is any ready) (λ _. same))
-        (λ _. on job is any))
+        (λ ready. by_test Q (has_turns s.turn 1) (finished (all_given s client block job.want) job.want) (still s) (λ _. done job fact any ready) (λ _. same))
+        (λ _. on job fact any))
         (λ _. same)
 
 -- ---- the recalls
@@ -96,15 +96,15 @@ module _ (leave : Bool) (epoch : ℕ) (awaited keep : ℕ → ℕ) (recalls : Li
       at : (t : Bool) → answers client stamp a ≡ t → (t || list_any (answers client stamp) rows) ≡ true
           → (list_any (answers client stamp) rows ≡ true → (stamp ≡ recall.stamp epoch (awaited client)) × (0 < awaited client) × (keep client ≡ kept leave))
           → (stamp ≡ recall.stamp epoch (awaited client)) × (0 < awaited client) × (keep client ≡ kept leave)
-      at true is _ later =
-          let a_is = answered client stamp a is in
+      at true fact _ later =
+          let a_is = answered client stamp a fact in
           let shown = all.0 a_is.1 in (
-            sym (one_stamp client stamp a is) ∙ shown.stamp
+            sym (one_stamp client stamp a fact) ∙ shown.stamp
                 ∙ ap (λ c. recall.stamp epoch (awaited c)) a_is.0,
             subst (λ c. 0 < awaited c) a_is.0 shown.some,
             sym (ap keep a_is.0) ∙ shown.keeps,
           )
-      at false is any later = later any
+      at false fact any later = later any
 
   -- once it is noted, the others are awaited as before
   noted_each : (rows : List Awaited) → stamp ≡ recall.stamp epoch (awaited client) → All rows
@@ -114,11 +114,11 @@ module _ (leave : Bool) (epoch : ℕ) (awaited keep : ℕ → ℕ) (recalls : Li
     elim (answers client stamp a) as
         (λ t. answers client stamp a ≡ t → (cond t (record a { end = Some end }) a).end ≡ None
         → AwaitedShown leave epoch (put awaited client 0) keep recalls (cond t (record a { end = Some end }) a)) [
-          | true ↦ λ is none. absurd (no_end end (Some end) none refl)
-          | false ↦ λ is none.
+          | true ↦ λ fact none. absurd (no_end end (Some end) none refl)
+          | false ↦ λ fact none.
               let shown = all.0 none in
               let other : a.client ≡ client → ⊥ =
-              λ same. false≢true (sym is ∙ is_the_one client stamp a same (shown.stamp ∙ ap (λ c. recall.stamp epoch (awaited c)) same ∙ sym mine) none) in
+              λ same. false≢true (sym fact ∙ is_the_one client stamp a same (shown.stamp ∙ ap (λ c. recall.stamp epoch (awaited c)) same ∙ sym mine) none) in
               let there : put awaited client 0 a.client ≡ awaited a.client = put_there awaited client 0 a.client other in
               record {
                 stamp = shown.stamp ∙ ap (recall.stamp epoch) (sym there);
@@ -138,7 +138,7 @@ module _ (leave : Bool) (epoch : ℕ) (awaited keep : ℕ → ℕ) (recalls : Li
       (λ here. inl (elim (answers client stamp a) as
       (λ t. answers client stamp a ≡ t
       → ((cond t (record a { end = Some end }) a).client ≡ d) × ((e : ℕ) × ((cond t (record a { end = Some end }) a).end ≡ Some e) × (n ≤ e))) [
-        | true ↦ λ is. absurd (no_end here.1.0 a.end (answered client stamp a is).1 here.1.1)
+        | true ↦ λ fact. absurd (no_end here.1.0 a.end (answered client stamp a fact).1 here.1.1)
         | false ↦ λ _. here
       ] refl))
       (λ there. inr (named_on rows d n there)) named
@@ -152,8 +152,8 @@ module _ (leave : Bool) (epoch : ℕ) (awaited keep : ℕ → ℕ) (recalls : Li
           → (list_any (answers client stamp) rows ≡ true → Named (noted rows client stamp end) client n)
           → (((cond t (record a { end = Some end }) a).client ≡ client) × ((e : ℕ) × ((cond t (record a { end = Some end }) a).end ≡ Some e) × (n ≤ e)))
           ⊎ Named (noted rows client stamp end) client n
-      at true is _ later = inl ((answered client stamp a is).0, (end, refl, less))
-      at false is any later = inr (later any)
+      at true fact _ later = inl ((answered client stamp a fact).0, (end, refl, less))
+      at false fact any later = inr (later any)
 
 -- what was named is applied, once the want is ready
 pub named_applied : (applied : List ℕ) (rows : List Awaited) (d n : ℕ) → is_ready applied rows ≡ true → Named rows d n → n ≤ applied_of applied d
@@ -202,7 +202,7 @@ module _ (logs : Bool) where
       (λ m none. finished-runs logs w s ask end m none something room asked asker) m none
 
   module _ (b : BlockId) (w : World) (s : SlotState) (client : ℕ) (stamp : Stamp) (end : ℕ) (job : Job) (sound : Sound s) (m : Manages b s w)
-      (some : 0 < client) (is : job_at s.jobs b ≡ Some job)
+      (some : 0 < client) (fact : job_at s.jobs b ≡ Some job)
       (any : list_any (answers client stamp) job.awaited ≡ true)
       (sent : stamp.epoch ≡ w.epoch → In (record { client = client; stamp = stamp.turn; end = end }) w.gaves) where
     abbrev keeps : Bool
@@ -218,7 +218,7 @@ module _ (logs : Bool) where
     rows = noted job.awaited client stamp end
 
     waits : Waits job s.epoch w.awaited w.keep w.owed w.applied w.wants w.recalls
-    waits = subst (λ o. JobShown o s.epoch w.awaited w.keep w.owed w.applied w.wants w.recalls) is m.job
+    waits = subst (λ o. JobShown o s.epoch w.awaited w.keep w.owed w.applied w.wants w.recalls) fact m.job
 
     found : (stamp ≡ recall.stamp s.epoch (w.awaited client)) × (0 < w.awaited client) × (w.keep client ≡ kept keeps)
     found = answered_shown keeps s.epoch w.awaited w.keep w.recalls client stamp end job.awaited waits.each any
@@ -268,7 +268,7 @@ module _ (logs : Bool) where
     }
 
     frame : ByManager w v
-    frame = record { others = refl; offers = λ p is. is; recalls = λ r is. is }
+    frame = record { others = refl; offers = λ p fact. fact; recalls = λ r fact. fact }
 
     -- the want waits on
     gave_one-runs : Runs logs b w (still (gave_one s client b job.want rows))
@@ -310,9 +310,9 @@ module _ (logs : Bool) where
           index = m.index;
           job = subst (λ o. JobShown o s.epoch v.awaited v.keep v.owed v.applied v.wants v.recalls) (sym none) idle;
         } in
-        let t = finished-at b v u job.want waits.end (sound.waiting.own b job is) shown none waits.something
+        let t = finished-at b v u job.want waits.end (sound.waiting.own b job fact) shown none waits.something
         (leaves_room (given s job.want client b).beliefs s.applied (record { want = job.want; awaited = rows })
-        (awaits-given s job client b stamp end sound is) ready) waits.asked waits.asker in
+        (awaits-given s job client b stamp end sound fact) ready) waits.asked waits.asker in
         record {
           world = t.world;
           steps = steps_through w v t.world (More Ended (Notes x noting)) t.steps;
@@ -329,8 +329,8 @@ module _ (logs : Bool) where
       let less = λ (job : Job) (c : ℕ). more_others s.beliefs (holder block client) (holder b c) (not (is_own job.want.mode)) sound.sorted
       (λ same. other (sym (ap (λ (h : Holder). h.block) same))) in
       by_gave_both (Runs logs b w) s client block stamp end (runs_nowhere logs b w s m)
-      (λ job is any ready.
-      let mine = sound.waiting.own block job is in
+      (λ job fact any ready.
+      let mine = sound.waiting.own block job fact in
       let apart : job.want.block ≡ b → ⊥ = λ same. other (sym mine ∙ same) in
       let u = all_given s client block job.want in
       turns-runs logs b w s (finished u job.want) 1 m refl refl
@@ -339,7 +339,7 @@ module _ (logs : Bool) where
       ∙ elim (eq_by_cmp block_cmp block b) as (λ t. eq_by_cmp block_cmp block b ≡ t → cond t None (job_at s.jobs b) ≡ job_at s.jobs b)
       [ true ↦ λ same. absurd (other (tells_apart block_cmp_exact block b same)) | false ↦ λ _. refl ] refl)
       (λ v. answer_quiet logs b v u job.want (passers u job.want) apart))
-      (λ job is any. turns-runs logs b w s (still (gave_one s client block job.want (noted job.awaited client stamp end))) 0 m refl (omega arith)
+      (λ job fact any. turns-runs logs b w s (still (gave_one s client block job.want (noted job.awaited client stamp end))) 0 m refl (omega arith)
       (less job) refl refl (other_put logs s b block _ other) (λ v. tt))
 
 pub takes_gave : (logs : Bool) (b : BlockId) (w : World) (s : SlotState) (client : ℕ) (block : BlockId) (stamp : Stamp) (end : ℕ) → Sound s → Manages b s w
@@ -350,6 +350,6 @@ takes_gave logs b w s client block stamp end sound m some sent =
     by_block b (λ k. (k ≡ b → stamp.epoch ≡ w.epoch → In (record { client = client; stamp = stamp.turn; end = end }) w.gaves)
     → Runs logs b w (on_gave s client k stamp end))
     (λ a. by_gave_both (Runs logs b w) s client b stamp end (runs_nowhere logs b w s m)
-    (λ job is any ready. gave_last-runs logs b w s client stamp end job sound m some is any (a refl) ready)
-    (λ job is any. gave_one-runs logs b w s client stamp end job sound m some is any (a refl)))
+    (λ job fact any ready. gave_last-runs logs b w s client stamp end job sound m some fact any (a refl) ready)
+    (λ job fact any. gave_one-runs logs b w s client stamp end job sound m some fact any (a refl)))
     (λ k other _. gave-there logs b w s client k stamp end sound m other) block sent

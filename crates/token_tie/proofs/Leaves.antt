@@ -45,7 +45,7 @@ module _ (logs : Bool) (g : Setting) (end : ℕ) (w : World) where
 
   pub drops_want-goes : (l : Local) → Shown l → To (record l { held = record l.held { want = None } }) []
   drops_want-goes l s =
-      acts_by logs g end w (drops_want w g.client) [] _ [] (record here { want = 0 }) (DropsWant g.client) refl refl refl (λ p is. is) (λ y is. is)
+      acts_by logs g end w (drops_want w g.client) [] _ [] (record here { want = 0 }) (DropsWant g.client) refl refl refl (λ p fact. fact) (λ y fact. fact)
       (record {
         client = s.client;
         serving = s.serving;
@@ -63,7 +63,8 @@ module _ (logs : Bool) (g : Setting) (end : ℕ) (w : World) where
 
   pub drops_fetch-goes : (l : Local) → Shown l → To (record l { held = unfetched l.held }) []
   drops_fetch-goes l s =
-      acts_by logs g end w (drops_fetch w g.client) [] _ [] (record here { fetching = 0 }) (DropsFetch g.client) refl refl refl (λ p is. is) (λ y is. is)
+      acts_by logs g end w (drops_fetch w g.client) [] _ [] (record here { fetching = 0 }) (DropsFetch g.client) refl refl refl (λ p fact. fact)
+      (λ y fact. fact)
       (record {
         client = s.client;
         serving = s.serving;
@@ -82,7 +83,8 @@ module _ (logs : Bool) (g : Setting) (end : ℕ) (w : World) where
   -- a fetch is let go with a recall that was put off
   pub drops_promised-goes : (l : Local) → Shown l → To (record l { held = promise_dropped l.held }) []
   drops_promised-goes l s =
-      acts_by logs g end w (drops_fetch w g.client) [] _ [] (record here { fetching = 0 }) (DropsFetch g.client) refl refl refl (λ p is. is) (λ y is. is)
+      acts_by logs g end w (drops_fetch w g.client) [] _ [] (record here { fetching = 0 }) (DropsFetch g.client) refl refl refl (λ p fact. fact)
+      (λ y fact. fact)
       (record {
         client = s.client;
         serving = s.serving;
@@ -109,7 +111,7 @@ module _ (logs : Bool) (g : Setting) (end : ℕ) (w : World) where
       (Asks g.client (mode_number mode) (l.req + 1) end
       (record { client = s.client; serving = s.serving; some = some_rank mode some; upto_own = most_rank mode; less = omega arith; unused = omega arith })
       settled)
-      refl refl refl (λ p is. inr is) (λ y is. is)
+      refl refl refl (λ p fact. inr fact) (λ y fact. fact)
       (record {
         client = s.client;
         serving = s.serving;
@@ -123,13 +125,16 @@ module _ (logs : Bool) (g : Setting) (end : ℕ) (w : World) where
         settled = s.settled;
         value = s.value;
         fetch = s.fetch;
-      }) (λ is. inl (ap (λ i. record { client = g.client; incarnation = i; request = l.req + 1; mode = mode_number mode; end = end }) (sym s.incarnation)), tt)
+      }) (
+        λ fact. inl (ap (λ i. record { client = g.client; incarnation = i; request = l.req + 1; mode = mode_number mode; end = end }) (sym s.incarnation)),
+        tt,
+      )
 
   -- an open want is sent again
   pub asks_again-goes : (l : Local) (v : Wanted) → Shown l → l.held.want ≡ Some v → Premise logs (SettledEnd w g.client end)
       → To (record l { held = asked_again l.held v }) (Want g.block v.req (v.again + 1) v.mode ∷ [])
-  asks_again-goes l v s is settled =
-      let open_ : WantShown (Some v) here.want here.request = subst (λ o. WantShown o here.want here.request) is s.want in
+  asks_again-goes l v s fact settled =
+      let open_ : WantShown (Some v) here.want here.request = subst (λ o. WantShown o here.want here.request) fact s.want in
       let limit = some_rank v.mode open_.2 in let named = open_.0 in
       acts_by logs g end w (asks_again w g.client end) [] _ _ here (AsksAgain g.client end (record { open_want = omega arith }) settled)
       refl (sym (put_back w.client g.client)) refl (λ p here. inr here) (λ y here. here)
@@ -199,7 +204,7 @@ module _ (logs : Bool) (g : Setting) (end : ℕ) (w : World) where
         → To (record l { held = copied l.held stamp ver None }) outs
     absent-goes ver hop may =
         let p = offer_seen g.client stamp inc req Copy (located ver hop None) in
-        acts_by logs g end w (takes_value w p 0) [] _ outs _ (TakesAbsent p may (record { unplaced = refl })) refl refl refl (λ p is. is) (λ y is. is)
+        acts_by logs g end w (takes_value w p 0) [] _ outs _ (TakesAbsent p may (record { unplaced = refl })) refl refl refl (λ p fact. fact) (λ y fact. fact)
         (record {
           client = s.client;
           serving = s.serving;
@@ -220,9 +225,10 @@ module _ (logs : Bool) (g : Setting) (end : ℕ) (w : World) where
         → MayTake w (offer_seen g.client stamp inc req Copy (located ver hop place)) 1
         → Premise logs (IsSupplied w (offer_seen g.client stamp inc req Copy (located ver hop place)) (g.number value))
         → To (record l { held = copied l.held stamp ver value }) outs
-    supplied-goes ver hop place value may is =
+    supplied-goes ver hop place value may fact =
         let p = offer_seen g.client stamp inc req Copy (located ver hop place) in
-        acts_by logs g end w (takes_value w p (g.number value)) [] _ outs _ (TakesSupply p (g.number value) may is) refl refl refl (λ p is. is) (λ y is. is)
+        acts_by logs g end w (takes_value w p (g.number value)) [] _ outs _ (TakesSupply p (g.number value) may fact) refl refl refl (λ p fact. fact)
+        (λ y fact. fact)
         (record {
           client = s.client;
           serving = s.serving;
@@ -243,7 +249,7 @@ module _ (logs : Bool) (g : Setting) (end : ℕ) (w : World) where
         → To (record l { held = fetched_from l.held stamp ver place }) outs
     place-goes ver hop place may =
         let p = offer_seen g.client stamp inc req Copy (located ver hop (Some place)) in
-        acts_by logs g end w (takes_place w p) [] _ outs _ (TakesPlace p may (record { placed = omega arith })) refl refl refl (λ p is. is) (λ y is. is)
+        acts_by logs g end w (takes_place w p) [] _ outs _ (TakesPlace p may (record { placed = omega arith })) refl refl refl (λ p fact. fact) (λ y fact. fact)
         (record {
           client = s.client;
           serving = s.serving;
@@ -266,7 +272,7 @@ module _ (logs : Bool) (g : Setting) (end : ℕ) (w : World) where
     first-goes ver hop place value may =
         let p = offer_seen g.client stamp inc req Own (located ver hop place) in
         acts_by logs g end w (writes_first w p (g.number value)) (WroteBlock g.client (g.number value) ∷ []) _ outs _
-        (WritesFirst p (g.number value) may) refl refl refl (λ p is. is) (λ y is. is)
+        (WritesFirst p (g.number value) may) refl refl refl (λ p fact. fact) (λ y fact. fact)
         (record {
           client = s.client;
           serving = s.serving;
@@ -287,7 +293,7 @@ module _ (logs : Bool) (g : Setting) (end : ℕ) (w : World) where
         → To (record l { held = let_go (owned l.held stamp ver) }) outs
     declines-goes ver hop place may =
         let p = offer_seen g.client stamp inc req Own (located ver hop place) in
-        acts_by logs g end w (declines w p) [] _ outs _ (Declines p may) refl refl refl (λ p is. is) (λ y is. is)
+        acts_by logs g end w (declines w p) [] _ outs _ (Declines p may) refl refl refl (λ p fact. fact) (λ y fact. fact)
         (record {
           client = s.client;
           serving = s.serving;
@@ -308,11 +314,11 @@ module _ (logs : Bool) (g : Setting) (end : ℕ) (w : World) where
   -- a read of the place ends
   pub fetches-goes : (l : Local) (f : Fetch) (value : Option (List ℕ)) (outs : List Out) → Shown l → l.held.fetch ≡ Some f → Run outs
       → Premise logs (PlaceRead w g.client (g.number value)) → To (record l { held = fetch_ended l.held (Some f) value }) outs
-  fetches-goes l f value outs s is run read =
-      let open_ : FetchShown (Some f) here.fetching here.fetch = subst (λ o. FetchShown o here.fetching here.fetch) is s.fetch in
+  fetches-goes l f value outs s fact run read =
+      let open_ : FetchShown (Some f) here.fetching here.fetch = subst (λ o. FetchShown o here.fetching here.fetch) fact s.fetch in
       let ver : here.fetch.version ≡ f.ver = ap (λ (e : abstract_entry.Entry). e.version) open_.1.1 in
       acts_by logs g end w (fetches w g.client (g.number value)) [] _ outs _
-      (Fetches g.client (g.number value) (record { fetching = open_.0 }) read) refl refl refl (λ p is. is) (λ y is. is)
+      (Fetches g.client (g.number value) (record { fetching = open_.0 }) read) refl refl refl (λ p fact. fact) (λ y fact. fact)
       (record {
         client = s.client;
         serving = s.serving;
@@ -334,7 +340,7 @@ module _ (logs : Bool) (g : Setting) (end : ℕ) (w : World) where
       let owns : here.mode ≡ 2 = s.mode ∙ own_rank l.held.mode own in
       let known = s.version in
       acts_by logs g end w (writes w g.client (g.number value)) (WroteBlock g.client (g.number value) ∷ []) _ [] _
-      (Writes g.client (g.number value) (record { owns = owns })) refl refl refl (λ p is. is) (λ y is. is)
+      (Writes g.client (g.number value) (record { owns = owns })) refl refl refl (λ p fact. fact) (λ y fact. fact)
       (record {
         client = s.client;
         serving = s.serving;
@@ -355,7 +361,8 @@ module _ (logs : Bool) (g : Setting) (end : ℕ) (w : World) where
 
   pub evicts-goes : (l : Local) → Shown l → is_dirty l.held ≡ false → To (record l { held = let_go l.held }) []
   evicts-goes l s clean =
-      acts_by logs g end w (evicts w g.client) [] _ [] _ (Evicts g.client (record { victim = cleaned l s clean })) refl refl refl (λ p is. is) (λ y is. is)
+      acts_by logs g end w (evicts w g.client) [] _ [] _ (Evicts g.client (record { victim = cleaned l s clean })) refl refl refl (λ p fact. fact)
+      (λ y fact. fact)
       (record {
         client = s.client;
         serving = s.serving;
@@ -406,7 +413,7 @@ module _ (logs : Bool) (g : Setting) (end : ℕ) (w : World) where
       Gives r end (record { sent = sent.recalled seen.1; serving = s.serving; heard = seen.0; newer = seen.2; clean = cleaned l s clean }) settled in
       by_test (λ (h : Held). To (record l { held = h }) (Gave g.block stamp ∷ [])) (keep && is_held l.held.mode)
       (record l.held { mode = Copy; stamp = stamp; giving = None }) (record l.held { mode = Nothing; value = None; stamp = stamp; giving = None })
-      (λ t. acts_by logs g end w (gives w r end) [] _ _ _ step refl refl refl (λ p is. is) (λ y is. inr is)
+      (λ t. acts_by logs g end w (gives w r end) [] _ _ _ step refl refl refl (λ p fact. fact) (λ y fact. inr fact)
       (record {
         client = s.client;
         serving = s.serving;
@@ -420,8 +427,8 @@ module _ (logs : Bool) (g : Setting) (end : ℕ) (w : World) where
         settled = s.settled;
         value = s.value;
         fetch = unfetching l.held.fetch here.fetching here.fetch unfetched_ s.fetch;
-      }) (λ is. (sent.low, inl refl), tt))
-      (λ t. acts_by logs g end w (gives w r end) [] _ _ _ step refl refl refl (λ p is. is) (λ y is. inr is)
+      }) (λ fact. (sent.low, inl refl), tt))
+      (λ t. acts_by logs g end w (gives w r end) [] _ _ _ step refl refl refl (λ p fact. fact) (λ y fact. inr fact)
       (record {
         client = s.client;
         serving = s.serving;
@@ -435,12 +442,12 @@ module _ (logs : Bool) (g : Setting) (end : ℕ) (w : World) where
         settled = s.settled;
         value = tt;
         fetch = unfetching l.held.fetch here.fetching here.fetch unfetched_ s.fetch;
-      }) (λ is. (sent.low, inl refl), tt))
+      }) (λ fact. (sent.low, inl refl), tt))
 
   pub gives_again-goes : (l : Local) (stamp : Stamp) (keep : Bool) → Shown l → w.epoch ≤ here.promised → SentRecall g.client w stamp keep
       → stamp.epoch ≡ l.promised → stamp_seen l.held.stamp ≡ stamp_seen stamp
       → Premise logs (SettledEnd w g.client end) → To l (Gave g.block stamp ∷ [])
-  gives_again-goes l stamp keep s high sent same is settled =
+  gives_again-goes l stamp keep s high sent same fact settled =
       let p = s.stamps.promised in let low = sent.low in
       let reigns : stamp.epoch ≡ w.epoch = omega arith in
       let r = recall_seen g.client stamp keep in
@@ -450,9 +457,9 @@ module _ (logs : Bool) (g : Setting) (end : ℕ) (w : World) where
         sent = sent.recalled reigns;
         serving = s.serving;
         heard = omega arith;
-        equal = equal (node_seen l.promised l.held.stamp) here w.epoch (stamp_seen stamp) s.stamps high sent.low same is;
+        equal = equal (node_seen l.promised l.held.stamp) here w.epoch (stamp_seen stamp) s.stamps high sent.low same fact;
       }) settled)
-      refl (sym (put_back w.client g.client)) refl (λ p is. is) (λ y is. inr is) s (λ is. (sent.low, inl refl), tt)
+      refl (sym (put_back w.client g.client)) refl (λ p fact. fact) (λ y fact. inr fact) s (λ fact. (sent.low, inl refl), tt)
 
   -- ---- promises
 
@@ -460,7 +467,7 @@ module _ (logs : Bool) (g : Setting) (end : ℕ) (w : World) where
   promises-goes l epoch s rises =
       let p = s.stamps.promised in
       acts_by logs g end w (promises w g.client epoch) [] _ [] _ (Promises g.client epoch (record { serving = s.serving; higher = omega arith })) refl refl refl
-      (λ p is. is) (λ y is. is)
+      (λ p fact. fact) (λ y fact. fact)
       (record {
         client = s.client;
         serving = s.serving;

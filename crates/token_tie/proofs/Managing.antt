@@ -49,31 +49,37 @@ use Rattle.xfs_base.proofs.Booleans.{contrary}
 -- ---- frames
 
 pub by_nothing : (w : World) → ByManager w w
-by_nothing w = record { others = refl; offers = λ p is. is; recalls = λ r is. is }
+by_nothing w = record { others = refl; offers = λ p fact. fact; recalls = λ r fact. fact }
 
 pub by_through : (w v u : World) → ByManager w v → ByManager v u → ByManager w u
-by_through w v u p q = record { others = q.others ∙ p.others; offers = λ x is. q.offers x (p.offers x is); recalls = λ x is. q.recalls x (p.recalls x is) }
+by_through w v u p q =
+    record { others = q.others ∙ p.others; offers = λ x fact. q.offers x (p.offers x fact); recalls = λ x fact. q.recalls x (p.recalls x fact) }
 
 pub offer_on : (client : ℕ) (w v : World) (stamp : Stamp) (inc req : ℕ) (mode : Mode) (entry : abstract_entry.Entry) → v.epoch ≡ w.epoch
     → ((p : packets.Offer) → In p w.offers → In p v.offers) → SentOffer client w stamp inc req mode entry → SentOffer client v stamp inc req mode entry
 offer_on client w v stamp inc req mode entry epoch grows s =
-    record { low = let a = s.low in omega arith; some = s.some; offered = λ is. grows _ (s.offered (is ∙ epoch)) }
+    record { low = let a = s.low in omega arith; some = s.some; offered = λ fact. grows _ (s.offered (fact ∙ epoch)) }
 
 pub recall_on : (client : ℕ) (w v : World) (stamp : Stamp) (keep : Bool) → v.epoch ≡ w.epoch → ((p : packets.Recall) → In p w.recalls → In p v.recalls)
     → SentRecall client w stamp keep → SentRecall client v stamp keep
-recall_on client w v stamp keep epoch grows s = record { low = let a = s.low in omega arith; some = s.some; recalled = λ is. grows _ (s.recalled (is ∙ epoch)) }
+recall_on client w v stamp keep epoch grows s = record {
+  low = let a = s.low in omega arith;
+  some = s.some;
+  recalled = λ fact. grows _ (s.recalled (fact
+      ∙ epoch));
+}
 
 -- what was said stays said
 pub told_on : (b : BlockId) (w v : World) (outs : List Out) → ByManager w v → AllTold b w outs → AllTold b v outs
 told_on b w v [] by h = tt
 told_on b w v (Grant client block stamp inc req mode entry ∷ os) by h =
-    (λ is. offer_on client w v stamp inc req mode _ (ap (λ (u : World). u.epoch) by.others) by.offers (h.0 is), told_on b w v os by h.1)
+    (λ fact. offer_on client w v stamp inc req mode _ (ap (λ (u : World). u.epoch) by.others) by.offers (h.0 fact), told_on b w v os by h.1)
 told_on b w v (Forward passer block stamp client inc req ver ∷ os) by h = (
-  λ is. let t = h.0 is in (t.0, t.1, offer_on client w v stamp inc req Copy _ (ap (λ (u : World). u.epoch) by.others) by.offers t.2),
+  λ fact. let t = h.0 fact in (t.0, t.1, offer_on client w v stamp inc req Copy _ (ap (λ (u : World). u.epoch) by.others) by.offers t.2),
   told_on b w v os by h.1,
 )
 told_on b w v (Recall client block stamp keep ∷ os) by h =
-    (λ is. recall_on client w v stamp keep (ap (λ (u : World). u.epoch) by.others) by.recalls (h.0 is), told_on b w v os by h.1)
+    (λ fact. recall_on client w v stamp keep (ap (λ (u : World). u.epoch) by.others) by.recalls (h.0 fact), told_on b w v os by h.1)
 told_on b w v (Applied log upto ∷ os) by h = (tt, told_on b w v os by h.1)
 told_on b w v (Live entry ∷ os) by h = (tt, told_on b w v os by h.1)
 told_on b w v (Dead ∷ os) by h = (tt, told_on b w v os by h.1)
@@ -177,7 +183,7 @@ module _ (logs : Bool) where
     world = record w { turn = w.turn + n };
     steps = (turning w n).0;
     quiet = (turning w n).1;
-    frame = record { others = refl; offers = λ p is. is; recalls = λ r is. is };
+    frame = record { others = refl; offers = λ p fact. fact; recalls = λ r fact. fact };
     shows = record {
       epoch = epoch ∙ m.epoch;
       turn = let t = m.turn in omega arith;
@@ -202,8 +208,8 @@ module _ (logs : Bool) where
         mode = mode_number ask.mode;
         entry = entry_seen (entry_at s ask.block);
       }) v.offers → AllTold ask.block v (answer s ask from ∷ [])
-  told-answer v s ask [] none something epoch is = (λ same. record { low = omega arith; some = omega arith; offered = λ _. is }, tt)
-  told-answer v s ask (c ∷ cs) none something epoch is = (
+  told-answer v s ask [] none something epoch fact = (λ same. record { low = omega arith; some = omega arith; offered = λ _. fact }, tt)
+  told-answer v s ask (c ∷ cs) none something epoch fact = (
     λ same. (
       entry_at s ask.block,
       refl,
@@ -218,7 +224,7 @@ module _ (logs : Bool) where
               request = ask.req;
               mode = n;
               entry = entry_seen (entry_at s ask.block);
-            }) v.offers) (rank_copy ask.mode something (copy (is_own ask.mode) none)) is;
+            }) v.offers) (rank_copy ask.mode something (copy (is_own ask.mode) none)) fact;
       },
     ),
     tt,
@@ -247,7 +253,7 @@ module _ (logs : Bool) where
         steps = More Ended
             (Offers p (record { sent = asked; settled = idle.nothing ask.client; fits = fits }) (ends logs (record { asker = asker; givers = idle.paid })));
         quiet = refl;
-        frame = record { others = refl; offers = λ x is. inr is; recalls = λ x is. is };
+        frame = record { others = refl; offers = λ x fact. inr fact; recalls = λ x fact. fact };
         shows = record {
           epoch = m.epoch;
           turn = turn;
@@ -300,7 +306,7 @@ module _ (logs : Bool) where
 
   recalling : (b : BlockId) (keeps : Bool) (epoch turn : ℕ) (w : World) (cs : List ℕ) → Once cs → turn ≡ w.turn → epoch ≡ w.epoch
       → Recalled keeps b epoch turn w cs
-  recalling b keeps epoch turn w [] once is reigns = record {
+  recalling b keeps epoch turn w [] once fact reigns = record {
     world = w;
     steps = Ended;
     quiet = refl;
@@ -312,7 +318,7 @@ module _ (logs : Bool) where
     each = tt;
     told = tt;
   }
-  recalling b keeps epoch turn w (c ∷ cs) once is reigns =
+  recalling b keeps epoch turn w (c ∷ cs) once fact reigns =
       let v = steps.recalls w c (kept keeps) in
       let next : turn + 1 ≡ v.turn = omega arith in
       let r = recalling b keeps epoch (turn + 1) v cs once.1 next reigns in
@@ -323,7 +329,7 @@ module _ (logs : Bool) where
         world = r.world;
         steps = steps_through w v r.world (More Ended (Recalls c (kept keeps) (record { less = least keeps }))) r.steps;
         quiet = both_quiet logs w v r.world (More Ended (Recalls c (kept keeps) (record { less = least keeps }))) r.steps refl r.quiet;
-        frame = by_through w v r.world (record { others = refl; offers = λ x is. is; recalls = λ x is. inr is }) r.frame;
+        frame = by_through w v r.world (record { others = refl; offers = λ x fact. fact; recalls = λ x fact. inr fact }) r.frame;
         same = r.same;
         turned = let t = r.turned in omega arith;
         others = λ d no.

@@ -64,7 +64,7 @@ module _ (logs : Bool) (g : Setting) (end : ℕ) where
   asks-took v u (b ∷ bs) shows settled_ free =
       let d = ask_copy u b in
       let t = one-asks v u b shows settled_ free.0 in
-      let rest_ = Each-weaker (Unheld g u) (Unheld g d.state) (λ k f is. ap is_held (ask-mode g u b) ∙ f is) bs free.1 in
+      let rest_ = Each-weaker (Unheld g u) (Unheld g d.state) (λ k f fact. ap is_held (ask-mode g u b) ∙ f fact) bs free.1 in
       goes_through logs g end v (local_of d.state g.block) _ d.outs _ t
       (asks-took t.world d.state bs (shown_on logs g end v [] (local_of d.state g.block) d.outs t) (end_on logs v t.world g.client end t.frame settled_) rest_)
 
@@ -106,11 +106,11 @@ module _ (logs : Bool) (g : Setting) (end : ℕ) where
     promised-known : (slot epoch : ℕ) → nat_le (epoch_of s.epochs slot) epoch ≡ true → At (still (raised s slot epoch))
     promised-known slot epoch rises =
         elim (is_in_slot slot g.block) as (λ t. is_in_slot slot g.block ≡ t → At (still (raised s slot epoch))) [
-          | true ↦ λ is. inside (nat_lt slot (length s.epochs)) refl is
-          | false ↦ λ is.
+          | true ↦ λ fact. inside (nat_lt slot (length s.epochs)) refl fact
+          | false ↦ λ fact.
               let now : epoch_of (slice_set s.epochs slot epoch) (slot_of g.block.ino.0) ≡ l.promised =
-              get_or-set_other s.epochs slot (slot_of g.block.ino.0) epoch 0 (apart (slot_of g.block.ino.0) slot is) in
-              let kept_ : held_of (all_dropped_in slot s.blocks) g.block ≡ h = dropped-known s slot g.block ∙ ap (λ t. cond t (promise_dropped h) h) is in
+              get_or-set_other s.epochs slot (slot_of g.block.ino.0) epoch 0 (apart (slot_of g.block.ino.0) slot fact) in
+              let kept_ : held_of (all_dropped_in slot s.blocks) g.block ≡ h = dropped-known s slot g.block ∙ ap (λ t. cond t (promise_dropped h) h) fact in
               subst (λ (m : Local). Goes logs g end w m []) (λ i. record l { promised = sym now i; held = sym kept_ i }) stays
         ] refl
       where
@@ -118,7 +118,7 @@ module _ (logs : Bool) (g : Setting) (end : ℕ) where
         lower a b e same le = grind (arith, nat_tests)
 
         apart : (n m : ℕ) → (n == m) ≡ false → n ≡ m → ⊥
-        apart n m f is = grind (arith, nat_tests)
+        apart n m f fact = grind (arith, nat_tests)
 
         less : (n m : ℕ) → nat_lt n m ≡ true → n < m
         less n m f = grind (arith, nat_tests)
@@ -127,20 +127,20 @@ module _ (logs : Bool) (g : Setting) (end : ℕ) where
         past n m f = grind (arith, nat_tests)
 
         inside : (t : Bool) → nat_lt slot (length s.epochs) ≡ t → is_in_slot slot g.block ≡ true → At (still (raised s slot epoch))
-        inside true known is =
-            let same : slot_of g.block.ino.0 ≡ slot = equal_numbers (slot_of g.block.ino.0) slot is in
+        inside true known fact =
+            let same : slot_of g.block.ino.0 ≡ slot = equal_numbers (slot_of g.block.ino.0) slot fact in
             let now : epoch_of (slice_set s.epochs slot epoch) (slot_of g.block.ino.0) ≡ epoch =
             ap (λ n. epoch_of (slice_set s.epochs slot epoch) n) same ∙ get_or-set_same s.epochs slot epoch 0 (less slot (length s.epochs) known) in
             let dropped : held_of (all_dropped_in slot s.blocks) g.block ≡ promise_dropped h =
-            dropped-known s slot g.block ∙ ap (λ t. cond t (promise_dropped h) h) is in
+            dropped-known s slot g.block ∙ ap (λ t. cond t (promise_dropped h) h) fact in
             let before : l.promised ≡ epoch_of s.epochs slot = ap (epoch_of s.epochs) same in
             subst (λ (m : Local). Goes logs g end w m []) (λ i. record l { promised = sym now i; held = sym dropped i })
             (promises-goes logs g end w l epoch r.shows (lower l.promised (epoch_of s.epochs slot) epoch before rises))
-        inside false unknown_ is =
+        inside false unknown_ fact =
             let now : epoch_of (slice_set s.epochs slot epoch) (slot_of g.block.ino.0) ≡ l.promised =
             ap (λ xs. epoch_of xs (slot_of g.block.ino.0)) (set_past s.epochs slot epoch (past slot (length s.epochs) unknown_)) in
             let dropped : held_of (all_dropped_in slot s.blocks) g.block ≡ promise_dropped h =
-            dropped-known s slot g.block ∙ ap (λ t. cond t (promise_dropped h) h) is in
+            dropped-known s slot g.block ∙ ap (λ t. cond t (promise_dropped h) h) fact in
             subst (λ (m : Local). Goes logs g end w m []) (λ i. record l { promised = sym now i; held = sym dropped i })
             (drops_promised-goes logs g end w l r.shows)
 
@@ -155,7 +155,7 @@ module _ (logs : Bool) (g : Setting) (end : ℕ) where
         ∙ by_test (λ (k : Held). k.mode ≡ h.mode) (is_in_slot slot g.block) (promise_dropped h) h (λ t. refl) (λ t. refl) in
         let free : Each (Unheld g u) blocks =
         Each-weaker (IsFetched s.blocks slot) (Unheld g u)
-        (λ k f is. ap is_held mode ∙ (r.sound.each g.block).fetch_unheld (subst (λ b. is_some (held_of s.blocks b).fetch ≡ true) is f.1)) blocks facts in
+        (λ k f fact. ap is_held mode ∙ (r.sound.each g.block).fetch_unheld (subst (λ b. is_some (held_of s.blocks b).fetch ≡ true) fact f.1)) blocks facts in
         by_test At (may_promise s slot epoch) (steps ask_copy u blocks) (still s)
         (λ may.
         let rises = and_second (nat_lt slot 8) (nat_le (epoch_of s.epochs slot) epoch)

@@ -31,7 +31,7 @@ sent_on g w v stamp keep by sent =
     record {
       low = omega arith;
       some = sent.some;
-      recalled = λ is. subst (In (recall_seen g.client stamp keep)) (sym (ap (λ (u : World). u.recalls) by.others)) (sent.recalled (is ∙ epoch));
+      recalled = λ fact. subst (In (recall_seen g.client stamp keep)) (sym (ap (λ (u : World). u.recalls) by.others)) (sent.recalled (fact ∙ epoch));
     }
 
 none_or : {A : Type 0} (o : Option A) (b : Bool) → is_some o ≡ true → (is_none o || b) ≡ true → b ≡ true

@@ -44,7 +44,7 @@ pub at_block : (g : Setting) (P : BlockId → Type 0) → P g.block → ((block 
 at_block g P here there block =
     elim (eq_by_cmp block_cmp g.block block) as (λ t. eq_by_cmp block_cmp g.block block ≡ t → P block) [
       | true ↦ λ same. subst P (one_block g.block block same) here
-      | false ↦ λ differs. there block (λ is. contrary (sym differs ∙ subst (λ k. eq_by_cmp block_cmp g.block k ≡ true) (sym is) (itself g.block)))
+      | false ↦ λ differs. there block (λ fact. contrary (sym differs ∙ subst (λ k. eq_by_cmp block_cmp g.block k ≡ true) (sym fact) (itself g.block)))
     ] refl
   where
     itself : (b : BlockId) → eq_by_cmp block_cmp b b ≡ true
@@ -106,9 +106,9 @@ module _ (logs : Bool) (g : Setting) (end : ℕ) where
   -- and so is one that is sent again
   repeated-there : (v : World) (u : TokensState) (o : Option Wanted) → Shows g v.epoch (local_of u g.block) (v.client g.client)
       → Premise logs (SettledEnd v g.client end) → (held_of u.blocks g.block).want ≡ o → Took logs g end v (repeated u g.block o)
-  repeated-there v u None shows settled_ is = goes_nowhere logs g end v (local_of u g.block) shows
-  repeated-there v u (Some x) shows settled_ is =
-      lifted v u (asked_again (held_of u.blocks g.block) x) u.req _ (asks_again-goes logs g end v (local_of u g.block) x shows is settled_)
+  repeated-there v u None shows settled_ fact = goes_nowhere logs g end v (local_of u g.block) shows
+  repeated-there v u (Some x) shows settled_ fact =
+      lifted v u (asked_again (held_of u.blocks g.block) x) u.req _ (asks_again-goes logs g end v (local_of u g.block) x shows fact settled_)
 
   pub ask_again-there : (v : World) (u : TokensState) → Shows g v.epoch (local_of u g.block) (v.client g.client) → Premise logs (SettledEnd v g.client end)
       → Took logs g end v (ask_again u g.block)

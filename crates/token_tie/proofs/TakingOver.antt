@@ -39,7 +39,7 @@ copy_held Copy h = omega arith
 copy_held Own h = contrary h
 
 pub supplies_newest : SuppliesNewest
-supplies_newest g w s stamp ver value shows newest t is =
+supplies_newest g w s stamp ver value shows newest t fact =
     let h = held_of s.blocks g.block in
     let two = and_first (is_promised s g.block stamp && same_mode h.mode Copy) (h.ver == ver) t in
     let same : h.ver ≡ ver = equal_numbers h.ver ver (and_second (is_promised s g.block stamp && same_mode h.mode Copy) (h.ver == ver) t) in
@@ -47,7 +47,7 @@ supplies_newest g w s stamp ver value shows newest t is =
     let mode = shows.mode in
     let n = newest (omega arith) in
     let at : w.newest ≡ ver = sym n.version ∙ shows.version ∙ same in
-    let kept_ : ValueShown g.number (Some value) (w.client g.client).value = subst (λ o. ValueShown g.number o (w.client g.client).value) is shows.value in
+    let kept_ : ValueShown g.number (Some value) (w.client g.client).value = subst (λ o. ValueShown g.number o (w.client g.client).value) fact shows.value in
     (sym kept_ ∙ n.value ∙ ap w.value_at at, sym at)
 
 -- ---- returns and activations
@@ -58,7 +58,7 @@ restart_shows g epoch promised epochs x client some same = record {
   serving = refl;
   boot = refl;
   incarnation = refl;
-  stamps = record { promised = same; past = omega arith; now = λ is. absurd (omega arith); old = λ is. refl };
+  stamps = record { promised = same; past = omega arith; now = λ fact. absurd (omega arith); old = λ fact. refl };
   mode = refl;
   counted = omega arith;
   want = refl;
@@ -255,10 +255,10 @@ module _ (b : BlockId) (c : ℕ) (n : ℕ) where
   believed_rank Copy h = omega arith
   believed_rank Own h = omega arith
 
-  one-most : (bs : List (Holder × Bool)) (x : BlockId × ℕ × Mode) → (x.0 ≡ b → x.1 ≡ c → mode_number x.2 ≤ n) → share_of bs b c ≤ n
+  one-limit : (bs : List (Holder × Bool)) (x : BlockId × ℕ × Mode) → (x.0 ≡ b → x.1 ≡ c → mode_number x.2 ≤ n) → share_of bs b c ≤ n
       → share_of (believed bs x) b c ≤ n
   unfolding believed
-  one-most bs x limit less =
+  one-limit bs x limit less =
       let q = holder b c in
       let k = holder x.0 x.1 in
       by_test (λ (rows : List (Holder × Bool)). manager.share (belief rows q) ≤ n) (is_nothing x.2) bs (insert_entry holder_cmp bs k (is_own x.2))
@@ -273,9 +273,9 @@ module _ (b : BlockId) (c : ℕ) (n : ℕ) where
           let i = believed_rank x.2 some in omega arith
       at false apart some = less
 
-  most-believed : (bs : List (Holder × Bool)) (xs : List (BlockId × ℕ × Mode)) → Most xs → share_of bs b c ≤ n → share_of (all_believed bs xs) b c ≤ n
-  most-believed bs [] limit less = less
-  most-believed bs (x ∷ xs) limit less = most-believed (believed bs x) xs limit.1 (one-most bs x limit.0 less)
+  limit-believed : (bs : List (Holder × Bool)) (xs : List (BlockId × ℕ × Mode)) → Most xs → share_of bs b c ≤ n → share_of (all_believed bs xs) b c ≤ n
+  limit-believed bs [] limit less = less
+  limit-believed bs (x ∷ xs) limit less = limit-believed (believed bs x) xs limit.1 (one-limit bs x limit.0 less)
 
   most_both : (xs ys : List (BlockId × ℕ × Mode)) → Most xs → Most ys → Most (xs ++ ys)
   most_both [] ys h k = k
@@ -320,7 +320,7 @@ module _ (slot : ℕ) (b : BlockId) (c : ℕ) where
       → share_of (all_believed [] (all_reported (λ d. held_in slot (blocks d)) cs)) b c ≤ mode_number (held_of (blocks c) b).mode
   reports_most blocks cs sorted =
       let n = mode_number (held_of (blocks c) b).mode in
-      most-believed b c n [] (all_reported (λ d. held_in slot (blocks d)) cs)
+      limit-believed b c n [] (all_reported (λ d. held_in slot (blocks d)) cs)
       (most_all b c n (λ d. held_in slot (blocks d)) cs
       (λ d. ⊎_elim (λ same. subst (λ k. Most b c n (reported k (held_in slot (blocks k)))) (sym same)
       (most_mine c (blocks c) (blocks c) (agrees-itself (blocks c) (sorted c)))) (λ other. most_other b c n d (held_in slot (blocks d)) other)
@@ -331,7 +331,7 @@ module _ (slot : ℕ) (b : BlockId) (c : ℕ) where
   pub reports_none : (blocks : ℕ → List (BlockId × Held)) (cs : List ℕ) → is_in_slot slot b ≡ false
       → share_of (all_believed [] (all_reported (λ d. held_in slot (blocks d)) cs)) b c ≤ 0
   reports_none blocks cs outside =
-      most-believed b c 0 [] (all_reported (λ d. held_in slot (blocks d)) cs)
+      limit-believed b c 0 [] (all_reported (λ d. held_in slot (blocks d)) cs)
       (most_all b c 0 (λ d. held_in slot (blocks d)) cs (λ d. most_none d (blocks d) outside)) (omega arith)
 
 none_rank : (m : Mode) (n : ℕ) → is_held m ≡ false → mode_number m ≤ n

@@ -35,7 +35,7 @@ pub by_block : (b : BlockId) (P : BlockId → Type 0) → P b → ((block : Bloc
 by_block b P here there block =
     elim (eq_by_cmp block_cmp b block) as (λ t. eq_by_cmp block_cmp b block ≡ t → P block) [
       | true ↦ λ same. subst P (tells_apart block_cmp_exact b block same) here
-      | false ↦ λ differs. there block (λ is. false≢true (sym differs ∙ subst (λ k. eq_by_cmp block_cmp b k ≡ true) (sym is) (block_laws.refl b)))
+      | false ↦ λ differs. there block (λ fact. false≢true (sym differs ∙ subst (λ k. eq_by_cmp block_cmp b k ≡ true) (sym fact) (block_laws.refl b)))
     ] refl
 
 -- what is reached is sound

@@ -78,8 +78,8 @@ module _ (servers : ℕ) where
 
 -- such a setup is one of which a run can be started
 pub script_setup : (s : Script) → IsScript s → IsSetup s.setup
-script_setup s is =
-    let h = setup_within s is in
+script_setup s fact =
+    let h = setup_within s fact in
     record {
       clients = h.clients;
       managers = h.managers;

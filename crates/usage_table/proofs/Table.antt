@@ -121,7 +121,7 @@ count_of-after_shift counts from to seg table held =
     → count_of (cond same counts (with_one_less (with_one_more counts to) from)) seg + blocks_at from seg ≡ count_of counts seg + blocks_at to seg) [
       | true ↦ λ same. ap (λ end. count_of counts seg + blocks_at end seg) (one_segment from to same)
       | false ↦ λ _. count_of-with_one_less (with_one_more counts to) from seg (table_with_one_more counts to table)
-          (λ s is. let one = count_of-with_one_more counts to s in let had = held s is in omega arith) ∙ count_of-with_one_more counts to seg
+          (λ s fact. let one = count_of-with_one_more counts to s in let had = held s fact in omega arith) ∙ count_of-with_one_more counts to seg
     ] refl
 
 -- ---- the two ways of the code
@@ -147,13 +147,13 @@ table_lists counts table seg count = (in_table, from_table (lookup at counts) re
 
     in_table : Contains counts (seg, count) → (0 < count) × (count ≡ count_of counts seg)
     in_table listed =
-        let is : lookup at counts ≡ Some count =
+        let fact : lookup at counts ≡ Some count =
         lookup-from_Contains same_laws seg count counts (IsDistinct-from_sorted seg_cmp (keys_of counts) table.sorted) listed in
         let above : IfSome (lookup at counts) (λ n. 0 < n) = IfSome-lookup_from_All (λ (n : ℕ). 0 < n) at counts table.above_0 in
-        (subst (λ o. IfSome o (λ n. 0 < n)) is above, sym (ap (λ o. unwrap_or o 0) is))
+        (subst (λ o. IfSome o (λ n. 0 < n)) fact above, sym (ap (λ o. unwrap_or o 0) fact))
 
     from_table : (o : Option ℕ) → lookup at counts ≡ o → (0 < count) × (count ≡ count_of counts seg) → Contains counts (seg, count)
-    from_table None is (above, same) = absurd (let none : count_of counts seg ≡ 0 = ap (λ o. unwrap_or o 0) is in omega arith)
-    from_table (Some n) is (above, same) =
-        let one : n ≡ count = sym (same ∙ ap (λ o. unwrap_or o 0) is) in
-        Contains-from_lookup (tells_apart seg_cmp_exact) seg count counts (is ∙ ap Some one)
+    from_table None fact (above, same) = absurd (let none : count_of counts seg ≡ 0 = ap (λ o. unwrap_or o 0) fact in omega arith)
+    from_table (Some n) fact (above, same) =
+        let one : n ≡ count = sym (same ∙ ap (λ o. unwrap_or o 0) fact) in
+        Contains-from_lookup (tells_apart seg_cmp_exact) seg count counts (fact ∙ ap Some one)

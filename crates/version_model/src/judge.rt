@@ -16,7 +16,7 @@ fn spares(block: BlockId, falls: &[Fall]) -> bool
     ensures { IsTrue result ↔ AllByRecursion (λ fall. same_block block fall.block ≡ false) falls.now }
 {
     for fall in falls {
-        if block.is(fall.block) {
+        if block.is_same(fall.block) {
             return false;
         }
     }

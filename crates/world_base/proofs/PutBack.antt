@@ -63,4 +63,4 @@ pub turn_done : {N : Type 0} (step : N → Do → NodeStep N) (nodes back : List
     → slice_get nodes place ≡ Some node → stepped ≡ step node what → back ≡ slice_set nodes place stepped.node
     → ◌≡◌ {A = Turn N} (record { nodes = back; packets = stepped.packets; acts = stepped.acts }) (turn_of step nodes place what)
 unfolding turn_of
-turn_done step nodes back place what node stepped got is put = rw (got, ← is, put) refl
+turn_done step nodes back place what node stepped got fact put = rw (got, ← fact, put) refl

@@ -54,7 +54,7 @@ impl BlockId {
     }
 
     /// Whether both name one block.
-    pub fn is(self, other: BlockId) -> bool
+    pub fn is_same(self, other: BlockId) -> bool
         ensures exact { IsTrue result ↔ (self ≡ other) }
         ensures test { result ≡ same_block self other }
     {

@@ -45,7 +45,7 @@ impl NodeId {
     }
 
     /// Whether both name one node.
-    pub fn is(self, other: NodeId) -> bool
+    pub fn is_same(self, other: NodeId) -> bool
         ensures { IsTrue result ↔ (self ≡ other) }
     {
         self == other

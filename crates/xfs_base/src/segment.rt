@@ -48,7 +48,7 @@ impl SegName {
     }
 
     /// Whether both are one name.
-    pub fn is(self, other: SegName) -> bool
+    pub fn is_same(self, other: SegName) -> bool
         ensures { IsTrue result ↔ (self ≡ other) }
     {
         self == other

@@ -53,19 +53,19 @@ more_begins node es fs = ap (its node) (more_begun es fs) ∙ more_its node (beg
 
 -- an event that begins an item of the node is one more
 one_begins : (event : Event) → what_of event ≡ whats.Begin → begins_of (node_of event) (event ∷ []) ≡ 1
-one_begins (Begin node) is =
+one_begins (Begin node) fact =
     ap (λ t. length (cond t (node ∷ []) [])) (itself node)
-one_begins (Deliver packet) is = absurd cc
-one_begins (Tick node) is = absurd cc
+one_begins (Deliver packet) fact = absurd cc
+one_begins (Tick node) fact = absurd cc
 
 take_next : (events : List Event) (count : ℕ) (event : Event) → slice_get events count ≡ Some event → take (suc count) events ≡ take count events ++ event ∷ []
-take_next [] zero event is = absurd cc
-take_next [] (suc count) event is = absurd cc
-take_next (x ∷ xs) zero event is = ap (λ y. y ∷ []) (same_event x event is)
+take_next [] zero event fact = absurd cc
+take_next [] (suc count) event fact = absurd cc
+take_next (x ∷ xs) zero event fact = ap (λ y. y ∷ []) (same_event x event fact)
   where
     same_event : (a b : Event) → Some a ≡ Some b → a ≡ b
     same_event a b e = cc
-take_next (x ∷ xs) (suc count) event is = ap (λ ys. x ∷ ys) (take_next xs count event is)
+take_next (x ∷ xs) (suc count) event fact = ap (λ ys. x ∷ ys) (take_next xs count event fact)
 
 -- ---- items
 
@@ -76,14 +76,14 @@ pub record Within (limit : ℕ) (items : Items) : Type 0 where
 
 next_is : (items : Items) (number : ℕ) → next_item items ≡ Some number → number ≡ items.begun + 1
 next_is items number =
-    by_test (λ (o : Option ℕ). o ≡ Some number → number ≡ items.begun + 1) (is_left items) (Some (items.begun + 1)) None (λ _ is. same is)
-    (λ _ is. absurd (none is))
+    by_test (λ (o : Option ℕ). o ≡ Some number → number ≡ items.begun + 1) (is_left items) (Some (items.begun + 1)) None (λ _ fact. same fact)
+    (λ _ fact. absurd (none fact))
   where
     same : Some (items.begun + 1) ≡ Some number → number ≡ items.begun + 1
-    same is = cc
+    same fact = cc
 
     none : None ≡ Some number → ⊥
-    none is = cc
+    none fact = cc
 
 module _ (past : List Event) (event : Event) where
   abbrev pub now : List Event
@@ -93,34 +93,34 @@ module _ (past : List Event) (event : Event) where
   more_now node = (let more = more_begins node past (event ∷ []) in omega arith)
 
   begins_now : what_of event ≡ whats.Begin → begins_of (node_of event) past + 1 ≤ begins_of (node_of event) now
-  begins_now is = (let more = more_begins (node_of event) past (event ∷ []) in let one = one_begins event is in omega arith)
+  begins_now fact = (let more = more_begins (node_of event) past (event ∷ []) in let one = one_begins event fact in omega arith)
 
   pub later_within : (node : NodeId) (items : Items) → Within (begins_of node past) items → Within (begins_of node now) items
   later_within node items w =
       let more = more_now node in
-      record { begun = (let low = w.begun in omega arith); waits = λ number is. (let low = w.waits number is in omega arith) }
+      record { begun = (let low = w.begun in omega arith); waits = λ number fact. (let low = w.waits number fact in omega arith) }
 
   -- one that began by the event or before is among them
   pub begun_within : (items : Items) → Within (begins_of (node_of event) past) items → (number : ℕ) → IsBegunBy items (what_of event) number
       → number ≤ begins_of (node_of event) now
-  begun_within items w number (inl is) = (let more = more_now (node_of event) in let low = w.waits number is in omega arith)
+  begun_within items w number (inl fact) = (let more = more_now (node_of event) in let low = w.waits number fact in omega arith)
   begun_within items w number (inr p) =
-      let more = begins_now p.0 in let low = w.begun in let is = next_is items number p.1 in omega arith
+      let more = begins_now p.0 in let low = w.begun in let fact = next_is items number p.1 in omega arith
 
   pub goes_within : (items later : Items) → Within (begins_of (node_of event) past) items → Goes items later (what_of event)
       → Within (begins_of (node_of event) now) later
-  goes_within items later w g = record { begun = by g.begun; waits = λ number is. begun_within items w number (g.waits number is) }
+  goes_within items later w g = record { begun = by g.begun; waits = λ number fact. begun_within items w number (g.waits number fact) }
     where
       by : (later.begun ≡ items.begun) ⊎ ((what_of event ≡ whats.Begin) × (later.begun ≡ items.begun + 1)) → later.begun ≤ begins_of (node_of event) now
       by (inl e) = (let more = more_now (node_of event) in let low = w.begun in omega arith)
-      by (inr p) = (let more = begins_now p.0 in let low = w.begun in let is = p.1 in omega arith)
+      by (inr p) = (let more = begins_now p.0 in let low = w.begun in let fact = p.1 in omega arith)
 
 pub nothing_within : (items : Items) → items.begun ≡ 0 → items.unanswered ≡ None → (limit : ℕ) → Within limit items
-nothing_within items none idle limit = record { begun = omega arith; waits = λ number is. absurd (no_item number (sym idle ∙ is)) }
+nothing_within items none idle limit = record { begun = omega arith; waits = λ number fact. absurd (no_item number (sym idle ∙ fact)) }
   where
     no_item : (number : ℕ) → None ≡ Some number → ⊥
-    no_item number is = cc
+    no_item number fact = cc
 
 pub taken_next : (events : List Event) (count : ℕ) (event : Event) → slice_get events count ≡ Some event
     → now (take count events) event ≡ take (suc count) events
-taken_next events count event is = sym (take_next events count event is)
+taken_next events count event fact = sym (take_next events count event fact)

@@ -7,12 +7,12 @@ use Rattle.client_parts.specs.declared.call.Call.{Call}
 use Rattle.client_parts.specs.declared.call.Going.{Going}
 use Rattle.client_parts.specs.declared.call.Going.TheVariants.{On, Ends}
 use Rattle.client_parts.specs.Fitting.{put_fits}
-use Rattle.client_serving.specs.Blocks.{Made, changed, changes, changes_if_fits, got, gets, held_back, is_settled, lets_go, makes, needs, puts, puts_again, puts_at, synced_acts, syncs, wrote}
+use Rattle.client_calls.specs.Blocks.{Made, changed, changes, changes_if_fits, got, gets, held_back, is_settled, lets_go, makes, needs, puts, puts_again, puts_at, synced_acts, syncs, wrote}
 use Rattle.client_serving.specs.declared.serving.Serving.{Serving}
 use Rattle.client_serving.specs.Flights.{held_at, writes}
 use Rattle.client_serving.specs.Follow.{notes_gone, seals}
-use Rattle.client_serving.specs.Opens.{begins_call, call_at, opens}
-use Rattle.client_serving.specs.Running.{Ran, answers_call, goes_on, most_steps, ran, runs, runs_call, runs_once, runs_upto}
+use Rattle.client_calls.specs.Opens.{begins_call, call_at, opens}
+use Rattle.client_calls.specs.Running.{Ran, answers_call, goes_on, most_steps, ran, runs, runs_call, runs_once, runs_upto}
 use Rattle.client_serving.specs.Sends.{Done, gives}
 use Rattle.file_plan.specs.declared.block_call.BlockAnswer.{BlockAnswer}
 use Rattle.file_plan.specs.declared.block_call.BlockCall.{BlockCall}
@@ -162,11 +162,11 @@ pub record Opens (s : Serving) (number : ℕ) (d : Done) : Type 0 where
   pub waits : (n : ℕ) → IsOpen d.state n → IsOpen s n ⊎ (number ≡ n)
 
 one_number : (a b : ℕ) → Some a ≡ Some b → a ≡ b
-one_number a b is = cc
+one_number a b fact = cc
 
 plain_opens : (s : Serving) (number : ℕ) (outs : List Effect) → CallsWell s.call → AllPlain outs → Opens s number (gives s outs)
 plain_opens s number outs well plain =
-    record { well = well; told = told_plain (λ n. number ≡ n) [] outs plain; number_is = refl; begun = refl; waits = λ n is. inl is }
+    record { well = well; told = told_plain (λ n. number ≡ n) [] outs plain; number_is = refl; begun = refl; waits = λ n fact. inl fact }
 
 begins_goes : (s : Serving) (number : ℕ) (going : Option Going) → CallsWell s.call → BeginsWell going → Opens s number (begins_call s number going)
 begins_goes s number None well good = plain_opens s number (Answers number answer.Done ∷ []) well (tt, tt)
@@ -177,10 +177,10 @@ begins_goes s number (Some going) well good =
     let b : Goes t (saying d.outs (runs d.state)) = then_goes t d (runs d.state) a (runs_go d.state (a.kept.calls well)) in
     record {
       well = b.kept.calls well;
-      told = told_by (IsOpen t) (λ n. number ≡ n) (λ n is. one_number number n is) [] (saying d.outs (runs d.state)).outs b.told;
+      told = told_by (IsOpen t) (λ n. number ≡ n) (λ n fact. one_number number n fact) [] (saying d.outs (runs d.state)).outs b.told;
       number_is = b.kept.number;
       begun = b.kept.items.begun;
-      waits = λ n is. inr (one_number number n (b.kept.items.waits n is));
+      waits = λ n fact. inr (one_number number n (b.kept.items.waits n fact));
     }
 
 at_well : (s : Serving) (number : ℕ) (w : Option Work) → BeginsWell (call_at s number w)

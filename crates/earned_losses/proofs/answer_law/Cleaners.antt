@@ -111,7 +111,7 @@ module _ (l : Lasting) (o : openings.Opening) (what : Do) where
       }
       by (progress.Lost name) h = record {
         items = answered_goes;
-        told = told_behind I name l.items.unanswered (λ number is. inl is) [] w.effects plain h;
+        told = told_behind I name l.items.unanswered (λ number fact. inl fact) [] w.effects plain h;
         loses = unless_then o.stage w.effects _ settles (answers_no_loss l.items.unanswered (answer.Lost name));
       }
 
@@ -146,29 +146,29 @@ module _ (p : Phase) (number : ℕ) (its : next_item (items_in p) ≡ Some numbe
   fallen = counting.then_goes i (begun i) (record (begun i) { unanswered = None }) it_began (counting.same_answered (begun i))
 
   one_number : (n : ℕ) → Some number ≡ Some n → number ≡ n
-  one_number n is = cc
+  one_number n fact = cc
 
   began : (l : Lasting) → l.items ≡ begun i → counting.Goes i l.items Begin
-  began l is = subst (λ (x : Items). counting.Goes i x Begin) (sym is) it_began
+  began l fact = subst (λ (x : Items). counting.Goes i x Begin) (sym fact) it_began
 
   crash_so : (l : Lasting) → l.items ≡ begun i → Turned p Begin (crashes l number)
   unfolding crashes
-  crash_so l is =
-      begun_plainly (crashes l number) (subst (λ (x : Items). counting.Goes i (record x { unanswered = None }) Begin) (sym is) fallen)
+  crash_so l fact =
+      begun_plainly (crashes l number) (subst (λ (x : Items). counting.Goes i (record x { unanswered = None }) Begin) (sym fact) fallen)
       (crash_quiet l number)
 
   restart_so : (servers : ℕ) (l : Lasting) → l.items ≡ begun i → Turned p Begin (restarts servers l number)
   unfolding restarts
-  restart_so servers l is =
+  restart_so servers l fact =
       begun_plainly (restarts servers l number)
-      (subst (λ (x : Items). counting.Goes i (waiting x number) Begin) (sym is)
+      (subst (λ (x : Items). counting.Goes i (waiting x number) Begin) (sym fact)
       (counting.waiting_goes i (begun i) (waiting (begun i) number) number its it_began refl one_number))
       (restart_quiet servers l number)
 
   clean_so : (e : Emptying) (count : ℕ) → e.lasting.items ≡ begun i → Turned p Begin (serves_on (on_clean e number count))
-  clean_so e count is =
+  clean_so e count fact =
       let c = emptied.clean_goes e number count in
-      let g : counting.Goes i e.lasting.items Begin = subst (λ (x : Items). counting.Goes i x Begin) (sym is) it_began in
+      let g : counting.Goes i e.lasting.items Begin = subst (λ (x : Items). counting.Goes i x Begin) (sym fact) it_began in
       begun_plainly (serves_on (on_clean e number count)) (record { begun = begun_so c.begun g.begun; waits = λ n now. waits_so n g (c.waits n now) }) c.quiet
     where
       begun_so : (on_clean e number count).state.lasting.items.begun ≡ e.lasting.items.begun
@@ -183,38 +183,38 @@ module _ (p : Phase) (number : ℕ) (its : next_item (items_in p) ≡ Some numbe
       waits_so n g (inr same) = inr (refl, its ∙ ap Some same)
 
   down_so : (servers : ℕ) (l : Lasting) → l.items ≡ begun i → (wish : Wish) → Turned p Begin (down_wishes servers l number wish)
-  down_so servers l is Restart = restart_so servers l is
-  down_so servers l is Crash = begun_plainly (down_wishes servers l number Crash) (began l is) (tt, tt)
-  down_so servers l is (Clean count) = begun_plainly (down_wishes servers l number (Clean count)) (began l is) (tt, tt)
+  down_so servers l fact Restart = restart_so servers l fact
+  down_so servers l fact Crash = begun_plainly (down_wishes servers l number Crash) (began l fact) (tt, tt)
+  down_so servers l fact (Clean count) = begun_plainly (down_wishes servers l number (Clean count)) (began l fact) (tt, tt)
 
   opening_so : (l : Lasting) (o : openings.Opening) → l.items ≡ begun i → (wish : Wish) → Turned p Begin (opening_wishes l o number wish)
-  opening_so l o is Crash = crash_so l is
-  opening_so l o is Restart = begun_plainly (opening_wishes l o number Restart) (began l is) (tt, tt)
-  opening_so l o is (Clean count) = begun_plainly (opening_wishes l o number (Clean count)) (began l is) (tt, tt)
+  opening_so l o fact Crash = crash_so l fact
+  opening_so l o fact Restart = begun_plainly (opening_wishes l o number Restart) (began l fact) (tt, tt)
+  opening_so l o fact (Clean count) = begun_plainly (opening_wishes l o number (Clean count)) (began l fact) (tt, tt)
 
   serving_so : (e : Emptying) → e.lasting.items ≡ begun i → (wish : Wish) → Turned p Begin (serving_wishes e number wish)
-  serving_so e is Crash = crash_so e.lasting is
-  serving_so e is Restart = begun_plainly (serving_wishes e number Restart) (began e.lasting is) (tt, tt)
-  serving_so e is (Clean count) = clean_so e count is
+  serving_so e fact Crash = crash_so e.lasting fact
+  serving_so e fact Restart = begun_plainly (serving_wishes e number Restart) (began e.lasting fact) (tt, tt)
+  serving_so e fact (Clean count) = clean_so e count fact
 
 begin_turned : (servers : ℕ) (p : Phase) → Turned p Begin (on_begin servers p)
 unfolding on_begin
 begin_turned servers (Down l) = by (next_item l.items) refl
   where
     by : (item : Option ℕ) → next_item l.items ≡ item → Turned (Down l) Begin (down_at servers (begun_life l) item)
-    by None is = record { items = counting.begun_goes l.items; told = tt; loses = tt }
-    by (Some number) is = down_so (Down l) number is servers (begun_life l) refl (wish_at (begun_life l).items number)
+    by None fact = record { items = counting.begun_goes l.items; told = tt; loses = tt }
+    by (Some number) fact = down_so (Down l) number fact servers (begun_life l) refl (wish_at (begun_life l).items number)
 begin_turned servers (Opening l o) = by (next_item l.items) refl
   where
     by : (item : Option ℕ) → next_item l.items ≡ item → Turned (Opening l o) Begin (opening_at (begun_life l) o item)
-    by None is = record { items = counting.begun_goes l.items; told = tt; loses = unless_scans o.stage [] tt }
-    by (Some number) is = opening_so (Opening l o) number is (begun_life l) o refl (wish_at (begun_life l).items number)
+    by None fact = record { items = counting.begun_goes l.items; told = tt; loses = unless_scans o.stage [] tt }
+    by (Some number) fact = opening_so (Opening l o) number fact (begun_life l) o refl (wish_at (begun_life l).items number)
 begin_turned servers (Serving e) = by (next_item e.lasting.items) refl
   where
     by : (item : Option ℕ) → next_item e.lasting.items ≡ item → Turned (Serving e) Begin (serving_at (record e { lasting = begun_life e.lasting }) item)
-    by None is = record { items = counting.begun_goes e.lasting.items; told = tt; loses = tt }
-    by (Some number) is =
-        serving_so (Serving e) number is (record e { lasting = begun_life e.lasting }) refl (wish_at (begun_life e.lasting).items number)
+    by None fact = record { items = counting.begun_goes e.lasting.items; told = tt; loses = tt }
+    by (Some number) fact =
+        serving_so (Serving e) number fact (record e { lasting = begun_life e.lasting }) refl (wish_at (begun_life e.lasting).items number)
 
 -- ---- packets and time
 

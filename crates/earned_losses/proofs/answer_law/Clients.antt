@@ -8,9 +8,9 @@ use Rattle.client_node.specs.Phases.{Went_to, after_opening, begins_item, client
 use Rattle.client_parts.specs.declared.lasting.Lasting.{Lasting}
 use Rattle.client_parts.specs.Lasting.{next_life}
 use Rattle.client_serving.specs.declared.serving.Serving.{Serving}
-use Rattle.client_serving.specs.Opens.{opens}
+use Rattle.client_calls.specs.Opens.{opens}
 use Rattle.client_serving.specs.Packets.{on_packet, on_tick}
-use Rattle.client_serving.specs.Running.{runs}
+use Rattle.client_calls.specs.Running.{runs}
 use Rattle.client_serving.specs.Sends.{Done}
 use Rattle.log_owner.proofs.Behaving as behaving
 use Rattle.log_owner.specs.declared.opened.Progress.{Progress}
@@ -81,7 +81,7 @@ served s what d well g = record {
   well = g.kept.calls well;
   number = g.kept.number;
   items = counting.same_goes s.lasting.items d.state.lasting.items what g.kept.items;
-  told = told_by (IsOpen s) (IsBegunBy s.lasting.items what) (λ number is. inl is) [] d.outs g.told;
+  told = told_by (IsOpen s) (IsBegunBy s.lasting.items what) (λ number fact. inl fact) [] d.outs g.told;
   loses = tt;
 }
 
@@ -125,7 +125,7 @@ module _ (l : Lasting) (o : openings.Opening) (capacity : ℕ) (what : Do) where
         well = tt;
         number = refl;
         items = answered_goes;
-        told = told_behind I name l.items.unanswered (λ number is. inl is) [] w.effects plain h;
+        told = told_behind I name l.items.unanswered (λ number fact. inl fact) [] w.effects plain h;
         loses = unless_then o.stage w.effects _ settles (answers_no_loss l.items.unanswered (answer.Lost name));
       }
 
@@ -157,7 +157,7 @@ module _ (l : Lasting) (number : ℕ) (its : next_item l.items ≡ Some number) 
   m = record l { items = begun l.items }
 
   one_number : (n : ℕ) → Some number ≡ Some n → number ≡ n
-  one_number n is = cc
+  one_number n fact = cc
 
   down_so : (servers : ℕ) (wanted : Option Work) → Turned (Down l) Begin (down_begins servers m number (wish_of wanted))
   down_so servers None = begun_plainly (Down l) (down_begins servers m number (wish_of None)) tt refl (counting.begun_goes l.items) (tt, tt)
@@ -197,7 +197,7 @@ module _ (s : Serving) (number : ℕ) (its : next_item s.lasting.items ≡ Some 
       record {
         well = o.well;
         number = o.number_is;
-        items = record { begun = begun_so g.begun o.begun; waits = λ n is. waits_so n g (o.waits n is) };
+        items = record { begun = begun_so g.begun o.begun; waits = λ n fact. waits_so n g (o.waits n fact) };
         told = told_by (λ n. number ≡ n) (IsBegunBy s.lasting.items Begin) its_item [] (opens t number).outs o.told;
         loses = tt;
       }
@@ -206,11 +206,11 @@ module _ (s : Serving) (number : ℕ) (its : next_item s.lasting.items ≡ Some 
           → (opens t number).state.lasting.items.begun ≡ t.lasting.items.begun
           → ((opens t number).state.lasting.items.begun ≡ s.lasting.items.begun)
           ⊎ ((Begin ≡ Begin) × ((opens t number).state.lasting.items.begun ≡ s.lasting.items.begun + 1))
-      begun_so (inl e) is = inl (is ∙ e)
-      begun_so (inr p) is = inr (refl, is ∙ p.1)
+      begun_so (inl e) fact = inl (fact ∙ e)
+      begun_so (inr p) fact = inr (refl, fact ∙ p.1)
 
       waits_so : (n : ℕ) → counting.Goes s.lasting.items t.lasting.items Begin → IsOpen t n ⊎ (number ≡ n) → IsBegunBy s.lasting.items Begin n
-      waits_so n g (inl is) = g.waits n is
+      waits_so n g (inl fact) = g.waits n fact
       waits_so n g (inr same) = its_item n same
 
   serving_so : (wanted : Option Work) → Turned (Serves s) Begin (serving_begins t number (wish_of wanted))
@@ -224,17 +224,17 @@ module _ (s : Serving) (number : ℕ) (its : next_item s.lasting.items ≡ Some 
 
 item_so : (servers : ℕ) (p : Phase) (number : ℕ) (wanted : Option Work) → next_item (items_in p) ≡ Some number → GoesWell p
     → Turned p Begin (item_begins servers (with_begun p) number (wish_of wanted))
-item_so servers (Down l) number wanted is well = down_so l number is servers wanted
-item_so servers (Opening l o) number wanted is well = opening_so l number is o wanted
-item_so servers (Serves s) number wanted is well = serving_so s number is well wanted
+item_so servers (Down l) number wanted fact well = down_so l number fact servers wanted
+item_so servers (Opening l o) number wanted fact well = opening_so l number fact o wanted
+item_so servers (Serves s) number wanted fact well = serving_so s number fact well wanted
 
 begin_turned : (servers : ℕ) (p : Phase) → GoesWell p → Turned p Begin (on_begin servers p)
 unfolding on_begin
 begin_turned servers p well = by (next_item (items_in p)) refl
   where
     by : (item : Option ℕ) → next_item (items_in p) ≡ item → Turned p Begin (begins_item servers p item)
-    by None is = unmoved p Begin well
-    by (Some number) is = item_so servers p number (work_at (lasting_of (with_begun p)).items number) is well
+    by None fact = unmoved p Begin well
+    by (Some number) fact = item_so servers p number (work_at (lasting_of (with_begun p)).items number) fact well
 
 -- ---- packets and time
 

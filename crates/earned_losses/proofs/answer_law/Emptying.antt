@@ -73,13 +73,13 @@ pub record Goes (e : Emptying) (d : Done) : Type 0 where
   pub quiet : AllQuiet d.outs
 
 stays : (e f : Emptying) → Same (items_of e) (items_of f) → Goes e (still f)
-stays e f is = record { items = is; quiet = tt }
+stays e f fact = record { items = fact; quiet = tt }
 
 rests : (e : Emptying) → Goes e (still e)
 rests e = stays e e (same (items_of e))
 
 from_goes : (e f : Emptying) (d : Done) → Same (items_of e) (items_of f) → Goes f d → Goes e d
-from_goes e f d is g = record { items = same_then (items_of e) (items_of f) (items_of d.state) is g.items; quiet = g.quiet }
+from_goes e f d fact g = record { items = same_then (items_of e) (items_of f) (items_of d.state) fact g.items; quiet = g.quiet }
 
 then_goes : (e : Emptying) (d x : Done) → Goes e d → Goes d.state x → Goes e (saying d.outs x)
 then_goes e d x a b = record {
@@ -273,7 +273,7 @@ pub record Cleans (e : Emptying) (number : ℕ) (d : Done) : Type 0 where
   pub quiet : AllQuiet d.outs
 
 one_number : (a b : ℕ) → Some a ≡ Some b → a ≡ b
-one_number a b is = cc
+one_number a b fact = cc
 
 begins_go : (e : Emptying) (number count : ℕ) → Cleans e number (emptying.begins_job e number count)
 unfolding emptying.begins_job emptying.promises_all
@@ -282,13 +282,13 @@ begins_go e number count =
     let d : Done = steps emptying.promises_slot f (range_with_len 0 8) in
     let g : Goes f (saying d.outs (jobs.cleans d.state input.Tick)) =
     then_goes f d (jobs.cleans d.state input.Tick) (steps_go emptying.promises_slot promise_goes f (range_with_len 0 8)) (cleans_go d.state input.Tick) in
-    record { begun = g.items.begun; waits = λ n is. inr (one_number number n (g.items.waits n is)); quiet = g.quiet }
+    record { begun = g.items.begun; waits = λ n fact. inr (one_number number n (g.items.waits n fact)); quiet = g.quiet }
 
 pub clean_goes : (e : Emptying) (number count : ℕ) → Cleans e number (emptying.on_clean e number count)
 unfolding emptying.on_clean
 clean_goes e number count =
     by_test (Cleans e number) (is_some e.lasting.items.unanswered) (record { state = e; outs = Answers number answer.Busy ∷ [] })
-    (emptying.begins_job e number count) (λ _. record { begun = refl; waits = λ n is. inl is; quiet = (tt, tt) }) (λ _. begins_go e number count)
+    (emptying.begins_job e number count) (λ _. record { begun = refl; waits = λ n fact. inl fact; quiet = (tt, tt) }) (λ _. begins_go e number count)
 
 -- ---- the log
 

@@ -136,7 +136,7 @@ pub loses_go : (s : Serving) (block : BlockId) (name : SegName) → Goes s (lose
 unfolding loses
 loses_go s block name = record {
   kept = record { calls = λ well. tt; number = refl; items = same_answered s.lasting.items };
-  told = told_then (IsOpen s) name s.lasting.items.unanswered (λ number is. is) (name ∷ []) (inl refl);
+  told = told_then (IsOpen s) name s.lasting.items.unanswered (λ number fact. fact) (name ∷ []) (inl refl);
 }
 
 loses_at_go : (s : Serving) (at : Option BlockAt) (name : SegName) → Goes s (loses_at s at name)

@@ -55,7 +55,7 @@ abbrev AllStand : Cluster → List Event → List AnyNode → Type 0
 AllStand k past xs = (name : NodeId) (x : AnyNode) → node_in xs (place_of k name) ≡ Some x → Stands name (begins_of name past) x
 
 same_node : (a b : AnyNode) → Some a ≡ Some b → a ≡ b
-same_node a b is = cc
+same_node a b fact = cc
 
 -- ---- the start
 
@@ -75,11 +75,11 @@ start_stands script name x = by (place_of (cluster_of script.setup) name) refl
 
     by : (o : Option ℕ) → place_of (cluster_of script.setup) name ≡ o → node_in (start_world any_start script).nodes o ≡ Some x
         → Stands name (begins_of name []) x
-    by None at is = absurd cc
-    by (Some p) at is =
+    by None at fact = absurd cc
+    by (Some p) at fact =
         let here : node_in (start_world any_start script).nodes (Some p) ≡ Some first =
         ap (node_in (start_world any_start script).nodes) (sym at) ∙ first_stands script name p at in
-        subst (Stands name (begins_of name [])) (same_node first x (sym here ∙ is)) (starts name script.setup (items_of script.lines name))
+        subst (Stands name (begins_of name [])) (same_node first x (sym here ∙ fact)) (starts name script.setup (items_of script.lines name))
 
 -- ---- an event
 
@@ -123,33 +123,33 @@ module _ (past : List Event) (event : Event) where
 
   -- and the item was begun
   step_begun : (x : AnyNode) → Stands (node_of event) (begins_of (node_of event) past) x → Begun (any_step x (what_of event)).acts
-  step_begun (any.Client c) s node item name is =
+  step_begun (any.Client c) s node item name fact =
       let what = what_of event in
       let t = client_turned c what s.1.0 in
       let me : node ≡ node_of event =
-      node_so (IsBegunBy (clients.items_in c.phase) what) (nodes.Client (lasting_of c.phase).number) (takes c what).outs t.told node item name is ∙ s.0 in
+      node_so (IsBegunBy (clients.items_in c.phase) what) (nodes.Client (lasting_of c.phase).number) (takes c what).outs t.told node item name fact ∙ s.0 in
       subst (λ n. item ≤ begins_of n (now past event)) (sym me)
-      (begun_within past event (lasting_of c.phase).items s.1.1 item ((clients_say c what s.1.0).says.begun node item name is))
-  step_begun (any.Cleaner c) s node item name is =
+      (begun_within past event (lasting_of c.phase).items s.1.1 item ((clients_say c what s.1.0).says.begun node item name fact))
+  step_begun (any.Cleaner c) s node item name fact =
       let what = what_of event in
       let t = cleaner_turned c what in
       let me : node ≡ node_of event =
-      node_so (IsBegunBy (cleaners.items_in c.phase) what) nodes.Cleaner (cleaning.takes c.peers c.phase what).outs t.told node item name is ∙ s.0 in
+      node_so (IsBegunBy (cleaners.items_in c.phase) what) nodes.Cleaner (cleaning.takes c.peers c.phase what).outs t.told node item name fact ∙ s.0 in
       subst (λ n. item ≤ begins_of n (now past event)) (sym me)
-      (begun_within past event (cleaning.lasting_of c.phase).items s.1 item ((the_cleaner_says c what).begun node item name is))
-  step_begun (any.Manager m) s node item name is = absurd (managers_say_none m (what_of event) node item name is)
-  step_begun (any.Server v) s node item name is = absurd (servers_say_none v (what_of event) node item name is)
-  step_begun (any.Registry r) s node item name is = absurd (registry_says_none r (what_of event) node item name is)
+      (begun_within past event (cleaning.lasting_of c.phase).items s.1 item ((the_cleaner_says c what).begun node item name fact))
+  step_begun (any.Manager m) s node item name fact = absurd (managers_say_none m (what_of event) node item name fact)
+  step_begun (any.Server v) s node item name fact = absurd (servers_say_none v (what_of event) node item name fact)
+  step_begun (any.Registry r) s node item name fact = absurd (registry_says_none r (what_of event) node item name fact)
 
   -- all stand so then
   module _ (w : World AnyNode) (all : AllStand w.cluster past w.nodes) where
     here : (place : ℕ) (x : AnyNode) → place_of w.cluster (node_of event) ≡ Some place → slice_get w.nodes place ≡ Some x
         → Stands (node_of event) (begins_of (node_of event) past) x
-    here place x at is = all (node_of event) x (ap (node_in w.nodes) at ∙ is)
+    here place x at fact = all (node_of event) x (ap (node_in w.nodes) at ∙ fact)
 
     turn_stands : (place : ℕ) (x : AnyNode) → place_of w.cluster (node_of event) ≡ Some place → slice_get w.nodes place ≡ Some x
         → AllStand w.cluster (now past event) (slice_set w.nodes place (any_step x (what_of event)).node)
-    turn_stands place x at is name y = by (place_of w.cluster name) refl
+    turn_stands place x at fact name y = by (place_of w.cluster name) refl
       where
         new : AnyNode
         new = (any_step x (what_of event)).node
@@ -163,9 +163,9 @@ module _ (past : List Event) (event : Event) where
             let same : q ≡ place = eqb-true q place e in
             let its : name ≡ node_of event = one_name w.cluster name (node_of event) place (named ∙ ap Some same) at in
             let is_new : new ≡ y =
-            same_node new y (sym (get_set_same w.nodes place new x is) ∙ (ap (slice_get (slice_set w.nodes place new)) (sym same) ∙ now_is)) in
+            same_node new y (sym (get_set_same w.nodes place new x fact) ∙ (ap (slice_get (slice_set w.nodes place new)) (sym same) ∙ now_is)) in
             subst (λ n. Stands n (begins_of n (now past event)) y) (sym its)
-            (subst (Stands (node_of event) (begins_of (node_of event) (now past event))) is_new (step_stands x (here place x at is)))
+            (subst (Stands (node_of event) (begins_of (node_of event) (now past event))) is_new (step_stands x (here place x at fact)))
         at_place q named false e now_is =
             later_stands name y (all name y (ap (node_in w.nodes) named ∙ (sym (get_set_other w.nodes place new q (apart q e)) ∙ now_is)))
 
@@ -176,8 +176,8 @@ module _ (past : List Event) (event : Event) where
     next_stands : AllStand (next_world any_step w event).cluster (now past event) (next_world any_step w event).nodes
     next_stands =
         subst (λ k. AllStand k (now past event) (next_world any_step w event).nodes) (sym (next_cluster any_step w event))
-        (next_keeps any_step (λ xs sent acts. AllStand w.cluster (now past event) xs) w event (λ name x is. later_stands name x (all name x is))
-        (λ place x clock at is. turn_stands place x at is))
+        (next_keeps any_step (λ xs sent acts. AllStand w.cluster (now past event) xs) w event (λ name x fact. later_stands name x (all name x fact))
+        (λ place x clock at fact. turn_stands place x at fact))
 
     done_after : (xs ys : List Act) → drop (length xs) (xs ++ ys) ≡ ys
     done_after [] ys = refl
@@ -194,14 +194,14 @@ module _ (past : List Event) (event : Event) where
     event_says : LossesAreSaid (acts_in w event)
     event_says =
         next_keeps any_step (λ xs sent acts. LossesAreSaid (drop (length w.acts) acts)) w event (subst LossesAreSaid (sym (none_after w.acts)) no_acts)
-        (λ place x clock at is.
-        subst LossesAreSaid (sym (done_after w.acts (any_step x (what_of event)).acts)) (step_says x (here place x at is)))
+        (λ place x clock at fact.
+        subst LossesAreSaid (sym (done_after w.acts (any_step x (what_of event)).acts)) (step_says x (here place x at fact)))
 
     event_begun : Begun (acts_in w event)
     event_begun =
         next_keeps any_step (λ xs sent acts. Begun (drop (length w.acts) acts)) w event
-        (subst Begun (sym (none_after w.acts)) (λ node item name is. absurd is))
-        (λ place x clock at is. subst Begun (sym (done_after w.acts (any_step x (what_of event)).acts)) (step_begun x (here place x at is)))
+        (subst Begun (sym (none_after w.acts)) (λ node item name fact. absurd fact))
+        (λ place x clock at fact. subst Begun (sym (done_after w.acts (any_step x (what_of event)).acts)) (step_begun x (here place x at fact)))
 
 -- ---- runs
 
@@ -230,12 +230,12 @@ module _ (e : Estate AnyNode) where
 -- a client of a run has its number, and its call ends well
 pub client_stands : (e : Estate AnyNode) (count c : ℕ) (node : Client) → node_named (moment e count) (nodes.Client c) ≡ Some (any.Client node)
     → (nodes.Client (lasting_of node.phase).number ≡ nodes.Client c) × GoesWell node.phase
-client_stands e count c node is = (let s = stands_at e count (nodes.Client c) (any.Client node) is in (s.0, s.1.0))
+client_stands e count c node fact = (let s = stands_at e count (nodes.Client c) (any.Client node) fact in (s.0, s.1.0))
 
 pub runs_say : LostAnswersAreSaid
 runs_say e = record {
-  said = λ count event is. event_says (take count e.events) event (moment e count) (stands_at e count);
-  begun = λ count event is node item name among.
-      subst (λ es. item ≤ begins_of node es) (taken_next e.events count event is)
+  said = λ count event fact. event_says (take count e.events) event (moment e count) (stands_at e count);
+  begun = λ count event fact node item name among.
+      subst (λ es. item ≤ begins_of node es) (taken_next e.events count event fact)
       (event_begun (take count e.events) event (moment e count) (stands_at e count) node item name among);
 }

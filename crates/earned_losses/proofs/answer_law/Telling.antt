@@ -42,8 +42,8 @@ all_steps step P each s [] = tt
 all_steps step P each s (x ∷ xs) = all_append P (step s x).outs (steps step (step s x).state xs).outs (each s x) (all_steps step P each (step s x).state xs)
 
 pub in_behind : {X : Type 0} (x : X) (xs ys : List X) → In x ys → In x (xs ++ ys)
-in_behind x [] ys is = is
-in_behind x (y ∷ xs) ys is = inr (in_behind x xs ys is)
+in_behind x [] ys fact = fact
+in_behind x (y ∷ xs) ys fact = inr (in_behind x xs ys fact)
 
 -- ---- effects that answer no item so
 
@@ -95,14 +95,14 @@ pub pushed_no_loss : (managers : Managers) (feed : FeedState) → NoLosses (push
 pushed_no_loss managers feed = all_map IsNoLoss (range managers) (range_no_loss managers) (ticked feed)
 
 pub none_among : (outs : List Effect) (name : SegName) → NoLosses outs → In (Lose name) outs → ⊥
-none_among [] name none is = is
+none_among [] name none fact = fact
 none_among (Send to b ∷ outs) name none (inl e) = absurd cc
-none_among (Send to b ∷ outs) name none (inr is) = none_among outs name none.1 is
+none_among (Send to b ∷ outs) name none (inr fact) = none_among outs name none.1 fact
 none_among (Answers item a ∷ outs) name none (inl e) = absurd cc
-none_among (Answers item a ∷ outs) name none (inr is) = none_among outs name none.1 is
-none_among (Lose seg ∷ outs) name none is = absurd none.0
+none_among (Answers item a ∷ outs) name none (inr fact) = none_among outs name none.1 fact
+none_among (Lose seg ∷ outs) name none fact = absurd none.0
 none_among (Does a ∷ outs) name none (inl e) = absurd cc
-none_among (Does a ∷ outs) name none (inr is) = none_among outs name none.1 is
+none_among (Does a ∷ outs) name none (inr fact) = none_among outs name none.1 fact
 
 -- ---- effects that answer no item so, and say of no segment that it is lost
 
@@ -158,8 +158,8 @@ module _ (I : ℕ → Type 0) where
   Within said more = (name : SegName) → In name said → In name more
 
   one_more : (said more : List SegName) (new : SegName) → Within said more → Within (new ∷ said) (new ∷ more)
-  one_more said more new w name (inl is) = inl is
-  one_more said more new w name (inr is) = inr (w name is)
+  one_more said more new w name (inl fact) = inl fact
+  one_more said more new w name (inr fact) = inr (w name fact)
 
   fits_more : (said more : List SegName) → Within said more → (item : ℕ) (a : Answer) → Fits said item a → Fits more item a
   fits_more said more w item (answer.Lost name) f = (f.0, w name f.1)
@@ -194,34 +194,34 @@ module _ (I : ℕ → Type 0) where
   module _ (name : SegName) (item : Option ℕ) (its : (number : ℕ) → item ≡ Some number → I number) where
     -- it was said before, and then it is answered
     pub told_then : (said : List SegName) → In name said → Told said (answers_unanswered item (answer.Lost name))
-    told_then said is = by item refl
+    told_then said fact = by item refl
       where
         by : (o : Option ℕ) → item ≡ o → Told said (answers_unanswered o (answer.Lost name))
         by None e = tt
-        by (Some number) e = ((its number e, is), tt)
+        by (Some number) e = ((its number e, fact), tt)
 
     same_loss : (seg : SegName) → Lose name ≡ Lose seg → name ≡ seg
     same_loss seg e = cc
 
     said_behind : (said : List SegName) (xs : List Effect) → AllPlain xs → In name said → Told said (xs ++ answers_unanswered item (answer.Lost name))
-    said_behind said [] all is = told_then said is
-    said_behind said (Send to b ∷ xs) all is = said_behind said xs all.1 is
-    said_behind said (Answers number a ∷ xs) all is = (fits_plain said number a all.0, said_behind said xs all.1 is)
-    said_behind said (Lose seg ∷ xs) all is = said_behind (seg ∷ said) xs all.1 (inr is)
-    said_behind said (Does a ∷ xs) all is = (all.0, said_behind said xs all.1 is)
+    said_behind said [] all fact = told_then said fact
+    said_behind said (Send to b ∷ xs) all fact = said_behind said xs all.1 fact
+    said_behind said (Answers number a ∷ xs) all fact = (fits_plain said number a all.0, said_behind said xs all.1 fact)
+    said_behind said (Lose seg ∷ xs) all fact = said_behind (seg ∷ said) xs all.1 (inr fact)
+    said_behind said (Does a ∷ xs) all fact = (all.0, said_behind said xs all.1 fact)
 
     -- it is said among these, and answered behind them
     pub told_behind : (said : List SegName) (xs : List Effect) → AllPlain xs → In (Lose name) xs
         → Told said (xs ++ answers_unanswered item (answer.Lost name))
-    told_behind said [] all is = absurd is
+    told_behind said [] all fact = absurd fact
     told_behind said (Send to b ∷ xs) all (inl e) = absurd cc
-    told_behind said (Send to b ∷ xs) all (inr is) = told_behind said xs all.1 is
+    told_behind said (Send to b ∷ xs) all (inr fact) = told_behind said xs all.1 fact
     told_behind said (Answers number a ∷ xs) all (inl e) = absurd cc
-    told_behind said (Answers number a ∷ xs) all (inr is) = (fits_plain said number a all.0, told_behind said xs all.1 is)
+    told_behind said (Answers number a ∷ xs) all (inr fact) = (fits_plain said number a all.0, told_behind said xs all.1 fact)
     told_behind said (Lose seg ∷ xs) all (inl e_) = said_behind (seg ∷ said) xs all.1 (inl (same_loss seg e_))
-    told_behind said (Lose seg ∷ xs) all (inr is) = told_behind (seg ∷ said) xs all.1 is
+    told_behind said (Lose seg ∷ xs) all (inr fact) = told_behind (seg ∷ said) xs all.1 fact
     told_behind said (Does a ∷ xs) all (inl e) = absurd cc
-    told_behind said (Does a ∷ xs) all (inr is) = (all.0, told_behind said xs all.1 is)
+    told_behind said (Does a ∷ xs) all (inr fact) = (all.0, told_behind said xs all.1 fact)
 
 -- of fewer items, or more
 module _ (I J : ℕ → Type 0) (each : (item : ℕ) → I item → J item) where
@@ -271,8 +271,8 @@ module _ (I : ℕ → Type 0) (me node : NodeId) (item : ℕ) (name : SegName) w
   behind_one said a before h = record { is_me = h.is_me; its = h.its; lost = by h.lost }
     where
       by : In name said ⊎ In (act.Lost me name) before → In name said ⊎ In (act.Lost me name) (a ∷ before)
-      by (inl is) = inl is
-      by (inr is) = inr (inr is)
+      by (inl fact) = inl fact
+      by (inr fact) = inr (inr fact)
 
   behind_loss : (said : List SegName) (seg : SegName) (a : Act) (before : List Act) → act.Lost me seg ≡ a → Earned (seg ∷ said) before
       → Earned said (a ∷ before)
@@ -280,8 +280,8 @@ module _ (I : ℕ → Type 0) (me node : NodeId) (item : ℕ) (name : SegName) w
     where
       by : In name (seg ∷ said) ⊎ In (act.Lost me name) before → In name said ⊎ In (act.Lost me name) (a ∷ before)
       by (inl (inl same)) = inr (inl (ap (act.Lost me) same ∙ e))
-      by (inl (inr is)) = inl is
-      by (inr is) = inr (inr is)
+      by (inl (inr fact)) = inl fact
+      by (inr fact) = inr (inr fact)
 
   earned : (said : List SegName) (outs : List Effect) (before behind : List Act) → Told I said outs
       → acts_of me outs ≡ before ++ answers_lost node item name ∷ behind → Earned said before
@@ -304,9 +304,9 @@ record Split {X : Type 0} (x : X) (xs : List X) : Type 0 where
   stands : xs ≡ before ++ x ∷ behind
 
 split : {X : Type 0} (x : X) (xs : List X) → In x xs → Split x xs
-split x [] is = absurd is
+split x [] fact = absurd fact
 split x (y ∷ xs) (inl e_) = record { before = []; behind = xs; stands = ap (λ z. z ∷ xs) (sym e_) }
-split x (y ∷ xs) (inr is) = (let s = split x xs is in record { before = y ∷ s.before; behind = s.behind; stands = ap (λ zs. y ∷ zs) s.stands })
+split x (y ∷ xs) (inr fact) = (let s = split x xs fact in record { before = y ∷ s.before; behind = s.behind; stands = ap (λ zs. y ∷ zs) s.stands })
 
 module _ (I : ℕ → Type 0) (me : NodeId) (outs : List Effect) (told : Told I [] outs) where
   pub losses_said : LossesAreSaid (acts_of me outs)
@@ -316,18 +316,18 @@ module _ (I : ℕ → Type 0) (me : NodeId) (outs : List Effect) (told : Told I 
     where
       by : node ≡ me → In name [] ⊎ In (act.Lost me name) before → In (act.Lost node name) before
       by same (inl none) = absurd none
-      by same (inr is) = subst (λ (n : NodeId). In (act.Lost n name) before) (sym same) is
+      by same (inr fact) = subst (λ (n : NodeId). In (act.Lost n name) before) (sym same) fact
 
   -- it is one of these items
   pub items_so : (node : NodeId) (item : ℕ) (name : SegName) → In (answers_lost node item name) (acts_of me outs) → I item
-  items_so node item name is =
-      let s = split (answers_lost node item name) (acts_of me outs) is in
+  items_so node item name fact =
+      let s = split (answers_lost node item name) (acts_of me outs) fact in
       (earned I me node item name [] outs s.before s.behind told s.stands).its
 
   -- and the node is this one
   pub node_so : (node : NodeId) (item : ℕ) (name : SegName) → In (answers_lost node item name) (acts_of me outs) → node ≡ me
-  node_so node item name is =
-      let s = split (answers_lost node item name) (acts_of me outs) is in
+  node_so node item name fact =
+      let s = split (answers_lost node item name) (acts_of me outs) fact in
       (earned I me node item name [] outs s.before s.behind told s.stands).is_me
 
 -- what a node acts to be lost, it says is lost, and it acts that of itself
@@ -343,23 +343,23 @@ module _ (I : ℕ → Type 0) (me node : NodeId) (name : SegName) where
   here seg outs e = (let same : name ≡ seg = cc in record { own = cc; among = inl (ap Lose same) })
 
   pub says_lost : (said : List SegName) (outs : List Effect) → Told I said outs → In (act.Lost node name) (acts_of me outs) → SaysLost outs
-  says_lost said [] t is = absurd is
-  says_lost said (Send to b ∷ outs) t is = behind_it (Send to b) outs (says_lost said outs t is)
+  says_lost said [] t fact = absurd fact
+  says_lost said (Send to b ∷ outs) t fact = behind_it (Send to b) outs (says_lost said outs t fact)
   says_lost said (Answers item a ∷ outs) t (inl e) = absurd cc
-  says_lost said (Answers item a ∷ outs) t (inr is) = behind_it (Answers item a) outs (says_lost said outs t.1 is)
+  says_lost said (Answers item a ∷ outs) t (inr fact) = behind_it (Answers item a) outs (says_lost said outs t.1 fact)
   says_lost said (Lose seg ∷ outs) t (inl e) = here seg outs e
-  says_lost said (Lose seg ∷ outs) t (inr is) = behind_it (Lose seg) outs (says_lost (seg ∷ said) outs t is)
+  says_lost said (Lose seg ∷ outs) t (inr fact) = behind_it (Lose seg) outs (says_lost (seg ∷ said) outs t fact)
   says_lost said (Does a ∷ outs) t (inl e) = absurd (subst NoAnswer (sym e) t.0)
-  says_lost said (Does a ∷ outs) t (inr is) = behind_it (Does a) outs (says_lost said outs t.1 is)
+  says_lost said (Does a ∷ outs) t (inr fact) = behind_it (Does a) outs (says_lost said outs t.1 fact)
 
 -- so it does where it answers no item so
 pub plain_says : (me node : NodeId) (name : SegName) (outs : List Effect) → AllPlain outs → In (act.Lost node name) (acts_of me outs)
     → SaysLost (λ number. ⊥) me node name outs
-plain_says me node name outs plain is = says_lost (λ number. ⊥) me node name [] outs (told_plain (λ number. ⊥) [] outs plain) is
+plain_says me node name outs plain fact = says_lost (λ number. ⊥) me node name [] outs (told_plain (λ number. ⊥) [] outs plain) fact
 
 -- what answers no item so answers none
 pub none_lost : (me : NodeId) (outs : List Effect) → AllPlain outs → NoneIsLost (acts_of me outs)
-none_lost me outs plain node item name is = items_so (λ number. ⊥) me outs (told_plain (λ number. ⊥) [] outs plain) node item name is
+none_lost me outs plain node item name fact = items_so (λ number. ⊥) me outs (told_plain (λ number. ⊥) [] outs plain) node item name fact
 
 -- where none is answered so, all is said
 pub none_said : (acts : List Act) → NoneIsLost acts → LossesAreSaid acts

@@ -31,18 +31,18 @@ pub record Below : Type 0 where
   pub reads : ReadsLoseWhatIsTorn
 
 module _ (below : Below) (e : Estate AnyNode) (setup : IsSetup e.script.setup) (run : IsRun any_step any_start e.script e.events e.world) (count : ℕ)
-    (event : Event) (is : slice_get e.events count ≡ Some event) (name : SegName) where
+    (event : Event) (fact : slice_get e.events count ≡ Some event) (name : SegName) where
   earned : (node : NodeId) → node ≡ node_of event → In (act.Lost node name) (acts_in (moment e count) event) → IsReader e count node
       → IsEarned e count (what_of event) name node
   earned node own among (Scans r there keeps scans) =
-      WhileItOpened r there keeps scans (below.reopenings e setup run r there keeps count event is own scans name among)
+      WhileItOpened r there keeps scans (below.reopenings e setup run r there keeps count event fact own scans name among)
   earned node own among (Serves c there s serves item waits) =
-      ToRead c there s serves item waits (λ none. below.reads e setup run c there.0 there.1 count none event is own s serves name among)
+      ToRead c there s serves item waits (λ none. below.reads e setup run c there.0 there.1 count none event fact own s serves name among)
   earned node own among (Manages j there) =
-      ToTakeover j there (below.takeovers e setup run j there count event is own name among)
-      (λ none. below.filed e setup run count none event is j there own name among)
+      ToTakeover j there (below.takeovers e setup run j there count event fact own name among)
+      (λ none. below.filed e setup run count none event fact j there own name among)
 
 pub lost_acts_are_earned : Below → LostActsAreEarned
-lost_acts_are_earned below e setup run count event is node name among =
-    let r = below.readers e setup run count event is node name among in
-    (r.0, earned below e setup run count event is name node r.0 among r.1)
+lost_acts_are_earned below e setup run count event fact node name among =
+    let r = below.readers e setup run count event fact node name among in
+    (r.0, earned below e setup run count event fact name node r.0 among r.1)

@@ -55,21 +55,21 @@ pub record IsReading (o : Option AnyNode) (r : ReadingState) : Type 0 where
 
 phase_reads : (node : ClientNode) (r : ReadingState) (p : Phase) → node.phase ≡ p → what_is_read (serving_in p) ≡ Some r
     → IsReading (Some (any.Client node)) r
-phase_reads node r (Down l) at is = absurd (let clash : None ≡ Some r = is in cc)
-phase_reads node r (Opening l o) at is = absurd (let clash : None ≡ Some r = is in cc)
-phase_reads node r (Serves s) at is = record { node = node; kind = refl; serving = s; serves = at; reads = is }
+phase_reads node r (Down l) at fact = absurd (let clash : None ≡ Some r = fact in cc)
+phase_reads node r (Opening l o) at fact = absurd (let clash : None ≡ Some r = fact in cc)
+phase_reads node r (Serves s) at fact = record { node = node; kind = refl; serving = s; serves = at; reads = fact }
 
 is_reading : (o : Option AnyNode) (r : ReadingState) → what_is_read (serving_of o) ≡ Some r → IsReading o r
-is_reading None r is = absurd (let clash : None ≡ Some r = is in cc)
-is_reading (Some (any.Client node)) r is = phase_reads node r node.phase refl is
-is_reading (Some (any.Manager node)) r is = absurd (let clash : None ≡ Some r = is in cc)
-is_reading (Some (any.Server node)) r is = absurd (let clash : None ≡ Some r = is in cc)
-is_reading (Some (any.Cleaner node)) r is = absurd (let clash : None ≡ Some r = is in cc)
-is_reading (Some (any.Registry node)) r is = absurd (let clash : None ≡ Some r = is in cc)
+is_reading None r fact = absurd (let clash : None ≡ Some r = fact in cc)
+is_reading (Some (any.Client node)) r fact = phase_reads node r node.phase refl fact
+is_reading (Some (any.Manager node)) r fact = absurd (let clash : None ≡ Some r = fact in cc)
+is_reading (Some (any.Server node)) r fact = absurd (let clash : None ≡ Some r = fact in cc)
+is_reading (Some (any.Cleaner node)) r fact = absurd (let clash : None ≡ Some r = fact in cc)
+is_reading (Some (any.Registry node)) r fact = absurd (let clash : None ≡ Some r = fact in cc)
 
 module _ (base : Setting) (e : Estate AnyNode) (run : IsRun any_step any_start e.script e.events e.world) (lines : HasLines base e)
     (texts : Texts base e lines) (first : ℕ → ℕ → Segment) (count : ℕ) (joint : Joint base e lines texts 0 first count) (c : ℕ) (r : ReadingState)
-    (is : what_is_read (serving_of (node_named (moment e count) (Client c))) ≡ Some r) (at : BlockAt) (looks : r.target.block ≡ Some at) where
+    (fact : what_is_read (serving_of (node_named (moment e count) (Client c))) ≡ Some r) (at : BlockAt) (looks : r.target.block ≡ Some at) where
   abbrev f : Filed
   f = joint.idx.net.filed
 
@@ -79,7 +79,7 @@ module _ (base : Setting) (e : Estate AnyNode) (run : IsRun any_step any_start e
   -- ---- what is told of the place that it reads
 
   reading : IsReading (node_named (moment e count) (Client c)) r
-  reading = is_reading (node_named (moment e count) (Client c)) r is
+  reading = is_reading (node_named (moment e count) (Client c)) r fact
 
   in_nodes : In (any.Client reading.node) (moment e count).nodes
   in_nodes = by (place_of (moment e count).cluster (Client c)) reading.kind

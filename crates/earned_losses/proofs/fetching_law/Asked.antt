@@ -42,17 +42,17 @@ use Rattle.xfs_base.specs.declared.token.Stamp.{Stamp}
 
 -- ---- in the small world of a slot
 
-module _ (logs : Bool) (many part : ℕ) (n : Net) (b : BlockId) (m : Moment logs many part n b) (c : ℕ) (is : IsClient many c) (up : n.up c ≡ true) where
+module _ (logs : Bool) (many part : ℕ) (n : Net) (b : BlockId) (m : Moment logs many part n b) (c : ℕ) (fact : IsClient many c) (up : n.up c ≡ true) where
   v : View logs many part b n
-  v = (always logs many part n (let w = is.within in omega arith) m.run).good.views b m.inside
+  v = (always logs many part n (let w = fact.within in omega arith) m.run).good.views b m.inside
 
   asked_there : (stamp : Stamp) (inc req : ℕ) (mode : Mode) (entry : Entry) → In (GrantSent c b stamp inc req mode entry) n.sent → inc ≡ (n.tokens c).inc
       → epoch_of (n.tokens c).epochs (slot_of b.ino.0) ≤ stamp.epoch → req ≤ (n.tokens c).req
   asked_there stamp inc req mode entry sent life heard =
-      let shown = shown_up logs many part b n v c is.some is.within up in
+      let shown = shown_up logs many part b n v c fact.some fact.within up in
       let o : Owned v.world = owned logs many v.world v.steps in
       let offer : SentOffer c v.world stamp inc req mode (entry_seen entry) = v.sent (GrantSent c b stamp inc req mode entry) sent refl in
-      let above = epoch_promised v.world o c (let k = v.many in let within = is.within in omega arith) in
+      let above = epoch_promised v.world o c (let k = v.many in let within = fact.within in omega arith) in
       let promised = shown.stamps.promised in
       let low = offer.low in
       let offered = offer.offered (omega arith) in
@@ -87,25 +87,25 @@ module _ (laws : NodeLaws) (e : Estate AnyNode) (setup : IsSetup e.script.setup)
   st = (front laws e setup run count (slot_of b.ino.0) of_eight).1.1
 
   served : (c : ℕ) (t : TokensState) → tokens_at w c ≡ Some t → ServesThere laws k (slot_of b.ino.0) of_eight now c t
-  served c t is =
+  served c t fact =
       serves_there laws k (slot_of b.ino.0) of_eight w.nodes w.sent w.acts now st c t
-      (subst (λ cl. tokens_of (node_in w.nodes (place_of cl (Client c))) ≡ Some t) (front laws e setup run count (slot_of b.ino.0) of_eight).0 is)
+      (subst (λ cl. tokens_of (node_in w.nodes (place_of cl (Client c))) ≡ Some t) (front laws e setup run count (slot_of b.ino.0) of_eight).0 fact)
 
   -- a Grant that was sent to a client was sent there
   granted : (c : ℕ) (packet : Packet) (m : Grant) → In packet w.sent → packet.to ≡ Client c → packet.body ≡ body.Grant m
       → GrantSeen (slot_of b.ino.0) now.net.sent (Client c) m
-  granted c packet m sent to is = grant_told k (slot_of b.ino.0) now packet.from (Client c) m
-      (subst (λ (x : Body). SentBy k (slot_of b.ino.0) now packet.from (Client c) x) is
+  granted c packet m sent to fact = grant_told k (slot_of b.ino.0) now packet.from (Client c) m
+      (subst (λ (x : Body). SentBy k (slot_of b.ino.0) now packet.from (Client c) x) fact
       (subst (λ (x : NodeId). SentBy k (slot_of b.ino.0) now packet.from x packet.body) to (st.facts packet sent)))
 
   pub grants_are_asked : (c : ℕ) (t : TokensState) → tokens_at (moment e count) c ≡ Some t → (packet : Packet) (m : Grant) → In packet (moment e count).sent
       → packet.to ≡ Client c → packet.body ≡ body.Grant m → m.block ≡ b → m.inc ≡ t.inc → epoch_of t.epochs (slot_of b.ino.0) ≤ m.stamp.epoch → m.req ≤ t.req
-  grants_are_asked c t there packet m sent to is block life heard =
+  grants_are_asked c t there packet m sent to fact block life heard =
       let y : ServesThere laws k (slot_of b.ino.0) of_eight now c t = served c t there in
       let inside : is_in_slot (slot_of b.ino.0) b ≡ true = itself (slot_of b.ino.0) in
       let told : In (GrantSent c b m.stamp m.inc m.req m.mode m.entry) now.net.sent =
       subst (λ (x : BlockId). is_in_slot (slot_of b.ino.0) x ≡ true → In (GrantSent c x m.stamp m.inc m.req m.mode m.entry) now.net.sent) block
-      (granted c packet m sent to is) inside in
+      (granted c packet m sent to fact) inside in
       subst (λ (z : TokensState). m.req ≤ z.req) y.tokens
       (asked_there false (members k (slot_of b.ino.0)) (slot_of b.ino.0) (with_promise 1 now.net) b (record { run = st.runs; inside = inside }) c y.client y.up
       m.stamp m.inc m.req m.mode m.entry told (life ∙ sym (ap (λ (z : TokensState). z.inc) y.tokens))

@@ -112,7 +112,7 @@ module _ (base : Setting) (e : Estate AnyNode) (run : IsRun any_step any_start e
 
   -- at its place stands a client
   pub client_there : (count : ℕ) (x : AnyNode) → Here count ≡ Some x → (node : Client) × (x ≡ any.Client node)
-  client_there count x is = by x (((lines (OfClient c) is_there).stands count).seen reader x is)
+  client_there count x fact = by x (((lines (OfClient c) is_there).stands count).seen reader x fact)
     where
       by : (y : AnyNode) → ClientThere (setting base e (OfClient c)) (OfClient c) ((lines (OfClient c) is_there).at count) c y
           → (node : Client) × (y ≡ any.Client node)
@@ -126,9 +126,9 @@ module _ (base : Setting) (e : Estate AnyNode) (run : IsRun any_step any_start e
   same_last count = by (Here count) refl
     where
       by : (o : Option AnyNode) → Here count ≡ o → last_of (node_named (moment e count) reader) ≡ last_at e reader count
-      by None is = ap last_of (named count ∙ is) ∙ sym (ap last_in (named count ∙ is))
-      by (Some x) is = (let n = client_there count x is in
-          let at : node_named (moment e count) reader ≡ Some (any.Client n.0) = named count ∙ (is ∙ ap Some n.1) in
+      by None fact = ap last_of (named count ∙ fact) ∙ sym (ap last_in (named count ∙ fact))
+      by (Some x) fact = (let n = client_there count x fact in
+          let at : node_named (moment e count) reader ≡ Some (any.Client n.0) = named count ∙ (fact ∙ ap Some n.1) in
           ap last_of at ∙ sym (ap last_in at))
 
   drawn : (count : ℕ) → FetchesDrawn e reader count
@@ -142,7 +142,7 @@ module _ (base : Setting) (e : Estate AnyNode) (run : IsRun any_step any_start e
   -- ---- maps that were sent
 
   maps_named : (count : ℕ) (m : GroupMapState) → tables.In (MapSent m) ((lines (OfClient c) is_there).at count).net.sent → IsNamed e c m
-  maps_named count m sent id group is = (base_at base e lines (OfClient c) is_there refl count).packets (MapSent m) sent id group is
+  maps_named count m sent id group fact = (base_at base e lines (OfClient c) is_there refl count).packets (MapSent m) sent id group fact
 
   brings : (count : ℕ) (p : Packet) → In p (moment e count).sent → BringsMaps (IsNamed e c) p.body
   brings count p among = by p.body (((lines (OfClient c) is_there).stands count).facts p among)
@@ -166,13 +166,13 @@ module _ (base : Setting) (e : Estate AnyNode) (run : IsRun any_step any_start e
     pub reads : AllReads e c count
 
   pub serving_is : (count : ℕ) (o : Option AnyNode) → Here count ≡ o → serving_at e c count ≡ serving_of o
-  serving_is count o is = ap serving_of (named count ∙ is)
+  serving_is count o fact = ap serving_of (named count ∙ fact)
 
   -- nothing happens to it
   stands_by : (count : ℕ) (new : List Packet) → (moment e (suc count)).sent ≡ (moment e count).sent ++ new → Here (suc count) ≡ Here count
       → ((p : Packet) → In p new → p.from ≡ reader → ⊥) → Good count → Good (suc count)
   stands_by count new sent same others good = record {
-    well = λ node is. good.well node (sym same ∙ is);
+    well = λ node fact. good.well node (sym same ∙ fact);
     reads = aside e c count new sent (rises count) (serving_is (suc count) (Here count) same ∙ sym (serving_is count (Here count) refl)) others good.reads;
   }
 
@@ -181,7 +181,7 @@ module _ (base : Setting) (e : Estate AnyNode) (run : IsRun any_step any_start e
   rests count good same sent =
       stands_by count [] (sent ∙ sym (append-nil (moment e count).sent)) (ap (λ ns. node_in ns (place_of k_of reader)) same) (λ p late from. absurd late) good
 
-  module _ (count : ℕ) (good : Good count) (event : Event) (is : slice_get e.events count ≡ Some event)
+  module _ (count : ℕ) (good : Good count) (event : Event) (fact : slice_get e.events count ≡ Some event)
       (t : TurnAt (moment e count) event (moment e (suc count)).nodes (moment e (suc count)).sent (moment e (suc count)).acts) where
     placed : place_of k_of (node_of event) ≡ Some t.place
     placed = subst (λ k. place_of k (node_of event) ≡ Some t.place) (cluster_at e count) t.placed
@@ -203,7 +203,7 @@ module _ (base : Setting) (e : Estate AnyNode) (run : IsRun any_step any_start e
 
     module _ (own : reader ≡ node_of event) where
       gets : (p : Packet) → what_of event ≡ Deliver p → In p (moment e count).sent × (p.to ≡ reader)
-      gets p delivers = (let b = brought (moment e count) event (may_happen e run count event is) p delivers in (b.0, b.1 ∙ sym own))
+      gets p delivers = (let b = brought (moment e count) event (may_happen e run count event fact) p delivers in (b.0, b.1 ∙ sym own))
 
       pub was : Here count ≡ Some t.node
       was = subst (λ n. node_in (moment e count).nodes (place_of k_of n) ≡ Some t.node) (sym own) stood
@@ -321,20 +321,20 @@ module _ (base : Setting) (e : Estate AnyNode) (run : IsRun any_step any_start e
   pub became : (count : ℕ) (event : Event) → slice_get e.events count ≡ Some event
       → Still (moment e count) (moment e (suc count)).nodes (moment e (suc count)).sent (moment e (suc count)).acts
       ⊎ TurnAt (moment e count) event (moment e (suc count)).nodes (moment e (suc count)).sent (moment e (suc count)).acts
-  became count event is =
+  became count event fact =
       subst (λ (v : World AnyNode). Still (moment e count) v.nodes v.sent v.acts ⊎ TurnAt (moment e count) event v.nodes v.sent v.acts)
-      (sym (moment_next e count event is)) (happened_so (moment e count) event)
+      (sym (moment_next e count event fact)) (happened_so (moment e count) event)
 
   -- the counts of the run
   next_good : (count : ℕ) → Good count → Good (suc count)
   next_good count good = by (slice_get e.events count) refl
     where
       by : (o : Option Event) → slice_get e.events count ≡ o → Good (suc count)
-      by None is =
-          rests count good (ap (λ (v : World AnyNode). v.nodes) (moment_ended e count is)) (ap (λ (v : World AnyNode). v.sent) (moment_ended e count is))
-      by (Some event) is =
+      by None fact =
+          rests count good (ap (λ (v : World AnyNode). v.nodes) (moment_ended e count fact)) (ap (λ (v : World AnyNode). v.sent) (moment_ended e count fact))
+      by (Some event) fact =
           ⊎_elim (λ still. rests count good still.nodes_are still.sent_are)
-          (λ t. ⊎_elim (own_turn count good event is t) (other_turn count good event is t) (same_or_other reader (node_of event))) (became count event is)
+          (λ t. ⊎_elim (own_turn count good event fact t) (other_turn count good event fact t) (same_or_other reader (node_of event))) (became count event fact)
 
   -- ---- at the start
 
@@ -342,11 +342,11 @@ module _ (base : Setting) (e : Estate AnyNode) (run : IsRun any_step any_start e
     -- the groups of the setup are those of the end
     first_named : IsNamed e c (started e.script.setup.servers e.script.setup.groups)
     unfolding start_world
-    first_named id group is =
+    first_named id group fact =
         let n : Names (group_at e.world id) (stripe_of_group group) =
         in_run stay e.events (start_world any_start e.script) e.world run id group
         (ap (λ o. group_in (groups_of o) id) (first_stands e.script nodes.Registry
-        (e.script.setup.clients + e.script.setup.managers + e.script.setup.servers + 1) refl) ∙ is) in
+        (e.script.setup.clients + e.script.setup.managers + e.script.setup.servers + 1) refl) ∙ fact) in
         ap stripe_by n.named ∙ n.stripe_is
 
     first_are : (moment e 0).nodes ≡ first_nodes any_start e.script k_of
@@ -369,14 +369,14 @@ module _ (base : Setting) (e : Estate AnyNode) (run : IsRun any_step any_start e
       where
         by : (Here 0 ≡ None) ⊎ (Here 0 ≡ Some first) → Good 0
         by (inl none) = record {
-          well = λ node is. absurd (let clash : None ≡ Some (any.Client node) = sym none ∙ is in cc);
-          reads = λ r is. absurd (let clash : None ≡ Some r = sym (ap what_is_read (serving_is 0 None none)) ∙ is in cc);
+          well = λ node fact. absurd (let clash : None ≡ Some (any.Client node) = sym none ∙ fact in cc);
+          reads = λ r fact. absurd (let clash : None ≡ Some r = sym (ap what_is_read (serving_is 0 None none)) ∙ fact in cc);
         }
         by (inr at) = record {
-          well = λ node is.
+          well = λ node fact.
               subst (λ (y : Client). StandsWell (IsNamed e c) y.phase) (one_client (first_client c e.script.setup (items_of e.script.lines reader)) node
-              (sym at ∙ is)) (stands_first (IsNamed e c) c e.script.setup (items_of e.script.lines reader) first_named);
-          reads = λ r is. absurd (let clash : None ≡ Some r = sym (ap what_is_read (serving_is 0 (Some first) at)) ∙ is in cc);
+              (sym at ∙ fact)) (stands_first (IsNamed e c) c e.script.setup (items_of e.script.lines reader) first_named);
+          reads = λ r fact. absurd (let clash : None ≡ Some r = sym (ap what_is_read (serving_is 0 (Some first) at)) ∙ fact in cc);
         }
 
     pub all_good : (count : ℕ) → Good count

@@ -79,14 +79,14 @@ module _ (s : Serving) (what : Do) (o : Option ReadingState) (own its : NodeId) 
 
   -- what is acted to be lost is said to be so
   said_lost : (outs : List Effect) → AllSay s what o outs → In (act.Lost own name) (acts_of its outs) → BringsGone s what name ⊎ Doubts s what name
-  said_lost [] all is = absurd is
-  said_lost (Send to said ∷ outs) all is = said_lost outs all.1 is
+  said_lost [] all fact = absurd fact
+  said_lost (Send to said ∷ outs) all fact = said_lost outs all.1 fact
   said_lost (Answer item a ∷ outs) all (inl e) = absurd cc
-  said_lost (Answer item a ∷ outs) all (inr is) = said_lost outs all.1 is
+  said_lost (Answer item a ∷ outs) all (inr fact) = said_lost outs all.1 fact
   said_lost (Lose seg ∷ outs) all (inl e) = subst (λ z. BringsGone s what z ⊎ Doubts s what z) (same_loss seg e) all.0
-  said_lost (Lose seg ∷ outs) all (inr is) = said_lost outs all.1 is
+  said_lost (Lose seg ∷ outs) all (inr fact) = said_lost outs all.1 fact
   said_lost (Does a ∷ outs) all (inl e) = absurd (subst NotLost (sym e) all.0)
-  said_lost (Does a ∷ outs) all (inr is) = said_lost outs all.1 is
+  said_lost (Does a ∷ outs) all (inr fact) = said_lost outs all.1 fact
 
 -- a Grant that is taken doesn't answer a want before these
 not_both : (b : BlockId) (life highest epoch : ℕ) (s : TokensState) → Later b life highest epoch s → (g : Grant)
@@ -119,14 +119,14 @@ module _ (base : Setting) (e : Estate AnyNode) (run : IsRun any_step any_start e
 
   -- what is read is read for a block
   pub reads_block : (count : ℕ) (r : ReadingState) → what_is_read (serving_at e c count) ≡ Some r → (at : BlockAt) × (r.target.block ≡ Some at)
-  reads_block count r is =
+  reads_block count r fact =
       let good : Good base e run lines c is_there answers asked count = all_good base e run lines c is_there answers asked stay count in
-      let h : Reads e c count r = good.reads r is in
+      let h : Reads e c count r = good.reads r fact in
       (h.block, h.looks)
 
   -- ---- the client says that a segment is lost
 
-  module _ (count : ℕ) (event : Event) (is : slice_get e.events count ≡ Some event) (own : reader ≡ node_of event) (s : Serving)
+  module _ (count : ℕ) (event : Event) (fact : slice_get e.events count ≡ Some event) (own : reader ≡ node_of event) (s : Serving)
       (serves : serving_at e c count ≡ Some s) (name : SegName) where
     abbrev Earned : Type 0
     Earned = BringsGone s (what_of event) name ⊎ WasTornInFetch e c s count (what_of event) name
@@ -135,11 +135,11 @@ module _ (base : Setting) (e : Estate AnyNode) (run : IsRun any_step any_start e
     good = all_good base e run lines c is_there answers asked stay count
 
     acts_now : acts_in (moment e count) event ≡ drop (length (moment e count).acts) (moment e (suc count)).acts
-    acts_now = ap (λ (v : World AnyNode). drop (length (moment e count).acts) v.acts) (sym (moment_next e count event is))
+    acts_now = ap (λ (v : World AnyNode). drop (length (moment e count).acts) v.acts) (sym (moment_next e count event fact))
 
     -- the packet that the event brings was sent to the client
     gets_it : (p : Packet) → what_of event ≡ Deliver p → p.to ≡ reader
-    gets_it p delivers = (brought (moment e count) event (may_happen e run count event is) p delivers).1 ∙ sym own
+    gets_it p delivers = (brought (moment e count) event (may_happen e run count event fact) p delivers).1 ∙ sym own
 
     doubts_torn : Doubts s (what_of event) name → WasTornInFetch e c s count (what_of event) name
     doubts_torn d =
@@ -197,7 +197,7 @@ module _ (base : Setting) (e : Estate AnyNode) (run : IsRun any_step any_start e
         → In (act.Lost reader name) (acts_in (moment e count) event) → Earned
     turn_lost t among =
         let stood : Here base e run lines c is_there answers asked count ≡ Some t.node =
-        was base e run lines c is_there answers asked count good event is t own in
+        was base e run lines c is_there answers asked count good event fact t own in
         let n = client_there base e run lines c is_there answers asked count t.node stood in
         let node : Client = n.0 in
         let here_is : Here base e run lines c is_there answers asked count ≡ Some (any.Client node) = stood ∙ ap Some n.1 in
@@ -213,7 +213,7 @@ module _ (base : Setting) (e : Estate AnyNode) (run : IsRun any_step any_start e
 
     pub lost_earned : In (act.Lost reader name) (acts_in (moment e count) event)
         → BringsGone s (what_of event) name ⊎ WasTornInFetch e c s count (what_of event) name
-    lost_earned among = ⊎_elim (λ still. still_lost still among) (λ t. turn_lost t among) (became base e run lines c is_there answers asked count event is)
+    lost_earned among = ⊎_elim (λ still. still_lost still among) (λ t. turn_lost t among) (became base e run lines c is_there answers asked count event fact)
 
 -- ---- of every run
 
@@ -225,13 +225,13 @@ pub record Below : Type 0 where
   pub nodes : NodeLaws
 
 pub fetches_lose : Below → FetchesLossesEarned
-fetches_lose below e ok run c some limit count event is own s serves name among =
+fetches_lose below e ok run c some limit count event fact own s serves name among =
     lost_earned below.setting e run (below.lines below.setting e ok run) c (some, limit)
     (λ drawn rises count v p m sent from to tells. below.answers e ok run (nodes.Client c) drawn rises count v p m sent from to tells)
-    (λ count t there b p m. grants_are_asked below.nodes e ok run count b c t there p m) below.groups count event is own s serves name among
+    (λ count t there b p m. grants_are_asked below.nodes e ok run count b c t there p m) below.groups count event fact own s serves name among
 
 pub calls_read_blocks : Below → CallsReadBlocks
-calls_read_blocks below e ok run c some limit count r is =
+calls_read_blocks below e ok run c some limit count r fact =
     reads_block below.setting e run (below.lines below.setting e ok run) c (some, limit)
     (λ drawn rises count v p m sent from to tells. below.answers e ok run (nodes.Client c) drawn rises count v p m sent from to tells)
-    (λ count t there b p m. grants_are_asked below.nodes e ok run count b c t there p m) below.groups count r is
+    (λ count t there b p m. grants_are_asked below.nodes e ok run count b c t there p m) below.groups count r fact

@@ -55,21 +55,21 @@ read_then None o = inr refl
 read_then (Some call) o = inl refl
 
 one_reading : (x y : ReadingState) → Some x ≡ Some y → x ≡ y
-one_reading x y is = cc
+one_reading x y fact = cc
 
 pub is_that : (call : Option Call) (x r : ReadingState) → reading_in (call_with call (Some x)) ≡ Some r → r ≡ x
-is_that None x r is = absurd (let clash : None ≡ Some r = is in cc)
-is_that (Some call) x r is = sym (one_reading x r is)
+is_that None x r fact = absurd (let clash : None ≡ Some r = fact in cc)
+is_that (Some call) x r fact = sym (one_reading x r fact)
 
 no_reading : (call : Option Call) (r : ReadingState) → reading_in (call_with call None) ≡ Some r → ⊥
-no_reading None r is = absurd (let clash : None ≡ Some r = is in cc)
-no_reading (Some call) r is = absurd (let clash : None ≡ Some r = is in cc)
+no_reading None r fact = absurd (let clash : None ≡ Some r = fact in cc)
+no_reading (Some call) r fact = absurd (let clash : None ≡ Some r = fact in cc)
 
 -- fetches of what is read are of its segment
 pub fetches_say : (s : Serving) (what : Do) (x : ReadingState) → AllSay s what (Some x) (fetches x)
 fetches_say s what x = all_map (Says s what (Some x)) (fetch x.target.seg.name x.ask) (λ server same. refl) (to_ask x)
 
-module _ (s : Serving) (fresh : s.lasting.questions.last < next_ask s.lasting.questions) (packet : Packet) (m : Grant) (is : packet.body ≡ body.Grant m)
+module _ (s : Serving) (fresh : s.lasting.questions.last < next_ask s.lasting.questions) (packet : Packet) (m : Grant) (fact : packet.body ≡ body.Grant m)
     (taken : accepts s.tokens m.block m.stamp m.inc m.req m.mode ≡ true) (place : Place) (lies : m.entry.place ≡ Some place) (t : Serving)
     (rests : Rests s t) where
   abbrev what : Do
@@ -144,7 +144,7 @@ module _ (s : Serving) (fresh : s.lasting.questions.last < next_ask s.lasting.qu
     was = read_before s what (reading_in s.call) (reading_in t.call) rests.reading x reads_it
 
     abbrev confirmed : Confirms what x
-    confirmed = record { packet = packet; delivers = refl; grant = m; bears = is; place = place; lies = lies; reads = same }
+    confirmed = record { packet = packet; delivers = refl; grant = m; bears = fact; place = place; lies = lies; reads = same }
 
     -- it is read on as it was
     waits_turns : Goes_so (still (with_reading unread (Some x)))
@@ -224,7 +224,7 @@ module _ (s : Serving) (fresh : s.lasting.questions.last < next_ask s.lasting.qu
 
 -- ---- the grant
 
-module _ (s : Serving) (fresh : s.lasting.questions.last < next_ask s.lasting.questions) (packet : Packet) (m : Grant) (is : packet.body ≡ body.Grant m) where
+module _ (s : Serving) (fresh : s.lasting.questions.last < next_ask s.lasting.questions) (packet : Packet) (m : Grant) (fact : packet.body ≡ body.Grant m) where
   abbrev Turn : Done → Type 0
   Turn d = Turns s (Deliver packet) d
 
@@ -250,7 +250,7 @@ module _ (s : Serving) (fresh : s.lasting.questions.last < next_ask s.lasting.qu
         → Turn (follows t (copy_next m.block place ∷ []))
     unfolding follows_one
     copied_turns taken None lies = ready_turns
-    copied_turns taken (Some place) lies = at_once t (output.Read m.block place) (reads_turn s fresh packet m is taken place lies t rests)
+    copied_turns taken (Some place) lies = at_once t (output.Read m.block place) (reads_turn s fresh packet m fact taken place lies t rests)
 
     granted_turns : accepts s.tokens m.block m.stamp m.inc m.req m.mode ≡ true → Turn (follows t (grant_next m.block m.mode m.entry.place ∷ []))
     granted_turns taken =

@@ -109,9 +109,9 @@ module _ (Is : GroupMapState → Type 0) where
   -- ---- one that serves
 
   brings_bears : (s : Serving) (what : Do) (news : News) (b : Body) → Bears s what news b → BringsMaps Is b → Is news.groups
-  brings_bears s what news (body.MapNews m) is brings = subst (λ (n : News). Is n.groups) is brings
-  brings_bears s what news (body.Welcome m) is brings = subst (λ (n : News). Is n.groups) is brings
-  brings_bears s what news _ is brings = absurd is
+  brings_bears s what news (body.MapNews m) fact brings = subst (λ (n : News). Is n.groups) fact brings
+  brings_bears s what news (body.Welcome m) fact brings = subst (λ (n : News). Is n.groups) fact brings
+  brings_bears s what news _ fact brings = absurd fact
 
   serves_on : (s : Serving) → ServesWell s → (what : Do) → DoBrings Is what → (p : Phase) (outs : List Effect) → After s what p outs → StandsWell p
   serves_on s h what brings (Down l) outs a = tt
@@ -127,30 +127,30 @@ module _ (Is : GroupMapState → Type 0) where
   module _ (client : Client) (what : Do) (brings : DoBrings Is what) where
     -- what comes of an event, or what was
     by_room : (p : Phase) → client.phase ≡ p → ComesWell p → Goes (on_event client.peers client.cache p what) → ComesWell (takes client what).state
-    by_room p is before goes =
+    by_room p fact before goes =
         by_test Goes (client_room client) (happens client what) (still client.phase)
-        (λ _. subst (λ q. Goes (on_event client.peers client.cache q what)) (sym is) goes) (λ _. subst ComesWell (sym is) before)
+        (λ _. subst (λ q. Goes (on_event client.peers client.cache q what)) (sym fact) goes) (λ _. subst ComesWell (sym fact) before)
 
     pub comes_well : StandsWell client.phase → serving_in client.phase ≡ None → ComesWell (takes client what).state
     comes_well h none = by client.phase refl
       where
         by : (p : Phase) → client.phase ≡ p → ComesWell (takes client what).state
-        by (Down l) is = by_room (Down l) is tt (down_event client.peers client.cache l what)
-        by (Opening l o) is =
-            let known = subst StandsWell is h in
-            by_room (Opening l o) is known (opening_event client.peers client.cache l o known what brings)
-        by (Serves s) is = absurd (let clash : Some s ≡ None = sym (ap serving_in is) ∙ none in cc)
+        by (Down l) fact = by_room (Down l) fact tt (down_event client.peers client.cache l what)
+        by (Opening l o) fact =
+            let known = subst StandsWell fact h in
+            by_room (Opening l o) fact known (opening_event client.peers client.cache l o known what brings)
+        by (Serves s) fact = absurd (let clash : Some s ≡ None = sym (ap serving_in fact) ∙ none in cc)
 
     pub stands_on : StandsWell client.phase → StandsWell (takes client what).state
     stands_on h = by client.phase refl
       where
         by : (p : Phase) → client.phase ≡ p → StandsWell (takes client what).state
-        by (Down l) is = come_stands (takes client what).state (comes_well h (ap serving_in is))
-        by (Opening l o) is = come_stands (takes client what).state (comes_well h (ap serving_in is))
-        by (Serves s) is =
-            let w : ServesWell s = subst StandsWell is h in
-            serves_on s w what brings (takes client what).state (takes client what).outs (event_serves client s is w.waits what)
+        by (Down l) fact = come_stands (takes client what).state (comes_well h (ap serving_in fact))
+        by (Opening l o) fact = come_stands (takes client what).state (comes_well h (ap serving_in fact))
+        by (Serves s) fact =
+            let w : ServesWell s = subst StandsWell fact h in
+            serves_on s w what brings (takes client what).state (takes client what).outs (event_serves client s fact w.waits what)
 
   pub stands_first : (number : ℕ) (setup : Setup) (works : List Work) → Is (started setup.servers setup.groups)
       → StandsWell (first_client number setup works).phase
-  stands_first number setup works is = record { known = is; waits = λ opens. contrary (sym opens) }
+  stands_first number setup works fact = record { known = fact; waits = λ opens. contrary (sym opens) }

@@ -132,62 +132,62 @@ module _ (Is : GroupMapState → Type 0) where
   module _ (k : Known) (h : KnowsSuch Is k.maps.groups) (q : Questions) (s : Scanning) where
     with_groups : (maps : Maps) (news : News) (own : ℕ) (groups : Option GroupMapState) → KnowsSuch Is maps.groups
         → WentSo (welcomed_with (record k { maps = maps }) q s news own groups)
-    with_groups maps news own None is = is
-    with_groups maps news own (Some groups) is =
-        scans_so (record k { maps = maps; promised = promised_in news.slots }) is q (record s { asked = nothing_asked }) (input.Welcome own news.slots groups)
+    with_groups maps news own None fact = fact
+    with_groups maps news own (Some groups) fact =
+        scans_so (record k { maps = maps; promised = promised_in news.slots }) fact q (record s { asked = nothing_asked }) (input.Welcome own news.slots groups)
 
     welcomed_as_so : (news : News) (own : Option ℕ) → Is news.groups → WentSo (welcomed_as k q s news own)
     unfolding welcomed
-    welcomed_as_so news None is = h
-    welcomed_as_so news (Some own) is = with_groups (taken k.maps news) news own (taken k.maps news).groups (maps_taken k.maps news h is)
+    welcomed_as_so news None fact = h
+    welcomed_as_so news (Some own) fact = with_groups (taken k.maps news) news own (taken k.maps news).groups (maps_taken k.maps news h fact)
 
     welcomed_in_so : (m : Welcome) → Is m.news.groups → WentSo (welcomed_in k q s m)
-    welcomed_in_so m is =
+    welcomed_in_so m fact =
         by_test WentSo (is_meant k m) (welcomed_as k q s m.news (own_of s.asked m.ask)) (stays (at_scan k s) q)
-        (λ _. welcomed_as_so m.news (own_of s.asked m.ask) is) (λ _. h)
+        (λ _. welcomed_as_so m.news (own_of s.asked m.ask) fact) (λ _. h)
 
   -- ---- packets
 
   module _ (k : Known) (h : KnowsSuch Is k.maps.groups) (q : Questions) where
     welcome_so : (at : Stage) (m : Welcome) → Is m.news.groups → WentSo (on_welcome (record { known = k; stage = at }) q m)
     unfolding on_welcome
-    welcome_so (stage.Scanning s) m is = welcomed_in_so k h q s m is
-    welcome_so (stage.Settling s) m is = h
+    welcome_so (stage.Scanning s) m fact = welcomed_in_so k h q s m fact
+    welcome_so (stage.Settling s) m fact = h
 
     news_so : (at : Stage) (news : News) → Is news.groups → WentSo (on_news (record { known = k; stage = at }) q news)
     unfolding on_news
-    news_so at news is =
+    news_so at news fact =
         by_test WentSo (fits k.maps news && is_older k.maps news) (regrouped (record k { maps = taken k.maps news }) q news.groups at)
         (drops (record { known = k; stage = at }) q)
-        (λ _. regrouped_so (record k { maps = taken k.maps news }) (maps_taken k.maps news h is) q news.groups at) (λ _. h)
+        (λ _. regrouped_so (record k { maps = taken k.maps news }) (maps_taken k.maps news h fact) q news.groups at) (λ _. h)
 
     body_so : (at : Stage) (from : NodeId) (b : Body) → BringsMaps Is b → WentSo (on_body (record { known = k; stage = at }) q from b)
     unfolding on_body on_fenced on_found on_missing
-    body_so at from (body.Welcome m) is = welcome_so at m is
-    body_so at from (body.MapNews m) is = news_so at m is
-    body_so at from (body.Fenced m) is =
+    body_so at from (body.Welcome m) fact = welcome_so at m fact
+    body_so at from (body.MapNews m) fact = news_so at m fact
+    body_so at from (body.Fenced m) fact =
         let o : Opening = record { known = k; stage = at } in
         by_server_so k h at q (fenced_by o q m)
         (λ server. by_test WentSo (is_fenced o m) (scans o q (input.Fenced server m.generation m.held)) (drops o q)
         (λ _. scans_at_so k h q (input.Fenced server m.generation m.held) at) (λ _. h)) (server_in from)
-    body_so at from (body.Fragment m) is =
+    body_so at from (body.Fragment m) fact =
         let o : Opening = record { known = k; stage = at } in
         by_server_so k h at q (found_by o q m) (λ server. answers_so k h at q (λ own. input.Got own server m.generation m.fragment) (own_in at m.ask))
         (server_in from)
-    body_so at from (body.Missing m) is =
+    body_so at from (body.Missing m) fact =
         let o : Opening = record { known = k; stage = at } in
         by_server_so k h at q (missing_by o q m) (λ server. answers_so k h at q (λ own. input.Missing own server m.generation) (own_in at m.ask))
         (server_in from)
-    body_so at from (body.Stored m) is = stored_so k h at q m
-    body_so at from _ is = h
+    body_so at from (body.Stored m) fact = stored_so k h at q m
+    body_so at from _ fact = h
 
   pub packet_knows : (o : Opening) (q : Questions) (p : Packet) → BringsMaps Is p.body → KnowsSuch Is o.known.maps.groups
       → ProgressKnows (on_packet o q p).progress
   unfolding on_packet
-  packet_knows o q p is h =
+  packet_knows o q p fact h =
       by_test WentSo (names_known o.known.maps p.body) (on_body o q p.from p.body)
       (went (progress.Opening o) (drawn q) (hello o.known.owner.inc (next_ask q) ∷ []))
-      (λ _. body_so o.known h q o.stage p.from p.body is) (λ _. h)
+      (λ _. body_so o.known h q o.stage p.from p.body fact) (λ _. h)
 
   pub time_knows : (o : Opening) (q : Questions) → KnowsSuch Is o.known.maps.groups → ProgressKnows (on_tick o q).progress
   time_knows o q h = tick_so o.known h o.stage q

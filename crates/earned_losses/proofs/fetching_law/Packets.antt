@@ -11,7 +11,7 @@ use Rattle.client_serving.specs.Flights.{held_at, writes}
 use Rattle.client_serving.specs.Follow.{follows, hands, takes_back}
 use Rattle.client_serving.specs.Packets.{on_supply, on_forward, again, says_again, on_recall, is_gone, on_gone, is_acked, on_ack, ends_fetch, told_at, told_by, on_told, renews, promises, reports, may_report, polled, on_poll, promised_in, is_news, hears, regroups, takes_news, on_news, on_welcome, on_tick, on_body, asks_for_maps, on_packet}
 use Rattle.client_serving.specs.Reads.{with_reading, ends_reading, loses}
-use Rattle.client_serving.specs.Running.{runs}
+use Rattle.client_calls.specs.Running.{runs}
 use Rattle.client_serving.specs.Sends.{Done, gives, report}
 use Rattle.delta_feed.specs.Transition.{acknowledged, new_epoch}
 use Rattle.group_map.specs.GroupMapState.{GroupMapState}
@@ -190,7 +190,7 @@ module _ (s : Serving) (fresh : s.lasting.questions.last < next_ask s.lasting.qu
 
   on_gone_turns : (m : Gone) → packet.body ≡ body.Gone m → Turn (on_gone s m)
   unfolding on_gone loses
-  on_gone_turns m is =
+  on_gone_turns m fact =
       by_test Turn (is_gone s m) (loses s m.block m.seg) (still s)
       (λ meant. record {
         draws = inl refl;
@@ -199,7 +199,7 @@ module _ (s : Serving) (fresh : s.lasting.questions.last < next_ask s.lasting.qu
         opens = λ some. contrary (sym some);
         reading = λ r read. absurd (let clash : None ≡ Some r = read in cc);
         says = (
-          inl (record { packet = packet; delivers = refl; gone = m; bears = is; names = refl; meant = meant }),
+          inl (record { packet = packet; delivers = refl; gone = m; bears = fact; names = refl; meant = meant }),
           all_quiet_say s (Deliver packet) None _ (answered_quiet s.lasting.items.unanswered (answer.Lost m.seg)),
         );
       })
@@ -207,7 +207,7 @@ module _ (s : Serving) (fresh : s.lasting.questions.last < next_ask s.lasting.qu
 
   -- what a server told
   module _ (server : ℕ) (from : packet.from ≡ node.Server server) (ask : ℕ) (t : Answered) (tells : Tells ask t packet.body) where
-    module _ (was : ReadingState) (is : reading_in s.call ≡ Some was) where
+    module _ (was : ReadingState) (fact : reading_in s.call ≡ Some was) where
       -- what is read then is this
       module _ (r : ReadingState) (at : BlockAt) where
         abbrev u : Serving
@@ -264,7 +264,7 @@ module _ (s : Serving) (fresh : s.lasting.questions.last < next_ask s.lasting.qu
             let x : Next = (on_answer was groups ask server t).next in
             ends_turn r at x (λ q read. inr (inl (record {
               was = was;
-              reads = is;
+              reads = fact;
               packet = packet;
               delivers = refl;
               server = server;
@@ -281,7 +281,7 @@ module _ (s : Serving) (fresh : s.lasting.questions.last < next_ask s.lasting.qu
 
       told_turns : (b : Option BlockAt) → was.target.block ≡ b → (groups : Option GroupMapState) → Turn (told_at s b (heard (Some was) groups ask server t))
       told_turns None block groups = still_turns
-      told_turns (Some at) block None = ends_turn was at next.Wait (λ q read. inl is)
+      told_turns (Some at) block None = ends_turn was at next.Wait (λ q read. inl fact)
       told_turns (Some at) block (Some groups) = heard_turns at block groups
 
     told_by_turns : Turn (told_by s server ask t)
@@ -289,15 +289,15 @@ module _ (s : Serving) (fresh : s.lasting.questions.last < next_ask s.lasting.qu
     told_by_turns = by (reading_in s.call) refl
       where
         by : (o : Option ReadingState) → reading_in s.call ≡ o → Turn (told_at s (block_read o) (heard o s.maps.groups ask server t))
-        by None is = still_turns
-        by (Some was) is = told_turns was is was.target.block refl s.maps.groups
+        by None fact = still_turns
+        by (Some was) fact = told_turns was fact was.target.block refl s.maps.groups
 
   on_told_turns : (from : NodeId) → packet.from ≡ from → (ask : ℕ) (t : Answered) → Tells ask t packet.body → Turn (on_told s from ask t)
-  on_told_turns (node.Server server) is ask t tells = told_by_turns server is ask t tells
-  on_told_turns (node.Client k) is ask t tells = still_turns
-  on_told_turns (node.Manager k) is ask t tells = still_turns
-  on_told_turns node.Cleaner is ask t tells = still_turns
-  on_told_turns node.Registry is ask t tells = still_turns
+  on_told_turns (node.Server server) fact ask t tells = told_by_turns server fact ask t tells
+  on_told_turns (node.Client k) fact ask t tells = still_turns
+  on_told_turns (node.Manager k) fact ask t tells = still_turns
+  on_told_turns node.Cleaner fact ask t tells = still_turns
+  on_told_turns node.Registry fact ask t tells = still_turns
 
   -- ---- maps
 
@@ -324,23 +324,23 @@ module _ (s : Serving) (fresh : s.lasting.questions.last < next_ask s.lasting.qu
 
   body_turns : (b : Body) → packet.body ≡ b → Turn (on_body s packet.from b)
   unfolding on_welcome
-  body_turns (body.Grant m) is = on_grant_turns s fresh packet m is
-  body_turns (body.Supply m) is = goes_turn (on_supply s m) (on_supply_goes s m)
-  body_turns (body.Forward m) is = goes_turn (on_forward s m) (on_forward_goes s m)
-  body_turns (body.Recall m) is = goes_turn (on_recall s m) (on_recall_goes s m)
-  body_turns (body.Gone m) is = on_gone_turns m is
-  body_turns (body.DeltaAck m) is = goes_turn (still (on_ack s m)) (on_ack_goes s m)
-  body_turns (body.Poll m) is = goes_turn (on_poll s packet.from m) (on_poll_goes s packet.from m)
-  body_turns (body.Stored m) is = goes_turn (writes s (log_in.Acked m.name m.index m.generation)) (writes_go s (log_in.Acked m.name m.index m.generation))
-  body_turns (body.Fragment m) is =
-      on_told_turns packet.from refl m.ask (answered.Held m.fragment) (subst (Tells m.ask (answered.Held m.fragment)) (sym is) (refl, refl))
-  body_turns (body.Missing m) is =
-      on_told_turns packet.from refl m.ask (answered.Missing m.generation) (subst (Tells m.ask (answered.Missing m.generation)) (sym is) (refl, refl))
-  body_turns (body.MapNews m) is = on_news_turns m (subst (Bears s (Deliver packet) m) (sym is) refl)
-  body_turns (body.Welcome m) is =
+  body_turns (body.Grant m) fact = on_grant_turns s fresh packet m fact
+  body_turns (body.Supply m) fact = goes_turn (on_supply s m) (on_supply_goes s m)
+  body_turns (body.Forward m) fact = goes_turn (on_forward s m) (on_forward_goes s m)
+  body_turns (body.Recall m) fact = goes_turn (on_recall s m) (on_recall_goes s m)
+  body_turns (body.Gone m) fact = on_gone_turns m fact
+  body_turns (body.DeltaAck m) fact = goes_turn (still (on_ack s m)) (on_ack_goes s m)
+  body_turns (body.Poll m) fact = goes_turn (on_poll s packet.from m) (on_poll_goes s packet.from m)
+  body_turns (body.Stored m) fact = goes_turn (writes s (log_in.Acked m.name m.index m.generation)) (writes_go s (log_in.Acked m.name m.index m.generation))
+  body_turns (body.Fragment m) fact =
+      on_told_turns packet.from refl m.ask (answered.Held m.fragment) (subst (Tells m.ask (answered.Held m.fragment)) (sym fact) (refl, refl))
+  body_turns (body.Missing m) fact =
+      on_told_turns packet.from refl m.ask (answered.Missing m.generation) (subst (Tells m.ask (answered.Missing m.generation)) (sym fact) (refl, refl))
+  body_turns (body.MapNews m) fact = on_news_turns m (subst (Bears s (Deliver packet) m) (sym fact) refl)
+  body_turns (body.Welcome m) fact =
       by_test Turn (m.inc == s.lasting.inc) (on_news s m.news) (still s)
-      (λ _. on_news_turns m.news (subst (Bears s (Deliver packet) m.news) (sym is) refl)) (λ _. still_turns)
-  body_turns _ is = still_turns
+      (λ _. on_news_turns m.news (subst (Bears s (Deliver packet) m.news) (sym fact) refl)) (λ _. still_turns)
+  body_turns _ fact = still_turns
 
   asks_turn : Turn (asks_for_maps s)
   unfolding asks_for_maps

@@ -11,9 +11,9 @@ use Rattle.client_parts.specs.declared.call.Going.TheVariants.{On, Ends}
 use Rattle.client_parts.specs.declared.call.Going.{Going}
 use Rattle.client_parts.specs.Reads.{reading_in}
 use Rattle.client_serving.specs.declared.serving.Serving.{Serving}
-use Rattle.client_serving.specs.Opens.{begins_call, call_at, opens}
-use Rattle.client_serving.specs.Packets.{serving_room, tokens_room}
-use Rattle.client_serving.specs.Running.{goes_on, runs}
+use Rattle.client_calls.specs.Opens.{begins_call, call_at, opens}
+use Rattle.client_node.specs.Room.{serving_room, tokens_room}
+use Rattle.client_calls.specs.Running.{goes_on, runs}
 use Rattle.client_serving.specs.Sends.{Done, gives}
 use Rattle.log_owner.specs.Opening.{log_room}
 use Rattle.node_base.specs.Asking.{next_ask}
@@ -71,8 +71,8 @@ module _ (s : Serving) (what : Do) where
   open_call t r read = by t.call read
     where
       by : (o : _) → reading_in o ≡ Some r → is_none o ≡ false
-      by None is = absurd (let clash : None ≡ Some r = is in cc)
-      by (Some call) is = refl
+      by None fact = absurd (let clash : None ≡ Some r = fact in cc)
+      by (Some call) fact = refl
 
   served : (d : Done) → WaitsFor s → Turns s what d → Served d.state d.outs
   served d waits a = record {
@@ -139,19 +139,19 @@ module _ (s : Serving) (waits : WaitsFor s) where
           still_open (inr w) some = subst (λ (i : Items). is_some i.unanswered ≡ true) (sym w.items) (opens w.was)
 
           never : (a b : Option ReadingState) → (b ≡ a) ⊎ (b ≡ None) → a ≡ None → (r : ReadingState) → b ≡ Some r → ⊥
-          never a b (inl same) was r is = absurd (let clash : None ≡ Some r = sym was ∙ (sym same ∙ is) in cc)
-          never a b (inr over) was r is = absurd (let clash : None ≡ Some r = sym over ∙ is in cc)
+          never a b (inl same) was r fact = absurd (let clash : None ≡ Some r = sym was ∙ (sym same ∙ fact) in cc)
+          never a b (inr over) was r fact = absurd (let clash : None ≡ Some r = sym over ∙ fact in cc)
 
           nothing : ((runs t).state.call ≡ None) ⊎ Waits t (runs t).state → (r : ReadingState) → reading_in (runs t).state.call ≡ Some r → ⊥
-          nothing (inl ended) r is = absurd (let clash : None ≡ Some r = sym (ap reading_in ended) ∙ is in cc)
-          nothing (inr w) r is = never (reading_in t.call) (reading_in (runs t).state.call) w.reading unread r is
+          nothing (inl ended) r fact = absurd (let clash : None ≡ Some r = sym (ap reading_in ended) ∙ fact in cc)
+          nothing (inr w) r fact = never (reading_in t.call) (reading_in (runs t).state.call) w.reading unread r fact
 
     no_call_reads : reading_in s.call ≡ None
     no_call_reads = by s.call none
       where
         by : (o : _) → is_none o ≡ true → reading_in o ≡ None
-        by None is = refl
-        by (Some call) is = contrary is
+        by None fact = refl
+        by (Some call) fact = contrary fact
 
     going_so : (going : Going) → GoingNew going → Goes_so (saying (goes_on waiting_on going).outs (runs (goes_on waiting_on going).state))
     unfolding goes_on
@@ -169,8 +169,8 @@ module _ (s : Serving) (waits : WaitsFor s) where
   unopened closed = by (is_none s.call) refl
     where
       by : (t : Bool) → is_none s.call ≡ t → t ≡ true
-      by true is = refl
-      by false is = contrary (sym (subst (λ i. is_some i ≡ false) same_item closed) ∙ waits is)
+      by true fact = refl
+      by false fact = contrary (sym (subst (λ i. is_some i ≡ false) same_item closed) ∙ waits fact)
 
   wanted_new : (number : ℕ) (wanted : Option Work) → AnyGoingNew (call_at next number wanted)
   wanted_new number None = tt
@@ -226,15 +226,15 @@ below_end : (k : ℕ) → has_room k ≡ true → nat_lt k u32_end ≡ true
 below_end k room = grind (arith, nat_tests)
 
 pub event_serves : (client : Client) (s : Serving) → client.phase ≡ Serves s → WaitsFor s → (what : Do) → WentSo s what (takes client what)
-event_serves client s is waits what =
+event_serves client s fact waits what =
     by_test (WentSo s what) (client_room client) (happens client what) (still client.phase)
-    (λ room. subst (λ p. WentSo s what (on_event client.peers client.cache p what)) (sym is)
+    (λ room. subst (λ p. WentSo s what (on_event client.peers client.cache p what)) (sym fact)
     (event_so s waits (next_later s.lasting.questions.last (roomy room)) (below_end s.tokens.req (roomy_wants room)) client.peers client.cache what))
-    (λ _. subst (λ p. WentSo s what (still p)) (sym is) (still_serves s what waits))
+    (λ _. subst (λ p. WentSo s what (still p)) (sym fact) (still_serves s what waits))
   where
     roomy : client_room client ≡ true → has_room s.lasting.questions.last ≡ true
     roomy room =
-        subst (λ p. has_room (lasting_of p).questions.last ≡ true) is
+        subst (λ p. has_room (lasting_of p).questions.last ≡ true) fact
         (and_first (has_room (lasting_of client.phase).questions.last) (phase_room client.phase)
         (and_second (has_room (lasting_of client.phase).inc) (has_room (lasting_of client.phase).questions.last && phase_room client.phase) room))
 
@@ -242,6 +242,6 @@ event_serves client s is waits what =
     roomy_wants room =
         let rest = and_second (has_room (lasting_of client.phase).inc) (has_room (lasting_of client.phase).questions.last && phase_room client.phase) room in
         let serves : serving_room s ≡ true =
-        subst (λ p. phase_room p ≡ true) is (and_second (has_room (lasting_of client.phase).questions.last) (phase_room client.phase) rest) in
+        subst (λ p. phase_room p ≡ true) fact (and_second (has_room (lasting_of client.phase).questions.last) (phase_room client.phase) rest) in
         and_first (has_room s.tokens.req) (log_room s.log && tokens_room s)
         (and_second (has_room s.maps.version) (has_room s.tokens.req && (log_room s.log && tokens_room s)) serves)

@@ -9,21 +9,19 @@ use Rattle.client_node.specs.Phases.{client_step}
 use Rattle.client_node.specs.Starting.{first_client}
 use Rattle.group_map.specs.GroupMapState.{GroupMapState}
 use Rattle.group_map.specs.WellFormed.{IsGroupMap}
-use Rattle.group_map.proofs.Presence.{is_present}
 use Rattle.node_ties.specs.client_law.Events.{after_events}
+use Rattle.node_ties.proofs.client_law.Groups.{has_present}
 use Rattle.node_ties.specs.client_law.Grouped.{KnowsSuch}
+use Rattle.node_ties.specs.client_law.Groups.{HasPresentGroups}
 use Rattle.node_ties.specs.client_law.Maps.{DoBrings}
 use Rattle.wire_msg.specs.declared.packet.Do.{Do}
-use Rattle.earned_losses.specs.fetching_law.Present.{HasPresentGroups, ReadsByPresentGroups, groups_read}
+use Rattle.earned_losses.specs.fetching_law.Present.{ReadsByPresentGroups, groups_read}
 use Rattle.earned_losses.proofs.fetching_law.Maps.{StandsWell, stands_first, stands_on}
 
 after_all : (client : Client) (events : List Do) → AllByRecursion (DoBrings IsGroupMap) events → StandsWell IsGroupMap client.phase
     → StandsWell IsGroupMap (after_events client events).phase
 after_all client [] brings h = h
 after_all client (what ∷ rest) brings h = after_all (client_step client what).node rest brings.1 (stands_on IsGroupMap client what brings.0 h)
-
-has_present : (groups : GroupMapState) → IsGroupMap groups → HasPresentGroups groups
-has_present groups is = record { whole = is; present = λ id group found current. is_present groups id group is.present found current }
 
 known_present : (groups : Option GroupMapState) → KnowsSuch IsGroupMap groups → IfSome groups HasPresentGroups
 known_present None known = tt

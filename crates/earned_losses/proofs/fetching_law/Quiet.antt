@@ -81,8 +81,8 @@ Less before now = (now ≡ before) ⊎ (now ≡ None)
 
 pub less_then : (a b c : Option ReadingState) → Less a b → Less b c → Less a c
 less_then a b c x (inr none) = inr none
-less_then a b c (inl same) (inl is) = inl (is ∙ same)
-less_then a b c (inr none) (inl is) = inr (is ∙ none)
+less_then a b c (inl same) (inl fact) = inl (fact ∙ same)
+less_then a b c (inr none) (inl fact) = inr (fact ∙ none)
 
 -- what outlives a crash, the maps and the call stay, and what the call reads stays or is over
 pub record Rests (s t : Serving) : Type 0 where
@@ -221,13 +221,13 @@ says s outs quiet = record { rests = itself s; quiet = quiet }
 
 follows_one_goes : (s : Serving) (o : outputs.Out) → OutTold Nowhere o → Goes s (follows_one s o)
 unfolding follows_one
-follows_one_goes s (output.Want block req again mode) is = says s (wants s block req again mode) (wants_quiet s block req again mode)
-follows_one_goes s (output.Gave block stamp) is =
+follows_one_goes s (output.Want block req again mode) fact = says s (wants s block req again mode) (wants_quiet s block req again mode)
+follows_one_goes s (output.Gave block stamp) fact =
     says s (gaves s block stamp) (all_append IsQuiet (deltas s block) _ (pushed_quiet s.managers s.feed _) (tt, tt))
-follows_one_goes s (output.Flush block) is = seals_go s
-follows_one_goes s (output.Read block place) is = absurd (let e = is.there.place_told in cc)
-follows_one_goes s (output.Ready block) is = stays s (notes_copy s block) (notes_copy_rests s block)
-follows_one_goes s (output.Supply block ver value) is = stays s s (itself s)
+follows_one_goes s (output.Flush block) fact = seals_go s
+follows_one_goes s (output.Read block place) fact = absurd (let e = fact.there.place_told in cc)
+follows_one_goes s (output.Ready block) fact = stays s (notes_copy s block) (notes_copy_rests s block)
+follows_one_goes s (output.Supply block ver value) fact = stays s s (itself s)
 
 pub follows_go : (s : Serving) (outs : List outputs.Out) → AllByRecursion (OutTold Nowhere) outs → Goes s (follows s outs)
 unfolding follows
@@ -262,22 +262,22 @@ takes_back_goes s block stamp keep =
 -- ---- what is asked again
 
 call_reads : (call : Option Call) (o : Option ReadingState) (q : ReadingState) → reading_in (call_with call o) ≡ Some q → o ≡ Some q
-call_reads None o q is = absurd (let clash : None ≡ Some q = is in cc)
-call_reads (Some call) o q is = is
+call_reads None o q fact = absurd (let clash : None ≡ Some q = fact in cc)
+call_reads (Some call) o q fact = fact
 
 one_reading : (x y : ReadingState) → Some x ≡ Some y → x ≡ y
-one_reading x y is = cc
+one_reading x y fact = cc
 
 kept_fetched : (tokens : TokensState) (o : Option ReadingState) (q : ReadingState) → kept_while tokens o ≡ Some q → is_fetched tokens q.target.block ≡ true
-kept_fetched tokens None q = λ is. absurd (let clash : None ≡ Some q = is in cc)
+kept_fetched tokens None q = λ fact. absurd (let clash : None ≡ Some q = fact in cc)
 kept_fetched tokens (Some r) q =
     by_test (λ (o : Option ReadingState). o ≡ Some q → is_fetched tokens q.target.block ≡ true) (is_fetched tokens r.target.block) (Some r) None
     (λ t same. subst (λ (x : ReadingState). is_fetched tokens x.target.block ≡ true) (one_reading r q same) t)
-    (λ _ is. absurd (let clash : None ≡ Some q = is in cc))
+    (λ _ fact. absurd (let clash : None ≡ Some q = fact in cc))
 
 still_read : (a b : Option ReadingState) → Less a b → (r : ReadingState) → b ≡ Some r → a ≡ Some r
-still_read a b (inl same) r is = sym same ∙ is
-still_read a b (inr none) r is = absurd (let clash : None ≡ Some r = sym none ∙ is in cc)
+still_read a b (inl same) r fact = sym same ∙ fact
+still_read a b (inr none) r fact = absurd (let clash : None ≡ Some r = sym none ∙ fact in cc)
 
 -- where a block is asked for again and is read still, its want has a later number than any before
 pub asks_again : (u : Serving) (at : BlockAt) → nat_lt u.tokens.req u32_end ≡ true → (q : ReadingState)

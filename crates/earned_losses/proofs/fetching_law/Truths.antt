@@ -155,13 +155,13 @@ module _ (e : Estate AnyNode) (c : ℕ) where
         → what_is_read (serving_at e c (suc count)) ≡ Some r → ReadingTrue e reader h.since (suc count) r.ask r
         → IsOut e reader (suc count) r.ask r.target.seg.name → (r.stage ≡ Doubted → Doubt h.since (suc count) r.target)
         → Reads (suc count) r
-    reads_on r was target h same is so out doubt = record {
+    reads_on r was target h same fact so out doubt = record {
       since = h.since;
       item = h.item;
       begins = (let a = h.begins in omega arith);
       reads = λ k since limit.
           ⊎_elim (λ last. subst (λ n. ReadsAt e c n h.item r.target.seg) (sym last)
-          (record { reading = r; reads = is; of = refl; its_item = same h.item (h.reads count h.begins (omega arith)).its_item }))
+          (record { reading = r; reads = fact; of = refl; its_item = same h.item (h.reads count h.begins (omega arith)).its_item }))
           (λ before. subst (λ (x : Target). ReadsAt e c k h.item x.seg) (sym target) (h.reads k since before)) (last_or_before k count limit);
       block = h.block;
       looks = ap (λ (x : Target). x.block) target ∙ h.looks;
@@ -173,15 +173,15 @@ module _ (e : Estate AnyNode) (c : ℕ) where
     stays_so : WantsOn → (r : ReadingState) → Reads count r
         → ((item : ℕ) → open_item (serving_at e c count) ≡ Some item → open_item (serving_at e c (suc count)) ≡ Some item)
         → what_is_read (serving_at e c (suc count)) ≡ Some r → AsksOf e reader new r.ask r.target.seg.name → Reads (suc count) r
-    stays_so on r h same is asks =
-        reads_on r r refl h same is (reading_later e reader h.since count (suc count) r.ask r (omega arith) h.so)
+    stays_so on r h same fact asks =
+        reads_on r r refl h same fact (reading_later e reader h.since count (suc count) r.ask r (omega arith) h.so)
         (out_next e reader count r.ask r.target.seg.name new sent rises asks h.out) (λ doubted. doubt_on on h.since r.target (h.doubt doubted))
 
     -- nothing happens to the client
     pub aside : serving_at e c (suc count) ≡ serving_at e c count → ((p : Packet) → In p new → p.from ≡ reader → ⊥) → AllReads count → AllReads (suc count)
-    aside same others all r is =
-        let before : what_is_read (serving_at e c count) ≡ Some r = sym (ap what_is_read same) ∙ is in
-        stays_so (λ b life highest epoch was t there. was t (sym same ∙ there)) r (all r before) (λ item opens. ap open_item same ∙ opens) is
+    aside same others all r fact =
+        let before : what_is_read (serving_at e c count) ≡ Some r = sym (ap what_is_read same) ∙ fact in
+        stays_so (λ b life highest epoch was t there. was t (sym same ∙ there)) r (all r before) (λ item opens. ap open_item same ∙ opens) fact
         (λ p m late from asks number. absurd (others p late from))
 
     -- ---- its own event
@@ -203,7 +203,7 @@ module _ (e : Estate AnyNode) (c : ℕ) where
           subst (λ (x : Serving). Later b life highest epoch x.tokens) (one_serving t u (sym is_there ∙ there)) (wants b life highest epoch (was s was_there))
 
       read_before : (was : ReadingState) → reading_in s.call ≡ Some was → Reads count was
-      read_before was is = all was (ap what_is_read was_there ∙ is)
+      read_before was fact = all was (ap what_is_read was_there ∙ fact)
 
       fresh_at : s.lasting.questions.last < t.lasting.questions.last → last_at e reader count < t.lasting.questions.last
       fresh_at fresh = subst (λ k. k < t.lasting.questions.last) (sym was_last) fresh
@@ -215,15 +215,16 @@ module _ (e : Estate AnyNode) (c : ℕ) where
       told_true : (was : ReadingState) (h : Reads count was) (server ask : ℕ) (p : Packet) → In p (moment e count).sent → p.from ≡ nodes.Server server
           → p.to ≡ reader → (x : Answered) → (b : Body) → p.body ≡ b → Tells ask x b → (on : RoundTrue e reader h.since count was.ask was) → ask ≡ was.ask
           → ToldSo (λ v generation. MissedIn e on.drawn count v generation was.target.seg.name) server x
-      told_true was h server ask p among from to (answered.Held f) b is tells on same = tt
-      told_true was h server ask p among from to (answered.Missing g) (body.Missing m) is tells on same =
+      told_true was h server ask p among from to (answered.Held f) b fact tells on same = tt
+      told_true was h server ask p among from to (answered.Missing g) (body.Missing m) fact tells on same =
           subst (λ z. MissedIn e on.drawn count server z was.target.seg.name) (sym (one_generation g m.generation tells.1))
-          (told_of e reader count was.ask server was.target.seg.name m h.out (answers server p m among from to is) (tells.0 ∙ same) on.drawn on.until on.fresh)
+          (told_of e reader count was.ask server was.target.seg.name m h.out (answers server p m among from to fact) (tells.0
+          ∙ same) on.drawn on.until on.fresh)
         where
           one_generation : (x y : ℕ) → answered.Missing x ≡ answered.Missing y → x ≡ y
           one_generation x y e = cc
-      told_true was h server ask p among from to (answered.Missing g) (body.Fragment m) is tells on same = absurd (let clash = tells.1 in cc)
-      told_true was h server ask p among from to (answered.Missing g) _ is tells on same = absurd tells
+      told_true was h server ask p among from to (answered.Missing g) (body.Fragment m) fact tells on same = absurd (let clash = tells.1 in cc)
+      told_true was h server ask p among from to (answered.Missing g) _ fact tells on same = absurd tells
 
       module _ (r : ReadingState) (read : reading_in t.call ≡ Some r) (item : ℕ) (now_open : t.lasting.items.unanswered ≡ Some item)
           (same : t.lasting.items.unanswered ≡ s.lasting.items.unanswered) (asks : AsksOf e reader new r.ask r.target.seg.name) where
@@ -300,8 +301,8 @@ module _ (e : Estate AnyNode) (c : ℕ) where
 
         named_group : (groups : Option GroupMapState) → KnowsSuch IsNamed groups → (id : ℕ) (group : Group) → group_in groups id ≡ Some group
             → stripe_by (group_at e.world id) ≡ stripe_of_group group
-        named_group None h id group is = absurd (let clash : None ≡ Some group = is in cc)
-        named_group (Some groups) h id group is = h id group is
+        named_group None h id group fact = absurd (let clash : None ≡ Some group = fact in cc)
+        named_group (Some groups) h id group fact = h id group fact
 
         -- the first round begins
         begins_so : Begins s what t.lasting.questions.last r → Reads (suc count) r

@@ -7,7 +7,7 @@ use Rattle.xfs_base.proofs.Booleans.{contrary}
 use Rattle.client_parts.specs.Reads.{reading_in}
 use Rattle.client_serving.specs.declared.serving.Serving.{Serving}
 use Rattle.client_serving.specs.Reads.{group_in}
-use Rattle.client_serving.specs.Running.{runs}
+use Rattle.client_calls.specs.Running.{runs}
 use Rattle.client_serving.specs.Sends.{Done}
 use Rattle.group_map.specs.declared.group.Group.{Group}
 use Rattle.group_map.specs.GroupMapState.{GroupMapState}
@@ -203,11 +203,11 @@ module _ (s : Serving) (what : Do) where
   none_read a r none some = absurd cc
 
   pub read_before : (a b : Option ReadingState) → Less a b → (r : ReadingState) → b ≡ Some r → a ≡ Some r
-  read_before a b (inl same) r is = sym same ∙ is
-  read_before a b (inr none) r is = absurd (none_read b r none is)
+  read_before a b (inl same) r fact = sym same ∙ fact
+  read_before a b (inr none) r fact = absurd (none_read b r none fact)
 
   no_call : (call : Option Call) (r : ReadingState) → call ≡ None → reading_in call ≡ Some r → ⊥
-  no_call call r none is = none_read (reading_in call) r (ap reading_in none) is
+  no_call call r none fact = none_read (reading_in call) r (ap reading_in none) fact
 
   pub rests_turn : (d : Done) → Goes s d → Turns d
   rests_turn d g = record {
@@ -215,7 +215,7 @@ module _ (s : Serving) (what : Do) where
     maps = inl g.rests.maps;
     wants = g.rests.wants;
     opens = λ some. record { was = sym g.rests.call ∙ some; items = ap (λ (l : Lasting). l.items) g.rests.lasting };
-    reading = λ r is. inl (read_before (reading_in s.call) (reading_in d.state.call) g.rests.reading r is);
+    reading = λ r fact. inl (read_before (reading_in s.call) (reading_in d.state.call) g.rests.reading r fact);
     says = all_quiet_say (reading_in d.state.call) d.outs g.quiet;
   }
 
@@ -248,10 +248,10 @@ module _ (s : Serving) (what : Do) where
       maps = maps_then a.maps;
       wants = λ k inc highest epoch l. b.runs.wants k inc highest epoch (a.wants k inc highest epoch l);
       opens = runs_open b.runs.ends;
-      reading = λ r is.
+      reading = λ r fact.
           subst (λ last. Comes x.state.tokens last r) (sym same_last)
           (comes_on d.state.tokens x.state.tokens b.runs.wants d.state.lasting.questions.last r
-          (a.reading r (read_before (reading_in d.state.call) (reading_in x.state.call) less r is)));
+          (a.reading r (read_before (reading_in d.state.call) (reading_in x.state.call) less r fact)));
       says = all_append (Says (reading_in x.state.call)) d.outs x.outs (all_say_less (reading_in d.state.call) (reading_in x.state.call) less d.outs a.says)
           (all_quiet_say (reading_in x.state.call) x.outs b.quiet);
     }

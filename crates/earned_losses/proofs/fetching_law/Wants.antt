@@ -77,16 +77,16 @@ module _ (b : BlockId) (inc highest epoch : ℕ) where
       (λ t. granted_so h block stamp entry.ver entry.place)
 
   ended_so : (h : Held) (block : BlockId) (fetch : Option Fetch) (value : Option (List ℕ)) → At block h → At block (fetch_ended h fetch value)
-  ended_so h block None value is = is
-  ended_so h block (Some fetch) value is = is
+  ended_so h block None value fact = fact
+  ended_so h block (Some fetch) value fact = fact
 
   put_off_so : (h : Held) (block : BlockId) (stamp : Stamp) (keep : Bool) → At block h → At block (put_off h stamp keep)
-  put_off_so h block stamp keep is =
-      by_test (At block) (gives_after h.giving stamp) h (record h { giving = Some (record { stamp = stamp; keep = keep }) }) (λ t. is) (λ t. is)
+  put_off_so h block stamp keep fact =
+      by_test (At block) (gives_after h.giving stamp) h (record h { giving = Some (record { stamp = stamp; keep = keep }) }) (λ t. fact) (λ t. fact)
 
   given_up_so : (h : Held) (block : BlockId) (stamp : Stamp) (keep : Bool) → At block h → At block (given_up h stamp keep)
-  given_up_so h block stamp keep is =
-      by_test (At block) (keep && is_held h.mode) (record h { mode = Copy; stamp = stamp; giving = None }) _ (λ t. is) (λ t. is)
+  given_up_so h block stamp keep fact =
+      by_test (At block) (keep && is_held h.mode) (record h { mode = Copy; stamp = stamp; giving = None }) _ (λ t. fact) (λ t. fact)
 
   -- ---- wants
 
@@ -203,7 +203,7 @@ module _ (b : BlockId) (inc highest epoch : ℕ) where
   steps_so f each s (q ∷ qs) l = steps_so f each (f s q).state qs (each s q l)
 
   dropped_so : (slot : ℕ) (block : BlockId) (h : Held) → At block h → At block (dropped_in slot block h)
-  dropped_so slot block h is = by_test (At block) (is_in_slot slot block) (promise_dropped h) h (λ t. is) (λ t. is)
+  dropped_so slot block h fact = by_test (At block) (is_in_slot slot block) (promise_dropped h) h (λ t. fact) (λ t. fact)
 
   same_dropped : (slot : ℕ) (block : BlockId) → dropped_in slot block (held_of [] block) ≡ held_of [] block
   same_dropped slot block = by_test (λ (g : Held). g ≡ held_of [] block) (is_in_slot slot block) _ _ (λ t. refl) (λ t. refl)
@@ -230,8 +230,8 @@ module _ (b : BlockId) (inc highest epoch : ℕ) where
       (and_first (nat_lt slot 8 && nat_le (epoch_of s.epochs slot) at) (nat_le (length (fetched_in slot s.blocks)) (u32_end - s.req)) t))) l)) (λ t. l)
 
   repeated_so : (s : TokensState) (block : BlockId) (want : Option Wanted) → (held_of s.blocks block).want ≡ want → Later s → Keeps (repeated s block want)
-  repeated_so s block None is l = l
-  repeated_so s block (Some w) is l = put_so s block (asked_again (held_of s.blocks block) w) (λ same. subst Above is (l.want block same)) l
+  repeated_so s block None fact l = l
+  repeated_so s block (Some w) fact l = put_so s block (asked_again (held_of s.blocks block) w) (λ same. subst Above fact (l.want block same)) l
 
   ask_again_so : (s : TokensState) (block : BlockId) → Later s → Keeps (ask_again s block)
   unfolding ask_again

@@ -17,11 +17,11 @@ use Rattle.client_parts.specs.Fitting.{put_fits}
 use Rattle.client_parts.specs.Flights.{is_settling, is_giving}
 use Rattle.client_parts.specs.Lasting.{log_of}
 use Rattle.client_parts.specs.Reads.{reading_in}
-use Rattle.client_serving.specs.Blocks.{Made, needs, got, gets, wrote, changes, held_back, changes_if_fits, puts, lets_go, changed, puts_again, puts_at, is_settled, synced_acts, syncs, makes}
+use Rattle.client_calls.specs.Blocks.{Made, needs, got, gets, wrote, changes, held_back, changes_if_fits, puts, lets_go, changed, puts_again, puts_at, is_settled, synced_acts, syncs, makes}
 use Rattle.client_serving.specs.declared.serving.Serving.{Serving}
 use Rattle.client_serving.specs.Flights.{held_at, notes_settled, keeps_clean, gives_up, gives_if_clean, feeds, settled_rows, settles, writes_one, seals_again, writes}
 use Rattle.client_serving.specs.Follow.{notes_clean, notes_gone, seals}
-use Rattle.client_serving.specs.Running.{goes_on, Ran, answers_call, ran, runs_call, runs_once, runs_upto, runs, most_steps}
+use Rattle.client_calls.specs.Running.{goes_on, Ran, answers_call, ran, runs_call, runs_once, runs_upto, runs, most_steps}
 use Rattle.client_serving.specs.Sends.{Done, gives}
 use Rattle.file_plan.specs.declared.block_call.BlockAnswer.{BlockAnswer}
 use Rattle.file_plan.specs.declared.block_call.BlockCall.{BlockCall}
@@ -234,14 +234,14 @@ pub rests_run : (s t : Serving) → Rests s t → Runs s t
 rests_run s t r = record { questions = ap (λ (l : Lasting). l.questions) r.lasting; maps = r.maps; wants = r.wants; ends = by t.call refl }
   where
     by : (o : Option Call) → t.call ≡ o → (t.call ≡ None) ⊎ Waits s t
-    by None is = inl is
-    by (Some call) is = inr (record { was = sym r.call ∙ ap is_none is; items = ap (λ (l : Lasting). l.items) r.lasting; reading = r.reading })
+    by None fact = inl fact
+    by (Some call) fact = inr (record { was = sym r.call ∙ ap is_none fact; items = ap (λ (l : Lasting). l.items) r.lasting; reading = r.reading })
 
 -- the call that was put aside waits on, or its item is answered
-module _ (s : Serving) (call : Call) (is : s.call ≡ Some call) (t : Serving) (lasting : t.lasting ≡ s.lasting) (maps : t.maps ≡ s.maps)
+module _ (s : Serving) (call : Call) (fact : s.call ≡ Some call) (t : Serving) (lasting : t.lasting ≡ s.lasting) (maps : t.maps ≡ s.maps)
     (wants : Lasts s.tokens t.tokens) (none : t.call ≡ None) where
   was_open : is_none s.call ≡ false
-  was_open = ap is_none is
+  was_open = ap is_none fact
 
   goes_on_runs : (going : Going) → GoingNew going → RunsOn s (goes_on t going)
   unfolding goes_on
@@ -265,7 +265,7 @@ module _ (s : Serving) (call : Call) (is : s.call ≡ Some call) (t : Serving) (
       questions = ap (λ (l : Lasting). l.questions) lasting;
       maps = maps;
       wants = wants;
-      ends = inr (record { was = was_open; items = ap (λ (l : Lasting). l.items) lasting; reading = inl (sym (ap reading_in is)) });
+      ends = inr (record { was = was_open; items = ap (λ (l : Lasting). l.items) lasting; reading = inl (sym (ap reading_in fact)) });
     };
     quiet = tt;
   }
@@ -276,15 +276,15 @@ RanSo s r = RunsOn s r.done
 
 ran_runs : (s : Serving) (call : Call) → s.call ≡ Some call → (made : Made) → Goes (record s { call = None }) made.done → RanSo s (ran call made)
 unfolding RanSo
-ran_runs s call is made a =
+ran_runs s call fact made a =
     let r : RunsOn s (answers_call made.done.state call made.answer).done =
-    answers_run s call is made.done.state a.rests.lasting a.rests.maps a.rests.wants (none_of made.done.state.call a.rests.call) made.answer in
+    answers_run s call fact made.done.state a.rests.lasting a.rests.maps a.rests.wants (none_of made.done.state.call a.rests.call) made.answer in
     record { runs = r.runs; quiet = all_append IsQuiet made.done.outs (answers_call made.done.state call made.answer).done.outs a.quiet r.quiet }
 
 runs_call_runs : (s : Serving) (call : Option Call) → s.call ≡ call → RanSo s (runs_call s call)
 unfolding RanSo MadeSo
-runs_call_runs s None is = record { runs = rests_run s s (itself s); quiet = tt }
-runs_call_runs s (Some call) is = ran_runs s call is (makes (record s { call = None }) call.step) (makes_go (record s { call = None }) call.step)
+runs_call_runs s None fact = record { runs = rests_run s s (itself s); quiet = tt }
+runs_call_runs s (Some call) fact = ran_runs s call fact (makes (record s { call = None }) call.step) (makes_go (record s { call = None }) call.step)
 
 runs_once_runs : (s : Serving) → RanSo s (runs_once s)
 unfolding runs_once

@@ -99,7 +99,7 @@ module _ (Known : Type 0) (Named : ℕ → Group → Type 0) (Came : ℕ → ℕ
     pub gones : AllByRecursion (EffectGone (WasBroken t)) outs
 
   pub rests_go : (t u : Table) (outs : List Effect) → TableRests t u outs → Goes t u outs
-  rests_go t u outs r = record { broken = λ k epoch name is. inl (r.kept k epoch name is); gones = plain_go (WasBroken t) outs r.plain }
+  rests_go t u outs r = record { broken = λ k epoch name fact. inl (r.kept k epoch name fact); gones = plain_go (WasBroken t) outs r.plain }
 
   abbrev pub Ends : Serving → Done → Type 0
   Ends s d = Goes s.slots d.state.slots d.outs
@@ -115,18 +115,18 @@ module _ (Known : Type 0) (Named : ℕ → Group → Type 0) (Came : ℕ → ℕ
 
     tokens_go : (p : SlotPhase) → slice_get t k ≡ Some p
         → Goes t (slice_set t k (tokens.takes p k (tokens.want_input client want)).state) (tokens.takes p k (tokens.want_input client want)).outs
-    tokens_go p is = rests_go t _ _ (put_rests t k p _ _ is (tokens_rest p k (tokens.want_input client want)))
+    tokens_go p fact = rests_go t _ _ (put_rests t k p _ _ fact (tokens_rest p k (tokens.want_input client want)))
 
     want_of : (p : SlotPhase) → slice_get t k ≡ Some p → Goes t (slice_set t k (tokens.on_want p client want).state) (tokens.on_want p client want).outs
     unfolding tokens.on_want
-    want_of (phase.Broken epoch seg) is = record {
+    want_of (phase.Broken epoch seg) fact = record {
       broken = λ m e name at.
-          inl ((put_rests t k (phase.Broken epoch seg) (phase.Broken epoch seg) [] is (same_slot (phase.Broken epoch seg))).kept m e name at);
-      gones = (here_is t k (phase.Broken epoch seg) is, tt);
+          inl ((put_rests t k (phase.Broken epoch seg) (phase.Broken epoch seg) [] fact (same_slot (phase.Broken epoch seg))).kept m e name at);
+      gones = (here_is t k (phase.Broken epoch seg) fact, tt);
     }
-    want_of (phase.Active a) is = tokens_go (phase.Active a) is
-    want_of (phase.Away epoch) is = tokens_go (phase.Away epoch) is
-    want_of (phase.Taking x) is = tokens_go (phase.Taking x) is
+    want_of (phase.Active a) fact = tokens_go (phase.Active a) fact
+    want_of (phase.Away epoch) fact = tokens_go (phase.Away epoch) fact
+    want_of (phase.Taking x) fact = tokens_go (phase.Taking x) fact
 
     wants_go : Goes t (table.on_want t client want).state (table.on_want t client want).outs
     unfolding table.on_want
@@ -134,8 +134,8 @@ module _ (Known : Type 0) (Named : ℕ → Group → Type 0) (Came : ℕ → ℕ
       where
         by : (o : Option SlotPhase) → slice_get t k ≡ o
             → Goes t (in_slot t k (λ p. tokens.on_want p client want) o).state (in_slot t k (λ p. tokens.on_want p client want) o).outs
-        by None is = rests_go t t [] (same_table t)
-        by (Some p) is = want_of p is
+        by None fact = rests_go t t [] (same_table t)
+        by (Some p) fact = want_of p fact
 
   pub want_goes : (s : Serving) (client : Option ℕ) (want : Want) → Ends s (on_want s client want)
   unfolding on_want
@@ -147,7 +147,7 @@ module _ (Known : Type 0) (Named : ℕ → Group → Type 0) (Came : ℕ → ℕ
   module _ (s : Serving) (fine : Known → Fine Named s) (k : ℕ) (given : Input) (named : InputNamed Named given)
       (brought : Known → (h : Heard) → heard_in given ≡ Some h → (x : Taking) → phase_at s.slots k ≡ phase.Taking x
       → (h.own ≡ x.fetches.own) × Came x.fetches.ask h.server h.told) where
-    module _ (x : Taking) (is : slice_get s.slots k ≡ Some (phase.Taking x)) where
+    module _ (x : Taking) (fact : slice_get s.slots k ≡ Some (phase.Taking x)) where
       abbrev q : Questions
       q = s.lasting.questions
 
@@ -155,7 +155,7 @@ module _ (Known : Type 0) (Named : ℕ → Group → Type 0) (Came : ℕ → ℕ
       t = record x { take = (transition x.take given).state }
 
       at : phase_at s.slots k ≡ phase.Taking x
-      at = here_is s.slots k (phase.Taking x) is
+      at = here_is s.slots k (phase.Taking x) fact
 
       abbrev Said : List Out → Type 0
       Said outs =
@@ -165,7 +165,7 @@ module _ (Known : Type 0) (Named : ℕ → Group → Type 0) (Came : ℕ → ℕ
       lost_said : (name : SegName) → (transition x.take given).outs ≡ out.Lost name ∷ [] → Said (out.Lost name ∷ [])
       unfolding says_each says
       lost_said name alone = record {
-        broken = put_by s.slots k (phase.Taking x) (phase.Broken x.epoch name) is (λ m z. BrokenFrom (phase_at s.slots m) z (Lose name ∷ []))
+        broken = put_by s.slots k (phase.Taking x) (phase.Broken x.epoch name) fact (λ m z. BrokenFrom (phase_at s.slots m) z (Lose name ∷ []))
             (λ epoch other same. inr (record {
               taking = x;
               takes = at;
@@ -189,7 +189,8 @@ module _ (Known : Type 0) (Named : ℕ → Group → Type 0) (Came : ℕ → ℕ
       said_goes : Said (transition x.take given).outs
       said_goes =
           ⊎_elim
-          (λ none. rests_go s.slots _ _ (put_rests s.slots k (phase.Taking x) _ _ is (taken_rests k (phase.Taking x) t q (transition x.take given).outs none)))
+          (λ none. rests_go s.slots _ _ (put_rests s.slots k (phase.Taking x) _ _ fact
+          (taken_rests k (phase.Taking x) t q (transition x.take given).outs none)))
           (λ lost. subst Said (sym lost.1) (lost_said lost.0 lost.1)) (says_alone x.take given)
 
     pub take_goes : Ends s (takes s k given)
@@ -198,15 +199,16 @@ module _ (Known : Type 0) (Named : ℕ → Group → Type 0) (Came : ℕ → ℕ
       where
         by_phase : (p : SlotPhase) → slice_get s.slots k ≡ Some p
             → Ends s (with_asker s (put_asker (asker_of s) k (takeovers.takes (asker p s.lasting.questions) k given)))
-        by_phase (phase.Taking x) is = said_goes x is
-        by_phase (phase.Away epoch) is = rests_go s.slots _ _ (put_rests s.slots k (phase.Away epoch) _ _ is (same_slot (phase.Away epoch)))
-        by_phase (phase.Active a) is = rests_go s.slots _ _ (put_rests s.slots k (phase.Active a) _ _ is (same_slot (phase.Active a)))
-        by_phase (phase.Broken epoch seg) is = rests_go s.slots _ _ (put_rests s.slots k (phase.Broken epoch seg) _ _ is (same_slot (phase.Broken epoch seg)))
+        by_phase (phase.Taking x) fact = said_goes x fact
+        by_phase (phase.Away epoch) fact = rests_go s.slots _ _ (put_rests s.slots k (phase.Away epoch) _ _ fact (same_slot (phase.Away epoch)))
+        by_phase (phase.Active a) fact = rests_go s.slots _ _ (put_rests s.slots k (phase.Active a) _ _ fact (same_slot (phase.Active a)))
+        by_phase (phase.Broken epoch seg) fact =
+            rests_go s.slots _ _ (put_rests s.slots k (phase.Broken epoch seg) _ _ fact (same_slot (phase.Broken epoch seg)))
 
         by : (o : Option SlotPhase) → slice_get s.slots k ≡ o
             → Ends s (with_asker s (in_taken (asker_of s) k (λ one. takeovers.takes one k given) o))
-        by None is = ends_still s
-        by (Some p) is = by_phase p is
+        by None fact = ends_still s
+        by (Some p) fact = by_phase p fact
 
   -- the answer goes to the takeover that asked
   answer_goes : (s : Serving) → (Known → Fine Named s) → (ask server : ℕ) (t : Told) (given : ℕ → Input)
@@ -216,11 +218,11 @@ module _ (Known : Type 0) (Named : ℕ → Group → Type 0) (Came : ℕ → ℕ
   answer_goes s fine ask server t given tells plain came = by (table.fetch_among s.slots ask table.all_slots) refl
     where
       by : (to : Option (ℕ × ℕ)) → table.fetch_among s.slots ask table.all_slots ≡ to → Ends s (answered_by s to given)
-      by None is = ends_still s
-      by (Some which) is = take_goes s fine which.0 (given which.1) (plain which.1) brought
+      by None fact = ends_still s
+      by (Some which) fact = take_goes s fine which.0 (given which.1) (plain which.1) brought
         where
           fetched : fetch_in (phase_at s.slots which.0) ask ≡ Some which.1
-          fetched = fetch_is s.slots ask table.all_slots which is
+          fetched = fetch_is s.slots ask table.all_slots which fact
 
           brought : Known → (h : Heard) → heard_in (given which.1) ≡ Some h → (x : Taking) → phase_at s.slots which.0 ≡ phase.Taking x
               → (h.own ≡ x.fetches.own) × Came x.fetches.ask h.server h.told
@@ -234,13 +236,15 @@ module _ (Known : Type 0) (Named : ℕ → Group → Type 0) (Came : ℕ → ℕ
       → (Known → AnswerBrought Named Came server found.ask (told.Held found.fragment))
       → Ends s (on_found s server found)
   unfolding on_found
-  found_goes s fine None found is = ends_still s
-  found_goes s fine (Some server) found is =
-      answer_goes s fine found.ask server (told.Held found.fragment) (λ own. input.Got own server found.generation found.fragment) (λ own. refl) (λ own. tt) is
+  found_goes s fine None found fact = ends_still s
+  found_goes s fine (Some server) found fact =
+      answer_goes s fine found.ask server (told.Held found.fragment) (λ own. input.Got own server found.generation found.fragment) (λ own. refl)
+      (λ own. tt) fact
 
   pub missing_goes : (s : Serving) → (Known → Fine Named s) → (server : Option ℕ) (missing : Missing)
       → (Known → AnswerBrought Named Came server missing.ask (told.Missing missing.generation)) → Ends s (on_missing s server missing)
   unfolding on_missing
-  missing_goes s fine None missing is = ends_still s
-  missing_goes s fine (Some server) missing is =
-      answer_goes s fine missing.ask server (told.Missing missing.generation) (λ own. input.Missing own server missing.generation) (λ own. refl) (λ own. tt) is
+  missing_goes s fine None missing fact = ends_still s
+  missing_goes s fine (Some server) missing fact =
+      answer_goes s fine missing.ask server (told.Missing missing.generation) (λ own. input.Missing own server missing.generation) (λ own. refl)
+      (λ own. tt) fact

@@ -76,16 +76,16 @@ module _ (owner node : NodeId) (same : owner ≡ node) (name : SegName) where
   same_name seg e = cc
 
   lost_acts : (outs : List Effect) → In (Lose name) outs → In (act.Lost owner name) (acts_of node outs)
-  lost_acts [] is = absurd is
+  lost_acts [] fact = absurd fact
   lost_acts (Send to said ∷ outs) (inl e) = absurd cc
-  lost_acts (Send to said ∷ outs) (inr is) = lost_acts outs is
+  lost_acts (Send to said ∷ outs) (inr fact) = lost_acts outs fact
   lost_acts (Answer item a ∷ outs) (inl e) = absurd cc
-  lost_acts (Answer item a ∷ outs) (inr is) = inr (lost_acts outs is)
+  lost_acts (Answer item a ∷ outs) (inr fact) = inr (lost_acts outs fact)
   lost_acts (Lose seg ∷ outs) (inl e) =
       inl (subst (λ (n : NodeId). act.Lost owner name ≡ act.Lost n seg) same (ap (act.Lost owner) (same_name seg e)))
-  lost_acts (Lose seg ∷ outs) (inr is) = inr (lost_acts outs is)
+  lost_acts (Lose seg ∷ outs) (inr fact) = inr (lost_acts outs fact)
   lost_acts (Does a ∷ outs) (inl e) = absurd cc
-  lost_acts (Does a ∷ outs) (inr is) = inr (lost_acts outs is)
+  lost_acts (Does a ∷ outs) (inr fact) = inr (lost_acts outs fact)
 
 -- ---- at the start of a run no slot is broken
 
@@ -145,8 +145,8 @@ module _ (base : Setting) (e : Estate AnyNode) (run : IsRun any_step any_start e
   aside : (count : ℕ) → Good count → (new : List Packet) → Sent (suc count) ≡ Sent count ++ new → Here (suc count) ≡ Here count
       → ((p : Packet) → In p new → p.from ≡ names.Manager j → ⊥) → Good (suc count)
   aside count good new sent same others = record {
-    slots = λ slot epoch name is. later count slot epoch name
-        (good.slots slot epoch name (its_slot slot count ∙ (ap (slot_of slot) (sym same) ∙ (sym (its_slot slot (suc count)) ∙ is))));
+    slots = λ slot epoch name fact. later count slot epoch name
+        (good.slots slot epoch name (its_slot slot count ∙ (ap (slot_of slot) (sym same) ∙ (sym (its_slot slot (suc count)) ∙ fact))));
     gones = λ p g among from tells. later count (slot_of_ino g.block.ino.0) g.epoch g.seg
         (⊎_elim (λ old. good.gones p g old from tells) (λ late. absurd (others p late from)) (in_append (Sent count) new p (subst (In p) sent among)));
   }
@@ -157,7 +157,7 @@ module _ (base : Setting) (e : Estate AnyNode) (run : IsRun any_step any_start e
 
   -- ---- it has its turn
 
-  module _ (count : ℕ) (good : Good count) (event : Event) (is : slice_get e.events count ≡ Some event)
+  module _ (count : ℕ) (good : Good count) (event : Event) (fact : slice_get e.events count ≡ Some event)
       (t : TurnAt (moment e count) event (moment e (suc count)).nodes (moment e (suc count)).sent (moment e (suc count)).acts) where
     abbrev new : List Packet
     new = map (sent_at t.clock) (any_step t.node (what_of event)).packets
@@ -171,7 +171,7 @@ module _ (base : Setting) (e : Estate AnyNode) (run : IsRun any_step any_start e
     module _ (own : names.Manager j ≡ node_of event) where
       u : NodeTurned base e run lines j is_there count event (map (sent_at t.clock) (any_step t.node (what_of event)).packets)
           (any_step t.node (what_of event)).acts
-      u = turned base e run lines j is_there count (all_good base e run lines j is_there count) event is t own
+      u = turned base e run lines j is_there count (all_good base e run lines j is_there count) event fact t own
 
       abbrev went : Went_to
       went = happens u.node (what_of event)
@@ -179,7 +179,7 @@ module _ (base : Setting) (e : Estate AnyNode) (run : IsRun any_step any_start e
       turn : Turned (Unit {0}) (IsNamed e) (CameBy e j count) u.node.phase (happens u.node (what_of event))
       turn =
           manager_turned (Unit {0}) (IsNamed e) (CameBy e j count) u.node (what_of event)
-          (λ _. subst (NodeFine e) u.was (all_good base e run lines j is_there count).fine) (λ _. do_brought base e run lines j is_there count event is own)
+          (λ _. subst (NodeFine e) u.was (all_good base e run lines j is_there count).fine) (λ _. do_brought base e run lines j is_there count event fact own)
 
       slot_before : (slot : ℕ) → slot_at e j slot count ≡ slot_in slot u.node.phase
       slot_before slot = its_slot slot count ∙ ap (slot_of slot) u.was
@@ -194,7 +194,7 @@ module _ (base : Setting) (e : Estate AnyNode) (run : IsRun any_step any_start e
 
       acts_are : acts_in (moment e count) event ≡ acts_of (names.Manager (lasting_of u.node.phase).number) (happens u.node (what_of event)).outs
       acts_are =
-          ap (λ (v : World AnyNode). drop (length (moment e count).acts) v.acts) (sym (moment_next e count event is))
+          ap (λ (v : World AnyNode). drop (length (moment e count).acts) v.acts) (sym (moment_next e count event fact))
           ∙ (ap (drop (length (moment e count).acts)) t.acts_are ∙ (done_after (moment e count).acts (any_step t.node (what_of event)).acts ∙ u.acts))
 
       -- the slot breaks in this event
@@ -210,7 +210,7 @@ module _ (base : Setting) (e : Estate AnyNode) (run : IsRun any_step any_start e
             at = count;
             before = omega arith;
             event = event;
-            happens = is;
+            happens = fact;
             own = own;
             says = subst (In (act.Lost (names.Manager j) name)) (sym acts_are)
                 (lost_acts (names.Manager j) (names.Manager (lasting_of u.node.phase).number) (ap names.Manager (sym number)) name
@@ -266,8 +266,8 @@ module _ (base : Setting) (e : Estate AnyNode) (run : IsRun any_step any_start e
   next_good count good = by (slice_get e.events count) refl
     where
       by : (o : Option Event) → slice_get e.events count ≡ o → Good (suc count)
-      by None is = rests count good (ap (λ v. v.nodes) (moment_ended e count is)) (ap (λ v. v.sent) (moment_ended e count is))
-      by (Some event) is = ⊎_elim (λ still. rests count good still.nodes_are still.sent_are) (turn_good count good event is) (became e count event is)
+      by None fact = rests count good (ap (λ v. v.nodes) (moment_ended e count fact)) (ap (λ v. v.sent) (moment_ended e count fact))
+      by (Some event) fact = ⊎_elim (λ still. rests count good still.nodes_are still.sent_are) (turn_good count good event fact) (became e count event fact)
 
   none_sent : Sent 0 ≡ []
   unfolding start_world
@@ -291,7 +291,7 @@ module _ (base : Setting) (e : Estate AnyNode) (run : IsRun any_step any_start e
 
   pub always_good : (count : ℕ) → Good count
   always_good zero = record {
-    slots = λ slot epoch name is. absurd (subst IsWhole is (whole_first slot));
+    slots = λ slot epoch name fact. absurd (subst IsWhole fact (whole_first slot));
     gones = λ p g among. absurd (subst (In p) none_sent among);
   }
   always_good (suc count) = next_good count (always_good count)

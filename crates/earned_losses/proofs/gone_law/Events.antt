@@ -43,7 +43,7 @@ use Rattle.earned_losses.proofs.taking_law.Frames.{all_append}
 use Rattle.earned_losses.proofs.taking_law.ManagerTurns.{DoBrought, PhaseFine}
 
 away_whole : (other epoch : ℕ) (name : SegName) → phase.Away other ≡ phase.Broken epoch name → ⊥
-away_whole other epoch name is = cc
+away_whole other epoch name fact = cc
 
 -- after a restart nothing is known of any slot
 all_away : (t : Table) → AllByRecursion (λ p. p ≡ phase.Away 0) t → (k : ℕ) → phase_at t k ≡ phase.Away 0
@@ -67,12 +67,12 @@ module _ (Known : Type 0) (Named : ℕ → Group → Type 0) (Came : ℕ → ℕ
 
   silent : (p : Phase) (w : Went_to) → Silent w → Turned p w
   silent p w s = record {
-    broken = λ k epoch name is. absurd (away_whole 0 epoch name (sym (s.away k) ∙ is));
+    broken = λ k epoch name fact. absurd (away_whole 0 epoch name (sym (s.away k) ∙ fact));
     gones = plain_go (IsOfBroken p) w.outs s.plain;
   }
 
   unmoved : (p : Phase) → Turned p (still p)
-  unmoved p = record { broken = λ k epoch name is. inl is; gones = tt }
+  unmoved p = record { broken = λ k epoch name fact. inl fact; gones = tt }
 
   crashes_silent : (life : Life) (number : ℕ) → Silent (crashes life number)
   unfolding crashes
@@ -120,7 +120,7 @@ module _ (Known : Type 0) (Named : ℕ → Group → Type 0) (Came : ℕ → ℕ
       by_test (Turned (Waiting life hello)) (takes_welcome peers life hello welcome) (serves (on_news s peers.clients welcome.news))
       (still (Waiting life hello))
       (λ _. record {
-        broken = λ k epoch name is. absurd (away_whole 0 epoch name (sym (unknown_away k) ∙ rests.kept k epoch name is));
+        broken = λ k epoch name fact. absurd (away_whole 0 epoch name (sym (unknown_away k) ∙ rests.kept k epoch name fact));
         gones = plain_go (IsOfBroken (Waiting life hello)) (on_news s peers.clients welcome.news).outs rests.plain;
       }) (λ _. unmoved (Waiting life hello))
     where
@@ -147,7 +147,7 @@ module _ (Known : Type 0) (Named : ℕ → Group → Type 0) (Came : ℕ → ℕ
       t = record s { lasting = with_begun s.lasting }
 
       stays : (outs : List Effect) → AllPlain outs → Turned (Serves s) (serves (gives (record s { lasting = with_begun s.lasting }) outs))
-      stays outs plain = rests_turned s (gives (record s { lasting = with_begun s.lasting }) outs) (record { kept = λ k epoch name is. is; plain = plain })
+      stays outs plain = rests_turned s (gives (record s { lasting = with_begun s.lasting }) outs) (record { kept = λ k epoch name fact. fact; plain = plain })
 
       by_wish : (number : ℕ) (asked : Option Work) → Turned (Serves s) (serving_wish (record s { lasting = with_begun s.lasting }) number (wish_at asked))
       by_wish number None = rests_turned s (on_checkpoint (record s { lasting = with_begun s.lasting }) number)
@@ -166,17 +166,17 @@ module _ (Known : Type 0) (Named : ℕ → Group → Type 0) (Came : ℕ → ℕ
   event_turned : (peers : Peers) (p : Phase) (what : Do) → (Known → PhaseFine Named p) → (Known → DoBrought Named Came what)
       → Turned p (on_event peers p what)
   unfolding on_deliver on_time
-  event_turned peers (Down life) Begin fine is = silent (Down life) (begin_down life) (down_silent life)
-  event_turned peers (Waiting life hello) Begin fine is = silent (Waiting life hello) (begin_waiting life hello) (waiting_silent life hello)
-  event_turned peers (Serves s) Begin fine is = begin_turned s
-  event_turned peers p (Deliver packet) fine is =
+  event_turned peers (Down life) Begin fine fact = silent (Down life) (begin_down life) (down_silent life)
+  event_turned peers (Waiting life hello) Begin fine fact = silent (Waiting life hello) (begin_waiting life hello) (waiting_silent life hello)
+  event_turned peers (Serves s) Begin fine fact = begin_turned s
+  event_turned peers p (Deliver packet) fine fact =
       by_test (Turned p) (is_well_formed peers packet) (on_packet peers p packet) (still p) (λ _. gets p fine) (λ _. unmoved p)
     where
       gets : (q : Phase) → (Known → PhaseFine Named q) → Turned q (on_packet peers q packet)
       gets (Down life) fine = unmoved (Down life)
       gets (Waiting life hello) fine = welcome_turned peers life hello packet.body
-      gets (Serves s) fine = serves_turned s (hears s peers.clients packet) (packet_goes Known Named Came s fine peers.clients packet is)
-  event_turned peers p Tick fine is = passes p
+      gets (Serves s) fine = serves_turned s (hears s peers.clients packet) (packet_goes Known Named Came s fine peers.clients packet fact)
+  event_turned peers p Tick fine fact = passes p
     where
       passes : (q : Phase) → Turned q (on_time q)
       passes (Down life) = unmoved (Down life)
@@ -185,8 +185,8 @@ module _ (Known : Type 0) (Named : ℕ → Group → Type 0) (Came : ℕ → ℕ
 
   pub manager_turned : (m : Manager) (what : Do) → (Known → PhaseFine Named m.phase) → (Known → DoBrought Named Came what) → Turned m.phase (happens m what)
   unfolding happens
-  manager_turned m what fine is =
-      by_test (Turned m.phase) (phase_has_room m.phase) (on_event m.peers m.phase what) (still m.phase) (λ _. event_turned m.peers m.phase what fine is)
+  manager_turned m what fine fact =
+      by_test (Turned m.phase) (phase_has_room m.phase) (on_event m.peers m.phase what) (still m.phase) (λ _. event_turned m.peers m.phase what fine fact)
       (λ _. unmoved m.phase)
 
 -- ---- what is sent

@@ -20,5 +20,5 @@ managers_lost below e ok run j is_there = (
 )
 
 pub clients_told : Below → ClientsAreToldWhatWasLost
-clients_told below e ok run c count event is own s serves name among brings =
-    told_lost below.nodes e ok run (λ j is_there. (managers_lost below e ok run j is_there).1) c count event is s serves name brings
+clients_told below e ok run c count event fact own s serves name among brings =
+    told_lost below.nodes e ok run (λ j is_there. (managers_lost below e ok run j is_there).1) c count event fact s serves name brings

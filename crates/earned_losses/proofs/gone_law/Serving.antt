@@ -60,17 +60,17 @@ rests_still s = same_table s.slots
 
 pub rests_then : (s : Serving) (d e : Done) → Rests s d → Rests d.state e → Rests s (saying d.outs e)
 rests_then s d e a b =
-    record { kept = λ k epoch name is. a.kept k epoch name (b.kept k epoch name is); plain = all_append IsPlain d.outs e.outs a.plain b.plain }
+    record { kept = λ k epoch name fact. a.kept k epoch name (b.kept k epoch name fact); plain = all_append IsPlain d.outs e.outs a.plain b.plain }
 
 -- it has the same slots, and does this
 rests_doing : (s t : Serving) (outs : List Effect) → TableKept s.slots t.slots → AllPlain outs → Rests s (gives t outs)
 rests_doing s t outs kept plain = record { kept = kept; plain = plain }
 
 rests_from : (s t : Serving) (d : Done) → TableKept s.slots t.slots → Rests t d → Rests s d
-rests_from s t d kept r = record { kept = λ k epoch name is. kept k epoch name (r.kept k epoch name is); plain = r.plain }
+rests_from s t d kept r = record { kept = λ k epoch name fact. kept k epoch name (r.kept k epoch name fact); plain = r.plain }
 
 same : (s : Serving) → TableKept s.slots s.slots
-same s k epoch name is = is
+same s k epoch name fact = fact
 
 rests_steps : {X : Type 0} (step : Serving → X → Done) → ((s : Serving) (x : X) → Rests s (step s x)) → (s : Serving) (xs : List X) → Rests s (steps step s xs)
 rests_steps step each s [] = rests_still s
@@ -227,28 +227,28 @@ module _ (Known : Type 0) (Named : ℕ → Group → Type 0) (Came : ℕ → ℕ
 
   body_goes : (clients : ℕ) (from : NodeId) (said : Body) → (Known → BodyBrought Named Came from said) → Goes (on_body s clients from said)
   unfolding on_report
-  body_goes clients from (body.MapNews news) is = calm (on_fitting_news s clients news) (fitting_rests s clients news)
-  body_goes clients from (body.Welcome welcome) is =
+  body_goes clients from (body.MapNews news) fact = calm (on_fitting_news s clients news) (fitting_rests s clients news)
+  body_goes clients from (body.Welcome welcome) fact =
       by_test Goes (welcome.inc == s.lasting.inc) (on_fitting_news s clients welcome.news) (still s)
       (λ _. calm (on_fitting_news s clients welcome.news) (fitting_rests s clients welcome.news)) (λ _. calm (still s) (rests_still s))
-  body_goes clients from (body.Want want) is = want_goes Known Named Came s (client_in from) want
-  body_goes clients from (body.Gave gave) is = calm (on_gave s (client_in from) gave) (gave_rests s (client_in from) gave)
-  body_goes clients from (body.Deltas deltas) is = calm (on_deltas s (fed_log from) deltas) (fed_rests s (fed_log from) deltas)
-  body_goes clients from (body.Check check) is = calm (on_check s check) (checked_rests s check)
-  body_goes clients from (body.UsageAsk asking) is = calm (on_usage_ask s asking) (usage_rests s asking)
-  body_goes clients from (body.Report report) is = calm (on_report s from report) (reports_rest (asker_of s) from report)
-  body_goes clients from (body.Fragment found) is = found_goes Known Named Came s fine (server_in from) found is
-  body_goes clients from (body.Missing missing) is = missing_goes Known Named Came s fine (server_in from) missing is
-  body_goes clients from (body.Stored stored) is = calm (writes s (log_in.Acked stored.name stored.index stored.generation))
+  body_goes clients from (body.Want want) fact = want_goes Known Named Came s (client_in from) want
+  body_goes clients from (body.Gave gave) fact = calm (on_gave s (client_in from) gave) (gave_rests s (client_in from) gave)
+  body_goes clients from (body.Deltas deltas) fact = calm (on_deltas s (fed_log from) deltas) (fed_rests s (fed_log from) deltas)
+  body_goes clients from (body.Check check) fact = calm (on_check s check) (checked_rests s check)
+  body_goes clients from (body.UsageAsk asking) fact = calm (on_usage_ask s asking) (usage_rests s asking)
+  body_goes clients from (body.Report report) fact = calm (on_report s from report) (reports_rest (asker_of s) from report)
+  body_goes clients from (body.Fragment found) fact = found_goes Known Named Came s fine (server_in from) found fact
+  body_goes clients from (body.Missing missing) fact = missing_goes Known Named Came s fine (server_in from) missing fact
+  body_goes clients from (body.Stored stored) fact = calm (writes s (log_in.Acked stored.name stored.index stored.generation))
       (writes_rest s (log_in.Acked stored.name stored.index stored.generation))
-  body_goes clients from (body.CkptAck ack) is = calm (on_ckpt_ack s ack) (ack_rests s ack)
-  body_goes clients from _ is = calm (still s) (rests_still s)
+  body_goes clients from (body.CkptAck ack) fact = calm (on_ckpt_ack s ack) (ack_rests s ack)
+  body_goes clients from _ fact = calm (still s) (rests_still s)
 
   pub packet_goes : (clients : ℕ) (packet : Packet) → (Known → BodyBrought Named Came packet.from packet.body) → Goes (hears s clients packet)
   unfolding hears asks_for_maps
-  packet_goes clients packet is =
+  packet_goes clients packet fact =
       by_test Goes (names_known s.maps packet.body) (on_body s clients packet.from packet.body) (asks_for_maps s)
-      (λ _. body_goes clients packet.from packet.body is) (λ _. calm (asks_for_maps s) (record { kept = same s; plain = (tt, tt) }))
+      (λ _. body_goes clients packet.from packet.body fact) (λ _. calm (asks_for_maps s) (record { kept = same s; plain = (tt, tt) }))
 
 -- ---- time
 

@@ -76,16 +76,16 @@ pub record SlotRests (p q : SlotPhase) (outs : List Effect) : Type 0 where
   pub plain : AllPlain outs
 
 pub taking_whole : (p : SlotPhase) (t : Taking) → Kept p (phase.Taking t)
-taking_whole p t epoch name is = absurd cc
+taking_whole p t epoch name fact = absurd cc
 
 active_whole : (p : SlotPhase) (a : Active) → Kept p (phase.Active a)
-active_whole p a epoch name is = absurd cc
+active_whole p a epoch name fact = absurd cc
 
 away_whole : (p : SlotPhase) (other : ℕ) → Kept p (phase.Away other)
-away_whole p other epoch name is = absurd cc
+away_whole p other epoch name fact = absurd cc
 
 pub same_slot : (p : SlotPhase) → SlotRests p p []
-same_slot p = record { kept = λ epoch name is. is; plain = tt }
+same_slot p = record { kept = λ epoch name fact. fact; plain = tt }
 
 -- ---- what is done for clients and the cleaner
 
@@ -149,7 +149,7 @@ fetches_rest (phase.Broken epoch seg) q server name own = same_slot (phase.Broke
 
 says_rest : (k : ℕ) (a : Asker) (o : Out) → NotLost o → AskerRests a (says k a o)
 unfolding says
-says_rest k a (out.Poll to) none = record { kept = λ epoch name is. is; plain = (tt, tt) }
+says_rest k a (out.Poll to) none = record { kept = λ epoch name fact. fact; plain = (tt, tt) }
 says_rest k a (out.Fetch server name own) none = fetches_rest a.phase a.questions server name own
 says_rest k a (out.Active epoch index beliefs applied) none = record { kept = active_whole a.phase _; plain = tt }
 says_rest k a (out.Lost name) none = absurd none
@@ -162,7 +162,7 @@ each_rests k a (o ∷ outs) none =
     let one : AskerRests a (says k a o) = says_rest k a o none.0 in
     let rest : AskerRests (says k a o).state (says_each k (says k a o).state outs) = each_rests k (says k a o).state outs none.1 in
     record {
-      kept = λ epoch name is. one.kept epoch name (rest.kept epoch name is);
+      kept = λ epoch name fact. one.kept epoch name (rest.kept epoch name fact);
       plain = all_append IsPlain (says k a o).outs (says_each k (says k a o).state outs).outs one.plain rest.plain;
     }
 
@@ -171,10 +171,10 @@ pub taken_rests : (k : ℕ) (p : SlotPhase) (t : Taking) (q : Questions) (outs :
     → SlotRests p (says_each k (asker (phase.Taking t) q) outs).state.phase (says_each k (asker (phase.Taking t) q) outs).outs
 taken_rests k p t q outs none =
     let r : AskerRests (asker (phase.Taking t) q) (says_each k (asker (phase.Taking t) q) outs) = each_rests k (asker (phase.Taking t) q) outs none in
-    record { kept = λ epoch name is. absurd (not_taking epoch name (r.kept epoch name is)); plain = r.plain }
+    record { kept = λ epoch name fact. absurd (not_taking epoch name (r.kept epoch name fact)); plain = r.plain }
   where
     not_taking : (epoch : ℕ) (name : SegName) → phase.Taking t ≡ phase.Broken epoch name → ⊥
-    not_taking epoch name is = cc
+    not_taking epoch name fact = cc
 
 calm_rests : (k : ℕ) (p : SlotPhase) (q : Questions) (given : In) → heard_in given ≡ None → AskerRests (asker p q) (takes (asker p q) k given)
 unfolding takes heard says_each
@@ -205,7 +205,7 @@ hears_rest h news p q =
     by_test (AskerRests (asker p q)) (nat_lt (epoch_of p) news.epoch)
     (takes (asker (phase_of h.ears.number news h.groups h.ears.clients) q) news.slot input.Tick) (still (asker p q))
     (λ _. let r = calm_rests news.slot (phase_of h.ears.number news h.groups h.ears.clients) q input.Tick refl in record {
-      kept = λ epoch name is. whole epoch name (r.kept epoch name is);
+      kept = λ epoch name fact. whole epoch name (r.kept epoch name fact);
       plain = r.plain;
     })
     (λ _. same_slot p)
@@ -223,31 +223,31 @@ pub record TableRests (t u : Table) (outs : List Effect) : Type 0 where
   pub plain : AllPlain outs
 
 pub same_table : (t : Table) → TableRests t t []
-same_table t = record { kept = λ k epoch name is. is; plain = tt }
+same_table t = record { kept = λ k epoch name fact. fact; plain = tt }
 
 then_rests : (t u v : Table) (outs more : List Effect) → TableRests t u outs → TableRests u v more → TableRests t v (outs ++ more)
 then_rests t u v outs more a b =
-    record { kept = λ k epoch name is. a.kept k epoch name (b.kept k epoch name is); plain = all_append IsPlain outs more a.plain b.plain }
+    record { kept = λ k epoch name fact. a.kept k epoch name (b.kept k epoch name fact); plain = all_append IsPlain outs more a.plain b.plain }
 
 -- a slot is the one that is put, or as it was
 pub put_by : (t : Table) (k : ℕ) (p q : SlotPhase) → slice_get t k ≡ Some p → (P : ℕ → SlotPhase → Type 0) → P k q
     → ((m : ℕ) → P m (phase_at t m)) → (m : ℕ) → P m (phase_at (slice_set t k q) m)
-put_by t k p q is P own others m = by (m == k) refl
+put_by t k p q fact P own others m = by (m == k) refl
   where
     apart : (m == k) ≡ false → m ≡ k → ⊥
     apart e = grind (arith, nat_tests)
 
     by : (b : Bool) → (m == k) ≡ b → P m (phase_at (slice_set t k q) m)
     by true e =
-        subst (λ n. P n (phase_at (slice_set t k q) n)) (sym (eqb-true m k e)) (subst (P k) (sym (set_here t k q (slice_get_within t k p is))) own)
+        subst (λ n. P n (phase_at (slice_set t k q) n)) (sym (eqb-true m k e)) (subst (P k) (sym (set_here t k q (slice_get_within t k p fact))) own)
     by false e = subst (P m) (sym (set_there t k m q (apart e))) (others m)
 
 pub here_is : (t : Table) (k : ℕ) (p : SlotPhase) → slice_get t k ≡ Some p → phase_at t k ≡ p
-here_is t k p is = ap (λ o. unwrap_or o (phase.Away 0)) is
+here_is t k p fact = ap (λ o. unwrap_or o (phase.Away 0)) fact
 
 pub put_rests : (t : Table) (k : ℕ) (p q : SlotPhase) (outs : List Effect) → slice_get t k ≡ Some p → SlotRests p q outs → TableRests t (slice_set t k q) outs
-put_rests t k p q outs is r = record {
-  kept = put_by t k p q is (λ m z. Kept (phase_at t m) z) (subst (λ z. Kept z q) (sym (here_is t k p is)) r.kept) (λ m epoch name at. at);
+put_rests t k p q outs fact r = record {
+  kept = put_by t k p q fact (λ m z. Kept (phase_at t m) z) (subst (λ z. Kept z q) (sym (here_is t k p fact)) r.kept) (λ m epoch name at. at);
   plain = r.plain;
 }
 
@@ -256,8 +256,8 @@ slot_rests : (t : Table) (k : ℕ) (event : SlotPhase → Stepped SlotPhase Effe
 slot_rests t k event each = by (slice_get t k) refl
   where
     by : (o : Option SlotPhase) → slice_get t k ≡ o → TableRests t (in_slot t k event o).state (in_slot t k event o).outs
-    by None is = same_table t
-    by (Some p) is = put_rests t k p (event p).state (event p).outs is (each p)
+    by None fact = same_table t
+    by (Some p) fact = put_rests t k p (event p).state (event p).outs fact (each p)
 
 abbrev pub AsksRest : TableAsker → Asks → Type 0
 AsksRest a d = TableRests a.table d.state.table d.outs
@@ -267,8 +267,8 @@ asker_rests : (a : TableAsker) (k : ℕ) (event : Asker → Done) → ((p : Slot
 asker_rests a k event each = by (slice_get a.table k) refl
   where
     by : (o : Option SlotPhase) → slice_get a.table k ≡ o → AsksRest a (in_taken a k event o)
-    by None is = same_table a.table
-    by (Some p) is = put_rests a.table k p (event (asker p a.questions)).state.phase (event (asker p a.questions)).outs is (each p a.questions)
+    by None fact = same_table a.table
+    by (Some p) fact = put_rests a.table k p (event (asker p a.questions)).state.phase (event (asker p a.questions)).outs fact (each p a.questions)
 
 asks_each : {X : Type 0} (step : TableAsker → X → Asks) → ((a : TableAsker) (x : X) → AsksRest a (step a x)) → (a : TableAsker) (xs : List X)
     → AsksRest a (steps step a xs)
@@ -340,8 +340,8 @@ changed_rests : (t : Table) (k : ℕ) (change : SlotPhase → SlotPhase) → ((p
 changed_rests t k change each = by (slice_get t k) refl
   where
     by : (o : Option SlotPhase) → slice_get t k ≡ o → TableKept t (changed_in t k change o)
-    by None is = λ m epoch name at. at
-    by (Some p) is = (put_rests t k p (change p) [] is (record { kept = each p; plain = tt })).kept
+    by None fact = λ m epoch name at. at
+    by (Some p) fact = (put_rests t k p (change p) [] fact (record { kept = each p; plain = tt })).kept
 
 pub cleaned_kept : (t : Table) (k : ℕ) → TableKept t (cleaned_at t k)
 unfolding cleaned_at cleaned_phase
@@ -349,9 +349,9 @@ cleaned_kept t k = changed_rests t k cleaned_phase each
   where
     each : (p : SlotPhase) → Kept p (cleaned_phase p)
     each (phase.Active a) = active_whole (phase.Active a) _
-    each (phase.Away epoch) = λ e name is. is
-    each (phase.Taking t) = λ e name is. is
-    each (phase.Broken epoch seg) = λ e name is. is
+    each (phase.Away epoch) = λ e name fact. fact
+    each (phase.Taking t) = λ e name fact. fact
+    each (phase.Broken epoch seg) = λ e name fact. fact
 
 pub named_kept : (t : Table) (k epoch : ℕ) (parts : List SegRef) → TableKept t (named_at t k epoch parts)
 unfolding named_at named_phase
@@ -361,6 +361,6 @@ named_kept t k epoch parts = changed_rests t k (named_phase epoch parts) each
     each (phase.Active a) =
         by_test (Kept (phase.Active a)) (a.slot.epoch == epoch) (phase.Active _) (phase.Active a) (λ _. active_whole (phase.Active a) _)
         (λ _. active_whole (phase.Active a) a)
-    each (phase.Away e) = λ z name is. is
-    each (phase.Taking t) = λ z name is. is
-    each (phase.Broken e seg) = λ z name is. is
+    each (phase.Away e) = λ z name fact. fact
+    each (phase.Taking t) = λ z name fact. fact
+    each (phase.Broken e seg) = λ z name fact. fact

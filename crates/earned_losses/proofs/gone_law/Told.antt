@@ -58,7 +58,7 @@ module _ (laws : NodeLaws) (e : Estate AnyNode) (setup : IsSetup e.script.setup)
     pub from : p.from ≡ names.Manager manager
 
   pub from_manager : (p : Packet) (g : Gone) → In p (moment e count).sent → p.body ≡ body.Gone g → FromManager p
-  from_manager p g among is = by p.from refl (subst (λ (x : Body). SentBy k 0 now p.from p.to x) is (st.facts p among))
+  from_manager p g among fact = by p.from refl (subst (λ (x : Body). SentBy k 0 now p.from p.to x) fact (st.facts p among))
     where
       by : (from : NodeId) → p.from ≡ from → SentBy k 0 now from p.to (body.Gone g) → FromManager p
       by (names.Client c) at h = absurd h.2
@@ -71,13 +71,13 @@ module _ (laws : NodeLaws) (e : Estate AnyNode) (setup : IsSetup e.script.setup)
 
 module _ (laws : NodeLaws) (e : Estate AnyNode) (setup : IsSetup e.script.setup) (run : IsRun any_step any_start e.script e.events e.world)
     (lost : (j : ℕ) → IsThere e.script.setup.clients e.script.setup.managers (OfManager j) → GonesWereLost e j) (c count : ℕ) (event : Event)
-    (is : slice_get e.events count ≡ Some event) (s : Serving) (serves : serving_at e c count ≡ Some s) (name : SegName)
+    (fact : slice_get e.events count ≡ Some event) (s : Serving) (serves : serving_at e c count ≡ Some s) (name : SegName)
     (b : BringsGone s (what_of event) name) where
   promised : epoch_of s.tokens.epochs (slot_of b.gone.block.ino.0) ≡ b.gone.epoch
   promised = same_number _ _ (and_first (epoch_of s.tokens.epochs (slot_of b.gone.block.ino.0) == b.gone.epoch) _ b.meant)
 
   was_sent : In b.packet (moment e count).sent
-  was_sent = (brought (moment e count) event (may_happen e run count event is) b.packet b.delivers).0
+  was_sent = (brought (moment e count) event (may_happen e run count event fact) b.packet b.delivers).0
 
   pub told_lost : ToldLost e c s count (what_of event) name
   told_lost =

@@ -23,8 +23,8 @@ module _ (s : Segment) (b : BlockId) (e : Entry) (place : Place) (at : e.place �
 
   -- a Delta of no item says that the block lies nowhere
   lies_nowhere : (row : BlockId × Entry) (item : ℕ) → item ≡ no_item → row.1.place ≡ place_of s item → row ≡ (b, e) → ⊥
-  lies_nowhere row item none is same =
-      let nowhere : None ≡ Some place = sym (is ∙ ap (place_of s) none) ∙ (ap (λ (row : BlockId × Entry). row.1.place) same ∙ at) in
+  lies_nowhere row item none fact same =
+      let nowhere : None ≡ Some place = sym (fact ∙ ap (place_of s) none) ∙ (ap (λ (row : BlockId × Entry). row.1.place) same ∙ at) in
       absurd (cc)
 
   its_block : (row : BlockId × Entry) → row ≡ (b, e) → same_block b row.0 ≡ true

@@ -67,7 +67,7 @@ record Kept (s : SlotState) (d : slot.Done) : Type 0 where
 one_kept : (s : SlotState) (block : BlockId) → Kept s (slot.finished_at s block)
 one_kept s block =
     by_finished_at (Kept s) s block (record { epoch = refl; rows = refl; outs = tt })
-    (λ job is. record { epoch = refl; rows = refl; outs = finished_grants (let_go s block) job.want })
+    (λ job fact. record { epoch = refl; rows = refl; outs = finished_grants (let_go s block) job.want })
 
 all_kept : (s : SlotState) (blocks : List BlockId) → Kept s (steps slot.finished_at s blocks)
 all_kept s [] = record { epoch = refl; rows = refl; outs = tt }
@@ -93,7 +93,7 @@ slot_grants s (input.Want client block inc req again mode end) =
     by_want AllGranted s want end tt (λ _ _. finished_grants s want)
     (λ _. sent_none s.epoch s.index.rows block (recalls s.epoch s.turn (not (is_own mode)) (recalled_from s want)))
 slot_grants s (input.Gave client block stamp end) =
-    by_gave AllGranted s client block stamp end tt (λ job is _. finished_grants (all_given s client block job.want) job.want) (λ job is. tt)
+    by_gave AllGranted s client block stamp end tt (λ job fact _. finished_grants (all_given s client block job.want) job.want) (λ job fact. tt)
 slot_grants s (input.Deltas log first upto rows) =
     by_deltas AllGranted s log first upto rows tt (tt, tt)
     (λ _. (tt, (all_kept (slot.with_deltas s log upto rows) (ready_blocks s.jobs (slot_recalls.applied_upto s.applied log upto))).outs))

@@ -58,8 +58,8 @@ module _ (k : Cluster) (part : ℕ) (s : Scene) (m : Grant) where
 -- what is known of packets is known of them with the clock
 clocked : (A : Grant → Type 0) (clock : ℕ) (ps : List Packet) → AllByRecursion (λ (p : Packet). IfGrant A p.body) ps → (q : Packet)
     → In q (map (sent_at clock) ps) → IfGrant A q.body
-clocked A clock [] all q is = absurd is
-clocked A clock (p ∷ ps) all q (inl is) = subst (λ (x : Packet). IfGrant A x.body) (sym is) all.0
+clocked A clock [] all q fact = absurd fact
+clocked A clock (p ∷ ps) all q (inl fact) = subst (λ (x : Packet). IfGrant A x.body) (sym fact) all.0
 clocked A clock (p ∷ ps) all q (inr later) = clocked A clock ps all.1 q later
 
 -- ---- its slots
@@ -69,8 +69,8 @@ waits_in : (size other j : ℕ) (n o : Net) (p : Phase) → ManagerAgrees size 0
 waits_in size other j n o (Serves s) first second k = by (k == 0) refl
   where
     by : (t : Bool) → (k == 0) ≡ t → OtherAgrees k (slot_in k (Serves s))
-    by true is = second.table.there k (λ one. grind (arith, nat_tests, is, one))
-    by false is = first.table.there k (λ zero. grind (arith, nat_tests, is, zero))
+    by true fact = second.table.there k (λ one. grind (arith, nat_tests, fact, one))
+    by false fact = first.table.there k (λ zero. grind (arith, nat_tests, fact, zero))
 waits_in size other j n o (Down kept) first second k = tt
 waits_in size other j n o (Waiting kept hello) first second k = tt
 

@@ -44,25 +44,25 @@ same_manager a b same = cc
 module _ (k : Cluster) (part : ℕ) (texts : Texts) (first : ℕ → ℕ → Segment) (nodes : List AnyNode) (sent : List Packet) (s : Scene)
     (st : Stands k part texts first nodes sent RegistrySound s) where
   slot_there : (desk : Desk) (p : SlotPhase) → PhaseAgrees part texts s.net desk p → (z : SlotState) → active_in p ≡ Some z → s.net.slots z.epoch ≡ Some z
-  slot_there desk (phase.Active a) agreed z is = subst (λ x. s.net.slots x.epoch ≡ Some x) (one_node a.slot z is) agreed.there
-  slot_there desk (phase.Taking t) agreed z is = absurd (cc)
-  slot_there desk (phase.Away epoch) agreed z is = absurd (cc)
-  slot_there desk (phase.Broken epoch seg) agreed z is = absurd (cc)
+  slot_there desk (phase.Active a) agreed z premise = subst (λ x. s.net.slots x.epoch ≡ Some x) (one_node a.slot z premise) agreed.there
+  slot_there desk (phase.Taking t) agreed z premise = absurd (cc)
+  slot_there desk (phase.Away epoch) agreed z premise = absurd (cc)
+  slot_there desk (phase.Broken epoch seg) agreed z premise = absurd (cc)
 
   phase_there : (p : Phase) → ManagerAgrees part texts s.net p → (z : SlotState) → active_in (slot_in part p) ≡ Some z → s.net.slots z.epoch ≡ Some z
-  phase_there (managing.Serving v) agreed z is = slot_there (desk_of v agreed.0.given) (phase_at v.slots part) agreed.0.here z is
-  phase_there (managing.Down kept) agreed z is = absurd (cc)
-  phase_there (managing.Waiting kept hello) agreed z is = absurd (cc)
+  phase_there (managing.Serving v) agreed z premise = slot_there (desk_of v agreed.0.given) (phase_at v.slots part) agreed.0.here z premise
+  phase_there (managing.Down kept) agreed z premise = absurd (cc)
+  phase_there (managing.Waiting kept hello) agreed z premise = absurd (cc)
 
   pub managed_there : (j : ℕ) → 0 < j → j ≤ k.managers → (manager : ManagerNode) → node_in nodes (place_of k (Manager j)) ≡ Some (any.Manager manager)
       → (z : SlotState) → active_in (slot_in part manager.phase) ≡ Some z → s.net.slots z.epoch ≡ Some z
-  managed_there j some limit manager there z is =
+  managed_there j some limit manager there z premise =
       let same : s.manager j ≡ manager =
       same_manager (s.manager j) manager (one_node (any.Manager (s.manager j)) (any.Manager manager) (sym (st.placed.managers j some limit) ∙ there)) in
-      phase_there (s.manager j).phase (st.managers j some limit) z (subst (λ (x : ManagerNode). active_in (slot_in part x.phase) ≡ Some z) (sym same) is)
+      phase_there (s.manager j).phase (st.managers j some limit) z (subst (λ (x : ManagerNode). active_in (slot_in part x.phase) ≡ Some z) (sym same) premise)
 
   pub was_to_be_deleted : (t : tokens.Scene) (p : Packet) (m : Delete) → In p sent → tokens.Fact k part t p → p.body ≡ body.Delete m
       → tables.In m.name s.net.deleted
-  was_to_be_deleted t p m among fact is =
-      let from : p.from ≡ Cleaner = deletes_by k part t m p.from p.to (subst (tokens.SentBy k part t p.from p.to) is fact) in
-      subst (λ b. SentBy part s.net s.asked Cleaner b) is (subst (λ n. SentBy part s.net s.asked n p.body) from (st.facts p among))
+  was_to_be_deleted t p m among fact premise =
+      let from : p.from ≡ Cleaner = deletes_by k part t m p.from p.to (subst (tokens.SentBy k part t p.from p.to) premise fact) in
+      subst (λ b. SentBy part s.net s.asked Cleaner b) premise (subst (λ n. SentBy part s.net s.asked n p.body) from (st.facts p among))

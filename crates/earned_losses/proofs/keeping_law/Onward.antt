@@ -43,10 +43,10 @@ module _ (laws : NodeLaws) (promised : ActiveEpochsPromised) (e : Estate AnyNode
   next_on count epoch a = by (slice_get e.events count) refl
     where
       by : (o : Option Event) → slice_get e.events count ≡ o → ActiveAt (moment e (suc count)) epoch
-      by None is = subst (λ w. ActiveAt w epoch) (sym (moment_ended e count is)) a
-      by (Some event) is =
-          subst (λ w. ActiveAt w epoch) (sym (moment_next e count event is))
-          (event_on (moment e count) event epoch (cluster_at e count) (may_happen e run count event is) a)
+      by None fact = subst (λ w. ActiveAt w epoch) (sym (moment_ended e count fact)) a
+      by (Some event) fact =
+          subst (λ w. ActiveAt w epoch) (sym (moment_next e count event fact))
+          (event_on (moment e count) event epoch (cluster_at e count) (may_happen e run count event fact) a)
 
   on_by : (more count epoch : ℕ) → ActiveAt (moment e count) epoch → ActiveAt (moment e (more + count)) epoch
   on_by zero count epoch a =
@@ -68,9 +68,9 @@ module _ (laws : NodeLaws) (promised : ActiveEpochsPromised) (e : Estate AnyNode
 
       by : (o : Option SlotState) → a.scene.net.slots epoch ≡ o → epoch ≤ epoch_of t.epochs part
       by None none = absurd (a.active none)
-      by (Some s) is =
+      by (Some s) fact =
           subst (λ (u : TokensState). epoch ≤ epoch_of u.epochs part) x.tokens
-          (promised false (members k part) part (with_promise 1 a.scene.net) b (record { run = a.stands.runs; inside = inside }) epoch s is c x.client)
+          (promised false (members k part) part (with_promise 1 a.scene.net) b (record { run = a.stands.runs; inside = inside }) epoch s fact c x.client)
 
   pub promised_later : (count later : ℕ) → count ≤ later → (s : Scene)
       → Stands false k part (moment e count).nodes (moment e count).sent (moment e count).acts RegistrySound s → (epoch : ℕ)

@@ -20,8 +20,8 @@ by_last : {A : Type 0} (before count : ℕ) → before ≤ suc count → (before
 by_last {A = A} before count low earlier last = by (nat_le before count) refl
   where
     by : (t : Bool) → nat_le before count ≡ t → A
-    by true is = earlier (grind (arith, nat_tests, is))
-    by false is = last (grind (arith, nat_tests, is, low))
+    by true fact = earlier (grind (arith, nat_tests, fact))
+    by false fact = last (grind (arith, nat_tests, fact, low))
 
 module _ (e : Estate AnyNode) (p : Packet) where
   -- in this event it is sent
@@ -48,9 +48,9 @@ module _ (e : Estate AnyNode) (p : Packet) where
   became : (count : ℕ) (event : Event) → slice_get e.events count ≡ Some event
       → Still (moment e count) (moment e (suc count)).nodes (moment e (suc count)).sent (moment e (suc count)).acts
       ⊎ TurnAt (moment e count) event (moment e (suc count)).nodes (moment e (suc count)).sent (moment e (suc count)).acts
-  became count event is =
+  became count event fact =
       subst (λ (v : World AnyNode). Still (moment e count) v.nodes v.sent v.acts ⊎ TurnAt (moment e count) event v.nodes v.sent v.acts)
-      (sym (moment_next e count event is)) (happened_so (moment e count) event)
+      (sym (moment_next e count event fact)) (happened_so (moment e count) event)
 
   -- where it was sent by the next count, and it is known in which event if it was sent by this one
   module _ (before count : ℕ) (known : before ≤ count → In p (moment e count).sent → SentIn before count) where
@@ -59,13 +59,13 @@ module _ (e : Estate AnyNode) (p : Packet) where
 
     turned : before ≤ count → In p (moment e (suc count)).sent → (event : Event) → slice_get e.events count ≡ Some event
         → TurnAt (moment e count) event (moment e (suc count)).nodes (moment e (suc count)).sent (moment e (suc count)).acts → SentIn before (suc count)
-    turned since sent event is t =
+    turned since sent event fact t =
         ⊎_elim (earlier since) (λ fresh. record {
           at = count;
           since = since;
           until = omega arith;
           event = event;
-          happens = is;
+          happens = fact;
           turn = t;
           fresh = fresh;
         }) (in_append (moment e count).sent _ p (subst (In p) t.sent_are sent))
@@ -74,9 +74,9 @@ module _ (e : Estate AnyNode) (p : Packet) where
     next_in since sent = by (slice_get e.events count) refl
       where
         by : (o : Option Event) → slice_get e.events count ≡ o → SentIn before (suc count)
-        by None is = earlier since (subst (λ (w : World AnyNode). In p w.sent) (moment_ended e count is) sent)
-        by (Some event) is =
-            ⊎_elim (λ still. earlier since (subst (In p) still.sent_are sent)) (turned since sent event is) (became count event is)
+        by None fact = earlier since (subst (λ (w : World AnyNode). In p w.sent) (moment_ended e count fact) sent)
+        by (Some event) fact =
+            ⊎_elim (λ still. earlier since (subst (In p) still.sent_are sent)) (turned since sent event fact) (became count event fact)
 
   pub sent_in : (before count : ℕ) → before ≤ count → (In p (moment e before).sent → ⊥) → In p (moment e count).sent → SentIn before count
   sent_in before zero low not_yet sent =
@@ -92,10 +92,10 @@ module _ (e : Estate AnyNode) (p : Packet) where
   sent_next count sent = by (slice_get e.events count) refl
     where
       by : (o : Option Event) → slice_get e.events count ≡ o → In p (moment e (suc count)).sent
-      by None is = subst (λ (w : World AnyNode). In p w.sent) (sym (moment_ended e count is)) sent
-      by (Some event) is =
+      by None fact = subst (λ (w : World AnyNode). In p w.sent) (sym (moment_ended e count fact)) sent
+      by (Some event) fact =
           ⊎_elim (λ still. subst (In p) (sym still.sent_are) sent)
-          (λ t. subst (In p) (sym t.sent_are) (in_before (moment e count).sent _ p sent)) (became count event is)
+          (λ t. subst (In p) (sym t.sent_are) (in_before (moment e count).sent _ p sent)) (became count event fact)
 
   sent_more : (more count : ℕ) → In p (moment e count).sent → In p (moment e (more + count)).sent
   sent_more zero count sent =

@@ -86,10 +86,10 @@ want_so client want (phase.Broken epoch seg) waits = (tt, tt)
 -- ---- in the table
 
 at_set : (t : Table) (k : ℕ) (p q : SlotPhase) → slice_get t k ≡ Some p → phase_at (slice_set t k q) k ≡ q
-at_set t k p q is = ap (λ o. unwrap_or o (phase.Away 0)) (get_set_same t k q p is)
+at_set t k p q fact = ap (λ o. unwrap_or o (phase.Away 0)) (get_set_same t k q p fact)
 
 at_get : (t : Table) (k : ℕ) (p : SlotPhase) → slice_get t k ≡ Some p → phase_at t k ≡ p
-at_get t k p is = ap (λ o. unwrap_or o (phase.Away 0)) is
+at_get t k p fact = ap (λ o. unwrap_or o (phase.Away 0)) fact
 
 module _ (s : Serving) (waits : WaitsInPlace (Serves s)) where
   -- the manager, with this table of slots
@@ -98,9 +98,9 @@ module _ (s : Serving) (waits : WaitsInPlace (Serves s)) where
 
   set_tells : (k : ℕ) (p q : SlotPhase) → slice_get s.slots k ≡ Some p → (m : Grant) → HeldIn k q m
       → GrantTells (Serves (with_table (slice_set s.slots k q))) m
-  set_tells k p q is m held = record {
+  set_tells k p q fact m held = record {
     slot = held.slot;
-    managed = ap (λ x. active_in (phase_at (slice_set s.slots k q) x)) held.of_slot ∙ (ap active_in (at_set s.slots k p q is) ∙ held.managed);
+    managed = ap (λ x. active_in (phase_at (slice_set s.slots k q) x)) held.of_slot ∙ (ap active_in (at_set s.slots k p q fact) ∙ held.managed);
     epoch = held.epoch;
     entry = held.entry;
   }
@@ -108,10 +108,10 @@ module _ (s : Serving) (waits : WaitsInPlace (Serves s)) where
   in_slot_tells : (k : ℕ) (event : SlotPhase → Stepped SlotPhase Effect)
       → ((p : SlotPhase) → OtherAgrees k p → AllSay (HeldIn k (event p).state) (event p).outs) → (o : Option SlotPhase) → slice_get s.slots k ≡ o
       → AllSay (GrantTells (Serves (with_table (table.in_slot s.slots k event o).state))) (table.in_slot s.slots k event o).outs
-  in_slot_tells k event each None is = tt
-  in_slot_tells k event each (Some p) is =
-      say_more (HeldIn k (event p).state) (GrantTells (Serves (with_table (slice_set s.slots k (event p).state)))) (set_tells k p (event p).state is)
-      (event p).outs (each p (subst (OtherAgrees k) (at_get s.slots k p is) (waits k)))
+  in_slot_tells k event each None fact = tt
+  in_slot_tells k event each (Some p) fact =
+      say_more (HeldIn k (event p).state) (GrantTells (Serves (with_table (slice_set s.slots k (event p).state)))) (set_tells k p (event p).state fact)
+      (event p).outs (each p (subst (OtherAgrees k) (at_get s.slots k p fact) (waits k)))
 
   pub wants_tell : (client : ℕ) (want : Want)
       → AllSay (GrantTells (Serves (with_table (table.on_want s.slots client want).state))) (table.on_want s.slots client want).outs

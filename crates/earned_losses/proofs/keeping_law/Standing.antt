@@ -149,7 +149,7 @@ module _ (below : Below) (base : Setting) (apart : TellsApart base) (e : Estate 
     promised_is = grind (arith, nat_tests, a.accepted)
 
     reigns : (d : ℕ) (t : SlotState) → then.idx.net.slots d ≡ Some t → d ≤ slot.epoch
-    reigns d t is =
+    reigns d t fact =
         let low : d ≤ epoch_of a.tokens.epochs part =
         promised_later below.nodes below.promised e run part (slot_below m.block.ino.0) after count limit then.tok
         (unlogged part cl (moment e after).nodes (moment e after).sent (moment e after).acts then.tok then.tokens_stand) d
@@ -159,7 +159,7 @@ module _ (below : Below) (base : Setting) (apart : TellsApart base) (e : Estate 
         omega arith
       where
         nobody : then.idx.net.slots d ≡ None → ⊥
-        nobody free = (let clash : None ≡ Some t = sym free ∙ is in absurd (cc))
+        nobody free = (let clash : None ≡ Some t = sym free ∙ fact in absurd (cc))
 
     -- ---- where the Grant leads
 
@@ -231,12 +231,12 @@ module _ (below : Below) (base : Setting) (apart : TellsApart base) (e : Estate 
         (λ newer. omega arith) o.newer
 
     pub not_deleted : (p : Packet) (d : Delete) → In p (moment e before).sent → p.body ≡ body.Delete d → d.name ≡ place.seg.name → ⊥
-    not_deleted p d sent is same =
+    not_deleted p d sent fact same =
         let sent_by : In p (moment e after).sent = sent_later e p before after (let since = s.since in omega arith) sent in
         let deleted : tables.In place.seg.name then.idx.net.deleted =
         subst (λ name. tables.In name then.idx.net.deleted) same
         (was_to_be_deleted cl part texts.text first (moment e after).nodes (moment e after).sent then.idx then.index_stands then.tok p d sent_by
-        (then.tokens_stand.facts p sent_by) is) in
+        (then.tokens_stand.facts p sent_by) fact) in
         none_newer (subst (IsOutdated m.block f) granted.tells.entry
         (below.outdated part (held_in part texts.text) then.idx.net m.block slot.epoch slot place
         (record { any = first; run = then.index_stands.runs; inside = refl }) there reigns (ap (λ (x : Entry). x.place) granted.tells.entry ∙ a.leads)
@@ -244,8 +244,8 @@ module _ (below : Below) (base : Setting) (apart : TellsApart base) (e : Estate 
 
   pub stood_before : (count : ℕ) → NoDoubtfulRestart e count → (c : ℕ) (packet : Packet) (place : Place) → WouldAccept (moment e count) c packet place
       → StoodBefore e count packet place
-  stood_before count none c packet place a before low not_yet p d sent is same =
-      not_deleted count none c packet place a before (sent_in e packet before count low not_yet a.sent) p d (was_sent (moment e before).sent p sent) is same
+  stood_before count none c packet place a before low not_yet p d sent fact same =
+      not_deleted count none c packet place a before (sent_in e packet before count low not_yet a.sent) p d (was_sent (moment e before).sent p sent) fact same
 
 -- of any setting whose contents tell items apart, and any lines
 pub grants_lead_to_what_stands : Below → TellingSetting → RunsHaveLines → LinesHaveTexts → GrantsLeadToWhatStands

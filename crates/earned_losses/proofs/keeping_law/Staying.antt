@@ -25,16 +25,16 @@ module _ (base : Setting) (e : Estate AnyNode) (lines : HasLines base e) (texts 
     more_grown : (more count : ℕ) → Grown (at_count count) (at_count (more + count))
     more_grown zero count =
         let same : count ≡ zero + count = omega arith in
-        subst (λ n. Grown (at_count count) (at_count n)) same (record { filed = λ name is. is; flown = λ s is. is; dropped = λ name is. is })
+        subst (λ n. Grown (at_count count) (at_count n)) same (record { filed = λ name fact. fact; flown = λ s fact. fact; dropped = λ name fact. fact })
     more_grown (suc more) count =
         let same : suc (more + count) ≡ suc more + count = omega arith in
         let a = more_grown more count in
         let b : Grown (at_count (more + count)) (at_count (suc (more + count))) =
         grown (setting base e r) (at_count (more + count)) (at_count (suc (more + count))) ((lines r there).goes (more + count)) in
         subst (λ n. Grown (at_count count) (at_count n)) same (record {
-          filed = λ name is. b.filed name (a.filed name is);
-          flown = λ s is. b.flown s (a.flown s is);
-          dropped = λ name is. b.dropped name (a.dropped name is);
+          filed = λ name fact. b.filed name (a.filed name fact);
+          flown = λ s fact. b.flown s (a.flown s fact);
+          dropped = λ name fact. b.dropped name (a.dropped name fact);
         })
 
     log_grown : (count later : ℕ) → count ≤ later → Grown (at_count count) (at_count later)

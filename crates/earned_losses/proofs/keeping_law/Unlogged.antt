@@ -25,23 +25,24 @@ module _ (size part : ℕ) where
   happens_so n m (Acts c end i serves own) = Acts c end i (serving_so n c end serves) own
   happens_so n m (Elsewhere c end i serves other) = Elsewhere c end i (serving_so n c end serves) other
   happens_so n m (Reports c end serves) = Reports c end (serving_so n c end serves)
-  happens_so n m (GetsCopy c end block stamp inc req entry serves is) = GetsCopy c end block stamp inc req entry (serving_so n c end serves) is
-  happens_so n m (GetsOwn c end block stamp inc req entry value serves is accepts room) =
-      GetsOwn c end block stamp inc req entry value (serving_so n c end serves) is accepts room
-  happens_so n m (Declines c end block stamp inc req entry serves is accepts) = Declines c end block stamp inc req entry (serving_so n c end serves) is accepts
-  happens_so n m (GetsRecall c end block stamp keep serves is) = GetsRecall c end block stamp keep (serving_so n c end serves) is
-  happens_so n m (GetsForward c other block stamp inc req ver value pos less is up serves held) =
-      GetsForward c other block stamp inc req ver value pos less is up serves held
-  happens_so n m (GetsSupply c end block stamp inc req ver value serves is) =
-      GetsSupply c end block stamp inc req ver value (serving_so n c end serves) is
+  happens_so n m (GetsCopy c end block stamp inc req entry serves fact) = GetsCopy c end block stamp inc req entry (serving_so n c end serves) fact
+  happens_so n m (GetsOwn c end block stamp inc req entry value serves fact accepts room) =
+      GetsOwn c end block stamp inc req entry value (serving_so n c end serves) fact accepts room
+  happens_so n m (Declines c end block stamp inc req entry serves fact accepts) =
+      Declines c end block stamp inc req entry (serving_so n c end serves) fact accepts
+  happens_so n m (GetsRecall c end block stamp keep serves fact) = GetsRecall c end block stamp keep (serving_so n c end serves) fact
+  happens_so n m (GetsForward c other block stamp inc req ver value pos less fact up serves held) =
+      GetsForward c other block stamp inc req ver value pos less fact up serves held
+  happens_so n m (GetsSupply c end block stamp inc req ver value serves fact) =
+      GetsSupply c end block stamp inc req ver value (serving_so n c end serves) fact
   happens_so n m (Fetches c end block value serves there) = Fetches c end block value (serving_so n c end serves) tt
   happens_so n m (Reads c block value pos less up holds held) = Reads c block value pos less up holds held
   happens_so n m (Syncs c pos less up clean) = Syncs c pos less up tt
   happens_so n m (Seals c rows pos less up idle newest) = Seals c rows pos less up tt tt
   happens_so n m (Files c pos less up flies) = Files c pos less up tt
   happens_so n m (GetsDeltas e s log first upto rows at known some covers) = GetsDeltas e s log first upto rows at known tt tt
-  happens_so n m (GetsWant e s c inc req again block mode end at is) = GetsWant e s c inc req again block mode end at is
-  happens_so n m (GetsGave e s c block stamp end at is) = GetsGave e s c block stamp end at is
+  happens_so n m (GetsWant e s c inc req again block mode end at fact) = GetsWant e s c inc req again block mode end at fact
+  happens_so n m (GetsGave e s c block stamp end at fact) = GetsGave e s c block stamp end at fact
   happens_so n m (Ticks e s at) = Ticks e s at
   happens_so n m (Crashes c flight falls pos less up once so) = Crashes c flight falls pos less up once tt
   happens_so n m (Returns c inc epochs chain count pos less up later rises flies) = Returns c inc epochs chain count pos less up later rises tt

@@ -32,24 +32,24 @@ use Rattle.earned_losses.specs.lost_law.Reads.{ReadsLoseWhatIsTorn, WasTornInRea
 -- the tokens of a client that serves
 
 tokens_served : (p : Phase) (s : Serving) → serving_in p ≡ Some s → tokens_in p ≡ Some s.tokens
-tokens_served (Down l) s is = absurd cc
-tokens_served (Opening l o) s is = absurd cc
-tokens_served (Serves t) s is = ap (λ (o : Option Serving). tokens_now o) is
+tokens_served (Down l) s fact = absurd cc
+tokens_served (Opening l o) s fact = absurd cc
+tokens_served (Serves t) s fact = ap (λ (o : Option Serving). tokens_now o) fact
   where
     tokens_now : Option Serving → Option TokensState
     tokens_now None = None
     tokens_now (Some x) = Some x.tokens
 
 tokens_there : (o : Option AnyNode) (s : Serving) → serving_of o ≡ Some s → tokens_of o ≡ Some s.tokens
-tokens_there None s is = absurd cc
-tokens_there (Some (any.Client node)) s is = tokens_served node.phase s is
-tokens_there (Some (any.Manager node)) s is = absurd cc
-tokens_there (Some (any.Server node)) s is = absurd cc
-tokens_there (Some (any.Cleaner node)) s is = absurd cc
-tokens_there (Some (any.Registry node)) s is = absurd cc
+tokens_there None s fact = absurd cc
+tokens_there (Some (any.Client node)) s fact = tokens_served node.phase s fact
+tokens_there (Some (any.Manager node)) s fact = absurd cc
+tokens_there (Some (any.Server node)) s fact = absurd cc
+tokens_there (Some (any.Cleaner node)) s fact = absurd cc
+tokens_there (Some (any.Registry node)) s fact = absurd cc
 
 module _ (keeps : GrantsLeadToWhatStands) (e : Estate AnyNode) (setup : IsSetup e.script.setup) (run : IsRun any_step any_start e.script e.events e.world)
-    (c count : ℕ) (none : NoDoubtfulRestart e count) (event : Event) (is : slice_get e.events count ≡ Some event) (own : nodes.Client c ≡ node_of event)
+    (c count : ℕ) (none : NoDoubtfulRestart e count) (event : Event) (fact : slice_get e.events count ≡ Some event) (own : nodes.Client c ≡ node_of event)
     (s : Serving) (serves : serving_at e c count ≡ Some s) (name : SegName) where
   torn_so : CallsReadWhatWasFiled → CallsReadWhatIsStored → 0 < c → c ≤ e.script.setup.clients → WasTornInFetch e c s count (what_of event) name
       → WasTornInRead e c count name
@@ -76,7 +76,7 @@ module _ (keeps : GrantsLeadToWhatStands) (e : Estate AnyNode) (setup : IsSetup 
 
       would : WouldAccept (moment e count) c packet w.confirms.place
       would =
-          let got = brought (moment e count) event (may_happen e run count event is) packet w.confirms.delivers in
+          let got = brought (moment e count) event (may_happen e run count event fact) packet w.confirms.delivers in
           record {
             tokens = s.tokens;
             serves = tokens_there (node_named (moment e count) (nodes.Client c)) s serves;
@@ -98,7 +98,7 @@ module _ (keeps : GrantsLeadToWhatStands) (e : Estate AnyNode) (setup : IsSetup 
       torn = w.torn stood
 
 pub reads_lose : FetchesLossesEarned → GonesAreOfWhatStands → GrantsLeadToWhatStands → CallsReadWhatWasFiled → CallsReadWhatIsStored → ReadsLoseWhatIsTorn
-reads_lose fetches told keeps filed stored e setup run c some within count none event is own s serves name among =
-    ⊎_elim (λ gone. inl (told e setup run count none c event is own s serves name among gone))
-    (λ w. inr (torn_so keeps e setup run c count none event is own s serves name filed stored some within w))
-    (fetches e setup run c some within count event is own s serves name among)
+reads_lose fetches told keeps filed stored e setup run c some within count none event fact own s serves name among =
+    ⊎_elim (λ gone. inl (told e setup run count none c event fact own s serves name among gone))
+    (λ w. inr (torn_so keeps e setup run c count none event fact own s serves name filed stored some within w))
+    (fetches e setup run c some within count event fact own s serves name among)

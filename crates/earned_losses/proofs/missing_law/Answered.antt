@@ -39,14 +39,14 @@ up_to_or_after : (k a : ℕ) → (k ≤ a) ⊎ (suc a ≤ k)
 up_to_or_after k a = by (nat_le k a) refl
   where
     by : (t : Bool) → nat_le k a ≡ t → (k ≤ a) ⊎ (suc a ≤ k)
-    by true is = inl (grind (arith, nat_tests))
-    by false is = inr (grind (arith, nat_tests))
+    by true fact = inl (grind (arith, nat_tests))
+    by false fact = inr (grind (arith, nat_tests))
 
 nothing_below : (m : ℕ) → m ≤ 0 → m ≡ 0
 nothing_below m none = omega arith
 
 at_most : (m n : ℕ) → m ≡ n → m ≤ n
-at_most m n is = omega arith
+at_most m n fact = omega arith
 
 no_more : (l m n : ℕ) → l ≤ m → m ≤ n → l ≤ n
 no_more l m n a b = omega arith
@@ -127,9 +127,9 @@ module _ (base : Setting) (e : Estate AnyNode) (run : IsRun any_step any_start e
         told_by : (x : AnyNode) → ServerThere (setting base e OfCleaner) OfCleaner ((lines OfCleaner tt).at count) v x
             → node_in (moment e count).nodes (place_of k_of (names.Server v)) ≡ Some x
             → In p (map (sent_at t.clock) (any_step x (what_of event)).packets) → Told (suc count) v m
-        told_by (any.Client node) h is among = absurd h
-        told_by (any.Manager node) h is among = absurd h
-        told_by (any.Server node) h is among =
+        told_by (any.Client node) h fact among = absurd h
+        told_by (any.Manager node) h fact among = absurd h
+        told_by (any.Server node) h fact among =
             let so : MissingSo node (what_of event) p.to p.body =
             at_clock t.clock (λ q. MissingSo node (what_of event) q.to q.body) (λ q. MissingSo node (what_of event) q.to q.body) (λ q y. y)
             (any_step (any.Server node) (what_of event)).packets (misses_what_it_lacks node (what_of event)) p among in
@@ -145,12 +145,12 @@ module _ (base : Setting) (e : Estate AnyNode) (run : IsRun any_step any_start e
               name = a.name;
               ask = a.ask;
               shelf = node.shelf;
-              has_shelf = here_is e count v ∙ ap shelf_of is;
+              has_shelf = here_is e count v ∙ ap shelf_of fact;
               in_generation = sym a.generation;
               nothing = a.nothing;
             }
-        told_by (any.Cleaner node) h is among = absurd h
-        told_by (any.Registry node) h is among = absurd h
+        told_by (any.Cleaner node) h fact among = absurd h
+        told_by (any.Registry node) h fact among = absurd h
 
         told_now : In p new → p.from ≡ names.Server v → Told (suc count) v m
         told_now late from =

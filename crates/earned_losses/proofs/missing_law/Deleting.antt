@@ -18,15 +18,15 @@ use Rattle.earned_losses.proofs.missing_law.Moments.{Deleted}
 
 -- one of a list passes a test, or none does
 found_or_none : {X : Type 0} (test : X → Bool) (xs : List X) → ((x : X) × In x xs × (test x ≡ true)) ⊎ ((x : X) → In x xs → test x ≡ true → ⊥)
-found_or_none {X} test [] = inr (λ x is t. is)
+found_or_none {X} test [] = inr (λ x fact t. fact)
 found_or_none {X} test (y ∷ ys) = by (test y) refl (found_or_none test ys)
   where
     by : (t : Bool) → test y ≡ t → ((x : X) × In x ys × (test x ≡ true)) ⊎ ((x : X) → In x ys → test x ≡ true → ⊥)
         → ((x : X) × In x (y ∷ ys) × (test x ≡ true)) ⊎ ((x : X) → In x (y ∷ ys) → test x ≡ true → ⊥)
-    by true is rest = inl (y, inl refl, is)
-    by false is (inl (x, among, passes)) = inl (x, inr among, passes)
-    by false is (inr none) =
-        inr (λ x among passes. ⊎_elim (λ same. contrary (sym is ∙ (ap test (sym same) ∙ passes))) (λ later. none x later passes) among)
+    by true fact rest = inl (y, inl refl, fact)
+    by false fact (inl (x, among, passes)) = inl (x, inr among, passes)
+    by false fact (inr none) =
+        inr (λ x among passes. ⊎_elim (λ same. contrary (sym fact ∙ (ap test (sym same) ∙ passes))) (λ later. none x later passes) among)
 
 abbrev deletes : SegName → Body → Bool
 deletes name (body.Delete m) = same_name m.name name
@@ -39,8 +39,8 @@ record SaysSo (name : SegName) (said : Body) : Type 0 where
   named : delete.name ≡ name
 
 says_so : (name : SegName) (said : Body) → deletes name said ≡ true → SaysSo name said
-says_so name (body.Delete m) is = record { delete = m; tells = refl; named = one_name m.name name is }
-says_so name _ is = contrary is
+says_so name (body.Delete m) fact = record { delete = m; tells = refl; named = one_name m.name name fact }
+says_so name _ fact = contrary fact
 
 module _ (e : Estate AnyNode) (count : ℕ) (name : SegName) where
   abbrev Of : Packet → Bool
@@ -52,8 +52,8 @@ module _ (e : Estate AnyNode) (count : ℕ) (name : SegName) where
       by : ((p : Packet) × In p (moment e count).sent × (deletes name p.body ≡ true))
           ⊎ ((p : Packet) → In p (moment e count).sent → deletes name p.body ≡ true → ⊥)
           → Deleted e count name ⊎ NotDeleted (moment e count) name
-      by (inl (p, among, is)) =
-          let s = says_so name p.body is in inl (record { packet = p; among = among; delete = s.delete; tells = s.tells; named = s.named })
+      by (inl (p, among, fact)) =
+          let s = says_so name p.body fact in inl (record { packet = p; among = among; delete = s.delete; tells = s.tells; named = s.named })
       by (inr none) =
           inr (λ packet m sent tells named.
           none packet (was_sent (moment e count).sent packet sent)

@@ -22,8 +22,8 @@ use Rattle.xfs_base.specs.declared.segment.SegName.{SegName}
 use Rattle.earned_losses.specs.missing_law.Stored.{disks_lost, has_lost_disk}
 
 lacks_none : (o : Option Fragment) (f : Fragment) → o ≡ Some f → is_none o ≡ true → ⊥
-lacks_none None f is none = absurd cc
-lacks_none (Some h) f is none = contrary none
+lacks_none None f fact none = absurd cc
+lacks_none (Some h) f fact none = contrary none
 
 is_less : (a b : ℕ) → a < b → nat_lt a b ≡ true
 is_less a b less = grind (arith, nat_tests)

@@ -48,15 +48,15 @@ none_left None never = refl
 none_left (Some f) never = absurd (never refl)
 
 not_held : (o : Option Fragment) → o ≡ None → is_some o ≡ true → ⊥
-not_held None e is = contrary is
-not_held (Some f) e is = absurd cc
+not_held None e fact = contrary fact
+not_held (Some f) e fact = absurd cc
 
 shelf_weaker : (T U : SegName → Type 0) → ((name : SegName) → T name → U name) → (s t : ShelfState) → ShelfOn T s t → ShelfOn U s t
-shelf_weaker T U up s t on = record { up = on.up; holds = λ name is. by name (on.holds name is) }
+shelf_weaker T U up s t on = record { up = on.up; holds = λ name fact. by name (on.holds name fact) }
   where
     by : (name : SegName) → (is_held t name ≡ true) ⊎ ((s.generation < t.generation) ⊎ T name)
         → (is_held t name ≡ true) ⊎ ((s.generation < t.generation) ⊎ U name)
-    by name (inl is) = inl is
+    by name (inl fact) = inl fact
     by name (inr (inl less)) = inr (inl less)
     by name (inr (inr told)) = inr (inr (up name told))
 
@@ -68,15 +68,15 @@ record Turned (Told : SegName → Type 0) (x : AnyNode) (what : Do) (s : ShelfSt
 
 turned : (Told : SegName → Type 0) (x : AnyNode) (what : Do) (s : ShelfState) → shelf_of (Some x) ≡ Some s
     → ((packet : Packet) (m : Delete) → what ≡ done.Deliver packet → packet.body ≡ body.Delete m → Told m.name) → Turned Told x what s
-turned Told (any.Client node) what s is tells = absurd cc
-turned Told (any.Manager node) what s is tells = absurd cc
-turned Told (any.Server node) what s is tells = record {
+turned Told (any.Client node) what s fact tells = absurd cc
+turned Told (any.Manager node) what s fact tells = absurd cc
+turned Told (any.Server node) what s fact tells = record {
   shelf = (server_step node what).node.shelf;
   has_shelf = refl;
-  on = subst (λ z. ShelfOn Told z (server_step node what).node.shelf) (same_shelf node.shelf s is) (server_on Told node what tells);
+  on = subst (λ z. ShelfOn Told z (server_step node what).node.shelf) (same_shelf node.shelf s fact) (server_on Told node what tells);
 }
-turned Told (any.Cleaner node) what s is tells = absurd cc
-turned Told (any.Registry node) what s is tells = absurd cc
+turned Told (any.Cleaner node) what s fact tells = absurd cc
+turned Told (any.Registry node) what s fact tells = absurd cc
 
 module _ (e : Estate AnyNode) where
   abbrev pub k_of : Cluster
@@ -88,9 +88,9 @@ module _ (e : Estate AnyNode) where
   pub became : (count : ℕ) (event : Event) → slice_get e.events count ≡ Some event
       → Still (moment e count) (moment e (suc count)).nodes (moment e (suc count)).sent (moment e (suc count)).acts
       ⊎ TurnAt (moment e count) event (moment e (suc count)).nodes (moment e (suc count)).sent (moment e (suc count)).acts
-  became count event is =
+  became count event fact =
       subst (λ (v : World AnyNode). Still (moment e count) v.nodes v.sent v.acts ⊎ TurnAt (moment e count) event v.nodes v.sent v.acts)
-      (sym (moment_next e count event is)) (happened_so (moment e count) event)
+      (sym (moment_next e count event fact)) (happened_so (moment e count) event)
 
   -- what is sent between two counts is added to what was sent
   pub record Grown (count : ℕ) : Type 0 where
@@ -101,21 +101,21 @@ module _ (e : Estate AnyNode) where
   grown count = by (slice_get e.events count) refl
     where
       same : (moment e (suc count)).sent ≡ (moment e count).sent → Grown count
-      same is = record { new = []; sent_are = is ∙ sym (append-nil (moment e count).sent) }
+      same fact = record { new = []; sent_are = fact ∙ sym (append-nil (moment e count).sent) }
 
       by : (o : Option Event) → slice_get e.events count ≡ o → Grown count
-      by None is = same (ap (λ (v : World AnyNode). v.sent) (moment_ended e count is))
-      by (Some event) is =
+      by None fact = same (ap (λ (v : World AnyNode). v.sent) (moment_ended e count fact))
+      by (Some event) fact =
           ⊎_elim (λ still. same still.sent_are)
-          (λ t. record { new = map (sent_at t.clock) (any_step t.node (what_of event)).packets; sent_are = t.sent_are }) (became count event is)
+          (λ t. record { new = map (sent_at t.clock) (any_step t.node (what_of event)).packets; sent_are = t.sent_are }) (became count event fact)
 
   pub sent_next : (count : ℕ) (p : Packet) → In p (moment e count).sent → In p (moment e (suc count)).sent
-  sent_next count p is = (let g = grown count in subst (In p) (sym g.sent_are) (in_before (moment e count).sent g.new p is))
+  sent_next count p fact = (let g = grown count in subst (In p) (sym g.sent_are) (in_before (moment e count).sent g.new p fact))
 
   pub sent_on : (from to : ℕ) → from ≤ to → (p : Packet) → In p (moment e from).sent → In p (moment e to).sent
-  sent_on from zero limit p is = subst (λ k. In p (moment e k).sent) (nothing_below from limit) is
-  sent_on from (suc to) limit p is =
-      ⊎_elim (λ same. subst (λ k. In p (moment e k).sent) same is) (λ below. sent_next to p (sent_on from to below p is)) (last_or_before from to limit)
+  sent_on from zero limit p fact = subst (λ k. In p (moment e k).sent) (nothing_below from limit) fact
+  sent_on from (suc to) limit p fact =
+      ⊎_elim (λ same. subst (λ k. In p (moment e k).sent) same fact) (λ below. sent_next to p (sent_on from to below p fact)) (last_or_before from to limit)
 
   -- ---- what was deleted
 
@@ -165,20 +165,20 @@ module _ (e : Estate AnyNode) where
 
   module _ (run : IsRun any_step any_start e.script e.events e.world) where
     rests : (count v : ℕ) (s : ShelfState) → shelf_at (moment e count) v ≡ Some s → Here (suc count) v ≡ Here count v → ShelfAt (suc count) v s
-    rests count v s is same = record {
+    rests count v s fact same = record {
       shelf = s;
-      has_shelf = here_is (suc count) v ∙ (ap shelf_of same ∙ (sym (here_is count v) ∙ is));
+      has_shelf = here_is (suc count) v ∙ (ap shelf_of same ∙ (sym (here_is count v) ∙ fact));
       on = shelf_same (Deleted (suc count)) s;
     }
 
-    module _ (count v : ℕ) (s : ShelfState) (is : shelf_at (moment e count) v ≡ Some s) (event : Event) (at : slice_get e.events count ≡ Some event)
+    module _ (count v : ℕ) (s : ShelfState) (fact : shelf_at (moment e count) v ≡ Some s) (event : Event) (at : slice_get e.events count ≡ Some event)
         (t : TurnAt (moment e count) event (moment e (suc count)).nodes (moment e (suc count)).sent (moment e (suc count)).acts) where
       placed : place_of k_of (node_of event) ≡ Some t.place
       placed = subst (λ k. place_of k (node_of event) ≡ Some t.place) (cluster_at e count) t.placed
 
       other_turn : (names.Server v ≡ node_of event → ⊥) → ShelfAt (suc count) v s
       other_turn differs =
-          rests count v s is
+          rests count v s fact
           (ap (λ ns. node_in ns (place_of k_of (names.Server v))) t.nodes_are
           ∙ there k_of (moment e count).nodes (node_of event) t.place placed (any_step t.node (what_of event)).node (names.Server v) differs)
 
@@ -207,25 +207,25 @@ module _ (e : Estate AnyNode) where
               (here k_of (moment e count).nodes (node_of event) t.place placed (any_step t.node (what_of event)).node t.node t.stands)
 
           d : Turned (Deleted (suc count)) t.node (what_of event) s
-          d = turned (Deleted (suc count)) t.node (what_of event) s (sym (ap shelf_of was) ∙ (sym (here_is count v) ∙ is)) told
+          d = turned (Deleted (suc count)) t.node (what_of event) s (sym (ap shelf_of was) ∙ (sym (here_is count v) ∙ fact)) told
 
     shelf_next : (count v : ℕ) (s : ShelfState) → shelf_at (moment e count) v ≡ Some s → ShelfAt (suc count) v s
-    shelf_next count v s is = by (slice_get e.events count) refl
+    shelf_next count v s fact = by (slice_get e.events count) refl
       where
         still : (moment e (suc count)).nodes ≡ (moment e count).nodes → ShelfAt (suc count) v s
-        still nodes = rests count v s is (ap (λ ns. node_in ns (place_of k_of (names.Server v))) nodes)
+        still nodes = rests count v s fact (ap (λ ns. node_in ns (place_of k_of (names.Server v))) nodes)
 
         by : (o : Option Event) → slice_get e.events count ≡ o → ShelfAt (suc count) v s
         by None at = still (ap (λ (w : World AnyNode). w.nodes) (moment_ended e count at))
         by (Some event) at =
             ⊎_elim (λ rest. still rest.nodes_are)
-            (λ t. ⊎_elim (own_turn count v s is event at t) (other_turn count v s is event at t) (same_or_other (names.Server v) (node_of event)))
+            (λ t. ⊎_elim (own_turn count v s fact event at t) (other_turn count v s fact event at t) (same_or_other (names.Server v) (node_of event)))
             (became count event at)
 
     shelf_same_at : (from to v : ℕ) (s : ShelfState) → shelf_at (moment e from) v ≡ Some s → from ≡ to → ShelfAt to v s
-    shelf_same_at from to v s is now = record {
+    shelf_same_at from to v s fact now = record {
       shelf = s;
-      has_shelf = subst (λ k. shelf_at (moment e k) v ≡ Some s) now is;
+      has_shelf = subst (λ k. shelf_at (moment e k) v ≡ Some s) now fact;
       on = shelf_same (Deleted to) s;
     }
 
@@ -240,9 +240,9 @@ module _ (e : Estate AnyNode) where
         }
 
     pub shelf_on : (from to v : ℕ) → from ≤ to → (s : ShelfState) → shelf_at (moment e from) v ≡ Some s → ShelfAt to v s
-    shelf_on from zero v limit s is = shelf_same_at from 0 v s is (nothing_below from limit)
-    shelf_on from (suc to) v limit s is =
-        ⊎_elim (shelf_same_at from (suc to) v s is) (λ below. shelf_further to v s (shelf_on from to v below s is)) (last_or_before from to limit)
+    shelf_on from zero v limit s fact = shelf_same_at from 0 v s fact (nothing_below from limit)
+    shelf_on from (suc to) v limit s fact =
+        ⊎_elim (shelf_same_at from (suc to) v s fact) (λ below. shelf_further to v s (shelf_on from to v below s fact)) (last_or_before from to limit)
 
     -- a server that missed a segment at two moments, in one generation, lacks it at each between, where no server was told to delete it
     pub lacks_between : (since middle drawn count v generation : ℕ) (name : SegName) → MissedIn e since middle v generation name
@@ -264,7 +264,7 @@ module _ (e : Estate AnyNode) where
         unheld held = by (b.on.holds name held)
           where
             by : (is_held b.shelf name ≡ true) ⊎ ((a.shelf.generation < b.shelf.generation) ⊎ Deleted two.at name) → ⊥
-            by (inl is) = not_held (held_at two.shelf.held name) two.nothing (subst (λ (s : ShelfState). is_held s name ≡ true) same is)
+            by (inl fact) = not_held (held_at two.shelf.held name) two.nothing (subst (λ (s : ShelfState). is_held s name ≡ true) same fact)
             by (inr (inl less)) =
                 let x = a.on.up in
                 let y = one.in_generation in

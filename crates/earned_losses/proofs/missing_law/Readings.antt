@@ -360,8 +360,8 @@ module _ (e : Estate AnyNode) where
         where
           by : (stage : rounds.Stage) → r.stage ≡ stage → StageTrue since count number r stage
               → ReadingTrue since count (number_then stage fresh) (goes_on r ask stage).state
-          by stand.Asking is t = so
-          by stand.Between is t = record {
+          by stand.Asking fact t = so
+          by stand.Between fact t = record {
             servers = so.servers;
             parity = so.parity;
             stage = record {
@@ -371,15 +371,15 @@ module _ (e : Estate AnyNode) where
               born = (let a = t.begins in let b = t.until in omega arith);
               follows = t.until;
               until = omega arith;
-              fresh = drawn is;
+              fresh = drawn fact;
               kept = t.kept;
               single = tt;
               asked = tt;
               told = tt;
             };
           }
-          by stand.Doubted is t = record { servers = so.servers; parity = so.parity; stage = tt }
-          by stand.Over is t = so
+          by stand.Doubted fact t = record { servers = so.servers; parity = so.parity; stage = tt }
+          by stand.Over fact t = so
 
       -- where it is lost then, it was torn, unless it was deleted
       pub lost_was_torn : (ask : ℕ) → (on_confirmed r ask).next ≡ next.Lost → TornUnlessDeleted since count r.target.seg

@@ -75,10 +75,10 @@ module _ (e : Estate AnyNode) (run : IsRun any_step any_start e.script e.events 
 
   -- a server of the run has a shelf at each moment
   pub shelf_there : (count v : ℕ) → IsServer e.script.setup.servers v → (shelf : ShelfState) × (shelf_at (moment e count) v ≡ Some shelf)
-  shelf_there count v is = (let s : ShelfAt e count v new_shelf = shelf_on e run 0 count v (omega arith) new_shelf first in (s.shelf, s.has_shelf))
+  shelf_there count v fact = (let s : ShelfAt e count v new_shelf = shelf_on e run 0 count v (omega arith) new_shelf first in (s.shelf, s.has_shelf))
     where
       at : place_of (k_of e) (names.Server v) ≡ Some (e.script.setup.clients + e.script.setup.managers + v - 1)
-      at = place_there (e.script.setup.clients + e.script.setup.managers) e.script.setup.servers v is.0 is.1
+      at = place_there (e.script.setup.clients + e.script.setup.managers) e.script.setup.servers v fact.0 fact.1
 
       first : shelf_at (moment e 0) v ≡ Some new_shelf
       first =
@@ -92,14 +92,14 @@ module _ (e : Estate AnyNode) (run : IsRun any_step any_start e.script e.events 
     -- their members are servers of the run
     pub member_is_server : (id : ℕ) (group : Group) → group_at e.world id ≡ Some group → (place : ℕ) → place < length group.members
         → IsServer e.script.setup.servers (server_of group.members place)
-    member_is_server id group is place below =
+    member_is_server id group fact place below =
         by (node_in (moment e (length e.events)).nodes (place_of (k_of e) names.Registry))
         (λ x at. ((lines OfCleaner tt).stands (length e.events)).seen names.Registry x at) found
       where
         found : group_in (groups_of (node_in (moment e (length e.events)).nodes (place_of (k_of e) names.Registry))) id ≡ Some group
         found =
             ap (λ c. group_in (groups_of (node_in (moment e (length e.events)).nodes (place_of c names.Registry))) id) (sym (cluster_at e (length e.events)))
-            ∙ (ap (λ w. group_at w id) (at_end e.events (start_world any_start e.script) e.world run) ∙ is)
+            ∙ (ap (λ w. group_at w id) (at_end e.events (start_world any_start e.script) e.world run) ∙ fact)
 
         of_registry : (x : AnyNode) → RegistryThere (setting base e OfCleaner) OfCleaner ((lines OfCleaner tt).at (length e.events)) x
             → group_in (groups_of (Some x)) id ≡ Some group → IsServer e.script.setup.servers (server_of group.members place)
@@ -131,9 +131,9 @@ module _ (e : Estate AnyNode) (run : IsRun any_step any_start e.script e.events 
 
       -- the shelf of a server is the one that the small world has
       shelf_is : (v : ℕ) (shelf : ShelfState) → shelf_at (moment e count) v ≡ Some shelf → net.shelves v ≡ shelf
-      shelf_is v shelf is =
+      shelf_is v shelf fact =
           by (node_in (moment e count).nodes (place_of (k_of e) (names.Server v))) (λ x at. ((lines r is_there).stands count).seen (names.Server v) x at)
-          (sym (here_is e count v) ∙ is)
+          (sym (here_is e count v) ∙ fact)
         where
           same : (a b : ShelfState) → Some a ≡ Some b → a ≡ b
           same a b q = cc
@@ -168,8 +168,8 @@ module _ (e : Estate AnyNode) (run : IsRun any_step any_start e.script e.events 
 
         said : (packet : Packet) (m : Body) (to : NodeId) → WasSent (moment e count).sent packet → packet.to ≡ to → packet.body ≡ m
             → BodySeen (setting base e r) (asker_by r ((lines r is_there).at count)) net packet.from to m
-        said packet m to was at is =
-            subst (BodySeen (setting base e r) (asker_by r ((lines r is_there).at count)) net packet.from to) is
+        said packet m to was at fact =
+            subst (BodySeen (setting base e r) (asker_by r ((lines r is_there).at count)) net packet.from to) fact
             (subst (λ t. BodySeen (setting base e r) (asker_by r ((lines r is_there).at count)) net packet.from t packet.body) at
             (((lines r is_there).stands count).facts packet (was_sent (moment e count).sent packet was)))
 
@@ -187,14 +187,14 @@ module _ (e : Estate AnyNode) (run : IsRun any_step any_start e.script e.events 
 
           text_so : IsText (moment e count) s.name s group
           text_so = record {
-            held = λ v shelf f at is.
+            held = λ v shelf f at fact.
                 (let t = one.held v s.name f own
-                (subst (λ (z : ShelfState). held_at z.held s.name ≡ Some f) (sym (shelf_is v shelf at)) is) in of_it f t.0 t.1 t.2 t.3);
-            stored = λ v packet m was to is same.
-                (let t = one.stored v m.generation m.fragment (said packet (body.Store m) (names.Server v) was to is (ours m.fragment.meta.name same)) in
+                (subst (λ (z : ShelfState). held_at z.held s.name ≡ Some f) (sym (shelf_is v shelf at)) fact) in of_it f t.0 t.1 t.2 t.3);
+            stored = λ v packet m was to fact same.
+                (let t = one.stored v m.generation m.fragment (said packet (body.Store m) (names.Server v) was to fact (ours m.fragment.meta.name same)) in
                 of_it m.fragment t.0 t.1 (named_so m.fragment t.0 t.2 same) t.2);
-            told = λ packet m was is same.
-                (let t = one.told m.fragment (said packet (body.Fragment m) packet.to was refl is (ours m.fragment.meta.name same)) in
+            told = λ packet m was fact same.
+                (let t = one.told m.fragment (said packet (body.Fragment m) packet.to was refl fact (ours m.fragment.meta.name same)) in
                 of_it m.fragment t.0 t.1 (named_so m.fragment t.0 t.2 same) t.2);
           }
 
@@ -210,25 +210,25 @@ module _ (e : Estate AnyNode) (run : IsRun any_step any_start e.script e.events 
           (all : (place : ℕ) → place < length (members_of (setting base e r) s)
           → Holds (setting base e r) net s place ⊎ IsLater (setting base e r) net s place) where
         stored_over : (group : Group) → group_at e.world s.group ≡ Some group → IsStoredAs e count (ref_of s)
-        stored_over group is = record {
+        stored_over group fact = record {
           stored = record {
             segment = s;
             named = refl;
             group = group;
-            striped = is;
-            text = text_so laws flew group is;
+            striped = fact;
+            text = text_so laws flew group fact;
             kept = each;
-            disks = disks_of e count s group each is;
+            disks = disks_of e count s group each fact;
           };
           over = refl;
         }
           where
             members : (place : ℕ) → place < length group.members → HasOver (stripe_of_group group) place
-            members = subst (λ (t : Stripe). (place : ℕ) → place < length t.members → HasOver t place) (ap stripe_by is) all
+            members = subst (λ (t : Stripe). (place : ℕ) → place < length t.members → HasOver t place) (ap stripe_by fact) all
 
             each : IsKept (moment e count) s group
             each place below =
-                let x = shelf_there count (server_of group.members place) (member_is_server s.group group is place below) in
+                let x = shelf_there count (server_of group.members place) (member_is_server s.group group fact place below) in
                 let same : net.shelves (server_of group.members place) ≡ x.0 = shelf_is (server_of group.members place) x.0 x.1 in
                 subst (HoldsOrLost s group place) (sym x.1)
                 (subst (λ (z : ShelfState). (held_at z.held s.name ≡ Some (piece s group place)) ⊎ (generation_of group.members place < z.generation)) same

@@ -52,8 +52,8 @@ none_found None e = refl
 none_found (Some f) e = contrary (sym e)
 
 found_too : (t : Bool) (f : Fragment) (o : Option Fragment) → is_some o ≡ true → is_some (cond t (Some f) o) ≡ true
-found_too true f o is = refl
-found_too false f o is = is
+found_too true f o fact = refl
+found_too false f o fact = fact
 
 less_min : (a b : ℕ) → a < b → a < min (a + 1) b
 less_min a b less = omega arith
@@ -62,7 +62,7 @@ at_most : (a b : ℕ) → a < b → a ≤ b
 at_most a b less = omega arith
 
 low_of : (a b c : Bool) (g : ℕ) → has_room g ≡ a → (a && (b && c)) ≡ true → g < u32_end
-low_of a b c g is t = (let room = is ∙ and_first a (b && c) t in grind (arith, nat_tests))
+low_of a b c g fact t = (let room = fact ∙ and_first a (b && c) t in grind (arith, nat_tests))
 
 -- The shelf went on: its generation doesn't fall, and what it holds stays, or its disk was lost, or it was told to delete it.
 pub record ShelfOn (Told : SegName → Type 0) (s t : ShelfState) : Type 0 where
@@ -71,20 +71,20 @@ pub record ShelfOn (Told : SegName → Type 0) (s t : ShelfState) : Type 0 where
 
 module _ (Told : SegName → Type 0) where
   pub shelf_same : (s : ShelfState) → ShelfOn Told s s
-  shelf_same s = record { up = omega arith; holds = λ name is. inl is }
+  shelf_same s = record { up = omega arith; holds = λ name fact. inl fact }
 
   pub shelf_then : (s t u : ShelfState) → ShelfOn Told s t → ShelfOn Told t u → ShelfOn Told s u
-  shelf_then s t u one two = record { up = (let a = one.up in let b = two.up in omega arith); holds = λ name is. first name (one.holds name is) }
+  shelf_then s t u one two = record { up = (let a = one.up in let b = two.up in omega arith); holds = λ name fact. first name (one.holds name fact) }
     where
       second : (name : SegName) → (is_held u name ≡ true) ⊎ ((t.generation < u.generation) ⊎ Told name)
           → (is_held u name ≡ true) ⊎ ((s.generation < u.generation) ⊎ Told name)
-      second name (inl is) = inl is
+      second name (inl fact) = inl fact
       second name (inr (inl less)) = inr (inl (let a = one.up in omega arith))
       second name (inr (inr told)) = inr (inr told)
 
       first : (name : SegName) → (is_held t name ≡ true) ⊎ ((s.generation < t.generation) ⊎ Told name)
           → (is_held u name ≡ true) ⊎ ((s.generation < u.generation) ⊎ Told name)
-      first name (inl is) = second name (two.holds name is)
+      first name (inl fact) = second name (two.holds name fact)
       first name (inr (inl less)) = inr (inl (let a = two.up in omega arith))
       first name (inr (inr told)) = inr (inr told)
 
@@ -95,15 +95,15 @@ module _ (Told : SegName → Type 0) where
       by_test (ShelfOn Told s) (is_held s f.meta.name) s (record s { held = with_fragment f s.held }) (λ e. shelf_same s)
       (λ e. record {
         up = omega arith;
-        holds = λ name is. inl
+        holds = λ name fact. inl
             (ap is_some (held-with f s.held name (none_found (held_at s.held f.meta.name) e))
-            ∙ found_too (same_name name f.meta.name) f (held_at s.held name) is);
+            ∙ found_too (same_name name f.meta.name) f (held_at s.held name) fact);
       })
 
   fence_on : (s : ShelfState) (log : LogId) (pass : Pass) → ShelfOn Told s (fenced_at s log pass)
   fence_on s log pass =
       by_test (ShelfOn Told s) (is_greater (pass_cmp pass (fence_of s.fences log))) (record s { fences = insert_entry log_cmp s.fences log pass }) s
-      (λ e. record { up = omega arith; holds = λ name is. inl is }) (λ e. shelf_same s)
+      (λ e. record { up = omega arith; holds = λ name fact. inl fact }) (λ e. shelf_same s)
 
   fill_on : (s : ShelfState) (f : Fragment) → ShelfOn Told s (on_fill s f)
   fill_on s f = by_test (ShelfOn Told s) (is_marked s.marks f.meta.name) s (kept s f) (λ e. shelf_same s) (λ e. kept_on s f)
@@ -111,17 +111,17 @@ module _ (Told : SegName → Type 0) where
   lose_on : (s : ShelfState) → s.generation < u32_end → ShelfOn Told s (lost s)
   lose_on s low =
       let less : s.generation < min (s.generation + 1) u32_end = less_min s.generation u32_end low in
-      record { up = at_most _ _ less; holds = λ name is. inr (inl less) }
+      record { up = at_most _ _ less; holds = λ name fact. inr (inl less) }
 
   delete_on : (s : ShelfState) (name : SegName) → Told name → ShelfOn Told s (without s name)
   delete_on s name told = record { up = omega arith; holds = holds }
     where
       holds : (q : SegName) → is_held s q ≡ true → (is_held (without s name) q ≡ true) ⊎ ((s.generation < s.generation) ⊎ Told q)
-      holds q is = by (same_name name q) refl
+      holds q fact = by (same_name name q) refl
         where
           by : (t : Bool) → same_name name q ≡ t → (is_held (without s name) q ≡ true) ⊎ ((s.generation < s.generation) ⊎ Told q)
           by true e = inr (inr (subst Told (one_name name q e) told))
-          by false e = inl (ap is_some (held-without name s.held q ∙ ap (λ t. cond t None (held_at s.held q)) e) ∙ is)
+          by false e = inl (ap is_some (held-without name s.held q ∙ ap (λ t. cond t None (held_at s.held q)) e) ∙ fact)
 
   -- ---- the rebuild
 
@@ -291,7 +291,7 @@ module _ (Told : SegName → Type 0) where
 
   happens : (node : Node) (what : Do) → node.shelf.generation < u32_end → TellsIn what → ServerOn node (on_event node what)
   happens node Begin low tells = begins node low
-  happens node (Deliver packet) low tells = packet_heard node packet (λ m is. tells packet m refl is)
+  happens node (Deliver packet) low tells = packet_heard node packet (λ m fact. tells packet m refl fact)
   happens node Tick low tells = ticks node
 
   -- whatever happens to it

@@ -36,7 +36,7 @@ module _ (e : Estate AnyNode) (run : IsRun any_step any_start e.script e.events 
       each_both (λ p. MissedIn e since middle p.0 p.1 segment.name) (λ p. MissedIn e drawn count p.0 p.1 segment.name) (λ p. lack p.0 ≡ true)
       (λ p one two. lacks_between e run since middle drawn count p.0 p.1 segment.name one two kept at after until) both
       (each_on (λ p. list_any (same_pair p) before ≡ true) (λ p. MissedIn e since middle p.0 p.1 segment.name)
-      (λ p is. found_before (λ v generation. MissedIn e since middle v generation segment.name) p before first is) both
+      (λ p fact. found_before (λ v generation. MissedIn e since middle v generation segment.name) p before first fact) both
       (each_passes (λ p. list_any (same_pair p) before) now))
       (each_filter (λ p. MissedIn e drawn count p.0 p.1 segment.name) (λ p. list_any (same_pair p) before) now second)
 
@@ -51,10 +51,10 @@ module _ (e : Estate AnyNode) (run : IsRun any_step any_start e.script e.events 
 
       by : (o : Option Group) → group_at e.world segment.group ≡ o → length both ≤ count_by (λ (k : Member). lack k.server) (stripe_by o).members
           → parity ≡ (stripe_by o).parity → IsTornAt e at segment
-      by None is fewer equal = absurd (let a = many in let b : length both ≤ 0 = fewer in omega arith)
-      by (Some group) is fewer equal = record {
+      by None fact fewer equal = absurd (let a = many in let b : length both ≤ 0 = fewer in omega arith)
+      by (Some group) fact fewer equal = record {
         group = group;
-        striped = is;
+        striped = fact;
         torn = (let a = many in let b : length both ≤ count_by (λ (k : Member). lack k.server) group.members = fewer in let c = equal in omega arith);
         kept = kept_before e at count (let a = until in let b = limit in omega arith) segment.name kept;
       }

@@ -90,35 +90,35 @@ none_after (x ∷ xs) = none_after xs
 
 -- an opening that says so scans its log still
 still_scans : (at : Stage) (outs : List Effect) (name : SegName) → UnlessScans at outs → In (Lose name) outs → is_some (scan_in at) ≡ true
-still_scans (stage.Scanning s) outs name h is = refl
-still_scans (stage.Settling s) outs name none is = absurd (none_among outs name none is)
+still_scans (stage.Scanning s) outs name h fact = refl
+still_scans (stage.Settling s) outs name none fact = absurd (none_among outs name none fact)
 
 scans_or_serves : (p : Phase) (outs : List Effect) (name : SegName) → clients.UnlessReads p outs → In (Lose name) outs
     → (is_some (clients_scan p) ≡ true) ⊎ ((s : Serving) × (p ≡ Serves s))
-scans_or_serves (Down l) outs name none is = absurd (none_among outs name none is)
-scans_or_serves (Opening l o) outs name h is = inl (still_scans o.stage outs name h is)
-scans_or_serves (Serves s) outs name h is = inr (s, refl)
+scans_or_serves (Down l) outs name none fact = absurd (none_among outs name none fact)
+scans_or_serves (Opening l o) outs name h fact = inl (still_scans o.stage outs name h fact)
+scans_or_serves (Serves s) outs name h fact = inr (s, refl)
 
 cleaner_scans : (p : cleaner_phases.Phase) (outs : List Effect) (name : SegName) → cleaners.UnlessReads p outs → In (Lose name) outs
     → is_some (cleaners_scan p) ≡ true
-cleaner_scans (cleaner_phase.Down l) outs name none is = absurd (none_among outs name none is)
-cleaner_scans (cleaner_phase.Opening l o) outs name h is = still_scans o.stage outs name h is
-cleaner_scans (cleaner_phase.Serving e) outs name none is = absurd (none_among outs name none is)
+cleaner_scans (cleaner_phase.Down l) outs name none fact = absurd (none_among outs name none fact)
+cleaner_scans (cleaner_phase.Opening l o) outs name h fact = still_scans o.stage outs name h fact
+cleaner_scans (cleaner_phase.Serving e) outs name none fact = absurd (none_among outs name none fact)
 
 -- what is quiet acts no loss
 quiet_acts : (me node : NodeId) (name : SegName) (outs : List Effect) → AllQuiet outs → In (act.Lost node name) (acts_of me outs) → ⊥
-quiet_acts me node name outs quiet is =
-    none_among outs name (quiet_no_loss outs quiet) (plain_says me node name outs (quiet_plain outs quiet) is).among
+quiet_acts me node name outs quiet fact =
+    none_among outs name (quiet_no_loss outs quiet) (plain_says me node name outs (quiet_plain outs quiet) fact).among
 
 -- ---- the item of a client that says so
 
 open_call : (call : Option Call) (needs : BlockId × Mode) → needed call ≡ Some needs → call ≡ None → ⊥
-open_call None needs is none = absurd cc
-open_call (Some c) needs is none = absurd cc
+open_call None needs fact none = absurd cc
+open_call (Some c) needs fact none = absurd cc
 
 wanted_some : (o : Option Wanted) (req : ℕ) → is_want (option_map (λ (w : Wanted). w.req) o) req ≡ true → (w : Wanted) × (o ≡ Some w)
-wanted_some None req is = contrary is
-wanted_some (Some w) req is = (w, refl)
+wanted_some None req fact = contrary fact
+wanted_some (Some w) req fact = (w, refl)
 
 -- one that is told that what it asked for is gone has its item open
 gone_open : (s : Serving) (what : Do) (name : SegName) → AsksForCall s → BringsGone s what name → (item : ℕ) × (s.lasting.items.unanswered ≡ Some item)
@@ -130,8 +130,8 @@ gone_open s what name asks b = by s.lasting.items.unanswered refl
         (and_second (b.gone.inc == s.lasting.inc) _ (and_second (epoch_of s.tokens.epochs (slot_of b.gone.block.ino.0) == b.gone.epoch) _ b.meant))
 
     by : (o : Option ℕ) → s.lasting.items.unanswered ≡ o → (item : ℕ) × (s.lasting.items.unanswered ≡ Some item)
-    by None is = absurd (open_call s.call (b.gone.block, want.0.mode) (asks.wanted b.gone.block want.0 want.1) (asks.waits is))
-    by (Some item) is = (item, is)
+    by None fact = absurd (open_call s.call (b.gone.block, want.0.mode) (asks.wanted b.gone.block want.0 want.1) (asks.waits fact))
+    by (Some item) fact = (item, fact)
 
 module _ (laws : NodeLaws) (e : Estate AnyNode) (setup : IsSetup e.script.setup) (run : IsRun any_step any_start e.script e.events e.world) (count : ℕ) where
   first_slot : 0 < 8
@@ -153,7 +153,7 @@ module _ (laws : NodeLaws) (e : Estate AnyNode) (setup : IsSetup e.script.setup)
   Here name = node_in (moment e count).nodes (place_of k name)
 
   named : (name : NodeId) (x : AnyNode) → Here name ≡ Some x → node_named (moment e count) name ≡ Some x
-  named name x is = ap (λ c. node_in (moment e count).nodes (place_of c name)) cluster_is ∙ is
+  named name x fact = ap (λ c. node_in (moment e count).nodes (place_of c name)) cluster_is ∙ fact
 
   -- how a node of a name reads
   abbrev pub ReadsNow : NodeId → Type 0
@@ -173,13 +173,13 @@ module _ (laws : NodeLaws) (e : Estate AnyNode) (setup : IsSetup e.script.setup)
 
     client_says : (c : ℕ) (there : IsThere e.script.setup.clients e.script.setup.managers (OfClient c)) (node : ClientNode)
         → Here (nodes.Client c) ≡ Some (any.Client node) → PhaseAsks node.phase → Acts (any.Client node) → (acting ≡ nodes.Client c) × ReadsNow (nodes.Client c)
-    client_says c there node stood asks is =
+    client_says c there node stood asks fact =
         let at = named (nodes.Client c) (any.Client node) stood in
         let its = client_stands e count c node at in
         let turned : clients.Turned node.phase what (takes node what) = client_turned node what its.1 in
         let me = nodes.Client (lasting_of node.phase).number in
         let says : SaysLost (IsBegunBy (clients.items_in node.phase) what) me acting name (takes node what).outs =
-        says_lost (IsBegunBy (clients.items_in node.phase) what) me acting name [] (takes node what).outs turned.told is in (
+        says_lost (IsBegunBy (clients.items_in node.phase) what) me acting name [] (takes node what).outs turned.told fact in (
           says.own ∙ its.0,
           (
             there,
@@ -193,11 +193,11 @@ module _ (laws : NodeLaws) (e : Estate AnyNode) (setup : IsSetup e.script.setup)
 
     cleaner_says : (node : CleanerNode) → Here nodes.Cleaner ≡ Some (any.Cleaner node) → Acts (any.Cleaner node)
         → (acting ≡ nodes.Cleaner) × ReadsNow nodes.Cleaner
-    cleaner_says node stood is =
+    cleaner_says node stood fact =
         let outs = (cleaning.takes node.peers node.phase what).outs in
         let turned : cleaners.Turned node.phase what (cleaning.takes node.peers node.phase what) = cleaner_turned node what in
         let says : SaysLost (IsBegunBy (cleaners.items_in node.phase) what) nodes.Cleaner acting name outs =
-        says_lost (IsBegunBy (cleaners.items_in node.phase) what) nodes.Cleaner acting name [] outs turned.told is in (
+        says_lost (IsBegunBy (cleaners.items_in node.phase) what) nodes.Cleaner acting name [] outs turned.told fact in (
           says.own,
           ap (λ o. is_some (scan_of o)) (named nodes.Cleaner (any.Cleaner node) stood) ∙ cleaner_scans node.phase outs name turned.loses says.among,
         )
@@ -206,43 +206,43 @@ module _ (laws : NodeLaws) (e : Estate AnyNode) (setup : IsSetup e.script.setup)
 
     manager_says : (j : ℕ) → IsThere e.script.setup.clients e.script.setup.managers (OfManager j) → (node : ManagerNode)
         → (managers.lasting_of node.phase).number ≡ j → Acts (any.Manager node) → (acting ≡ nodes.Manager j) × ReadsNow (nodes.Manager j)
-    manager_says j there node number is =
+    manager_says j there node number fact =
         let says : SaysLost (λ item. ⊥) (nodes.Manager (managers.lasting_of node.phase).number) acting name (happens node what).outs =
-        plain_says (nodes.Manager (managers.lasting_of node.phase).number) acting name (happens node what).outs (manager_plain node what) is in
+        plain_says (nodes.Manager (managers.lasting_of node.phase).number) acting name (happens node what).outs (manager_plain node what) fact in
         (says.own ∙ ap nodes.Manager number, there)
 
     -- ---- whichever it is
 
     one_of : (n : NodeId) (x y : AnyNode) → Here n ≡ Some x → Here n ≡ Some y → Acts x → Acts y
-    one_of n x y at stood is = subst Acts (one_node x y (sym at ∙ stood)) is
+    one_of n x y at stood fact = subst Acts (one_node x y (sym at ∙ stood)) fact
 
     by_name : (n : NodeId) (p : ℕ) (x : AnyNode) → place_of k n ≡ Some p → Here n ≡ Some x → Acts x → (acting ≡ n) × ReadsNow n
-    by_name (nodes.Client c) p x placed at is =
+    by_name (nodes.Client c) p x placed at fact =
         let b = behind 0 k.clients c p placed in
         let less : c < members k 0 = (let limit = b.within in omega arith) in
         let stood = st.placed.clients c b.some less in
         client_says c (b.some, b.within) (now.client c) stood (st.clients c b.some less).1.asks
-        (one_of (nodes.Client c) x (any.Client (now.client c)) at stood is)
-    by_name (nodes.Manager j) p x placed at is =
+        (one_of (nodes.Client c) x (any.Client (now.client c)) at stood fact)
+    by_name (nodes.Manager j) p x placed at fact =
         let b = behind k.clients k.managers j p placed in
         let stood = st.placed.managers j b.some b.within in
         manager_says j (b.some, b.within) (now.manager j) (number (now.manager j).phase (st.managers j b.some b.within).agrees)
-        (one_of (nodes.Manager j) x (any.Manager (now.manager j)) at stood is)
+        (one_of (nodes.Manager j) x (any.Manager (now.manager j)) at stood fact)
       where
         number : (q : manager_phases.Phase) → ManagerAgrees (members k 0) 0 now.net j q → (managers.lasting_of q).number ≡ j
         number (managing.Serving s) agrees = agrees.number
         number (managing.Down kept) agrees = agrees
         number (managing.Waiting kept hello) agrees = agrees
-    by_name (nodes.Server v) p x placed at is =
+    by_name (nodes.Server v) p x placed at fact =
         let b = behind (k.clients + k.managers) k.servers v p placed in
         let s = st.placed.servers v b.some b.within in
         absurd (quiet_acts (nodes.Server s.0.number) acting name (server_events.takes s.0 what).outs (server_quiet s.0 what)
-        (one_of (nodes.Server v) x (any.Server s.0) at s.1 is))
-    by_name nodes.Cleaner p x placed at is =
-        cleaner_says now.cleaner st.placed.cleaner (one_of nodes.Cleaner x (any.Cleaner now.cleaner) at st.placed.cleaner is)
-    by_name nodes.Registry p x placed at is =
+        (one_of (nodes.Server v) x (any.Server s.0) at s.1 fact))
+    by_name nodes.Cleaner p x placed at fact =
+        cleaner_says now.cleaner st.placed.cleaner (one_of nodes.Cleaner x (any.Cleaner now.cleaner) at st.placed.cleaner fact)
+    by_name nodes.Registry p x placed at fact =
         absurd (quiet_acts nodes.Registry acting name (registry_events.takes now.registry what).outs (registry_quiet now.registry what)
-        (one_of nodes.Registry x (any.Registry now.registry) at st.placed.registry is))
+        (one_of nodes.Registry x (any.Registry now.registry) at st.placed.registry fact))
 
   -- ---- an event
 
@@ -268,14 +268,14 @@ module _ (laws : NodeLaws) (e : Estate AnyNode) (setup : IsSetup e.script.setup)
 -- ---- every run
 
 module _ (laws : NodeLaws) (fetches : FetchesLossesEarned) (e : Estate AnyNode) (setup : IsSetup e.script.setup)
-    (run : IsRun any_step any_start e.script e.events e.world) (count : ℕ) (event : Event) (is : slice_get e.events count ≡ Some event) (name : SegName) where
+    (run : IsRun any_step any_start e.script e.events e.world) (count : ℕ) (event : Event) (fact : slice_get e.events count ≡ Some event) (name : SegName) where
   -- the item of a client that serves and says so
   item_open : (c : ℕ) → IsThere e.script.setup.clients e.script.setup.managers (OfClient c) → nodes.Client c ≡ node_of event
       → In (act.Lost (nodes.Client c) name) (acts_in (moment e count) event) → (s : Serving) → serving_at e c count ≡ Some s → AsksForCall s
       → (item : ℕ) × (s.lasting.items.unanswered ≡ Some item)
   item_open c there own among s serves asks =
       ⊎_elim (gone_open s (what_of event) name asks) (λ (w : WasTornInFetch e c s count (what_of event) name). torn_open w)
-      (fetches e setup run c there.0 there.1 count event is own s serves name among)
+      (fetches e setup run c there.0 there.1 count event fact own s serves name among)
     where
       torn_open : WasTornInFetch e c s count (what_of event) name → (item : ℕ) × (s.lasting.items.unanswered ≡ Some item)
       torn_open w =
@@ -293,8 +293,8 @@ module _ (laws : NodeLaws) (fetches : FetchesLossesEarned) (e : Estate AnyNode) 
   reader nodes.Registry own among none = absurd none
 
 pub readers_say_lost : NodeLaws → FetchesLossesEarned → OnlyReadersSayLost
-readers_say_lost laws fetches e setup run count event is node name among =
+readers_say_lost laws fetches e setup run count event fact node name among =
     let r = says_and_reads laws e setup run count event node name among in (
       r.0,
-      reader laws fetches e setup run count event is name node r.0 among (subst (ReadsNow laws e setup run count) (sym r.0) r.1),
+      reader laws fetches e setup run count event fact name node r.0 among (subst (ReadsNow laws e setup run count) (sym r.0) r.1),
     )

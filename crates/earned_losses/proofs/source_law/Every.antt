@@ -68,8 +68,8 @@ takeovers_read_what_is_stored below e ok run count none j there slot epoch ref r
 
 -- it read the segment at the moment at which that was torn
 pub takeovers_lose_what_was_filed : TakeoversReadWhatWasFiled → TakeoversReadWhatIsStored → TakeoversLoseWhatIsTorn → TakeoversLoseWhatWasFiled
-takeovers_lose_what_was_filed filed stored losses e ok run count none event is j there own name among =
-    let l : WasTornOrDeleted e j count name = losses e ok run j there count event is own name among in
+takeovers_lose_what_was_filed filed stored losses e ok run count none event fact j there own name among =
+    let l : WasTornOrDeleted e j count name = losses e ok run j there count event fact own name among in
     let before = l.before in
     let undoubted : NoDoubtfulRestart e l.at = λ r n less. none r n (omega arith) in
     let reads : Reads (slot_at e j l.slot l.at) l.epoch l.segment = l.reads l.at (omega arith) before in

@@ -72,31 +72,31 @@ use Rattle.xfs_base.specs.declared.segment.SegName.{SegName}
 use Rattle.xfs_base.specs.declared.segment.SegRef.{SegRef}
 
 one_contained : {X : Type 0} (P : X → Type 0) (xs : List X) (x : X) → AllByRecursion P xs → Contains xs x → P x
-one_contained P [] x all is = absurd (contains_nothing x is)
-one_contained P (y ∷ xs) x all is = ⊎_elim (λ same. subst P same all.0) (λ later. one_contained P xs x all.1 later) (contains_cases y x xs is)
+one_contained P [] x all fact = absurd (contains_nothing x fact)
+one_contained P (y ∷ xs) x all fact = ⊎_elim (λ same. subst P same all.0) (λ later. one_contained P xs x all.1 later) (contains_cases y x xs fact)
 
 one_among : {X : Type 0} (P : X → Type 0) (xs : List X) (x : X) → AllByRecursion P xs → In x xs → P x
-one_among P [] x all is = absurd is
-one_among P (y ∷ xs) x all (inl is) = subst P (sym is) all.0
+one_among P [] x all fact = absurd fact
+one_among P (y ∷ xs) x all (inl fact) = subst P (sym fact) all.0
 one_among P (y ∷ xs) x all (inr later) = one_among P xs x all.1 later
 
 -- ---- one log has one owner
 
 below_nine : (c clients : ℕ) → c ≤ clients → clients + 1 ≤ 9 → c ≡ 9 → ⊥
-below_nine c clients limit few is = omega arith
+below_nine c clients limit few fact = omega arith
 
 below_managers : (c clients l : ℕ) → c ≤ clients → clients + 1 ≤ 9 → 9 < l → l ≡ c → ⊥
-below_managers c clients l limit few high is = omega arith
+below_managers c clients l limit few high fact = omega arith
 
 same_role : (clients managers : ℕ) → clients + 1 ≤ 9 → (a b : Role) → IsThere clients managers a → IsThere clients managers b → renews b ≡ false
     → log_by a ≡ log_by b → a ≡ b
-same_role clients managers few (OfClient c) (OfClient d) x y keeps is = ap OfClient is
-same_role clients managers few (OfClient c) OfCleaner x y keeps is = absurd (below_nine c clients x.1 few is)
-same_role clients managers few OfCleaner (OfClient d) x y keeps is = absurd (below_nine d clients y.1 few (sym is))
-same_role clients managers few OfCleaner OfCleaner x y keeps is = refl
-same_role clients managers few (OfManager j) (OfClient d) x y keeps is = absurd (below_managers d clients _ y.1 few (high_log j x.0) is)
-same_role clients managers few (OfManager j) OfCleaner x y keeps is = absurd (let high = high_log j x.0 in omega arith)
-same_role clients managers few a (OfManager k) x y keeps is = absurd cc
+same_role clients managers few (OfClient c) (OfClient d) x y keeps fact = ap OfClient fact
+same_role clients managers few (OfClient c) OfCleaner x y keeps fact = absurd (below_nine c clients x.1 few fact)
+same_role clients managers few OfCleaner (OfClient d) x y keeps fact = absurd (below_nine d clients y.1 few (sym fact))
+same_role clients managers few OfCleaner OfCleaner x y keeps fact = refl
+same_role clients managers few (OfManager j) (OfClient d) x y keeps fact = absurd (below_managers d clients _ y.1 few (high_log j x.0) fact)
+same_role clients managers few (OfManager j) OfCleaner x y keeps fact = absurd (let high = high_log j x.0 in omega arith)
+same_role clients managers few a (OfManager k) x y keeps fact = absurd cc
 
 one_there : (clients managers : ℕ) (a : Role) (x y : IsThere clients managers a) → x ≡ y
 one_there clients managers (OfClient c) x y = λ i. (le_prop x.0 y.0 i, le_prop x.1 y.1 i)
@@ -117,9 +117,9 @@ pub record IsServing (slot : ℕ) (p : Phase) (t : Taking) : Type 0 where
   pub takes : phase_at serving.slots slot ≡ phase.Taking t
 
 is_serving : (slot : ℕ) (p : Phase) (t : Taking) → slot_in slot p ≡ phase.Taking t → IsServing slot p t
-is_serving slot (Serves s) t is = record { serving = s; serves = refl; takes = is }
-is_serving slot (Down life) t is = absurd cc
-is_serving slot (Waiting life hello) t is = absurd cc
+is_serving slot (Serves s) t fact = record { serving = s; serves = refl; takes = fact }
+is_serving slot (Down life) t fact = absurd cc
+is_serving slot (Waiting life hello) t fact = absurd cc
 
 pub record IsTaking (slot : ℕ) (o : Option AnyNode) (t : Taking) : Type 0 where
   pub node : ManagerNode
@@ -127,31 +127,31 @@ pub record IsTaking (slot : ℕ) (o : Option AnyNode) (t : Taking) : Type 0 wher
   pub takes : slot_in slot node.phase ≡ phase.Taking t
 
 is_taking : (slot : ℕ) (o : Option AnyNode) (t : Taking) → slot_of slot o ≡ phase.Taking t → IsTaking slot o t
-is_taking slot None t is = absurd cc
-is_taking slot (Some (any.Client node)) t is = absurd cc
-is_taking slot (Some (any.Manager node)) t is = record { node = node; kind = refl; takes = is }
-is_taking slot (Some (any.Server node)) t is = absurd cc
-is_taking slot (Some (any.Cleaner node)) t is = absurd cc
-is_taking slot (Some (any.Registry node)) t is = absurd cc
+is_taking slot None t fact = absurd cc
+is_taking slot (Some (any.Client node)) t fact = absurd cc
+is_taking slot (Some (any.Manager node)) t fact = record { node = node; kind = refl; takes = fact }
+is_taking slot (Some (any.Server node)) t fact = absurd cc
+is_taking slot (Some (any.Cleaner node)) t fact = absurd cc
+is_taking slot (Some (any.Registry node)) t fact = absurd cc
 
 same_manager : (a b : ManagerNode) → any.Manager a ≡ any.Manager b → a ≡ b
 same_manager a b e = cc
 
 at_slot : (P : SlotPhase → Type 0) (table : List SlotPhase) (slot : ℕ) (t : Taking) → AllByRecursion P table → phase_at table slot ≡ phase.Taking t
     → P (phase.Taking t)
-at_slot P [] slot t all is = absurd (never t is)
+at_slot P [] slot t all fact = absurd (never t fact)
   where
     never : (x : Taking) → phase.Away 0 ≡ phase.Taking x → ⊥
     never x e = cc
-at_slot P (p ∷ table) zero t all is = subst P is all.0
-at_slot P (p ∷ table) (suc slot) t all is = at_slot P table slot t all.1 is
+at_slot P (p ∷ table) zero t all fact = subst P fact all.0
+at_slot P (p ∷ table) (suc slot) t all fact = at_slot P table slot t all.1 fact
 
 -- what a manager holds of a slot that it takes over
 take_holds : (came : Came) (striped : Striped) (p : Phase) → PhaseHolds came striped p → (slot : ℕ) (x : Taking) → slot_in slot p ≡ phase.Taking x
     → TakeHolds came striped x.take
-take_holds came striped (Serves s) h slot x is = at_slot (SlotHolds came striped) s.slots slot x h.slots is
-take_holds came striped (Down kept) h slot x is = absurd cc
-take_holds came striped (Waiting kept hello) h slot x is = absurd cc
+take_holds came striped (Serves s) h slot x fact = at_slot (SlotHolds came striped) s.slots slot x h.slots fact
+take_holds came striped (Down kept) h slot x fact = absurd cc
+take_holds came striped (Waiting kept hello) h slot x fact = absurd cc
 
 pub record Laws : Type 0 where
   pub one : OneNameOneText
@@ -177,12 +177,12 @@ module _ (laws : Laws) (base : Setting) (e : Estate AnyNode) (run : IsRun any_st
     where
       by : (t : Bool) → (l == 9) ≡ t → ReportFlew base e lines texts slot first count (cond t Cleaner (Client l)) end
           → EndFlew base e lines texts slot first count l end
-      by true is k = subst (λ x. EndFlew base e lines texts slot first count x end) (sym (eqb-true l 9 is)) k
-      by false is k = k
+      by true fact k = subst (λ x. EndFlew base e lines texts slot first count x end) (sym (eqb-true l 9 fact)) k
+      by false fact k = k
 
   module _ (t : Taking) (refers : TakeRefers r t.take) where
     parts_flew : (ref : SegRef) → Contains t.take.news.parts ref → Flew base e lines texts slot first count ref
-    parts_flew ref is = one_contained (Flew base e lines texts slot first count) t.take.news.parts ref refers.parts_refer is
+    parts_flew ref fact = one_contained (Flew base e lines texts slot first count) t.take.news.parts ref refers.parts_refer fact
 
     its_group : (l : ℕ) (end : End) → 0 < end.seq → EndFlew base e lines texts slot first count l end
         → end.group ≡ (texts.text (record { log = record { 0 = l }; seq = end.seq; pass = end.pass })).group
@@ -198,10 +198,10 @@ module _ (laws : Laws) (base : Setting) (e : Estate AnyNode) (run : IsRun any_st
 
   -- ---- what it reads
 
-  module _ (t : Taking) (is : slot_at e j slot count ≡ phase.Taking t) (source : Source) (reading : _)
+  module _ (t : Taking) (fact : slot_at e j slot count ≡ phase.Taking t) (source : Source) (reading : _)
       (present : t.take.present ≡ Some (record { source = source; reading = Some reading })) where
     its_node : IsTaking slot (node_named (moment e count) (Manager j)) t
-    its_node = is_taking slot (node_named (moment e count) (Manager j)) t is
+    its_node = is_taking slot (node_named (moment e count) (Manager j)) t fact
 
     abbrev node : ManagerNode
     node = its_node.node
@@ -369,18 +369,18 @@ module _ (laws : Laws) (base : Setting) (e : Estate AnyNode) (run : IsRun any_st
 -- ---- the slot is one of eight
 
 within : (table : List SlotPhase) (slot : ℕ) (t : Taking) → phase_at table slot ≡ phase.Taking t → slot < length table
-within [] slot t is = absurd (never t is)
+within [] slot t fact = absurd (never t fact)
   where
     never : (x : Taking) → phase.Away 0 ≡ phase.Taking x → ⊥
     never x e = cc
-within (p ∷ table) zero t is = omega arith
-within (p ∷ table) (suc slot) t is = (let less = within table slot t is in omega arith)
+within (p ∷ table) zero t fact = omega arith
+within (p ∷ table) (suc slot) t fact = (let less = within table slot t fact in omega arith)
 
 module _ (base : Setting) (e : Estate AnyNode) (lines : HasLines base e) (texts : Texts base e lines) (part : ℕ) (first : ℕ → ℕ → Segment) (count : ℕ)
     (joint : Joint base e lines texts part first count) (j : ℕ) (there : IsThere e.script.setup.clients e.script.setup.managers (OfManager j)) (slot : ℕ)
-    (t : Taking) (is : slot_at e j slot count ≡ phase.Taking t) where
+    (t : Taking) (fact : slot_at e j slot count ≡ phase.Taking t) where
   it_takes : IsTaking slot (node_named (moment e count) (Manager j)) t
-  it_takes = is_taking slot (node_named (moment e count) (Manager j)) t is
+  it_takes = is_taking slot (node_named (moment e count) (Manager j)) t fact
 
   it_serves : IsServing slot it_takes.node.phase t
   it_serves = is_serving slot it_takes.node.phase t it_takes.takes

@@ -79,11 +79,11 @@ module _ (base : Setting) (e : Estate AnyNode) (lines : HasLines base e) (r : Ro
   pub deleted_below : (b : BoardState) → RegistrySeen (setting base e r) ((lines r there).at count).net b → (name : SegName)
       → name.log ≡ record { 0 = log_by r } → (p : Packet) (d : Delete) → In p (moment e count).sent → p.body ≡ body.Delete d → d.name ≡ name
       → name.seq < least_horizon (log_by r) (all_news b)
-  deleted_below b seen name own p d among is same =
+  deleted_below b seen name own p d among fact same =
       let told : BodySeen (setting base e r) (asker_by r ((lines r there).at count)) ((lines r there).at count).net p.from p.to p.body =
       ((lines r there).stands count).facts p among in
       let deletes : DeleteSeen (setting base e r) (asker_by r ((lines r there).at count)) ((lines r there).at count).net d =
-      subst (λ x. BodySeen (setting base e r) (asker_by r ((lines r there).at count)) ((lines r there).at count).net p.from p.to x) is told in
+      subst (λ x. BodySeen (setting base e r) (asker_by r ((lines r there).at count)) ((lines r there).at count).net p.from p.to x) fact told in
       let of : is_of_log (setting base e r) d.name ≡ true =
       ap (is_of_log (setting base e r)) same ∙ (ap (λ (l : LogId). l.0 == log_by r) own ∙ itself (log_by r)) in
       let dropped : tables.In name ((lines r there).at count).net.dropped =
@@ -97,9 +97,9 @@ module _ (written : WhatFlewIsWritten) (base : Setting) (e : Estate AnyNode) (li
       → RegistrySeen (setting base e (OfManager j)) ((lines (OfManager j) there).at later).net b
       → (s : Segment) → tables.In s ((lines (OfManager j) there).at count).net.flown → (p : Packet) (d : Delete) → In p (moment e later).sent
       → p.body ≡ body.Delete d → d.name ≡ s.name → ⊥
-  none_deleted count later b seen s flew p d among is same =
+  none_deleted count later b seen s flew p d among fact same =
       let of = written (setting base e (OfManager j)) ((lines (OfManager j) there).at count).net ((lines (OfManager j) there).stands count).moment s flew in
-      let low = deleted_below base e lines (OfManager j) there later b seen s.name of.log p d among is same in
+      let low = deleted_below base e lines (OfManager j) there later b seen s.name of.log p d among fact same in
       let one = least_is_one (log_by (OfManager j)) (high_log j there.0) b seen.horizons in
       let some = of.seq in
       absurd (omega arith)

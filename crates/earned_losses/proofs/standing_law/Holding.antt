@@ -44,44 +44,44 @@ use Rattle.xfs_base.specs.declared.segment.SegRef.{SegRef}
 use Rattle.earned_losses.proofs.standing_law.Lowest.{IsLow, part_or_low}
 
 one_among : {X : Type 0} (P : X → Type 0) (xs : List X) (x : X) → AllByRecursion P xs → In x xs → P x
-one_among P [] x all is = absurd is
-one_among P (y ∷ xs) x all (inl is) = subst P (sym is) all.0
+one_among P [] x all fact = absurd fact
+one_among P (y ∷ xs) x all (inl fact) = subst P (sym fact) all.0
 one_among P (y ∷ xs) x all (inr later) = one_among P xs x all.1 later
 
 -- ---- what is there
 
 away_takes_not : (t : Taking) → phase.Away 0 ≡ phase.Taking t → ⊥
-away_takes_not t is = absurd cc
+away_takes_not t fact = absurd cc
 
 -- a manager that takes a slot over is one of the setup
 pub is_manager : (e : Estate AnyNode) (j slot count : ℕ) (t : Taking) → slot_at e j slot count ≡ phase.Taking t
     → IsThere e.script.setup.clients e.script.setup.managers (OfManager j)
-is_manager e j slot count t is = by (place_of (cluster_of e.script.setup) (Manager j)) refl
+is_manager e j slot count t fact = by (place_of (cluster_of e.script.setup) (Manager j)) refl
   where
     cl : Cluster
     cl = cluster_of e.script.setup
 
     at : slot_of slot (node_in (moment e count).nodes (place_of (cluster_of e.script.setup) (Manager j))) ≡ phase.Taking t
-    at = sym (ap (λ c. slot_of slot (node_in (moment e count).nodes (place_of c (Manager j)))) (cluster_at e count)) ∙ is
+    at = sym (ap (λ c. slot_of slot (node_in (moment e count).nodes (place_of c (Manager j)))) (cluster_at e count)) ∙ fact
 
     by : (o : Option ℕ) → place_of (cluster_of e.script.setup) (Manager j) ≡ o → IsThere e.script.setup.clients e.script.setup.managers (OfManager j)
     by None none = absurd (away_takes_not t (sym (ap (λ o. slot_of slot (node_in (moment e count).nodes o)) none) ∙ at))
     by (Some p) some = (let b = behind e.script.setup.clients e.script.setup.managers j p some in (b.some, b.within))
 
 same_manager : (a b : ManagerNode) → Some (any.Manager a) ≡ Some (any.Manager b) → a ≡ b
-same_manager a b is = cc
+same_manager a b fact = cc
 
 at_slot : (P : SlotPhase → Type 0) (table : List SlotPhase) (slot : ℕ) (t : Taking) → AllByRecursion P table → phase_at table slot ≡ phase.Taking t
     → P (phase.Taking t)
-at_slot P [] slot t all is = absurd (away_takes_not t is)
-at_slot P (p ∷ table) zero t all is = subst P is all.0
-at_slot P (p ∷ table) (suc slot) t all is = at_slot P table slot t all.1 is
+at_slot P [] slot t all fact = absurd (away_takes_not t fact)
+at_slot P (p ∷ table) zero t all fact = subst P fact all.0
+at_slot P (p ∷ table) (suc slot) t all fact = at_slot P table slot t all.1 fact
 
 -- the parts that its news name are known
 named_of : (known : Known) (p : Phase) (slot : ℕ) (t : Taking) → PhaseNames known p → slot_in slot p ≡ phase.Taking t → AllByRecursion known t.take.news.parts
-named_of known (Serves s) slot t names is = at_slot (SlotNames known) s.slots slot t names.slots is
-named_of known (Down kept) slot t names is = absurd (away_takes_not t is)
-named_of known (Waiting kept hello) slot t names is = absurd (away_takes_not t is)
+named_of known (Serves s) slot t names fact = at_slot (SlotNames known) s.slots slot t names.slots fact
+named_of known (Down kept) slot t names fact = absurd (away_takes_not t fact)
+named_of known (Waiting kept hello) slot t names fact = absurd (away_takes_not t fact)
 
 module _ (base : Setting) (e : Estate AnyNode) (lines : HasLines base e) (texts : Texts base e lines) (part : ℕ) (first : ℕ → ℕ → Segment) (count : ℕ)
     (b : Joint base e lines texts part first count) where
@@ -91,13 +91,13 @@ module _ (base : Setting) (e : Estate AnyNode) (lines : HasLines base e) (texts 
   -- ---- a manager that takes the slot over
 
   module _ (j : ℕ) (is_there : IsThere e.script.setup.clients e.script.setup.managers (OfManager j)) (t : Taking)
-      (is : slot_at e j part count ≡ phase.Taking t) where
+      (fact : slot_at e j part count ≡ phase.Taking t) where
     node_there : node_in (moment e count).nodes (place_of cl (Manager j)) ≡ Some (any.Manager (b.idx.manager j))
     node_there = b.index_stands.placed.managers j is_there.0 is_there.1
 
     slot_there : slot_in part (b.idx.manager j).phase ≡ phase.Taking t
     slot_there =
-        sym (ap (slot_of part) (ap (λ c. node_in (moment e count).nodes (place_of c (Manager j))) (cluster_at e count) ∙ node_there)) ∙ is
+        sym (ap (slot_of part) (ap (λ c. node_in (moment e count).nodes (place_of c (Manager j))) (cluster_at e count) ∙ node_there)) ∙ fact
 
     take_agrees : (p : Phase) → places.ManagerAgrees part texts.text b.idx.net p → slot_in part p ≡ phase.Taking t
         → places.TakingAgrees part texts.text b.idx.net t.epoch t.take
@@ -156,10 +156,10 @@ module _ (base : Setting) (e : Estate AnyNode) (lines : HasLines base e) (texts 
     pub serves : (b.tok.client c).phase ≡ clients.Serving s
 
   pub serves_there : (c : ℕ) (s : ClientServing) → serving_at e c count ≡ Some s → ServesThere c s
-  serves_there c s is = by (place_of cl (Client c)) refl
+  serves_there c s fact = by (place_of cl (Client c)) refl
     where
       at : serving_of (node_in (moment e count).nodes (place_of cl (Client c))) ≡ Some s
-      at = sym (ap (λ x. serving_of (node_in (moment e count).nodes (place_of x (Client c)))) (cluster_at e count)) ∙ is
+      at = sym (ap (λ x. serving_of (node_in (moment e count).nodes (place_of x (Client c)))) (cluster_at e count)) ∙ fact
 
       none_serves : None ≡ Some s → ⊥
       none_serves clash = absurd cc

@@ -46,19 +46,19 @@ use Rattle.xfs_base.specs.declared.node.NodeId.TheVariants.{Manager}
 use Rattle.xfs_base.specs.declared.segment.SegName.{SegName}
 
 same_node : (a b : AnyNode) → Some a ≡ Some b → a ≡ b
-same_node a b is = cc
+same_node a b fact = cc
 
 same_manager : (a b : ManagerNode) → Some (any.Manager a) ≡ Some (any.Manager b) → a ≡ b
-same_manager a b is = cc
+same_manager a b fact = cc
 
 not_both : {X : Type 0} (o : Option X) (x : X) → o ≡ Some x → o ≡ None → ⊥
 not_both o x some none = absurd (let clash : None ≡ Some x = sym none ∙ some in cc)
 
 same_count : (a b : ℕ) → (a == b) ≡ true → a ≡ b
-same_count a b is = grind (arith, nat_tests, is)
+same_count a b fact = grind (arith, nat_tests, fact)
 
 earlier_count : (a b : ℕ) → (a == b) ≡ false → a < suc b → a < b
-earlier_count a b is less = grind (arith, nat_tests, is, less)
+earlier_count a b fact less = grind (arith, nat_tests, fact, less)
 
 -- ---- one manager
 
@@ -83,10 +83,10 @@ held_been c part (Waiting kept hello) e h = absurd h
 held_been c part (Serves s) e h = known_low (epoch_in part (Serves s)) e (held_known (slot_in part (Serves s)) e h)
 
 away_holds_not : (p : SlotPhase) (epoch : ℕ) (name : SegName) (e : ℕ) → p ≡ phase.Broken epoch name → HeldAt p e → ⊥
-away_holds_not (phase.Active a) epoch name e is h = absurd cc
-away_holds_not (phase.Taking t) epoch name e is h = absurd cc
-away_holds_not (phase.Away other) epoch name e is h = h
-away_holds_not (phase.Broken other seg) epoch name e is h = h
+away_holds_not (phase.Active a) epoch name e fact h = absurd cc
+away_holds_not (phase.Taking t) epoch name e fact h = absurd cc
+away_holds_not (phase.Away other) epoch name e fact h = h
+away_holds_not (phase.Broken other seg) epoch name e fact h = h
 
 -- in the life in which it was at an epoch, or in a later one, a manager takes no slot over in that epoch anew
 none_anew : (c : Cluster) (part limit j : ℕ) (n : Net) (p : Phase) (what : Do) (w : Went_to) → ManagerGoes false (members c part) part limit j n p what w
@@ -97,18 +97,18 @@ none_anew c part limit j n p what w go e life past same apart held = ⊎_elim (�
     serves = held_serves part w.state e held
 
     waits_not : (q : Phase) → p ≡ q → is_serving q ≡ false → is_waiting q ≡ false → ⊥
-    waits_not q is not_serving not_waiting =
-        let o = go.opens serves (ap is_serving is ∙ not_serving) in
-        let waits : is_waiting q ≡ true = ap is_waiting (sym is ∙ o.was) in
+    waits_not q fact not_serving not_waiting =
+        let o = go.opens serves (ap is_serving fact ∙ not_serving) in
+        let waits : is_waiting q ≡ true = ap is_waiting (sym fact ∙ o.was) in
         absurd (let clash : true ≡ false = sym waits ∙ not_waiting in cc)
 
     by : (q : Phase) → p ≡ q → epoch_in part p < e → PastAt c part p life e → ⊥
-    by q is less (inl before) = (let later = go.later in omega arith)
-    by (Down kept) is less (inr in_life) = waits_not (Down kept) is refl refl
-    by (Waiting kept hello) is less (inr in_life) = subst (λ (x : Phase). Been c part x e) is in_life.1
-    by (Serves s) is less (inr in_life) =
-        let been : Been c part (Serves s) e = subst (λ (x : Phase). Been c part x e) is in_life.1 in
-        let low : epoch_in part (Serves s) < e = subst (λ (x : Phase). epoch_in part x < e) is less in
+    by q fact less (inl before) = (let later = go.later in omega arith)
+    by (Down kept) fact less (inr in_life) = waits_not (Down kept) fact refl refl
+    by (Waiting kept hello) fact less (inr in_life) = subst (λ (x : Phase). Been c part x e) fact in_life.1
+    by (Serves s) fact less (inr in_life) =
+        let been : Been c part (Serves s) e = subst (λ (x : Phase). Been c part x e) fact in_life.1 in
+        let low : epoch_in part (Serves s) < e = subst (λ (x : Phase). epoch_in part x < e) fact less in
         omega arith
 
 module _ (law : ManagerEventGoes) (base : Setting) (e : Estate AnyNode) (run : IsRun any_step any_start e.script e.events e.world) (lines : HasLines base e)
@@ -131,7 +131,7 @@ module _ (law : ManagerEventGoes) (base : Setting) (e : Estate AnyNode) (run : I
 
     -- ---- its event
 
-    module _ (event : Event) (is : slice_get e.events count ≡ Some event) (own : Manager j ≡ node_of event) where
+    module _ (event : Event) (fact : slice_get e.events count ≡ Some event) (own : Manager j ≡ node_of event) where
       abbrev what : Do
       what = what_of event
 
@@ -140,7 +140,7 @@ module _ (law : ManagerEventGoes) (base : Setting) (e : Estate AnyNode) (run : I
       gets Begin same = tt
       gets Tick same = tt
       gets (Deliver q) same =
-          let f = brought (moment e count) event (may_happen e run count event is) q same in
+          let f = brought (moment e count) event (may_happen e run count event fact) q same in
           manager_gets cl part b.tok b.tokens_stand.entered j false (b.tok.manager j).phase refl sees q (b.tokens_stand.facts q f.0) (f.1 ∙ sym own) tt
 
       goes : ManagerGoes false (members cl part) part (epoch_now cl part b.tok) j b.tok.net (b.tok.manager j).phase (what_of event)
@@ -162,9 +162,9 @@ module _ (law : ManagerEventGoes) (base : Setting) (e : Estate AnyNode) (run : I
     its_turn : (event : Event) → slice_get e.events count ≡ Some event
         → (t : TurnAt (moment e count) event (moment e (suc count)).nodes (moment e (suc count)).sent (moment e (suc count)).acts) → Manager j ≡ node_of event
         → ItsTurn
-    its_turn event is t own = record {
+    its_turn event fact t own = record {
       event = event;
-      occurs = is;
+      occurs = fact;
       own = own;
       state = ap (λ (x : ManagerNode). x.phase) (same_manager (d.tok.manager j) (manager_step (b.tok.manager j) (what_of event)).node
           (sym (node_there (suc count) d) ∙ later));
@@ -198,18 +198,18 @@ module _ (law : ManagerEventGoes) (base : Setting) (e : Estate AnyNode) (run : I
             → Still (moment e count) (moment e (suc count)).nodes (moment e (suc count)).sent (moment e (suc count)).acts
             ⊎ TurnAt (moment e count) event (moment e (suc count)).nodes (moment e (suc count)).sent (moment e (suc count)).acts
             → Stays ⊎ ItsTurn
-        by_event event is (inl still) = inl (stays_by (ap (λ ns. node_in ns (place_of cl (Manager j))) still.nodes_are))
-        by_event event is (inr t) =
-            ⊎_elim (λ own. inr (its_turn event is t own))
+        by_event event fact (inl still) = inl (stays_by (ap (λ ns. node_in ns (place_of cl (Manager j))) still.nodes_are))
+        by_event event fact (inr t) =
+            ⊎_elim (λ own. inr (its_turn event fact t own))
             (λ differs. inl (stays_by (ap (λ ns. node_in ns (place_of cl (Manager j))) t.nodes_are
             ∙ there cl (moment e count).nodes (node_of event) t.place
             (subst (λ c. place_of c (node_of event) ≡ Some t.place) (cluster_at e count) t.placed) (any_step t.node (what_of event)).node (Manager j) differs)))
             (same_or_other (Manager j) (node_of event))
 
         by : (o : Option Event) → slice_get e.events count ≡ o → Stays ⊎ ItsTurn
-        by None is =
-            inl (stays_by (ap (λ (w : World AnyNode). node_in w.nodes (place_of cl (Manager j))) (moment_ended e count is)))
-        by (Some event) is = by_event event is (became e count event is)
+        by None fact =
+            inl (stays_by (ap (λ (w : World AnyNode). node_in w.nodes (place_of cl (Manager j))) (moment_ended e count fact)))
+        by (Some event) fact = by_event event fact (became e count event fact)
 
   -- ---- the epoch
 
@@ -251,8 +251,8 @@ module _ (law : ManagerEventGoes) (base : Setting) (e : Estate AnyNode) (run : I
               apart (subst (λ i. HeldAt (slot_in part (d.tok.manager i).phase) epoch) same held)
 
           by : (o : Option SlotState) → d.idx.net.slots epoch ≡ o → d.idx.net.slots epoch ≡ None
-          by None is = is
-          by (Some z) is = absurd (held_by (f.came epoch z is free))
+          by None fact = fact
+          by (Some z) fact = absurd (held_by (f.came epoch z fact free))
 
       -- it stays so
       pub goes_on : Lapsed count b → Lapsed (suc count) d
@@ -301,8 +301,8 @@ module _ (law : ManagerEventGoes) (base : Setting) (e : Estate AnyNode) (run : I
               (λ x y g. lapses at x y g (free x) (begun x) (low x) name was broken)
 
           by : (t : Bool) → (at == count) ≡ t → Lapsed (suc count) d
-          by true is = first_so count (same_count at count is) b d f
-          by false is = goes_on count b d f (before (earlier_count at count is less))
+          by true fact = first_so count (same_count at count fact) b d f
+          by false fact = goes_on count b d f (before (earlier_count at count fact less))
 
       pub lapsed : (count : ℕ) → at < count → (d : Joint base e lines texts part first count) → Comes base e lines texts part first count d
           → Lapsed count d

@@ -33,7 +33,7 @@ left_goes : (source : Source) (s : Segment) (left : Source) → back_from source
 left_goes source s left =
     by_test (λ (o : Option Source). o ≡ Some left → (goes_back source s ≡ true) × (left ≡ record { seg = prior_of s; low = source.low })) (goes_back source s)
     (Some (record { seg = prior_of s; low = source.low })) None
-    (λ back is. (back, cc)) (λ _ is. absurd (let clash : None ≡ Some left = is in cc))
+    (λ back fact. (back, cc)) (λ _ fact. absurd (let clash : None ≡ Some left = fact in cc))
 
 all_any : {X : Type 0} (xs : List X) → AllByRecursion (λ (x : X). Unit {0}) xs
 all_any [] = tt
@@ -79,8 +79,8 @@ module _ (news : SlotNews) where
   }
 
   lies_down : (source : Source) (s : Segment) (left : Source) → Lies source → s.name ≡ source.seg.name → Unit {0} → back_from source s ≡ Some left → Lies left
-  lies_down source s left lies named any is =
-      let goes = left_goes source s left is in
+  lies_down source s left lies named any fact =
+      let goes = left_goes source s left fact in
       ⊎_elim (λ part. absurd (part_ends source s part named goes.0)) (λ o. inr (subst OfLog (sym goes.1) (leads_down source s o named))) lies
 
   -- ---- the sources of reports
@@ -138,7 +138,7 @@ module _ (part : ℕ) (texts : Texts) (n : Net) (epoch : ℕ) (take : TakeState)
   }
 
   pub part_or_low : (p : Present) → take.present ≡ Some p → ReadsPart take.news.parts p.source ⊎ IsLow p.source
-  part_or_low p is =
+  part_or_low p fact =
       let there = subst (PresentSo (Lies taking.news) (λ (s : Segment). Unit {0}) (λ (r : Report). Unit {0}) taking.news (lies_down taking.news)
-      (sources_lie taking.news)) is so.present in
+      (sources_lie taking.news)) fact so.present in
       ⊎_elim (λ part. inl (subst (λ (x : SlotNews). ReadsPart x.parts p.source) (sym so.of) part)) (λ o. inr (low_so p.source o)) there.0

@@ -80,10 +80,10 @@ pub record Below : Type 0 where
   pub stored : TakeoversReadWhatIsStored
 
 same_log : (a b : LogId) → a.0 ≡ b.0 → a ≡ b
-same_log a b is = λ i. record { 0 = is i }
+same_log a b fact = λ i. record { 0 = fact i }
 
 taking_held : (p : SlotPhase) (t : Taking) (epoch : ℕ) → p ≡ phase.Taking t → t.epoch ≡ epoch → HeldAt p epoch
-taking_held p t epoch is of = subst (λ x. HeldAt x epoch) (sym is) of
+taking_held p t epoch fact of = subst (λ x. HeldAt x epoch) (sym fact) of
 
 module _ (below : Below) (e : Estate AnyNode) (setup : IsSetup e.script.setup) (run : IsRun any_step any_start e.script e.events e.world) (count : ℕ)
     (none : NoDoubtfulRestart e count) (c : ℕ) (s : Serving) (serves : serving_at e c count ≡ Some s) (what : Do) (name : SegName)
@@ -152,7 +152,7 @@ module _ (below : Below) (e : Estate AnyNode) (setup : IsSetup e.script.setup) (
   abbrev board : BoardState
   board = now.idx.registry.board
 
-  module _ (p : Packet) (d : Delete) (among : In p (moment e count).sent) (is : p.body ≡ body.Delete d) (same : d.name ≡ name) where
+  module _ (p : Packet) (d : Delete) (among : In p (moment e count).sent) (fact : p.body ≡ body.Delete d) (same : d.name ≡ name) where
     -- it is no part of a checkpoint
     no_part : ReadsPart reads.taking.take.news.parts reads.source → ⊥
     no_part x =
@@ -162,7 +162,7 @@ module _ (below : Below) (e : Estate AnyNode) (setup : IsSetup e.script.setup) (
         let its : name ≡ known.segment.name = named_is ∙ (ap (λ (y : Source). y.seg.name) x.of_part ∙ sym known.named) in
         none_deleted below.written base e lines known.manager known.there at count board
         (registry_seen base e lines texts part first count (both_of base e lines texts part first count now) (OfManager known.manager) known.there)
-        known.segment known.flew p d among is (same ∙ its)
+        known.segment known.flew p d among fact (same ∙ its)
 
     abbrev l : ℕ
     l = reads.source.seg.name.log.0
@@ -210,7 +210,7 @@ module _ (below : Below) (e : Estate AnyNode) (setup : IsSetup e.script.setup) (
         let own : name.log ≡ record { 0 = log_by h.role } =
         same_log name.log (record { 0 = log_by h.role }) (ap (λ (n : SegName). n.log.0) named_is ∙ (of_its ∙ sym h.numbered)) in
         let gone = deleted_below base e lines h.role h.there count board
-        (registry_seen base e lines texts part first count (both_of base e lines texts part first count now) h.role h.there) name own p d among is same in
+        (registry_seen base e lines texts part first count (both_of base e lines texts part first count now) h.role h.there) name own p d among fact same in
         let nine = one_of_nine then.idx.net.filed (filed_known base e lines texts part first at then).filed f.log f.seq f.some f.limit in
         let low : least_horizon (log_by h.role) (all_news board) ≤ of_log (now.idx.net.horizon epoch) (log_by h.role) =
         polled_low below.managed below.promised true (k base e lines texts part first) part texts.text first (moment e count).nodes
@@ -226,7 +226,7 @@ module _ (below : Below) (e : Estate AnyNode) (setup : IsSetup e.script.setup) (
         ⊎_elim no_part no_filed (part_or_filed base e lines texts part first at then j is_there reads.taking reads.takes present reads.present)
 
   pub stood : NotDeleted (moment e count) name
-  stood packet m sent is same = not_deleted packet m (was_sent (moment e count).sent packet sent) is same
+  stood packet m sent fact same = not_deleted packet m (was_sent (moment e count).sent packet sent) fact same
 
   -- so it was torn
   pub told_torn : ToldTorn e c s count what name
@@ -246,5 +246,5 @@ module _ (below : Below) (e : Estate AnyNode) (setup : IsSetup e.script.setup) (
           (sent_on e at count (let before = told.said.before in omega arith) d.0 d.1) d.2 (sym was.named))) was.lost
 
 pub gones_are_of_what_stands : Below → GonesAreOfWhatStands
-gones_are_of_what_stands below e setup run count none c event is own s serves name among brings =
-    told_torn below e setup run count none c s serves (what_of event) name (below.told e setup run c count event is own s serves name among brings)
+gones_are_of_what_stands below e setup run count none c event fact own s serves name among brings =
+    told_torn below e setup run count none c s serves (what_of event) name (below.told e setup run c count event fact own s serves name among brings)

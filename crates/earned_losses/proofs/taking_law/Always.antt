@@ -52,9 +52,9 @@ use Rattle.earned_losses.specs.taking_law.Takings.{slot_at, slot_of}
 -- what is known of a slot that a manager takes over
 pub phase_fine : (Named : ℕ → Group → Type 0) (p : Phase) → PhaseFine Named p → (k : ℕ) (x : Taking) → slot_in k p ≡ phase.Taking x
     → TakingFine Named (lasting_of p).questions.last x
-phase_fine Named (Serves s) fine k x is = fine.slots.fine k x is
-phase_fine Named (Down life) fine k x is = absurd cc
-phase_fine Named (Waiting life hello) fine k x is = absurd cc
+phase_fine Named (Serves s) fine k x fact = fine.slots.fine k x fact
+phase_fine Named (Down life) fine k x fact = absurd cc
+phase_fine Named (Waiting life hello) fine k x fact = absurd cc
 
 module _ (base : Setting) (e : Estate AnyNode) (run : IsRun any_step any_start e.script e.events e.world) (lines : HasLines base e) (j : ℕ)
     (is_there : IsThere e.script.setup.clients e.script.setup.managers (OfManager j)) where
@@ -75,10 +75,10 @@ module _ (base : Setting) (e : Estate AnyNode) (run : IsRun any_step any_start e
   module _ (count : ℕ) (good : Good count) (new : List Packet) (sent : (moment e (suc count)).sent ≡ (moment e count).sent ++ new)
       (same : Here (suc count) ≡ Here count) (others : (p : Packet) → In p new → p.from ≡ names.Manager j → ⊥) where
     aside : Good (suc count)
-    aside slot y is = by y.take.present refl (good slot y was)
+    aside slot y fact = by y.take.present refl (good slot y was)
       where
         was : slot_at e j slot count ≡ phase.Taking y
-        was = slot_is slot count ∙ (ap (slot_of slot) (sym same) ∙ (sym (slot_is slot (suc count)) ∙ is))
+        was = slot_is slot count ∙ (ap (slot_of slot) (sym same) ∙ (sym (slot_is slot (suc count)) ∙ fact))
 
         asks_of : (r : ReadingState) → AsksOf e (names.Manager j) new y.fetches.ask r.target.seg.name
         asks_of r p m among from fetches number = absurd (others p among from)
@@ -87,7 +87,7 @@ module _ (base : Setting) (e : Estate AnyNode) (run : IsRun any_step any_start e
             → ReadTrue e j (suc count) slot y.epoch y.fetches.ask r
         read_so source r at t = record {
           span = span_next e j count slot y.epoch r.target t.span
-              (subst (λ (p : SlotPhase). ReadsIn p y.epoch r.target) (sym is) (refl, subst (λ o. IsPresent o r.target) (sym at) refl));
+              (subst (λ (p : SlotPhase). ReadsIn p y.epoch r.target) (sym fact) (refl, subst (λ o. IsPresent o r.target) (sym at) refl));
           so = reading_later e (names.Manager j) t.span.since count (suc count) y.fetches.ask r (omega arith) t.so;
           out = out_next e (names.Manager j) count y.fetches.ask r.target.seg.name new sent (numbers_rise base e run lines j is_there count) (asks_of r) t.out;
         }
@@ -132,9 +132,9 @@ module _ (base : Setting) (e : Estate AnyNode) (run : IsRun any_step any_start e
     slot_after : (slot : ℕ) → slot_at e j slot (suc count) ≡ slot_in slot (happens u.node (what_of event)).state
     slot_after slot = slot_is slot (suc count) ∙ ap (slot_of slot) u.now
 
-    module _ (slot : ℕ) (y : Taking) (is : slot_at e j slot (suc count) ≡ phase.Taking y) where
+    module _ (slot : ℕ) (y : Taking) (fact : slot_at e j slot (suc count) ≡ phase.Taking y) where
       there_now : slot_in slot (happens u.node (what_of event)).state ≡ phase.Taking y
-      there_now = sym (slot_after slot) ∙ is
+      there_now = sym (slot_after slot) ∙ fact
 
       fine : TakingFine (IsNamed e) (lasting_of (happens u.node (what_of event)).state).questions.last y
       fine = phase_fine (IsNamed e) after u.turns.fine slot y there_now
@@ -158,7 +158,7 @@ module _ (base : Setting) (e : Estate AnyNode) (run : IsRun any_step any_start e
         by_reading source None at looks out reads from = tt
         by_reading source (Some r) at looks out reads from =
             ⊎_elim (λ none. inl none)
-            (λ own. read_on e j base run lines is_there count slot x y (good slot x (slot_before slot ∙ was)) (slot_before slot ∙ was) is epoch new u.sent low
+            (λ own. read_on e j base run lines is_there count slot x y (good slot x (slot_before slot ∙ was)) (slot_before slot ∙ was) fact epoch new u.sent low
             source r at (asks_of source r looks own reads)
             (subst (λ n. ReadFrom (IsNamed e) (CameBy e j count) n x y source r) start_is from)) out
 
@@ -172,11 +172,11 @@ module _ (base : Setting) (e : Estate AnyNode) (run : IsRun any_step any_start e
       now_true = by_present y.take.present refl fine.reads fine.is_out (λ m f. f) (u.turns.from slot y there_now)
 
     own_turn : Good (suc count)
-    own_turn slot y is = now_true slot y is
+    own_turn slot y fact = now_true slot y fact
 
   -- ---- each event
 
-  module _ (count : ℕ) (good : Good count) (event : Event) (is : slice_get e.events count ≡ Some event)
+  module _ (count : ℕ) (good : Good count) (event : Event) (fact : slice_get e.events count ≡ Some event)
       (t : TurnAt (moment e count) event (moment e (suc count)).nodes (moment e (suc count)).sent (moment e (suc count)).acts) where
     placed : place_of k_of (node_of event) ≡ Some t.place
     placed = subst (λ k. place_of k (node_of event) ≡ Some t.place) (cluster_at e count) t.placed
@@ -193,7 +193,7 @@ module _ (base : Setting) (e : Estate AnyNode) (run : IsRun any_step any_start e
     turn_good =
         ⊎_elim
         (λ same. own_turn count good event (map (sent_at t.clock) (any_step t.node (what_of event)).packets) (any_step t.node (what_of event)).acts
-        (turned base e run lines j is_there count (all_good base e run lines j is_there count) event is t same))
+        (turned base e run lines j is_there count (all_good base e run lines j is_there count) event fact t same))
         (λ differs. aside count good (map (sent_at t.clock) (any_step t.node (what_of event)).packets) t.sent_are
         (ap (λ ns. node_in ns (place_of k_of (names.Manager j))) t.nodes_are
         ∙ there k_of (moment e count).nodes (node_of event) t.place placed (any_step t.node (what_of event)).node (names.Manager j) differs)
@@ -204,8 +204,8 @@ module _ (base : Setting) (e : Estate AnyNode) (run : IsRun any_step any_start e
   next_good count good = by (slice_get e.events count) refl
     where
       by : (o : Option Event) → slice_get e.events count ≡ o → Good (suc count)
-      by None is = rests count good (ap (λ v. v.nodes) (moment_ended e count is)) (ap (λ v. v.sent) (moment_ended e count is))
-      by (Some event) is = ⊎_elim (λ still. rests count good still.nodes_are still.sent_are) (turn_good count good event is) (became e count event is)
+      by None fact = rests count good (ap (λ v. v.nodes) (moment_ended e count fact)) (ap (λ v. v.sent) (moment_ended e count fact))
+      by (Some event) fact = ⊎_elim (λ still. rests count good still.nodes_are still.sent_are) (turn_good count good event fact) (became e count event fact)
 
   first_are : (moment e 0).nodes ≡ first_nodes any_start e.script k_of
   unfolding start_world
@@ -213,10 +213,10 @@ module _ (base : Setting) (e : Estate AnyNode) (run : IsRun any_step any_start e
 
   -- at first it takes nothing over
   none_first : (slot : ℕ) (x : Taking) → slot_at e j slot 0 ≡ phase.Taking x → ⊥
-  none_first slot x is = by (place_of k_of (names.Manager j)) refl
+  none_first slot x fact = by (place_of k_of (names.Manager j)) refl
     where
       there_first : slot_of slot (node_in (first_nodes any_start e.script k_of) (place_of k_of (names.Manager j))) ≡ phase.Taking x
-      there_first = ap (λ ns. slot_of slot (node_in ns (place_of k_of (names.Manager j)))) (sym first_are) ∙ (sym (slot_is slot 0) ∙ is)
+      there_first = ap (λ ns. slot_of slot (node_in ns (place_of k_of (names.Manager j)))) (sym first_are) ∙ (sym (slot_is slot 0) ∙ fact)
 
       away : phase.Away 0 ≡ phase.Taking x → ⊥
       away same = cc
@@ -228,5 +228,5 @@ module _ (base : Setting) (e : Estate AnyNode) (run : IsRun any_step any_start e
           (sym (ap (slot_of slot) (first_stands e.script (names.Manager j) place at)) ∙ there_first)
 
   pub all_true : (count : ℕ) (slot : ℕ) (x : Taking) → slot_at e j slot count ≡ phase.Taking x → TakingTrue e j count slot x
-  all_true zero slot x is = absurd (none_first slot x is)
-  all_true (suc count) slot x is = next_good count (all_true count) slot x is
+  all_true zero slot x fact = absurd (none_first slot x fact)
+  all_true (suc count) slot x fact = next_good count (all_true count) slot x fact

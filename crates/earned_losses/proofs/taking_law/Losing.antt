@@ -70,15 +70,15 @@ module _ (e : Estate AnyNode) (j count : ℕ) (before : Phase) (last : ℕ) (aft
   -- what says that a segment is lost is a takeover
   said_lost : (owner node : NodeId) (outs : List Effect) → AllByRecursion (EffectDone (IsNamed e) (CameBy e j count) before last after) outs
       → In (act.Lost owner name) (acts_of node outs) → Found
-  said_lost owner node [] all is = absurd is
-  said_lost owner node (Send to said ∷ outs) all is = said_lost owner node outs all.1 is
+  said_lost owner node [] all fact = absurd fact
+  said_lost owner node (Send to said ∷ outs) all fact = said_lost owner node outs all.1 fact
   said_lost owner node (Answer item a ∷ outs) all (inl e) = absurd cc
-  said_lost owner node (Answer item a ∷ outs) all (inr is) = said_lost owner node outs all.1 is
+  said_lost owner node (Answer item a ∷ outs) all (inr fact) = said_lost owner node outs all.1 fact
   said_lost owner node (Lose seg ∷ outs) all (inl e_) =
       subst (λ n. (k : ℕ) × LostFrom (IsNamed e) (CameBy e j count) (slot_in k before) n) (same_loss owner node seg e_) all.0
-  said_lost owner node (Lose seg ∷ outs) all (inr is) = said_lost owner node outs all.1 is
+  said_lost owner node (Lose seg ∷ outs) all (inr fact) = said_lost owner node outs all.1 fact
   said_lost owner node (Does a ∷ outs) all (inl e) = absurd (subst NotLost (sym e) all.0)
-  said_lost owner node (Does a ∷ outs) all (inr is) = said_lost owner node outs all.1 is
+  said_lost owner node (Does a ∷ outs) all (inr fact) = said_lost owner node outs all.1 fact
 
 module _ (base : Setting) (e : Estate AnyNode) (run : IsRun any_step any_start e.script e.events e.world) (lines : HasLines base e) (j : ℕ)
     (is_there : IsThere e.script.setup.clients e.script.setup.managers (OfManager j)) (came : (k : ℕ) → ReadingsCame e.world (moment e k)) (count : ℕ)
@@ -125,10 +125,10 @@ module _ (base : Setting) (e : Estate AnyNode) (run : IsRun any_step any_start e
           refl,
         )
 
-  module _ (is : slice_get e.events count ≡ Some event) (own : names.Manager j ≡ node_of event) (name : SegName)
+  module _ (fact : slice_get e.events count ≡ Some event) (own : names.Manager j ≡ node_of event) (name : SegName)
       (among : In (act.Lost (names.Manager j) name) (acts_in (moment e count) event)) where
     acts_now : acts_in (moment e count) event ≡ drop (length (moment e count).acts) (moment e (suc count)).acts
-    acts_now = ap (λ (v : World AnyNode). drop (length (moment e count).acts) v.acts) (sym (moment_next e count event is))
+    acts_now = ap (λ (v : World AnyNode). drop (length (moment e count).acts) v.acts) (sym (moment_next e count event fact))
 
     still_lost : Still (moment e count) (moment e (suc count)).nodes (moment e (suc count)).sent (moment e (suc count)).acts → WasTornOrDeleted e j count name
     still_lost still =
@@ -139,7 +139,7 @@ module _ (base : Setting) (e : Estate AnyNode) (run : IsRun any_step any_start e
     turn_lost : TurnAt (moment e count) event (moment e (suc count)).nodes (moment e (suc count)).sent (moment e (suc count)).acts
         → WasTornOrDeleted e j count name
     turn_lost t =
-        let u = turned base e run lines j is_there count (all_good base e run lines j is_there count) event is t own in
+        let u = turned base e run lines j is_there count (all_good base e run lines j is_there count) event fact t own in
         let acts : acts_in (moment e count) event ≡ acts_of (names.Manager (lasting_of u.node.phase).number) (happens u.node (what_of event)).outs =
         acts_now ∙ (ap (drop (length (moment e count).acts)) t.acts_are ∙ (done_after (moment e count).acts (any_step t.node (what_of event)).acts ∙ u.acts)) in
         let found = said_lost e j count u.node.phase (lasting_of (happens u.node (what_of event)).state).questions.last
@@ -149,7 +149,7 @@ module _ (base : Setting) (e : Estate AnyNode) (run : IsRun any_step any_start e
         (earned (map (sent_at t.clock) (any_step t.node (what_of event)).packets) (any_step t.node (what_of event)).acts u name found.0 found.1).0
 
     pub loses_torn : WasTornOrDeleted e j count name
-    loses_torn = ⊎_elim still_lost turn_lost (became e count event is)
+    loses_torn = ⊎_elim still_lost turn_lost (became e count event fact)
 
 -- ---- of every run
 
@@ -159,5 +159,5 @@ pub record Below : Type 0 where
   pub came : RunsReadWhatCame
 
 pub takeovers_lose : Below → TakeoversLoseWhatIsTorn
-takeovers_lose below e ok run j is_there count event is own name among =
-    loses_torn below.setting e run (below.lines below.setting e ok run) j is_there (below.came e ok run) count event is own name among
+takeovers_lose below e ok run j is_there count event fact own name among =
+    loses_torn below.setting e run (below.lines below.setting e ok run) j is_there (below.came e ok run) count event fact own name among

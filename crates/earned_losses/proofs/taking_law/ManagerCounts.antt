@@ -95,15 +95,15 @@ NodeFine e (Some (any.Cleaner node)) = Unit {0}
 NodeFine e (Some (any.Registry node)) = Unit {0}
 
 same_server : (v server : ℕ) → Some v ≡ Some server → v ≡ server
-same_server v server is = cc
+same_server v server fact = cc
 
 -- a packet from a server
 from_server : (from : NodeId) (server : ℕ) → server_in from ≡ Some server → from ≡ names.Server server
-from_server (names.Client c) server is = absurd cc
-from_server (names.Manager k) server is = absurd cc
-from_server (names.Server v) server is = ap names.Server (same_server v server is)
-from_server names.Cleaner server is = absurd cc
-from_server names.Registry server is = absurd cc
+from_server (names.Client c) server fact = absurd cc
+from_server (names.Manager k) server fact = absurd cc
+from_server (names.Server v) server fact = ap names.Server (same_server v server fact)
+from_server names.Cleaner server fact = absurd cc
+from_server names.Registry server fact = absurd cc
 
 module _ (base : Setting) (e : Estate AnyNode) (run : IsRun any_step any_start e.script e.events e.world) (lines : HasLines base e) (j : ℕ)
     (is_there : IsThere e.script.setup.clients e.script.setup.managers (OfManager j)) where
@@ -135,18 +135,18 @@ module _ (base : Setting) (e : Estate AnyNode) (run : IsRun any_step any_start e
     found_came : (ask : ℕ) (t : Told) (server : Option ℕ) → ((generation : ℕ) → t ≡ told.Missing generation → ⊥)
         → AnswerBrought (IsNamed e) (CameBy e j count) server ask t
     found_came ask t None never = tt
-    found_came ask t (Some v) never = λ generation is. absurd (never generation is)
+    found_came ask t (Some v) never = λ generation fact. absurd (never generation fact)
 
     missing_came : (m : Missing) → packet.body ≡ body.Missing m → (server : Option ℕ) → server_in packet.from ≡ server
         → AnswerBrought (IsNamed e) (CameBy e j count) server m.ask (told.Missing m.generation)
-    missing_came m is None at = tt
-    missing_came m is (Some v) at = λ generation same. record {
+    missing_came m fact None at = tt
+    missing_came m fact (Some v) at = λ generation same. record {
       packet = packet;
       missing = m;
       among = among;
       from = from_server packet.from v at;
       to = to;
-      tells = is;
+      tells = fact;
       asked = refl;
       in_generation = same_generation m.generation generation same;
     }
@@ -158,25 +158,25 @@ module _ (base : Setting) (e : Estate AnyNode) (run : IsRun any_step any_start e
         → BodySeen (setting base e OfCleaner) (asker_by OfCleaner ((lines OfCleaner tt).at count)) ((lines OfCleaner tt).at count).net packet.from
         packet.to said
         → BodyBrought (IsNamed e) (CameBy e j count) packet.from said
-    brings (body.Fragment m) is of = found_came m.ask (told.Held m.fragment) (server_in packet.from) (λ generation same. held_not m generation same)
+    brings (body.Fragment m) fact of = found_came m.ask (told.Held m.fragment) (server_in packet.from) (λ generation same. held_not m generation same)
       where
         held_not : (m : Found) (generation : ℕ) → told.Held m.fragment ≡ told.Missing generation → ⊥
         held_not m generation same = cc
-    brings (body.Missing m) is of = missing_came m is (server_in packet.from) refl
-    brings (body.MapNews m) is of = (base_at count).packets (MapSent m.groups) of
-    brings (body.Welcome m) is of = (base_at count).packets (MapSent m.news.groups) of.map
-    brings _ is of = tt
+    brings (body.Missing m) fact of = missing_came m fact (server_in packet.from) refl
+    brings (body.MapNews m) fact of = (base_at count).packets (MapSent m.groups) of
+    brings (body.Welcome m) fact of = (base_at count).packets (MapSent m.news.groups) of.map
+    brings _ fact of = tt
 
   -- what an event of the manager brings it
   pub do_brought : (count : ℕ) (event : Event) → slice_get e.events count ≡ Some event → names.Manager j ≡ node_of event
       → DoBrought (IsNamed e) (CameBy e j count) (what_of event)
-  do_brought count event is same = by (what_of event) refl
+  do_brought count event fact same = by (what_of event) refl
     where
       by : (what : Do) → what_of event ≡ what → DoBrought (IsNamed e) (CameBy e j count) what
       by done.Begin at = tt
       by done.Tick at = tt
       by (done.Deliver packet) at =
-          let b = brought (moment e count) event (may_happen e run count event is) packet at in
+          let b = brought (moment e count) event (may_happen e run count event fact) packet at in
           let to : packet.to ≡ names.Manager j = b.1 ∙ sym same in
           brings count packet b.0 to packet.body refl (seen count packet b.0 to)
 
@@ -234,7 +234,7 @@ module _ (base : Setting) (e : Estate AnyNode) (run : IsRun any_step any_start e
   rests count good nodes sent =
       aside count [] (sent ∙ sym (append-nil (Sent count))) (ap (λ ns. node_in ns (place_of k_of (names.Manager j))) nodes) (λ p late from. absurd late) good
 
-  module _ (count : ℕ) (good : Good count) (event : Event) (is : slice_get e.events count ≡ Some event)
+  module _ (count : ℕ) (good : Good count) (event : Event) (fact : slice_get e.events count ≡ Some event)
       (t : TurnAt (moment e count) event (moment e (suc count)).nodes (moment e (suc count)).sent (moment e (suc count)).acts) where
     abbrev new : List Packet
     new = map (sent_at t.clock) (any_step t.node (what_of event)).packets
@@ -277,7 +277,7 @@ module _ (base : Setting) (e : Estate AnyNode) (run : IsRun any_step any_start e
             (any_step (any.Manager node) (what_of event)).acts
         of_manager node was now sent =
             let turn : NodeTurn (IsNamed e) (CameBy e j count) node.phase (happens node (what_of event)) =
-            manager_turns (IsNamed e) (CameBy e j count) node (what_of event) (subst (NodeFine e) was good.fine) (do_brought count event is same) in
+            manager_turns (IsNamed e) (CameBy e j count) node (what_of event) (subst (NodeFine e) was good.fine) (do_brought count event fact same) in
             let after : Phase = (happens node (what_of event)).state in
             let last : ℕ = (lasting_of after).questions.last in
             record {
@@ -319,11 +319,11 @@ module _ (base : Setting) (e : Estate AnyNode) (run : IsRun any_step any_start e
   next_good count good = by (slice_get e.events count) refl
     where
       by : (o : Option Event) → slice_get e.events count ≡ o → Good (suc count)
-      by None is = rests count good (ap (λ v. v.nodes) (moment_ended e count is)) (ap (λ v. v.sent) (moment_ended e count is))
-      by (Some event) is =
+      by None fact = rests count good (ap (λ v. v.nodes) (moment_ended e count fact)) (ap (λ v. v.sent) (moment_ended e count fact))
+      by (Some event) fact =
           ⊎_elim (λ still. rests count good still.nodes_are still.sent_are)
-          (λ t. ⊎_elim (own_turn count good event is t) (other_turn count good event is t) (same_or_other (names.Manager j) (node_of event)))
-          (became e count event is)
+          (λ t. ⊎_elim (own_turn count good event fact t) (other_turn count good event fact t) (same_or_other (names.Manager j) (node_of event)))
+          (became e count event fact)
 
   -- ---- the start
 
@@ -375,9 +375,9 @@ module _ (base : Setting) (e : Estate AnyNode) (run : IsRun any_step any_start e
       turn : (event : Event) → slice_get e.events count ≡ Some event
           → (t : TurnAt (moment e count) event (moment e (suc count)).nodes (moment e (suc count)).sent (moment e (suc count)).acts)
           → last_in (Here count) ≤ last_in (Here (suc count))
-      turn event is t =
+      turn event fact t =
           ⊎_elim
-          (λ own. let u = turned count (all_good count) event is t own in
+          (λ own. let u = turned count (all_good count) event fact t own in
           let a = ap last_in u.was in let b = ap last_in u.now in let c = u.turns.up in omega arith)
           (λ differs. same (ap (λ ns. node_in ns (place_of k_of (names.Manager j))) t.nodes_are
           ∙ there k_of (moment e count).nodes (node_of event) t.place
@@ -386,9 +386,9 @@ module _ (base : Setting) (e : Estate AnyNode) (run : IsRun any_step any_start e
           (same_or_other (names.Manager j) (node_of event))
 
       by : (o : Option Event) → slice_get e.events count ≡ o → last_in (Here count) ≤ last_in (Here (suc count))
-      by None is = same (ap (λ v. node_in v.nodes (place_of k_of (names.Manager j))) (moment_ended e count is))
-      by (Some event) is =
-          ⊎_elim (λ still. same (ap (λ ns. node_in ns (place_of k_of (names.Manager j))) still.nodes_are)) (turn event is) (became e count event is)
+      by None fact = same (ap (λ v. node_in v.nodes (place_of k_of (names.Manager j))) (moment_ended e count fact))
+      by (Some event) fact =
+          ⊎_elim (λ still. same (ap (λ ns. node_in ns (place_of k_of (names.Manager j))) still.nodes_are)) (turn event fact) (became e count event fact)
 
   pub numbers_rise : (count : ℕ) → last_at e (names.Manager j) count ≤ last_at e (names.Manager j) (suc count)
   numbers_rise count = let a = last_is count in let b = last_is (suc count) in let c = here_rises count in omega arith

@@ -61,12 +61,12 @@ NotTaking (phase.Active a) = Unit {0}
 NotTaking (phase.Broken epoch seg) = Unit {0}
 
 none_taken : (t : Table) → AllByRecursion NotTaking t → (k : ℕ) (x : Taking) → phase_at t k ≡ phase.Taking x → ⊥
-none_taken [] all k x is = absurd (never x is)
+none_taken [] all k x fact = absurd (never x fact)
   where
     never : (x : Taking) → phase.Away 0 ≡ phase.Taking x → ⊥
     never x e = cc
-none_taken (p ∷ t) all zero x is = subst NotTaking is all.0
-none_taken (p ∷ t) all (suc k) x is = none_taken t all.1 k x is
+none_taken (p ∷ t) all zero x fact = subst NotTaking fact all.0
+none_taken (p ∷ t) all (suc k) x fact = none_taken t all.1 k x fact
 
 enough_room : (k : ℕ) → has_room k ≡ true → k + 24 < u32_end
 enough_room k room = grind (arith, nat_tests)
@@ -92,8 +92,8 @@ first_phase-free number managers slot =
 
 pub none_at_first : (number : ℕ) (setup : Setup) (works : List Work) (k : ℕ) (x : Taking)
     → slot_in k (first_manager number setup works).phase ≡ phase.Taking x → ⊥
-none_at_first number setup works k x is =
-    none_taken (first_table number setup.managers) (one 0, (one 1, (one 2, (one 3, (one 4, (one 5, (one 6, (one 7, tt)))))))) k x is
+none_at_first number setup works k x fact =
+    none_taken (first_table number setup.managers) (one 0, (one 1, (one 2, (one 3, (one 4, (one 5, (one 6, (one 7, tt)))))))) k x fact
   where
     one : (slot : ℕ) → NotTaking (first_phase number (start_entries setup.managers) slot)
     one slot = first_phase-free number setup.managers slot
@@ -111,10 +111,10 @@ module _ (Named : ℕ → Group → Type 0) where
   manager_begins number setup works named = record { slots = record { fine = fine_at; apart = apart_at }; maps = named }
     where
       none : (k : ℕ) (x : Taking) → slot_in k (first_manager number setup works).phase ≡ phase.Taking x → ⊥
-      none k x is = none_at_first number setup works k x is
+      none k x fact = none_at_first number setup works k x fact
 
       fine_at : (k : ℕ) (x : Taking) → slot_in k (first_manager number setup works).phase ≡ phase.Taking x → TakingFine Named 0 x
-      fine_at k x is = absurd (none k x is)
+      fine_at k x fact = absurd (none k x fact)
 
       apart_at : (k m : ℕ) (x w : Taking) → slot_in k (first_manager number setup works).phase ≡ phase.Taking x
           → slot_in m (first_manager number setup works).phase ≡ phase.Taking w → (k ≡ m → ⊥) → x.fetches.ask ≡ w.fetches.ask → x.fetches.ask ≡ 0
@@ -180,17 +180,17 @@ module _ (Named : ℕ → Group → Type 0) (Came : ℕ → ℕ → Told → Typ
     welcome_goes : (peers : Peers) (life : Life) (hello : ℕ) (welcome : Welcome) → first ≡ unknown_table → start ≡ life.questions.last
         → start + 24 < u32_end → MapNamed Named welcome.news.groups → Goes (on_welcome peers life hello welcome)
     unfolding on_welcome
-    welcome_goes peers life hello welcome is same room named =
+    welcome_goes peers life hello welcome fact same room named =
         let s : Serving = again life (forgotten peers.servers) welcome.news.groups in
         by_test Goes (takes_welcome peers life hello welcome) (serves (on_news s peers.clients welcome.news)) (still (Waiting life hello))
-        (λ _. news_go Named Came start first s peers.clients welcome.news [] named (fresh s is) (omega arith))
+        (λ _. news_go Named Came start first s peers.clients welcome.news [] named (fresh s fact) (omega arith))
         (λ _. (omega arith, tt))
       where
         never : (k : ℕ) (x : Taking) → phase_at unknown_table k ≡ phase.Taking x → ⊥
         never k x = none_taken unknown_table (tt, (tt, (tt, (tt, (tt, (tt, (tt, (tt, tt)))))))) k x
 
         fresh : (s : Serving) → first ≡ unknown_table → ServesSo Named Came start first (again life (forgotten peers.servers) welcome.news.groups) []
-        fresh s is = record {
+        fresh s fact = record {
           slots = record {
             up = omega arith;
             fine = λ k x at. absurd (never k x at);
@@ -203,8 +203,8 @@ module _ (Named : ℕ → Group → Type 0) (Came : ℕ → ℕ → Told → Typ
 
     awaited_goes : (peers : Peers) (life : Life) (hello : ℕ) (from : NodeId) (said : Body) → first ≡ unknown_table → start ≡ life.questions.last
         → start + 24 < u32_end → BodyBrought Named Came from said → Goes (on_waiting peers life hello said)
-    awaited_goes peers life hello from (body.Welcome welcome) is same room named = welcome_goes peers life hello welcome is same room named
-    awaited_goes peers life hello from _ is same room named = (omega arith, tt)
+    awaited_goes peers life hello from (body.Welcome welcome) fact same room named = welcome_goes peers life hello welcome fact same room named
+    awaited_goes peers life hello from _ fact same room named = (omega arith, tt)
 
   -- ---- what is known after it
 
@@ -279,19 +279,19 @@ module _ (Named : ℕ → Group → Type 0) (Came : ℕ → ℕ → Told → Typ
         by (Down life) h = record {
           up = h.0;
           fine = tt;
-          from = λ k y is. absurd (away y is);
+          from = λ k y fact. absurd (away y fact);
           does = all_weaker IsQuiet (EffectDone p life.questions.last (Down life)) (quiet_done life.questions.last (Down life)) w.outs h.1;
         }
         by (Waiting life hello) h = record {
           up = h.0;
           fine = tt;
-          from = λ k y is. absurd (away y is);
+          from = λ k y fact. absurd (away y fact);
           does = all_weaker IsQuiet (EffectDone p life.questions.last (Waiting life hello)) (quiet_done life.questions.last (Waiting life hello)) w.outs h.1;
         }
         by (Serves s) h = record {
           up = h.slots.up;
           fine = record { slots = record { fine = h.slots.fine; apart = h.slots.apart }; maps = h.maps };
-          from = λ k y is. from_on k y y.take.present (h.slots.from k y is);
+          from = λ k y fact. from_on k y y.take.present (h.slots.from k y fact);
           does = all_weaker (DoneSo Named Came start first s.slots s.lasting.questions.last) (EffectDone p s.lasting.questions.last (Serves s))
               (served_done s) w.outs h.slots.does;
         }
@@ -316,7 +316,7 @@ module _ (Named : ℕ → Group → Type 0) (Came : ℕ → ℕ → Told → Typ
         stays outs quiet =
             quiet_goes Named Came s.lasting.questions.last s.slots (record s { lasting = with_begun s.lasting }) []
             (record { state = record s { lasting = with_begun s.lasting }; outs = outs })
-            (record { alike = λ k x is. is; up = omega arith; maps = refl; number = refl; does = quiet })
+            (record { alike = λ k x fact. fact; up = omega arith; maps = refl; number = refl; does = quiet })
             (begins Named Came (record s { lasting = with_begun s.lasting }) kept_fine room)
 
         by_wish : (number : ℕ) (asked : Option Work) → Ends (serving_wish (record s { lasting = with_begun s.lasting }) number (wish_at asked))
@@ -332,37 +332,37 @@ module _ (Named : ℕ → Group → Type 0) (Came : ℕ → ℕ → Told → Typ
   -- ---- whatever happens
 
   absent : (k : ℕ) (x : Taking) → phase_at [] k ≡ phase.Taking x → phase.Away 0 ≡ phase.Taking x
-  absent k x is = is
+  absent k x fact = fact
 
   unknown : (k : ℕ) (x : Taking) → phase_at unknown_table k ≡ phase.Taking x → phase.Away 0 ≡ phase.Taking x
-  unknown k x is = absurd (none_taken unknown_table (tt, (tt, (tt, (tt, (tt, (tt, (tt, (tt, tt)))))))) k x is)
+  unknown k x fact = absurd (none_taken unknown_table (tt, (tt, (tt, (tt, (tt, (tt, (tt, (tt, tt)))))))) k x fact)
 
   unmoved : (p : Phase) → PhaseFine Named p → (lasting_of p).questions.last + 24 < u32_end → NodeTurn p (still p)
   unmoved (Down life) fine room = node_turn (Down life) [] absent (still (Down life)) (omega arith, tt)
   unmoved (Waiting life hello) fine room = node_turn (Waiting life hello) [] absent (still (Waiting life hello)) (omega arith, tt)
-  unmoved (Serves s) fine room = node_turn (Serves s) s.slots (λ k x is. is) (still (Serves s)) (begins Named Came s fine room)
+  unmoved (Serves s) fine room = node_turn (Serves s) s.slots (λ k x fact. fact) (still (Serves s)) (begins Named Came s fine room)
 
   event_turn : (peers : Peers) (p : Phase) (what : Do) → PhaseFine Named p → (lasting_of p).questions.last + 24 < u32_end → DoBrought what
       → NodeTurn p (on_event peers p what)
   unfolding on_deliver on_time
-  event_turn peers (Down life) Begin fine room is = node_turn (Down life) [] absent _ (down_goes life.questions.last [] life (omega arith))
-  event_turn peers (Waiting life hello) Begin fine room is =
+  event_turn peers (Down life) Begin fine room fact = node_turn (Down life) [] absent _ (down_goes life.questions.last [] life (omega arith))
+  event_turn peers (Waiting life hello) Begin fine room fact =
       node_turn (Waiting life hello) [] absent _ (waiting_goes life.questions.last [] life hello (omega arith))
-  event_turn peers (Serves s) Begin fine room is = node_turn (Serves s) s.slots (λ k x at. at) _ (begin_goes s fine room)
-  event_turn peers p (Deliver packet) fine room is = delivered
+  event_turn peers (Serves s) Begin fine room fact = node_turn (Serves s) s.slots (λ k x at. at) _ (begin_goes s fine room)
+  event_turn peers p (Deliver packet) fine room fact = delivered
     where
       gets : (q : Phase) → PhaseFine Named q → (lasting_of q).questions.last + 24 < u32_end → NodeTurn q (on_packet peers q packet)
       gets (Down life) fine room = unmoved (Down life) fine room
       gets (Waiting life hello) fine room =
           node_turn (Waiting life hello) unknown_table unknown _
-          (awaited_goes life.questions.last unknown_table peers life hello packet.from packet.body refl refl room is)
+          (awaited_goes life.questions.last unknown_table peers life hello packet.from packet.body refl refl room fact)
       gets (Serves s) fine room =
-          node_turn (Serves s) s.slots (λ k x at. at) (serves (hears s peers.clients packet)) (packet_goes Named Came s fine room peers.clients packet is)
+          node_turn (Serves s) s.slots (λ k x at. at) (serves (hears s peers.clients packet)) (packet_goes Named Came s fine room peers.clients packet fact)
 
       delivered : NodeTurn p (on_deliver peers p packet)
       delivered =
           by_test (NodeTurn p) (is_well_formed peers packet) (on_packet peers p packet) (still p) (λ _. gets p fine room) (λ _. unmoved p fine room)
-  event_turn peers p Tick fine room is = passes p fine room
+  event_turn peers p Tick fine room fact = passes p fine room
     where
       passes : (q : Phase) → PhaseFine Named q → (lasting_of q).questions.last + 24 < u32_end → NodeTurn q (on_time q)
       passes (Down life) fine room = unmoved (Down life) fine room
@@ -374,19 +374,19 @@ module _ (Named : ℕ → Group → Type 0) (Came : ℕ → ℕ → Told → Typ
   rests_turn p fine = record {
     up = omega arith;
     fine = fine;
-    from = λ k y is. subst (λ (b : SlotPhase). TakingFrom Named Came (lasting_of p).questions.last b y) (sym is) (from_start Named Came _ y);
+    from = λ k y fact. subst (λ (b : SlotPhase). TakingFrom Named Came (lasting_of p).questions.last b y) (sym fact) (from_start Named Came _ y);
     does = tt;
   }
 
   life_room : (p : Phase) → phase_has_room p ≡ true → has_room (lasting_of p).questions.last ≡ true
-  life_room (Down life) is = and_second (has_room life.inc) (has_room life.questions.last) is
-  life_room (Waiting life hello) is = and_second (has_room life.inc) (has_room life.questions.last) is
-  life_room (Serves s) is =
-      and_second (has_room s.lasting.inc) (has_room s.lasting.questions.last) (and_first (kept_has_room s.lasting) _ is)
+  life_room (Down life) fact = and_second (has_room life.inc) (has_room life.questions.last) fact
+  life_room (Waiting life hello) fact = and_second (has_room life.inc) (has_room life.questions.last) fact
+  life_room (Serves s) fact =
+      and_second (has_room s.lasting.inc) (has_room s.lasting.questions.last) (and_first (kept_has_room s.lasting) _ fact)
 
   pub manager_turns : (m : Manager) (what : Do) → PhaseFine Named m.phase → DoBrought what → NodeTurn m.phase (happens m what)
   unfolding happens
-  manager_turns m what fine is =
+  manager_turns m what fine fact =
       by_test (NodeTurn m.phase) (phase_has_room m.phase) (on_event m.peers m.phase what) (still m.phase)
-      (λ room. event_turn m.peers m.phase what fine (enough_room (lasting_of m.phase).questions.last (life_room m.phase room)) is)
+      (λ room. event_turn m.peers m.phase what fine (enough_room (lasting_of m.phase).questions.last (life_room m.phase room)) fact)
       (λ _. rests_turn m.phase fine)

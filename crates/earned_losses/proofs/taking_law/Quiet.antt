@@ -81,7 +81,7 @@ not_active : (a : _) (x : Taking) → phase.Active a ≡ phase.Taking x → ⊥
 not_active a x e = cc
 
 same_phase : (p : SlotPhase) → PhaseRests p (still p)
-same_phase p = record { alike = λ x is. is; does = tt }
+same_phase p = record { alike = λ x fact. fact; does = tt }
 
 said_quiet : (slot epoch : ℕ) (o : SlotOut) → AllQuiet (tokens.said slot epoch o)
 unfolding tokens.said
@@ -95,7 +95,7 @@ said_quiet slot epoch slot_out.Dead = tt
 takes_rests : (p : SlotPhase) (slot : ℕ) (given : SlotIn) → PhaseRests p (tokens.takes p slot given)
 unfolding tokens.takes
 takes_rests (phase.Active a) slot given = record {
-  alike = λ x is. absurd (not_active _ x is);
+  alike = λ x fact. absurd (not_active _ x fact);
   does = all_flat_map IsQuiet (tokens.said slot a.slot.epoch) (said_quiet slot a.slot.epoch) (transition a.slot given).outs;
 }
 takes_rests (phase.Away epoch) slot given = same_phase (phase.Away epoch)
@@ -104,7 +104,7 @@ takes_rests (phase.Broken epoch seg) slot given = same_phase (phase.Broken epoch
 
 wants_rests : (p : SlotPhase) (client : ℕ) (want : Want) → PhaseRests p (tokens.on_want p client want)
 unfolding tokens.on_want
-wants_rests (phase.Broken epoch seg) client want = record { alike = λ x is. is; does = (tt, tt) }
+wants_rests (phase.Broken epoch seg) client want = record { alike = λ x fact. fact; does = (tt, tt) }
 wants_rests (phase.Active a) client want = takes_rests (phase.Active a) (slot_of want.block.ino.0) (tokens.want_input client want)
 wants_rests (phase.Away epoch) client want = takes_rests (phase.Away epoch) (slot_of want.block.ino.0) (tokens.want_input client want)
 wants_rests (phase.Taking t) client want = takes_rests (phase.Taking t) (slot_of want.block.ino.0) (tokens.want_input client want)
@@ -121,7 +121,7 @@ check_quiet check epoch slot_out.Dead = (tt, tt)
 checks_rests : (p : SlotPhase) (check : Check) → PhaseRests p (tokens.on_check p check)
 unfolding tokens.on_check
 checks_rests (phase.Active a) check = record {
-  alike = λ x is. absurd (not_active _ x is);
+  alike = λ x fact. absurd (not_active _ x fact);
   does = all_flat_map IsQuiet (tokens.check_said check a.slot.epoch) (check_quiet check a.slot.epoch) (transition a.slot (tokens.check_input check)).outs;
 }
 checks_rests (phase.Away epoch) check = same_phase (phase.Away epoch)
@@ -140,7 +140,7 @@ usage_quiet (phase.Broken epoch seg) asked = tt
 -- a slot that is put has the phase that is put, or there is no such slot
 pub set_alike : (t : Table) (k : ℕ) (q : SlotPhase) → k < length t → ((x : Taking) → q ≡ phase.Taking x → phase_at t k ≡ phase.Taking x)
     → Alike t (slice_set t k q)
-set_alike t k q within same m x is = by (m == k) refl
+set_alike t k q within same m x fact = by (m == k) refl
   where
     apart : (m == k) ≡ false → m ≡ k → ⊥
     apart e = grind (arith, nat_tests)
@@ -149,18 +149,18 @@ set_alike t k q within same m x is = by (m == k) refl
     by true e =
         let at : m ≡ k = eqb-true m k e in
         subst (λ n. phase_at t n ≡ phase.Taking x) (sym at)
-        (same x (sym (set_here t k q within) ∙ (ap (phase_at (slice_set t k q)) (sym at) ∙ is)))
-    by false e = sym (set_there t k m q (apart e)) ∙ is
+        (same x (sym (set_here t k q within) ∙ (ap (phase_at (slice_set t k q)) (sym at) ∙ fact)))
+    by false e = sym (set_there t k m q (apart e)) ∙ fact
 
 at_slot-rests : (t : Table) (k : ℕ) (event : SlotPhase → Stepped SlotPhase Effect) → ((p : SlotPhase) → PhaseRests p (event p))
     → TableRests t (at_slot t k event)
 at_slot-rests t k event each = by (slice_get t k) refl
   where
     by : (o : Option SlotPhase) → slice_get t k ≡ o → TableRests t (in_slot t k event o)
-    by None is = record { alike = λ m x at. at; does = tt }
-    by (Some p) is = (let r = each p in record {
-      alike = set_alike t k (event p).state (slice_get_within t k p is)
-          (λ x at. ap (λ o. unwrap_or o (phase.Away 0)) is ∙ r.alike x at);
+    by None fact = record { alike = λ m x at. at; does = tt }
+    by (Some p) fact = (let r = each p in record {
+      alike = set_alike t k (event p).state (slice_get_within t k p fact)
+          (λ x at. ap (λ o. unwrap_or o (phase.Away 0)) fact ∙ r.alike x at);
       does = r.does;
     })
 
@@ -199,9 +199,9 @@ recalls_alone t = all t all_slots
     one t k = at_slot-rests t k (λ p. tokens.on_tick p k) (λ p. takes_rests p k slot_in.Tick)
 
     all : (t : Table) (ks : List ℕ) → TableRests t (steps recalls t ks)
-    all t [] = record { alike = λ k x is. is; does = tt }
+    all t [] = record { alike = λ k x fact. fact; does = tt }
     all t (k ∷ ks) = (let a = one t k in let b = all (recalls t k).state ks in record {
-      alike = λ m x is. a.alike m x (b.alike m x is);
+      alike = λ m x fact. a.alike m x (b.alike m x fact);
       does = all_append IsQuiet (recalls t k).outs (steps recalls (recalls t k).state ks).outs a.does b.does;
     })
 
@@ -210,27 +210,27 @@ changed_alike : (t : Table) (k : ℕ) (change : SlotPhase → SlotPhase) → ((p
 changed_alike t k change same = by (slice_get t k) refl
   where
     by : (o : Option SlotPhase) → slice_get t k ≡ o → Alike t (changed_in t k change o)
-    by None is = λ m x at. at
-    by (Some p) is = set_alike t k (change p) (slice_get_within t k p is) (λ x at. ap (λ o. unwrap_or o (phase.Away 0)) is ∙ same p x at)
+    by None fact = λ m x at. at
+    by (Some p) fact = set_alike t k (change p) (slice_get_within t k p fact) (λ x at. ap (λ o. unwrap_or o (phase.Away 0)) fact ∙ same p x at)
 
 pub cleaned_alike : (t : Table) (k : ℕ) → Alike t (cleaned_at t k)
 unfolding cleaned_at cleaned_phase
 cleaned_alike t k = changed_alike t k cleaned_phase same
   where
     same : (p : SlotPhase) (x : Taking) → cleaned_phase p ≡ phase.Taking x → p ≡ phase.Taking x
-    same (phase.Active a) x is = absurd (not_active _ x is)
-    same (phase.Away epoch) x is = is
-    same (phase.Taking t) x is = is
-    same (phase.Broken epoch seg) x is = is
+    same (phase.Active a) x fact = absurd (not_active _ x fact)
+    same (phase.Away epoch) x fact = fact
+    same (phase.Taking t) x fact = fact
+    same (phase.Broken epoch seg) x fact = fact
 
 pub named_alike : (t : Table) (k epoch : ℕ) (parts : List SegRef) → Alike t (named_at t k epoch parts)
 unfolding named_at named_phase
 named_alike t k epoch parts = changed_alike t k (named_phase epoch parts) same
   where
     same : (p : SlotPhase) (x : Taking) → named_phase epoch parts p ≡ phase.Taking x → p ≡ phase.Taking x
-    same (phase.Active a) x is =
+    same (phase.Active a) x fact =
         by_test (λ (q : SlotPhase). q ≡ phase.Taking x → phase.Active a ≡ phase.Taking x) (a.slot.epoch == epoch)
-        (phase.Active (record a { parts = parts })) (phase.Active a) (λ _ e. absurd (not_active _ x e)) (λ _ e. e) is
-    same (phase.Away e) x is = is
-    same (phase.Taking t) x is = is
-    same (phase.Broken e seg) x is = is
+        (phase.Active (record a { parts = parts })) (phase.Active a) (λ _ e. absurd (not_active _ x e)) (λ _ e. e) fact
+    same (phase.Away e) x fact = fact
+    same (phase.Taking t) x fact = fact
+    same (phase.Broken e seg) x fact = fact

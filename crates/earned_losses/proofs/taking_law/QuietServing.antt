@@ -47,11 +47,11 @@ pub record Rests (s : Serving) (d : Done) : Type 0 where
   pub does : AllQuiet d.outs
 
 pub rests_still : (s : Serving) → Rests s (still s)
-rests_still s = record { alike = λ k x is. is; up = omega arith; maps = refl; number = refl; does = tt }
+rests_still s = record { alike = λ k x fact. fact; up = omega arith; maps = refl; number = refl; does = tt }
 
 pub rests_then : (s : Serving) (d e : Done) → Rests s d → Rests d.state e → Rests s (saying d.outs e)
 rests_then s d e a b = record {
-  alike = λ k x is. a.alike k x (b.alike k x is);
+  alike = λ k x fact. a.alike k x (b.alike k x fact);
   up = (let x = a.up in let y = b.up in omega arith);
   maps = b.maps ∙ a.maps;
   number = b.number ∙ a.number;
@@ -62,7 +62,7 @@ rests_then s d e a b = record {
 rests_from : (s t : Serving) (d : Done) → Alike s.slots t.slots → s.lasting.questions.last ≤ t.lasting.questions.last → t.maps ≡ s.maps
     → t.lasting.number ≡ s.lasting.number → Rests t d → Rests s d
 rests_from s t d alike up maps number r = record {
-  alike = λ k x is. alike k x (r.alike k x is);
+  alike = λ k x fact. alike k x (r.alike k x fact);
   up = (let a = r.up in omega arith);
   maps = r.maps ∙ maps;
   number = r.number ∙ number;
@@ -74,7 +74,7 @@ rests_steps step each s [] = rests_still s
 rests_steps step each s (x ∷ xs) = rests_then s (step s x) (steps step (step s x).state xs) (each s x) (rests_steps step each (step s x).state xs)
 
 same : (t : Table) → Alike t t
-same t k x is = is
+same t k x fact = fact
 
 last_up : (k : ℕ) → k ≤ cond (nat_lt k u32_end) (k + 1) k
 last_up k = grind (arith, nat_tests)

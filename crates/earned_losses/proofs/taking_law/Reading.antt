@@ -59,17 +59,17 @@ abbrev IsAbove : Source → Type 0
 IsAbove source = source.low ≤ source.seg.name.seq
 
 le_of : (a b : ℕ) → nat_le a b ≡ true → a ≤ b
-le_of a b is = grind (arith, nat_tests)
+le_of a b fact = grind (arith, nat_tests)
 
 below_prior : (a b : ℕ) → nat_lt a b ≡ true → a ≤ b - 1
-below_prior a b is = grind (arith, nat_tests)
+below_prior a b fact = grind (arith, nat_tests)
 
 end_above : (log low : ℕ) (end : End) → AllByRecursion IsAbove (from_end log low end)
 end_above log low end = by (nat_le low end.seq) refl
   where
     by : (t : Bool) → nat_le low end.seq ≡ t → AllByRecursion IsAbove (cond t (log_source log low end ∷ []) [])
-    by true is = (le_of low end.seq is, tt)
-    by false is = tt
+    by true fact = (le_of low end.seq fact, tt)
+    by false fact = tt
 
 sources_above : (news : SlotNews) (reports : List Report) → AllByRecursion IsAbove (sources_of news reports)
 sources_above news reports =
@@ -78,21 +78,21 @@ sources_above news reports =
     (all_flat_map IsAbove (log_sources news.horizon reports) (λ log. end_above log (horizon_at news.horizon log) (end_of reports log)) (range_with_len 1 9))
 
 same_source : (a b : Source) → Some a ≡ Some b → a ≡ b
-same_source a b is = cc
+same_source a b fact = cc
 
 back_above : (at : Source) (s : Segment) (source : Source) → back_from at s ≡ Some source → IsAbove source
 back_above at s source = by (goes_back at s) refl
   where
     by : (t : Bool) → goes_back at s ≡ t → cond t (Some (record { seg = prior_of s; low = at.low })) None ≡ Some source → IsAbove source
-    by true is e =
+    by true fact e =
         subst IsAbove (same_source (record { seg = prior_of s; low = at.low }) source e)
-        (below_prior at.low s.name.seq (and_first (nat_lt at.low s.name.seq) (not (is_none s.prior)) is))
-    by false is e = absurd cc
+        (below_prior at.low s.name.seq (and_first (nat_lt at.low s.name.seq) (not (is_none s.prior)) fact))
+    by false fact e = absurd cc
 
 module _ (came : Came) (striped : Striped) where
   down_above : (first : Source) (segments : List Segment) (source : Source) → IsAbove first → ReadsDown came striped first segments source → IsAbove source
-  down_above first [] source above is = subst IsAbove (sym is) above
-  down_above first (s ∷ segments) source above is = back_above is.0 s source is.3
+  down_above first [] source above fact = subst IsAbove (sym fact) above
+  down_above first (s ∷ segments) source above fact = back_above fact.0 s source fact.3
 
   leads_above : (news : SlotNews) (reports : List Report) (source : Source) → LeadsDown came striped (sources_of news reports) source → IsAbove source
   leads_above news reports source leads =
@@ -103,17 +103,17 @@ module _ (came : Came) (striped : Striped) where
 
   at_slot : (P : SlotPhase → Type 0) (table : Table) (slot : ℕ) (x : Taking) → AllByRecursion P table → phase_at table slot ≡ phase.Taking x
       → P (phase.Taking x)
-  at_slot P [] slot x all is = absurd (never x is)
+  at_slot P [] slot x all fact = absurd (never x fact)
     where
       never : (x : Taking) → phase.Away 0 ≡ phase.Taking x → ⊥
       never x e = cc
-  at_slot P (p ∷ table) zero x all is = subst P is all.0
-  at_slot P (p ∷ table) (suc slot) x all is = at_slot P table slot x all.1 is
+  at_slot P (p ∷ table) zero x all fact = subst P fact all.0
+  at_slot P (p ∷ table) (suc slot) x all fact = at_slot P table slot x all.1 fact
 
   phase_holds : (p : Phase) → PhaseHolds came striped p → (slot : ℕ) (x : Taking) → slot_in slot p ≡ phase.Taking x → TakeHolds came striped x.take
-  phase_holds (Serves s) h slot x is = at_slot (SlotHolds came striped) s.slots slot x h.slots is
-  phase_holds (Down life) h slot x is = absurd cc
-  phase_holds (Waiting life hello) h slot x is = absurd cc
+  phase_holds (Serves s) h slot x fact = at_slot (SlotHolds came striped) s.slots slot x h.slots fact
+  phase_holds (Down life) h slot x fact = absurd cc
+  phase_holds (Waiting life hello) h slot x fact = absurd cc
 
   reads_above : (x : Taking) (source : Source) (r : ReadingState) → TakeHolds came striped x.take → x.take.present ≡ at_source source r → IsAbove source
   reads_above x source r h at =
@@ -134,36 +134,36 @@ module _ (base : Setting) (e : Estate AnyNode) (run : IsRun any_step any_start e
   known_of : (o : Option AnyNode) → NodeFine e o
       → ((node : AnyNode) → o ≡ Some node → AnyHolds (moment e count).sent (names.Manager j) (cuts_at e.world) node)
       → (x : Taking) → slot_of slot o ≡ phase.Taking x → Known x
-  known_of None fine holds x is = absurd cc
-  known_of (Some (any.Client node)) fine holds x is = absurd cc
-  known_of (Some (any.Manager node)) fine holds x is = record {
+  known_of None fine holds x fact = absurd cc
+  known_of (Some (any.Client node)) fine holds x fact = absurd cc
+  known_of (Some (any.Manager node)) fine holds x fact = record {
     last = (lasting_of node.phase).questions.last;
-    fine = phase_fine (IsNamed e) node.phase fine slot x is;
-    holds = phase_holds (answered_in (moment e count).sent (names.Manager j)) (cut_by (cuts_at e.world)) node.phase (holds (any.Manager node) refl) slot x is;
+    fine = phase_fine (IsNamed e) node.phase fine slot x fact;
+    holds = phase_holds (answered_in (moment e count).sent (names.Manager j)) (cut_by (cuts_at e.world)) node.phase (holds (any.Manager node) refl) slot x fact;
   }
-  known_of (Some (any.Server node)) fine holds x is = absurd cc
-  known_of (Some (any.Cleaner node)) fine holds x is = absurd cc
-  known_of (Some (any.Registry node)) fine holds x is = absurd cc
+  known_of (Some (any.Server node)) fine holds x fact = absurd cc
+  known_of (Some (any.Cleaner node)) fine holds x fact = absurd cc
+  known_of (Some (any.Registry node)) fine holds x fact = absurd cc
 
   known : (x : Taking) → slot_at e j slot count ≡ phase.Taking x → Known x
-  known x is =
+  known x fact =
       known_of (node_named (moment e count) (names.Manager j))
       (subst (NodeFine e) (sym (named_is base e run lines j is_there count (names.Manager j))) (all_good base e run lines j is_there count).fine)
-      (λ node at. (came count).nodes (names.Manager j) node at) x is
+      (λ node at. (came count).nodes (names.Manager j) node at) x fact
 
   module _ (epoch : ℕ) (target : Target) where
     of_reading : (x : Taking) → slot_at e j slot count ≡ phase.Taking x → x.epoch ≡ epoch → (source : Source) (r : ReadingState)
         → x.take.present ≡ at_source source r
         → r.target ≡ target → Reads (slot_at e j slot count) epoch target.seg
-    of_reading x is of_epoch source r at same =
-        let k = known x is in
+    of_reading x fact of_epoch source r at same =
+        let k = known x fact in
         let looks : ReadFine x.take source r = subst (PresentFine x.take) at k.fine.reads in
         let seg : source.seg ≡ target.seg = ap (λ (t : Target). t.seg) (sym looks.looks ∙ same) in
         let above : source.low ≤ source.seg.name.seq =
         reads_above (answered_in (moment e count).sent (names.Manager j)) (cut_by (cuts_at e.world)) x source r k.holds at in
         record {
           taking = x;
-          takes = is;
+          takes = fact;
           of_epoch = of_epoch;
           source = source;
           reading = r;
@@ -178,16 +178,16 @@ module _ (base : Setting) (e : Estate AnyNode) (run : IsRun any_step any_start e
       where
         by_reading : (x : Taking) → slot_at e j slot count ≡ phase.Taking x → x.epoch ≡ epoch → (source : Source) (o : Option ReadingState)
             → x.take.present ≡ Some (record { source = source; reading = o }) → IsLooked o target → Reads (slot_at e j slot count) epoch target.seg
-        by_reading x is of_epoch source None at same = absurd same
-        by_reading x is of_epoch source (Some r) at same = of_reading x is of_epoch source r at same
+        by_reading x fact of_epoch source None at same = absurd same
+        by_reading x fact of_epoch source (Some r) at same = of_reading x fact of_epoch source r at same
 
         by_present : (x : Taking) → slot_at e j slot count ≡ phase.Taking x → x.epoch ≡ epoch → (o : Option Present) → x.take.present ≡ o → IsPresent o target
             → Reads (slot_at e j slot count) epoch target.seg
-        by_present x is of_epoch None at same = absurd same
-        by_present x is of_epoch (Some p) at same = by_reading x is of_epoch p.source p.reading at same
+        by_present x fact of_epoch None at same = absurd same
+        by_present x fact of_epoch (Some p) at same = by_reading x fact of_epoch p.source p.reading at same
 
         by : (p : SlotPhase) → slot_at e j slot count ≡ p → ReadsIn p epoch target → Reads (slot_at e j slot count) epoch target.seg
-        by (phase.Taking x) is h = by_present x is h.0 x.take.present refl h.1
-        by (phase.Away epoch_) is h = absurd h
-        by (phase.Active a) is h = absurd h
-        by (phase.Broken epoch_ seg) is h = absurd h
+        by (phase.Taking x) fact h = by_present x fact h.0 x.take.present refl h.1
+        by (phase.Away epoch_) fact h = absurd h
+        by (phase.Active a) fact h = absurd h
+        by (phase.Broken epoch_ seg) fact h = absurd h

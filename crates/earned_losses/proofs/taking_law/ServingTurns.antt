@@ -62,8 +62,8 @@ pub own_is : (f : Asked) (ask own : ℕ) → own_of f ask ≡ Some own → (own 
 own_is f ask own = by (not (f.own == 0) && (ask == f.ask)) refl
   where
     by : (b : Bool) → (not (f.own == 0) && (ask == f.ask)) ≡ b → cond b (Some f.own) None ≡ Some own → (own ≡ f.own) × (ask ≡ f.ask)
-    by true is e = (sym (same_own f.own own e), same_number ask f.ask (and_second (not (f.own == 0)) (ask == f.ask) is))
-    by false is e = absurd cc
+    by true fact e = (sym (same_own f.own own e), same_number ask f.ask (and_second (not (f.own == 0)) (ask == f.ask) fact))
+    by false fact e = absurd cc
 
 module _ (Named : ℕ → Group → Type 0) where
   abbrev pub MapsNamed : Option GroupMapState → Type 0
@@ -187,7 +187,7 @@ module _ (Named : ℕ → Group → Type 0) (Came : ℕ → ℕ → Told → Typ
         up = omega arith;
         fine = fine.slots.fine;
         apart = fine.slots.apart;
-        from = λ k x is. subst (λ (p : SlotPhase). TakingFrom Named Came start p x) (sym is) (from_start start x);
+        from = λ k x fact. subst (λ (p : SlotPhase). TakingFrom Named Came start p x) (sym fact) (from_start start x);
         does = tt;
       };
       maps = fine.maps;
@@ -219,11 +219,11 @@ module _ (Named : ℕ → Group → Type 0) (Came : ℕ → ℕ → Told → Typ
     answer_goes ask server t given tells plain came = by (table.fetch_among s.slots ask table.all_slots) refl
       where
         by : (to : Option (ℕ × ℕ)) → table.fetch_among s.slots ask table.all_slots ≡ to → Ends (answered_by s to given)
-        by None is = rests (still s) (rests_still s)
-        by (Some which) is = take_goes which.0 (given which.1) brought (plain which.1)
+        by None fact = rests (still s) (rests_still s)
+        by (Some which) fact = take_goes which.0 (given which.1) brought (plain which.1)
           where
             fetched : fetch_in (phase_at s.slots which.0) ask ≡ Some which.1
-            fetched = fetch_is s.slots ask table.all_slots which is
+            fetched = fetch_is s.slots ask table.all_slots which fact
 
             brought : (h : Heard) → heard_in (given which.1) ≡ Some h → (x : Taking) → phase_at s.slots which.0 ≡ phase.Taking x
                 → (h.own ≡ x.fetches.own) × Came x.fetches.ask h.server h.told
@@ -235,47 +235,47 @@ module _ (Named : ℕ → Group → Type 0) (Came : ℕ → ℕ → Told → Typ
 
     found_goes : (server : Option ℕ) (found : Found) → AnswerBrought server found.ask (told.Held found.fragment) → Ends (on_found s server found)
     unfolding on_found
-    found_goes None found is = rests (still s) (rests_still s)
-    found_goes (Some server) found is =
-        answer_goes found.ask server (told.Held found.fragment) (λ own. input.Got own server found.generation found.fragment) (λ own. refl) (λ own. tt) is
+    found_goes None found fact = rests (still s) (rests_still s)
+    found_goes (Some server) found fact =
+        answer_goes found.ask server (told.Held found.fragment) (λ own. input.Got own server found.generation found.fragment) (λ own. refl) (λ own. tt) fact
 
     missing_goes : (server : Option ℕ) (missing : Missing) → AnswerBrought server missing.ask (told.Missing missing.generation)
         → Ends (on_missing s server missing)
     unfolding on_missing
-    missing_goes None missing is = rests (still s) (rests_still s)
-    missing_goes (Some server) missing is =
-        answer_goes missing.ask server (told.Missing missing.generation) (λ own. input.Missing own server missing.generation) (λ own. refl) (λ own. tt) is
+    missing_goes None missing fact = rests (still s) (rests_still s)
+    missing_goes (Some server) missing fact =
+        answer_goes missing.ask server (told.Missing missing.generation) (λ own. input.Missing own server missing.generation) (λ own. refl) (λ own. tt) fact
 
     -- ---- all packets
 
     fitting_goes : (clients : ℕ) (news : News) → MapNamed Named news.groups → Ends (on_fitting_news s clients news)
-    fitting_goes clients news is =
-        by_test Ends (fits s.maps news) (on_news s clients news) (still s) (λ _. news_go start s.slots s clients news [] is begins (omega arith))
+    fitting_goes clients news fact =
+        by_test Ends (fits s.maps news) (on_news s clients news) (still s) (λ _. news_go start s.slots s clients news [] fact begins (omega arith))
         (λ _. rests (still s) (rests_still s))
 
     body_goes : (clients : ℕ) (from : NodeId) (said : Body) → BodyBrought from said → Ends (on_body s clients from said)
-    body_goes clients from (body.MapNews news) is = fitting_goes clients news is
-    body_goes clients from (body.Welcome welcome) is =
-        by_test Ends (welcome.inc == s.lasting.inc) (on_fitting_news s clients welcome.news) (still s) (λ _. fitting_goes clients welcome.news is)
+    body_goes clients from (body.MapNews news) fact = fitting_goes clients news fact
+    body_goes clients from (body.Welcome welcome) fact =
+        by_test Ends (welcome.inc == s.lasting.inc) (on_fitting_news s clients welcome.news) (still s) (λ _. fitting_goes clients welcome.news fact)
         (λ _. rests (still s) (rests_still s))
-    body_goes clients from (body.Want want) is = rests _ (want_rests s (client_in from) want)
-    body_goes clients from (body.Gave gave) is = rests _ (gave_rests s (client_in from) gave)
-    body_goes clients from (body.Deltas deltas) is = rests _ (deltas_rest s (fed_log from) deltas)
-    body_goes clients from (body.Check check) is = rests _ (check_rests s check)
-    body_goes clients from (body.UsageAsk asking) is = rests _ (usage_rests s asking)
-    body_goes clients from (body.Report report) is = report_goes from report
-    body_goes clients from (body.Fragment found) is = found_goes (server_in from) found is
-    body_goes clients from (body.Missing missing) is = missing_goes (server_in from) missing is
-    body_goes clients from (body.Stored stored) is = rests _ (writes_rest s (log_input.Acked stored.name stored.index stored.generation))
-    body_goes clients from (body.CkptAck ack) is = rests _ (ack_rests s ack)
-    body_goes clients from _ is = rests (still s) (rests_still s)
+    body_goes clients from (body.Want want) fact = rests _ (want_rests s (client_in from) want)
+    body_goes clients from (body.Gave gave) fact = rests _ (gave_rests s (client_in from) gave)
+    body_goes clients from (body.Deltas deltas) fact = rests _ (deltas_rest s (fed_log from) deltas)
+    body_goes clients from (body.Check check) fact = rests _ (check_rests s check)
+    body_goes clients from (body.UsageAsk asking) fact = rests _ (usage_rests s asking)
+    body_goes clients from (body.Report report) fact = report_goes from report
+    body_goes clients from (body.Fragment found) fact = found_goes (server_in from) found fact
+    body_goes clients from (body.Missing missing) fact = missing_goes (server_in from) missing fact
+    body_goes clients from (body.Stored stored) fact = rests _ (writes_rest s (log_input.Acked stored.name stored.index stored.generation))
+    body_goes clients from (body.CkptAck ack) fact = rests _ (ack_rests s ack)
+    body_goes clients from _ fact = rests (still s) (rests_still s)
 
     pub packet_goes : (clients : ℕ) (packet : Packet) → BodyBrought packet.from packet.body
         → ServesSo s.lasting.questions.last s.slots (hears s clients packet).state (hears s clients packet).outs
     unfolding hears
-    packet_goes clients packet is =
+    packet_goes clients packet fact =
         by_test Ends (names_known s.maps packet.body) (on_body s clients packet.from packet.body) (asks_for_maps s)
-        (λ _. body_goes clients packet.from packet.body is) (λ _. rests (asks_for_maps s) (asks_maps-rests s))
+        (λ _. body_goes clients packet.from packet.body fact) (λ _. rests (asks_for_maps s) (asks_maps-rests s))
 
     pub checkpoint_goes : (number : ℕ) → ServesSo s.lasting.questions.last s.slots (on_checkpoint s number).state (on_checkpoint s number).outs
     checkpoint_goes number = rests (on_checkpoint s number) (checkpoint_rests s number)

@@ -108,7 +108,7 @@ module _ (Named : ℕ → Group → Type 0) (Came : ℕ → ℕ → Told → Typ
 
     -- what is heard comes first of all in its event
     is_first : (h : Heard) → heard_in given ≡ Some h → before ≡ phase.Taking x
-    is_first h gives = ⊎_elim (λ calm. absurd (not_calm given h gives calm)) (λ is. is) first
+    is_first h gives = ⊎_elim (λ calm. absurd (not_calm given h gives calm)) (λ fact. fact) first
 
     abbrev took_of : (source : Source) (n : Next) → Takes Named x.take given source n → Took x source n
     took_of source n t =
@@ -138,12 +138,12 @@ module _ (Named : ℕ → Group → Type 0) (Came : ℕ → ℕ → Told → Typ
 
       -- what was so of a reading that stays is so still
       kept_on : (b : Taking) (source : Source) (r : ReadingState) → y.fetches.ask ≡ x.fetches.ask → ReadFrom start b x source r → ReadFrom start b y source r
-      kept_on b source r is (inl none) = inl none
-      kept_on b source r is (inr (inl k)) = inr (inl (record { was = k.was; number = is ∙ k.number }))
-      kept_on b source r is (inr (inr (inl w))) = inr (inr (inl (record { took = w.took; now = w.now; number = is ∙ w.number })))
-      kept_on b source r is (inr (inr (inr (inl w)))) =
+      kept_on b source r fact (inl none) = inl none
+      kept_on b source r fact (inr (inl k)) = inr (inl (record { was = k.was; number = fact ∙ k.number }))
+      kept_on b source r fact (inr (inr (inl w))) = inr (inr (inl (record { took = w.took; now = w.now; number = fact ∙ w.number })))
+      kept_on b source r fact (inr (inr (inr (inl w)))) =
           inr (inr (inr (inl (record { took = w.took; now = w.now; confirmed = w.confirmed; number = (let a = w.number in omega arith) }))))
-      kept_on b source r is (inr (inr (inr (inr w)))) =
+      kept_on b source r fact (inr (inr (inr (inr w)))) =
           inr (inr (inr (inr (record { group = w.group; named = w.named; ask = w.ask; now = w.now; number = (let a = w.number in omega arith) }))))
 
       -- where the question of a reading is out
@@ -151,11 +151,11 @@ module _ (Named : ℕ → Group → Type 0) (Came : ℕ → ℕ → Told → Typ
         from_kept : (b : Taking) → before ≡ phase.Taking b → Kept Named x.take y.take source r
             → SlotFrom start b x (record { source = source; reading = Some r })
             → ReadFrom start b y source r
-        from_kept b is k was = ⊎_elim (λ none. inl none) (λ it. kept_on b source r (same r.ask it out) was.reads)
+        from_kept b fact k was = ⊎_elim (λ none. inl none) (λ it. kept_on b source r (same r.ask it out) was.reads)
             (subst (PresentOut x.fetches) k.was fine.is_out)
 
         from_waits : before ≡ phase.Taking x → Waits Named x.take given y.take source r → ReadFrom start x y source r
-        from_waits is w =
+        from_waits fact w =
             let h = w.takes.heard in
             let ask : r.ask ≡ w.takes.reading.ask =
             ap (λ (z : ReadingState). z.ask) w.now ∙ ask-on_answer w.takes.reading x.take.groups h.own h.server h.told in
@@ -190,7 +190,7 @@ module _ (Named : ℕ → Group → Type 0) (Came : ℕ → ℕ → Told → Typ
 
       -- the takeover that there was at the beginning of the event, in this epoch
       since_of : (p : Present) → CalmSo Named x.take given (Some p) → (b : Taking) × (before ≡ phase.Taking b) × (y.epoch ≡ b.epoch)
-      since_of p calm = ⊎_elim earlier (λ is. (x, is, said.epoch)) first
+      since_of p calm = ⊎_elim earlier (λ fact. (x, fact, said.epoch)) first
         where
           earlier : IsCalm given → (b : Taking) × (before ≡ phase.Taking b) × (y.epoch ≡ b.epoch)
           earlier it =
@@ -206,9 +206,9 @@ module _ (Named : ℕ → Group → Type 0) (Came : ℕ → ℕ → Told → Typ
           let f = subst (PresentFrom start before x) k.was from in
           (f.0, f.1, record { epoch = said.epoch ∙ f.2.epoch; reads = from_kept source r out f.0 f.1 k f.2 })
       read_now source r (inr out) calm (inr (inl w)) =
-          let is = is_first w.takes.heard w.takes.gives in (x, is, record { epoch = said.epoch; reads = from_waits source r out is w })
+          let fact = is_first w.takes.heard w.takes.gives in (x, fact, record { epoch = said.epoch; reads = from_waits source r out fact w })
       read_now source r (inr out) calm (inr (inr (inl w))) =
-          let is = is_first w.takes.heard w.takes.gives in (x, is, record { epoch = said.epoch; reads = from_renewed source r out w })
+          let fact = is_first w.takes.heard w.takes.gives in (x, fact, record { epoch = said.epoch; reads = from_renewed source r out w })
       read_now source r (inr out) calm (inr (inr (inr w))) =
           let s = since_of (record { source = source; reading = Some r }) calm in
           (s.0, s.1, record { epoch = s.2; reads = from_begins source r out s.0 w })

@@ -153,9 +153,9 @@ module _ (L : SegName → Type 0) where
   still_away t b (phase.Broken epoch seg) none = tt
 
   settled_away : (t : Taking) (b : Asked) (last : ℕ) (q : Questions) (d : Done) → q.last ≡ last → Away (λ n. n ≡ b.ask) t.take.present q d → Settled t b last d
-  settled_away t b last q d is h = record {
+  settled_away t b last q d fact h = record {
     phase = still_away t b d.state.phase h.phase;
-    last_is = ap (λ (x : Questions). x.last) h.questions ∙ is;
+    last_is = ap (λ (x : Questions). x.last) h.questions ∙ fact;
     does = h.does;
   }
 
@@ -167,12 +167,12 @@ module _ (L : SegName → Type 0) where
     settled_so f q (out.Poll to ∷ outs) own ask at all =
         let h = settled_so f q outs own ask at all.1 in record { phase = h.phase; last_is = h.last_is; does = (tt, h.does) }
     settled_so f q (out.Fetch server name n ∷ outs) own ask at all =
-        let is : n ≡ b.own = same name n all.0 in
+        let fact : n ≡ b.own = same name n all.0 in
         let number : number_for f q n ≡ b.ask =
-        by_test (λ (k : ℕ). k ≡ b.ask) (n == f.own) f.ask (next_ask q) (λ _. ask) (λ e. absurd (other_number n f.own e (is ∙ sym own))) in
+        by_test (λ (k : ℕ). k ≡ b.ask) (n == f.own) f.ask (next_ask q) (λ _. ask) (λ e. absurd (other_number n f.own e (fact ∙ sym own))) in
         let now : (drawn_for f q n).last ≡ last =
-        by_test (λ (k : Questions). k.last ≡ last) (n == f.own) q (drawn q) (λ _. at) (λ e. absurd (other_number n f.own e (is ∙ sym own))) in
-        let h = settled_so (asked_as f q n) (drawn_for f q n) outs is number now all.1 in
+        by_test (λ (k : Questions). k.last ≡ last) (n == f.own) q (drawn q) (λ _. at) (λ e. absurd (other_number n f.own e (fact ∙ sym own))) in
+        let h = settled_so (asked_as f q n) (drawn_for f q n) outs fact number now all.1 in
         record { phase = h.phase; last_is = h.last_is; does = (((n, all.0), number), h.does) }
     settled_so f q (out.Active epoch index beliefs applied ∷ outs) own ask at all =
         settled_away t b last q _ at (away_so (λ n. n ≡ b.ask) t.take.present slot _ q outs tt all.1)
@@ -211,14 +211,14 @@ module _ (L : SegName → Type 0) where
   number_more N M o f outs all = all_weaker (EffectSo N o) (EffectSo M o) each outs all
     where
       in_body : (b : Body) → BodySo N o b → BodySo M o b
-      in_body (body.Fetch m) is = (is.0, f m.ask is.1)
-      in_body _ is = tt
+      in_body (body.Fetch m) fact = (fact.0, f m.ask fact.1)
+      in_body _ fact = tt
 
       each : (e : Effect) → EffectSo N o e → EffectSo M o e
-      each (Send to said) is = in_body said is
-      each (Answer item answer) is = tt
-      each (Lose name) is = is
-      each (Acts act) is = is
+      each (Send to said) fact = in_body said fact
+      each (Answer item answer) fact = tt
+      each (Lose name) fact = fact
+      each (Acts act) fact = fact
 
   module _ (slot : ℕ) (t : Taking) (q : Questions) (low : t.fetches.ask ≤ q.last) (room : q.last < u32_end) where
     -- a first question
@@ -233,8 +233,8 @@ module _ (L : SegName → Type 0) where
 
       by_settled : (f : Asked) (p : Questions) → own ≡ f.own → q.last ≤ p.last → p.last ≤ q.last + 1 → f.ask ≤ p.last
           → (((f.own ≡ t.fetches.own) × (f.ask ≡ t.fetches.ask)) ⊎ ((f.own ≡ t.fetches.own → ⊥) × (q.last < f.ask))) → Goes f p
-      by_settled f p is up few limit number =
-          let h = settled_so slot t f p.last (λ other more k. one_own t.take.present name other own more asks k ∙ is) f p outs refl refl refl all in
+      by_settled f p fact up few limit number =
+          let h = settled_so slot t f p.last (λ other more k. one_own t.take.present name other own more asks k ∙ fact) f p outs refl refl refl all in
           let last = h.last_is in
           record {
             phase = said _ h.phase (omega arith);
@@ -247,7 +247,7 @@ module _ (L : SegName → Type 0) where
           }
         where
           asked_so : AsksFor t.take.present name f.own
-          asked_so = subst (AsksFor t.take.present name) is asks
+          asked_so = subst (AsksFor t.take.present name) fact asks
 
           so : (last : ℕ) → f.ask ≤ last → NumberSo t q last f.ask
           so last limit = (limit, ⊎_elim (λ old. inl ((name, subst (AsksFor t.take.present name) old.0 asked_so), old.1)) (λ new. inr new.1) number)
@@ -273,11 +273,11 @@ module _ (L : SegName → Type 0) where
         where
           by : (b : Bool) → (own == t.fetches.own) ≡ b
               → Goes (record { own = own; ask = cond b t.fetches.ask (next_ask q) }) (cond b q (drawn q))
-          by true is = let e = same_number own t.fetches.own is in
+          by true fact = let e = same_number own t.fetches.own fact in
               by_settled (record { own = own; ask = t.fetches.ask }) q refl (omega arith) (omega arith) low (inl (e, refl))
-          by false is = let e = drawn_one q.last room in
+          by false fact = let e = drawn_one q.last room in
               by_settled (record { own = own; ask = next_ask q }) (drawn q) refl (omega arith) (omega arith) (omega arith)
-              (inr (other_number own t.fetches.own is, omega arith))
+              (inr (other_number own t.fetches.own fact, omega arith))
 
     -- a poll asks for nothing
     polled : (to : NodeId) (outs : List Out) (last : ℕ) (x : SlotPhase) → PhaseSaid t q outs last x → PhaseSaid t q (out.Poll to ∷ outs) last x

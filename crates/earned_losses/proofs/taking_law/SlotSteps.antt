@@ -87,7 +87,7 @@ module _ (Named : ℕ → Group → Type 0) (Came : ℕ → ℕ → Told → Typ
   idle p q so = record {
     fine = so.fine;
     from = so.from;
-    moved = λ y is. record { number = inr (inl (y, is, refl)); fetched = λ m old was. was y is };
+    moved = λ y fact. record { number = inr (inl (y, fact, refl)); fetched = λ m old was. was y fact };
     up = omega arith;
     few = omega arith;
     does = tt;
@@ -133,8 +133,8 @@ module _ (Named : ℕ → Group → Type 0) (Came : ℕ → ℕ → Told → Typ
       pub takes : y.take ≡ after
 
     still_so : (y : Taking) → d.state.phase ≡ phase.Taking y → Still y
-    still_so y is =
-        let h : TakingSaid t q outs last y = subst (PhaseSaid t q outs last) is said.phase in
+    still_so y fact =
+        let h : TakingSaid t q outs last y = subst (PhaseSaid t q outs last) fact said.phase in
         let back : after ≡ y.take = sym h.take in
         record {
           turns = subst (λ z. Turn Named x.take given z outs) back turn;
@@ -153,7 +153,8 @@ module _ (Named : ℕ → Group → Type 0) (Came : ℕ → ℕ → Told → Typ
               (present_fine Named x.take given after outs fine.reads after.present turn.reads) old.0.1 in
               let a = fine.some k.1 in let b = old.1 in inl (x, refl, old.1, omega arith))
               (λ new. inr new) h.1.1;
-          own = λ y is. subst (λ (z : TakeState). FetchOf y.fetches z.present m) (sym (still_so y is).takes) (asked_of after.present y.fetches m h.0.0 h.0.1);
+          own =
+              λ y fact. subst (λ (z : TakeState). FetchOf y.fetches z.present m) (sym (still_so y fact).takes) (asked_of after.present y.fetches m h.0.0 h.0.1);
         }
         by _ h = tt
     does_so (Answer item answer) h = tt
@@ -162,11 +163,11 @@ module _ (Named : ℕ → Group → Type 0) (Came : ℕ → ℕ → Told → Typ
 
     pub step_of : SlotStep (phase.Taking x) q (says_each slot (asker (phase.Taking (record x { take = after })) q) outs)
     step_of = record {
-      fine = λ y is. let s = still_so y is in still_fine Named x q given outs last y fine s.turns s.says;
-      from = λ y is.
-          let s = still_so y is in
+      fine = λ y fact. let s = still_so y fact in still_fine Named x q given outs last y fine s.turns s.says;
+      from = λ y fact.
+          let s = still_so y fact in
           from_now Named Came start before x q given up brought first outs last y fine s.turns s.says (so.from x refl);
-      moved = λ y is. let s = still_so y is in record {
+      moved = λ y fact. let s = still_so y fact in record {
         number = ⊎_elim (λ old. inr (inl (x, refl, old.1))) (λ new. inr (inr new.1)) (is_number Named x q given outs last y fine s.turns s.says);
         fetched = λ m old was. fetched_before Named x q given outs last y fine s.turns s.says m old (was x refl);
       };
@@ -213,9 +214,9 @@ module _ (Named : ℕ → Group → Type 0) (Came : ℕ → ℕ → Told → Typ
 
   pub report_step : (p : SlotPhase) (q : Questions) → SlotSo p q.last → start ≤ q.last → q.last < u32_end → (from : NodeId) (report : Report) → before ≡ p
       → SlotStep p q (on_report (asker p q) from report)
-  report_step p q so up room from report is =
+  report_step p q so up room from report fact =
       by_test (SlotStep p q) (report.epoch == epoch_of p) (takes (asker p q) report.slot (report_input from report)) (still (asker p q))
-      (λ _. takes_step report.slot p q so up room (report_input from report) tt (λ h gives. absurd (none h gives)) (inr is)) (λ _. idle p q so)
+      (λ _. takes_step report.slot p q so up room (report_input from report) tt (λ h gives. absurd (none h gives)) (inr fact)) (λ _. idle p q so)
     where
       none : (h : Heard) → None ≡ Some h → ⊥
       none h gives = cc
@@ -246,7 +247,7 @@ module _ (Named : ℕ → Group → Type 0) (Came : ℕ → ℕ → Told → Typ
     renewed d s = record {
       fine = s.fine;
       from = s.from;
-      moved = λ y is. let m = s.moved y is in record {
+      moved = λ y fact. let m = s.moved y fact in record {
         number = ⊎_elim (λ none. inl none)
             (⊎_elim (λ old. inl (let a = (fresh old.0 old.1).0 in let b = old.2 in omega arith)) (λ new. inr (inr new))) m.number;
         fetched = λ f old was. m.fetched f old (λ x its. nothing_read x f (fresh x its).1);
@@ -266,19 +267,19 @@ module _ (Named : ℕ → Group → Type 0) (Came : ℕ → ℕ → Told → Typ
     begun_fine = record { groups = named; own = omega arith; number = omega arith; some = λ more. absurd (omega arith); reads = tt; is_out = tt }
 
     taking_is : (x : Taking) → phase.Taking (begun_slot h news) ≡ phase.Taking x → (begun_slot h news) ≡ x
-    taking_is x is = same_taking (begun_slot h news) x is
+    taking_is x fact = same_taking (begun_slot h news) x fact
 
     taking_so : SlotSo (phase.Taking (begun_slot h news)) q.last
     taking_so = record {
-      fine = λ x is. subst (TakingFine Named q.last) (taking_is x is) begun_fine;
-      from = λ x is. subst (TakingFrom Named Came start before) (taking_is x is) tt;
+      fine = λ x fact. subst (TakingFine Named q.last) (taking_is x fact) begun_fine;
+      from = λ x fact. subst (TakingFrom Named Came start before) (taking_is x fact) tt;
     }
 
     away_so : SlotSo (phase.Away news.epoch) q.last
-    away_so = record { fine = λ x is. absurd (none x is); from = λ x is. absurd (none x is) }
+    away_so = record { fine = λ x fact. absurd (none x fact); from = λ x fact. absurd (none x fact) }
       where
         none : (x : Taking) → phase.Away news.epoch ≡ phase.Taking x → ⊥
-        none x is = cc
+        none x fact = cc
 
     begun_step : (z : SlotPhase) → SlotSo z q.last → ((x : Taking) → z ≡ phase.Taking x → (x.fetches.ask ≡ 0) × (x.take.present ≡ None))
         → SlotStep p q (takes (asker z q) news.slot input.Tick)
@@ -294,12 +295,12 @@ module _ (Named : ℕ → Group → Type 0) (Came : ℕ → ℕ → Told → Typ
         (λ _. by_test (λ (z : SlotPhase). SlotStep p q (takes (asker z q) news.slot input.Tick)) (news.manager == h.ears.number)
         (phase.Taking (begun_slot h news)) (phase.Away news.epoch)
         (λ _. begun_step (phase.Taking (begun_slot h news)) taking_so
-        (λ x is. (subst (λ (y : Taking). y.fetches.ask ≡ 0) (taking_is x is) refl, subst (λ (y : Taking). y.take.present ≡ None) (taking_is x is) refl)))
-        (λ _. begun_step (phase.Away news.epoch) away_so (λ x is. absurd (never x is))))
+        (λ x fact. (subst (λ (y : Taking). y.fetches.ask ≡ 0) (taking_is x fact) refl, subst (λ (y : Taking). y.take.present ≡ None) (taking_is x fact) refl)))
+        (λ _. begun_step (phase.Away news.epoch) away_so (λ x fact. absurd (never x fact))))
         (λ _. idle p q so)
       where
         never : (x : Taking) → phase.Away news.epoch ≡ phase.Taking x → ⊥
-        never x is = cc
+        never x fact = cc
 
 -- an epoch that is heard of draws no number: a slot that begins polls alone
 polls_rest : (slot : ℕ) (a : Asker) (nodes : List NodeId) → (says_each slot a (polls nodes ++ [])).state ≡ a

@@ -81,21 +81,21 @@ unread x m never = by_present x.take.present
 
 -- what is asked for now is of what is read
 pub asked_of : (o : Option Present) (f : Asked) (m : Fetch) (own : ℕ) → AsksFor o m.name own → FetchOf f o m
-asked_of None f m own is = absurd is
-asked_of (Some p) f m own is = by p.reading is
+asked_of None f m own fact = absurd fact
+asked_of (Some p) f m own fact = by p.reading fact
   where
     by : (r : Option ReadingState) → AsksAs p.source.seg.name r m.name own → FetchAs f p.source r m
-    by None is = absurd is
-    by (Some r) is = λ out same. is.0
+    by None fact = absurd fact
+    by (Some r) fact = λ out same. fact.0
 
 -- by the last question of the takeover, which is none of before
 pub asks_last : (s : TakeState) (o : Option Present) (name : SegName) (own : ℕ) → PresentFine s o → AsksFor o name own → (own ≡ s.ask) × (0 < own)
-asks_last s None name own fine is = absurd is
-asks_last s (Some p) name own fine is = by p.reading fine is
+asks_last s None name own fine fact = absurd fact
+asks_last s (Some p) name own fine fact = by p.reading fine fact
   where
     by : (r : Option ReadingState) → ReadingFine s p.source r → AsksAs p.source.seg.name r name own → (own ≡ s.ask) × (0 < own)
-    by None fine is = absurd is
-    by (Some r) fine is = (is.1.0 ∙ fine.counted, let a = fine.some in let b = is.1.0 in omega arith)
+    by None fine fact = absurd fact
+    by (Some r) fine fact = (fact.1.0 ∙ fine.counted, let a = fine.some in let b = fact.1.0 in omega arith)
 
 module _ (Named : ℕ → Group → Type 0) where
   -- ---- a slot that is taken over, where numbers up to this one were drawn
@@ -187,7 +187,7 @@ module _ (Named : ℕ → Group → Type 0) where
 
     stays_out : (r : ReadingState) → IsOut x.fetches r → (later : ReadingState) → later.ask ≡ r.ask → later.round.servers ≡ r.round.servers
         → y.fetches.own ≡ x.fetches.own → IsOut y.fetches later
-    stays_out r is later ask servers own = ⊎_elim (λ none. inl (servers ∙ none)) (λ out. inr (own ∙ (out ∙ sym ask))) is
+    stays_out r fact later ask servers own = ⊎_elim (λ none. inl (servers ∙ none)) (λ out. inr (own ∙ (out ∙ sym ask))) fact
 
     fresh_out : (source : Source) (r : ReadingState) → Fresh Named x.take y.take outs source r → AllByRecursion NotFetch outs → IsOut y.fetches r
     fresh_out source r fresh none =
@@ -209,10 +209,10 @@ module _ (Named : ℕ → Group → Type 0) where
     its_out (Some p) at became = by p.reading refl became
       where
         by : (r : Option ReadingState) → p.reading ≡ r → ReadingBecame Named x.take given y.take outs p.source r → ReadingOut y.fetches r
-        by None is became = tt
-        by (Some r) is became =
+        by None fact became = tt
+        by (Some r) fact became =
             let there : y.take.present ≡ Some (record { source = p.source; reading = Some r }) =
-            at ∙ ap (λ (z : Option ReadingState). Some (record { source = p.source; reading = z })) is in
+            at ∙ ap (λ (z : Option ReadingState). Some (record { source = p.source; reading = z })) fact in
             ⊎_elim (λ rest. rested_out p.source r rest became) (λ a. inr (asked_out r p.source there a)) said.how
 
     pub still_fine : TakingFine last y

@@ -74,22 +74,22 @@ module _ (Named : ℕ → Group → Type 0) (Came : ℕ → ℕ → Told → Typ
   same_or_other k m P f g = by (m == k) refl
     where
       apart : (m == k) ≡ false → m ≡ k → ⊥
-      apart is = grind (arith, nat_tests)
+      apart fact = grind (arith, nat_tests)
 
       by : (b : Bool) → (m == k) ≡ b → P
-      by true is = f (eqb-true m k is)
-      by false is = g (apart is)
+      by true fact = f (eqb-true m k fact)
+      by false fact = g (apart fact)
 
   -- ---- one slot takes a step
 
   module _ (t : Table) (last : ℕ) (outs : List Effect) (so : Sofar t last outs) (k : ℕ) (within : k < length t) where
     pub slot_so : (q : Questions) → q.last ≡ last → SlotSo Named Came start (phase_at first k) (phase_at t k) q.last
-    slot_so q is = record {
-      fine = λ x at. subst (λ n. TakingFine Named n x) (sym is) (so.fine k x at);
+    slot_so q fact = record {
+      fine = λ x at. subst (λ n. TakingFine Named n x) (sym fact) (so.fine k x at);
       from = λ x at. so.from k x at;
     }
 
-    module _ (q : Questions) (is : q.last ≡ last) (d : takeovers.Done) (step : SlotStep Named Came start (phase_at first k) (phase_at t k) q d) where
+    module _ (q : Questions) (fact : q.last ≡ last) (d : takeovers.Done) (step : SlotStep Named Came start (phase_at first k) (phase_at t k) q d) where
       abbrev now : Table
       now = slice_set t k d.state.phase
 
@@ -122,7 +122,7 @@ module _ (Named : ℕ → Group → Type 0) (Came : ℕ → ℕ → Told → Typ
       own_apart y at m w e its same =
           ⊎_elim (λ none. none)
           (⊎_elim
-          (λ old. let none = so.apart k m old.0 w old.1 its (λ is. e (sym is)) (sym old.2 ∙ same) in old.2 ∙ none)
+          (λ old. let none = so.apart k m old.0 w old.1 its (λ fact. e (sym fact)) (sym old.2 ∙ same) in old.2 ∙ none)
           (λ new. absurd (let a = (so.fine m w its).number in omega arith))) (step.moved y at).number
 
       apart_now : AreApart now
@@ -157,7 +157,7 @@ module _ (Named : ℕ → Group → Type 0) (Came : ℕ → ℕ → Told → Typ
           → m.ask ≡ w.fetches.ask → ⊥
       not_theirs m f n w e its same =
           ⊎_elim
-          (λ old. let none = so.apart k n old.0 w old.1 its (λ is. e (sym is)) (sym old.2 ∙ same) in let a = old.2 in let b = old.3 in omega arith)
+          (λ old. let none = so.apart k n old.0 w old.1 its (λ fact. e (sym fact)) (sym old.2 ∙ same) in let a = old.2 in let b = old.3 in omega arith)
           (λ new. let a = (so.fine n w its).number in omega arith) f.number
 
       fetch_now : (m : Fetch) → StepFetch Named Came start (phase_at first k) (phase_at t k) q later d.state.phase m → FetchSo now later m
@@ -193,7 +193,7 @@ module _ (Named : ℕ → Group → Type 0) (Came : ℕ → ℕ → Told → Typ
   After outs d = Sofar d.state.table d.state.questions.last (outs ++ d.outs)
 
   pub same_outs : (t : Table) (last : ℕ) (outs more : List Effect) → outs ≡ more → Sofar t last outs → Sofar t last more
-  same_outs t last outs more is so = subst (Sofar t last) is so
+  same_outs t last outs more fact so = subst (Sofar t last) fact so
 
   module _ (a : TableAsker) (outs : List Effect) (so : Sofar a.table a.questions.last outs) (k : ℕ) where
     abbrev Stepping : (Asker → takeovers.Done) → Type 0
@@ -209,10 +209,10 @@ module _ (Named : ℕ → Group → Type 0) (Came : ℕ → ℕ → Told → Typ
     taken_turn event each = by (slice_get a.table k) refl
       where
         by : (o : Option SlotPhase) → slice_get a.table k ≡ o → Good (in_taken a k event o)
-        by None is = (same_outs a.table a.questions.last outs (outs ++ []) (sym (append-nil outs)) so, omega arith, omega arith)
-        by (Some p) is =
-            let same : phase_at a.table k ≡ p = ap (λ o. unwrap_or o (phase.Away 0)) is in
-            let within : k < length a.table = slice_get_within a.table k p is in
+        by None fact = (same_outs a.table a.questions.last outs (outs ++ []) (sym (append-nil outs)) so, omega arith, omega arith)
+        by (Some p) fact =
+            let same : phase_at a.table k ≡ p = ap (λ o. unwrap_or o (phase.Away 0)) fact in
+            let within : k < length a.table = slice_get_within a.table k p fact in
             let step : Stepping event = each (slot_so a.table a.questions.last outs so k within a.questions refl) in
             subst (λ (z : SlotPhase). Good (table.put_asker a k (event (asker z a.questions)))) same
             (stepped a.table a.questions.last outs so k within a.questions refl (event (asker (phase_at a.table k) a.questions)) step, step.up, step.few)
@@ -321,7 +321,7 @@ module _ (Named : ℕ → Group → Type 0) (Came : ℕ → ℕ → Told → Typ
 
   module _ (t u : Table) (last later : ℕ) (alike : Alike t u) (up : last ≤ later) where
     fetch_on : (m : Fetch) → FetchSo t last m → FetchSo u later m
-    fetch_on m f = record { upto = (let a = f.upto in omega arith); each = λ k x is. f.each k x (alike k x is) }
+    fetch_on m f = record { upto = (let a = f.upto in omega arith); each = λ k x fact. f.each k x (alike k x fact) }
 
     effect_on : (e : Effect) → DoneSo t last e → DoneSo u later e
     effect_on (Send to said) h = by said h
@@ -346,7 +346,7 @@ module _ (Named : ℕ → Group → Type 0) (Came : ℕ → ℕ → Told → Typ
     pub quiet_turn : (outs more : List Effect) → AllByRecursion IsQuiet more → Sofar t last outs → Sofar u later (outs ++ more)
     quiet_turn outs more quiet so = record {
       up = (let a = so.up in omega arith);
-      fine = λ k x is. let f = so.fine k x (alike k x is) in record {
+      fine = λ k x fact. let f = so.fine k x (alike k x fact) in record {
         groups = f.groups;
         own = f.own;
         number = (let a = f.number in omega arith);
@@ -355,7 +355,7 @@ module _ (Named : ℕ → Group → Type 0) (Came : ℕ → ℕ → Told → Typ
         is_out = f.is_out;
       };
       apart = λ k m x w at to other same. so.apart k m x w (alike k x at) (alike m w to) other same;
-      from = λ k x is. so.from k x (alike k x is);
+      from = λ k x fact. so.from k x (alike k x fact);
       does = all_append (DoneSo u later) outs more (all_weaker (DoneSo t last) (DoneSo u later) effect_on outs so.does)
           (all_weaker IsQuiet (DoneSo u later) quiet_so more quiet);
     }

@@ -210,13 +210,13 @@ module _ (Named : ℕ → Group → Type 0) where
     sought_turn x source same named calm = by (group_of x.groups source.seg.group) refl
       where
         by : (o : Option Group) → group_of x.groups source.seg.group ≡ o → Goes (sought_over x source o)
-        by None is = record { says = tt; reads = tt; calm = calm; groups = named; low = omega arith }
-        by (Some group) is =
+        by None fact = record { says = tt; reads = tt; calm = calm; groups = named; low = omega arith }
+        by (Some group) fact =
             let r : ReadingState = begun (target_of source) group (x.ask + 1) in
             asks_turn x source r same refl named calm
             (inr (inr (inr (record {
               group = group;
-              named = named source.seg.group group is;
+              named = named source.seg.group group fact;
               now = ap (λ (n : ℕ). begun (target_of source) group (n + 1)) same;
               fresh = fresh_round x source r same refl (all_asked r.round.servers);
             }))))
@@ -261,7 +261,7 @@ module _ (Named : ℕ → Group → Type 0) where
     step = answered first s.groups h
 
     calm : IsCalm given → (q : Present) × (s.present ≡ Some q)
-    calm is = (record { source = source; reading = Some first }, was)
+    calm fact = (record { source = source; reading = Some first }, was)
 
     abbrev takes : (n : Next) → step.next ≡ n → Takes s given source n
     takes n goes = record { reading = first; was = was; heard = h; gives = gives; goes = goes }
@@ -281,24 +281,24 @@ module _ (Named : ℕ → Group → Type 0) where
     again_turn goes ended = by step.state.stage refl ended
       where
         by : (at : readings.Stage) → step.state.stage ≡ at → IsEnded at → Goes s given (confirmed_by x source (goes_on step.state (s.ask + 1) at))
-        by stand.Asking is none = absurd none
-        by stand.Over is none = absurd none
-        by stand.Between is some =
+        by stand.Asking fact none = absurd none
+        by stand.Over fact none = absurd none
+        by stand.Between fact some =
             let r : ReadingState = (goes_on step.state (s.ask + 1) stand.Between).state in
             asks_turn s given x source r refl refl named calm
             (inr (inr (inl (record {
               takes = takes next.Again goes;
-              now = ap (λ st. (goes_on step.state (s.ask + 1) st).state) (sym is);
-              confirmed = ap (λ st. (goes_on step.state (s.ask + 1) st).next) is;
+              now = ap (λ st. (goes_on step.state (s.ask + 1) st).state) (sym fact);
+              confirmed = ap (λ st. (goes_on step.state (s.ask + 1) st).next) fact;
               fresh = fresh_round s given x source r refl refl (all_asked r.round.servers);
             }))))
-        by stand.Doubted is some = record {
+        by stand.Doubted fact some = record {
           says = (
             record {
               source = source;
               named = refl;
               takes = takes next.Again goes;
-              confirmed = ap (λ st. (goes_on step.state (s.ask + 1) st).next) is;
+              confirmed = ap (λ st. (goes_on step.state (s.ask + 1) st).next) fact;
             },
             tt,
           );
@@ -333,16 +333,16 @@ module _ (Named : ℕ → Group → Type 0) where
       where
         reading_became : (source : Source) (r : Option ReadingState)
             → Some (record { source = source; reading = r }) ≡ s.present → ReadingBecame s given after outs source r
-        reading_became source None is = tt
-        reading_became source (Some r) is = inl (record { was = sym is; counted = counted })
+        reading_became source None fact = tt
+        reading_became source (Some r) fact = inl (record { was = sym fact; counted = counted })
 
         became : (o : Option Present) → o ≡ s.present → PresentBecame s given after outs o
-        became None is = tt
-        became (Some p) is = reading_became p.source p.reading is
+        became None fact = tt
+        became (Some p) fact = reading_became p.source p.reading fact
 
         calm : (o : Option Present) → o ≡ s.present → CalmSo s given o
-        calm None is = tt
-        calm (Some p) is = λ calmly. (p, sym is)
+        calm None fact = tt
+        calm (Some p) fact = λ calmly. (p, sym fact)
 
     told_turn : (h : Heard) → heard_in given ≡ Some h → Goes s given (on_told s h.own h.server h.told)
     unfolding on_told
@@ -352,18 +352,18 @@ module _ (Named : ℕ → Group → Type 0) where
       where
         by_reading : (p : Present) (r : Option ReadingState) → s.present ≡ Some (record { source = p.source; reading = r })
             → Goes s given (told_in (record s { present = None }) p.source r h.own h.server h.told)
-        by_reading p None is = record {
+        by_reading p None fact = record {
           says = tt;
           reads = tt;
-          calm = λ calmly. (record { source = p.source; reading = None }, is);
+          calm = λ calmly. (record { source = p.source; reading = None }, fact);
           groups = named;
           low = omega arith;
         }
-        by_reading p (Some r) is = answer_turn s given h gives named p.source r is
+        by_reading p (Some r) fact = answer_turn s given h gives named p.source r fact
 
         by : (o : Option Present) → s.present ≡ o → Goes s given (told_at (record s { present = None }) o h.own h.server h.told)
-        by None is = record { says = tt; reads = tt; calm = tt; groups = named; low = omega arith }
-        by (Some p) is = by_reading p p.reading is
+        by None fact = record { says = tt; reads = tt; calm = tt; groups = named; low = omega arith }
+        by (Some p) fact = by_reading p p.reading fact
 
   -- ---- reports
 
@@ -392,14 +392,14 @@ module _ (Named : ℕ → Group → Type 0) where
 
       by_reading : (p : Present) (r : Option ReadingState) → s.present ≡ Some p
           → Goes s (input.Maps groups) (sought_again (record s { groups = groups }) (waits_in p.source r))
-      by_reading p None is =
+      by_reading p None fact =
           by_test (Goes s (input.Maps groups)) (can_ask s) (sought with_groups p.source) (still with_groups)
-          (λ _. sought_turn s (input.Maps groups) with_groups p.source refl new (λ calmly. (p, is))) (λ _. kept)
-      by_reading p (Some r) is = kept
+          (λ _. sought_turn s (input.Maps groups) with_groups p.source refl new (λ calmly. (p, fact))) (λ _. kept)
+      by_reading p (Some r) fact = kept
 
       by : (o : Option Present) → s.present ≡ o → Goes s (input.Maps groups) (sought_again (record s { groups = groups }) (waiting o))
-      by None is = kept
-      by (Some p) is = by_reading p p.reading is
+      by None fact = kept
+      by (Some p) fact = by_reading p p.reading fact
 
   -- what is asked again
   again_says : (s : TakeState) (given : In) (o : Option Present) → s.present ≡ o → AllByRecursion (Says s given s) (repeated o)
@@ -407,14 +407,14 @@ module _ (Named : ℕ → Group → Type 0) where
   again_says s given (Some p) at = by p.reading refl
     where
       asks_it : (r : ReadingState) → p.reading ≡ Some r → (r.round.servers ≡ [] → ⊥) → AsksFor s.present p.source.seg.name r.ask
-      asks_it r is some =
+      asks_it r fact some =
           subst (λ o. AsksFor o p.source.seg.name r.ask) (sym at)
-          (subst (λ o. AsksAs p.source.seg.name o p.source.seg.name r.ask) (sym is) (refl, (refl, some)))
+          (subst (λ o. AsksAs p.source.seg.name o p.source.seg.name r.ask) (sym fact) (refl, (refl, some)))
 
       by : (o : Option ReadingState) → p.reading ≡ o → AllByRecursion (Says s given s) (asked_again p.source o)
-      by None is = tt
-      by (Some r) is =
-          fetch_each (Says s given s) p.source.seg.name r.ask (to_ask r) (λ some v. asks_it r is (λ none. some (to_ask_none r none)))
+      by None fact = tt
+      by (Some r) fact =
+          fetch_each (Says s given s) p.source.seg.name r.ask (to_ask r) (λ some v. asks_it r fact (λ none. some (to_ask_none r none)))
 
   pub tick_turn : (s : TakeState) → MapNamed s.groups → Turn s input.Tick s (on_tick s)
   tick_turn s named = rests s input.Tick named s refl refl named (on_tick s)
@@ -430,10 +430,10 @@ module _ (Named : ℕ → Group → Type 0) where
   -- ---- all inputs
 
   pub take_turn : (s : TakeState) (given : In) → InputNamed given → MapNamed s.groups → Turn s given (transition s given).state (transition s given).outs
-  take_turn s (input.Report from held end) is named = report_turn s (record { from = from; held = held; end = end }) named
-  take_turn s (input.Got own server generation fragment) is named =
+  take_turn s (input.Report from held end) fact named = report_turn s (record { from = from; held = held; end = end }) named
+  take_turn s (input.Got own server generation fragment) fact named =
       told_turn s (input.Got own server generation fragment) named (record { own = own; server = server; told = told.Held fragment }) refl
-  take_turn s (input.Missing own server generation) is named =
+  take_turn s (input.Missing own server generation) fact named =
       told_turn s (input.Missing own server generation) named (record { own = own; server = server; told = told.Missing generation }) refl
-  take_turn s (input.Maps groups) is named = maps_turn s groups is named
-  take_turn s input.Tick is named = tick_turn s named
+  take_turn s (input.Maps groups) fact named = maps_turn s groups fact named
+  take_turn s input.Tick fact named = tick_turn s named

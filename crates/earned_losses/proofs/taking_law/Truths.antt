@@ -50,18 +50,18 @@ unfolding on_answer
 nothing_ends r groups ask server t none =
     by_test (λ (s : Step). s.next ≡ next.Again → ⊥) (counts r ask server t)
     (judged (record r { round = taken r.round server t }) groups (state_of (taken r.round server t)))
-    (record { state = r; next = next.Wait }) (λ is _. nobody (asked is)) (λ _ e. absurd (waits e))
+    (record { state = r; next = next.Wait }) (λ fact _. nobody (asked fact)) (λ _ e. absurd (waits e))
   where
     waits : next.Wait ≡ next.Again → ⊥
     waits e = cc
 
     asked : counts r ask server t ≡ true → asks r.round server ≡ true
-    asked is =
+    asked fact =
         and_second (is_asking r.stage && (ask == r.ask)) (asks r.round server)
-        (and_first ((is_asking r.stage && (ask == r.ask)) && asks r.round server) (name_fits r.target t && told_fits r.round t) is)
+        (and_first ((is_asking r.stage && (ask == r.ask)) && asks r.round server) (name_fits r.target t && told_fits r.round t) fact)
 
     nobody : asks r.round server ≡ true → ⊥
-    nobody is = contrary (sym (ap (list_any (λ s. s == server)) none) ∙ is)
+    nobody fact = contrary (sym (ap (list_any (λ s. s == server)) none) ∙ fact)
 
 servers-goes_on : (r : ReadingState) (ask : ℕ) (stage : readings.Stage) → (goes_on r ask stage).state.round.servers ≡ r.round.servers
 servers-goes_on r ask stand.Asking = refl
@@ -75,10 +75,10 @@ unfolding on_confirmed
 is_between r ask = by r.stage
   where
     by : (stage : readings.Stage) → (goes_on r ask stage).next ≡ next.Ask → stage ≡ stand.Between
-    by stand.Asking is = absurd cc
-    by stand.Between is = refl
-    by stand.Doubted is = absurd cc
-    by stand.Over is = absurd cc
+    by stand.Asking fact = absurd cc
+    by stand.Between fact = refl
+    by stand.Doubted fact = absurd cc
+    by stand.Over fact = absurd cc
 
 -- ---- what is read
 
@@ -276,7 +276,7 @@ module _ (e : Estate AnyNode) (j : ℕ) where
             ⊎_elim (λ none. absurd (nothing_ends t.reading x.take.groups t.heard.own t.heard.server t.heard.told none t.goes))
             (λ k.
             let between : a.stage ≡ stand.Between = is_between a (x.take.ask + 1) w.confirmed in
-            let so = confirmed_true e (Manager j) run k.span.since count x.fetches.ask a k.so (x.take.ask + 1) y.fetches.ask (λ is. w.number) in
+            let so = confirmed_true e (Manager j) run k.span.since count x.fetches.ask a k.so (x.take.ask + 1) y.fetches.ask (λ fact. w.number) in
             let same : r.target ≡ t.reading.target =
             ap (λ (z : ReadingState). z.target) w.now ∙ (target-on_confirmed a (x.take.ask + 1)
             ∙ target-on_answer t.reading x.take.groups t.heard.own t.heard.server t.heard.told) in

@@ -40,8 +40,8 @@ use Rattle.earned_losses.proofs.torn_law.Drawn.{FetchesDrawn}
 
 -- what begins serves
 none_opens : (g : Setting) (m : GroupMapState) (n : Net) (run : Runs g (opening g m) n) → IsBegun run → (s : ScanState) → n.owner ≡ Opening s → ⊥
-none_opens g m n Begun begun s is = cc
-none_opens g m n (On run happens) begun s is = absurd begun
+none_opens g m n Begun begun s fact = cc
+none_opens g m n (On run happens) begun s fact = absurd begun
 
 module _ (base : Setting) (e : Estate AnyNode) (run : IsRun any_step any_start e.script e.events e.world) (lines : HasLines base e) (r : Role)
     (is_there : IsThere e.script.setup.clients e.script.setup.managers r) (keeps : renews r ≡ false) (fetches : (count : ℕ) → FetchesDrawn e r count) where
@@ -60,10 +60,10 @@ module _ (base : Setting) (e : Estate AnyNode) (run : IsRun any_step any_start e
   first_good : Known 0
   first_good = record {
     answered = λ p m v among. absurd (subst (In p) none_sent among);
-    truths = λ s is. absurd
+    truths = λ s fact. absurd
         (none_opens (setting base e r) (((lines r is_there).stands 0).moment).map (net base e lines r is_there keeps 0)
         (((lines r is_there).stands 0).moment).run
-        (lines r is_there).begins s.scan (node_at base e lines r is_there keeps 0 s is).scans.sees.owner);
+        (lines r is_there).begins s.scan (node_at base e lines r is_there keeps 0 s fact).scans.sees.owner);
   }
 
   -- ---- an event
@@ -75,7 +75,7 @@ module _ (base : Setting) (e : Estate AnyNode) (run : IsRun any_step any_start e
         aside_good base e lines r is_there keeps count [] (sent ∙ sym (append-nil (moment e count).sent)) good
         (ap (λ ns. node_in ns (place_of k_of (owner_by r))) nodes) (λ p late from. absurd late) (λ p m v late from to tells. absurd late)
 
-    module _ (event : Event) (is : slice_get e.events count ≡ Some event)
+    module _ (event : Event) (fact : slice_get e.events count ≡ Some event)
         (t : TurnAt (moment e count) event (moment e (suc count)).nodes (moment e (suc count)).sent (moment e (suc count)).acts) where
       abbrev w : World AnyNode
       w = moment e count
@@ -107,7 +107,7 @@ module _ (base : Setting) (e : Estate AnyNode) (run : IsRun any_step any_start e
             let a : Answers node (what_of event) p.to m = subst (MissingSo node (what_of event) p.to) tells so in
             record {
               packet = a.packet;
-              among = (brought w event (may_happen e run count event is) a.packet a.delivers).0;
+              among = (brought w event (may_happen e run count event fact) a.packet a.delivers).0;
               asker = a.asker ∙ to;
               fetch = a.fetch;
               asks = a.asks;
@@ -142,7 +142,7 @@ module _ (base : Setting) (e : Estate AnyNode) (run : IsRun any_step any_start e
           ∙ subst (λ n. node_in (slice_set w.nodes t.place (any_step t.node (what_of event)).node) (place_of k_of n) ≡ Some
           (any_step t.node (what_of event)).node)
           (sym same) (here k_of w.nodes (node_of event) t.place placed (any_step t.node (what_of event)).node t.node t.stands))
-          (λ p brings. let b = brought w event (may_happen e run count event is) p brings in (b.0, b.1 ∙ sym same))
+          (λ p brings. let b = brought w event (may_happen e run count event fact) p brings in (b.0, b.1 ∙ sym same))
           (λ p late. its_own p late ∙ sym same)
 
       turn_good : Known (suc count)
@@ -152,16 +152,16 @@ module _ (base : Setting) (e : Estate AnyNode) (run : IsRun any_step any_start e
     pub became : (event : Event) → slice_get e.events count ≡ Some event
         → Still (moment e count) (moment e (suc count)).nodes (moment e (suc count)).sent (moment e (suc count)).acts
         ⊎ TurnAt (moment e count) event (moment e (suc count)).nodes (moment e (suc count)).sent (moment e (suc count)).acts
-    became event is =
+    became event fact =
         subst (λ (v : World AnyNode). Still (moment e count) v.nodes v.sent v.acts ⊎ TurnAt (moment e count) event v.nodes v.sent v.acts)
-        (sym (moment_next e count event is)) (happened_so (moment e count) event)
+        (sym (moment_next e count event fact)) (happened_so (moment e count) event)
 
     next_good : Known (suc count)
     next_good = by (slice_get e.events count) refl
       where
         by : (o : Option Event) → slice_get e.events count ≡ o → Known (suc count)
-        by None is = rests (ap (λ (v : World AnyNode). v.nodes) (moment_ended e count is)) (ap (λ (v : World AnyNode). v.sent) (moment_ended e count is))
-        by (Some event) is = ⊎_elim (λ still. rests still.nodes_are still.sent_are) (turn_good event is) (became event is)
+        by None fact = rests (ap (λ (v : World AnyNode). v.nodes) (moment_ended e count fact)) (ap (λ (v : World AnyNode). v.sent) (moment_ended e count fact))
+        by (Some event) fact = ⊎_elim (λ still. rests still.nodes_are still.sent_are) (turn_good event fact) (became event fact)
 
   pub all_good : (count : ℕ) → Known count
   all_good zero = first_good

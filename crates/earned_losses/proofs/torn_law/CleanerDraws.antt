@@ -67,8 +67,8 @@ moved_so last None h = tt
 moved_so last (Some job) h = by job.hand h
   where
     by : (hand : Option Hand) → HandUp last hand → HandUp last (hand_moved hand)
-    by None is = tt
-    by (Some hand) is = is
+    by None fact = tt
+    by (Some hand) fact = fact
 
 settles_so : (e : Emptying) (end : End) (rows : List (BlockId × Entry)) → At e → Goes (last_in e) (settles e end rows)
 unfolding settles

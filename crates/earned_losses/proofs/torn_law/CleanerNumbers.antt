@@ -128,14 +128,14 @@ checked_so e (Some job) block held h = by job.hand held
     by_ask : (hand : Hand) → ReadsUpTo (last_in e) hand.reading → (ask : Option ℕ)
         → Kept (last_in e) (with_job e (checks_under hand e.lasting.questions block ask).questions
         (record job { hand = Some (checks_under hand e.lasting.questions block ask).hand }))
-    by_ask hand is None =
-        record { up = last_up (last_in e); reads = reads_more (last_in e) (drawn e.lasting.questions).last (last_up (last_in e)) hand.reading is }
-    by_ask hand is (Some ask) = record { up = omega arith; reads = is }
+    by_ask hand fact None =
+        record { up = last_up (last_in e); reads = reads_more (last_in e) (drawn e.lasting.questions).last (last_up (last_in e)) hand.reading fact }
+    by_ask hand fact (Some ask) = record { up = omega arith; reads = fact }
 
     by : (hand : Option Hand) → HandUp (last_in e) hand
         → Kept (last_in e) (with_job e (hand_checks_in job e.lasting.questions hand block).questions (hand_checks_in job e.lasting.questions hand block).job)
-    by None is = record { up = omega arith; reads = held }
-    by (Some hand) is = by_ask hand is (kept_ask hand block)
+    by None fact = record { up = omega arith; reads = held }
+    by (Some hand) fact = by_ask hand fact (kept_ask hand block)
 
 check_said : (last : ℕ) (e : Emptying) (block : BlockId) (place : Place) (ask : Option ℕ) → Kept last e → Goes last (check_sent e block place ask)
 check_said last e block place None k = record { up = k.up; reads = k.reads; does = tt }
@@ -153,8 +153,8 @@ fetched_so last None h = tt
 fetched_so last (Some hand) h = by hand.reading h
   where
     by : (r : Option ReadingState) → ReadsUpTo last r → AllUpTo last (fetches_for hand.seg.name r)
-    by None is = tt
-    by (Some r) is = all_map (UpTo last) (fetch hand.seg.name r.ask) (λ server. is) (to_ask r)
+    by None fact = tt
+    by (Some r) fact = all_map (UpTo last) (fetch hand.seg.name r.ask) (λ server. fact) (to_ask r)
 
 record TakenUp (last : ℕ) (t : Taken) : Type 0 where
   up : last ≤ t.questions.last
@@ -302,8 +302,8 @@ confirmed_up last r ask Over small new = small
 hand_confirmed_up : (last : ℕ) (hand : Hand) (r : Option ReadingState) (ask : ℕ) → ReadsUpTo last hand.reading → ReadsUpTo last r → ask ≤ last
     → HandUp last (Some (confirmed_by hand r ask).state)
 unfolding on_confirmed
-hand_confirmed_up last hand None ask held is new = held
-hand_confirmed_up last hand (Some r) ask held is new = confirmed_up last r ask r.stage is new
+hand_confirmed_up last hand None ask held fact new = held
+hand_confirmed_up last hand (Some r) ask held fact new = confirmed_up last r ask r.stage fact new
 
 confirmed_so : (e : Emptying) (job : Option Job) (ask : ℕ) → HandUp (last_in e) (hand_of job) → ask ≤ last_in e → At e
     → Kept (last_in e) (confirmed_in e job ask).state
@@ -312,8 +312,8 @@ confirmed_so e None ask held new h = record { up = omega arith; reads = h }
 confirmed_so e (Some job) ask held new h = record { up = omega arith; reads = by job.hand held }
   where
     by : (hand : Option Hand) → HandUp (last_in e) hand → HandUp (last_in e) (hand_confirmed_in job hand ask).state.hand
-    by None is = held
-    by (Some hand) is = hand_confirmed_up (last_in e) hand hand.reading ask is is new
+    by None fact = held
+    by (Some hand) fact = hand_confirmed_up (last_in e) hand hand.reading ask fact fact new
 
 after_confirmed_so : (last : ℕ) (e : Emptying) (x : Next) → Kept last e → Goes last (after_confirmed e x)
 after_confirmed_so last e next.Ask k = record { up = k.up; reads = k.reads; does = fetched_so (last_in e) (hand_of e.job) k.reads }
@@ -341,8 +341,8 @@ after_told_so last e next.Lost k = lower last (last_in e) (ends_reading e None) 
 
 hears_up : (last : ℕ) (hand : Hand) (r : Option ReadingState) (groups : GroupMapState) (ask server : ℕ) (t : Answered) → ReadsUpTo last hand.reading
     → ReadsUpTo last r → HandUp last (Some (hears_by hand r groups ask server t).state)
-hears_up last hand None groups ask server t held is = held
-hears_up last hand (Some r) groups ask server t held is = (let x = answer_ask r groups ask server t in omega arith)
+hears_up last hand None groups ask server t held fact = held
+hears_up last hand (Some r) groups ask server t held fact = (let x = answer_ask r groups ask server t in omega arith)
 
 told_so : (e : Emptying) (job : Option Job) (groups : Option GroupMapState) (ask server : ℕ) (t : Answered) → HandUp (last_in e) (hand_of job) → At e
     → Kept (last_in e) (told_in e job groups ask server t).state
@@ -352,8 +352,8 @@ told_so e (Some job) None ask server t held h = record { up = omega arith; reads
 told_so e (Some job) (Some groups) ask server t held h = record { up = omega arith; reads = by job.hand held }
   where
     by : (hand : Option Hand) → HandUp (last_in e) hand → HandUp (last_in e) (hand_hears_in job hand groups ask server t).state.hand
-    by None is = held
-    by (Some hand) is = hears_up (last_in e) hand hand.reading groups ask server t is is
+    by None fact = held
+    by (Some hand) fact = hears_up (last_in e) hand hand.reading groups ask server t fact fact
 
 pub told_came : (e : Emptying) (server : Option ℕ) (ask : ℕ) (t : Answered) → At e → Goes (last_in e) (on_told e server ask t)
 unfolding on_told told_by

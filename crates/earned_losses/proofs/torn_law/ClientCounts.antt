@@ -185,19 +185,19 @@ module _ (base : Setting) (e : Estate AnyNode) (lines : HasLines base e) (c : �
   became : (count : ℕ) (event : Event) → slice_get e.events count ≡ Some event
       → Still (moment e count) (moment e (suc count)).nodes (moment e (suc count)).sent (moment e (suc count)).acts
       ⊎ TurnAt (moment e count) event (moment e (suc count)).nodes (moment e (suc count)).sent (moment e (suc count)).acts
-  became count event is =
+  became count event fact =
       subst (λ (v : World AnyNode). Still (moment e count) v.nodes v.sent v.acts ⊎ TurnAt (moment e count) event v.nodes v.sent v.acts)
-      (sym (moment_next e count event is)) (happened_so (moment e count) event)
+      (sym (moment_next e count event fact)) (happened_so (moment e count) event)
 
   next_good : (count : ℕ) → Good count → Good (suc count)
   next_good count good = by (slice_get e.events count) refl
     where
       by : (o : Option Event) → slice_get e.events count ≡ o → Good (suc count)
-      by None is = rests count good (ap (λ (v : World AnyNode). v.nodes) (moment_ended e count is))
-          (ap (λ (v : World AnyNode). v.sent) (moment_ended e count is))
-      by (Some event) is =
+      by None fact = rests count good (ap (λ (v : World AnyNode). v.nodes) (moment_ended e count fact))
+          (ap (λ (v : World AnyNode). v.sent) (moment_ended e count fact))
+      by (Some event) fact =
           ⊎_elim (λ still. rests count good still.nodes_are still.sent_are)
-          (λ t. ⊎_elim (own_turn count good event t) (other_turn count good event t) (same_or_other (names.Client c) (node_of event))) (became count event is)
+          (λ t. ⊎_elim (own_turn count good event t) (other_turn count good event t) (same_or_other (names.Client c) (node_of event))) (became count event fact)
 
   none_sent : Sent 0 ≡ []
   unfolding start_world
@@ -240,8 +240,8 @@ module _ (base : Setting) (e : Estate AnyNode) (lines : HasLines base e) (c : �
       same_nodes nodes = still_up count (ap (λ ns. node_in ns (place_of k_of (names.Client c))) nodes)
 
       by : (o : Option Event) → slice_get e.events count ≡ o → last_of (Here count) ≤ last_of (Here (suc count))
-      by None is = same_nodes (ap (λ (v : World AnyNode). v.nodes) (moment_ended e count is))
-      by (Some event) is =
+      by None fact = same_nodes (ap (λ (v : World AnyNode). v.nodes) (moment_ended e count fact))
+      by (Some event) fact =
           ⊎_elim (λ still. same_nodes still.nodes_are)
           (λ t. ⊎_elim (own_up count (all_good count) event t) (λ differs. still_up count (stands_there count (all_good count) event t differs))
-          (same_or_other (names.Client c) (node_of event))) (became count event is)
+          (same_or_other (names.Client c) (node_of event))) (became count event fact)

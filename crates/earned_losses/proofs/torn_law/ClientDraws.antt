@@ -10,8 +10,8 @@ use Rattle.client_parts.specs.Calls.{call_of, file_call, may_make}
 use Rattle.client_parts.specs.declared.call.Going.{Going}
 use Rattle.client_parts.specs.declared.lasting.Lasting.{Lasting}
 use Rattle.client_serving.specs.declared.serving.Serving.{Serving}
-use Rattle.client_serving.specs.Opens.{begins_call, call_at, opens}
-use Rattle.client_serving.specs.Running.{goes_on, runs}
+use Rattle.client_calls.specs.Opens.{begins_call, call_at, opens}
+use Rattle.client_calls.specs.Running.{goes_on, runs}
 use Rattle.client_serving.specs.Sends.{Done, gives}
 use Rattle.file_plan.specs.Plan as plans
 use Rattle.version_model.specs.declared.file_call.FileCall.{FileCall}
@@ -111,10 +111,10 @@ AnyGoing last None = Unit {0}
 AnyGoing last (Some x) = GoingSo last x
 
 begins_up : (s : Serving) (number : ℕ) (going : Option Going) → AnyGoing (last_in s) going → At s → Goes (last_in s) (begins_call s number going)
-begins_up s number None is h = says s (Answer number answer.Done ∷ []) h (tt, tt)
-begins_up s number (Some x) is h =
+begins_up s number None fact h = says s (Answer number answer.Done ∷ []) h (tt, tt)
+begins_up s number (Some x) fact h =
     let t : Serving = record s { lasting = record s.lasting { items = waiting s.lasting.items number } } in
-    let a : Goes (last_in s) (goes_on t x) = goes_on_so t x is h in
+    let a : Goes (last_in s) (goes_on t x) = goes_on_so t x fact h in
     then_goes (last_in s) (goes_on t x) (runs (goes_on t x).state) a (runs_so (goes_on t x).state a.reads)
 
 file_up : (last : ℕ) (call : FileCall) (number self : ℕ) → AnyGoing last (file_call call number self)

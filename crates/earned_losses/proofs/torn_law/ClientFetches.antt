@@ -176,15 +176,15 @@ stored_none highest (log_out.Settled end rows) = tt
 -- ---- the reading of the open call
 
 call_so : (last : ℕ) (call : Option Call) (r : Option ReadingState) → ReadsUpTo last r → ReadsUpTo last (reading_in (call_with call r))
-call_so last None r is = tt
-call_so last (Some call) r is = is
+call_so last None r fact = tt
+call_so last (Some call) r fact = fact
 
 kept_so : (last : ℕ) (tokens : TokensState) (r : Option ReadingState) → ReadsUpTo last r → ReadsUpTo last (kept_while tokens r)
-kept_so last tokens None is = tt
-kept_so last tokens (Some r) is = by_test (ReadsUpTo last) (is_fetched tokens r.target.block) (Some r) None (λ _. is) (λ _. tt)
+kept_so last tokens None fact = tt
+kept_so last tokens (Some r) fact = by_test (ReadsUpTo last) (is_fetched tokens r.target.block) (Some r) None (λ _. fact) (λ _. tt)
 
 pub read_so : (s : Serving) (r : Option ReadingState) → ReadsUpTo (last_in s) r → At (with_reading s r)
-read_so s r is = call_so (last_in s) s.call r is
+read_so s r fact = call_so (last_in s) s.call r fact
 
 pub ends_so : (s : Serving) → At s → At (ends_reading s)
 ends_so s h = read_so s (kept_while s.tokens (reading_in s.call)) (kept_so (last_in s) s.tokens (reading_in s.call) h)

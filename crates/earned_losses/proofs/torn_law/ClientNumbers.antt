@@ -13,7 +13,7 @@ use Rattle.client_parts.specs.declared.call.Going.TheVariants.{On, Ends}
 use Rattle.client_parts.specs.declared.call.Going.{Going}
 use Rattle.client_parts.specs.declared.call.Plan.TheVariants.{One, File}
 use Rattle.client_parts.specs.declared.call.Plan.{Plan}
-use Rattle.client_serving.specs.Blocks.{Made, needs, got, gets, wrote, changes, held_back, changes_if_fits, puts, lets_go, changed, puts_again, puts_at, is_settled, synced_acts, syncs, makes}
+use Rattle.client_calls.specs.Blocks.{Made, needs, got, gets, wrote, changes, held_back, changes_if_fits, puts, lets_go, changed, puts_again, puts_at, is_settled, synced_acts, syncs, makes}
 use Rattle.client_serving.specs.declared.serving.Serving.{Serving}
 use Rattle.file_plan.specs.declared.block_call.BlockAnswer.{BlockAnswer}
 use Rattle.file_plan.specs.declared.block_call.Next.{Next as Planned}
@@ -30,7 +30,7 @@ use Rattle.client_serving.specs.Flights.{held_at, notes_settled, keeps_clean, gi
 use Rattle.client_serving.specs.Follow.{notes_clean, notes_gone, seals, follows, hands, takes_back}
 use Rattle.client_serving.specs.Packets.{on_grant, on_supply, on_forward, again, says_again, on_recall, is_gone, on_gone, is_acked, on_ack, ends_fetch, told_at, told_by, on_told, renews, promises, reports, may_report, polled, on_poll, promised_in, is_news, hears, regroups, takes_news, on_news, on_welcome, on_tick, on_body, asks_for_maps, on_packet}
 use Rattle.client_serving.specs.Reads.{with_reading, loses}
-use Rattle.client_serving.specs.Running.{goes_on, Ran, answers_call, ran, runs_call, runs_once, runs_upto, runs, most_steps}
+use Rattle.client_calls.specs.Running.{goes_on, Ran, answers_call, ran, runs_call, runs_once, runs_upto, runs, most_steps}
 use Rattle.client_serving.specs.Sends.{Done, gives, report}
 use Rattle.delta_feed.specs.Transition.{acknowledged, new_epoch}
 use Rattle.file_plan.specs.declared.block_call.BlockAnswer.{BlockAnswer}
@@ -239,8 +239,8 @@ next_so last (File p) a = going_on last (plans.after_answer p a) (plans.next_cal
 
 pub goes_on_so : (s : Serving) (going : Going) → GoingSo (last_in s) going → At s → Goes (last_in s) (goes_on s going)
 unfolding goes_on
-goes_on_so s (On call) is h = rests (last_in s) (record s { call = Some call }) (record { same = refl; reads = is })
-goes_on_so s (Ends a) is h =
+goes_on_so s (On call) fact h = rests (last_in s) (record s { call = Some call }) (record { same = refl; reads = fact })
+goes_on_so s (Ends a) fact h =
     record { up = omega arith; reads = h; does = answered_none s.lasting.items.unanswered a (last_in s) }
 
 RanSo : ℕ → Ran → Type 0
@@ -252,20 +252,20 @@ reads_more a b less (Some r) h = omega arith
 
 answers_call_so : (s : Serving) (call : Call) (a : Option BlockAnswer) → ReadsUpTo (last_in s) call.reading → At s → RanSo (last_in s) (answers_call s call a)
 unfolding RanSo
-answers_call_so s call None is h = rests (last_in s) (record s { call = Some call }) (record { same = refl; reads = is })
-answers_call_so s call (Some a) is h = goes_on_so s (after_answer call.plan a) (next_so (last_in s) call.plan a) h
+answers_call_so s call None fact h = rests (last_in s) (record s { call = Some call }) (record { same = refl; reads = fact })
+answers_call_so s call (Some a) fact h = goes_on_so s (after_answer call.plan a) (next_so (last_in s) call.plan a) h
 
 ran_so : (last : ℕ) (call : Call) (made : Made) → ReadsUpTo last call.reading → Goes last made.done → RanSo last (ran call made)
 unfolding RanSo
-ran_so last call made is a =
+ran_so last call made fact a =
     then_goes last made.done (answers_call made.done.state call made.answer).done a
-    (answers_call_so made.done.state call made.answer (reads_more last (last_in made.done.state) a.up call.reading is) a.reads)
+    (answers_call_so made.done.state call made.answer (reads_more last (last_in made.done.state) a.up call.reading fact) a.reads)
 
 runs_call_so : (s : Serving) (call : Option Call) → ReadsUpTo (last_in s) (reading_in call) → At s → RanSo (last_in s) (runs_call s call)
 unfolding RanSo MadeSo
-runs_call_so s None is h = still_so s h
-runs_call_so s (Some call) is h =
-    ran_so (last_in s) call (makes (record s { call = None }) call.step) is (makes_so (record s { call = None }) call.step tt)
+runs_call_so s None fact h = still_so s h
+runs_call_so s (Some call) fact h =
+    ran_so (last_in s) call (makes (record s { call = None }) call.step) fact (makes_so (record s { call = None }) call.step tt)
 
 runs_once_so : (s : Serving) → At s → RanSo (last_in s) (runs_once s)
 unfolding runs_once
@@ -366,13 +366,13 @@ answer_ask r groups ask server t =
 
 heard_so : (last : ℕ) (r : Option ReadingState) (groups : Option GroupMapState) (ask server : ℕ) (t : Answered) → ReadsUpTo last r
     → ReadsUpTo last (heard r groups ask server t).reading
-heard_so last None groups ask server t is = tt
-heard_so last (Some r) None ask server t is = is
-heard_so last (Some r) (Some groups) ask server t is = (let e = answer_ask r groups ask server t in omega arith)
+heard_so last None groups ask server t fact = tt
+heard_so last (Some r) None ask server t fact = fact
+heard_so last (Some r) (Some groups) ask server t fact = (let e = answer_ask r groups ask server t in omega arith)
 
 told_at_so : (s : Serving) (at : Option BlockAt) (x : Heard) → ReadsUpTo (last_in s) x.reading → At s → Goes (last_in s) (told_at s at x)
-told_at_so s None x is h = still_so s h
-told_at_so s (Some at) x is h = ends_fetch_so (with_reading s x.reading) at x.next (read_so s x.reading is)
+told_at_so s None x fact h = still_so s h
+told_at_so s (Some at) x fact h = ends_fetch_so (with_reading s x.reading) at x.next (read_so s x.reading fact)
 
 on_told_so : (s : Serving) (from : NodeId) (ask : ℕ) (t : Answered) → At s → Goes (last_in s) (on_told s from ask t)
 unfolding told_by

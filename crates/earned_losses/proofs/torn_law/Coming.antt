@@ -85,8 +85,8 @@ module _ (g : Setting) (w : Scene) (owner : NodeId) where
       (seen : BodySeen g asks w.net packet.from owner packet.body) where
     welcome_came : (own : ℕ) (m : Welcome) → packet.body ≡ body.Welcome m → is_meant k m ≡ true → own_of s.asked m.ask ≡ Some own
         → In (WelcomeSent w.net.inc own m.news.slots m.news.groups) w.net.sent
-    welcome_came own m is meant own_is =
-        let hears : WelcomeSeen g asks w.net owner m = subst (λ b. BodySeen g asks w.net packet.from owner b) is seen in
+    welcome_came own m fact meant own_is =
+        let hears : WelcomeSeen g asks w.net owner m = subst (λ b. BodySeen g asks w.net packet.from owner b) fact seen in
         let p : OwnParts s.asked m.ask own = own_parts s.asked m.ask own own_is in
         let answered : AnsweredBy g asks w.net m (w.asked s.asked.ask) =
         subst (λ n. AnsweredBy g asks w.net m (w.asked n)) p.ask_is (hears.own refl) in
@@ -100,10 +100,10 @@ module _ (g : Setting) (w : Scene) (owner : NodeId) where
 
     map_came : (m : Welcome) (groups : GroupMapState) → packet.body ≡ body.Welcome m → (groups ≡ m.news.groups) ⊎ (k.maps.groups ≡ Some groups)
         → In (MapSent groups) w.net.sent
-    map_came m groups is (inl e) =
-        let hears : WelcomeSeen g asks w.net owner m = subst (λ b. BodySeen g asks w.net packet.from owner b) is seen in
+    map_came m groups fact (inl e) =
+        let hears : WelcomeSeen g asks w.net owner m = subst (λ b. BodySeen g asks w.net packet.from owner b) fact seen in
         subst (λ x. In (MapSent x) w.net.sent) (sym e) hears.map
-    map_came m groups is (inr e) = subst (MapCame g c w) e sees.came
+    map_came m groups fact (inr e) = subst (MapCame g c w) e sees.came
 
     came_so : (i : Input) → CameBy k s packet i → CameToScan g w.net i
     came_so (input.Welcome own news groups) (m, by, same) = (
@@ -121,12 +121,12 @@ module _ (g : Setting) (w : Scene) (owner : NodeId) where
         subst (λ x. In (FencedSent server w.net.inc x held) w.net.sent) (sym same)
         (subst (λ x. In (FencedSent server w.net.inc m.generation x) w.net.sent) (sym list)
         (subst (λ n. In (FencedSent server n m.generation m.held) w.net.sent) boot (says of_it)))
-    came_so (input.Got own server generation fragment) (m, is, same) =
-        let hears : FragmentSeen g asks w.net m = subst (λ b. BodySeen g asks w.net packet.from owner b) is seen in
+    came_so (input.Got own server generation fragment) (m, fact, same) =
+        let hears : FragmentSeen g asks w.net m = subst (λ b. BodySeen g asks w.net packet.from owner b) fact seen in
         λ of. subst (λ f. In (FragmentSent f) w.net.sent) (sym same) (hears (subst (λ f. is_of_log g f.meta.name ≡ true) same of))
     came_so (input.Missing own server generation) by = tt
-    came_so (input.Maps groups) (news, is, same) =
-        let hears : NewsSeen g asks w.net news = subst (λ b. BodySeen g asks w.net packet.from owner b) is seen in
+    came_so (input.Maps groups) (news, fact, same) =
+        let hears : NewsSeen g asks w.net news = subst (λ b. BodySeen g asks w.net packet.from owner b) fact seen in
         subst (λ x. In (MapSent x) w.net.sent) (sym same) hears
     came_so input.Tick by = tt
 

@@ -20,44 +20,44 @@ use Rattle.run_laws.specs.world_law.Owners.{moment}
 
 ended_so : (events : List Event) (count : ℕ) (w : World AnyNode) → slice_get events count ≡ None
     → fold (next_world any_step) w (take (suc count) events) ≡ fold (next_world any_step) w (take count events)
-ended_so [] zero w is = refl
-ended_so [] (suc count) w is = refl
-ended_so (x ∷ xs) zero w is = absurd cc
-ended_so (x ∷ xs) (suc count) w is = ended_so xs count (next_world any_step w x) is
+ended_so [] zero w fact = refl
+ended_so [] (suc count) w fact = refl
+ended_so (x ∷ xs) zero w fact = absurd cc
+ended_so (x ∷ xs) (suc count) w fact = ended_so xs count (next_world any_step w x) fact
 
 same_event : (x y : Event) → Some x ≡ Some y → x ≡ y
 same_event x y e = cc
 
 next_so : (events : List Event) (count : ℕ) (w : World AnyNode) (event : Event) → slice_get events count ≡ Some event
     → fold (next_world any_step) w (take (suc count) events) ≡ next_world any_step (fold (next_world any_step) w (take count events)) event
-next_so [] zero w event is = absurd cc
-next_so [] (suc count) w event is = absurd cc
-next_so (x ∷ xs) zero w event is = ap (next_world any_step w) (same_event x event is)
-next_so (x ∷ xs) (suc count) w event is = next_so xs count (next_world any_step w x) event is
+next_so [] zero w event fact = absurd cc
+next_so [] (suc count) w event fact = absurd cc
+next_so (x ∷ xs) zero w event fact = ap (next_world any_step w) (same_event x event fact)
+next_so (x ∷ xs) (suc count) w event fact = next_so xs count (next_world any_step w x) event fact
 
 may_so : (events : List Event) (count : ℕ) (w end : World AnyNode) (event : Event) → Leads any_step w events end → slice_get events count ≡ Some event
     → MayHappen (fold (next_world any_step) w (take count events)) event
-may_so [] zero w end event leads is = absurd cc
-may_so [] (suc count) w end event leads is = absurd cc
-may_so (x ∷ xs) zero w end event leads is = subst (MayHappen w) (same_event x event is) leads.0
-may_so (x ∷ xs) (suc count) w end event leads is = may_so xs count (next_world any_step w x) end event leads.1 is
+may_so [] zero w end event leads fact = absurd cc
+may_so [] (suc count) w end event leads fact = absurd cc
+may_so (x ∷ xs) zero w end event leads fact = subst (MayHappen w) (same_event x event fact) leads.0
+may_so (x ∷ xs) (suc count) w end event leads fact = may_so xs count (next_world any_step w x) end event leads.1 fact
 
 cluster_so : (events : List Event) (count : ℕ) (w : World AnyNode) (k : Cluster) → w.cluster ≡ k
     → (fold (next_world any_step) w (take count events)).cluster ≡ k
-cluster_so events zero w k is = is
-cluster_so [] (suc count) w k is = is
-cluster_so (x ∷ xs) (suc count) w k is = cluster_so xs count (next_world any_step w x) k (next_cluster any_step w x ∙ is)
+cluster_so events zero w k fact = fact
+cluster_so [] (suc count) w k fact = fact
+cluster_so (x ∷ xs) (suc count) w k fact = cluster_so xs count (next_world any_step w x) k (next_cluster any_step w x ∙ fact)
 
 module _ (e : Estate AnyNode) where
   pub moment_ended : (count : ℕ) → slice_get e.events count ≡ None → moment e (suc count) ≡ moment e count
-  moment_ended count is = ended_so e.events count (start_world any_start e.script) is
+  moment_ended count fact = ended_so e.events count (start_world any_start e.script) fact
 
   pub moment_next : (count : ℕ) (event : Event) → slice_get e.events count ≡ Some event → moment e (suc count) ≡ next_world any_step (moment e count) event
-  moment_next count event is = next_so e.events count (start_world any_start e.script) event is
+  moment_next count event fact = next_so e.events count (start_world any_start e.script) event fact
 
   pub may_happen : IsRun any_step any_start e.script e.events e.world → (count : ℕ) (event : Event) → slice_get e.events count ≡ Some event
       → MayHappen (moment e count) event
-  may_happen run count event is = may_so e.events count (start_world any_start e.script) e.world event run is
+  may_happen run count event fact = may_so e.events count (start_world any_start e.script) e.world event run fact
 
   pub cluster_at : (count : ℕ) → (moment e count).cluster ≡ cluster_of e.script.setup
   unfolding start_world
@@ -88,12 +88,12 @@ pub happened_so : (w : World AnyNode) (event : Event)
 happened_so w event =
     next_keeps any_step (λ nodes sent acts. Still w nodes sent acts ⊎ TurnAt w event nodes sent acts) w event
     (inl (record { nodes_are = refl; sent_are = refl; acts_are = refl }))
-    (λ place node clock at is. inr (record {
+    (λ place node clock at fact. inr (record {
       place = place;
       node = node;
       clock = clock;
       placed = at;
-      stands = is;
+      stands = fact;
       nodes_are = refl;
       sent_are = refl;
       acts_are = refl;

@@ -65,7 +65,7 @@ module _ (base : Setting) (e : Estate AnyNode) (lines : HasLines base e) (r : Ro
   named_is count name = ap (λ c. node_in (moment e count).nodes (place_of c name)) (cluster_at e count)
 
   pub owns_at : (count : ℕ) (x : AnyNode) → node_in (moment e count).nodes (place_of k_of owner) ≡ Some x → Owns (setting base e r) (line.at count) owner x
-  owns_at count x is = owner_owns (setting base e r) (line.at count) r keeps x ((line.stands count).seen owner x is)
+  owns_at count x fact = owner_owns (setting base e r) (line.at count) r keeps x ((line.stands count).seen owner x fact)
 
   -- the node that reads its log
   pub record Node (count : ℕ) (s : Scanning) : Type 0 where
@@ -75,7 +75,7 @@ module _ (base : Setting) (e : Estate AnyNode) (lines : HasLines base e) (r : Ro
     pub scans : Scans (setting base e r) (line.at count) s (last_of (Some node)) (boot_in (Some node)) (TurnsOf (setting base e r) (line.at count) node s)
 
   pub node_at : (count : ℕ) (s : Scanning) → scan_at e r count ≡ Some s → Node count s
-  node_at count s is = by (node_in (moment e count).nodes (place_of k_of owner)) refl (sym (ap scan_of (named_is count owner)) ∙ is)
+  node_at count s fact = by (node_in (moment e count).nodes (place_of k_of owner)) refl (sym (ap scan_of (named_is count owner)) ∙ fact)
     where
       by : (o : Option AnyNode) → node_in (moment e count).nodes (place_of k_of owner) ≡ o → scan_of o ≡ Some s → Node count s
       by None at so = absurd cc
@@ -83,11 +83,11 @@ module _ (base : Setting) (e : Estate AnyNode) (lines : HasLines base e) (r : Ro
 
   pub last_is : (count : ℕ) (x : AnyNode) → node_in (moment e count).nodes (place_of k_of owner) ≡ Some x
       → last_of (node_named (moment e count) owner) ≡ last_of (Some x)
-  last_is count x is = ap last_of (named_is count owner ∙ is)
+  last_is count x fact = ap last_of (named_is count owner ∙ fact)
 
   pub scan_is : (count : ℕ) (x : AnyNode) (s : Scanning) → node_in (moment e count).nodes (place_of k_of owner) ≡ Some x → scan_of (Some x) ≡ Some s
       → scan_at e r count ≡ Some s
-  scan_is count x s is so = ap scan_of (named_is count owner ∙ is) ∙ so
+  scan_is count x s fact so = ap scan_of (named_is count owner ∙ fact) ∙ so
 
   -- ---- what was torn
 
@@ -138,11 +138,11 @@ module _ (base : Setting) (e : Estate AnyNode) (lines : HasLines base e) (r : Ro
 
   pub drawn_at : (count : ℕ) → Good count → FetchesDrawn e r count → (x : AnyNode) → node_in (moment e count).nodes (place_of k_of owner) ≡ Some x
       → Drawn (sent_by count) owner (last_of (Some x))
-  drawn_at count good fetches x is = record {
-    fetches = λ p m among from asks. subst (λ n. m.ask ≤ n) (last_is count x is) (fetches p m among from asks);
+  drawn_at count good fetches x fact = record {
+    fetches = λ p m among from asks. subst (λ n. m.ask ≤ n) (last_is count x fact) (fetches p m among from asks);
     missings = λ p m v among from to tells.
         (let a = good.answered p m v among from to tells in
-        let b = subst (λ n. a.fetch.ask ≤ n) (last_is count x is) (fetches a.packet a.fetch a.among a.asker a.asks) in
+        let b = subst (λ n. a.fetch.ask ≤ n) (last_is count x fact) (fetches a.packet a.fetch a.among a.asker a.asks) in
         let c = a.ask in omega arith);
   }
 

@@ -47,7 +47,7 @@ module _ (start : ℕ) (room : has_room start ≡ true) (first : Asked) where
       (λ t. same (same_number own a.own t) out) (λ t. inr (drawn_later start q.last room more))
     where
       same : own ≡ a.own → StaysOut start first a → StaysOut start first (record { own = own; ask = a.ask })
-      same e (inl is) = inl (ap (λ (n : ℕ). record { own = n; ask = a.ask }) e ∙ is)
+      same e (inl fact) = inl (ap (λ (n : ℕ). record { own = n; ask = a.ask }) e ∙ fact)
       same e (inr less) = inr less
 
   pub numbers_so : (owner : Owner) (low : ℕ) (a : Asked) (q : Questions) (e : _) (outs : List Out) → start ≤ q.last → StaysOut start first a

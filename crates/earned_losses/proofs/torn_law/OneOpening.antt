@@ -55,10 +55,10 @@ drawn_of ask (Serving s) opens asked = opens
 module _ (g : Setting) where
   -- what is an opening after an event in one boot was one before it
   opened_before : (n o : Net) → Happens g n o → (t : ScanState) → o.owner ≡ Opening t → o.inc ≡ n.inc → is_opening n.owner ≡ true
-  opened_before n o (Acts s i is came texts) t e boot = absurd cc
-  opened_before n o (Writes chain s i is came texts) t e boot =
+  opened_before n o (Acts s i fact came texts) t e boot = absurd cc
+  opened_before n o (Writes chain s i fact came texts) t e boot =
       absurd (writes_none g n chain (log.transition s i) (log.transition s i).state.flight t e)
-  opened_before n o (Opens s i is came can) t e boot = ap is_opening is
+  opened_before n o (Opens s i fact came can) t e boot = ap is_opening fact
   opened_before n o Crashes t e boot = absurd cc
   opened_before n o (Restarts down) t e boot = absurd (omega arith)
   opened_before n o (Renews m high doubts down came) t e boot = absurd cc
@@ -66,10 +66,10 @@ module _ (g : Setting) where
   opened_before n o (Bars v l pass) t e boot = ap is_opening e
   opened_before n o (Lists v) t e boot = ap is_opening e
   opened_before n o (Hears v generation up reached) t e boot = ap is_opening e
-  opened_before n o (Raises low name up is below) t e boot = ap is_opening e
+  opened_before n o (Raises low name up fact below) t e boot = ap is_opening e
   opened_before n o (Publishes m whole) t e boot = ap is_opening e
-  opened_before n o (Welcomes inc ask news m is low whole) t e boot = ap is_opening e
-  opened_before n o (Drops lists meta is among below) t e boot = ap is_opening e
+  opened_before n o (Welcomes inc ask news m fact low whole) t e boot = ap is_opening e
+  opened_before n o (Drops lists meta fact among below) t e boot = ap is_opening e
 
   opening_of : (owner : Owner) → is_opening owner ≡ true → (s : ScanState) × (owner ≡ Opening s)
   opening_of Down e = absurd cc
@@ -161,27 +161,27 @@ module _ (g : Setting) where
         → StageKept g Was run ask stage → StageKept g Now (then_on run more) ask stage
     stages_on start n o run Begun base all ask stage k = weaker start n run ask stage k
     stages_on start n o run (On {m = m} more e) base all ask stage k =
-        stage_on g Now Now start m o (then_on run more) e (grows g m o (passed g n m base more).base e) all.1.1 (λ seg is. is) ask stage
+        stage_on g Now Now start m o (then_on run more) e (grows g m o (passed g n m base more).base e) all.1.1 (λ seg fact. fact) ask stage
         (stages_on start n m run more base all.0 ask stage k)
 
     -- ---- it takes an input
 
     module _ (start n : Net) (run : Runs g start n) (base : Base g n) (torn_now : (seg : SegRef) → IsReading seg n → IsTorn g seg n → Was seg)
-        (s : ScanState) (is : n.owner ≡ Opening s) (i : Input) (came : CameToScan g n i) (truth : IsTrue run s i)
+        (s : ScanState) (fact : n.owner ≡ Opening s) (i : Input) (came : CameToScan g n i) (truth : IsTrue run s i)
         (k : StageKept g Was run s.opening.ask s.stage) where
       read_now : (seg : SegRef) → IsRead s.stage seg → IsTorn g seg n → Was seg
-      read_now seg reads = torn_now seg (s, is, reads)
+      read_now seg reads = torn_now seg (s, fact, reads)
 
       some : (m o : Net) (more : Runs g n m) (e : Happens g m o) → AllOpen (On more e)
           → StageKept g Now (then_on run (On more e)) (transition s i).state.opening.ask (transition s i).state.stage
       some m o Begun e all =
-          (takes_goes g Was Now start n o run e (grows g n o base e) all.1.1 base s is (λ opens. up) read_now i came truth k).kept all.1.0
+          (takes_goes g Was Now start n o run e (grows g n o base e) all.1.1 base s fact (λ opens. up) read_now i came truth k).kept all.1.0
       some m o (On {m = first} more before) e all =
           stage_on g Now Now start m o (then_on run (On more before)) e (grows g m o (passed g n m base (On more before)).base e) all.1.1 (λ seg same. same)
           (transition s i).state.opening.ask (transition s i).state.stage (some first m more before all.0)
 
       one_scan : (t : ScanState) → n.owner ≡ Opening t → s ≡ t
-      one_scan t owner = by (sym is ∙ owner)
+      one_scan t owner = by (sym fact ∙ owner)
         where
           by : Opening s ≡ Opening t → s ≡ t
           by e = cc
@@ -202,4 +202,5 @@ module _ (g : Setting) where
       pub lost_so : (name : SegName) → In (Lost name) (transition s i).outs → WasTorn Was s name
       lost_so name lost =
           lost_in (WasTorn Was s) (transition s i).outs
-          (takes_goes g Was Now start n fallen run Crashes (grows g n fallen base Crashes) refl base s is (λ opens. up) read_now i came truth k).lost name lost
+          (takes_goes g Was Now start n fallen run Crashes (grows g n fallen base Crashes) refl base s fact
+          (λ opens. up) read_now i came truth k).lost name lost

@@ -59,7 +59,7 @@ record Up (last highest : ℕ) (outs : List Effect) : Type 0 where
 -- what is said first bears a number that was drawn
 one_first : (low last highest : ℕ) (e : Effect) (outs : List Effect) → low ≤ last → Up last highest outs → (last ≤ highest → UpTo highest e)
     → Up low highest (e ∷ outs)
-one_first low last highest e outs less u is = record { up = (let a = u.up in omega arith); does = (is u.up, u.does) }
+one_first low last highest e outs less u fact = record { up = (let a = u.up in omega arith); does = (fact u.up, u.does) }
 
 said_up : (owner : Owner) (low : ℕ) (a : Asked) (q : Questions) (e : _) (outs : List Out) → a.ask ≤ q.last
     → Up q.last (steps (said owner low) (record { asked = a; questions = q; ended = e }) outs).state.questions.last

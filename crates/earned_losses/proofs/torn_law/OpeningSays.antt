@@ -81,7 +81,7 @@ module _ (k : Known) (s : Scanning) (what : Do) (last : ℕ) where
   pub acts_so : (x : Option Input) (name : SegName) → DoesSo x (Does (Filed name))
   acts_so x name = tt
 
-  module _ (q : Questions) (is : q.last ≡ last) (room : has_room last ≡ true) where
+  module _ (q : Questions) (fact : q.last ≡ last) (room : has_room last ≡ true) where
     renewed : (a b : Asked) → AskedFrom s a → StaysOut last a b → Renews b
     renewed a b (inl same) (inl kept) = inl (kept ∙ same)
     renewed a b (inr none) (inl kept) = inr (inl (ap (λ (x : Asked). x.own) (kept ∙ none)))
@@ -92,7 +92,7 @@ module _ (k : Known) (s : Scanning) (what : Do) (last : ℕ) where
       scans = λ owner low. record {
         came = came;
         scan = refl;
-        out = renewed a _ from (numbers_so last room a owner low a q _ (transition s.scan i).outs (let e = is in omega arith) (inl refl));
+        out = renewed a _ from (numbers_so last room a owner low a q _ (transition s.scan i).outs (let e = fact in omega arith) (inl refl));
       };
       says = λ owner low.
           says_so (DoesSo (Some i)) (quiet_so (Some i)) (transition s.scan i).state.stage (λ name number server own read. (own, read)) owner low a q _

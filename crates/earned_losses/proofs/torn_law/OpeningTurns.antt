@@ -164,14 +164,14 @@ module _ (P : Scanning → Type 0) (E : Effect → Type 0) (q : Questions) where
     unfolding follows said
     ended_so its low a p e [] each ends = ends
     ended_so its low a p e (Hello own ∷ outs) each ends =
-        ended_so its low (asked_as a p own) (drawn_for a p own) e outs (λ seg is. each seg (inr is)) ends
-    ended_so its low a p e (Fence server ∷ outs) each ends = ended_so its low a p e outs (λ seg is. each seg (inr is)) ends
+        ended_so its low (asked_as a p own) (drawn_for a p own) e outs (λ seg fact. each seg (inr fact)) ends
+    ended_so its low a p e (Fence server ∷ outs) each ends = ended_so its low a p e outs (λ seg fact. each seg (inr fact)) ends
     ended_so its low a p e (Fetch server name own ∷ outs) each ends =
-        ended_so its low (asked_as a p own) (drawn_for a p own) e outs (λ seg is. each seg (inr is)) ends
+        ended_so its low (asked_as a p own) (drawn_for a p own) e outs (λ seg fact. each seg (inr fact)) ends
     ended_so its low a p e (Chains segments end prior ∷ outs) each ends =
-        ended_so its low a p _ outs (λ seg is. each seg (inr is)) (λ k s h. settles_so k s _ k.maps.groups h)
+        ended_so its low a p _ outs (λ seg fact. each seg (inr fact)) (λ k s h. settles_so k s _ k.maps.groups h)
     ended_so its low a p e (Lost name ∷ outs) each ends =
-        ended_so its low a p _ outs (λ seg is. each seg (inr is)) (λ k s h. record { progress = tt; does = (each name (inl refl), tt) })
+        ended_so its low a p _ outs (λ seg fact. each seg (inr fact)) (λ k s h. record { progress = tt; does = (each name (inl refl), tt) })
 
     -- ---- a scan
 
@@ -228,46 +228,46 @@ module _ (P : Option Input → Scanning → Type 0) (E : Option Input → Effect
       welcomed_so : (m : Welcome) (own : ℕ) → packet.body ≡ body.Welcome m → is_meant k m ≡ true → own_of s.asked m.ask ≡ Some own
           → Turned (welcomed k q s m.news own)
       unfolding welcomed
-      welcomed_so m own is meant own_is =
+      welcomed_so m own fact meant own_is =
           by_test (λ (maps : Maps). Turned (welcomed_with (record k { maps = maps }) q s m.news own maps.groups)) (is_older k.maps m.news)
           (record k.maps { version = m.news.version; groups = Some m.news.groups }) k.maps
           (λ t. with_so (record k { maps = record k.maps { version = m.news.version; groups = Some m.news.groups } }) m own (Some m.news.groups) (λ g e. (
             m,
-            record { bears = is; meant = meant; own_is = own_is; groups_are = inl (some_group m.news.groups g e) },
+            record { bears = fact; meant = meant; own_is = own_is; groups_are = inl (some_group m.news.groups g e) },
             refl,
           )))
           (λ t. with_so (record k { maps = k.maps }) m own k.maps.groups
-          (λ g e. (m, record { bears = is; meant = meant; own_is = own_is; groups_are = inr e }, refl)))
+          (λ g e. (m, record { bears = fact; meant = meant; own_is = own_is; groups_are = inr e }, refl)))
 
       as_so : (m : Welcome) → packet.body ≡ body.Welcome m → is_meant k m ≡ true → (own : Option ℕ) → own_of s.asked m.ask ≡ own
           → Turned (welcomed_as k q s m.news own)
-      as_so m is meant None e = rests k
-      as_so m is meant (Some own) e = welcomed_so m own is meant e
+      as_so m fact meant None e = rests k
+      as_so m fact meant (Some own) e = welcomed_so m own fact meant e
 
       welcome_so : (m : Welcome) → packet.body ≡ body.Welcome m → Turned (on_welcome its q m)
       unfolding on_welcome
-      welcome_so m is =
+      welcome_so m fact =
           by_test Turned (is_meant k m) (welcomed_as k q s m.news (own_of s.asked m.ask)) (stays (at_scan k s) q)
-          (λ t. as_so m is t (own_of s.asked m.ask) refl) (λ t. rests k)
+          (λ t. as_so m fact t (own_of s.asked m.ask) refl) (λ t. rests k)
 
       -- maps
       news_so : (news : News) → packet.body ≡ body.MapNews news → Turned (on_news its q news)
       unfolding on_news
-      news_so news is =
+      news_so news fact =
           by_test Turned (fits k.maps news && is_older k.maps news)
           (regrouped (record k { maps = taken k.maps news }) q news.groups (stage.Scanning s)) (drops its q)
-          (λ t. scans_by (record k { maps = taken k.maps news }) (input.Maps news.groups) (news, is, refl) s.asked (inl refl))
+          (λ t. scans_by (record k { maps = taken k.maps news }) (input.Maps news.groups) (news, fact, refl) s.asked (inl refl))
           (λ t. rests k)
 
       -- what servers tell
       fenced_so : (from : NodeId) (m : Fenced) → packet.body ≡ body.Fenced m → packet.from ≡ from → Turned (on_fenced its q from m)
       unfolding on_fenced
-      fenced_so (Server v) m is from =
+      fenced_so (Server v) m fact from =
           by_test Turned (is_fenced its m) (scans its q (input.Fenced v m.generation m.held)) (drops its q)
           (λ t. took (input.Fenced v m.generation m.held) (
             m,
             record {
-              bears = is;
+              bears = fact;
               from = from;
               log = and_first (m.log.0 == k.owner.log.0) _ t;
               boot = and_first (m.pass.inc == k.owner.inc) (m.pass.att == 0)
@@ -277,37 +277,37 @@ module _ (P : Option Input → Scanning → Type 0) (E : Option Input → Effect
             refl,
           ))
           (λ t. rests k)
-      fenced_so (Client v) m is from = rests k
-      fenced_so (Manager v) m is from = rests k
-      fenced_so Cleaner m is from = rests k
-      fenced_so Registry m is from = rests k
+      fenced_so (Client v) m fact from = rests k
+      fenced_so (Manager v) m fact from = rests k
+      fenced_so Cleaner m fact from = rests k
+      fenced_so Registry m fact from = rests k
 
       found_as : (m : Found) (v : ℕ) → packet.body ≡ body.Fragment m → (own : Option ℕ)
           → Turned (answers its q (λ own. input.Got own v m.generation m.fragment) own)
-      found_as m v is None = rests k
-      found_as m v is (Some own) = took (input.Got own v m.generation m.fragment) (m, is, refl)
+      found_as m v fact None = rests k
+      found_as m v fact (Some own) = took (input.Got own v m.generation m.fragment) (m, fact, refl)
 
       found_so : (from : NodeId) (m : Found) → packet.body ≡ body.Fragment m → Turned (on_found its q from m)
       unfolding on_found
-      found_so (Server v) m is = found_as m v is (own_of s.asked m.ask)
-      found_so (Client v) m is = rests k
-      found_so (Manager v) m is = rests k
-      found_so Cleaner m is = rests k
-      found_so Registry m is = rests k
+      found_so (Server v) m fact = found_as m v fact (own_of s.asked m.ask)
+      found_so (Client v) m fact = rests k
+      found_so (Manager v) m fact = rests k
+      found_so Cleaner m fact = rests k
+      found_so Registry m fact = rests k
 
       missing_as : (m : Missing) (v : ℕ) → packet.body ≡ body.Missing m → packet.from ≡ Server v → (own : Option ℕ) → own_of s.asked m.ask ≡ own
           → Turned (answers its q (λ own. input.Missing own v m.generation) own)
-      missing_as m v is from None e = rests k
-      missing_as m v is from (Some own) e =
-          took (input.Missing own v m.generation) (m, record { bears = is; from = from; own_is = e }, refl)
+      missing_as m v fact from None e = rests k
+      missing_as m v fact from (Some own) e =
+          took (input.Missing own v m.generation) (m, record { bears = fact; from = from; own_is = e }, refl)
 
       missing_so : (from : NodeId) (m : Missing) → packet.body ≡ body.Missing m → packet.from ≡ from → Turned (on_missing its q from m)
       unfolding on_missing
-      missing_so (Server v) m is from = missing_as m v is from (own_of s.asked m.ask) refl
-      missing_so (Client v) m is from = rests k
-      missing_so (Manager v) m is from = rests k
-      missing_so Cleaner m is from = rests k
-      missing_so Registry m is from = rests k
+      missing_so (Server v) m fact from = missing_as m v fact from (own_of s.asked m.ask) refl
+      missing_so (Client v) m fact from = rests k
+      missing_so (Manager v) m fact from = rests k
+      missing_so Cleaner m fact from = rests k
+      missing_so Registry m fact from = rests k
 
       stored_so : (m : Stored) → Turned (on_stored its q m)
       unfolding on_stored
@@ -315,13 +315,13 @@ module _ (P : Option Input → Scanning → Type 0) (E : Option Input → Effect
 
       body_so : (b : Body) → packet.body ≡ b → Turned (on_body its q packet.from b)
       unfolding on_body
-      body_so (body.Welcome m) is = welcome_so m is
-      body_so (body.MapNews m) is = news_so m is
-      body_so (body.Fenced m) is = fenced_so packet.from m is refl
-      body_so (body.Fragment m) is = found_so packet.from m is
-      body_so (body.Missing m) is = missing_so packet.from m is refl
-      body_so (body.Stored m) is = stored_so m
-      body_so _ is = rests k
+      body_so (body.Welcome m) fact = welcome_so m fact
+      body_so (body.MapNews m) fact = news_so m fact
+      body_so (body.Fenced m) fact = fenced_so packet.from m fact refl
+      body_so (body.Fragment m) fact = found_so packet.from m fact
+      body_so (body.Missing m) fact = missing_so packet.from m fact refl
+      body_so (body.Stored m) fact = stored_so m
+      body_so _ fact = rests k
 
       pub packet_so : Turned (on_packet its q packet)
       unfolding on_packet

@@ -78,8 +78,8 @@ module _ (g : Setting) (w : Scene) where
     by_stage : (at : Stage) → SeesStage g number w k last at → scan_in at ≡ Some s
         → ((what : Do) → StageTurn k last inc at what (After what) (Life what) (Outs what))
         → Scans s last inc (λ j. (what : Do) → Turning j s what last inc (After what) (Life what) (Outs what))
-    by_stage (stage.Scanning t) sees is turns =
-        let same : s ≡ t = some_is t s is in
+    by_stage (stage.Scanning t) sees fact turns =
+        let same : s ≡ t = some_is t s fact in
         record {
           known = k;
           number = number;
@@ -87,7 +87,7 @@ module _ (g : Setting) (w : Scene) where
           boot = boot;
           turns = λ what. subst (λ x. Turning k x what last inc (After what) (Life what) (Outs what)) (sym same) (turns what);
         }
-    by_stage (stage.Settling t) sees is turns = absurd cc
+    by_stage (stage.Settling t) sees fact turns = absurd cc
 
   fresh_stage : (k : Known) (last inc : ℕ) (what : Do) (after : Option Scanning) (life : ℕ) (outs : List Effect) (at : Stage) → scan_in at ≡ None
       → StageTurn k last inc at what after life outs → IsFresh after
@@ -102,11 +102,11 @@ module _ (g : Setting) (w : Scene) where
         → Scans s (clients.lasting_of p).questions.last (clients.lasting_of p).inc
         (λ k. (what : Do) → Turning k s what (clients.lasting_of p).questions.last (clients.lasting_of p).inc (clients_scan (clients.takes node what).state)
         (clients.lasting_of (clients.takes node what).state).inc (clients.takes node what).outs)
-    client_scan (phase.Down l) agrees turns s is = absurd cc
-    client_scan (phase.Opening l o) agrees turns s is =
+    client_scan (phase.Down l) agrees turns s fact = absurd cc
+    client_scan (phase.Opening l o) agrees turns s fact =
         by_stage s c o.known l.questions.last l.inc agrees.0.inc (λ what. clients_scan (clients.takes node what).state)
-        (λ what. (clients.lasting_of (clients.takes node what).state).inc) (λ what. (clients.takes node what).outs) o.stage agrees.1 is turns
-    client_scan (phase.Serving t) agrees turns s is = absurd cc
+        (λ what. (clients.lasting_of (clients.takes node what).state).inc) (λ what. (clients.takes node what).outs) o.stage agrees.1 fact turns
+    client_scan (phase.Serving t) agrees turns s fact = absurd cc
 
     client_fresh : (p : client_phases.Phase) → (what : Do) → client_scans.PhaseSo what p (clients.takes node what) → clients_scan p ≡ None
         → IsFresh (clients_scan (clients.takes node what).state)
@@ -123,7 +123,7 @@ module _ (g : Setting) (w : Scene) where
 
     client_owns : ClientAgrees g c w node.phase → Owns (names.Client c) (any.Client node)
     client_owns agrees = record {
-      scans = λ s is. client_scan node.phase agrees (client_turns node) s is;
+      scans = λ s fact. client_scan node.phase agrees (client_turns node) s fact;
       fresh = λ none what. client_fresh node.phase what (client_turns node what) none;
       packets = λ what. ap (λ n. packets_of (names.Client n) (clients.takes node what).outs) (client_number node.phase agrees);
       acts = λ what. ap (λ n. acts_of (names.Client n) (clients.takes node what).outs) (client_number node.phase agrees);
@@ -139,12 +139,12 @@ module _ (g : Setting) (w : Scene) where
         (λ k. (what : Do) → Turning k s what (cleaners.lasting_of p).questions.last (cleaners.lasting_of p).inc
         (cleaners_scan (cleaners.takes node.peers node.phase what).state)
         (cleaners.lasting_of (cleaners.takes node.peers node.phase what).state).inc (cleaners.takes node.peers node.phase what).outs)
-    cleaner_scan (cleaning.Down l) agrees turns s is = absurd cc
-    cleaner_scan (cleaning.Opening l o) agrees turns s is =
+    cleaner_scan (cleaning.Down l) agrees turns s fact = absurd cc
+    cleaner_scan (cleaning.Opening l o) agrees turns s fact =
         by_stage s its_number o.known l.questions.last l.inc agrees.lasts.inc (λ what. cleaners_scan (cleaners.takes node.peers node.phase what).state)
         (λ what. (cleaners.lasting_of (cleaners.takes node.peers node.phase what).state).inc)
-        (λ what. (cleaners.takes node.peers node.phase what).outs) o.stage agrees.sees is turns
-    cleaner_scan (cleaning.Serving t) agrees turns s is = absurd cc
+        (λ what. (cleaners.takes node.peers node.phase what).outs) o.stage agrees.sees fact turns
+    cleaner_scan (cleaning.Serving t) agrees turns s fact = absurd cc
 
     cleaner_fresh : (p : cleaner_phases.Phase) → (what : Do) → cleaner_scans.PhaseSo what p (cleaners.takes node.peers node.phase what)
         → cleaners_scan p ≡ None
@@ -157,7 +157,7 @@ module _ (g : Setting) (w : Scene) where
 
     cleaner_owns : CleanerAgrees g w node.phase → Owns names.Cleaner (any.Cleaner node)
     cleaner_owns agrees = record {
-      scans = λ s is. cleaner_scan node.phase agrees (cleaner_turns node.peers node.phase) s is;
+      scans = λ s fact. cleaner_scan node.phase agrees (cleaner_turns node.peers node.phase) s fact;
       fresh = λ none what. cleaner_fresh node.phase what (cleaner_turns node.peers node.phase what) none;
       packets = λ what. refl;
       acts = λ what. refl;

@@ -121,7 +121,7 @@ module _ (before : Stage) where
   begins_in_so o b (Some group) = round_begins o b (rounds.begun (scan.target_at o.log b.next) group (o.ask + 1)) (omega arith)
 
   over_so : (o : Opening) (out : Out) → FetchOf Over out → AsksFor o.ask before (goes o Over (out ∷ []))
-  over_so o out is = record { fetches = (is, tt); reads = tt }
+  over_so o out fact = record { fetches = (fact, tt); reads = tt }
 
   follows_so : (o : Opening) (b : Backward) → AsksFor o.ask before (scan.follows o b)
   unfolding scan.follows scan.begins_round

@@ -88,20 +88,20 @@ module _ (base : Setting) (e : Estate AnyNode) (lines : HasLines base e) (count 
   -- a node of a name at a moment
   pub sends_as : (name : NodeId) (place : ℕ) (x : AnyNode) (what : Do) → place_of (cluster_of e.script.setup) name ≡ Some place
       → node_in (moment e count).nodes (place_of (cluster_of e.script.setup) name) ≡ Some x → All (IsFrom name) (any_step x what).packets
-  sends_as (names.Client c) place x what at is =
+  sends_as (names.Client c) place x what at fact =
       let b = behind 0 e.script.setup.clients c place at in
       let l = lines (OfClient c) (b.some, b.within) in
-      client_from (setting base e (OfClient c)) (l.at count) c x what ((l.stands count).seen (names.Client c) x is)
-  sends_as (names.Manager j) place x what at is =
+      client_from (setting base e (OfClient c)) (l.at count) c x what ((l.stands count).seen (names.Client c) x fact)
+  sends_as (names.Manager j) place x what at fact =
       let b = behind e.script.setup.clients e.script.setup.managers j place at in
       let l = lines (OfManager j) (b.some, b.within) in
-      manager_from (setting base e (OfManager j)) (l.at count) j x what ((l.stands count).seen (names.Manager j) x is)
-  sends_as (names.Server v) place x what at is =
+      manager_from (setting base e (OfManager j)) (l.at count) j x what ((l.stands count).seen (names.Manager j) x fact)
+  sends_as (names.Server v) place x what at fact =
       let l = lines OfCleaner tt in
-      server_sends (setting base e OfCleaner) (l.at count) OfCleaner v x what ((l.stands count).seen (names.Server v) x is)
-  sends_as names.Cleaner place x what at is =
+      server_sends (setting base e OfCleaner) (l.at count) OfCleaner v x what ((l.stands count).seen (names.Server v) x fact)
+  sends_as names.Cleaner place x what at fact =
       let l = lines OfCleaner tt in
-      cleaner_from (setting base e OfCleaner) (l.at count) OfCleaner x what ((l.stands count).seen names.Cleaner x is)
-  sends_as names.Registry place x what at is =
+      cleaner_from (setting base e OfCleaner) (l.at count) OfCleaner x what ((l.stands count).seen names.Cleaner x fact)
+  sends_as names.Registry place x what at fact =
       let l = lines OfCleaner tt in
-      registry_from (setting base e OfCleaner) (l.at count) OfCleaner x what ((l.stands count).seen names.Registry x is)
+      registry_from (setting base e OfCleaner) (l.at count) OfCleaner x what ((l.stands count).seen names.Registry x fact)

@@ -160,8 +160,8 @@ fetched node packet m asks = (by (held_at node.shelf.held m.name) refl, tt)
   where
     by : (held : Option Fragment) → held_at node.shelf.held m.name ≡ held
         → MissingSo node (Deliver packet) packet.from (found_or_missing node.shelf m held)
-    by (Some fragment) is = tt
-    by None is = record {
+    by (Some fragment) fact = tt
+    by None fact = record {
       packet = packet;
       delivers = refl;
       asker = refl;
@@ -170,7 +170,7 @@ fetched node packet m asks = (by (held_at node.shelf.held m.name) refl, tt)
       name = refl;
       ask = refl;
       generation = refl;
-      nothing = is;
+      nothing = fact;
     }
 
 -- ---- what it says otherwise

@@ -84,14 +84,14 @@ module _ (k : Known) (s : Scanning) (what : Do) (last : ℕ) (by : Option Input)
 
   said_lost : (outs : List Effect) → AllByRecursion (DoesSo k s what last by) outs → In (act.Lost owner name) (acts_of owner outs)
       → Losing k s what last by name
-  said_lost [] all is = absurd is
-  said_lost (Send to said ∷ outs) all is = said_lost outs all.1 is
+  said_lost [] all fact = absurd fact
+  said_lost (Send to said ∷ outs) all fact = said_lost outs all.1 fact
   said_lost (Answer item a ∷ outs) all (inl e) = absurd cc
-  said_lost (Answer item a ∷ outs) all (inr is) = said_lost outs all.1 is
+  said_lost (Answer item a ∷ outs) all (inr fact) = said_lost outs all.1 fact
   said_lost (Lose seg ∷ outs) all (inl e) = subst (Losing k s what last by) (same_loss seg e) all.0
-  said_lost (Lose seg ∷ outs) all (inr is) = said_lost outs all.1 is
+  said_lost (Lose seg ∷ outs) all (inr fact) = said_lost outs all.1 fact
   said_lost (Does a ∷ outs) all (inl e) = absurd (subst NotLost (sym e) all.0)
-  said_lost (Does a ∷ outs) all (inr is) = said_lost outs all.1 is
+  said_lost (Does a ∷ outs) all (inr fact) = said_lost outs all.1 fact
 
 module _ (base : Setting) (e : Estate AnyNode) (run : IsRun any_step any_start e.script e.events e.world) (lines : HasLines base e) (r : Role)
     (is_there : IsThere e.script.setup.clients e.script.setup.managers r) (keeps : renews r ≡ false) (fetches : (count : ℕ) → FetchesDrawn e r count) where
@@ -115,15 +115,15 @@ module _ (base : Setting) (e : Estate AnyNode) (run : IsRun any_step any_start e
       (by (node_in (moment e count).nodes (place_of (cluster_of e.script.setup) (names.Server v))) refl)
     where
       by : (o : Option AnyNode) → node_in (moment e count).nodes (place_of (cluster_of e.script.setup) (names.Server v)) ≡ o → lacks (shelf_of o) name ≡ true
-      by None is = refl
-      by (Some x) is = shelf_there count v name x (((lines r is_there).stands count).seen (names.Server v) x is) none
+      by None fact = refl
+      by (Some x) fact = shelf_there count v name x (((lines r is_there).stands count).seen (names.Server v) x fact) none
 
   not_deleted : (count : ℕ) (name : SegName) → name.log ≡ (setting base e r).log → (tables.In name (small count).dropped → ⊥) → NotDeleted (moment e count) name
-  not_deleted count name own kept packet m sent is same =
+  not_deleted count name own kept packet m sent fact same =
       let seen : BodySeen (setting base e r) (asker_by r ((lines r is_there).at count)) (small count) packet.from packet.to packet.body =
       ((lines r is_there).stands count).facts packet (was_sent (moment e count).sent packet sent) in
       let deletes : DeleteSeen (setting base e r) (asker_by r ((lines r is_there).at count)) (small count) m =
-      subst (λ b. BodySeen (setting base e r) (asker_by r ((lines r is_there).at count)) (small count) packet.from packet.to b) is seen in
+      subst (λ b. BodySeen (setting base e r) (asker_by r ((lines r is_there).at count)) (small count) packet.from packet.to b) fact seen in
       let of : is_of_log (setting base e r) m.name ≡ true =
       ap (is_of_log (setting base e r)) same ∙ (ap (λ (l : LogId). l.0 == (setting base e r).log.0) own ∙ itself (setting base e r).log.0) in
       kept (subst (λ n. tables.In n (small count).dropped) same
@@ -136,10 +136,10 @@ module _ (base : Setting) (e : Estate AnyNode) (run : IsRun any_step any_start e
       by : (o : Option Group) → group_at e.world segment.group ≡ o
           → (stripe_by o).parity < count_by (λ m. is_none (held_at ((small count).shelves m.server).held segment.name)) (stripe_by o).members
           → IsTornAt e count segment
-      by None is torn = absurd (omega arith)
-      by (Some group) is torn = record {
+      by None fact torn = absurd (omega arith)
+      by (Some group) fact torn = record {
         group = group;
-        striped = is;
+        striped = fact;
         torn =
             (let more = counted_places (λ m. is_none (held_at ((small count).shelves m.server).held segment.name))
             (λ m. lacks (shelf_at (moment e count) m.server) segment.name) group.members (λ place within none. lacks_there count _ segment.name none) in
@@ -171,15 +171,15 @@ module _ (base : Setting) (e : Estate AnyNode) (run : IsRun any_step any_start e
     read_there at segment some (t, owner, reads) = by (scan_at e r at) refl
       where
         one_scan : (a b : ScanState) → Opening a ≡ Opening b → a ≡ b
-        one_scan a b is = cc
+        one_scan a b fact = cc
 
         by : (o : Option Scanning) → scan_at e r at ≡ o → IsReadAt e r at segment
-        by None is = contrary (sym (ap is_some is) ∙ some)
-        by (Some x) is = record {
+        by None fact = contrary (sym (ap is_some fact) ∙ some)
+        by (Some x) fact = record {
           scan = x;
-          scans = is;
+          scans = fact;
           is_read = subst (λ (z : ScanState). IsRead z.stage segment)
-              (one_scan t x.scan (sym owner ∙ (node_at base e lines r is_there keeps at x is).scans.sees.owner)) reads;
+              (one_scan t x.scan (sym owner ∙ (node_at base e lines r is_there keeps at x fact).scans.sees.owner)) reads;
         }
 
     earned : (name : SegName) → TornOf (TornBy base e lines r is_there keeps count) s.scan name → WasTornInOpening e r count name
@@ -196,9 +196,9 @@ module _ (base : Setting) (e : Estate AnyNode) (run : IsRun any_step any_start e
       torn = torn_there t.once.at t.segment (of_log s.scan.stage t.segment truths.kept t.is_read) t.once.torn;
     }
 
-    module _ (event : Event) (is : slice_get e.events count ≡ Some event) (own : owner_by r ≡ node_of event) where
+    module _ (event : Event) (fact : slice_get e.events count ≡ Some event) (own : owner_by r ≡ node_of event) where
       gets : (p : Packet) → what_of event ≡ done.Deliver p → In p (moment e count).sent × (p.to ≡ owner_by r)
-      gets p brings = (let b = brought (moment e count) event (may_happen e run count event is) p brings in (b.0, b.1 ∙ sym own))
+      gets p brings = (let b = brought (moment e count) event (may_happen e run count event fact) p brings in (b.0, b.1 ∙ sym own))
 
       module _ (last boot : ℕ) (sc : Scans (setting base e r) ((lines r is_there).at count) s last boot (λ k. Unit {0})) (name : SegName) where
         came : (i : Input) → Comes sc.known s (what_of event) i → CameToScan (setting base e r) (small count) i
@@ -223,7 +223,7 @@ module _ (base : Setting) (e : Estate AnyNode) (run : IsRun any_step any_start e
             truths.kept name lost.1)
 
       acts_now : acts_in (moment e count) event ≡ drop (length (moment e count).acts) (moment e (suc count)).acts
-      acts_now = ap (λ (v : World AnyNode). drop (length (moment e count).acts) v.acts) (sym (moment_next e count event is))
+      acts_now = ap (λ (v : World AnyNode). drop (length (moment e count).acts) v.acts) (sym (moment_next e count event fact))
 
       still_lost : (name : SegName) → Still (moment e count) (moment e (suc count)).nodes (moment e (suc count)).sent (moment e (suc count)).acts
           → In (act.Lost (owner_by r) name) (acts_in (moment e count) event) → WasTornInOpening e r count name
@@ -254,13 +254,13 @@ module _ (base : Setting) (e : Estate AnyNode) (run : IsRun any_step any_start e
       pub loses_torn : (name : SegName) → In (act.Lost (owner_by r) name) (acts_in (moment e count) event) → WasTornInOpening e r count name
       loses_torn name among =
           ⊎_elim (λ still. still_lost name still among) (λ t. turn_lost name t among)
-          (became base e run lines r is_there keeps fetches count good event is)
+          (became base e run lines r is_there keeps fetches count good event fact)
 
   pub loses_what_is_torn : OpeningLosesWhatIsTorn e r
-  loses_what_is_torn count event is own opens name among = by (scan_at e r count) refl
+  loses_what_is_torn count event fact own opens name among = by (scan_at e r count) refl
     where
       by : (o : Option Scanning) → scan_at e r count ≡ o → WasTornInOpening e r count name
-      by (Some s) scan = loses_torn count s scan event is own name among
+      by (Some s) scan = loses_torn count s scan event fact own name among
       by None scan = contrary (sym (ap is_some scan) ∙ opens)
 
 -- ---- of every run

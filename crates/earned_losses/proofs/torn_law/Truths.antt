@@ -70,8 +70,8 @@ pub record Drawn (sent : List Packet) (owner : NodeId) (last : ℕ) : Type 0 whe
 pub truth_of : (g : Setting) (Was : SegRef → Type 0) (start n : Net) (run : Runs g start n) (sent : List Packet) (owner : NodeId) (k : Known) (s : Scanning)
     → Truths g Was run sent owner s → (what : Do) → ((p : Packet) → what ≡ done.Deliver p → In p sent × (p.to ≡ owner)) → (i : Input) → Comes k s what i
     → IsTrue run s.scan i
-truth_of g Was start n run sent owner k s truths what gets i comes b r v generation at is =
-    by what gets (subst (λ (j : Input). Comes k s what j) is comes)
+truth_of g Was start n run sent owner k s truths what gets i comes b r v generation at fact =
+    by what gets (subst (λ (j : Input). Comes k s what j) fact comes)
   where
     by : (x : Do) → ((p : Packet) → x ≡ done.Deliver p → In p sent × (p.to ≡ owner)) → Comes k s x (input.Missing r.ask v generation)
         → Once (has_drawn r.ask) (LacksIn r.target.seg.name v generation) run
@@ -132,11 +132,11 @@ module _ (g : Setting) (Was Now : SegRef → Type 0) (up : (seg : SegRef) → Wa
       → Truths g Now (then_on run more) (sent ++ new) owner s
   aside others answers = record {
     kept = stages_on g Was Now up start w.net o run more base all s.scan.opening.ask s.scan.stage truths.kept;
-    fetched = λ r p m is from asks same.
-        ⊎_elim (λ old. truths.fetched r p m old from asks same) (λ late. absurd (others p late from)) (in_append sent new p is);
-    missed = λ r p m v is from to tells same.
+    fetched = λ r p m fact from asks same.
+        ⊎_elim (λ old. truths.fetched r p m old from asks same) (λ late. absurd (others p late from)) (in_append sent new p fact);
+    missed = λ r p m v fact from to tells same.
         ⊎_elim (λ old. still_missed r v m.generation (truths.missed r p m v old from to tells same))
-        (λ late. still_missed r v m.generation (now r m v same (answers p m v late from to tells))) (in_append sent new p is);
+        (λ late. still_missed r v m.generation (now r m v same (answers p m v late from to tells))) (in_append sent new p fact);
   }
     where
       now : (r : Reading s) (m : Missing) (v : ℕ) → m.ask ≡ s.asked.ask → Answering m v
@@ -204,10 +204,10 @@ module _ (g : Setting) (Was Now : SegRef → Type 0) (up : (seg : SegRef) → Wa
       took_turn opens = record {
         kept = took g Was Now up start w.net run base torn_now s.scan sees.owner i (came i t.came)
             (truth i t.came) truths.kept o more all later.scan opens t.scan;
-        fetched = λ r p m is from tells same.
-            ⊎_elim (λ old. fetched_old r p m old from tells same) (λ late. fetched_new r p m late tells) (in_append sent new p is);
-        missed = λ r p m v is from to tells same.
-            ⊎_elim (λ old. missed_old r p m v old from to tells same) (λ late. absurd (no_server v (sym (its p late) ∙ from))) (in_append sent new p is);
+        fetched = λ r p m fact from tells same.
+            ⊎_elim (λ old. fetched_old r p m old from tells same) (λ late. fetched_new r p m late tells) (in_append sent new p fact);
+        missed = λ r p m v fact from to tells same.
+            ⊎_elim (λ old. missed_old r p m v old from to tells same) (λ late. absurd (no_server v (sym (its p late) ∙ from))) (in_append sent new p fact);
       }
         where
           fetched_old : (r : Reading later) (p : Packet) (m : Fetch) → In p sent → p.from ≡ owner → p.body ≡ body.Fetch m → m.ask ≡ later.asked.ask
@@ -235,10 +235,10 @@ module _ (g : Setting) (Was Now : SegRef → Type 0) (up : (seg : SegRef) → Wa
         → Truths g Now (then_on run more) (sent ++ new) owner later
     own_turn None later same asks opens = same_stage later same (record {
       kept = stages_on g Was Now up start w.net o run more base all s.scan.opening.ask s.scan.stage truths.kept;
-      fetched = λ r p m is from tells number.
-          ⊎_elim (λ old. truths.fetched r p m old from tells number) (λ late. absurd (asks p m late tells)) (in_append sent new p is);
-      missed = λ r p m v is from to tells number.
+      fetched = λ r p m fact from tells number.
+          ⊎_elim (λ old. truths.fetched r p m old from tells number) (λ late. absurd (asks p m late tells)) (in_append sent new p fact);
+      missed = λ r p m v fact from to tells number.
           ⊎_elim (λ old. still_missed r v m.generation (truths.missed r p m v old from to tells number))
-          (λ late. absurd (no_server v (sym (its p late) ∙ from))) (in_append sent new p is);
+          (λ late. absurd (no_server v (sym (its p late) ∙ from))) (in_append sent new p fact);
     })
     own_turn (Some i) later t asks opens = took_turn i later t asks opens

@@ -54,11 +54,11 @@ same_packet : (p q : Packet) → done.Deliver p ≡ done.Deliver q → p ≡ q
 same_packet p q e = cc
 
 pub brought : (w : World AnyNode) (event : Event) → MayHappen w event → (p : Packet) → what_of event ≡ done.Deliver p → In p w.sent × (p.to ≡ node_of event)
-brought w (Begin node) may p is = absurd cc
-brought w (Deliver q) may p is =
-    let same = same_packet q p is in
+brought w (Begin node) may p fact = absurd cc
+brought w (Deliver q) may p fact =
+    let same = same_packet q p fact in
     (subst (λ x. In x w.sent) same (was_sent w.sent q may), ap (λ (x : Packet). x.to) (sym same))
-brought w (Tick node) may p is = absurd cc
+brought w (Tick node) may p fact = absurd cc
 
 -- one that has just begun reads nothing yet
 fresh_so : (g : Setting) (Was : SegRef → Type 0) (start n : Net) (run : Runs g start n) (sent : List Packet) (name : NodeId) (s : Scanning)
@@ -70,7 +70,7 @@ fresh_so g Was start n run sent name s fresh = record {
 }
   where
     never : (b : Backward) (x : ReadingState) → s.scan.stage ≡ Reads b (Some x) → ⊥
-    never b x is = none (sym fresh ∙ is)
+    never b x fact = none (sym fresh ∙ fact)
       where
         none : Hails ≡ Reads b (Some x) → ⊥
         none e = cc
@@ -101,7 +101,7 @@ module _ (base : Setting) (e : Estate AnyNode) (lines : HasLines base e) (r : Ro
   asker_of count = asker_by r ((lines r is_there).at count)
 
   opens_at : (count : ℕ) (s : Scanning) → scan_at e r count ≡ Some s → is_some (scan_at e r count) ≡ true
-  opens_at count s is = ap is_some is
+  opens_at count s fact = ap is_some fact
 
   -- a Missing answers a fetch of the owner that was sent, of what the server lacks then
   pub record Told (count : ℕ) (m : Missing) (v : ℕ) : Type 0 where
@@ -141,8 +141,8 @@ module _ (base : Setting) (e : Estate AnyNode) (lines : HasLines base e) (r : Ro
       where
         truths : (s : Scanning) → scan_at e r (suc count) ≡ Some s
             → Truths (setting base e r) (Torn (suc count)) (at_count base e lines r is_there keeps (suc count)).run (Sent (suc count)) (owner_by r) s
-        truths s is =
-            let b = node_at base e lines r is_there keeps (suc count) s is in
+        truths s fact =
+            let b = node_at base e lines r is_there keeps (suc count) s fact in
             let was : Here count ≡ Some b.node = sym same ∙ b.stands in
             let a : Node base e lines r is_there keeps count s = record {
               node = b.node;
@@ -151,7 +151,7 @@ module _ (base : Setting) (e : Estate AnyNode) (lines : HasLines base e) (r : Ro
               scans = (owns_at base e lines r is_there keeps count b.node was).scans s b.scan;
             } in
             joined base e lines r is_there keeps count new sent_is s
-            (aside (setting base e r) (Torn count) (Torn (suc count)) (torn_on base e lines r is_there keeps count (opens_at (suc count) s is))
+            (aside (setting base e r) (Torn count) (Torn (suc count)) (torn_on base e lines r is_there keeps count (opens_at (suc count) s fact))
             (opening (setting base e r) (at_count base e lines r is_there keeps count).map) ((lines r is_there).at count)
             (at_count base e lines r is_there keeps count).run (base_at base e lines r is_there keeps count)
             (net base e lines r is_there keeps (suc count)) ((lines r is_there).goes count)
@@ -197,12 +197,12 @@ module _ (base : Setting) (e : Estate AnyNode) (lines : HasLines base e) (r : Ro
 
     own_truths : (s : Scanning) → scan_of (Some x) ≡ Some s → (later : Scanning) → scan_at e r (suc count) ≡ Some later
         → Truths (setting base e r) (Torn (suc count)) (at_count base e lines r is_there keeps (suc count)).run (Sent (suc count)) (owner_by r) later
-    own_truths s scan later is =
+    own_truths s scan later fact =
         let sc = owns.scans s scan in
         let a : Node base e lines r is_there keeps count s = record { node = x; stands = was; scan = scan; scans = sc } in
         let t = sc.turns what in
         let y : AnyNode = (any_step x what).node in
-        let b0 = node_at base e lines r is_there keeps (suc count) later is in
+        let b0 = node_at base e lines r is_there keeps (suc count) later fact in
         let same_node : b0.node ≡ y = one_node b0.node y (sym b0.stands ∙ now) in
         let after : scan_of (Some y) ≡ Some later = subst (λ z. scan_of (Some z) ≡ Some later) same_node b0.scan in
         let boot : boot_in (Some b0.node) ≡ boot_in (Some x) = ap (λ z. boot_in (Some z)) same_node ∙ t.boot in
@@ -211,7 +211,7 @@ module _ (base : Setting) (e : Estate AnyNode) (lines : HasLines base e) (r : Ro
         let before : scan_at e r count ≡ Some s = scan_is base e lines r is_there keeps count x s was scan in
         let truths = good.truths s before in
         joined base e lines r is_there keeps count new sent_is later
-        (own_turn (setting base e r) (Torn count) (Torn (suc count)) (torn_on base e lines r is_there keeps count (opens_at (suc count) later is))
+        (own_turn (setting base e r) (Torn count) (Torn (suc count)) (torn_on base e lines r is_there keeps count (opens_at (suc count) later fact))
         (opening (setting base e r) (at_count base e lines r is_there keeps count).map) ((lines r is_there).at count)
         (at_count base e lines r is_there keeps count).run (base_at base e lines r is_there keeps count)
         (net base e lines r is_there keeps (suc count)) ((lines r is_there).goes count)
@@ -229,14 +229,14 @@ module _ (base : Setting) (e : Estate AnyNode) (lines : HasLines base e) (r : Ro
     pub own_good : Known (suc count)
     own_good = record {
       answered = answered_then count new sent_is good (λ p m v late from to tells. absurd (no_server r v (sym (its p late) ∙ from)));
-      truths = λ later is. by (scan_of (Some x)) refl later is;
+      truths = λ later fact. by (scan_of (Some x)) refl later fact;
     }
       where
         by : (o : Option Scanning) → scan_of (Some x) ≡ o → (later : Scanning) → scan_at e r (suc count) ≡ Some later
             → Truths (setting base e r) (Torn (suc count)) (at_count base e lines r is_there keeps (suc count)).run (Sent (suc count)) (owner_by r) later
-        by (Some s) scan later is = own_truths s scan later is
-        by None scan later is =
-            let b = node_at base e lines r is_there keeps (suc count) later is in
+        by (Some s) scan later fact = own_truths s scan later fact
+        by None scan later fact =
+            let b = node_at base e lines r is_there keeps (suc count) later fact in
             let same_node = one_node b.node (any_step x what).node (sym b.stands ∙ now) in
             fresh_so (setting base e r) (Torn (suc count)) (opening (setting base e r) (at_count base e lines r is_there keeps (suc count)).map)
             (net base e lines r is_there keeps (suc count)) (at_count base e lines r is_there keeps (suc count)).run (Sent (suc count)) (owner_by r) later

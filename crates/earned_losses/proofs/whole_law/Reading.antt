@@ -52,8 +52,8 @@ module _ (below : Below) (e : Estate AnyNode) (run : IsRun any_step any_start e.
 
   -- what was torn while it was read was whole but for disks then
   loses_whole : OpeningLosesWhatIsTorn e r → LosesWhatWasWhole e r
-  loses_whole torn count event is own opens name among =
-      let t = torn count event is own opens name among in
+  loses_whole torn count event fact own opens name among =
+      let t = torn count event fact own opens name among in
       let w = reads_whole t.at t.segment t.read t.torn.kept in
       record { lost = t; whole = w; disks = w.stored.disks (subst (IsTornAt e t.at) (sym w.over) t.torn) }
 

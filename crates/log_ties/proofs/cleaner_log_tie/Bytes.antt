@@ -246,10 +246,10 @@ judged_fits r groups Waiting h bytes = record { round = h; next = tt }
 judged_fits r groups (Read text) h bytes = by_answer (answer_of text) refl
   where
     by_answer : (a : Result Segment SegError) → answer_of text ≡ a → StepFits (read_as r (segment_found r.target groups a))
-    by_answer (Err e) is = record { round = h; next = tt }
-    by_answer (Ok s) is =
+    by_answer (Err e) fact = record { round = h; next = tt }
+    by_answer (Ok s) fact =
         by_test (λ (o : Option Segment). StepFits (read_as r o)) (is_target r.target groups s) (Some s) None
-        (λ t. record { round = h; next = (segment_fits text s bytes is, (answer_takes text s (each_below text bytes) is).1) })
+        (λ t. record { round = h; next = (segment_fits text s bytes fact, (answer_takes text s (each_below text bytes) fact).1) })
         (λ t. record { round = h; next = tt })
 
 -- an answer that comes to a reading

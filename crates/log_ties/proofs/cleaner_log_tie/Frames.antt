@@ -59,29 +59,29 @@ module _ (g : Setting) (a b : Asker) (n next : Net) (later : Later n next) (more
   pub said_as : (from to : NodeId) → from ≡ a.node → (said : Body) → ((m : Welcome) → said ≡ body.Welcome m → to ≡ b.node → to ≡ a.node)
       → BodySeen g a n from to said
       → BodySeen g b next Cleaner to said
-  said_as from (Server k) is (body.Store m) own h = λ its. later.sent _ (h its)
-  said_as from (Client k) is (body.Store m) own h = tt
-  said_as from (Manager k) is (body.Store m) own h = tt
-  said_as from Cleaner is (body.Store m) own h = tt
-  said_as from Registry is (body.Store m) own h = tt
-  said_as from (Server k) is (body.Fence m) own h = λ its. ((h its).0, later.sent _ (h its).1)
-  said_as from (Client k) is (body.Fence m) own h = tt
-  said_as from (Manager k) is (body.Fence m) own h = tt
-  said_as from Cleaner is (body.Fence m) own h = tt
-  said_as from Registry is (body.Fence m) own h = tt
-  said_as from to is (body.Fenced m) own h = tt
-  said_as from to is (body.Stored m) own h = λ its. later.sent _ (h its)
-  said_as from to is (body.Fragment m) own h = λ its. later.sent _ (h its)
-  said_as from to is (body.Listed m) own h = later.sent _ h
-  said_as from to is (body.Delete m) own h = λ its. later.sent _ (h its)
-  said_as from to is (body.Hello m) own h = record { own = λ e. asked_as m.inc (a.asked m.ask) (b.asked m.ask) (more m.ask) (h.own is); reached = tt }
-  said_as from to is (body.Welcome m) own h = record {
+  said_as from (Server k) fact (body.Store m) own h = λ its. later.sent _ (h its)
+  said_as from (Client k) fact (body.Store m) own h = tt
+  said_as from (Manager k) fact (body.Store m) own h = tt
+  said_as from Cleaner fact (body.Store m) own h = tt
+  said_as from Registry fact (body.Store m) own h = tt
+  said_as from (Server k) fact (body.Fence m) own h = λ its. ((h its).0, later.sent _ (h its).1)
+  said_as from (Client k) fact (body.Fence m) own h = tt
+  said_as from (Manager k) fact (body.Fence m) own h = tt
+  said_as from Cleaner fact (body.Fence m) own h = tt
+  said_as from Registry fact (body.Fence m) own h = tt
+  said_as from to fact (body.Fenced m) own h = tt
+  said_as from to fact (body.Stored m) own h = λ its. later.sent _ (h its)
+  said_as from to fact (body.Fragment m) own h = λ its. later.sent _ (h its)
+  said_as from to fact (body.Listed m) own h = later.sent _ h
+  said_as from to fact (body.Delete m) own h = λ its. later.sent _ (h its)
+  said_as from to fact (body.Hello m) own h = record { own = λ e. asked_as m.inc (a.asked m.ask) (b.asked m.ask) (more m.ask) (h.own fact); reached = tt }
+  said_as from to fact (body.Welcome m) own h = record {
     own = λ e. answered_as m (a.asked m.ask) (b.asked m.ask) (more m.ask) (h.own (own m refl e));
     map = later.sent _ h.map;
     low = (let x = h.low in let y = later.low in omega arith);
   }
-  said_as from to is (body.MapNews m) own h = later.sent _ h
-  said_as from to is _ own h = tt
+  said_as from to fact (body.MapNews m) own h = later.sent _ h
+  said_as from to fact _ own h = tt
 
 module _ (g : Setting) where
   -- ---- how the small world grows
@@ -89,9 +89,9 @@ module _ (g : Setting) where
   pub still_grows : (w : Scene) → Grows g w w
   still_grows w = record {
     runs = Begun;
-    sent = λ p is. is;
-    filed = λ name is. is;
-    dropped = λ name is. is;
+    sent = λ p fact. fact;
+    filed = λ name fact. fact;
+    dropped = λ name fact. fact;
     shelves = refl;
     registry = refl;
     low = refl;
@@ -101,9 +101,9 @@ module _ (g : Setting) where
   pub grows_on : (u v w : Scene) → Grows g u v → Grows g v w → Grows g u w
   grows_on u v w a b = record {
     runs = runs_on g u.net v.net w.net a.runs b.runs;
-    sent = λ p is. b.sent p (a.sent p is);
-    filed = λ name is. b.filed name (a.filed name is);
-    dropped = λ name is. b.dropped name (a.dropped name is);
+    sent = λ p fact. b.sent p (a.sent p fact);
+    filed = λ name fact. b.filed name (a.filed name fact);
+    dropped = λ name fact. b.dropped name (a.dropped name fact);
     shelves = b.shelves ∙ a.shelves;
     registry = b.registry ∙ a.registry;
     low = b.low ∙ a.low;
@@ -116,7 +116,7 @@ module _ (g : Setting) where
     runs = a.runs;
     sent = a.sent;
     filed = a.filed;
-    dropped = λ name is. subst (λ names. In name names) (sym a.dropped) is;
+    dropped = λ name fact. subst (λ names. In name names) (sym a.dropped) fact;
     shelves = a.shelves;
     registry = a.registry;
     low = a.low;
@@ -155,7 +155,7 @@ module _ (g : Setting) where
     act_more _ h = tt
 
     does_more : (e : Effect) → CleanerDoes w e → CleanerDoes v e
-    does_more (Send to said) h = said_as g (its_asker w) (its_asker v) w.net v.net (is_later w v grown) grown.asked Cleaner to refl said (λ m is e. e) h
+    does_more (Send to said) h = said_as g (its_asker w) (its_asker v) w.net v.net (is_later w v grown) grown.asked Cleaner to refl said (λ m fact e. e) h
     does_more (Answer item answer) h = tt
     does_more (Lose seg) h = tt
     does_more (Does act) h = act_more act h
@@ -165,15 +165,15 @@ module _ (g : Setting) where
 
   -- ---- one that serves
 
-  module _ (is : g.log ≡ cleaner_log) where
+  module _ (fact : g.log ≡ cleaner_log) where
     -- as one sees it that asks for its job alone
     as_seen : (w : Scene) (e : Emptying) → Stands g w e → EmptyingSeen g w.net e
     as_seen w e h = record {
       log = record {
-        log = h.log.own.log ∙ is;
+        log = h.log.own.log ∙ fact;
         flight =
             if_some (λ (f : FlightState). f.segment.name.log ≡ g.log) (λ (f : FlightState). f.segment.name.log ≡ cleaner_log)
-            (λ f named. named ∙ is) e.log.flight h.log.own.flight;
+            (λ f named. named ∙ fact) e.log.flight h.log.own.flight;
       };
       job = if_some (JobStands g w) (JobSeen g w.net) (λ job its. its.seen) e.job h.job;
     }
@@ -255,7 +255,7 @@ module _ (g : Setting) where
     pub only : OnlyOrdered g (its_asker w) w.net next.net d.outs
 
   pub at_once : (w : Scene) (e : Emptying) (outs : List Effect) → Stands g w e → AllDone w outs → Gone w (record { state = e; outs = outs })
-  at_once w e outs stands does = record { next = w; grown = still_grows w; stands = stands; does = does; boot = refl; only = λ name is. inl is }
+  at_once w e outs stands does = record { next = w; grown = still_grows w; stands = stands; does = does; boot = refl; only = λ name fact. inl fact }
 
   pub stays : (w : Scene) (e : Emptying) → Stands g w e → Gone w (still e)
   stays w e stands = at_once w e [] stands tt
@@ -278,7 +278,7 @@ module _ (g : Setting) where
     stands = q.stands;
     does = all_append (CleanerDoes q.next) outs e.outs (all_more w q.next q.grown outs does) q.does;
     boot = q.boot;
-    only = ordered_then g (its_asker w) w.net w.net q.next.net outs e.outs (λ name is. inl is) q.only;
+    only = ordered_then g (its_asker w) w.net w.net q.next.net outs e.outs (λ name fact. inl fact) q.only;
   }
 
   -- one step after the other

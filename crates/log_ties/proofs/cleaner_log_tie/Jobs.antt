@@ -77,7 +77,7 @@ use Rattle.log_ties.proofs.cleaner_log_tie.Fits.{MoveFits, OutFits, InputFits, D
 use Rattle.log_ties.proofs.cleaner_log_tie.Hands.{InHand, HeardFits, checked_fits, confirms_fits, dropped_fits, hears_fits, over_read_fits, taken_fits}
 use Rattle.log_ties.proofs.cleaner_log_tie.Frames.{CleanerDoes, AllDone, Gone, LogTook, still_grows, is_later, job_more, log_takes, at_once, stays, and_then, all_steps}
 
-module _ (g : Setting) (is : g.log ≡ cleaner_log) where
+module _ (g : Setting) (fact : g.log ≡ cleaner_log) where
   abbrev Goes : Scene → Done → Type 0
   Goes w d = Gone g w d
 
@@ -136,7 +136,7 @@ module _ (g : Setting) (is : g.log ≡ cleaner_log) where
         };
         does = (record { own = λ own. subst (AskedBy g (its_asker v) v.net e.lasting.inc) (sym (put_here w.asked number OfMaps)) tt; reached = tt }, tt);
         boot = refl;
-        only = λ name is. inl is;
+        only = λ name fact. inl fact;
       }
 
   maps_asked : (w : Scene) (e : Emptying) (job : Option Job) → has_room e.lasting.questions.last ≡ true → Stands g w e → IfSome job (JobStands g w)
@@ -224,14 +224,14 @@ module _ (g : Setting) (is : g.log ≡ cleaner_log) where
   put_so : (w : Scene) (e : Emptying) (i : LogIn) → Stands g w e → CameToLog w.net i → texts.InputFits i → Goes w (puts e i)
   unfolding puts
   put_so w e i h came fits =
-      let t : LogTook g is w e (log.transition e.log i) = log_takes g is w e i h came fits in
+      let t : LogTook g fact w e (log.transition e.log i) = log_takes g fact w e i h came fits in
       record {
         next = t.next;
         grown = t.grown;
         stands = t.stands;
         does = all_stored t.next (log.transition e.log i).outs t.sent;
         boot = t.boot;
-        only = λ name is. inl (subst (In name) t.kept is);
+        only = λ name fact. inl (subst (In name) t.kept fact);
       }
 
   block_put : (w : Scene) (e : Emptying) (one : BlockId × Entry × Option (List ℕ)) → Stands g w e → MoveFits one → Goes w (puts_block e one)
@@ -282,7 +282,7 @@ module _ (g : Setting) (is : g.log ≡ cleaner_log) where
             asked = refl;
             said = λ its. inl (ap DeleteSent (sym m.named));
             acted = λ its. inl (sym m.named);
-            only = λ x is. ⊎_elim (λ same. inr (same ∙ m.named)) (λ was. inl was) is;
+            only = λ x fact. ⊎_elim (λ same. inr (same ∙ m.named)) (λ was. inl was) fact;
           }
       by_log false foreign = record {
         next = w;
@@ -292,7 +292,7 @@ module _ (g : Setting) (is : g.log ≡ cleaner_log) where
         asked = refl;
         said = λ its. contrary (sym foreign ∙ its);
         acted = λ its. contrary (sym foreign ∙ its);
-        only = λ x is. inl is;
+        only = λ x fact. inl fact;
       }
 
   -- one whose owner stands as it was stands so too
@@ -301,7 +301,7 @@ module _ (g : Setting) (is : g.log ≡ cleaner_log) where
     lasts = record { number = refl; inc = inc ∙ h.lasts.inc; fresh = λ k later. ap (λ (f : ℕ → _). f k) asked ∙ h.lasts.fresh k later };
     log = record { owner = owner ∙ h.log.owner; own = h.log.own };
     written = h.written;
-    job = job_more g is w v grown e h;
+    job = job_more g fact w v grown e h;
   }
 
   drop_acted : (w : Scene) (is_first : Bool) (name : SegName) → (is_of_log g name ≡ true → In name w.net.dropped) → AllDone g w (drops is_first name)
@@ -326,11 +326,11 @@ module _ (g : Setting) (is : g.log ≡ cleaner_log) where
             });
         does = all_append (CleanerDoes g l.next) (drops (is_whole job.hand) name) _ (drop_acted l.next (is_whole job.hand) name l.acted) (l.said, tt);
         boot = l.inc;
-        only = λ x is. ⊎_elim (λ was. inl was)
+        only = λ x fact. ⊎_elim (λ was. inl was)
             (λ same. inr (
               node.Server server,
               in_after (drops (is_whole job.hand) name) _ _ (inl (ap (λ (z : SegName). Send (node.Server server) (body.Delete (record { name = z }))) same)),
-            )) (l.only x is);
+            )) (l.only x fact);
       }
 
   job_over : (w : Scene) (e : Emptying) (count : ℕ) → Stands g w e → Goes w (finishes e count)

@@ -74,7 +74,7 @@ use Rattle.log_ties.proofs.cleaner_log_tie.StandIn.{WentOn}
 next_inc : (k : ℕ) → has_room k ≡ true → cond (nat_lt k u32_end) (k + 1) k ≡ suc k
 next_inc k room = grind (arith, nat_tests)
 
-module _ (g : Setting) (is : g.log ≡ cleaner_log) (w : Scene) where
+module _ (g : Setting) (fact : g.log ≡ cleaner_log) (w : Scene) where
   -- the small world runs on to one in which the cleaner is seen in its phase, and all that it does is seen
   record Goes (x : Went_to) : Type 0 where
     next : Scene
@@ -94,7 +94,7 @@ module _ (g : Setting) (is : g.log ≡ cleaner_log) (w : Scene) where
         does = does;
         flies = inr (refl, refl);
         straight = once_straight g w.net w.net (still_grows g w).runs (still_once g w);
-        only = λ name is. inl is;
+        only = λ name fact. inl fact;
       }
 
   stays : (p : Phase) → CleanerAgrees g w p → Goes (still p)
@@ -179,7 +179,7 @@ module _ (g : Setting) (is : g.log ≡ cleaner_log) (w : Scene) where
         (tt, tt);
     flies = inr ((fall_of w.net).flown, (fall_of w.net).filed);
     straight = down_straight g w.net (fallen w).net (fallen_grows w).runs (fallen_never w) (fall_of w.net).down;
-    only = λ name is. inl (subst (In name) (fall_of w.net).dropped is);
+    only = λ name fact. inl (subst (In name) (fall_of w.net).dropped fact);
   }
 
   -- ---- restarts
@@ -212,8 +212,8 @@ module _ (g : Setting) (is : g.log ≡ cleaner_log) (w : Scene) where
         agrees = record {
           lasts = record { number = refl; inc = inc; fresh = put_fresh w.asked (next_ask q) (OfOpening 1) q.last rises lasts.fresh };
           sees = record {
-            owner = ap (λ z. owner.Opening (started z (suc w.net.inc))) is ∙ ap (λ k. owner.Opening (started cleaner_log k)) inc;
-            log = sym is;
+            owner = ap (λ z. owner.Opening (started z (suc w.net.inc))) fact ∙ ap (λ k. owner.Opening (started cleaner_log k)) inc;
+            log = sym fact;
             inc = sym inc;
             groups = refl;
             came = tt;
@@ -235,7 +235,7 @@ module _ (g : Setting) (is : g.log ≡ cleaner_log) (w : Scene) where
         );
         flies = inr (refl, refl);
         straight = record { never = λ e. (refl, (refl, tt)); once = λ a b. contrary b; stays = λ a b. contrary b; picks = λ e. contrary e };
-        only = λ name is. inl is;
+        only = λ name fact. inl fact;
       }
 
   -- ---- an opening goes on
@@ -257,7 +257,7 @@ module _ (g : Setting) (is : g.log ≡ cleaner_log) (w : Scene) where
         does = all_append (CleanerDoes g t.next) x.effects [] t.does tt;
         flies = in_boot (stage_up g its_number t.next o.known x.questions.last o.stage shows.0);
         straight = once_straight g w.net t.next.net t.grown.runs t.once;
-        only = λ name is. inl (subst (In name) t.kept is);
+        only = λ name fact. inl (subst (In name) t.kept fact);
       }
       by_progress (progress.Opened o) shows asks lost = record {
         next = t.next;
@@ -265,10 +265,10 @@ module _ (g : Setting) (is : g.log ≡ cleaner_log) (w : Scene) where
         agrees = record { lasts = t.lasts; log = shows.0; written = shows.1; job = tt };
         does = all_append (CleanerDoes g t.next) x.effects _ t.does
             (all_append (CleanerDoes g t.next) (pushes_all o.promised.managers o.feed) (answers_unanswered l.items.unanswered answer.Done)
-            (serving.deltas_pushed g is t.next o.promised.managers o.feed) (answers_do t.next l.items.unanswered answer.Done));
+            (serving.deltas_pushed g fact t.next o.promised.managers o.feed) (answers_do t.next l.items.unanswered answer.Done));
         flies = in_boot (log_up g its_number t.next o.log shows.0);
         straight = once_straight g w.net t.next.net t.grown.runs t.once;
-        only = λ name is. inl (subst (In name) t.kept is);
+        only = λ name fact. inl (subst (In name) t.kept fact);
       }
       by_progress (progress.Lost seg) shows asks lost = record {
         next = fallen t.next;
@@ -281,7 +281,7 @@ module _ (g : Setting) (is : g.log ≡ cleaner_log) (w : Scene) where
             (never_then g w.net t.next.net (fallen t.next).net t.grown.runs (fallen_grows t.next).runs
             ((once_straight g w.net t.next.net t.grown.runs t.once).never (lost tt).1.1) (fallen_never t.next))
             (fall_of t.next.net).down;
-        only = λ name is. inl (subst (In name) ((fall_of t.next.net).dropped ∙ t.kept) is);
+        only = λ name fact. inl (subst (In name) ((fall_of t.next.net).dropped ∙ t.kept) fact);
       }
 
   -- ---- items
@@ -303,7 +303,7 @@ module _ (g : Setting) (is : g.log ≡ cleaner_log) (w : Scene) where
   serving_wish e number Crash sees room = crashed e.lasting number sees.lasts
   serving_wish e number Restart sees room = at_once (Serving e) _ sees (tt, tt)
   serving_wish e number (Clean count) sees room =
-      serves (on_clean e number count) e.log sees.log (serving.cleaning_wished g is w e number count room sees)
+      serves (on_clean e number count) e.log sees.log (serving.cleaning_wished g fact w e number count room sees)
 
   down_item : (servers : ℕ) (l : Lasting) (item : Option ℕ) → CleanerAgrees g w (Down l) → lasting_room l ≡ true → Goes (down_at servers l item)
   down_item servers l None sees room = stays (Down l) sees
@@ -340,12 +340,12 @@ module _ (g : Setting) (is : g.log ≡ cleaner_log) (w : Scene) where
   heard (Down l) packet sees owed room = stays (Down l) sees
   heard (Opening l o) packet sees owed room =
       opened l (opening.on_packet o l.questions packet) sees.lasts (stage_up g its_number w o.known l.questions.last o.stage sees.sees)
-      (stand_in.packet_heard g is w l.inc l.questions sees.lasts (asks_room l room) (life_room l room) o sees.sees sees.written sees.asks owed.opening packet
+      (stand_in.packet_heard g fact w l.inc l.questions sees.lasts (asks_room l room) (life_room l room) o sees.sees sees.written sees.asks owed.opening packet
       (subst (λ to. BodySeen g (its_asker w) w.net packet.from to packet.body) owed.own owed.seen) owed.fits)
       (packet_few o l.questions packet (asks_room l room) sees.asks)
   heard (Serving e) packet sees owed room =
       serves (on_packet e packet) e.log sees.log
-      (serving.packet_heard g is w e packet (asks_room e.lasting room) sees
+      (serving.packet_heard g fact w e packet (asks_room e.lasting room) sees
       (subst (λ to. BodySeen g (its_asker w) w.net packet.from to packet.body) owed.own owed.seen)
       owed.fits)
 
@@ -354,9 +354,9 @@ module _ (g : Setting) (is : g.log ≡ cleaner_log) (w : Scene) where
   passed (Down l) sees owed room = stays (Down l) sees
   passed (Opening l o) sees owed room =
       opened l (opening.on_tick o l.questions) sees.lasts (stage_up g its_number w o.known l.questions.last o.stage sees.sees)
-      (stand_in.time_passes g is w l.inc l.questions sees.lasts (asks_room l room) (life_room l room) o sees.sees sees.written sees.asks owed)
+      (stand_in.time_passes g fact w l.inc l.questions sees.lasts (asks_room l room) (life_room l room) o sees.sees sees.written sees.asks owed)
       (tick_few o l.questions (asks_room l room) sees.asks)
-  passed (Serving e) sees owed room = serves (on_tick e) e.log sees.log (serving.time_passes g is w e (asks_room e.lasting room) sees)
+  passed (Serving e) sees owed room = serves (on_tick e) e.log sees.log (serving.time_passes g fact w e (asks_room e.lasting room) sees)
 
   its_room : (p : Phase) → phase_room p ≡ true → lasting_room (lasting_of p) ≡ true
   its_room (Down l) room = room
@@ -394,9 +394,9 @@ module _ (g : Setting) (w : Scene) where
   all_acts (e ∷ outs) all = All-append (ActSeen g w) (act_of TheCleaner e) (acts_of TheCleaner outs) (one_act e all.0) (all_acts outs all.1)
 
 pub owner_takes : OwnerTakes
-owner_takes g is w cleaner what sees owed =
+owner_takes g fact w cleaner what sees owed =
     let outs : List Effect = (takes cleaner.peers cleaner.phase what).outs in
-    let p : Goes g is w (takes cleaner.peers cleaner.phase what) = taken_so g is w cleaner.peers cleaner.phase what sees owed in
+    let p : Goes g fact w (takes cleaner.peers cleaner.phase what) = taken_so g fact w cleaner.peers cleaner.phase what sees owed in
     record {
       next = p.next;
       grown = p.grown;

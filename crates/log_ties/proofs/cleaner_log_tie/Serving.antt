@@ -114,7 +114,7 @@ room_left e number count room =
     let n : IsNew e.lasting.questions f = record { questions = refl; job = _; begun = refl; greeting = refl } in
     subst (λ (q : Questions). has_room q.last ≡ true) (sym (all_new e.lasting.questions f (range_with_len 0 8) n).questions) room
 
-module _ (g : Setting) (is : g.log ≡ cleaner_log) where
+module _ (g : Setting) (fact : g.log ≡ cleaner_log) where
   abbrev Goes : Scene → Done → Type 0
   Goes w d = Gone g w d
 
@@ -134,7 +134,7 @@ module _ (g : Setting) (is : g.log ≡ cleaner_log) where
 
   slot_promised : (w : Scene) (e : Emptying) (slot : ℕ) → Stands g w e → Unit {0} → Goes w (promises_slot e slot)
   unfolding promises_slot
-  slot_promised w e slot h no_more = job_goes_on g is w e (input.Promise slot (epoch_of e.promised slot)) h tt tt
+  slot_promised w e slot h no_more = job_goes_on g fact w e (input.Promise slot (epoch_of e.promised slot)) h tt tt
 
   all_promised : (w : Scene) (e : Emptying) → Stands g w e → Goes w (promises_all e)
   unfolding promises_all
@@ -148,7 +148,7 @@ module _ (g : Setting) (is : g.log ≡ cleaner_log) where
       let d : Done = promises_all f in
       let p : Goes w d =
       all_promised w f (record { lasts = h.lasts; log = h.log; written = h.written; job = record { seen = tt; hello = tt; phase = tt; hand = tt } }) in
-      and_then g w d (cleans d.state input.Tick) p (job_in_time g is p.next d.state (room_left e number count room) p.stands)
+      and_then g w d (cleans d.state input.Tick) p (job_in_time g fact p.next d.state (room_left e number count room) p.stands)
 
   pub cleaning_wished : (w : Scene) (e : Emptying) (number count : ℕ) → has_room e.lasting.questions.last ≡ true → Stands g w e
       → Goes w (on_clean e number count)
@@ -174,7 +174,7 @@ module _ (g : Setting) (is : g.log ≡ cleaner_log) where
   all_said w [] sent filed = tt
   all_said w (log_out.Send f member ∷ outs) sent filed = (sent _ (inl refl), all_said w outs (λ p among. sent p (inr among)) filed)
   all_said w (log_out.Settled end rows ∷ outs) sent filed = (
-    subst (λ (l : LogId). In (name_of l end) w.net.filed) is (filed (name_of g.log end) (inl refl)),
+    subst (λ (l : LogId). In (name_of l end) w.net.filed) fact (filed (name_of g.log end) (inl refl)),
     all_said w outs sent (λ name among. filed name (inr among)),
   )
 
@@ -188,14 +188,14 @@ module _ (g : Setting) (is : g.log ≡ cleaner_log) where
   segment_settled w e end rows h filed =
       let f : Emptying = fed e end rows in
       after_these g w (_ ∷ pushes_all f.promised.managers f.feed) (cleans f input.Moved) (filed, deltas_pushed w f.promised.managers f.feed)
-      (job_goes_on g is w f input.Moved (record { lasts = h.lasts; log = h.log; written = h.written; job = moved_kept w e.job h.job }) tt tt)
+      (job_goes_on g fact w f input.Moved (record { lasts = h.lasts; log = h.log; written = h.written; job = moved_kept w e.job h.job }) tt tt)
 
   one_written : (w : Scene) (e : Emptying) (o : LogOut) → Stands g w e → LogSaid w o → Goes w (writes_one e o)
   unfolding writes_one
   one_written w e (log_out.Send f member) h said = at_once g w e _ h (λ own. said, tt)
   one_written w e (log_out.Settled end rows) h said = segment_settled w e end rows h said
 
-  all_written : (w : Scene) (e : Emptying) (r : log.Done) → LogTook g is w e r → Goes w (steps writes_one (record e { log = r.state }) r.outs)
+  all_written : (w : Scene) (e : Emptying) (r : log.Done) → LogTook g fact w e r → Goes w (steps writes_one (record e { log = r.state }) r.outs)
   all_written w e r t =
       let f : Emptying = record e { log = r.state } in
       let p : Goes t.next (steps writes_one f r.outs) =
@@ -206,21 +206,21 @@ module _ (g : Setting) (is : g.log ≡ cleaner_log) where
         stands = p.stands;
         does = p.does;
         boot = p.boot ∙ t.boot;
-        only = λ name is. ⊎_elim (λ was. inl (subst (In name) t.kept was)) inr (p.only name is);
+        only = λ name fact. ⊎_elim (λ was. inl (subst (In name) t.kept was)) inr (p.only name fact);
       }
 
   stored_came : (w : Scene) (e : Emptying) (m : Stored) → Stands g w e → BodySeen g (its_asker w) w.net node.Cleaner node.Cleaner (body.Stored m)
       → Goes w (on_stored e m)
   unfolding writes
-  stored_came w e m h seen = all_written w e (log.on_acked e.log m.name m.index m.generation) (log_takes_stored g is w e m.name m.index m.generation h seen)
+  stored_came w e m h seen = all_written w e (log.on_acked e.log m.name m.index m.generation) (log_takes_stored g fact w e m.name m.index m.generation h seen)
 
   maps_written : (w : Scene) (e : Emptying) (m : GroupMapState) → Stands g w e → In (MapSent m) w.net.sent → MapFits m → Goes w (writes e (log_in.Maps m))
   unfolding writes
-  maps_written w e m h came fit = all_written w e (log.transition e.log (log_in.Maps m)) (log_takes g is w e (log_in.Maps m) h came fit)
+  maps_written w e m h came fit = all_written w e (log.transition e.log (log_in.Maps m)) (log_takes g fact w e (log_in.Maps m) h came fit)
 
   time_written : (w : Scene) (e : Emptying) → Stands g w e → Goes w (writes e log_in.Tick)
   unfolding writes
-  time_written w e h = all_written w e (log.transition e.log log_in.Tick) (log_takes g is w e log_in.Tick h tt tt)
+  time_written w e h = all_written w e (log.transition e.log log_in.Tick) (log_takes g fact w e log_in.Tick h tt tt)
 
   acknowledged : (w : Scene) (e : Emptying) (m : DeltaAck) → Stands g w e → Goes w (on_ack e m)
   unfolding on_ack
@@ -243,7 +243,7 @@ module _ (g : Setting) (is : g.log ≡ cleaner_log) where
   reported w e manager m h =
       let kept : Emptying = promises e m.slot m.epoch manager in
       after_these g w (_ ∷ []) (cleans kept (input.Promise m.slot m.epoch)) (tt, tt)
-      (job_goes_on g is w kept (input.Promise m.slot m.epoch) (promised w e m.slot m.epoch manager h) tt tt)
+      (job_goes_on g fact w kept (input.Promise m.slot m.epoch) (promised w e m.slot m.epoch manager h) tt tt)
 
   poll_heard : (w : Scene) (e : Emptying) (from : NodeId) (m : Poll) → Stands g w e → Goes w (on_poll e from m)
   unfolding on_poll
@@ -261,7 +261,7 @@ module _ (g : Setting) (is : g.log ≡ cleaner_log) where
   slot_heard w e news h no_more =
       by_test (Goes w) (nat_lt (epoch_of e.promised news.slot) news.epoch)
       (cleans (promises e news.slot news.epoch news.manager) (input.Promise news.slot news.epoch)) (still e)
-      (λ t. job_goes_on g is w (promises e news.slot news.epoch news.manager) (input.Promise news.slot news.epoch)
+      (λ t. job_goes_on g fact w (promises e news.slot news.epoch news.manager) (input.Promise news.slot news.epoch)
       (promised w e news.slot news.epoch news.manager h) tt tt)
       (λ t. stays g w e h)
 
@@ -270,7 +270,7 @@ module _ (g : Setting) (is : g.log ≡ cleaner_log) where
   slots_heard w e slots h = all_steps g hears_slot (λ v x. Unit {0}) (λ v k grown x o. tt) slot_heard w e slots h (nothing_more slots)
 
   job_hears_groups : (w : Scene) (e : Emptying) (newer : Bool) (m : GroupMapState) → Stands g w e → Goes w (job_regrouped e newer m)
-  job_hears_groups w e true m h = job_goes_on g is w e (input.Maps m) h tt tt
+  job_hears_groups w e true m h = job_goes_on g fact w e (input.Maps m) h tt tt
   job_hears_groups w e false m h = stays g w e h
 
   log_hears_groups : (w : Scene) (e : Emptying) (newer : Bool) (m : GroupMapState) → Stands g w e → In (MapSent m) w.net.sent → MapFits m
@@ -301,7 +301,7 @@ module _ (g : Setting) (is : g.log ≡ cleaner_log) where
   welcomed_over : (w : Scene) (e : Emptying) (slots : List SlotNews) (m : Option GroupMapState) → Stands g w e → least_horizon g.log.0 slots ≤ w.net.low
       → Goes w (welcomes_over e slots m)
   welcomed_over w e slots None h low = stays g w e h
-  welcomed_over w e slots (Some m) h low = job_goes_on g is w e (input.Welcome slots m) h low tt
+  welcomed_over w e slots (Some m) h low = job_goes_on g fact w e (input.Welcome slots m) h low tt
 
   job_welcomed : (w : Scene) (e : Emptying) (m : Welcome) → Stands g w e → least_horizon g.log.0 m.news.slots ≤ w.net.low → Goes w (welcomes e m)
   unfolding welcomes
@@ -345,11 +345,11 @@ module _ (g : Setting) (is : g.log ≡ cleaner_log) where
           lasts = record { number = refl; inc = h.lasts.inc; fresh = put_fresh w.asked number OfMaps q.last rises h.lasts.fresh };
           log = record { owner = h.log.owner; own = h.log.own };
           written = h.written;
-          job = job_more g is w v grown e h;
+          job = job_more g fact w v grown e h;
         };
         does = (record { own = λ own. subst (AskedBy g (its_asker v) v.net e.lasting.inc) (sym (put_here w.asked number OfMaps)) tt; reached = tt }, tt);
         boot = refl;
-        only = λ name is. inl is;
+        only = λ name fact. inl fact;
       }
 
   -- ---- packets and time
@@ -361,13 +361,13 @@ module _ (g : Setting) (is : g.log ≡ cleaner_log) where
   body_heard w e from (body.Poll m) h seen fit = poll_heard w e from m h
   body_heard w e from (body.DeltaAck m) h seen fit = acknowledged w e m h
   body_heard w e from (body.Stored m) h seen fit = stored_came w e m h seen
-  body_heard w e from (body.Listed m) h seen fit = list_came g is w e (server_in from) m h seen
-  body_heard w e from (body.Usage m) h seen fit = usage_came g is w e m h
-  body_heard w e from (body.Fragment m) h seen fit = told_came g is w e (server_in from) m.ask (told.Held m.fragment) h fit
-  body_heard w e from (body.Missing m) h seen fit = told_came g is w e (server_in from) m.ask (told.Missing m.generation) h tt
-  body_heard w e from (body.Live m) h seen fit = live_came g is w e m h fit
-  body_heard w e from (body.Dead m) h seen fit = dead_came g is w e m h
-  body_heard w e from (body.Deleted m) h seen fit = deleted_came g is w e (server_in from) m h
+  body_heard w e from (body.Listed m) h seen fit = list_came g fact w e (server_in from) m h seen
+  body_heard w e from (body.Usage m) h seen fit = usage_came g fact w e m h
+  body_heard w e from (body.Fragment m) h seen fit = told_came g fact w e (server_in from) m.ask (told.Held m.fragment) h fit
+  body_heard w e from (body.Missing m) h seen fit = told_came g fact w e (server_in from) m.ask (told.Missing m.generation) h tt
+  body_heard w e from (body.Live m) h seen fit = live_came g fact w e m h fit
+  body_heard w e from (body.Dead m) h seen fit = dead_came g fact w e m h
+  body_heard w e from (body.Deleted m) h seen fit = deleted_came g fact w e (server_in from) m h
   body_heard w e from _ h seen fit = stays g w e h
 
   pub packet_heard : (w : Scene) (e : Emptying) (p : packets.Packet) → has_room e.lasting.questions.last ≡ true → Stands g w e
@@ -384,7 +384,7 @@ module _ (g : Setting) (is : g.log ≡ cleaner_log) where
       let j : Done = cleans e input.Tick in
       let l : Done = writes j.state log_in.Tick in
       let r : Done = record { state = l.state; outs = pushes_all l.state.promised.managers l.state.feed } in
-      let pj : Goes w j = job_in_time g is w e room h in
+      let pj : Goes w j = job_in_time g fact w e room h in
       let pl : Goes pj.next l = time_written pj.next j.state pj.stands in
       and_then g w j (saying l.outs r) pj
       (and_then g pj.next l r pl (at_once g pl.next l.state r.outs pl.stands (deltas_pushed pl.next l.state.promised.managers l.state.feed)))

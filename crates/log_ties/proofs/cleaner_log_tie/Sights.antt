@@ -52,11 +52,11 @@ module _ (g : Setting) (w v : Scene) (grown : Grows g w v) where
   body_more from to (body.Listed m) h = grown.sent _ h
   body_more from to (body.Delete m) h = λ own. grown.sent _ (h own)
   body_more from to (body.Hello m) h = record {
-    own = λ is. asked_more m.inc (w.asked m.ask) (v.asked m.ask) (grown.asked m.ask) (h.own is);
+    own = λ fact. asked_more m.inc (w.asked m.ask) (v.asked m.ask) (grown.asked m.ask) (h.own fact);
     reached = reached_more from m.inc h.reached;
   }
   body_more from to (body.Welcome m) h = record {
-    own = λ is. answered_more m (w.asked m.ask) (v.asked m.ask) (grown.asked m.ask) (h.own is);
+    own = λ fact. answered_more m (w.asked m.ask) (v.asked m.ask) (grown.asked m.ask) (h.own fact);
     map = grown.sent _ h.map;
     low = (let x = h.low in let y = grown.low in omega arith);
   }

@@ -172,13 +172,13 @@ module _ (g : Setting) where
     once = owner_once g w t.next t.grown t.once;
   }
 
-  module _ (is : g.log ≡ cleaner_log) (w : Scene) (life : ℕ) (q : Questions) (lasts : Lasts g its_number w its_number life q.last)
+  module _ (fact : g.log ≡ cleaner_log) (w : Scene) (life : ℕ) (q : Questions) (lasts : Lasts g its_number w its_number life q.last)
       (room : has_room q.last ≡ true) (life_room : has_room life ≡ true)
       (o : openings.Opening)
       (sees : SeesStage g its_number w o.known q.last o.stage) (written : StageWritten o.stage) (asks : StageAsks o.stage q.last)
       (tells : StageTells g w.net o.stage) where
     small : is_log g.log.0 ≡ true
-    small = ap (λ (l : LogId). is_log l.0) is
+    small = ap (λ (l : LogId). is_log l.0) fact
 
     owed : StageOwed g w.net o.stage
     owed = owed_so g its_number small w o.known o.stage q.last (let e = lasts.inc in let b = in_range life life_room in omega arith) room sees asks tells

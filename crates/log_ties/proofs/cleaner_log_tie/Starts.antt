@@ -9,11 +9,11 @@ use Rattle.cleaner_parts.specs.Starting.{cleaner_log}
 use Rattle.log_ties.specs.cleaner_log_tie.OwnerEvents.{OwnerStarts}
 
 pub owner_starts : OwnerStarts
-owner_starts g is setup works ids = record {
+owner_starts g fact setup works ids = record {
   lasts = record { number = refl; inc = refl; fresh = λ k later. refl };
   log = record {
-    owner = ap (λ log. owner.Serving (started log 1 no_end (groups.started setup.servers setup.groups))) is;
-    own = record { log = sym is; flight = tt };
+    owner = ap (λ log. owner.Serving (started log 1 no_end (groups.started setup.servers setup.groups))) fact;
+    own = record { log = sym fact; flight = tt };
   };
   written =
       what_fits_stays_written cleaner_log 1 no_end (groups.started setup.servers setup.groups) (omega arith, omega arith) (omega arith)

@@ -9,11 +9,11 @@ use Rattle.client_node.specs.Phases.{owner_of, takes, Went_to, crashed, restarte
 use Rattle.client_parts.specs.declared.call.Going.{Going}
 use Rattle.client_parts.specs.declared.lasting.Lasting.{Lasting}
 use Rattle.client_parts.specs.Lasting.{next_life}
-use Rattle.client_serving.specs.Crash.{falls}
+use Rattle.client_node.specs.Crash.{falls}
 use Rattle.client_serving.specs.declared.serving.Serving.{Serving}
-use Rattle.client_serving.specs.Opens.{begins_call, call_at, opens}
+use Rattle.client_calls.specs.Opens.{begins_call, call_at, opens}
 use Rattle.client_serving.specs.Packets as packets
-use Rattle.client_serving.specs.Running.{goes_on}
+use Rattle.client_calls.specs.Running.{goes_on}
 use Rattle.client_serving.specs.Sends.{Done, gives}
 use Rattle.log_owner.specs.declared.opened.Opened.{Opened}
 use Rattle.log_owner.specs.declared.opened.Progress.{Progress}
@@ -79,7 +79,7 @@ use Rattle.log_ties.proofs.client_log_tie.Straight.{down_straight, once_straight
 next_inc : (k : ℕ) → has_room k ≡ true → cond (nat_lt k u32_end) (k + 1) k ≡ suc k
 next_inc k room = grind (arith, nat_tests)
 
-module _ (g : Setting) (c : ℕ) (is : g.log ≡ record { 0 = c }) (small : is_log c ≡ true) (w : Scene) where
+module _ (g : Setting) (c : ℕ) (fact : g.log ≡ record { 0 = c }) (small : is_log c ≡ true) (w : Scene) where
   abbrev Goes : Went_to → Type 0
   Goes x = ClientDid g c w x.state x.outs
 
@@ -190,7 +190,7 @@ module _ (g : Setting) (c : ℕ) (is : g.log ≡ record { 0 = c }) (small : is_l
       let q : Questions = l.questions in
       let up : w.net.inc ≡ l.inc = lasts.inc in
       let inc : suc w.net.inc ≡ (next_life l number).inc = ap (λ k. suc k) up ∙ sym (next_inc l.inc room) in
-      let log : g.log ≡ record { 0 = l.number } = is ∙ ap (λ (k : ℕ). record { 0 = k }) (sym lasts.number) in
+      let log : g.log ≡ record { 0 = l.number } = fact ∙ ap (λ (k : ℕ). record { 0 = k }) (sym lasts.number) in
       let rises : q.last < next_ask q = ask_rises q asks_room in
       let first : ScanState = started g.log (suc w.net.inc) in
       let risen : Net = record w.net { inc = suc w.net.inc; owner = owner.Opening first } in
@@ -311,7 +311,7 @@ module _ (g : Setting) (c : ℕ) (is : g.log ≡ record { 0 = c }) (small : is_l
         }
 
   its_log : is_log g.log.0 ≡ true
-  its_log = subst (λ (l : LogId). is_log l.0 ≡ true) (sym is) small
+  its_log = subst (λ (l : LogId). is_log l.0 ≡ true) (sym fact) small
 
   -- ---- one that serves
 
@@ -345,7 +345,7 @@ module _ (g : Setting) (c : ℕ) (is : g.log ≡ record { 0 = c }) (small : is_l
   begins_so s number None h = says_so s number answer.Done h
   begins_so s number (Some x) h =
       let t : Serving = record s { lasting = record s.lasting { items = waiting s.lasting.items number } } in
-      serving.runs_after g c is w (goes_on t x) (calls.goes_on_so g c is w t x h)
+      serving.runs_after g c fact w (goes_on t x) (calls.goes_on_so g c fact w t x h)
 
   opens_so : (s : Serving) (number : ℕ) → AtServing s → frames.Goes g c w (opens s number)
   unfolding opens
@@ -399,8 +399,8 @@ module _ (g : Setting) (c : ℕ) (is : g.log ≡ record { 0 = c }) (small : is_l
       (record { sees = sees.1; written = written; owed = owed l o sees brings.scans life room }))
       (packet_few o l.questions packet room sees.2)
   on_deliver_so capacity (Serves s) packet sees written brings life room =
-      serves_so (serving.and_runs g c is (packets.on_packet s packet)) s.log sees.1
-      (serving.packet_so g c is w s packet brings.seen brings.fits room (stands s sees written))
+      serves_so (serving.and_runs g c fact (packets.on_packet s packet)) s.log sees.1
+      (serving.packet_so g c fact w s packet brings.seen brings.fits room (stands s sees written))
 
   delivers_so : (peers : Peers) (capacity : ℕ) (p : Phase) (packet : wire.Packet) → ClientAgrees g c w p → PhaseWritten p → PacketOwed g c w p packet
       → has_room (lasting_of p).inc ≡ true → has_room (lasting_of p).questions.last ≡ true → Goes (delivers peers capacity p packet)
@@ -420,7 +420,7 @@ module _ (g : Setting) (c : ℕ) (is : g.log ≡ record { 0 = c }) (small : is_l
       (record { sees = sees.1; written = written; owed = owed l o sees tells life room }))
       (tick_few o l.questions room sees.2)
   on_time_so capacity (Serves s) sees written tells life room =
-      serves_so (serving.and_runs g c is (packets.on_tick s)) s.log sees.1 (serving.time_so g c is w s (stands s sees written))
+      serves_so (serving.and_runs g c fact (packets.on_tick s)) s.log sees.1 (serving.time_so g c fact w s (stands s sees written))
 
   happens_so : (client : Client) (what : Do) → ClientAgrees g c w client.phase → PhaseWritten client.phase → ClientOwed g c w client.phase what
       → client_room client ≡ true
@@ -442,7 +442,7 @@ module _ (g : Setting) (c : ℕ) (is : g.log ≡ record { 0 = c }) (small : is_l
 pub client_did : (g : Setting) (c : ℕ) → g.log ≡ record { 0 = c } → is_log c ≡ true → (w : Scene) (client : Client) (what : Do)
     → ClientAgrees g c w client.phase
     → PhaseWritten client.phase → ClientOwed g c w client.phase what → ClientDid g c w (takes client what).state (takes client what).outs
-client_did g c is small w client what sees written owed =
+client_did g c fact small w client what sees written owed =
     by_test (λ (x : Went_to). ClientDid g c w x.state x.outs) (client_room client) (happens client what) (still client.phase)
-    (λ room. happens_so g c is small w client what sees written owed room)
-    (λ room. still_so g c is small w client.phase sees written)
+    (λ room. happens_so g c fact small w client what sees written owed room)
+    (λ room. still_so g c fact small w client.phase sees written)

@@ -22,10 +22,11 @@ use Rattle.log_ties.proofs.client_log_tie.ClientPhases.{client_did}
 
 -- ---- what it does, as packets and acts
 
-module _ (g : Setting) (c number : ℕ) (is : number ≡ c) (w : Scene) where
+module _ (g : Setting) (c number : ℕ) (fact : number ≡ c) (w : Scene) where
   one_sent : (e : Effect) → ClientDoes g c w e → All (PacketSeen g (asker c w) w.net) (packet_of (AClient number) e)
   one_sent (Send to said) h =
-      All-cons (PacketSeen g (asker c w) w.net) _ [] (subst (λ k. BodySeen g (asker c w) w.net (AClient k) to said) (sym is) (frames.says_seen g c w to said h))
+      All-cons (PacketSeen g (asker c w) w.net) _ [] (subst (λ k. BodySeen g (asker c w) w.net (AClient k) to said) (sym fact)
+      (frames.says_seen g c w to said h))
       (All-nil (PacketSeen g (asker c w) w.net))
   one_sent (Answers item a) h = All-nil (PacketSeen g (asker c w) w.net)
   one_sent (Lose seg) h = All-nil (PacketSeen g (asker c w) w.net)
@@ -58,8 +59,8 @@ its_number g c w (Opening l o) sees = sees.0.number
 its_number g c w (Serves s) sees = sees.0.number
 
 pub client_takes : ClientTakes
-client_takes g c is small w client what sees written owed =
-    let d : ClientDid g c w (takes client what).state (takes client what).outs = client_did g c is small w client what sees written owed in
+client_takes g c fact small w client what sees written owed =
+    let d : ClientDid g c w (takes client what).state (takes client what).outs = client_did g c fact small w client what sees written owed in
     let all : AllByRecursion (ClientDoes g c d.next) (takes client what).outs = recursion_from_All (ClientDoes g c d.next) (takes client what).outs d.does in
     let number : (lasting_of client.phase).number ≡ c = its_number g c w client.phase sees in
     record {

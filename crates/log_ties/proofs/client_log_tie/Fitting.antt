@@ -5,7 +5,7 @@ use Rattle.std.specs.List.{list_all}
 use Rattle.std.proofs.lemmas.Bool.Decides.{nat_tests}
 use Rattle.std.proofs.lemmas.List.Elements.{All-nil, All-cons}
 use Rattle.client_parts.specs.Fitting.{block_fits, is_byte, value_fits, put_fits}
-use Rattle.client_serving.specs.Blocks.{wrote}
+use Rattle.client_calls.specs.Blocks.{wrote}
 use Rattle.client_serving.specs.declared.serving.Serving.{Serving}
 use Rattle.client_serving.specs.Flights.{held_at}
 use Rattle.segment_format.specs.Format.{second_version, IsLength, is_length}
@@ -68,8 +68,8 @@ wrote_next s block value may =
 
 entry_fits : (block : BlockId) (e : Entry) (ver : ℕ) (value : Option (List ℕ)) → e ≡ record { ver = ver; hop = 0; place = None } → block_fits block ≡ true
     → nat_lt ver (2 ^ 64) ≡ true → value_fits value ≡ true → PutFits block e value
-entry_fits block e ver value is in_range next fits =
-    subst (λ (x : Entry). PutFits block x value) (sym is) (record {
+entry_fits block e ver value fact in_range next fits =
+    subst (λ (x : Entry). PutFits block x value) (sym fact) (record {
       row = (block_is_fit block in_range, below ver (2 ^ 64) next, omega arith, tt);
       length = value_has_length value fits;
       bytes = value_has_bytes value fits;

@@ -35,13 +35,13 @@ use Rattle.log_ties.specs.client_log_tie.ClientEvents.{ActSeen, OfItsLog, PhaseW
 -- ---- lists
 
 pub in_after : {X : Type 0} (xs ys : List X) (x : X) → In x ys → In x (xs ++ ys)
-in_after [] ys x is = is
-in_after (y ∷ xs) ys x is = inr (in_after xs ys x is)
+in_after [] ys x fact = fact
+in_after (y ∷ xs) ys x fact = inr (in_after xs ys x fact)
 
 pub in_before : {X : Type 0} (xs ys : List X) (x : X) → In x xs → In x (xs ++ ys)
-in_before [] ys x is = absurd is
+in_before [] ys x fact = absurd fact
 in_before (y ∷ xs) ys x (inl e) = inl e
-in_before (y ∷ xs) ys x (inr is) = inr (in_before xs ys x is)
+in_before (y ∷ xs) ys x (inr fact) = inr (in_before xs ys x fact)
 
 module _ (g : Setting) where
   -- ---- how the small world grows
@@ -49,8 +49,8 @@ module _ (g : Setting) where
   pub grown_still : (w : Scene) → Grown g w w
   grown_still w = record {
     runs = Begun;
-    sent = λ p is. is;
-    filed = λ name is. is;
+    sent = λ p fact. fact;
+    filed = λ name fact. fact;
     shelves = refl;
     registry = refl;
     low = refl;
@@ -65,8 +65,8 @@ module _ (g : Setting) where
   pub grown_on : (u v w : Scene) → Grown g u v → Grown g v w → Grown g u w
   grown_on u v w a b = record {
     runs = runs_on u.net v.net w.net a.runs b.runs;
-    sent = λ p is. b.sent p (a.sent p is);
-    filed = λ name is. b.filed name (a.filed name is);
+    sent = λ p fact. b.sent p (a.sent p fact);
+    filed = λ name fact. b.filed name (a.filed name fact);
     shelves = b.shelves ∙ a.shelves;
     registry = b.registry ∙ a.registry;
     low = b.low ∙ a.low;
@@ -167,11 +167,11 @@ module _ (g : Setting) (c : ℕ) where
     body_more from to (body.Listed m) h = grown.sent _ h
     body_more from to (body.Delete m) h = λ own. grown.sent _ (h own)
     body_more from to (body.Hello m) h = record {
-      own = λ is. asked_more m.inc (w.asked m.ask) (v.asked m.ask) (grown.asked m.ask) (h.own is);
+      own = λ fact. asked_more m.inc (w.asked m.ask) (v.asked m.ask) (grown.asked m.ask) (h.own fact);
       reached = reached_more from m.inc h.reached;
     }
     body_more from to (body.Welcome m) h = record {
-      own = λ is. answered_more m (w.asked m.ask) (v.asked m.ask) (grown.asked m.ask) (h.own is);
+      own = λ fact. answered_more m (w.asked m.ask) (v.asked m.ask) (grown.asked m.ask) (h.own fact);
       map = grown.sent _ h.map;
       low = (let x = h.low in let y = grown.low in omega arith);
     }
@@ -245,8 +245,8 @@ module _ (g : Setting) (c : ℕ) where
         stands = q.stands;
         does = All-append (ClientDoes q.next) d.outs e.outs (all_more p.next q.next q.grown d.outs p.does) q.does;
         boot = q.boot ∙ p.boot;
-        puts = λ s is.
-            let a : LogTook PutsOwn w.net p.next.net s = p.puts s is in
+        puts = λ s fact.
+            let a : LogTook PutsOwn w.net p.next.net s = p.puts s fact in
             took_both PutsOwn w.net p.next.net q.next.net s a (q.puts (state_after s a.inputs) a.serves);
       }
 
@@ -261,8 +261,8 @@ module _ (g : Setting) (c : ℕ) where
     stands = p.stands;
     does = p.does;
     boot = p.boot ∙ boot;
-    puts = λ s is.
-        let a : LogTook PutsOwn w.net v.net s = puts s is in
+    puts = λ s fact.
+        let a : LogTook PutsOwn w.net v.net s = puts s fact in
         took_both PutsOwn w.net v.net p.next.net s a (p.puts (state_after s a.inputs) a.serves);
   }
 

@@ -181,8 +181,8 @@ module _ (g : Setting) (c : ℕ) where
         next = record w { net = after_log g w.net d };
         grown = record {
           runs = On Begun (Acts s i h.sees.owner came (writes_text s i h.written fits));
-          sent = λ p is. in_after (log_packets d.outs) w.net.sent p is;
-          filed = λ name is. in_after (log_filed g.log d.outs) w.net.filed name is;
+          sent = λ p fact. in_after (log_packets d.outs) w.net.sent p fact;
+          filed = λ name fact. in_after (log_filed g.log d.outs) w.net.filed name fact;
           shelves = refl;
           registry = refl;
           low = refl;
@@ -194,12 +194,12 @@ module _ (g : Setting) (c : ℕ) where
           sees = record { owner = refl; own = own_after g s i h.sees.own };
           written = written_after s i h.written fits;
         };
-        sent = λ p is. in_before (log_packets d.outs) w.net.sent p is;
-        filed = λ name is. in_before (log_filed g.log d.outs) w.net.filed name is;
+        sent = λ p fact. in_before (log_packets d.outs) w.net.sent p fact;
+        filed = λ name fact. in_before (log_filed g.log d.outs) w.net.filed name fact;
         mine = (own_log g.log s i (record { log = h.sees.own.log; flight = h.sees.own.flight })).outs;
         boot = refl;
-        puts = λ t is.
-            subst (λ (u : LogState). LogTook (λ j. j ≡ i) w.net (after_log g w.net d) u) (one_log s t w.net h.sees.owner is)
+        puts = λ t fact.
+            subst (λ (u : LogState). LogTook (λ j. j ≡ i) w.net (after_log g w.net d) u) (one_log s t w.net h.sees.owner fact)
             (record { inputs = i ∷ []; all = (refl, tt); serves = refl; flown = refl });
       }
 
@@ -209,8 +209,8 @@ module _ (g : Setting) (c : ℕ) where
     next = w;
     grown = frames.grown_still g w;
     stands = h;
-    sent = λ p is. absurd is;
-    filed = λ name is. absurd is;
+    sent = λ p fact. absurd fact;
+    filed = λ name fact. absurd fact;
     mine = tt;
     boot = refl;
     puts = took_nothing (λ j. j ≡ i) w.net;

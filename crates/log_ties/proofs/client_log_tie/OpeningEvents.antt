@@ -175,9 +175,9 @@ module _ (g : Setting) (c : ℕ) (small : is_log g.log.0 ≡ true) (w : Scene) (
       → (h : Opens g c w its life k q s)
       → scanning.Takes g c w its life k q s h (scan.transition s.scan i) → Goes (scans_on k q s i)
   unfolding scans_on
-  scans_so k s i is came owed h takes =
+  scans_so k s i fact came owed h takes =
       takes (owed.chain i came)
-      (happen.Opens s.scan i is came (can_start g w.net (scan.transition s.scan i) (chain_in (scan.transition s.scan i).outs) (owed.chain i came)))
+      (happen.Opens s.scan i fact came (can_start g w.net (scan.transition s.scan i) (chain_in (scan.transition s.scan i).outs) (owed.chain i came)))
 
   stood : (k : Known) (s : Scanning) (sees : SeesScan g c w k s q.last) → scanning.Stood g c w its life k q s (opens k s sees) s.scan.opening
   stood k s sees = record { groups = sees.groups; past = sees.past; some = sees.some }
@@ -299,25 +299,25 @@ module _ (g : Setting) (c : ℕ) (small : is_log g.log.0 ≡ true) (w : Scene) (
   -- ---- maps
 
   came_by : (maps : Maps) (m : GroupMapState) → maps.groups ≡ Some m → In (MapSent m) w.net.sent → MapCame g c w maps.groups
-  came_by maps m is came = subst (MapCame g c w) (sym is) came
+  came_by maps m fact came = subst (MapCame g c w) (sym fact) came
 
   regrouped_so : (k : Known) (at : Stage) (maps : Maps) (m : GroupMapState) → Sees k at → maps.groups ≡ Some m → In (MapSent m) w.net.sent → MapFits m
       → Goes (regrouped (record k { maps = maps }) q m at)
-  regrouped_so k (stage.Scanning s) maps m h is came fits_so =
+  regrouped_so k (stage.Scanning s) maps m h fact came fits_so =
       let j : Known = record k { maps = maps } in
       let i : Opens g c w its life j q s = record {
         lasts = lasts;
         log = h.sees.log;
         inc = h.sees.inc;
         small = subst (λ (l : LogId). is_log l.0 ≡ true) (sym h.sees.log) small;
-        came = came_by maps m is came;
+        came = came_by maps m fact came;
         room = room;
         number = h.sees.number;
       } in
       scans_so j s (input.Maps m) h.sees.owner came h.owed i
       (scanning.maps_so g c w its life j q s i (record s.scan.opening { groups = Some m }) s.scan.stage
-      (record { groups = is; past = h.sees.past; some = h.sees.some }) h.sees.asks)
-  regrouped_so k (stage.Settling s) maps m h is came fits_so =
+      (record { groups = fact; past = h.sees.past; some = h.sees.some }) h.sees.asks)
+  regrouped_so k (stage.Settling s) maps m h fact came fits_so =
       writing.maps_so g c w its life (record k { maps = maps }) q s lasts
       (record {
         owner = h.sees.owner;
@@ -352,7 +352,7 @@ module _ (g : Setting) (c : ℕ) (small : is_log g.log.0 ≡ true) (w : Scene) (
         → In (WelcomeSent m.inc s.scan.opening.ask m.news.slots m.news.groups) w.net.sent
         → Goes (scans_on (record k { maps = maps; promised = promised_in m.news.slots }) q (record s { asked = nothing_asked })
         (input.Welcome s.asked.own m.news.slots groups))
-    hears_so maps groups is came inc awaited sent =
+    hears_so maps groups fact came inc awaited sent =
         let j : Known = record k { maps = maps; promised = promised_in m.news.slots } in
         let r : Scanning = record s { asked = nothing_asked } in
         let i : Opens g c w its life j q r = record {
@@ -360,7 +360,7 @@ module _ (g : Setting) (c : ℕ) (small : is_log g.log.0 ≡ true) (w : Scene) (
           log = h.sees.log;
           inc = h.sees.inc;
           small = subst (λ (l : LogId). is_log l.0 ≡ true) (sym h.sees.log) small;
-          came = came_by maps groups is came;
+          came = came_by maps groups fact came;
           room = room;
           number = omega arith;
         } in
@@ -372,7 +372,7 @@ module _ (g : Setting) (c : ℕ) (small : is_log g.log.0 ≡ true) (w : Scene) (
           ),
           came,
         ) h.owed i
-        (scanning.welcome_so g c w its life j q r i refl s.scan.opening s.scan.stage s.asked.own m.news.slots groups w.asked s.asked is h.sees.some
+        (scanning.welcome_so g c w its life j q r i refl s.scan.opening s.scan.stage s.asked.own m.news.slots groups w.asked s.asked fact h.sees.some
         awaited.own h.owed.asks awaited.awaits h.sees.asks)
 
     taken_so : m.inc ≡ w.net.inc → Awaited w.asked s.asked s.scan.opening.ask s.scan.stage

@@ -102,14 +102,14 @@ module _ (g : Setting) (c : ℕ) where
   said_seen v before [] sent mine = All-nil (ClientDoes g c v)
   said_seen v before (Send fragment member ∷ outs) sent mine =
       All-cons (ClientDoes g c v) (store fragment member) (steps wrote_one before outs).outs (λ own. sent _ (inl refl), mine.0)
-      (said_seen v before outs (λ p is. sent p (inr is)) mine.1)
+      (said_seen v before outs (λ p fact. sent p (inr fact)) mine.1)
   said_seen v before (Settled end rows ∷ outs) sent mine = said_seen v (Some end) outs sent mine.1
 
   chain_seen : (v : Scene) (chain : List Segment) → ((name : SegName) → In name (names_of chain) → In name v.net.filed)
       → All (ClientDoes g c v) (map filed chain)
   chain_seen v [] within = All-nil (ClientDoes g c v)
   chain_seen v (s ∷ chain) within =
-      All-cons (ClientDoes g c v) (filed s) (map filed chain) (within _ (inl refl)) (chain_seen v chain (λ name is. within name (inr is)))
+      All-cons (ClientDoes g c v) (filed s) (map filed chain) (within _ (inl refl)) (chain_seen v chain (λ name fact. within name (inr fact)))
 
   module _ (w : Scene) (its life : ℕ) (k : Known) (q : Questions) (s : Settling) (log_is : k.owner.log ≡ g.log) (d : log.Done) where
     abbrev then_is : Settling
@@ -180,8 +180,8 @@ module _ (g : Setting) (c : ℕ) where
           next = record w { net = after_flight g w.net chain (log.transition s.log i) (Some on.flight) };
           grown = record {
             runs = On Begun (subst (λ (o : Option FlightState). Happens g w.net (after_flight g w.net chain (log.transition s.log i) o)) on.flies happens);
-            sent = λ p is. in_after (log_packets (log.transition s.log i).outs) w.net.sent p is;
-            filed = λ name is. in_after (log_filed g.log (log.transition s.log i).outs) w.net.filed name is;
+            sent = λ p fact. in_after (log_packets (log.transition s.log i).outs) w.net.sent p fact;
+            filed = λ name fact. in_after (log_filed g.log (log.transition s.log i).outs) w.net.filed name fact;
             shelves = refl;
             registry = refl;
             low = refl;
@@ -189,8 +189,8 @@ module _ (g : Setting) (c : ℕ) where
             asked = λ j some. refl;
           };
           lasts = record { number = lasts.number; inc = lasts.inc; fresh = lasts.fresh };
-          sent = λ p is. in_before (log_packets (log.transition s.log i).outs) w.net.sent p is;
-          filed = λ name is. in_before (log_filed g.log (log.transition s.log i).outs) w.net.filed name is;
+          sent = λ p fact. in_before (log_packets (log.transition s.log i).outs) w.net.sent p fact;
+          filed = λ name fact. in_before (log_filed g.log (log.transition s.log i).outs) w.net.filed name fact;
           mine = (own_log g.log s.log i (record { log = sees.own.log; flight = sees.own.flight })).outs;
           own = own_after g s.log i sees.own;
           written = written_after s.log i fits small;
@@ -208,9 +208,9 @@ module _ (g : Setting) (c : ℕ) where
           next = record w { net = after_flight g w.net chain (log.transition s.log i) None };
           grown = record {
             runs = On Begun (subst (λ (o : Option FlightState). Happens g w.net (after_flight g w.net chain (log.transition s.log i) o)) down.landed happens);
-            sent = λ p is. in_after (log_packets (log.transition s.log i).outs) w.net.sent p is;
-            filed = λ name is. in_after (log_filed g.log (log.transition s.log i).outs) (names_of chain ++ w.net.filed) name
-                (in_after (names_of chain) w.net.filed name is);
+            sent = λ p fact. in_after (log_packets (log.transition s.log i).outs) w.net.sent p fact;
+            filed = λ name fact. in_after (log_filed g.log (log.transition s.log i).outs) (names_of chain ++ w.net.filed) name
+                (in_after (names_of chain) w.net.filed name fact);
             shelves = refl;
             registry = refl;
             low = refl;
@@ -218,16 +218,16 @@ module _ (g : Setting) (c : ℕ) where
             asked = λ j some. refl;
           };
           lasts = record { number = lasts.number; inc = lasts.inc; fresh = lasts.fresh };
-          sent = λ p is. in_before (log_packets (log.transition s.log i).outs) w.net.sent p is;
-          filed = λ name is. in_before (log_filed g.log (log.transition s.log i).outs) (names_of chain ++ w.net.filed) name is;
+          sent = λ p fact. in_before (log_packets (log.transition s.log i).outs) w.net.sent p fact;
+          filed = λ name fact. in_before (log_filed g.log (log.transition s.log i).outs) (names_of chain ++ w.net.filed) name fact;
           mine = (own_log g.log s.log i (record { log = sees.own.log; flight = sees.own.flight })).outs;
           own = own_after g s.log i sees.own;
           written = written_after s.log i fits small;
           shows = inr (record {
             owner = refl;
             lands = down;
-            filed = λ name is. in_after (log_filed g.log (log.transition s.log i).outs) (names_of chain ++ w.net.filed) name
-                (in_before (names_of chain) w.net.filed name is);
+            filed = λ name fact. in_after (log_filed g.log (log.transition s.log i).outs) (names_of chain ++ w.net.filed) name
+                (in_before (names_of chain) w.net.filed name fact);
           });
           once = tt;
         }
@@ -238,8 +238,8 @@ module _ (g : Setting) (c : ℕ) where
       next = w;
       grown = frames.grown_still g w;
       lasts = lasts;
-      sent = λ p is. absurd is;
-      filed = λ name is. absurd is;
+      sent = λ p fact. absurd fact;
+      filed = λ name fact. absurd fact;
       mine = tt;
       own = sees.own;
       written = fits;

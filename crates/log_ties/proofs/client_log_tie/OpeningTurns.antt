@@ -100,14 +100,14 @@ module _ (s : LogState) (f : FlightState) (clear : s.dirty ≡ []) (none : f.seg
       by_test (Turns s.end) (can_follow s f (fate_of s.groups f)) (followed s f (fate_of s.groups f)) (still before) (λ t. follows_on (fate_of s.groups f))
       (λ t. h)
 
-module _ (s : LogState) (f : FlightState) (clear : s.dirty ≡ []) (none : f.segment.items ≡ []) (is : s.flight ≡ Some f) where
+module _ (s : LogState) (f : FlightState) (clear : s.dirty ≡ []) (none : f.segment.items ≡ []) (fact : s.flight ≡ Some f) where
   pub rests : Turns s.end (still s)
-  rests = inl (record { quiet = refl; clear = clear; flight = f; flies = is; empty = none; same = refl })
+  rests = inl (record { quiet = refl; clear = clear; flight = f; flies = fact; empty = none; same = refl })
 
   pub acked_turns : (name : SegName) (index generation : ℕ) → Turns s.end (on_acked s name index generation)
   unfolding on_acked
   acked_turns name index generation =
-      subst (λ o. Turns s.end (elim o [ None ↦ still s | Some h ↦ cond (is_of h name index generation) (looked_at s s (noting h index)) (still s) ])) (sym is)
+      subst (λ o. Turns s.end (elim o [ None ↦ still s | Some h ↦ cond (is_of h name index generation) (looked_at s s (noting h index)) (still s) ])) (sym fact)
       (by_test (Turns s.end) (is_of f name index generation) (looked_at s s (noting f index)) (still s) (λ t. looks_on s (noting f index) clear none s rests)
       (λ t. rests))
 
@@ -115,10 +115,10 @@ module _ (s : LogState) (f : FlightState) (clear : s.dirty ≡ []) (none : f.seg
   unfolding on_maps
   maps_turn m =
       let t : LogState = record s { groups = m } in
-      subst (λ o. Turns s.end (elim o [ None ↦ still t | Some h ↦ looked_at s t h ])) (sym is) (looks_on t f clear none s rests)
+      subst (λ o. Turns s.end (elim o [ None ↦ still t | Some h ↦ looked_at s t h ])) (sym fact) (looks_on t f clear none s rests)
 
   pub tick_turns : Turns s.end (on_tick s)
   unfolding on_tick
   tick_turns =
-      subst (λ (o : Option FlightState). Turns s.end (elim o [ None ↦ still s | Some h ↦ record { state = s; outs = all_sends h } ])) (sym is)
-      (inl (record { quiet = all_quiet f; clear = clear; flight = f; flies = is; empty = none; same = refl }))
+      subst (λ (o : Option FlightState). Turns s.end (elim o [ None ↦ still s | Some h ↦ record { state = s; outs = all_sends h } ])) (sym fact)
+      (inl (record { quiet = all_quiet f; clear = clear; flight = f; flies = fact; empty = none; same = refl }))

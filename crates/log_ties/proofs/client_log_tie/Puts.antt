@@ -43,10 +43,10 @@ served_or s (Serving log) = log
 -- an owner has one log
 pub one_log : (s t : LogState) (n : Net) → n.owner ≡ Serving s → n.owner ≡ Serving t → s ≡ t
 unfolding served_or
-one_log s t n is also = ap (served_or s) (sym is ∙ also)
+one_log s t n fact also = ap (served_or s) (sym fact ∙ also)
 
 pub took_nothing : (Puts : Input → Type 0) (n : Net) (s : LogState) → n.owner ≡ Serving s → LogTook Puts n n s
-took_nothing Puts n s is = record { inputs = []; all = tt; serves = is; flown = refl }
+took_nothing Puts n s fact = record { inputs = []; all = tt; serves = fact; flown = refl }
 
 pub took_both : (Puts : Input → Type 0) (n m o : Net) (s : LogState) (a : LogTook Puts n m s) → LogTook Puts m o (state_after s a.inputs) → LogTook Puts n o s
 took_both Puts n m o s a b = record {

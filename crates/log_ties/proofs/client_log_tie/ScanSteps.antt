@@ -273,12 +273,12 @@ module _ (g : Setting) (c : ℕ) (w : Scene) (its life : ℕ) (k : Known) (q : Q
         → k.maps.groups ≡ Some groups → 0 < o.ask
         → ask ≡ o.ask → scan.can_ask o ≡ true → scan.awaits_welcome st ≡ true → AsksAt table a o.ask st → Takes (scan.on_welcome o st ask news groups)
     unfolding scan.on_welcome
-    welcome_so o st ask news groups table a known some is can awaits asks =
+    welcome_so o st ask news groups table a known some fact can awaits asks =
         by_test (λ (d : scan.Done). Takes d) ((ask == o.ask) && (scan.can_ask o && scan.awaits_welcome st))
         (scan.welcomed (record o { groups = Some groups }) st (scan.least_horizon o.log.0 news)) (scan.stays o st)
         (λ t. welcomed_so (record o { groups = Some groups }) st (scan.least_horizon o.log.0 news) table a
         (record { groups = known; past = (let e = none in omega arith); some = some }) awaits asks)
-        (λ t. absurd (taken_so (ask == o.ask) (scan.can_ask o) (scan.awaits_welcome st) (same ask o.ask is) can awaits t))
+        (λ t. absurd (taken_so (ask == o.ask) (scan.can_ask o) (scan.awaits_welcome st) (same ask o.ask fact) can awaits t))
       where
         same : (n m : ℕ) → n ≡ m → (n == m) ≡ true
         same n m e = grind (arith, nat_tests)

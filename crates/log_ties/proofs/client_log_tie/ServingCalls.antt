@@ -5,11 +5,11 @@ use Rattle.client_parts.specs.declared.call.Call.{Call}
 use Rattle.client_parts.specs.declared.call.Going.TheVariants.{On, Ends}
 use Rattle.client_parts.specs.declared.call.Going.{Going}
 use Rattle.client_parts.specs.Fitting.{put_fits}
-use Rattle.client_serving.specs.Blocks.{Made, needs, got, gets, wrote, put_of, changes, changes_if_fits, puts, lets_go, held_back, changed, puts_again, puts_at, is_settled, synced_acts, syncs, makes}
+use Rattle.client_calls.specs.Blocks.{Made, needs, got, gets, wrote, put_of, changes, changes_if_fits, puts, lets_go, held_back, changed, puts_again, puts_at, is_settled, synced_acts, syncs, makes}
 use Rattle.client_serving.specs.declared.serving.Serving.{Serving}
 use Rattle.client_serving.specs.Flights.{held_at}
 use Rattle.client_serving.specs.Follow.{notes_gone, seals}
-use Rattle.client_serving.specs.Running.{goes_on, Ran, answers_call, ran, runs_call, runs_once, runs_upto, runs}
+use Rattle.client_calls.specs.Running.{goes_on, Ran, answers_call, ran, runs_call, runs_once, runs_upto, runs}
 use Rattle.client_serving.specs.Sends.{Done}
 use Rattle.coop_cache.specs.Transition.{touched}
 use Rattle.file_plan.specs.declared.block_call.BlockAnswer.{BlockAnswer}
@@ -35,7 +35,7 @@ use Rattle.log_ties.proofs.client_log_tie.Frames as frames
 use Rattle.log_ties.proofs.client_log_tie.ServingLog as flights
 use Rattle.log_ties.proofs.client_log_tie.ServingTokens as tokens
 
-module _ (g : Setting) (c : ℕ) (is : g.log ≡ record { 0 = c }) where
+module _ (g : Setting) (c : ℕ) (fact : g.log ≡ record { 0 = c }) where
   abbrev At : Scene → Serving → Type 0
   At w s = frames.At g c w s
 
@@ -66,7 +66,7 @@ module _ (g : Setting) (c : ℕ) (is : g.log ≡ record { 0 = c }) where
   changes_so w s block value may fits h =
       let t : Serving = wrote s block value in
       frames.goes_after g c w (Does (Wrote s.lasting.number block value) ∷ []) (put_of t block value) (tokens.plain_one g c _ (λ v. tt))
-      (flights.puts_so g c is w t block (written_as s block value) value h (put_is_own s block value may) (put_is_fit s block value may fits))
+      (flights.puts_so g c fact w t block (written_as s block value) value h (put_is_own s block value may) (put_is_fit s block value may fits))
 
   changes_if_fits_so : (w : Scene) (s : Serving) (block : BlockId) (value : Option (List ℕ)) → may_write (held_at s block) ≡ true → At w s
       → Goes w (changes_if_fits s block value).done

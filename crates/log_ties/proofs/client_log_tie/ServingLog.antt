@@ -46,7 +46,7 @@ use Rattle.log_ties.proofs.client_log_tie.Frames as frames
 use Rattle.log_ties.proofs.client_log_tie.Logs as logs
 use Rattle.log_ties.proofs.client_log_tie.ServingTokens as tokens
 
-module _ (g : Setting) (c : ℕ) (is : g.log ≡ record { 0 = c }) where
+module _ (g : Setting) (c : ℕ) (fact : g.log ≡ record { 0 = c }) where
   abbrev At : Scene → Serving → Type 0
   At w s = frames.At g c w s
 
@@ -82,7 +82,7 @@ module _ (g : Setting) (c : ℕ) (is : g.log ≡ record { 0 = c }) where
 
   -- the name by which it is filed
   filed_name : (number : ℕ) (end : End) → number ≡ c → record { log = g.log; seq = end.seq; pass = end.pass } ≡ name_of (record { 0 = number }) end
-  filed_name number end e = ap (λ (l : LogId). record { log = l; seq = end.seq; pass = end.pass }) (is ∙ ap (λ (k : ℕ). record { 0 = k }) (sym e))
+  filed_name number end e = ap (λ (l : LogId). record { log = l; seq = end.seq; pass = end.pass }) (fact ∙ ap (λ (k : ℕ). record { 0 = k }) (sym e))
 
   settles_so : (w : Scene) (s : Serving) (end : End) (rows : List (BlockId × Entry)) → At w s
       → In (record { log = g.log; seq = end.seq; pass = end.pass }) w.net.filed
@@ -129,7 +129,7 @@ module _ (g : Setting) (c : ℕ) (is : g.log ≡ record { 0 = c }) where
       let t : Serving = record s { log = r.state } in
       let d : Done = steps writes_one t r.outs in
       frames.goes_from g c w k.next (writes s i) k.grown k.boot
-      (λ l is. took_such (λ j. j ≡ i) PutsOwn (λ j same. subst PutsOwn (sym same) own) w.net k.next.net l (k.puts l is))
+      (λ l fact. took_such (λ j. j ≡ i) PutsOwn (λ j same. subst PutsOwn (sym same) own) w.net k.next.net l (k.puts l fact))
       (frames.goes_on g c k.next d (seals_again d.state (list_any is_settling r.outs)) (all_written k.next t r.outs k.stands k.sent k.filed k.mine)
       (λ v h. seals_again_so v d.state (list_any is_settling r.outs) h))
 

@@ -10,7 +10,7 @@ use Rattle.client_serving.specs.Flights.{held_at, writes}
 use Rattle.client_serving.specs.Follow.{hands, takes_back, follows}
 use Rattle.client_serving.specs.Packets.{on_grant, on_supply, on_forward, again, says_again, on_recall, is_gone, on_gone, is_acked, on_ack, ends_fetch, told_at, told_by, on_told, asks_for_maps, renews, promises, reports, may_report, polled, on_poll, promised_in, is_news, hears, regroups, takes_news, on_news, on_welcome, on_body, on_packet, on_tick}
 use Rattle.client_serving.specs.Reads.{loses, with_reading}
-use Rattle.client_serving.specs.Running.{runs}
+use Rattle.client_calls.specs.Running.{runs}
 use Rattle.client_serving.specs.Sends.{Done, gives, report}
 use Rattle.delta_feed.specs.Transition.{acknowledged, new_epoch}
 use Rattle.group_map.specs.GroupMapState.{GroupMapState}
@@ -66,7 +66,7 @@ use Rattle.log_ties.proofs.client_log_tie.ServingCalls as calls
 use Rattle.log_ties.proofs.client_log_tie.ServingLog as flights
 use Rattle.log_ties.proofs.client_log_tie.ServingTokens as tokens
 
-module _ (g : Setting) (c : ℕ) (is : g.log ≡ record { 0 = c }) where
+module _ (g : Setting) (c : ℕ) (fact : g.log ≡ record { 0 = c }) where
   abbrev At : Scene → Serving → Type 0
   At w s = frames.At g c w s
 
@@ -191,7 +191,7 @@ module _ (g : Setting) (c : ℕ) (is : g.log ≡ record { 0 = c }) where
 
   regroups_so : (w : Scene) (s : Serving) (newer : Bool) (m : GroupMapState) → At w s → In (MapSent m) w.net.sent → MapFits m → Goes w (regroups s newer m)
   regroups_so w s newer m h came small =
-      by_test (λ (d : Done). Goes w d) newer (writes s (log_in.Maps m)) (still s) (λ t. flights.maps_so g c is w s m h came small) (λ t. still_so w s h)
+      by_test (λ (d : Done). Goes w d) newer (writes s (log_in.Maps m)) (still s) (λ t. flights.maps_so g c fact w s m h came small) (λ t. still_so w s h)
 
   takes_news_so : (w : Scene) (s : Serving) (news : News) → At w s → In (MapSent news.groups) w.net.sent → MapFits news.groups → Goes w (takes_news s news)
   unfolding takes_news
@@ -255,7 +255,7 @@ module _ (g : Setting) (c : ℕ) (is : g.log ≡ record { 0 = c }) where
   body_so w s from to (body.Gone m) seen small h = on_gone_so w s m h
   body_so w s from to (body.DeltaAck m) seen small h = on_ack_so w s m h
   body_so w s from to (body.Poll m) seen small h = on_poll_so w s from m h
-  body_so w s from to (body.Stored m) seen small h = flights.stored_so g c is w s m.name m.index m.generation h seen
+  body_so w s from to (body.Stored m) seen small h = flights.stored_so g c fact w s m.name m.index m.generation h seen
   body_so w s from to (body.Fragment m) seen small h = on_told_so w s from m.ask (told.Held m.fragment) h
   body_so w s from to (body.Missing m) seen small h = on_told_so w s from m.ask (told.Missing m.generation) h
   body_so w s from to (body.MapNews m) seen small h = on_news_so w s m h seen small
@@ -275,7 +275,7 @@ module _ (g : Setting) (c : ℕ) (is : g.log ≡ record { 0 = c }) where
   and_runs d = saying d.outs (runs d.state)
 
   pub runs_after : (w : Scene) (d : Done) → Goes w d → Goes w (and_runs d)
-  runs_after w d p = frames.goes_on g c w d (runs d.state) p (λ v h. calls.runs_so g c is v d.state h)
+  runs_after w d p = frames.goes_on g c w d (runs d.state) p (λ v h. calls.runs_so g c fact v d.state h)
 
   pub packet_so : (w : Scene) (s : Serving) (p : Packet) → BodySeen g (asker c w) w.net p.from p.to p.body → BodyFits p.body
       → has_room s.lasting.questions.last ≡ true → At w s → Goes w (and_runs (on_packet s p))
@@ -295,7 +295,7 @@ module _ (g : Setting) (c : ℕ) (is : g.log ≡ record { 0 = c }) where
       let fetched : List Effect = fetches_again (reading_in a.state.call) in
       frames.goes_on g c w a (gives l.state (fetched ++ (l.outs ++ pushes_all l.state.managers l.state.feed))) (tokens.hands_so g c w s input.Tick h)
       (λ v k. frames.goes_after g c v fetched (gives l.state (l.outs ++ pushes_all l.state.managers l.state.feed)) (plain_fetched (reading_in a.state.call))
-      (frames.goes_and_gives g c v l l.state (pushes_all l.state.managers l.state.feed) (flights.ticks_so g c is v a.state k) (λ u i. i)
+      (frames.goes_and_gives g c v l l.state (pushes_all l.state.managers l.state.feed) (flights.ticks_so g c fact v a.state k) (λ u i. i)
       (tokens.plain_pushes_all g c l.state.managers l.state.feed)))
 
   pub time_so : (w : Scene) (s : Serving) → At w s → Goes w (and_runs (on_tick s))

@@ -103,7 +103,7 @@ module _ (g : Setting) (c : ℕ) where
   stored_seen w [] within mine = All-nil (ClientDoes g c w)
   stored_seen w (log_out.Send fragment member ∷ outs) within mine =
       All-cons (ClientDoes g c w) (store fragment member) (flat_map stored outs) (λ own. within _ (inl refl), mine.0)
-      (stored_seen w outs (λ p is. within p (inr is)) mine.1)
+      (stored_seen w outs (λ p fact. within p (inr fact)) mine.1)
   stored_seen w (log_out.Settled end rows ∷ outs) within mine = stored_seen w outs within mine.1
 
   abbrev At : Scene → Serving → Type 0
@@ -148,7 +148,7 @@ module _ (g : Setting) (c : ℕ) where
         stands = k.stands;
         does = stored_seen k.next (log.on_seal s.log).outs k.sent k.mine;
         boot = k.boot;
-        puts = λ l is. took_such (λ j. j ≡ log_in.Seal) PutsOwn (λ j same. subst PutsOwn (sym same) tt) w.net k.next.net l (k.puts l is);
+        puts = λ l fact. took_such (λ j. j ≡ log_in.Seal) PutsOwn (λ j same. subst PutsOwn (sym same) tt) w.net k.next.net l (k.puts l fact);
       }
 
   -- ---- readings

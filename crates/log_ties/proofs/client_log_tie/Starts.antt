@@ -21,12 +21,12 @@ log_in_range c t = (low c t, high c t)
     high c t = grind (arith, nat_tests)
 
 pub client_starts : ClientStarts
-client_starts g c is small setup works = record {
+client_starts g c fact small setup works = record {
   agrees = (
     record { number = refl; inc = refl; fresh = λ k later. refl },
     record {
-      owner = ap (λ log. owner.Serving (started log 1 no_end (groups.started setup.servers setup.groups))) is;
-      own = record { log = sym is; flight = tt };
+      owner = ap (λ log. owner.Serving (started log 1 no_end (groups.started setup.servers setup.groups))) fact;
+      own = record { log = sym fact; flight = tt };
     },
   );
   written = λ ids. what_fits_stays_written (record { 0 = c }) 1 empty_end (groups.started setup.servers setup.groups) (log_in_range c small) (omega arith)

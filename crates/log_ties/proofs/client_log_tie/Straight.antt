@@ -32,9 +32,9 @@ opens_stays g n s d (Some t) (Some m) = refl
 
 -- one thing that happens to an owner that serves leaves its incarnation
 pub boot_stays : (g : Setting) (n o : Net) → Happens g n o → is_serving n.owner ≡ true → o.inc ≡ n.inc
-boot_stays g n o (Acts s i is came texts) serves = refl
-boot_stays g n o (Writes chain s i is came texts) serves = writes_stays g n chain (log.transition s i) (log.transition s i).state.flight
-boot_stays g n o (Opens s i is came can) serves =
+boot_stays g n o (Acts s i fact came texts) serves = refl
+boot_stays g n o (Writes chain s i fact came texts) serves = writes_stays g n chain (log.transition s i) (log.transition s i).state.flight
+boot_stays g n o (Opens s i fact came can) serves =
     opens_stays g n s (scan.transition s i) (chain_in (scan.transition s i).outs) (scan.transition s i).state.opening.groups
 boot_stays g n o Crashes serves = refl
 boot_stays g n o (Restarts down) serves = contrary (sym (ap is_serving down) ∙ serves)
@@ -43,7 +43,7 @@ boot_stays g n o (Serves v deed some came) serves = refl
 boot_stays g n o (Bars v l pass) serves = refl
 boot_stays g n o (Lists v) serves = refl
 boot_stays g n o (Hears v generation past reached) serves = refl
-boot_stays g n o (Raises low name past is below) serves = refl
+boot_stays g n o (Raises low name past fact below) serves = refl
 boot_stays g n o (Publishes map whole) serves = refl
 boot_stays g n o (Welcomes inc ask news map hello low whole) serves = refl
 boot_stays g n o (Drops lists meta listed within below) serves = refl
@@ -67,10 +67,10 @@ down_straight g n o runs never down =
 
 -- one that serves opens no log
 serving_picks_none : (x : Owner) → is_serving x ≡ true → has_picked x ≡ false
-serving_picks_none Down is = refl
-serving_picks_none (Opening s) is = contrary is
-serving_picks_none (Writing chain s) is = contrary is
-serving_picks_none (Serving s) is = refl
+serving_picks_none Down fact = refl
+serving_picks_none (Opening s) fact = contrary fact
+serving_picks_none (Writing chain s) fact = contrary fact
+serving_picks_none (Serving s) fact = refl
 
 -- it served before, and does then, in one boot
 pub served_straight : (g : Setting) (n o : Net) (runs : Runs g n o) → is_serving n.owner ≡ true → is_serving o.owner ≡ true → o.inc ≡ n.inc

@@ -68,8 +68,8 @@ pass_bytes : (p : Pass) → IsBytes (pass_text p)
 pass_bytes p = both (to_be_bytes w32 p.inc) (to_be_bytes w32 p.att) (number w32 p.inc) (number w32 p.att)
 
 name_bytes : (n : SegName) → IsLog n.log.0 → IsBytes (name_text n)
-name_bytes n is =
-    one n.log.0 (to_be_bytes w32 n.seq ++ pass_text n.pass) (let e = is.1 in omega arith)
+name_bytes n fact =
+    one n.log.0 (to_be_bytes w32 n.seq ++ pass_text n.pass) (let e = fact.1 in omega arith)
     (both (to_be_bytes w32 n.seq) (pass_text n.pass) (number w32 n.seq) (pass_bytes n.pass))
 
 prior_bytes : (p : Prior) → IsBytes (prior_text p)
@@ -98,27 +98,27 @@ item_bytes (Delta block ver hop item) h =
     (both (block_text block) (to_be_bytes w64 ver ++ (to_be_bytes w32 hop ++ to_be_bytes w16 item)) (block_bytes block) (delta_bytes ver hop item))
 item_bytes (Part slot rows) h = absurd h
 
-items_bytes : (is : List Item) → AllByRecursion ItemBytes is → IsBytes (flat_map item_text is)
+items_bytes : (fact : List Item) → AllByRecursion ItemBytes fact → IsBytes (flat_map item_text fact)
 items_bytes [] all = All-nil IsByte
-items_bytes (i ∷ is) all = both (item_text i) (flat_map item_text is) (item_bytes i all.0) (items_bytes is all.1)
+items_bytes (i ∷ fact) all = both (item_text i) (flat_map item_text fact) (item_bytes i all.0) (items_bytes fact all.1)
 
 version_small : (items : List Item) → version_of items < 256
 version_small items = by_test (λ (v : ℕ). v < 256) _ second_version first_version (λ t. omega arith) (λ t. omega arith)
 
 head_bytes : (s : Segment) → IsLog s.name.log.0 → IsBytes (head_text (head_of s))
-head_bytes s is =
+head_bytes s fact =
     let counted : List ℕ = to_be_bytes w32 s.group ++ to_be_bytes w16 (length s.items) in
     one (version_of s.items) (name_text s.name ++ (prior_text s.prior ++ counted)) (version_small s.items)
-    (both (name_text s.name) (prior_text s.prior ++ counted) (name_bytes s.name is)
+    (both (name_text s.name) (prior_text s.prior ++ counted) (name_bytes s.name fact)
     (both (prior_text s.prior) counted (prior_bytes s.prior)
     (both (to_be_bytes w32 s.group) (to_be_bytes w16 (length s.items)) (number w32 s.group) (number w16 (length s.items)))))
 
 text_bytes : (s : Segment) → IsLog s.name.log.0 → AllByRecursion ItemBytes s.items → IsBytes (text_of s)
-text_bytes s is all =
+text_bytes s fact all =
     let rest : List ℕ = head_text (head_of s) ++ flat_map item_text s.items in
     one 0x78 (0x46 ∷ 0x53 ∷ rest) (omega arith)
     (one 0x46 (0x53 ∷ rest) (omega arith)
-    (one 0x53 rest (omega arith) (both (head_text (head_of s)) (flat_map item_text s.items) (head_bytes s is) (items_bytes s.items all))))
+    (one 0x53 rest (omega arith) (both (head_text (head_of s)) (flat_map item_text s.items) (head_bytes s fact) (items_bytes s.items all))))
 
 -- ---- items
 
@@ -359,6 +359,6 @@ in_flight None h = tt
 in_flight (Some f) h = flight_written f h
 
 pub what_fits_stays_written : WhatFitsStaysWritten
-what_fits_stays_written log inc end m is small fits ids later all =
+what_fits_stays_written log inc end m fact small fits ids later all =
     in_flight (state_after (started log inc end m) later).flight
-    (fit_all (started log inc end m) later (record { log = is; inc = small; end = fits; groups = ids; dirty = tt; flight = tt }) all).flight
+    (fit_all (started log inc end m) later (record { log = fact; inc = small; end = fits; groups = ids; dirty = tt; flight = tt }) all).flight

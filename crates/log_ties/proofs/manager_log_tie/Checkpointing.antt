@@ -115,7 +115,7 @@ writer_goes s (writer_in.Begin slot epoch pages parts horizon) before fits =
 writer_goes s (writer_in.Settled end) before fits = writer_settles s end before
 writer_goes s (writer_in.Ack epoch number) before fits = writer_hears s epoch number before
 
-module _ (g : Setting) (j : ℕ) (is : g.log ≡ log_of j) where
+module _ (g : Setting) (j : ℕ) (fact : g.log ≡ log_of j) where
   -- ---- the log
 
   -- what the log sends was sent
@@ -177,7 +177,7 @@ module _ (g : Setting) (j : ℕ) (is : g.log ≡ log_of j) where
 
   -- the name by which a segment is filed
   filed_name : (number : ℕ) (end : End) → number ≡ j → name_of g.log end ≡ name_of (log_of number) end
-  filed_name number end e = ap (λ (l : LogId). name_of l end) (is ∙ ap log_of (sym e))
+  filed_name number end e = ap (λ (l : LogId). name_of l end) (fact ∙ ap log_of (sym e))
 
   settled_so : (w : Scene) (s : Serving) (end : End) → Stands g j w s → In (name_of g.log end) w.net.filed → Goes g j w (on_settled s end)
   unfolding on_settled

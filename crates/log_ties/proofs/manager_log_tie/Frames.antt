@@ -62,7 +62,7 @@ module _ (g : Setting) (j : ℕ) where
   pub says_seen : (w : Scene) → ((k : ℕ) → w.asked k ≡ OfMaps) → (to : NodeId) (said : Body) → Says w to said
       → BodySeen g (its_asker j w) w.net (Manager j) to said
   says_seen w asks to (body.Store m) h = h.0
-  says_seen w asks to (body.Hello m) h = record { own = λ is. subst (AskedBy g (its_asker j w) w.net m.inc) (sym (asks m.ask)) tt; reached = tt }
+  says_seen w asks to (body.Hello m) h = record { own = λ fact. subst (AskedBy g (its_asker j w) w.net m.inc) (sym (asks m.ask)) tt; reached = tt }
   says_seen w asks to (body.Stored m) h = absurd h
   says_seen w asks to (body.Fragment m) h = absurd h
   says_seen w asks to (body.Fence m) h = absurd h

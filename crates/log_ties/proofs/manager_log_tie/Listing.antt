@@ -74,8 +74,8 @@ use Rattle.log_ties.proofs.manager_log_tie.Leaving.{Leaves, all_filter, goes_aft
 use Rattle.log_ties.specs.manager_log_tie.Listing.{CarriesOf, ComesOf, EntryOf, FragmentOf, MetasOf, NameOf, PresentOf, ReadsOf, RebuildOf, RebuildingOf, ServerHolds, ServersListWhatWasStored, ServersStartBare, WantedOf}
 
 all_cons : {X : Type 0} (P : X → Type 0) (o : Option X) (xs : List X) → IfSome o P → AllByRecursion P xs → AllByRecursion P (cons_option o xs)
-all_cons P None xs is all = all
-all_cons P (Some x) xs is all = (is, all)
+all_cons P None xs fact all = all
+all_cons P (Some x) xs fact all = (fact, all)
 
 all_filter_map : {X Y : Type 0} (P : Y → Type 0) (Q : X → Type 0) (f : X → Option Y) → ((x : X) → Q x → IfSome (f x) P) → (xs : List X)
     → AllByRecursion Q xs → AllByRecursion P (filter_map f xs)

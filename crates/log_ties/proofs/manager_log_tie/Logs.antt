@@ -42,8 +42,8 @@ module _ (g : Setting) (j : ℕ) where
         next = record w { net = after_log g w.net d };
         grown = record {
           runs = On Begun (Acts s.log i h.log.owner came (writes_text s.log i h.written fits));
-          sent = λ p is. in_after (log_packets d.outs) w.net.sent p is;
-          filed = λ name is. in_after (log_filed g.log d.outs) w.net.filed name is;
+          sent = λ p fact. in_after (log_packets d.outs) w.net.sent p fact;
+          filed = λ name fact. in_after (log_filed g.log d.outs) w.net.filed name fact;
           shelves = refl;
           registry = refl;
           low = refl;
@@ -58,8 +58,8 @@ module _ (g : Setting) (j : ℕ) where
           writer = h.writer;
           index = h.index;
         };
-        sent = λ p is. in_before (log_packets d.outs) w.net.sent p is;
-        filed = λ name is. in_before (log_filed g.log d.outs) w.net.filed name is;
+        sent = λ p fact. in_before (log_packets d.outs) w.net.sent p fact;
+        filed = λ name fact. in_before (log_filed g.log d.outs) w.net.filed name fact;
         mine = (own_log g.log s.log i (record { log = h.log.own.log; flight = h.log.own.flight })).outs;
       }
 
@@ -74,8 +74,8 @@ module _ (g : Setting) (j : ℕ) where
         next = w;
         grown = grown_still g w;
         stands = record { lasts = h.lasts; inc = h.inc; log = h.log; written = h.written; writer = h.writer; index = h.index };
-        sent = λ p is. absurd is;
-        filed = λ name is. absurd is;
+        sent = λ p fact. absurd fact;
+        filed = λ name fact. absurd fact;
         mine = tt;
       }
 

@@ -84,7 +84,7 @@ its_number_is_log j = (low j, high j)
     high : (j : ℕ) → 9 + min j 4 ≤ 13
     high j = grind (arith, nat_tests)
 
-module _ (g : Setting) (j : ℕ) (is : g.log ≡ log_of j) where
+module _ (g : Setting) (j : ℕ) (fact : g.log ≡ log_of j) where
   -- the small world runs on to one in which the manager is seen so, and all that it does is seen
   pub record Went (w : Scene) (d : Went_to) : Type 0 where
     pub next : Scene
@@ -199,7 +199,7 @@ module _ (g : Setting) (j : ℕ) (is : g.log ≡ log_of j) where
   waiting_so w kept hello number None h = answers_so w (Waiting kept hello) number (answer.Count 0) h
 
   checkpoints_so : (w : Scene) (s : Serving) (number : ℕ) → Stands g j w s → Went w (serves (on_checkpoint s number))
-  checkpoints_so w s number h = serves_so w (on_checkpoint s number) (checkpoint_so g j is w s number h)
+  checkpoints_so w s number h = serves_so w (on_checkpoint s number) (checkpoint_so g j fact w s number h)
 
   serving_so : (w : Scene) (s : Serving) (number : ℕ) (asked : Option Work) → Stands g j w s → Went w (serving_wish s number (wish_at asked))
   serving_so w s number (Some (work.Crash node)) h = falls_so w s number h
@@ -232,7 +232,7 @@ module _ (g : Setting) (j : ℕ) (is : g.log ≡ log_of j) where
 
   module _ (some : 0 < j) (doubts : g.doubts ≡ true) where
     its_log_high : 9 < g.log.0
-    its_log_high = subst (λ (l : LogId). 9 < l.0) (sym is) (its_high j some)
+    its_log_high = subst (λ (l : LogId). 9 < l.0) (sym fact) (its_high j some)
 
     -- the log begins anew
     anew_so : (w : Scene) (kept : Kept) (peers : Peers) (m : GroupMapState) (r : Renewed g its_log_high doubts m w.net kept.inc) → Lasts g j w kept → MapFits m
@@ -250,7 +250,7 @@ module _ (g : Setting) (j : ℕ) (is : g.log ≡ log_of j) where
     }
       where
         its_log : g.log ≡ log_of kept.number
-        its_log = is ∙ ap log_of (sym lasts.number)
+        its_log = fact ∙ ap log_of (sym lasts.number)
 
     welcome_so : (w : Scene) (peers : Peers) (kept : Kept) (hello : ℕ) (m : Welcome) → Awaits g j w kept → In (MapSent m.news.groups) w.net.sent
         → MapFits m.news.groups
@@ -262,7 +262,7 @@ module _ (g : Setting) (j : ℕ) (is : g.log ≡ log_of j) where
         let v : Scene = record w { net = r.net } in
         let grown : Grown g w v = grown_by w r.net r.same r.runs in
         let p : Goes g j v (on_news s peers.clients m.news) =
-        news_so g j is v s peers.clients m.news (anew_so w kept peers m.news.groups r h.lasts fit) (grown.sent _ came) fit in
+        news_so g j fact v s peers.clients m.news (anew_so w kept peers m.news.groups r h.lasts fit) (grown.sent _ came) fit in
         by_test (Went w) (takes_welcome peers kept hello m) (serves (on_news s peers.clients m.news)) (still (Waiting kept hello))
         (λ t. record { next = p.next; grown = grown_on g w v p.next grown p.grown; agrees = p.stands; does = p.does })
         (λ t. still_so w (Waiting kept hello) h)
@@ -278,7 +278,7 @@ module _ (g : Setting) (j : ℕ) (is : g.log ≡ log_of j) where
         → Went w (on_packet peers p packet)
     heard_so w peers (Down kept) packet h seen fit = still_so w (Down kept) h
     heard_so w peers (Waiting kept hello) packet h seen fit = waits_so w peers kept hello packet.from packet.body h seen fit
-    heard_so w peers (Serves s) packet h seen fit = serves_so w (hears s peers.clients packet) (packet_so g j is w s peers.clients packet h seen fit)
+    heard_so w peers (Serves s) packet h seen fit = serves_so w (hears s peers.clients packet) (packet_so g j fact w s peers.clients packet h seen fit)
 
     -- ---- all events
 
@@ -286,7 +286,7 @@ module _ (g : Setting) (j : ℕ) (is : g.log ≡ log_of j) where
     unfolding on_time
     passes_so w (Down kept) h = still_so w (Down kept) h
     passes_so w (Waiting kept ask) h = plain_so w (Waiting kept ask) _ h (tt, tt)
-    passes_so w (Serves s) h = serves_so w (on_tick s) (time_so g j is w s h)
+    passes_so w (Serves s) h = serves_so w (on_tick s) (time_so g j fact w s h)
 
     event_so : (w : Scene) (peers : Peers) (p : Phase) (what : Do) → ManagerAgrees g j w p → ManagerOwed g j w what → has_room (lasting_of p).inc ≡ true
         → Went w (on_event peers p what)
@@ -343,8 +343,8 @@ lasts_of g j w (Waiting kept hello) h = h.lasts
 lasts_of g j w (Serves s) h = h.lasts
 
 pub manager_takes : ManagerTakes
-manager_takes g j is some doubts w m what h owed =
-    let d : Went g j is w (happens m what) = happens_so g j is some doubts w m what h owed in
+manager_takes g j fact some doubts w m what h owed =
+    let d : Went g j fact w (happens m what) = happens_so g j fact some doubts w m what h owed in
     let number : ℕ = (lasting_of m.phase).number in
     let own : number ≡ j = (lasts_of g j w m.phase h).number in
     record {

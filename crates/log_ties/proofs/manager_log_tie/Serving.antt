@@ -45,7 +45,7 @@ use Rattle.log_ties.proofs.manager_log_tie.Frames.{all_aside, at_once, stays, go
 use Rattle.log_ties.proofs.manager_log_tie.Tables.{TableGoes, TableAsks, table_wants, table_gaves, table_deltas, table_checks, table_tells_usage, table_recalls, table_takes, table_reports, table_asks, table_regroups, table_hears}
 use Rattle.log_ties.proofs.manager_log_tie.Taking.{TakeInFits}
 
-module _ (g : Setting) (j : ℕ) (is : g.log ≡ log_of j) where
+module _ (g : Setting) (j : ℕ) (fact : g.log ≡ log_of j) where
   abbrev Goes : Scene → Done → Type 0
   Goes w d = frames.Goes g j w d
 
@@ -143,7 +143,7 @@ module _ (g : Setting) (j : ℕ) (is : g.log ≡ log_of j) where
       let b : Done = and_then a (λ t. hears_slots t clients news.slots) in
       let pa : Goes w a = regroups_so w s news.groups h in
       let pb : Goes w b = then_goes w a (λ t. hears_slots t clients news.slots) pa (slots_so pa.next a.state clients news.slots pa.stands) in
-      then_goes w b (λ t. writes t (log_in.Maps news.groups)) pb (maps_so g j is pb.next b.state news.groups pb.stands (pb.grown.sent _ came) fit)
+      then_goes w b (λ t. writes t (log_in.Maps news.groups)) pb (maps_so g j fact pb.next b.state news.groups pb.stands (pb.grown.sent _ came) fit)
 
   pub news_so : (w : Scene) (s : Serving) (clients : ℕ) (news : News) → Stands g j w s → In (MapSent news.groups) w.net.sent → MapFits news.groups
       → frames.Goes g j w (on_news s clients news)
@@ -176,8 +176,8 @@ module _ (g : Setting) (j : ℕ) (is : g.log ≡ log_of j) where
   body_so w s clients from (body.Report report) h seen fit = report_so w s from report h
   body_so w s clients from (body.Fragment found) h seen fit = found_so w s (server_in from) found h fit
   body_so w s clients from (body.Missing missing) h seen fit = missing_so w s (server_in from) missing h
-  body_so w s clients from (body.Stored m) h seen fit = stored_so g j is w s m h seen
-  body_so w s clients from (body.CkptAck ack) h seen fit = acked_so g j is w s ack h
+  body_so w s clients from (body.Stored m) h seen fit = stored_so g j fact w s m h seen
+  body_so w s clients from (body.CkptAck ack) h seen fit = acked_so g j fact w s ack h
   body_so w s clients from _ h seen fit = stays g j w s h
 
   pub packet_so : (w : Scene) (s : Serving) (clients : ℕ) (packet : Packet) → Stands g j w s
@@ -216,5 +216,5 @@ module _ (g : Setting) (j : ℕ) (is : g.log ≡ log_of j) where
       let pa : Goes w a = recalls_so w s h in
       let pb : Goes w b = then_goes w a (λ t. asks_again t true) pa (asks_so pa.next a.state true pa.stands) in
       let pc : Goes w c = then_goes w b (λ t. asks_again t false) pb (asks_so pb.next b.state false pb.stands) in
-      let pd : Goes w d = then_goes w c (λ t. writes t log_in.Tick) pc (ticks_so g j is pc.next c.state pc.stands) in
-      then_goes w d tells_again pd (tells_so g j is pd.next d.state pd.stands)
+      let pd : Goes w d = then_goes w c (λ t. writes t log_in.Tick) pc (ticks_so g j fact pc.next c.state pc.stands) in
+      then_goes w d tells_again pd (tells_so g j fact pd.next d.state pd.stands)

@@ -50,8 +50,8 @@ pass_bytes : (p : Pass) → IsBytes (pass_text p)
 pass_bytes p = both (to_be_bytes w32 p.inc) (to_be_bytes w32 p.att) (number w32 p.inc) (number w32 p.att)
 
 name_bytes : (n : SegName) → IsLog n.log.0 → IsBytes (name_text n)
-name_bytes n is =
-    one n.log.0 (to_be_bytes w32 n.seq ++ pass_text n.pass) (let e = is.1 in omega arith)
+name_bytes n fact =
+    one n.log.0 (to_be_bytes w32 n.seq ++ pass_text n.pass) (let e = fact.1 in omega arith)
     (both (to_be_bytes w32 n.seq) (pass_text n.pass) (number w32 n.seq) (pass_bytes n.pass))
 
 prior_bytes : (p : Prior) → IsBytes (prior_text p)
@@ -66,12 +66,12 @@ place_bytes (Some p) h =
     (both (to_be_bytes w32 p.seg.group) (to_be_bytes w16 p.item) (number w32 p.seg.group) (number w16 p.item)))
 
 row_bytes : (r : BlockId × Entry) → IsRow r → IsBytes (row_text r)
-row_bytes r is =
+row_bytes r fact =
     let hop : List ℕ = to_be_bytes w32 r.1.hop ++ place_text r.1.place in
     let ver : List ℕ = to_be_bytes w64 r.1.ver ++ hop in
     both (block_text r.0) ver (block_bytes r.0)
     (both (to_be_bytes w64 r.1.ver) hop (number w64 r.1.ver)
-    (both (to_be_bytes w32 r.1.hop) (place_text r.1.place) (number w32 r.1.hop) (place_bytes r.1.place is)))
+    (both (to_be_bytes w32 r.1.hop) (place_text r.1.place) (number w32 r.1.hop) (place_bytes r.1.place fact)))
 
 rows_bytes : (rows : List (BlockId × Entry)) → AllByRecursion IsRow rows → IsBytes (flat_map row_text rows)
 rows_bytes [] all = All-nil IsByte
@@ -80,13 +80,13 @@ rows_bytes (r ∷ rows) all = both (row_text r) (flat_map row_text rows) (row_by
 -- ---- items and the segment
 
 item_bytes : (i : Item) → PartFits i → IsItem second_version i → IsBytes (item_text i)
-item_bytes (Block block value) fits is = absurd fits
-item_bytes (Delta block ver hop item) fits is = absurd fits
-item_bytes (Part slot rows) fits is =
-    let small : slot < 8 = is.0 in
+item_bytes (Block block value) fits fact = absurd fits
+item_bytes (Delta block ver hop item) fits fact = absurd fits
+item_bytes (Part slot rows) fits fact =
+    let small : slot < 8 = fact.0 in
     let rest : List ℕ = to_be_bytes w16 (length rows) ++ flat_map row_text rows in
     one 3 (slot ∷ rest) (omega arith)
-    (one slot rest (omega arith) (both (to_be_bytes w16 (length rows)) (flat_map row_text rows) (number w16 (length rows)) (rows_bytes rows is.2)))
+    (one slot rest (omega arith) (both (to_be_bytes w16 (length rows)) (flat_map row_text rows) (number w16 (length rows)) (rows_bytes rows fact.2)))
 
 items_bytes : (items : List Item) → AllByRecursion PartFits items → AllByRecursion (IsItem second_version) items → IsBytes (flat_map item_text items)
 items_bytes [] fits all = All-nil IsByte
@@ -96,16 +96,16 @@ version_small : (items : List Item) → version_of items < 256
 version_small items = by_test (λ (v : ℕ). v < 256) _ second_version first_version (λ t. omega arith) (λ t. omega arith)
 
 head_bytes : (s : Segment) → IsLog s.name.log.0 → IsBytes (head_text (head_of s))
-head_bytes s is =
+head_bytes s fact =
     let counted : List ℕ = to_be_bytes w32 s.group ++ to_be_bytes w16 (length s.items) in
     one (version_of s.items) (name_text s.name ++ (prior_text s.prior ++ counted)) (version_small s.items)
-    (both (name_text s.name) (prior_text s.prior ++ counted) (name_bytes s.name is)
+    (both (name_text s.name) (prior_text s.prior ++ counted) (name_bytes s.name fact)
     (both (prior_text s.prior) counted (prior_bytes s.prior)
     (both (to_be_bytes w32 s.group) (to_be_bytes w16 (length s.items)) (number w32 s.group) (number w16 (length s.items)))))
 
 pub text_bytes : (s : Segment) → IsLog s.name.log.0 → AllByRecursion PartFits s.items → AllByRecursion (IsItem second_version) s.items → IsBytes (text_of s)
-text_bytes s is fits all =
+text_bytes s fact fits all =
     let rest : List ℕ = head_text (head_of s) ++ flat_map item_text s.items in
     one 0x78 (0x46 ∷ 0x53 ∷ rest) (omega arith)
     (one 0x46 (0x53 ∷ rest) (omega arith)
-    (one 0x53 rest (omega arith) (both (head_text (head_of s)) (flat_map item_text s.items) (head_bytes s is) (items_bytes s.items fits all))))
+    (one 0x53 rest (omega arith) (both (head_text (head_of s)) (flat_map item_text s.items) (head_bytes s fact) (items_bytes s.items fits all))))

@@ -25,12 +25,12 @@ slots_start j managers = (one 0, (one 1, (one 2, (one 3, (one 4, (one 5, (one 6,
     one slot = by_test SlotFits ((entry_at (start_entries managers) (slot_of slot)).manager == j) first_active (phase.Away 1) (λ t. tt) (λ t. tt)
 
 pub manager_starts : ManagerStarts
-manager_starts g j is setup works ids = record {
+manager_starts g j fact setup works ids = record {
   lasts = record { number = refl; small = omega arith; asks = λ k. refl };
   inc = refl;
   log = record {
-    owner = ap (λ (l : LogId). owner.Serving (started l 1 no_end (groups.started setup.servers setup.groups))) is;
-    own = record { log = sym is; flight = tt };
+    owner = ap (λ (l : LogId). owner.Serving (started l 1 no_end (groups.started setup.servers setup.groups))) fact;
+    own = record { log = sym fact; flight = tt };
   };
   written = anew_written (log_of j) 1 (groups.started setup.servers setup.groups) (its_number_is_log j) (omega arith) ids;
   writer = tt;

@@ -47,16 +47,16 @@ module _ (g : Setting) (n : Net) (old : AllWritten n.flown) where
   told_written : (s : ScanState) (d : scan.Done) (t : Option Told) (groups : Option GroupMapState) → d.state.opening.groups ≡ groups
       → IfSome t (StartsWith g n.inc d)
       → AllWritten (after_told g n s d t groups).flown
-  told_written s d None groups is can = old
-  told_written s d (Some t) None is can = old
-  told_written s d (Some t) (Some m) is can =
+  told_written s d None groups fact can = old
+  told_written s d (Some t) None fact can = old
+  told_written s d (Some t) (Some m) fact can =
       with_flight (first_write g n.inc t.end m).state.flight n.flown
-      (subst (λ (o : Option GroupMapState). IfSome o (λ x. WritesText (first_write g n.inc t.end x))) is can.1) old
+      (subst (λ (o : Option GroupMapState). IfSome o (λ x. WritesText (first_write g n.inc t.end x))) fact can.1) old
 
 stays_written : (g : Setting) (n o : Net) → Happens g n o → AllWritten n.flown → AllWritten o.flown
-stays_written g n o (Acts s i is came texts) old = with_flight (log.transition s i).state.flight n.flown texts old
-stays_written g n o (Writes chain s i is came texts) old = flight_written g n old chain (log.transition s i) (log.transition s i).state.flight texts
-stays_written g n o (Opens s i is came can) old =
+stays_written g n o (Acts s i fact came texts) old = with_flight (log.transition s i).state.flight n.flown texts old
+stays_written g n o (Writes chain s i fact came texts) old = flight_written g n old chain (log.transition s i) (log.transition s i).state.flight texts
+stays_written g n o (Opens s i fact came can) old =
     told_written g n old s (scan.transition s i) (chain_in (scan.transition s i).outs) (scan.transition s i).state.opening.groups refl can
 stays_written g n o Crashes old = old
 stays_written g n o (Restarts down) old = old
@@ -65,7 +65,7 @@ stays_written g n o (Serves v deed some came) old = old
 stays_written g n o (Bars v log pass) old = old
 stays_written g n o (Lists v) old = old
 stays_written g n o (Hears v generation up reached) old = old
-stays_written g n o (Raises low name up is below) old = old
+stays_written g n o (Raises low name up fact below) old = old
 stays_written g n o (Publishes m whole) old = old
 stays_written g n o (Welcomes inc ask news m hello low whole) old = old
 stays_written g n o (Drops lists meta sent among below) old = old

@@ -193,11 +193,11 @@ in_flight (Some f) h = flight_written f h
 
 -- a log that begins anew
 pub anew_written : (log : LogId) (inc : ℕ) (m : GroupMapState) → IsLog log.0 → inc < 2 ^ 32 → MapFits m → StaysWritten (started log inc no_end m)
-anew_written log inc m is small ids later all =
+anew_written log inc m fact small ids later all =
     let s : LogState = started log inc no_end m in
     in_flight (state_after s later).flight
     (fit_all s later
-    (record { log = is; inc = small; end = (omega arith, (omega arith, omega arith), omega arith); groups = ids; none = refl; flight = tt }) all).flight
+    (record { log = fact; inc = small; end = (omega arith, (omega arith, omega arith), omega arith); groups = ids; none = refl; flight = tt }) all).flight
 
 -- ---- one input
 

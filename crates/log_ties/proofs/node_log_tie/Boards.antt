@@ -163,33 +163,34 @@ module _ (g : Setting) (owner : Asker) (n : Net) (b : BoardState) (before : Regi
       (λ k. kept_so slot epoch parts horizon (and_second ((entry_of b.entries slot).epoch == epoch) (covers_kept b.checkpoints slot horizon) k)) (λ k. same))
 
   shown_at : (c : BoardState) → Checkpointed c → (low : ℕ) → low ≡ low_of g c → RegistrySeen g (record n { low = low }) c
-  shown_at c is low e = record {
-    map = subst (λ (m : GroupMapState). IsGroupMap m) (sym is.groups) before.map;
-    size = ap (λ (m : GroupMapState). m.servers) is.groups ∙ before.size;
-    named = subst (λ (m : GroupMapState). NamesGroups g m) (sym is.groups) before.named;
-    known = subst (λ (m : GroupMapState). (v : ℕ) → has_server m v ≡ true → n.registry v ≡ generation_at m.generations v) (sym is.groups) before.known;
+  shown_at c fact low e = record {
+    map = subst (λ (m : GroupMapState). IsGroupMap m) (sym fact.groups) before.map;
+    size = ap (λ (m : GroupMapState). m.servers) fact.groups ∙ before.size;
+    named = subst (λ (m : GroupMapState). NamesGroups g m) (sym fact.groups) before.named;
+    known = subst (λ (m : GroupMapState). (v : ℕ) → has_server m v ≡ true → n.registry v ≡ generation_at m.generations v) (sym fact.groups) before.known;
     low = e;
-    horizons = is.horizons;
+    horizons = fact.horizons;
   }
 
   checkpoint_done : (slot epoch : ℕ) (parts : List SegRef) (horizon : List ℕ) → Leads (transition b (input.Done slot epoch parts horizon)).state
   checkpoint_done slot epoch parts horizon keeps = by (nat_le g.log.0 9) refl
     where
-      is : Checkpointed (done b slot epoch parts horizon).state
-      is = done_so slot epoch parts horizon
+      fact : Checkpointed (done b slot epoch parts horizon).state
+      fact = done_so slot epoch parts horizon
 
       by : (t : Bool) → nat_le g.log.0 9 ≡ t → MadeSeen (done b slot epoch parts horizon).state
       by true t =
           let some : g.log.0 ≤ 9 = grind (arith, nat_tests) in
-          raised (done b slot epoch parts horizon).state (low_rises g.log.0 some b (input.Done slot epoch parts horizon) before.horizons is.horizons)
+          raised (done b slot epoch parts horizon).state (low_rises g.log.0 some b (input.Done slot epoch parts horizon) before.horizons fact.horizons)
           (keeps.filed some)
-          (shown_at (done b slot epoch parts horizon).state is)
+          (shown_at (done b slot epoch parts horizon).state fact)
       by false t =
           let high : 9 < g.log.0 = grind (arith, nat_tests) in
           let first : low_of g b ≡ 1 = least_is_one g.log.0 high b before.horizons in
-          let then_is : low_of g (done b slot epoch parts horizon).state ≡ 1 = least_is_one g.log.0 high (done b slot epoch parts horizon).state is.horizons in
+          let then_is : low_of g (done b slot epoch parts horizon).state ≡ 1 = least_is_one g.log.0 high
+          (done b slot epoch parts horizon).state fact.horizons in
           raised (done b slot epoch parts horizon).state (omega arith) (inl (let e = before.low in omega arith))
-          (shown_at (done b slot epoch parts horizon).state is)
+          (shown_at (done b slot epoch parts horizon).state fact)
 
   -- ---- all inputs
 

@@ -74,7 +74,7 @@ module _ (g : Setting) (owner : Asker) (other : g.log ≡ cleaner_log → ⊥) (
   maps_asked : (n : Net) (e : Emptying) (job : Option Job) → EmptyingSeen g n e → IfSome job (JobSeen g n) → Goes n (asks_maps e job)
   maps_asked n e None seen its = stays g owner n e seen
   maps_asked n e (Some job) seen its =
-      at_once g owner n _ _ (record { log = seen.log; job = its }) (record { own = λ is. absurd (away (sym is)); reached = tt }, tt)
+      at_once g owner n _ _ (record { log = seen.log; job = its }) (record { own = λ fact. absurd (away (sym fact)); reached = tt }, tt)
 
   list_asked : (n : Net) (e : Emptying) (job : Option Job) (server : ℕ) → EmptyingSeen g n e → IfSome job (JobSeen g n) → Goes n (asks_list e job server)
   list_asked n e None server seen its = stays g owner n e seen
@@ -174,13 +174,13 @@ module _ (g : Setting) (owner : Asker) (other : g.log ≡ cleaner_log → ⊥) (
             next = record n { sent = DeleteSent m.meta.name ∷ n.sent; dropped = m.meta.name ∷ n.dropped };
             drop = record {
               runs = On Begun (Drops m.lists m.meta m.sent m.among (let e = ap (λ (s : SegName). s.seq) m.named in let b = m.below in omega arith));
-              dropped = λ x is. inr is;
+              dropped = λ x fact. inr fact;
               rest = refl;
               none = λ high. (let same : name.log.0 ≡ g.log.0 = equal name.log.0 g.log.0 own in let some = m.cleaned in absurd (omega arith));
             };
             said = λ its. inl (ap DeleteSent (sym m.named));
             acted = λ its. inl (sym m.named);
-            only = λ x is. ⊎_elim (λ same. inr (same ∙ m.named)) (λ was. inl was) is;
+            only = λ x fact. ⊎_elim (λ same. inr (same ∙ m.named)) (λ was. inl was) fact;
           }
       by false foreign =
           record {
@@ -188,7 +188,7 @@ module _ (g : Setting) (owner : Asker) (other : g.log ≡ cleaner_log → ⊥) (
             drop = no_drop g owner n;
             said = λ its. contrary (sym foreign ∙ its);
             acted = λ its. contrary (sym foreign ∙ its);
-            only = λ x is. inl is;
+            only = λ x fact. inl fact;
           }
 
   drop_acted : (n : Net) (is_first : Bool) (name : SegName) → (is_of_log g name ≡ true → In name n.dropped) → Does_all n (drops is_first name)
@@ -206,11 +206,11 @@ module _ (g : Setting) (owner : Asker) (other : g.log ≡ cleaner_log → ⊥) (
         seen = emptying_later g n l.next (run_later g n l.next l.drop.runs) (record e { job = Some (record job { hand = _ }) })
             (record { log = seen.log; job = its });
         does = all_append (CleanerDoes g owner l.next) (drops (is_whole job.hand) name) _ (drop_acted l.next (is_whole job.hand) name l.acted) (l.said, tt);
-        only = λ x is. ⊎_elim (λ was. inl was)
+        only = λ x fact. ⊎_elim (λ was. inl was)
             (λ same. inr (
               Server server,
               in_after (drops (is_whole job.hand) name) _ _ (inl (ap (λ (z : SegName). Send (Server server) (body.Delete (record { name = z }))) same)),
-            )) (l.only x is);
+            )) (l.only x fact);
       }
 
   job_over : (n : Net) (e : Emptying) (count : ℕ) → EmptyingSeen g n e → Goes n (finishes e count)

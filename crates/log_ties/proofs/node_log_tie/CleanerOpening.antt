@@ -91,17 +91,17 @@ module _ (g : Setting) (owner : Asker) (other : g.log ≡ cleaner_log → ⊥) (
 
   one_said : (its : Owner) (low : ℕ) → its.log ≡ cleaner_log → (s : _) (o : Out) → Does_all (said its low s o).outs
   unfolding said
-  one_said its low is s (out.Hello own) = (record { own = λ e. absurd (away (sym e)); reached = tt }, tt)
-  one_said its low is s (out.Fence server) = (λ e. absurd (other ((λ i. record { 0 = sym (equal its.log.0 g.log.0 e) i }) ∙ is)), tt)
-  one_said its low is s (out.Fetch server name own) = (tt, tt)
-  one_said its low is s (out.Chain segments end prior) = tt
-  one_said its low is s (out.Lost name) = tt
+  one_said its low fact s (out.Hello own) = (record { own = λ e. absurd (away (sym e)); reached = tt }, tt)
+  one_said its low fact s (out.Fence server) = (λ e. absurd (other ((λ i. record { 0 = sym (equal its.log.0 g.log.0 e) i }) ∙ fact)), tt)
+  one_said its low fact s (out.Fetch server name own) = (tt, tt)
+  one_said its low fact s (out.Chain segments end prior) = tt
+  one_said its low fact s (out.Lost name) = tt
 
   all_said : (its : Owner) (low : ℕ) → its.log ≡ cleaner_log → (s : _) (outs : List Out) → Does_all (steps (said its low) s outs).outs
-  all_said its low is s [] = tt
-  all_said its low is s (o ∷ outs) =
-      all_append (CleanerDoes g owner n) (said its low s o).outs (steps (said its low) (said its low s o).state outs).outs (one_said its low is s o)
-      (all_said its low is (said its low s o).state outs)
+  all_said its low fact s [] = tt
+  all_said its low fact s (o ∷ outs) =
+      all_append (CleanerDoes g owner n) (said its low s o).outs (steps (said its low) (said its low s o).state outs).outs (one_said its low fact s o)
+      (all_said its low fact (said its low s o).state outs)
 
   -- ---- what the log says
 
@@ -158,8 +158,8 @@ module _ (g : Setting) (owner : Asker) (other : g.log ≡ cleaner_log → ⊥) (
   ends_on its low a q e (out.Hello own ∷ outs) ends = ends_on its low (asked_as a q own) (drawn_for a q own) e outs ends
   ends_on its low a q e (out.Fence server ∷ outs) ends = ends_on its low a q e outs ends
   ends_on its low a q e (out.Fetch server name own ∷ outs) ends = ends_on its low (asked_as a q own) (drawn_for a q own) e outs ends
-  ends_on its low a q e (out.Chain segments end prior ∷ outs) ends = ends_on its low a q _ outs (λ k is s. settles_on k is s _ k.maps.groups)
-  ends_on its low a q e (out.Lost name ∷ outs) ends = ends_on its low a q _ outs (λ k is s. record { seen = tt; does = (tt, tt) })
+  ends_on its low a q e (out.Chain segments end prior ∷ outs) ends = ends_on its low a q _ outs (λ k fact s. settles_on k fact s _ k.maps.groups)
+  ends_on its low a q e (out.Lost name ∷ outs) ends = ends_on its low a q _ outs (λ k fact s. record { seen = tt; does = (tt, tt) })
 
   none_ends : (k : Known) → k.owner.log ≡ cleaner_log → (s : Scanning) → MovedOn (follows k s None)
   unfolding follows
@@ -287,4 +287,4 @@ module _ (g : Setting) (owner : Asker) (other : g.log ≡ cleaner_log → ⊥) (
       (λ t. record { seen = seen; does = (record { own = λ e. absurd (away (sym e)); reached = tt }, tt) })
 
   pub begins : (its : Owner) (servers : ℕ) (q : Questions) → its.log ≡ cleaner_log → WentOn (on_start its servers q)
-  begins its servers q is = record { seen = record { log = is; stage = tt }; does = (record { own = λ e. absurd (away (sym e)); reached = tt }, tt) }
+  begins its servers q fact = record { seen = record { log = fact; stage = tt }; does = (record { own = λ e. absurd (away (sym e)); reached = tt }, tt) }

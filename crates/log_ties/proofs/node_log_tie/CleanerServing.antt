@@ -240,7 +240,7 @@ module _ (g : Setting) (owner : Asker) (other : g.log ≡ cleaner_log → ⊥) (
   packet_heard n e packet seen sent =
       by_test (Goes n) (names_known e.maps packet.body) (on_body e packet.from packet.body) (asks_for_maps e)
       (λ t. body_heard n e packet.from packet.body seen sent)
-      (λ t. at_once g owner n _ _ (record { log = seen.log; job = seen.job }) (record { own = λ is. absurd (away (sym is)); reached = tt }, tt))
+      (λ t. at_once g owner n _ _ (record { log = seen.log; job = seen.job }) (record { own = λ fact. absurd (away (sym fact)); reached = tt }, tt))
 
   pub time_passes : (n : Net) (e : Emptying) → EmptyingSeen g n e → Goes n (on_tick e)
   unfolding on_tick

@@ -52,7 +52,7 @@ module _ (g : Setting) (owner : Asker) (other : g.log ≡ cleaner_log → ⊥) (
     only : OnlyOrdered g owner n next w.outs
 
   at_once : (p : Phase) (outs : List Effect) → CleanerSeen g n p → AllByRecursion (CleanerDoes g owner n) outs → Goes (record { state = p; outs = outs })
-  at_once p outs seen does = record { next = n; drop = no_drop g owner n; seen = seen; does = does; only = λ name is. inl is }
+  at_once p outs seen does = record { next = n; drop = no_drop g owner n; seen = seen; does = does; only = λ name fact. inl fact }
 
   stays : (p : Phase) → CleanerSeen g n p → Goes (still p)
   stays p seen = at_once p [] seen tt
@@ -89,7 +89,7 @@ module _ (g : Setting) (owner : Asker) (other : g.log ≡ cleaner_log → ⊥) (
         seen = p.seen;
         does = all_append (CleanerDoes g owner p.next) w.effects (after_opening (record l { questions = w.questions }) w.progress).outs
             (all_does_later g owner n p.next p.drop w.effects on.does) p.does;
-        only = ordered_then g owner n n p.next w.effects (after_opening (record l { questions = w.questions }) w.progress).outs (λ name is. inl is) p.only;
+        only = ordered_then g owner n n p.next w.effects (after_opening (record l { questions = w.questions }) w.progress).outs (λ name fact. inl fact) p.only;
       }
 
   restarted : (servers : ℕ) (l : Lasting) (number : ℕ) → Goes (restarts servers l number)

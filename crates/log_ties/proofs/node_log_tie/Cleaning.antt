@@ -20,9 +20,9 @@ use Rattle.group_map.specs.GroupMapState.{GroupMapState}
 use Rattle.stripe_cleaner.specs.Candidates.{horizon_at, least_horizon, is_cleaned, is_candidate, candidates_with_one, candidates_with}
 use Rattle.stripe_cleaner.specs.Checks.{all_dead, any_asked, checks_from, is_awaited, live_at, dead_at, moved_at, moves, place_in, questions}
 use Rattle.stripe_cleaner.specs.CleaningState.{CleaningState}
-use Rattle.stripe_cleaner.specs.Counting.{CountingState, all_slots, has_usage, is_counted, awaited_slots, rank_cmp, rank_of, ranked_with_one, ranked, segment_at, chosen}
+use Rattle.stripe_cleaner.specs.Counting.{CountingState, all_slots, has_usage, is_counted, awaited_slots, fullness_cmp, fullness_of, by_fullness_with_one, by_fullness, segment_at, chosen}
 use Rattle.stripe_cleaner.specs.declared.checks.Check.{Check}
-use Rattle.stripe_cleaner.specs.declared.counting.Rank.{Rank}
+use Rattle.stripe_cleaner.specs.declared.counting.Fullness.{Fullness}
 use Rattle.stripe_cleaner.specs.declared.input.In.{In as Input}
 use Rattle.stripe_cleaner.specs.declared.input.In.TheVariants as input
 use Rattle.stripe_cleaner.specs.declared.output.Out.{Out}
@@ -153,14 +153,14 @@ module _ (g : Setting) (n : Net) where
 
   candidate_seen : (slots : List SlotNews) → least_horizon slots g.log.0 ≤ n.low → (meta : FragMeta) → ListedOfLog g n meta
       → is_candidate slots meta.name ≡ true → DropOfLog g n meta.name
-  candidate_seen slots low meta was is own =
+  candidate_seen slots low meta was fact own =
       let at = was own in
       let log : meta.name.log.0 ≡ g.log.0 = equal meta.name.log.0 g.log.0 own in
       let less : nat_lt meta.name.seq (least_horizon slots meta.name.log.0) ≡ true =
-      and_second (is_cleaned meta.name.log.0) (nat_lt meta.name.seq (least_horizon slots meta.name.log.0)) is in
+      and_second (is_cleaned meta.name.log.0) (nat_lt meta.name.seq (least_horizon slots meta.name.log.0)) fact in
       let below : meta.name.seq < least_horizon slots meta.name.log.0 = grind (arith, nat_tests) in
       let same = ap (λ k. least_horizon slots k) log in
-      let one : is_cleaned meta.name.log.0 ≡ true = and_first (is_cleaned meta.name.log.0) (nat_lt meta.name.seq (least_horizon slots meta.name.log.0)) is in
+      let one : is_cleaned meta.name.log.0 ≡ true = and_first (is_cleaned meta.name.log.0) (nat_lt meta.name.seq (least_horizon slots meta.name.log.0)) fact in
       let some : meta.name.log.0 ≤ 9 = grind (arith, nat_tests) in
       record { lists = at.lists; sent = at.sent; meta = meta; among = at.among; named = refl; below = omega arith; cleaned = some }
 
@@ -179,22 +179,24 @@ module _ (g : Setting) (n : Net) where
   with_candidates slots low (m ∷ ms) entries was all =
       with_candidates slots low ms (candidates_with_one slots entries m) was.1 (one_candidate slots low entries m was.0 all)
 
-  abbrev RankDrops : Rank × ℕ → Type 0
-  RankDrops e = DropOfLog g n e.0.name
+  abbrev FullnessDrops : Fullness × ℕ → Type 0
+  FullnessDrops e = DropOfLog g n e.0.name
 
-  all_ranked : (usages : List (ℕ × List (SegName × ℕ))) (entries : List (SegName × ℕ)) (before : List (Rank × ℕ)) → Candidates g n entries
-      → AllByRecursion RankDrops before
-      → AllByRecursion RankDrops (fold (ranked_with_one usages) before entries)
-  all_ranked usages [] before all have = have
-  all_ranked usages (e ∷ entries) before all have =
-      all_ranked usages entries (ranked_with_one usages before e) all.1 (all_put RankDrops rank_cmp before (rank_of usages e.0) e.1 all.0 (λ q w h. h) have)
+  all_by_fullness : (usages : List (ℕ × List (SegName × ℕ))) (entries : List (SegName × ℕ)) (before : List (Fullness × ℕ)) → Candidates g n entries
+      → AllByRecursion FullnessDrops before
+      → AllByRecursion FullnessDrops (fold (by_fullness_with_one usages) before entries)
+  all_by_fullness usages [] before all have = have
+  all_by_fullness usages (e ∷ entries) before all have =
+      all_by_fullness usages entries (by_fullness_with_one usages before e) all.1
+      (all_put FullnessDrops fullness_cmp before (fullness_of usages e.0) e.1 all.0 (λ q w h. h) have)
 
-  all_segments : (ranks : List (Rank × ℕ)) → AllByRecursion RankDrops ranks → AllDrop g n (map segment_at ranks)
+  all_segments : (ordered : List (Fullness × ℕ)) → AllByRecursion FullnessDrops ordered → AllDrop g n (map segment_at ordered)
   all_segments [] all = tt
-  all_segments (r ∷ ranks) all = (all.0, all_segments ranks all.1)
+  all_segments (r ∷ ordered) all = (all.0, all_segments ordered all.1)
 
   all_chosen : (count : ℕ) (c : CountingState) → Candidates g n c.candidates → AllDrop g n (chosen count c)
-  all_chosen count c all = all_segments (take count (ranked c)) (all_take RankDrops count (ranked c) (all_ranked c.usages c.candidates [] all tt))
+  all_chosen count c all =
+      all_segments (take count (by_fullness c)) (all_take FullnessDrops count (by_fullness c) (all_by_fullness c.usages c.candidates [] all tt))
 
   counted_seen : (count : ℕ) (c : CountingState) → Candidates g n c.candidates → TurnSeen (cleaning.counted count c)
   counted_seen count c all =

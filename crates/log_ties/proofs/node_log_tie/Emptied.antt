@@ -108,9 +108,9 @@ module _ (g : Setting) (owner : Asker) where
   OnlyOrdered n next outs = (name : SegName) → In name next.dropped → In name n.dropped ⊎ Orders name outs
 
   pub ordered_then : (n m o : Net) (outs more : List Effect) → OnlyOrdered n m outs → OnlyOrdered m o more → OnlyOrdered n o (outs ++ more)
-  ordered_then n m o outs more first second name is = ⊎_elim
+  ordered_then n m o outs more first second name fact = ⊎_elim
       (λ was. ⊎_elim (λ old. inl old) (λ (ordered : Orders name outs). inr (ordered.0, in_before outs more _ ordered.1)) (first name was))
-      (λ (ordered : Orders name more). inr (ordered.0, in_after outs more _ ordered.1)) (second name is)
+      (λ (ordered : Orders name more). inr (ordered.0, in_after outs more _ ordered.1)) (second name fact)
 
   -- a net with more drops; of a manager's log there are none
   pub record Dropping (n next : Net) : Type 0 where
@@ -120,13 +120,13 @@ module _ (g : Setting) (owner : Asker) where
     pub none : 9 < g.log.0 → next ≡ n
 
   pub no_drop : (n : Net) → Dropping n n
-  no_drop n = record { runs = Begun; dropped = λ name is. is; rest = refl; none = λ high. refl }
+  no_drop n = record { runs = Begun; dropped = λ name fact. fact; rest = refl; none = λ high. refl }
 
   pub then_drop : (n m o : Net) → Dropping n m → Dropping m o → Dropping n o
   then_drop n m o a b =
       record {
         runs = runs_on g n m o a.runs b.runs;
-        dropped = λ name is. b.dropped name (a.dropped name is);
+        dropped = λ name fact. b.dropped name (a.dropped name fact);
         rest = b.rest ∙ a.rest;
         none = λ high. b.none high ∙ a.none high;
       }
@@ -158,7 +158,7 @@ module _ (g : Setting) (owner : Asker) where
 
   pub at_once : (n : Net) (e : Emptying) (outs : List Effect) → EmptyingSeen g n e → AllByRecursion (CleanerDoes n) outs
       → Emptied n (record { state = e; outs = outs })
-  at_once n e outs seen does = record { next = n; drop = no_drop n; seen = seen; does = does; only = λ name is. inl is }
+  at_once n e outs seen does = record { next = n; drop = no_drop n; seen = seen; does = does; only = λ name fact. inl fact }
 
   pub stays : (n : Net) (e : Emptying) → EmptyingSeen g n e → Emptied n (still e)
   stays n e seen = at_once n e [] seen tt
@@ -179,7 +179,7 @@ module _ (g : Setting) (owner : Asker) where
     drop = x.drop;
     seen = x.seen;
     does = all_append (CleanerDoes x.next) outs e.outs (all_does_later n x.next x.drop outs does) x.does;
-    only = ordered_then n n x.next outs e.outs (λ name is. inl is) x.only;
+    only = ordered_then n n x.next outs e.outs (λ name fact. inl fact) x.only;
   }
 
   -- one step after the other
@@ -220,15 +220,15 @@ module _ (g : Setting) (owner : Asker) where
   -- what is ordered is sent
   in_packets : (outs : List Effect) (to : NodeId) (said : Body) → In (Send to said) outs
       → In (record { from = Cleaner; to = to; clock = 0; body = said }) (packets_of Cleaner outs)
-  in_packets [] to said is = absurd is
+  in_packets [] to said fact = absurd fact
   in_packets (e ∷ outs) to said (inl same) =
       subst (λ x. In (record { from = Cleaner; to = to; clock = 0; body = said }) (packet_of Cleaner x ++ packets_of Cleaner outs)) same (inl refl)
-  in_packets (e ∷ outs) to said (inr is) = in_after (packet_of Cleaner e) (packets_of Cleaner outs) _ (in_packets outs to said is)
+  in_packets (e ∷ outs) to said (inr fact) = in_after (packet_of Cleaner e) (packets_of Cleaner outs) _ (in_packets outs to said fact)
 
   pub only_deleted : (n next : Net) (outs : List Effect) → OnlyOrdered n next outs → OnlyDeleted n next (packets_of Cleaner outs)
-  only_deleted n next outs only name is =
+  only_deleted n next outs only name fact =
       ⊎_elim (λ was. inl was) (λ (ordered : Orders name outs). inr (_, in_packets outs ordered.0 (body.Delete (record { name = name })) ordered.1, refl))
-      (only name is)
+      (only name fact)
 
   pub all_acts : (n : Net) (outs : List Effect) → AllByRecursion (CleanerDoes n) outs → All (DropActed g n) (acts_of Cleaner outs)
   all_acts n [] all = All-nil (DropActed g n)

@@ -30,13 +30,13 @@ use Rattle.log_ties.proofs.node_log_tie.Sights.{at_once, then_later}
 -- ---- lists and tables
 
 pub in_after : {X : Type 0} (xs ys : List X) (x : X) → In x ys → In x (xs ++ ys)
-in_after [] ys x is = is
-in_after (y ∷ xs) ys x is = inr (in_after xs ys x is)
+in_after [] ys x fact = fact
+in_after (y ∷ xs) ys x fact = inr (in_after xs ys x fact)
 
 pub in_before : {X : Type 0} (xs ys : List X) (x : X) → In x xs → In x (xs ++ ys)
-in_before [] ys x is = absurd is
+in_before [] ys x fact = absurd fact
 in_before (y ∷ xs) ys x (inl e) = inl e
-in_before (y ∷ xs) ys x (inr is) = inr (in_before xs ys x is)
+in_before (y ∷ xs) ys x (inr fact) = inr (in_before xs ys x fact)
 
 -- what holds of the new entry, and of the old ones, holds of each
 pub put_each : {X : Type 0} (P : ℕ → X → Type 0) (f : ℕ → X) (a : ℕ) (y : X) → P a y → ((u : ℕ) → P u (f u)) → (u : ℕ) → P u (put f a y u)
@@ -62,12 +62,12 @@ module _ (s : ShelfState) where
 
   deed_no_lower : (g : Setting) (n : Net) (v : ℕ) (deed : Deed) → (n.shelves v ≡ s) → CameToServer g n v deed → NoLower s (shelf_after g s deed)
   unfolding NoLower
-  deed_no_lower g n v (Stores f generation) is came = by_test (NoLower s) (is_stored s f generation) (kept s f) s (λ t. kept_no_lower f) (λ t. omega arith)
-  deed_no_lower g n v (Fetches name) is came = omega arith
-  deed_no_lower g n v (Fences inc) is came = fence_no_lower g.log (record { inc = inc; att = 0 })
-  deed_no_lower g n v (Deletes name) is came = omega arith
-  deed_no_lower g n v (Fills f) is came = by_test (NoLower s) (is_marked s.marks f.meta.name) s (kept s f) (λ t. omega arith) (λ t. kept_no_lower f)
-  deed_no_lower g n v Loses is came = (let e = ap (λ (t : ShelfState). t.generation) is in let c : (n.shelves v).generation < u32_end = came in omega arith)
+  deed_no_lower g n v (Stores f generation) fact came = by_test (NoLower s) (is_stored s f generation) (kept s f) s (λ t. kept_no_lower f) (λ t. omega arith)
+  deed_no_lower g n v (Fetches name) fact came = omega arith
+  deed_no_lower g n v (Fences inc) fact came = fence_no_lower g.log (record { inc = inc; att = 0 })
+  deed_no_lower g n v (Deletes name) fact came = omega arith
+  deed_no_lower g n v (Fills f) fact came = by_test (NoLower s) (is_marked s.marks f.meta.name) s (kept s f) (λ t. omega arith) (λ t. kept_no_lower f)
+  deed_no_lower g n v Loses fact came = (let e = ap (λ (t : ShelfState). t.generation) fact in let c : (n.shelves v).generation < u32_end = came in omega arith)
 
 -- ---- what happens
 
@@ -76,7 +76,7 @@ module _ (g : Setting) (n : Net) where
   says_more : (o : Net) (more : List Packet) → o.shelves ≡ n.shelves → o.sent ≡ more ++ n.sent → n.low ≤ o.low → Later n o
   says_more o more shelves sent low = record {
     low = low;
-    sent = λ p is. subst (λ ps. In p ps) (sym sent) (in_after more n.sent p is);
+    sent = λ p fact. subst (λ ps. In p ps) (sym sent) (in_after more n.sent p fact);
     reached = λ v. (let e = ap (λ (f : ℕ → ShelfState). (f v).generation) shelves in omega arith);
   }
 
@@ -85,7 +85,7 @@ module _ (g : Setting) (n : Net) where
   unfolding NoLower
   serves_later v deed came = record {
     low = omega arith;
-    sent = λ p is. in_after (answers g v (n.shelves v) deed) n.sent p is;
+    sent = λ p fact. in_after (answers g v (n.shelves v) deed) n.sent p fact;
     reached = put_each (λ (u : ℕ) (t : ShelfState). (n.shelves u).generation ≤ t.generation) n.shelves v _ (deed_no_lower (n.shelves v) g n v deed refl came)
         (λ u. omega arith);
   }
@@ -93,7 +93,7 @@ module _ (g : Setting) (n : Net) where
   bars_later : (v : ℕ) (log : LogId) (pass : Pass) → Later n (record n { shelves = put n.shelves v (on_fence (n.shelves v) log pass) })
   bars_later v log pass = record {
     low = omega arith;
-    sent = λ p is. is;
+    sent = λ p fact. fact;
     reached = put_each (λ (u : ℕ) (t : ShelfState). (n.shelves u).generation ≤ t.generation) n.shelves v _ (fence_no_lower (n.shelves v) log pass)
         (λ u. omega arith);
   }
@@ -107,7 +107,7 @@ module _ (g : Setting) (n : Net) where
   told_later s d (Some t) None = says_more _ (scan_packets n.inc d.outs) refl refl (omega arith)
   told_later s d (Some t) (Some m) = record {
     low = omega arith;
-    sent = λ p is. in_after (log_packets (first_write g n.inc t.end m).outs) _ p (in_after (scan_packets n.inc d.outs) n.sent p is);
+    sent = λ p fact. in_after (log_packets (first_write g n.inc t.end m).outs) _ p (in_after (scan_packets n.inc d.outs) n.sent p fact);
     reached = λ v. omega arith;
   }
 
@@ -123,7 +123,7 @@ happened_later g n o (Serves v deed some came) = serves_later g n v deed came
 happened_later g n o (Bars v log pass) = bars_later g n v log pass
 happened_later g n o (Lists v) = says_more g n _ (_ ∷ []) refl refl (omega arith)
 happened_later g n o (Hears v generation up reached) = says_more g n _ [] refl refl (omega arith)
-happened_later g n o (Raises low name up is below) = says_more g n _ [] refl refl up
+happened_later g n o (Raises low name up fact below) = says_more g n _ [] refl refl up
 happened_later g n o (Publishes m whole) = says_more g n _ (_ ∷ []) refl refl (omega arith)
 happened_later g n o (Welcomes inc ask news m hello low whole) = says_more g n _ (_ ∷ []) refl refl (omega arith)
 happened_later g n o (Drops lists meta sent among below) = says_more g n _ (_ ∷ []) refl refl (omega arith)

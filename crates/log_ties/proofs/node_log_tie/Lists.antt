@@ -42,7 +42,7 @@ if_some P Q weaker None h = tt
 if_some P Q weaker (Some x) h = weaker x h
 
 pub in_filter : {X : Type 0} (p : X → Bool) (x : X) (xs : List X) → In x xs → p x ≡ true → In x (filter p xs)
-in_filter p x [] is t = absurd is
+in_filter p x [] fact t = absurd fact
 in_filter p x (y ∷ xs) (inl e) t = subst (λ (b : Bool). In x (cond b (y ∷ filter p xs) (filter p xs))) (sym (ap p (sym e) ∙ t)) (inl e)
 in_filter p x (y ∷ xs) (inr later) t =
     by_test (λ zs. In x zs) (p y) (y ∷ filter p xs) (filter p xs) (λ u. inr (in_filter p x xs later t)) (λ u. in_filter p x xs later t)

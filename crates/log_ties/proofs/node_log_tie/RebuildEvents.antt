@@ -59,11 +59,11 @@ module _ (g : Setting) (n : Net) where
       sent = sent;
       among = in_filter (λ (x : FragMeta). is_of_log g x.name) m held (within m (inl refl)) own;
     },
-    listed_of held ms sent (λ x is. within x (inr is)),
+    listed_of held ms sent (λ x fact. within x (inr fact)),
   )
 
   pub all_listed : (held : List FragMeta) → In (ListedSent (filter (λ (m : FragMeta). is_of_log g m.name) held)) n.sent → AllByRecursion (ListedOfLog g n) held
-  all_listed held sent = listed_of held held sent (λ m is. is)
+  all_listed held sent = listed_of held held sent (λ m fact. fact)
 
   -- ---- the table of what is listed
 

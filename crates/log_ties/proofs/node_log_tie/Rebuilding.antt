@@ -96,14 +96,14 @@ module _ (g : Setting) (n next : Net) (later : Later n next) where
 module _ (g : Setting) (n : Net) (v : ℕ) where
   at_place : (members : List Member) (place : ℕ) → position (λ (m : Member). m.server == v) members ≡ Some place
       → (place < length members) × (server_of members place ≡ v)
-  at_place members place is = let p = position-Some (λ (m : Member). m.server == v) members place no_member is in (p.0, equal _ v p.1)
+  at_place members place fact = let p = position-Some (λ (m : Member). m.server == v) members place no_member fact in (p.0, equal _ v p.1)
 
   wanted_at : (group : Group) (meta : FragMeta) (place : Option ℕ) → g.stripe meta.group ≡ stripe_of_group group → IsCut (length group.members) group.parity
       → ListedOfLog g n meta
       → position (λ (m : Member). m.server == v) group.members ≡ place → IfSome (in_group v group meta place) (WantedSeen g n v)
-  wanted_at group meta None named cut listed is = tt
-  wanted_at group meta (Some place) named cut listed is =
-      let at = at_place group.members place is in
+  wanted_at group meta None named cut listed fact = tt
+  wanted_at group meta (Some place) named cut listed fact =
+      let at = at_place group.members place fact in
       record {
         listed = listed;
         count = ap (λ (s : Stripe). length s.members) (sym named);
@@ -116,9 +116,10 @@ module _ (g : Setting) (n : Net) (v : ℕ) where
   wanted_in_group : (groups : GroupMapState) (meta : FragMeta) (group : Option Group) → NamesStripes g groups → ListedOfLog g n meta
       → group_of groups meta.group ≡ group
       → IfSome (of_group v meta group) (WantedSeen g n v)
-  wanted_in_group groups meta None maps listed is = tt
-  wanted_in_group groups meta (Some group) maps listed is =
-      wanted_at group meta (position (λ (m : Member). m.server == v) group.members) (maps.named meta.group group is) (maps.cut meta.group group is) listed refl
+  wanted_in_group groups meta None maps listed fact = tt
+  wanted_in_group groups meta (Some group) maps listed fact =
+      wanted_at group meta (position (λ (m : Member). m.server == v) group.members) (maps.named meta.group group fact)
+      (maps.cut meta.group group fact) listed refl
 
   if_wanted : (o : Option Wanted) (rest : List Wanted) → IfSome o (WantedSeen g n v) → AllByRecursion (WantedSeen g n v) rest
       → AllByRecursion (WantedSeen g n v) (cons_option o rest)
@@ -173,7 +174,7 @@ module _ (g : Setting) (n : Net) (v : ℕ) where
   refilled_is : (w : Wanted) (text : List ℕ) (n parity : ℕ) → n ≡ w.n → parity ≡ w.parity
       → refilled w text ≡ record { meta = record w.meta { index = w.place }; bytes = fragment_at (stripe_of text n parity) w.place }
   unfolding refilled
-  refilled_is w text n parity is also = λ i. record {
+  refilled_is w text n parity fact also = λ i. record {
     meta = record w.meta { index = w.place };
     bytes = bytes i;
   }
@@ -181,7 +182,7 @@ module _ (g : Setting) (n : Net) (v : ℕ) where
       bytes : unwrap_or (slice_get (stripe_of text w.n w.parity) w.place) [] ≡ fragment_at (stripe_of text n parity) w.place
       bytes =
           unwrap_or-slice_get (stripe_of text w.n w.parity) w.place []
-          ∙ (at_or_none (stripe_of text w.n w.parity) w.place ∙ sym (λ i. fragment_at (stripe_of text (is i) (also i)) w.place))
+          ∙ (at_or_none (stripe_of text w.n w.parity) w.place ∙ sym (λ i. fragment_at (stripe_of text (fact i) (also i)) w.place))
 
   filling : (w : Wanted) (r : RoundSoFar) (text : List ℕ) → WantedSeen g n v w → RoundSeen g n v w r → state_of r ≡ Read text
       → is_of_log g (refilled w text).meta.name ≡ true
@@ -212,11 +213,11 @@ module _ (g : Setting) (n : Net) (v : ℕ) where
   judged_seen : (r : ReadsState) (w : Wanted) (round : RoundSoFar) (st : RoundState) → ReadsSeen g n v r → WantedSeen g n v w → RoundSeen g n v w round
       → state_of round ≡ st
       → ReadOn (judged r w round st)
-  judged_seen r w round (Read text) seen wanted rounds is =
+  judged_seen r w round (Read text) seen wanted rounds fact =
       let more = goes_on_seen r.left (record r { filled = one_more r.filled }) seen.left in
-      record { reads = more.reads; outs = (filling w round text wanted rounds is, more.outs) }
-  judged_seen r w round (Short pairs) seen wanted rounds is = goes_on_seen r.left (record r { gone = one_more r.gone }) seen.left
-  judged_seen r w round Waiting seen wanted rounds is =
+      record { reads = more.reads; outs = (filling w round text wanted rounds fact, more.outs) }
+  judged_seen r w round (Short pairs) seen wanted rounds fact = goes_on_seen r.left (record r { gone = one_more r.gone }) seen.left
+  judged_seen r w round Waiting seen wanted rounds fact =
       record { reads = record { left = seen.left; present = record { wanted = wanted; round = rounds } }; outs = tt }
 
   -- what a server told was sent
@@ -225,10 +226,10 @@ module _ (g : Setting) (n : Net) (v : ℕ) where
   TellsSent (Missing generation) = Unit {0}
 
   told_came : (w : Wanted) (told : Told) → is_of w told ≡ true → TellsSent told → is_of_log g w.meta.name ≡ true → ToldCame n w.meta.name told
-  told_came w (Held f) is sent own =
-      let named : f.meta.name ≡ w.meta.name = one_name f.meta.name w.meta.name (and_first _ (f.meta.len == w.meta.len) is) in
+  told_came w (Held f) fact sent own =
+      let named : f.meta.name ≡ w.meta.name = one_name f.meta.name w.meta.name (and_first _ (f.meta.len == w.meta.len) fact) in
       (sent (subst (λ name. is_of_log g name ≡ true) (sym named) own), named)
-  told_came w (Missing generation) is sent own = tt
+  told_came w (Missing generation) fact sent own = tt
 
   came_too : (name : SegName) (answers : List Answer) (a : Answer) → AllCame n name answers → ToldCame n name a.told → AllCame n name (answers ++ a ∷ [])
   came_too name [] a all came = (came, tt)
@@ -237,14 +238,14 @@ module _ (g : Setting) (n : Net) (v : ℕ) where
   taken_seen : (w : Wanted) (r : RoundSoFar) (server : ℕ) (told : Told) → RoundSeen g n v w r → is_of w told ≡ true → told_fits r told ≡ true → TellsSent told
       → RoundSeen g n v w (taken r server told)
   unfolding taken
-  taken_seen w r server told seen is fits sent =
+  taken_seen w r server told seen fact fits sent =
       by_test (RoundSeen g n v w) (has_answered r.answers server) r (record r { answers = r.answers ++ record { server = server; told = told } ∷ [] })
       (λ t. seen)
       (λ t. record {
         is_round = pushed_is_round r server told seen.is_round fits;
         count = seen.count;
         parity = seen.parity;
-        came = λ own. came_too w.meta.name r.answers (record { server = server; told = told }) (seen.came own) (told_came w told is sent own);
+        came = λ own. came_too w.meta.name r.answers (record { server = server; told = told }) (seen.came own) (told_came w told fact sent own);
       })
 
   answered_seen : (r : ReadsState) (present : Option Present) (ask server : ℕ) (told : Told) → ReadsSeen g n v r → IfSome present (PresentSeen g n v)
@@ -255,10 +256,10 @@ module _ (g : Setting) (n : Net) (v : ℕ) where
       by_test ReadOn ((ask == r.ask) && counts p server told) (judged r p.wanted (taken p.round server told) (state_of (taken p.round server told))) (still r)
       (λ t.
       let fit = and_second (asks p.round server) (is_of p.wanted told && told_fits p.round told) (and_second (ask == r.ask) (counts p server told) t) in
-      let is = and_first (is_of p.wanted told) (told_fits p.round told) fit in
+      let fact = and_first (is_of p.wanted told) (told_fits p.round told) fit in
       let fits = and_second (is_of p.wanted told) (told_fits p.round told) fit in
       judged_seen r p.wanted (taken p.round server told) (state_of (taken p.round server told)) seen present.wanted
-      (taken_seen p.wanted p.round server told present.round is fits sent) refl)
+      (taken_seen p.wanted p.round server told present.round fact fits sent) refl)
       (λ t. record { reads = seen; outs = tt })
 
   pub answer_seen : (r : ReadsState) (ask server : ℕ) (told : Told) → ReadsSeen g n v r → TellsSent told → ReadOn (on_answer r ask server told)

@@ -135,7 +135,7 @@ module _ (g : Setting) (owner : Asker) (n : Net) where
   told_opening : (from : NodeId) (m : Hello) (at : Net) (node : RegistryNode) (outs : List Out) (own : ℕ) → RegistrySeen g at node.board → Runs g n at
       → all_but_known at ≡ all_but_known n → In (MapSent node.board.groups) at.sent → owner.asked m.ask ≡ OfOpening own → In (HelloSent m.inc own) at.sent
       → Goes (record { state = node; outs = flat_map (changed node) outs ++ Send from (body.Welcome (welcome_of node m)) ∷ [] })
-  told_opening from m at node outs own seen runs rest map is said =
+  told_opening from m at node outs own seen runs rest map fact said =
       let p : Sent = WelcomeSent m.inc own (all_news node.board) node.board.groups in
       let next : Net = record at { sent = p ∷ at.sent } in
       record {
@@ -148,7 +148,7 @@ module _ (g : Setting) (owner : Asker) (n : Net) where
             all_append (EffectSeen g owner next Registry) (flat_map (changed node) outs) _
             (all_flat_map (EffectSeen g owner next Registry) (changed node) (one_changed next node (inr map)) outs) (
               record {
-                own = λ same. subst (AnsweredBy g owner next (welcome_of node m)) (sym is) (inl refl);
+                own = λ same. subst (AnsweredBy g owner next (welcome_of node m)) (sym fact) (inl refl);
                 map = inr map;
                 low = (let e = seen.low in omega arith);
               },
@@ -163,7 +163,7 @@ module _ (g : Setting) (owner : Asker) (n : Net) where
       → In (MapSent node.board.groups) at.sent → (from ≡ owner.node → AskedBy g owner at m.inc (owner.asked m.ask))
       → (from ≡ owner.node) ⊎ (from ≡ owner.node → ⊥)
       → Goes (record { state = node; outs = flat_map (changed node) outs ++ Send from (body.Welcome (welcome_of node m)) ∷ [] })
-  welcomed from m at node outs seen runs rest map said (inl is) = by_question (owner.asked m.ask) refl (said is)
+  welcomed from m at node outs seen runs rest map said (inl fact) = by_question (owner.asked m.ask) refl (said fact)
     where
       by_question : (q : Question) → owner.asked m.ask ≡ q → AskedBy g owner at m.inc q
           → Goes (record { state = node; outs = flat_map (changed node) outs ++ Send from (body.Welcome (welcome_of node m)) ∷ [] })
@@ -182,7 +182,7 @@ module _ (g : Setting) (owner : Asker) (n : Net) where
       let at : Net = published b.next made.state in
       welcomed from m at to made.outs (resent b.next made.state (MapSent made.state.groups ∷ b.next.sent) b.seen)
       (publishes b.next made.state b.seen b.runs) b.rest (inl refl)
-      (λ is. asked_later g owner n at (run_later g n at (publishes b.next made.state b.seen b.runs)) m.inc (owner.asked m.ask) (hello.own is))
+      (λ fact. asked_later g owner n at (run_later g n at (publishes b.next made.state b.seen b.runs)) m.inc (owner.asked m.ask) (hello.own fact))
       (same_or_other from owner.node)
 
   -- ---- a manager has written a checkpoint

@@ -35,44 +35,44 @@ abbrev NoMap : List Packet → Type 0
 NoMap ps = (m : GroupMapState) → In (MapSent m) ps → ⊥
 
 in_either : {X : Type 0} (xs ys : List X) (x : X) → In x (xs ++ ys) → In x xs ⊎ In x ys
-in_either [] ys x is = inr is
+in_either [] ys x fact = inr fact
 in_either (y ∷ xs) ys x (inl e) = inl (inl e)
 in_either (y ∷ xs) ys x (inr later) = elim (in_either xs ys x later) [ inl h ↦ inl (inr h) | inr h ↦ inr h ]
 
 log_no_map : (outs : List log_outs.Out) → NoMap (log_packets outs)
-log_no_map [] m is = is
+log_no_map [] m fact = fact
 log_no_map (log_out.Send f member ∷ outs) m (inl e) = absurd cc
-log_no_map (log_out.Send f member ∷ outs) m (inr is) = log_no_map outs m is
-log_no_map (log_out.Settled end rows ∷ outs) m is = log_no_map outs m is
+log_no_map (log_out.Send f member ∷ outs) m (inr fact) = log_no_map outs m fact
+log_no_map (log_out.Settled end rows ∷ outs) m fact = log_no_map outs m fact
 
 scan_no_map : (inc : ℕ) (outs : List scan_outs.Out) → NoMap (scan_packets inc outs)
-scan_no_map inc [] m is = is
+scan_no_map inc [] m fact = fact
 scan_no_map inc (scan_out.Hello ask ∷ outs) m (inl e) = absurd cc
-scan_no_map inc (scan_out.Hello ask ∷ outs) m (inr is) = scan_no_map inc outs m is
+scan_no_map inc (scan_out.Hello ask ∷ outs) m (inr fact) = scan_no_map inc outs m fact
 scan_no_map inc (scan_out.Fence server ∷ outs) m (inl e) = absurd cc
-scan_no_map inc (scan_out.Fence server ∷ outs) m (inr is) = scan_no_map inc outs m is
-scan_no_map inc (scan_out.Fetch server name ask ∷ outs) m is = scan_no_map inc outs m is
-scan_no_map inc (scan_out.Chain segments end prior ∷ outs) m is = scan_no_map inc outs m is
-scan_no_map inc (scan_out.Lost name ∷ outs) m is = scan_no_map inc outs m is
+scan_no_map inc (scan_out.Fence server ∷ outs) m (inr fact) = scan_no_map inc outs m fact
+scan_no_map inc (scan_out.Fetch server name ask ∷ outs) m fact = scan_no_map inc outs m fact
+scan_no_map inc (scan_out.Chain segments end prior ∷ outs) m fact = scan_no_map inc outs m fact
+scan_no_map inc (scan_out.Lost name ∷ outs) m fact = scan_no_map inc outs m fact
 
 one_no_map : (p : Packet) → ((m : GroupMapState) → MapSent m ≡ p → ⊥) → NoMap (p ∷ [])
 one_no_map p other m (inl e) = other m e
-one_no_map p other m (inr is) = is
+one_no_map p other m (inr fact) = fact
 
 told_no_map : (o : Option Fragment) → NoMap (fragment_told o)
-told_no_map None m is = is
+told_no_map None m fact = fact
 told_no_map (Some f) m (inl e) = absurd cc
-told_no_map (Some f) m (inr is) = is
+told_no_map (Some f) m (inr fact) = fact
 
 answers_no_map : (g : Setting) (v : ℕ) (s : ShelfState) (deed : Deed) → NoMap (answers g v s deed)
 answers_no_map g v s (Stores f generation) =
-    by_test NoMap (is_of_log g f.meta.name && is_stored s f generation) (_ ∷ []) [] (λ t. one_no_map _ (λ m e. absurd cc)) (λ t. λ m is. is)
+    by_test NoMap (is_of_log g f.meta.name && is_stored s f generation) (_ ∷ []) [] (λ t. one_no_map _ (λ m e. absurd cc)) (λ t. λ m fact. fact)
 answers_no_map g v s (Fetches name) =
-    by_test NoMap (is_of_log g name) (fragment_told (held_at s.held name)) [] (λ t. told_no_map (held_at s.held name)) (λ t m is. is)
+    by_test NoMap (is_of_log g name) (fragment_told (held_at s.held name)) [] (λ t. told_no_map (held_at s.held name)) (λ t m fact. fact)
 answers_no_map g v s (Fences inc) = one_no_map _ (λ m e. absurd cc)
-answers_no_map g v s (Deletes name) = λ m is. is
-answers_no_map g v s (Fills f) = λ m is. is
-answers_no_map g v s Loses = λ m is. is
+answers_no_map g v s (Deletes name) = λ m fact. fact
+answers_no_map g v s (Fills f) = λ m fact. fact
+answers_no_map g v s Loses = λ m fact. fact
 
 -- ---- what happens
 
@@ -81,7 +81,7 @@ module _ (g : Setting) (n : Net) (before : MapsName g n) where
   Names sent = (m : GroupMapState) → In (MapSent m) sent → NamesStripes g m
 
   more : (new old : List Packet) → NoMap new → Names old → Names (new ++ old)
-  more new old none named m is = elim (in_either new old (MapSent m) is) [ inl fresh ↦ absurd (none m fresh) | inr was ↦ named m was ]
+  more new old none named m fact = elim (in_either new old (MapSent m) fact) [ inl fresh ↦ absurd (none m fresh) | inr was ↦ named m was ]
 
   flight_named : (chain : List Segment) (d : log.Done) (f : Option FlightState) → MapsName g (after_flight g n chain d f)
   flight_named chain d None = more (log_packets d.outs) n.sent (log_no_map d.outs) before
@@ -98,7 +98,7 @@ module _ (g : Setting) (n : Net) (before : MapsName g n) where
 
   published : (registry : ℕ → ℕ) (m : GroupMapState) → WholeMap g registry m → Names (MapSent m ∷ n.sent)
   published registry m whole k (inl e) = let same : k ≡ m = cc in subst (NamesStripes g) (sym same) (whole_names g registry m whole)
-  published registry m whole k (inr is) = before k is
+  published registry m whole k (inr fact) = before k fact
 
 happened_named : (g : Setting) (n o : Net) → MapsName g n → Happens g n o → MapsName g o
 happened_named g n o before (Acts s i serves came text) =
@@ -113,7 +113,7 @@ happened_named g n o before (Serves v deed some came) = more g n before (answers
 happened_named g n o before (Bars v log pass) = before
 happened_named g n o before (Lists v) = more g n before (_ ∷ []) n.sent (one_no_map _ (λ m e. absurd cc)) before
 happened_named g n o before (Hears v generation up reached) = before
-happened_named g n o before (Raises low name up is below) = before
+happened_named g n o before (Raises low name up fact below) = before
 happened_named g n o before (Publishes m whole) = published g n before n.registry m whole
 happened_named g n o before (Welcomes inc ask news m hello low whole) = more g n before (_ ∷ []) n.sent (one_no_map _ (λ k e. absurd cc)) before
 happened_named g n o before (Drops lists meta sent among below) = more g n before (_ ∷ []) n.sent (one_no_map _ (λ m e. absurd cc)) before
@@ -123,4 +123,4 @@ run_named g n o before Begun = before
 run_named g n o before (On {m = m} run happens) = happened_named g m o (run_named g n m before run) happens
 
 pub sent_maps_name : (g : Setting) (n : Net) → Moment g n → MapsName g n
-sent_maps_name g n at = run_named g (opening g at.map) n (λ m is. absurd is) at.run
+sent_maps_name g n at = run_named g (opening g at.map) n (λ m fact. absurd fact) at.run

@@ -171,7 +171,8 @@ module _ (g : Setting) (owner : Asker) (v : ℕ) (some : 0 < v) (other : owner.n
 
     -- a server's Hello is of the generation of its shelf
     hello_seen : (next : Net) (s : ShelfState) (ask : ℕ) → next.shelves v ≡ s → EffectSeen g owner next (Server v) (hello_of s ask)
-    hello_seen next s ask is = record { own = λ same. absurd (other (sym same)); reached = (let e = ap (λ (t : ShelfState). t.generation) is in omega arith) }
+    hello_seen next s ask fact =
+        record { own = λ same. absurd (other (sym same)); reached = (let e = ap (λ (t : ShelfState). t.generation) fact in omega arith) }
 
     maps_asked : (node : nodes.Server) → ServerSeen g n v node → Goes n (asks_for_maps node)
     unfolding asks_for_maps

@@ -56,11 +56,11 @@ put_there f a y b other = by_test (λ z. z ≡ f b) (b == a) y (f b) (λ t. absu
 
 -- what is found passes the test
 found_named : (held : List Fragment) (name : SegName) (f : Fragment) → held_at held name ≡ Some f → name ≡ f.meta.name
-found_named [] name f is = absurd cc
-found_named (h ∷ hs) name f is =
+found_named [] name f fact = absurd cc
+found_named (h ∷ hs) name f fact =
     by_test (λ (o : Option Fragment). o ≡ Some f → name ≡ f.meta.name) (same_name name h.meta.name) (Some h) (held_at hs name)
     (λ t e. let same : h ≡ f = cc in one_name name h.meta.name t ∙ ap (λ (x : Fragment). x.meta.name) same)
-    (λ t e. found_named hs name f e) is
+    (λ t e. found_named hs name f e) fact
 
 -- a Fence leaves generation and fragments alone
 fence_generation : (s : ShelfState) (log : LogId) (pass : Pass) → (fenced_at s log pass).generation ≡ s.generation
@@ -145,12 +145,12 @@ module _ (g : Setting) (owner : Asker) (v : ℕ) where
 
     pub deed_went : (deed : Deed) (s : ShelfState) (outs : List Effect) → CameToServer g n v deed → shelf_after g node.shelf deed ≡ s
         → AllByRecursion (EffectSeen g owner (deed_done n deed) (Server v)) outs → Went n (record { state = record node { shelf = s }; outs = outs })
-    deed_went deed s outs came is does = record {
+    deed_went deed s outs came fact does = record {
       next = deed_done n deed;
       runs = deed_runs deed came;
       seen =
           reshelved n (deed_done n deed) node s seen (run_later g n (deed_done n deed) (deed_runs deed came))
-          (put_here n.shelves v (shelf_after g (n.shelves v) deed) ∙ (ap (λ t. shelf_after g t deed) seen.shelf ∙ is));
+          (put_here n.shelves v (shelf_after g (n.shelves v) deed) ∙ (ap (λ t. shelf_after g t deed) seen.shelf ∙ fact));
       does = does;
       shelves = λ u other. put_there n.shelves v (shelf_after g (n.shelves v) deed) u other;
       rest = refl;
@@ -166,7 +166,7 @@ module _ (g : Setting) (owner : Asker) (v : ℕ) where
         })
 
     is_kept : (m : Store) → store_refused node.shelf m.fragment.meta.name m.generation ≡ None → is_stored (n.shelves v) m.fragment m.generation ≡ true
-    is_kept m is = ap (λ t. is_stored t m.fragment m.generation) seen.shelf ∙ ap (λ o. is_none o) is
+    is_kept m fact = ap (λ t. is_stored t m.fragment m.generation) seen.shelf ∙ ap (λ o. is_none o) fact
 
     stored_said : (m : Store) → is_stored (n.shelves v) m.fragment m.generation ≡ true → is_of_log g m.fragment.meta.name ≡ true
         → In (StoredSent m.fragment.meta.name m.fragment.meta.index m.generation) (answers g v (n.shelves v) (Stores m.fragment m.generation) ++ n.sent)
@@ -177,10 +177,10 @@ module _ (g : Setting) (owner : Asker) (v : ℕ) where
 
     store_went : (from : NodeId) (m : Store) (o : Option StoreError) → CameToServer g n v (Stores m.fragment m.generation)
         → store_refused node.shelf m.fragment.meta.name m.generation ≡ o → Went n (store_done from m o)
-    store_went from m (Some e) came is = stays n node seen
-    store_went from m None came is =
-        deed_went (Stores m.fragment m.generation) (kept node.shelf m.fragment) _ came (ap (λ o. cond (is_none o) (kept node.shelf m.fragment) node.shelf) is)
-        (stored_said m (is_kept m is), tt)
+    store_went from m (Some e) came fact = stays n node seen
+    store_went from m None came fact =
+        deed_went (Stores m.fragment m.generation) (kept node.shelf m.fragment) _ came (ap (λ o. cond (is_none o) (kept node.shelf m.fragment) node.shelf) fact)
+        (stored_said m (is_kept m fact), tt)
 
     pub stores_went : (from : NodeId) (m : Store) → CameToServer g n v (Stores m.fragment m.generation) → Went n (on_store node from m)
     unfolding on_store
@@ -190,16 +190,16 @@ module _ (g : Setting) (owner : Asker) (v : ℕ) where
 
     fragment_said : (name : SegName) (f : Fragment) → held_at node.shelf.held name ≡ Some f → is_of_log g f.meta.name ≡ true
         → In (FragmentSent f) (answers g v (n.shelves v) (Fetches name) ++ n.sent)
-    fragment_said name f is own =
-        let named = ap (λ (x : SegName). is_of_log g x) (found_named node.shelf.held name f is) ∙ own in
-        let held = ap (λ (t : ShelfState). held_at t.held name) seen.shelf ∙ is in
+    fragment_said name f fact own =
+        let named = ap (λ (x : SegName). is_of_log g x) (found_named node.shelf.held name f fact) ∙ own in
+        let held = ap (λ (t : ShelfState). held_at t.held name) seen.shelf ∙ fact in
         subst (λ t. In (FragmentSent f) (cond t (fragment_told (held_at (n.shelves v).held name)) [] ++ n.sent)) (sym named)
         (subst (λ o. In (FragmentSent f) (fragment_told o ++ n.sent)) (sym held) (inl refl))
 
     fetch_does : (from : NodeId) (m : Fetch) (o : Option Fragment) → held_at node.shelf.held m.name ≡ o
         → EffectSeen g owner (deed_done n (Fetches m.name)) (Server v) (Send from (found_or_missing node.shelf m o))
-    fetch_does from m None is = tt
-    fetch_does from m (Some f) is = fragment_said m.name f is
+    fetch_does from m None fact = tt
+    fetch_does from m (Some f) fact = fragment_said m.name f fact
 
     pub fetches_went : (from : NodeId) (m : Fetch) → Went n (tells node (on_fetch node from m))
     fetches_went from m = deed_went (Fetches m.name) node.shelf _ tt refl (fetch_does from m (held_at node.shelf.held m.name) refl, tt)

@@ -11,12 +11,12 @@ use Rattle.log_ties.specs.node_log_tie.Sight.Question.{Unasked, OfMaps, OfOpenin
 use Rattle.log_ties.specs.node_log_tie.Sight.{Asker, Question, AskedBy, AnsweredBy, ReachedBy, BodySeen, Later}
 
 pub at_once : (n : Net) → Later n n
-at_once n = record { low = omega arith; sent = λ p is. is; reached = λ v. omega arith }
+at_once n = record { low = omega arith; sent = λ p fact. fact; reached = λ v. omega arith }
 
 pub then_later : (n m o : Net) → Later n m → Later m o → Later n o
 then_later n m o a b = record {
   low = (let x = a.low in let y = b.low in omega arith);
-  sent = λ p is. b.sent p (a.sent p is);
+  sent = λ p fact. b.sent p (a.sent p fact);
   reached = λ v. (let x = a.reached v in let y = b.reached v in omega arith);
 }
 
@@ -59,10 +59,11 @@ module _ (g : Setting) (owner : Asker) (n next : Net) (later : Later n next) whe
   seen_later from to (body.Fragment m) h = λ own. later.sent _ (h own)
   seen_later from to (body.Listed m) h = later.sent _ h
   seen_later from to (body.Delete m) h = λ own. later.sent _ (h own)
-  seen_later from to (body.Hello m) h = record { own = λ is. asked_later m.inc (owner.asked m.ask) (h.own is); reached = reached_later from m.inc h.reached }
+  seen_later from to (body.Hello m) h =
+      record { own = λ fact. asked_later m.inc (owner.asked m.ask) (h.own fact); reached = reached_later from m.inc h.reached }
   seen_later from to (body.Welcome m) h =
       record {
-        own = λ is. answered_later m (owner.asked m.ask) (h.own is);
+        own = λ fact. answered_later m (owner.asked m.ask) (h.own fact);
         map = later.sent _ h.map;
         low = (let x = h.low in let y = later.low in omega arith);
       }

@@ -27,28 +27,28 @@ use Rattle.log_ties.specs.node_log_tie.RegistryEvents.{NamesGroups}
 -- ---- what is found
 
 found_all : (P : Group → Type 0) (test : Group → Bool) (gs : List Group) (g : Group) → All P gs → find test gs ≡ Some g → P g
-found_all P test [] g all is = absurd cc
-found_all P test (x ∷ xs) g all is =
+found_all P test [] g all fact = absurd cc
+found_all P test (x ∷ xs) g all fact =
     by_test (λ (o : Option Group). o ≡ Some g → P g) (test x) (Some x) (find test xs) (λ t e. let same : x ≡ g = cc in subst P same (All-head P x xs all))
-    (λ t e. found_all P test xs g (All-tail P x xs all) e) is
+    (λ t e. found_all P test xs g (All-tail P x xs all) e) fact
 
 found_passes : (test : Group → Bool) (gs : List Group) (g : Group) → find test gs ≡ Some g → test g ≡ true
-found_passes test [] g is = absurd cc
-found_passes test (x ∷ xs) g is =
+found_passes test [] g fact = absurd cc
+found_passes test (x ∷ xs) g fact =
     by_test (λ (o : Option Group). o ≡ Some g → test g ≡ true) (test x) (Some x) (find test xs)
     (λ t e. let same : x ≡ g = cc in subst (λ z. test z ≡ true) same t)
-    (λ t e. found_passes test xs g e) is
+    (λ t e. found_passes test xs g e) fact
 
 -- a group that an id names has that id
 pub has_its_id : (m : GroupMapState) (id : ℕ) (group : Group) → group_of m id ≡ Some group → group.id ≡ id
-has_its_id m id group is = equal group.id id (found_passes (λ (x : Group). x.id == id) m.groups group is)
+has_its_id m id group fact = equal group.id id (found_passes (λ (x : Group). x.id == id) m.groups group fact)
 
 module _ (m : GroupMapState) (ok : IsGroupMap m) where
   abbrev HasStripe : Group → Type 0
   HasStripe group = stripes.IsStripe m.servers group.parity group.members
 
   pub its_stripe : (id : ℕ) (group : Group) → group_of m id ≡ Some group → stripes.IsStripe m.servers group.parity group.members
-  its_stripe id group is = found_all HasStripe (λ (x : Group). x.id == id) m.groups group ok.stripes is
+  its_stripe id group fact = found_all HasStripe (λ (x : Group). x.id == id) m.groups group ok.stripes fact
 
   -- ---- what is chosen is current
 
@@ -66,11 +66,11 @@ module _ (m : GroupMapState) (ok : IsGroupMap m) where
 
   chosen_at : (log seq : ℕ) (o : Option Group) → group_of m (chosen m.groups log seq) ≡ o → IsSomeAnd o (λ (x : Group). IsTrue x.current) → Chosen log seq
   unfolding group_for
-  chosen_at log seq None is some = absurd some
-  chosen_at log seq (Some group) is current = record {
+  chosen_at log seq None fact some = absurd some
+  chosen_at log seq (Some group) fact current = record {
     group = group;
-    picked = ap (λ o. unwrap_or o no_group) is;
-    found = subst (λ id. group_of m id ≡ Some group) (sym (has_its_id m (chosen m.groups log seq) group is)) is;
+    picked = ap (λ o. unwrap_or o no_group) fact;
+    found = subst (λ id. group_of m id ≡ Some group) (sym (has_its_id m (chosen m.groups log seq) group fact)) fact;
     current = current;
   }
 
@@ -101,7 +101,7 @@ module _ (m : GroupMapState) (ok : IsGroupMap m) where
         by false false e f = grind (arith, nat_tests)
 
     has_one : (v : ℕ) → IsServer m.servers v → has_server m v ≡ true
-    has_one v is = let low = is.0 in let high = is.1 in grind (arith, nat_tests)
+    has_one v fact = let low = fact.0 in let high = fact.1 in grind (arith, nat_tests)
 
     size : (2 ≤ length group.members) × IsCut (length group.members) group.parity
     size =
@@ -133,14 +133,14 @@ module _ (m : GroupMapState) (ok : IsGroupMap m) where
       past v = by (has_server m v) refl
         where
           by : (t : Bool) → has_server m v ≡ t → cond t (generation_at m.generations v) 0 ≤ registry v
-          by true is = (let k = known v is in omega arith)
-          by false is = omega arith
+          by true fact = (let k = known v fact in omega arith)
+          by false fact = omega arith
 
       pub whole_map : WholeMap g registry m
       whole_map = record {
         seen = record { whole = is_map; past = past };
         size = servers;
         named = named;
-        some = λ id group is j below. (let e = exists group (its_stripe id group is) j below in let h = e.0 in omega arith);
-        cut = λ id group is. (size group (its_stripe id group is)).1;
+        some = λ id group fact j below. (let e = exists group (its_stripe id group fact) j below in let h = e.0 in omega arith);
+        cut = λ id group fact. (size group (its_stripe id group fact)).1;
       }

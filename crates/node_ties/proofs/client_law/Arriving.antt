@@ -164,12 +164,13 @@ module _ (A : BlockId → Type 0) (M : GroupMapState → Type 0) (B : Fact) (P :
 
     copy-arrives : (g : Held) → A block → IsCopied h g → At (P 1) (told s (record { state = with_held s.tokens block g; outs = Ready block ∷ [] })).state
     unfolding follows follows_one notes_copy
-    copy-arrives g may is =
+    copy-arrives g may premise =
         let t : TokensState = with_held s.tokens block g in
         let u : Serving = with_block g in
         by_test (At (P 1)) (same_mode (held_of t.blocks block).mode Copy) (notes_clean u block) u
-        (λ x. k.copies (with_reading s (kept_while t (reading_in s.call))) block g may asks.sound is p)
-        (λ x. contrary (sym x ∙ ap (λ (f : Held). same_mode f.mode Copy) (held_of-put_itself block g s.tokens.blocks) ∙ ap (λ m. same_mode m Copy) is.mode))
+        (λ x. k.copies (with_reading s (kept_while t (reading_in s.call))) block g may asks.sound premise p)
+        (λ x. contrary (sym x ∙ ap (λ (f : Held). same_mode f.mode Copy) (held_of-put_itself block g s.tokens.blocks)
+        ∙ ap (λ m. same_mode m Copy) premise.mode))
 
     module _ (stamp : Stamp) (inc req : ℕ) where
       answered : (mode : Mode) → accepts s.tokens block stamp inc req mode ≡ true → is_wanted h.want req mode ≡ true

@@ -35,7 +35,7 @@ where_asks (Down l) p = tt
 where_asks (Opening l o) p = tt
 where_asks (Serves s) p = p
 
-asks_always : HoldsAfterAnyEvents AsksForCall
+pub asks_always : HoldsAfterAnyEvents AsksForCall
 asks_always number setup works events =
     where_asks (after_events (first_client number setup works) events).phase
     (after-asks (first_client number setup works) events (first_asks number setup works))
@@ -59,24 +59,24 @@ reads_in (Some (b, Copy)) = true
 reads_in (Some (b, Own)) = false
 
 writing_step : (block : BlockId) (step : BlockCall) → needed_by step ≡ Some (block, Own) → Writes step block
-writing_step block (Get read) is = contrary (ap writes_in is)
-writing_step block (Put written value) is = ap (block_in block) is
-writing_step block (PutAt written ver value) is = ap (block_in block) is
-writing_step block Sync is = contrary (ap writes_in is)
+writing_step block (Get read) fact = contrary (ap writes_in fact)
+writing_step block (Put written value) fact = ap (block_in block) fact
+writing_step block (PutAt written ver value) fact = ap (block_in block) fact
+writing_step block Sync fact = contrary (ap writes_in fact)
 
 reading_step : (block : BlockId) (step : BlockCall) → needed_by step ≡ Some (block, Copy) → Reads step block
-reading_step block (Get read) is = ap (block_in block) is
-reading_step block (Put written value) is = contrary (ap reads_in is)
-reading_step block (PutAt written ver value) is = contrary (ap reads_in is)
-reading_step block Sync is = contrary (ap reads_in is)
+reading_step block (Get read) fact = ap (block_in block) fact
+reading_step block (Put written value) fact = contrary (ap reads_in fact)
+reading_step block (PutAt written ver value) fact = contrary (ap reads_in fact)
+reading_step block Sync fact = contrary (ap reads_in fact)
 
 writing : (block : BlockId) (call : Option Call) → needed call ≡ Some (block, Own) → IsOpenAt (λ step. Writes step block) call
-writing block None is = contrary (ap is_some is)
-writing block (Some call) is = writing_step block call.step is
+writing block None fact = contrary (ap is_some fact)
+writing block (Some call) fact = writing_step block call.step fact
 
 reading : (block : BlockId) (call : Option Call) → needed call ≡ Some (block, Copy) → IsOpenAt (λ step. Reads step block) call
-reading block None is = contrary (ap is_some is)
-reading block (Some call) is = reading_step block call.step is
+reading block None fact = contrary (ap is_some fact)
+reading block (Some call) fact = reading_step block call.step fact
 
 -- ---- at most one block
 
@@ -86,12 +86,12 @@ module _ (s : Serving) (p : AsksForCall s) where
   asked block = block_in block (needed s.call)
 
   by_want : (block : BlockId) (w : Option Wanted) → (held_at s block).want ≡ w → is_some w ≡ true → (other : BlockId) → asked other ≡ block
-  by_want block None is some other = contrary some
-  by_want block (Some w) is some other = ap (block_in other) (p.wanted block w is)
+  by_want block None fact some other = contrary some
+  by_want block (Some w) fact some other = ap (block_in other) (p.wanted block w fact)
 
   by_fetch : (block : BlockId) (f : Option Fetch) → (held_at s block).fetch ≡ f → is_some f ≡ true → (other : BlockId) → asked other ≡ block
-  by_fetch block None is some other = contrary some
-  by_fetch block (Some f) is some other = ap (block_in other) (p.fetched block f is)
+  by_fetch block None fact some other = contrary some
+  by_fetch block (Some f) fact some other = ap (block_in other) (p.fetched block f fact)
 
   by_either : (block other : BlockId) → (is_some (held_at s block).want ≡ true) ⊎ (is_some (held_at s block).fetch ≡ true) → asked other ≡ block
   by_either block other (inl some) = by_want block (held_at s block).want refl some other
@@ -103,9 +103,9 @@ module _ (s : Serving) (p : AsksForCall s) where
   pub asks_one : AsksForOneBlock s
   asks_one = record {
     one = λ block other asks also. sym (is_asked block block asks) ∙ is_asked other block also;
-    own = λ block w is own. writing block s.call (p.wanted block w is ∙ ap (λ m. Some (block, m)) own);
-    copy = λ block w is copy. reading block s.call (p.wanted block w is ∙ ap (λ m. Some (block, m)) copy);
-    fetch = λ block f is. reading block s.call (p.fetched block f is);
+    own = λ block w fact own. writing block s.call (p.wanted block w fact ∙ ap (λ m. Some (block, m)) own);
+    copy = λ block w fact copy. reading block s.call (p.wanted block w fact ∙ ap (λ m. Some (block, m)) copy);
+    fetch = λ block f fact. reading block s.call (p.fetched block f fact);
   }
 
 pub asks_for_one_block : AsksForOneBlockAlways

@@ -143,12 +143,12 @@ module _ (X : BlockId → Type 0) where
   pub takes-cache : TakesKeep C
   takes-cache = record {
     quiet = λ t u l c q p. quiet-caches t u c q p;
-    puts_off = λ t l c block g dirty is p. same-caches t c p block g (evict_same (held_of t.blocks block) g is.mode is.ver is.settled);
-    lets = λ t l c block g clean is p. gone-caches t c p block g (nothing_stays g is.mode);
-    lowers = λ t l c block g clean is p.
+    puts_off = λ t l c block g dirty fact p. same-caches t c p block g (evict_same (held_of t.blocks block) g fact.mode fact.ver fact.settled);
+    lets = λ t l c block g clean fact p. gone-caches t c p block g (nothing_stays g fact.mode);
+    lowers = λ t l c block g clean fact p.
         same-caches t c p block g
-        (clean_evicts g (ap is_held is.mode) (dirty_same (held_of t.blocks block) g is.ver is.settled ∙ clean)
-        ∙ sym (clean_evicts (held_of t.blocks block) is.held clean));
+        (clean_evicts g (ap is_held fact.mode) (dirty_same (held_of t.blocks block) g fact.ver fact.settled ∙ clean)
+        ∙ sym (clean_evicts (held_of t.blocks block) fact.held clean));
     leaves = λ t l c block nothing p. left-caches t c p block (nothing_stays (held_of t.blocks block) (nothing_is (held_of t.blocks block).mode nothing));
     seals = λ t l c p. p;
   }

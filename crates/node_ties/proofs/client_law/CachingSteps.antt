@@ -10,7 +10,7 @@ use Rattle.client_log.specs.declared.output.Out as log_out
 use Rattle.client_log.specs.declared.output.Out.TheVariants.{Send, Settled}
 use Rattle.client_log.specs.Transition as log
 use Rattle.client_parts.specs.Flights.{is_giving, is_settling}
-use Rattle.client_serving.specs.Blocks.{changes, wrote}
+use Rattle.client_calls.specs.Blocks.{changes, wrote}
 use Rattle.client_serving.specs.declared.serving.Serving.{Serving}
 use Rattle.client_serving.specs.Flights.{feeds, gives_if_clean, gives_up, held_at, keeps_clean, notes_settled, settled_rows, settles, writes, writes_one}
 use Rattle.client_serving.specs.Follow.{notes_clean, notes_gone, seals}
@@ -152,7 +152,7 @@ settles-caches s end rows p = all_given (feeds (settled_rows s rows) end rows) (
 
 -- ---- the log
 
-all_written : (s : Serving) (outs : List log_out.Out) → At (C none) s → At (C none) (steps writes_one s outs).state
+pub all_written : (s : Serving) (outs : List log_out.Out) → At (C none) s → At (C none) (steps writes_one s outs).state
 unfolding writes_one
 all_written s [] p = p
 all_written s (Send fragment member ∷ outs) p = all_written s outs p
@@ -183,9 +183,9 @@ arrived t c block g clean p = record {
 
 copies-caches : (s : Serving) (block : BlockId) (g : Held) → IsCopied (held_at s block) g → At (C none) s
     → At (C none) (notes_clean (record s { tokens = with_held s.tokens block g }) block)
-copies-caches s block g is p =
+copies-caches s block g fact p =
     let t : TokensState = with_held s.tokens block g in
-    let clean : may_evict g ≡ true = clean_evicts g (ap is_held is.mode) (settled_clean g is.clean) in
+    let clean : may_evict g ≡ true = clean_evicts g (ap is_held fact.mode) (settled_clean g fact.clean) in
     clean-caches none (λ b. b ≡ block) (record s { tokens = t }) block (ap may_evict (held_of-put_itself block g s.tokens.blocks) ∙ clean)
     (arrived s.tokens s.cache block g clean p) (λ b same. inl same)
 
@@ -261,8 +261,8 @@ keeps-caching = record {
   ends = λ t l c p. p;
   takes = λ n. takes-cache none;
   touches = λ t l c block p. touched-caches t c block p;
-  copies = λ s block g may sound is p. copies-caches s block g is p;
-  owns = λ t l c block g may sound is p. arrived t c block g (clean_evicts g (ap is_held is.mode) (settled_clean g is.clean)) p;
+  copies = λ s block g may sound fact p. copies-caches s block g fact p;
+  owns = λ t l c block g may sound fact p. arrived t c block g (clean_evicts g (ap is_held fact.mode) (settled_clean g fact.clean)) p;
   logs = λ s i outer sound p. logs-caches s i p;
   puts = λ s block value sound may p. changes-caches s block value sound may (more (λ b. b ≡ block) s p);
   puts_owned = changes-caches;
@@ -307,10 +307,10 @@ anything b = Unit {0}
 any_part : (s : Serving) → CachesOnlyClean s → At (C anything) s
 any_part s p = record { once = p.once; cached = p.cached; caches = λ b clean. inr tt }
 
-only_clean : (X : BlockId → Type 0) (s : Serving) → At (C X) s → CachesOnlyClean s
+pub only_clean : (X : BlockId → Type 0) (s : Serving) → At (C X) s → CachesOnlyClean s
 only_clean X s p = record { once = p.once; cached = p.cached }
 
-is_exact : (s : Serving) → CachesWhatIsClean s → At (C none) s
+pub is_exact : (s : Serving) → CachesWhatIsClean s → At (C none) s
 is_exact s p = record {
   once = p.once;
   cached = λ b inside. sym (p.exact b) ∙ inside;

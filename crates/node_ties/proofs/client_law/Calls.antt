@@ -6,11 +6,11 @@ use Rattle.client_parts.specs.declared.call.Call.{Call}
 use Rattle.client_parts.specs.declared.call.Going.TheVariants.{On, Ends}
 use Rattle.client_parts.specs.declared.call.Going.{Going}
 use Rattle.client_parts.specs.Fitting.{put_fits}
-use Rattle.client_serving.specs.Blocks.{Made, changed, changes, changes_if_fits, got, gets, held_back, lets_go, makes, needs, puts, puts_again, puts_at, syncs, wrote}
+use Rattle.client_calls.specs.Blocks.{Made, changed, changes, changes_if_fits, got, gets, held_back, lets_go, makes, needs, puts, puts_again, puts_at, syncs, wrote}
 use Rattle.client_serving.specs.declared.serving.Serving.{Serving}
 use Rattle.client_serving.specs.Flights.{held_at}
 use Rattle.client_serving.specs.Follow.{hands, notes_gone}
-use Rattle.client_serving.specs.Running.{Ran, answers_call, goes_on, most_steps, runs, runs_call, runs_once, runs_upto}
+use Rattle.client_calls.specs.Running.{Ran, answers_call, goes_on, most_steps, runs, runs_call, runs_once, runs_upto}
 use Rattle.client_serving.specs.Sends as client
 use Rattle.file_plan.specs.declared.block_call.BlockAnswer.{BlockAnswer}
 use Rattle.file_plan.specs.declared.block_call.BlockCall.{BlockCall}
@@ -200,22 +200,22 @@ module _ (A : BlockId → Type 0) (M : GroupMapState → Type 0) (B : Fact) (P :
   fresh-makes : (s : Serving) (block : BlockId) (b : BlockCall) → needed_by b ≡ Some (block, Own) → Sound s → may_write (held_at s block) ≡ true
       → is_none (held_at s block).value ≡ true → At (Q block) s → MadeSo (makes s b)
   unfolding makes
-  fresh-makes s block (Get other) is sound may empty q = contrary (ap is_to_write is)
-  fresh-makes s block (Put other value) is sound may empty q =
-      let same : block ≡ other = sym (ap (block_in block) is) in
+  fresh-makes s block (Get other) premise sound may empty q = contrary (ap is_to_write premise)
+  fresh-makes s block (Put other value) premise sound may empty q =
+      let same : block ≡ other = sym (ap (block_in block) premise) in
       fresh-put s other sound (subst (λ c. may_write (held_at s c) ≡ true) same may) (subst (λ c. is_none (held_at s c).value ≡ true) same empty)
       (subst (λ c. At (Q c) s) same q) value
-  fresh-makes s block (PutAt other ver value) is sound may empty q =
-      let same : block ≡ other = sym (ap (block_in block) is) in
+  fresh-makes s block (PutAt other ver value) premise sound may empty q =
+      let same : block ≡ other = sym (ap (block_in block) premise) in
       fresh-put_at s other sound (subst (λ c. may_write (held_at s c) ≡ true) same may) (subst (λ c. is_none (held_at s c).value ≡ true) same empty)
       (subst (λ c. At (Q c) s) same q) ver value
-  fresh-makes s block Sync is sound may empty q = contrary (ap is_to_write is)
+  fresh-makes s block Sync premise sound may empty q = contrary (ap is_to_write premise)
 
   -- ---- the open call
 
-  record Both (s : Serving) : Type 0 where
-    sound : Sound s
-    fact : At (P 0) s
+  pub record Both (s : Serving) : Type 0 where
+    pub sound : Sound s
+    pub fact : At (P 0) s
 
   pub goes_on-same : (s : Serving) (g : Going) → At (P 0) s → At (P 0) (goes_on s g).state
   unfolding goes_on
@@ -245,18 +245,18 @@ module _ (A : BlockId → Type 0) (M : GroupMapState → Type 0) (B : Fact) (P :
 
   -- the first call that is made uses what was just granted
   runs_call-fresh : (s : Serving) (c : Option Call) → needed c ≡ needed s.call → Sound s → IsFresh Q s → Both (runs_call s c).done.state
-  runs_call-fresh s None is sound f = contrary (ap is_some (is ∙ f.needs))
-  runs_call-fresh s (Some call) is sound f =
+  runs_call-fresh s None premise sound f = contrary (ap is_some (premise ∙ f.needs))
+  runs_call-fresh s (Some call) premise sound f =
       let u : Serving = record s { call = None } in
       let m : Made = makes u call.step in
       answers_call-both m.done.state call m.answer
-      (record { sound = makes-sound u call.step sound; fact = fresh-makes u f.block call.step (is ∙ f.needs) sound f.may f.empty f.fact })
+      (record { sound = makes-sound u call.step sound; fact = fresh-makes u f.block call.step (premise ∙ f.needs) sound f.may f.empty f.fact })
 
   runs_once-fresh : (s : Serving) → Sound s → IsFresh Q s → Both (runs_once s).done.state
   unfolding runs_once
   runs_once-fresh s sound f = runs_call-fresh s s.call refl sound f
 
-  runs_upto-both : (n : ℕ) (s : Serving) → Both s → Both (runs_upto n s).state
+  pub runs_upto-both : (n : ℕ) (s : Serving) → Both s → Both (runs_upto n s).state
   unfolding runs_upto
   runs_upto-both zero s p = p
   runs_upto-both (suc n) s p =
@@ -264,7 +264,7 @@ module _ (A : BlockId → Type 0) (M : GroupMapState → Type 0) (B : Fact) (P :
       let q : Both r.done.state = runs_once-both s p in
       by_test (λ (d : client.Done). Both d.state) r.goes (saying r.done.outs (runs_upto n r.done.state)) r.done (λ t. runs_upto-both n r.done.state q) (λ t. q)
 
-  runs_upto-fresh : (n : ℕ) (s : Serving) → 0 < n → Sound s → IsFresh Q s → Both (runs_upto n s).state
+  pub runs_upto-fresh : (n : ℕ) (s : Serving) → 0 < n → Sound s → IsFresh Q s → Both (runs_upto n s).state
   unfolding runs_upto
   runs_upto-fresh zero s some sound f = absurd (omega (arith, some))
   runs_upto-fresh (suc n) s some sound f =

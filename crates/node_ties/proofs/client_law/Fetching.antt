@@ -9,7 +9,7 @@ use Rattle.client_node.specs.declared.phase.Phase.TheVariants.{Serving as Serves
 use Rattle.client_node.specs.declared.phase.Phase.{Phase}
 use Rattle.client_node.specs.Phases.{takes}
 use Rattle.client_node.specs.Starting.{first_client}
-use Rattle.client_serving.specs.Blocks.{changes, wrote}
+use Rattle.client_calls.specs.Blocks.{changes, wrote}
 use Rattle.client_serving.specs.declared.serving.Serving.{Serving}
 use Rattle.client_serving.specs.Flights.{feeds, gives_if_clean, gives_up, held_at, keeps_clean, notes_settled, settled_rows, settles, writes}
 use Rattle.client_serving.specs.Follow.{notes_clean}
@@ -58,20 +58,21 @@ module _ (block : BlockId) where
 
   -- what is known of this block, by any name
   here : (t : TokensState) (b : BlockId) → Unheld t → b ≡ block → is_held (held_of t.blocks b).mode ≡ false
-  here t b p is = ap (λ a. is_held (held_of t.blocks a).mode) is ∙ p
+  here t b p fact = ap (λ a. is_held (held_of t.blocks a).mode) fact ∙ p
 
   unheld_put : (t : TokensState) → Unheld t → (b : BlockId) (g : Held) → (b ≡ block → is_held g.mode ≡ false) → Unheld (with_held t b g)
-  unheld_put t p b g low = put_cases (λ q f. q ≡ block → is_held f.mode ≡ false) b g t.blocks low (λ q other is. here t q p is) block refl
+  unheld_put t p b g low = put_cases (λ q f. q ≡ block → is_held f.mode ≡ false) b g t.blocks low (λ q other fact. here t q p fact) block refl
 
   -- a block is put in the mode in which it was
   unheld_same : (t : TokensState) → Unheld t → (b : BlockId) (g : Held) → g.mode ≡ (held_of t.blocks b).mode → Unheld (with_held t b g)
-  unheld_same t p b g same = unheld_put t p b g (λ is. ap is_held same ∙ here t b p is)
+  unheld_same t p b g same = unheld_put t p b g (λ fact. ap is_held same ∙ here t b p fact)
 
   evict-unheld : (t : TokensState) (b : BlockId) → Unheld t → Unheld (on_evict t b).state
   unfolding on_evict
   evict-unheld t b p =
       let h : Held = held_of t.blocks b in
-      by_test (λ (d : Done). Unheld d.state) (may_evict h) (still (with_held t b (let_go h))) (still t) (λ x. unheld_put t p b (let_go h) (λ is. refl)) (λ x. p)
+      by_test (λ (d : Done). Unheld d.state) (may_evict h) (still (with_held t b (let_go h))) (still t) (λ x. unheld_put t p b (let_go h) (λ fact. refl))
+      (λ x. p)
 
   settled-unheld : (t : TokensState) (b : BlockId) (ver : ℕ) → Unheld t → Unheld (on_settled t b ver).state
   unfolding on_settled
@@ -90,9 +91,9 @@ module _ (block : BlockId) where
   takes-unheld : TakesKeep U
   takes-unheld = record {
     quiet = λ t u l c q p. ap is_held (q block).mode ∙ p;
-    puts_off = λ t l c b g dirty is p. unheld_same t p b g is.mode;
-    lets = λ t l c b g clean is p. unheld_put t p b g (λ same. ap is_held is.mode);
-    lowers = λ t l c b g clean is p. unheld_put t p b g (λ same. contrary (sym (here t b p same) ∙ is.held));
+    puts_off = λ t l c b g dirty fact p. unheld_same t p b g fact.mode;
+    lets = λ t l c b g clean fact p. unheld_put t p b g (λ same. ap is_held fact.mode);
+    lowers = λ t l c b g clean fact p. unheld_put t p b g (λ same. contrary (sym (here t b p same) ∙ fact.held));
     leaves = λ t l c b nothing p. p;
     seals = λ t l c p. p;
   }
@@ -150,9 +151,9 @@ module _ (block : BlockId) where
     ends = λ t l c p. p;
     takes = λ n. takes-unheld;
     touches = λ t l c b p. p;
-    copies = λ s b g other sound is p.
+    copies = λ s b g other sound fact p.
         notes_clean-tokens Unheld evict-unheld (record s { tokens = with_held s.tokens b g }) b (unheld_put s.tokens p b g (λ same. absurd (other same)));
-    owns = λ t l c b g other sound is p. unheld_put t p b g (λ same. absurd (other same));
+    owns = λ t l c b g other sound fact p. unheld_put t p b g (λ same. absurd (other same));
     logs = λ s i outer sound p. logs-unheld s i p;
     puts = λ s b value sound may p. changes-unheld s b value p;
     puts_owned = λ s b value sound may p. changes-unheld s b value p;
@@ -179,11 +180,11 @@ module _ (block : BlockId) where
       where
         by_same : (same_block b block ≡ true) ⊎ (same_block b block ≡ false) → X
         by_same (inl same) = f (sym (same_block_exact b block same))
-        by_same (inr other) = g (λ is. contrary (sym other ∙ ap (λ a. same_block a block) is ∙ same_block_itself block))
+        by_same (inr other) = g (λ fact. contrary (sym other ∙ ap (λ a. same_block a block) fact ∙ same_block_itself block))
 
     answered : (m : Body) → IsAnswer block m ⊎ Arrives IsOther s m
-    answered (body.Grant m) = by_name m.block (λ is. inl is) (λ other. inr other)
-    answered (body.Supply m) = by_name m.block (λ is. inl is) (λ other. inr other)
+    answered (body.Grant m) = by_name m.block (λ fact. inl fact) (λ other. inr other)
+    answered (body.Supply m) = by_name m.block (λ fact. inl fact) (λ other. inr other)
     answered (body.Fragment m) = inr unread
     answered (body.Missing m) = inr unread
     answered _ = inr tt
@@ -193,7 +194,7 @@ module _ (block : BlockId) where
     brings (Deliver packet) = answered packet.body
     brings Tick = inr tt
 
-  module _ (client : Client) (what : Do) (asks : PhaseAsks client.phase) (s t : Serving) (is : client.phase ≡ Serves s)
+  module _ (client : Client) (what : Do) (asks : PhaseAsks client.phase) (s t : Serving) (fact : client.phase ≡ Serves s)
       (becomes : (takes client what).state ≡ Serves t)
       (unheld : is_held (held_at s block).mode ≡ false) where
     abbrev Holds : Phase → Type 0
@@ -204,15 +205,15 @@ module _ (block : BlockId) where
     stays_unheld arrives =
         subst Holds becomes
         (takes-so IsOther AnyMap U (λ n. U) (λ b. U) keeps-unheld AnyOpening AnyLog any_reopens starts-unheld client what
-        (subst (λ phase. ArrivesTo IsOther phase what) (sym is) arrives) (brings_any what) asks (subst Holds (sym is) unheld))
+        (subst (λ phase. ArrivesTo IsOther phase what) (sym fact) arrives) (brings_any what) asks (subst Holds (sym fact) unheld))
 
     by_answer : is_held (held_at t block).mode ≡ true → BringsAnswer block what ⊎ ArrivesTo IsOther (Serves s) what → BringsAnswer block what
     by_answer held (inl answer) = answer
     by_answer held (inr arrives) = contrary (sym (stays_unheld arrives) ∙ held)
 
 by_an_answer_alone : (client : Client) (what : Do) → PhaseAsks client.phase → ByAnAnswerAlone client what
-by_an_answer_alone client what asks s t block is becomes wants unheld held =
-    by_answer block client what asks s t is becomes unheld held (brings block s wants what)
+by_an_answer_alone client what asks s t block fact becomes wants unheld held =
+    by_answer block client what asks s t fact becomes unheld held (brings block s wants what)
 
 pub wants_end_by_an_answer : WantsEndByAnAnswer
 wants_end_by_an_answer number setup works events what =

@@ -11,7 +11,7 @@ use Rattle.std.proofs.lemmas.Bool.Decides.{nat_tests}
 use Rattle.client_log.specs.declared.input.In as log_in
 use Rattle.client_log.specs.declared.input.In.TheVariants as log_ins
 use Rattle.client_log.specs.LogState.{LogState}
-use Rattle.client_serving.specs.Blocks.{changes, wrote}
+use Rattle.client_calls.specs.Blocks.{changes, wrote}
 use Rattle.client_serving.specs.declared.serving.Serving.{Serving}
 use Rattle.client_serving.specs.Flights.{feeds, gives_if_clean, gives_up, held_at, keeps_clean, notes_settled, settled_rows, settles, writes}
 use Rattle.client_serving.specs.Follow.{follows, follows_one, hands, notes_clean, takes_back}
@@ -92,9 +92,9 @@ module _ (X : BlockId → Type 0) where
   takes-give : TakesKeep G
   takes-give = record {
     quiet = λ t u l c q p. quiet-gives t u q p;
-    puts_off = λ t l c block g dirty is p. gives_put t p block g (λ some. inl (dirty_same (held_of t.blocks block) g is.ver is.settled ∙ dirty));
-    lets = λ t l c block g clean is p. gives_same t p block g is.ver is.settled is.giving;
-    lowers = λ t l c block g clean is p. gives_same t p block g is.ver is.settled is.giving;
+    puts_off = λ t l c block g dirty fact p. gives_put t p block g (λ some. inl (dirty_same (held_of t.blocks block) g fact.ver fact.settled ∙ dirty));
+    lets = λ t l c block g clean fact p. gives_same t p block g fact.ver fact.settled fact.giving;
+    lowers = λ t l c block g clean fact p. gives_same t p block g fact.ver fact.settled fact.giving;
     leaves = λ t l c block nothing p. p;
     seals = λ t l c p. p;
   }
@@ -166,7 +166,7 @@ module _ (among : List BlockId) where
 
 -- ---- a clean block is given up
 
-module _ (s : Serving) (sound : Sound s) (block : BlockId) (g : Giving) (is : (held_at s block).giving ≡ Some g)
+module _ (s : Serving) (sound : Sound s) (block : BlockId) (g : Giving) (fact : (held_at s block).giving ≡ Some g)
     (clean : is_dirty (held_at s block) ≡ false) where
   abbrev h : Held
   h = held_at s block
@@ -175,7 +175,7 @@ module _ (s : Serving) (sound : Sound s) (block : BlockId) (g : Giving) (is : (h
   IsUngiven d = is_none (held_at (told s d).state block).giving ≡ true
 
   above : IsGivingAbove (epoch_of s.tokens.epochs (slot_of block.ino.0)) h.stamp (Some g)
-  above = subst (IsGivingAbove (epoch_of s.tokens.epochs (slot_of block.ino.0)) h.stamp) is (sound.each block).giving_above
+  above = subst (IsGivingAbove (epoch_of s.tokens.epochs (slot_of block.ino.0)) h.stamp) fact (sound.each block).giving_above
 
   promised : is_promised s.tokens block g.stamp ≡ true
   promised = equal (epoch_of s.tokens.epochs (slot_of block.ino.0)) g.stamp.epoch above.0
@@ -185,7 +185,7 @@ module _ (s : Serving) (sound : Sound s) (block : BlockId) (g : Giving) (is : (h
 
   -- nothing is asked for of it
   unfetched : is_none h.fetch ≡ true
-  unfetched = none_fetched h.fetch (λ some. contrary (ap is_none (sym is) ∙ (sound.each block).asks_ungiven (asks_by_fetch h some)))
+  unfetched = none_fetched h.fetch (λ some. contrary (ap is_none (sym fact) ∙ (sound.each block).asks_ungiven (asks_by_fetch h some)))
     where
       none_fetched : {A : Type 0} (o : Option A) → (is_some o ≡ true → false ≡ true) → is_none o ≡ true
       none_fetched None f = refl
@@ -253,10 +253,10 @@ module _ (x : BlockId) (xs : List BlockId) where
 
   gives_up-done : (s : Serving) → Sound s → is_dirty (held_at s x) ≡ false → GivesBut (Contains (x ∷ xs)) s.tokens → (o : Option Giving)
       → (held_at s x).giving ≡ o → GivesBut (Contains xs) (gives_up s x o).state.tokens
-  gives_up-done s sound clean p None is = first-done s.tokens (λ some. contrary (ap is_some (sym is) ∙ some)) p
-  gives_up-done s sound clean p (Some g) is =
+  gives_up-done s sound clean p None fact = first-done s.tokens (λ some. contrary (ap is_some (sym fact) ∙ some)) p
+  gives_up-done s sound clean p (Some g) fact =
       let t : Serving = (takes_back s x g.stamp g.keep).state in
-      first-done t.tokens (λ some. contrary (none_is (held_at t x).giving (taken_back-ungiven s sound x g is clean) some))
+      first-done t.tokens (λ some. contrary (none_is (held_at t x).giving (taken_back-ungiven s sound x g fact clean) some))
       (takes_back-keeps (G (Contains (x ∷ xs))) (takes-give (Contains (x ∷ xs))) s p x g.stamp g.keep)
 
   gives_if_clean-done : (s : Serving) → Sound s → GivesBut (Contains (x ∷ xs)) s.tokens → GivesBut (Contains xs) (gives_if_clean s x).state.tokens
@@ -312,9 +312,9 @@ ungiven-put t p block g ungiven = gives_put none t p block g (λ some. contrary 
 
 copies-give : (s : Serving) (block : BlockId) (g : Held) → Sound s → IsCopied (held_at s block) g → OnlyDirty s.tokens
     → OnlyDirty (notes_clean (record s { tokens = with_held s.tokens block g }) block).tokens
-copies-give s block g sound is p =
+copies-give s block g sound fact p =
     notes_clean-tokens OnlyDirty (evict-gives none) (record s { tokens = with_held s.tokens block g }) block
-    (ungiven-put s.tokens p block g (ap is_none is.giving ∙ (sound.each block).asks_ungiven is.asks))
+    (ungiven-put s.tokens p block g (ap is_none fact.giving ∙ (sound.each block).asks_ungiven fact.asks))
 
 wrote-gives : (t : TokensState) (block : BlockId) (value : Option (List ℕ)) → OnlyDirty t → OnlyDirty (on_wrote t block value).state
 unfolding on_wrote
@@ -338,8 +338,8 @@ keeps-giving = record {
   ends = λ t l c p. p;
   takes = λ n. takes-give none;
   touches = λ t l c block p. p;
-  copies = λ s block g may sound is p. copies-give s block g sound is p;
-  owns = λ t l c block g may sound is p. ungiven-put t p block g (ap is_none is.giving ∙ (sound.each block).asks_ungiven is.asks);
+  copies = λ s block g may sound fact p. copies-give s block g sound fact p;
+  owns = λ t l c block g may sound fact p. ungiven-put t p block g (ap is_none fact.giving ∙ (sound.each block).asks_ungiven fact.asks);
   logs = λ s i outer sound p. logs-give s i sound p;
   puts = λ s block value sound may p. changes-give s block value sound p;
   puts_owned = λ s block value sound may p. changes-give s block value sound p;

@@ -10,7 +10,7 @@ use Rattle.client_log.specs.LogState.{LogState}
 use Rattle.client_log.specs.Transition as log
 use Rattle.client_log.specs.Transition.{can_go_on, has_next, if_full, is_idle, on_acked, on_maps, on_put, on_seal, on_tick, sealed, waits}
 use Rattle.client_parts.specs.Flights.{is_giving, is_settling}
-use Rattle.client_serving.specs.Blocks.{changes, wrote}
+use Rattle.client_calls.specs.Blocks.{changes, wrote}
 use Rattle.client_serving.specs.declared.serving.Serving.{Serving}
 use Rattle.client_serving.specs.Flights.{feeds, gives_if_clean, gives_up, held_at, keeps_clean, notes_settled, settled_rows, settles, writes, writes_one}
 use Rattle.client_serving.specs.Follow.{evicts, notes_clean, seals}
@@ -37,7 +37,7 @@ use Rattle.xfs_base.specs.declared.segment.End.{End}
 use Rattle.xfs_base.specs.Modes.{is_held}
 use Rattle.xfs_base.specs.Steps.{steps, still}
 use Rattle.xfs_base.proofs.Booleans.{by_test}
-use Rattle.node_ties.specs.client_law.Groups.{StripesByPresentGroups, StripesByPresentGroupsAlways}
+use Rattle.node_ties.specs.client_law.Groups.{HasPresentGroups, StripesByPresentGroupsAlways}
 use Rattle.node_ties.proofs.client_law.Happening.{AnyBlock, OpensSo, Reopens, always_where, arrives_any, where_weaker}
 use Rattle.node_ties.proofs.client_law.Keeping.{At, Fact, IsOuter, Keeps, TakesKeep, notes_gone-keeps, seals-keeps, takes_back-keeps}
 
@@ -75,9 +75,9 @@ module _ (Is : GroupMapState → Type 0) where
   takes-stripes : TakesKeep S
   takes-stripes = record {
     quiet = λ t u l c q p. p;
-    puts_off = λ t l c block g dirty is p. p;
-    lets = λ t l c block g clean is p. p;
-    lowers = λ t l c block g clean is p. p;
+    puts_off = λ t l c block g dirty fact p. p;
+    lets = λ t l c block g clean fact p. p;
+    lowers = λ t l c block g clean fact p. p;
     leaves = λ t l c block nothing p. p;
     seals = λ t l c p. subst Is (sym (on_seal-groups l)) p;
   }
@@ -154,8 +154,8 @@ module _ (Is : GroupMapState → Type 0) where
     ends = λ t l c p. p;
     takes = λ n. takes-stripes;
     touches = λ t l c block p. p;
-    copies = λ s block g may sound is p. notes_clean-stripes (record s { tokens = _ }) block p;
-    owns = λ t l c block g may sound is p. p;
+    copies = λ s block g may sound fact p. notes_clean-stripes (record s { tokens = _ }) block p;
+    owns = λ t l c block g may sound fact p. p;
     logs = λ s i outer sound p. written s i (outer-has s.log p i outer);
     puts = λ s block value sound may p. changes-stripes s block value p;
     puts_owned = λ s block value sound may p. changes-stripes s block value p;
@@ -179,11 +179,14 @@ module _ (Is : GroupMapState → Type 0) where
     tick = λ o q h. opens_so (opening.on_tick o q).progress (tick_groups Is o q h);
   }
 
-pub present : (s : Serving) → At (S IsGroupMap) s → StripesByPresentGroups s
-present s p = record { whole = p; present = λ id group is current. is_present s.log.groups id group p.present is current }
+pub has_present : (groups : GroupMapState) → IsGroupMap groups → HasPresentGroups groups
+has_present groups whole = record { whole = whole; present = λ id group found current. is_present groups id group whole.present found current }
+
+pub present : (s : Serving) → At (S IsGroupMap) s → HasPresentGroups s.log.groups
+present s p = has_present s.log.groups p
 
 pub stripes_by_present_groups : StripesByPresentGroupsAlways
 stripes_by_present_groups number setup works events first brings =
-    where_weaker (At (S IsGroupMap)) StripesByPresentGroups present _
+    where_weaker (At (S IsGroupMap)) (λ s. HasPresentGroups s.log.groups) present _
     (always_where AnyBlock IsGroupMap (S IsGroupMap) (λ n. S IsGroupMap) (λ block. S IsGroupMap) (keeps-stripes IsGroupMap) (HasSuchMaps IsGroupMap)
     (StripesSo IsGroupMap) (reopens-stripes IsGroupMap) (λ inc epochs l capacity h. h) arrives_any number setup works events first brings)

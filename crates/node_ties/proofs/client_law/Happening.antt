@@ -12,9 +12,10 @@ use Rattle.client_parts.specs.declared.lasting.Lasting.{Lasting}
 use Rattle.client_parts.specs.Lasting.{next_life}
 use Rattle.client_parts.specs.Starting.{cached_upto, empty_end}
 use Rattle.client_serving.specs.declared.serving.Serving.{Serving}
-use Rattle.client_serving.specs.Opens.{begins_call, call_at, opens}
-use Rattle.client_serving.specs.Packets.{on_packet, on_tick, serving_room, tokens_room}
-use Rattle.client_serving.specs.Running.{goes_on, runs}
+use Rattle.client_calls.specs.Opens.{begins_call, call_at, opens}
+use Rattle.client_serving.specs.Packets.{on_packet, on_tick}
+use Rattle.client_node.specs.Room.{serving_room, tokens_room}
+use Rattle.client_calls.specs.Running.{goes_on, runs}
 use Rattle.client_serving.specs.Sends as client
 use Rattle.client_serving.specs.Sends.{gives}
 use Rattle.coop_cache.specs.CacheState as cache
@@ -136,14 +137,14 @@ module _ (A : BlockId → Type 0) (M : GroupMapState → Type 0) (B : Fact) (P :
   -- where it served before an event, and serves after it, the fact holds still
   pub serves-so : (client : Client) (s : Serving) (what : Do) → client.phase ≡ Serves s → ArrivesTo A (Serves s) what → DoBrings M what → AsksForCall s
       → At B s → WhereItServes (At B) (takes client what).state
-  serves-so client s what is arrives brings asks h =
+  serves-so client s what fact arrives brings asks h =
       by_test (λ (w : Went_to). WhereItServes (At B) w.state) (client_room client) (happens client what) (still client.phase)
-      (λ t. subst (λ p. WhereItServes (At B) (on_event client.peers client.cache p what).state) (sym is)
+      (λ t. subst (λ p. WhereItServes (At B) (on_event client.peers client.cache p what).state) (sym fact)
       (event-so client s what arrives brings
-      (subst (λ p. phase_room p ≡ true) is
+      (subst (λ p. phase_room p ≡ true) fact
       (and_second (has_room (lasting_of client.phase).questions.last) (phase_room client.phase) (and_second (has_room (lasting_of client.phase).inc) _ t)))
       asks h))
-      (λ t. subst (WhereItServes (At B)) (sym is) h)
+      (λ t. subst (WhereItServes (At B)) (sym fact) h)
 
   module _ (O : openings.Opening → Type 0) (E : LogState → Type 0) (r : Reopens M O E) (starts : Starts B E) where
     abbrev pub PhaseHolds : Phase → Type 0

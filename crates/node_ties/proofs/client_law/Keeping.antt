@@ -6,7 +6,7 @@ use Rattle.client_log.specs.declared.input.In as log_in
 use Rattle.client_log.specs.declared.input.In.TheVariants as log_ins
 use Rattle.client_log.specs.LogState.{LogState}
 use Rattle.client_log.specs.Transition.{on_seal}
-use Rattle.client_serving.specs.Blocks.{changes}
+use Rattle.client_calls.specs.Blocks.{changes}
 use Rattle.client_serving.specs.declared.serving.Serving.{Serving}
 use Rattle.client_serving.specs.Flights.{held_at, writes}
 use Rattle.client_serving.specs.Follow.{follows, follows_one, hands, notes_clean, notes_gone, seals, takes_back}

@@ -54,12 +54,12 @@ module _ (block : BlockId) where
   without_step : (b x : BlockId) (xs : List BlockId) (t : Bool) → same_block block x ≡ t
       → has b (without block xs) ≡ (has b xs && not (same_block block b))
       → has b (cond (not t) (x ∷ without block xs) (without block xs)) ≡ ((same_block b x || has b xs) && not (same_block block b))
-  without_step b x xs true is rest =
+  without_step b x xs true fact rest =
       rest ∙ unless_both (same_block b x) (has b xs) (not (same_block block b))
-      (λ same. ap not (ap (same_block block) (sym (same_block_exact b x same)) ∙ is))
-  without_step b x xs false is rest =
+      (λ same. ap not (ap (same_block block) (sym (same_block_exact b x same)) ∙ fact))
+  without_step b x xs false fact rest =
       ap (λ r. same_block b x || r) rest ∙ or_both (same_block b x) (has b xs) (not (same_block block b))
-      (λ same. ap not (ap (same_block block) (sym (same_block_exact b x same)) ∙ is))
+      (λ same. ap not (ap (same_block block) (sym (same_block_exact b x same)) ∙ fact))
 
   -- without a block there are the others
   pub has_without : (b : BlockId) (bs : List BlockId) → has b (without block bs) ≡ (has b bs && not (same_block block b))
@@ -120,8 +120,9 @@ to_used block b bs (inl same) =
 to_used block b bs (inr inside) = by_same (same_block block b) refl
   where
     by_same : (t : Bool) → same_block block b ≡ t → has b (used_last block bs) ≡ true
-    by_same true is =
-        has_append b (without block bs) (block ∷ []) ∙ or_second (has b (without block bs)) _ (or_first (same_block b block) false (same_symmetric block b is))
+    by_same true fact =
+        has_append b (without block bs) (block ∷ [])
+        ∙ or_second (has b (without block bs)) _ (or_first (same_block b block) false (same_symmetric block b fact))
     by_same false other = has_append b (without block bs) (block ∷ []) ∙ or_first (has b (without block bs)) _ (to_without block b bs inside other)
 
 -- and nothing else

@@ -8,7 +8,7 @@ use Rattle.client_node.specs.declared.phase.Phase.TheVariants.{Serving as Serves
 use Rattle.client_node.specs.declared.phase.Phase.{Phase}
 use Rattle.client_node.specs.Phases.{takes}
 use Rattle.client_node.specs.Starting.{first_client}
-use Rattle.client_serving.specs.Blocks.{changes, wrote}
+use Rattle.client_calls.specs.Blocks.{changes, wrote}
 use Rattle.client_serving.specs.declared.serving.Serving.{Serving}
 use Rattle.client_serving.specs.Flights.{feeds, gives_if_clean, gives_up, held_at, keeps_clean, notes_settled, settled_rows, settles, writes}
 use Rattle.client_serving.specs.Follow.{notes_clean}
@@ -78,9 +78,9 @@ module _ (block : BlockId) (old : Stamp) where
   takes-kept : TakesKeep K
   takes-kept = record {
     quiet = λ t u l c q p. not_later_through old (held_of t.blocks block).stamp (held_of u.blocks block).stamp p ((q block).stamp);
-    puts_off = λ t l c b g dirty is p. kept_put t p b g is.stamp;
-    lets = λ t l c b g clean is p. kept_put t p b g is.stamp;
-    lowers = λ t l c b g clean is p. kept_put t p b g is.stamp;
+    puts_off = λ t l c b g dirty fact p. kept_put t p b g fact.stamp;
+    lets = λ t l c b g clean fact p. kept_put t p b g fact.stamp;
+    lowers = λ t l c b g clean fact p. kept_put t p b g fact.stamp;
     leaves = λ t l c b nothing p. p;
     seals = λ t l c p. p;
   }
@@ -137,9 +137,9 @@ module _ (block : BlockId) (old : Stamp) where
     ends = λ t l c p. p;
     takes = λ n. takes-kept;
     touches = λ t l c b p. p;
-    copies = λ s b g may sound is p.
-        notes_clean-tokens Kept evict-kept (record s { tokens = with_held s.tokens b g }) b (kept_put s.tokens p b g is.stamp);
-    owns = λ t l c b g may sound is p. kept_put t p b g is.stamp;
+    copies = λ s b g may sound fact p.
+        notes_clean-tokens Kept evict-kept (record s { tokens = with_held s.tokens b g }) b (kept_put s.tokens p b g fact.stamp);
+    owns = λ t l c b g may sound fact p. kept_put t p b g fact.stamp;
     logs = λ s i outer sound p. logs-kept s i p;
     puts = λ s b value sound may p. changes-kept s b value p;
     puts_owned = λ s b value sound may p. changes-kept s b value p;
@@ -147,11 +147,11 @@ module _ (block : BlockId) (old : Stamp) where
   }
 
 no_stamp_falls : (client : Client) (what : Do) → PhaseAsks client.phase → NoStampFalls client what
-no_stamp_falls client what asks s t block is becomes =
+no_stamp_falls client what asks s t block fact becomes =
     let old : Stamp = (held_at s block).stamp in
     subst (WhereItServes (At (K block old))) becomes
-    (serves-so AnyBlock AnyMap (K block old) (λ n. K block old) (λ b. K block old) (keeps-kept block old) client s what is (arrives_any (Serves s) what)
-    (brings_any what) (subst PhaseAsks is asks) (not_later_itself old))
+    (serves-so AnyBlock AnyMap (K block old) (λ n. K block old) (λ b. K block old) (keeps-kept block old) client s what fact (arrives_any (Serves s) what)
+    (brings_any what) (subst PhaseAsks fact asks) (not_later_itself old))
 
 pub stamps_never_fall : StampsNeverFallAlways
 stamps_never_fall number setup works events what =

@@ -5,7 +5,7 @@ use Rattle.client_node.specs.declared.phase.Phase.{Phase}
 use Rattle.client_node.specs.Phases.{takes}
 use Rattle.client_parts.specs.Lasting.{first_lasting}
 use Rattle.client_serving.specs.declared.serving.Serving.{Serving}
-use Rattle.client_serving.specs.Starting.{first_serving}
+use Rattle.client_node.specs.Serving.{first_serving}
 use Rattle.group_map.specs.Groups.{started}
 use Rattle.group_map.specs.WellFormed.{IsGroupMap}
 use Rattle.log_flight.specs.Flights.{FlightState}

@@ -176,22 +176,22 @@ module _ (client : Client) (packet : Packet) (about : is_about_tokens packet.bod
   opening_unmoved : (l : Lasting) (o : openings.Opening) → client.phase ≡ Opening l o
       → IsUnmovedBy client (opened_on l client.cache (opening.on_packet o l.questions packet))
   unfolding opening.on_packet
-  opening_unmoved l o is =
+  opening_unmoved l o fact =
       by_test (λ (w : Went). IsUnmovedBy client (opened_on l client.cache w)) (names_known o.known.maps packet.body)
       (opening.on_body o l.questions packet.from packet.body) (asks_maps l o)
       (λ t. subst (λ (w : Went). IsUnmovedBy client (opened_on l client.cache w)) (sym (drops_tokens o l.questions packet.from packet.body about))
-      (record { phase_is = inl (sym is); sends = All-nil (λ (p : Packet). IsQuestion p.body); acts = refl }))
+      (record { phase_is = inl (sym fact); sends = All-nil (λ (p : Packet). IsQuestion p.body); acts = refl }))
       (λ t. record {
-        phase_is = inr (ap with_question (sym is));
+        phase_is = inr (ap with_question (sym fact));
         sends = All-cons (λ (p : Packet). IsQuestion p.body) _ [] refl (All-nil (λ (p : Packet). IsQuestion p.body));
         acts = refl;
       })
 
   deliver_unmoved : (phase : Phase) → client.phase ≡ phase → serves phase ≡ false → IsUnmovedBy client (on_deliver client.cache phase packet)
   unfolding on_deliver
-  deliver_unmoved (Down l) is unserving = record { phase_is = inl (sym is); sends = All-nil (λ (p : Packet). IsQuestion p.body); acts = refl }
-  deliver_unmoved (Opening l o) is unserving = opening_unmoved l o is
-  deliver_unmoved (Serves s) is unserving = contrary (sym unserving)
+  deliver_unmoved (Down l) fact unserving = record { phase_is = inl (sym fact); sends = All-nil (λ (p : Packet). IsQuestion p.body); acts = refl }
+  deliver_unmoved (Opening l o) fact unserving = opening_unmoved l o fact
+  deliver_unmoved (Serves s) fact unserving = contrary (sym unserving)
 
 pub takes_nothing : TakesNothingOfTokens
 takes_nothing client packet unserving about =

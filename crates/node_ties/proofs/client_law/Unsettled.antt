@@ -66,7 +66,7 @@ module _ (t : TokensState) (w d : Versions) (p : AreUnsettled t w d) where
     newest = λ b v h. p.newest b v h ∙ sym (same b).0;
     unsettled = λ b v h. dirty b ∙ p.unsettled b v h;
     unflown = p.unflown;
-    all = λ b is. by_case b (p.all b (sym (dirty b) ∙ is));
+    all = λ b fact. by_case b (p.all b (sym (dirty b) ∙ fact));
     above = λ b v h. subst (λ n. n < v) (sym (same b).1) (p.above b v h);
     upto = λ b v h. subst (λ n. v ≤ n) (sym (same b).0) (p.upto b v h);
   }
@@ -155,7 +155,7 @@ module _ (t : TokensState) (w d : Versions) (p : AreUnsettled t w d) where
         more u ver h = omega (arith, h)
 
         less : (u ver v : ℕ) → v ≡ ver + 1 → u ≤ ver → u < v
-        less u ver v is h = omega (arith, is, h)
+        less u ver v fact h = omega (arith, fact, h)
 
         waits_still : (b : BlockId) → same_block block b ≡ false → (is_some (version_at w b) ≡ true) ⊎ (version_at d b ≡ Some (held_of t.blocks b).ver)
             → (is_some (version_at next b) ≡ true) ⊎ (version_at d b ≡ Some (held_of t.blocks b).ver)
@@ -164,8 +164,8 @@ module _ (t : TokensState) (w d : Versions) (p : AreUnsettled t w d) where
 
         by_block : (b : BlockId) (v u : ℕ) (r : Bool) → same_block block b ≡ r → version_at next b ≡ Some v → version_at d b ≡ Some u → u < v
         by_block b v u true same at flies =
-            let is : b ≡ block = same_block_exact block b same in
-            less u old.ver v (written_is v (ap (version_at next) (sym is) ∙ at)) (p.upto block u (ap (version_at d) (sym is) ∙ flies))
+            let fact : b ≡ block = same_block_exact block b same in
+            less u old.ver v (written_is v (ap (version_at next) (sym fact) ∙ at)) (p.upto block u (ap (version_at d) (sym fact) ∙ flies))
         by_block b v u false other at flies = p.unflown b v u (sym (elsewhere b other) ∙ at) flies
 
 -- ---- what waits first is sealed, where nothing flies
@@ -186,12 +186,12 @@ unsettled-sealed t w n p = record {
     itself u = omega arith
 
     low : (b : BlockId) (u : ℕ) → u ≡ (held_of t.blocks b).ver → is_dirty (held_of t.blocks b) ≡ true → (held_of t.blocks b).settled < u
-    low b u is dirty = grind (arith, nat_tests)
+    low b u fact dirty = grind (arith, nat_tests)
 
     part : (b : BlockId) (v : ℕ) → v ≡ (held_of t.blocks b).ver → (version_at (take n w) b ≡ Some v) ⊎ (version_at (drop n w) b ≡ Some v)
         → (is_some (version_at (drop n w) b) ≡ true) ⊎ (version_at (take n w) b ≡ Some (held_of t.blocks b).ver)
-    part b v is (inl taken) = inr (taken ∙ ap (λ m. Some m) is)
-    part b v is (inr left) = inl (ap is_some left)
+    part b v fact (inl taken) = inr (taken ∙ ap (λ m. Some m) fact)
+    part b v fact (inr left) = inl (ap is_some left)
 
     found : (b : BlockId) → (v : ℕ) × (version_at w b ≡ Some v)
         → (is_some (version_at (drop n w) b) ≡ true) ⊎ (version_at (take n w) b ≡ Some (held_of t.blocks b).ver)
@@ -247,10 +247,10 @@ module _ (t : TokensState) (w d : Versions) (block : BlockId) (u : ℕ) (p : Are
   }
     where
       newer : (u v ver : ℕ) → u < v → v ≡ ver → nat_lt u ver ≡ true
-      newer u v ver less is = grind (arith, nat_tests)
+      newer u v ver less fact = grind (arith, nat_tests)
 
       none_newer : (u ver : ℕ) → u ≡ ver → nat_lt u ver ≡ true → false ≡ true
-      none_newer u ver is less = grind (arith, nat_tests)
+      none_newer u ver fact less = grind (arith, nat_tests)
 
       here : nat_lt u f.ver ≡ true → (is_some (version_at w block) ≡ true) ⊎ (version_at (row ∷ d) block ≡ Some f.ver)
           → (is_some (version_at w block) ≡ true) ⊎ (version_at d block ≡ Some f.ver)

@@ -4,7 +4,7 @@ use Rattle.std.proofs.lemmas.Bool.Decides.{nat_tests}
 use Rattle.client_log.specs.declared.input.In.TheVariants as log_ins
 use Rattle.client_log.specs.LogState.{LogState}
 use Rattle.client_log.specs.Transition.{can_go_on, has_next, if_full, is_full, on_put, waits}
-use Rattle.client_serving.specs.Blocks.{changes}
+use Rattle.client_calls.specs.Blocks.{changes}
 use Rattle.client_serving.specs.declared.serving.Serving.{Serving}
 use Rattle.client_serving.specs.Flights.{held_at, writes}
 use Rattle.client_serving.specs.Follow.{notes_clean}
@@ -98,9 +98,9 @@ changes-unsettled s block value sound may p =
 
 copies-unsettled : (s : Serving) (block : BlockId) (g : Held) → Sound s → IsCopied (held_at s block) g → At (P 1) s
     → At (P 1) (notes_clean (record s { tokens = with_held s.tokens block g }) block)
-copies-unsettled s block g sound is p =
+copies-unsettled s block g sound fact p =
     notes_clean-unsettled 1 (record s { tokens = with_held s.tokens block g }) block
-    (clean-unsettled 1 s.tokens s.log block g ((sound.each block).asks_clean is.asks) (settled_clean g is.clean) p)
+    (clean-unsettled 1 s.tokens s.log block g ((sound.each block).asks_clean fact.asks) (settled_clean g fact.clean) p)
 
 lessened : (t : TokensState) (l : LogState) → Unsettled 1 t l → Unsettled 0 t l
 lessened t l p = record { log = p.log; room = less l.end.seq p.room }
@@ -118,9 +118,9 @@ keeps-unsettled = record {
   ends = λ t l c p. p.log;
   takes = takes-unsettled;
   touches = λ t l c block p. p;
-  copies = λ s block g may sound is p. copies-unsettled s block g sound is p;
-  owns = λ t l c block g may sound is p.
-      lessened (with_held t block g) l (clean-unsettled 1 t l block g ((sound.each block).asks_clean is.asks) (settled_clean g is.clean) p);
+  copies = λ s block g may sound fact p. copies-unsettled s block g sound fact p;
+  owns = λ t l c block g may sound fact p.
+      lessened (with_held t block g) l (clean-unsettled 1 t l block g ((sound.each block).asks_clean fact.asks) (settled_clean g fact.clean) p);
   logs = λ s i outer sound p. logs-unsettled s i (λ g. Unit {0}) outer p;
   puts = changes-unsettled;
   puts_owned = changes-unsettled;

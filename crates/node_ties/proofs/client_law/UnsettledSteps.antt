@@ -181,9 +181,9 @@ module _ (n : ℕ) where
       };
       room = p.room;
     };
-    puts_off = λ t l c block g dirty is p. put-unsettled t l block g is.ver is.settled p;
-    lets = λ t l c block g clean is p. put-unsettled t l block g is.ver is.settled p;
-    lowers = λ t l c block g clean is p. put-unsettled t l block g is.ver is.settled p;
+    puts_off = λ t l c block g dirty fact p. put-unsettled t l block g fact.ver fact.settled p;
+    lets = λ t l c block g clean fact p. put-unsettled t l block g fact.ver fact.settled p;
+    lowers = λ t l c block g clean fact p. put-unsettled t l block g fact.ver fact.settled p;
     leaves = λ t l c block nothing p. p;
     seals = λ t l c p. seals-unsettled t l p;
   }
@@ -271,7 +271,7 @@ module _ (s : Serving) where
         })
       where
         upto : (seq end : ℕ) → seq ≡ end + 1 → end + 1 < u32_end → seq + 0 < u32_end
-        upto seq end is room = omega (arith, is, room)
+        upto seq end fact room = omega (arith, fact, room)
 
     settles-so : (end : End) → At (P 0) (settles behind end rows).state
     unfolding settles
@@ -328,9 +328,9 @@ module _ (s : Serving) where
   lessened p = record { log = p.log; room = (let room : s.log.end.seq + 1 < u32_end = p.room in omega arith) }
 
   flying : (f : FlightState) → s.log.flight ≡ Some f → Unsettled 1 s.tokens s.log → Flies s.tokens s.log f
-  flying f is p = record {
-    versions = subst (λ o. AreUnsettled s.tokens (versions_waiting s.log) (versions_flown o)) is p.log.versions;
-    next = subst (λ o. NextTo o s.log.end.seq) is p.log.next;
+  flying f fact p = record {
+    versions = subst (λ o. AreUnsettled s.tokens (versions_waiting s.log) (versions_flown o)) fact p.log.versions;
+    next = subst (λ o. NextTo o s.log.end.seq) fact p.log.next;
     room = p.room;
   }
 
@@ -340,9 +340,9 @@ module _ (s : Serving) where
     acked name index generation (Some f) = if is_of f name index generation then looked_at s.log s.log (noting f index) else still s.log
 
     acked-so : (name : SegName) (index generation : ℕ) (o : Option FlightState) → s.log.flight ≡ o → WroteSo s (acked name index generation o)
-    acked-so name index generation None is = lessened p
-    acked-so name index generation (Some f) is =
-        let q : Flies s.tokens s.log f = flying f is p in
+    acked-so name index generation None fact = lessened p
+    acked-so name index generation (Some f) fact =
+        let q : Flies s.tokens s.log f = flying f fact p in
         by_test (WroteSo s) (is_of f name index generation) (looked_at s.log s.log (noting f index)) (still s.log)
         (λ x. looked-so s.log (noting f index) (record { versions = q.versions; next = q.next; room = q.room }) s.log (lessened p)) (λ x. lessened p)
 
@@ -351,10 +351,10 @@ module _ (s : Serving) where
     mapped groups (Some f) = looked_at s.log (record s.log { groups = groups }) f
 
     mapped-so : (groups : GroupMapState) (o : Option FlightState) → s.log.flight ≡ o → WroteSo s (mapped groups o)
-    mapped-so groups None is =
+    mapped-so groups None fact =
         let q : Unsettled 0 s.tokens s.log = lessened p in record { log = record { versions = q.log.versions; next = q.log.next }; room = q.room }
-    mapped-so groups (Some f) is =
-        let q : Flies s.tokens s.log f = flying f is p in
+    mapped-so groups (Some f) fact =
+        let q : Flies s.tokens s.log f = flying f fact p in
         looked-so (record s.log { groups = groups }) f (record { versions = q.versions; next = q.next; room = q.room }) s.log (lessened p)
 
     abbrev ticked : Option FlightState → log.Done

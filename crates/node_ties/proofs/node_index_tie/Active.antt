@@ -120,14 +120,14 @@ module _ (part : ℕ) (texts : Texts) (asked : Questions) (brought : Brought) (d
   short_put xs at upto l nine within fits was = by (l - 1 == at) refl
     where
       apart : (x : ℕ) → (x == at) ≡ false → x ≡ at → ⊥
-      apart x is = grind (arith, nat_tests)
+      apart x fact = grind (arith, nat_tests)
 
       by : (t : Bool) → (l - 1 == at) ≡ t → applied_of (slice_set xs at upto) l < u32_end
-      by true is =
-          let same : l - 1 ≡ at = eqb-true (l - 1) at is in
+      by true fact =
+          let same : l - 1 ≡ at = eqb-true (l - 1) at fact in
           subst (λ k. get_or (slice_set xs at upto) k 0 < u32_end) (sym same)
           (subst (λ x. x < u32_end) (sym (get_or-set_same xs at upto 0 (omega arith))) fits)
-      by false is = subst (λ x. x < u32_end) (sym (get_or-set_other xs at (l - 1) upto 0 (apart (l - 1) is))) was
+      by false fact = subst (λ x. x < u32_end) (sym (get_or-set_other xs at (l - 1) upto 0 (apart (l - 1) fact))) was
 
   stands_deltas : (n : Net) (a : Active) (of : LogId) (m : Deltas) → of.0 - 1 < 9 → DeltasKnown part n of.0 m → ActiveAgrees part texts n desk a
       → Stands n a (slot.transition a.slot (deltas_input of m)).state
@@ -154,14 +154,14 @@ module _ (part : ℕ) (texts : Texts) (asked : Questions) (brought : Brought) (d
       within x h = grind (arith, nat_tests)
 
       by : (t : Bool) → slot_recalls.is_followed of ≡ t → IsEvent n a m.slot (slot.transition a.slot (deltas_input of m))
-      by true is =
+      by true fact =
           let d = slot.transition a.slot (deltas_input of m) in
-          let w = within of.0 is in
+          let w = within of.0 fact in
           let nine = agrees.nine in
           steps_to n a d.state (flat_map (said m.slot a.slot.epoch) d.outs) agrees.there
           (GetsDeltas a.slot.epoch a.slot of m.first m.upto m.rows agrees.there (omega arith) known.tells) (stands_deltas n a of m w known agrees)
           (said_done (with_slot n a.slot.epoch d.state) m.slot a.slot.epoch d.outs)
-      by false is = subst (IsEvent n a m.slot) (sym (ap (λ t. cond t (slot.deltas_of a.slot of m.first m.upto m.rows) (still a.slot)) is))
+      by false fact = subst (IsEvent n a m.slot) (sym (ap (λ t. cond t (slot.deltas_of a.slot of m.first m.upto m.rows) (still a.slot)) fact))
           (event_same n (phase.Active a) [] agrees tt)
 
   pub slot_deltas : (n : Net) (p : SlotPhase) (of : LogId) (m : Deltas) → DeltasKnown part n of.0 m → PhaseAgrees part texts n desk p

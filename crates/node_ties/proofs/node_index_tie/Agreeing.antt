@@ -31,7 +31,7 @@ module _ (part : ℕ) (texts : Texts) (n m : Net) (g : Grows n m) where
     known = news_on part n m g k.news (subst (λ e. m.slots e ≡ n.slots e) (sym k.of_epoch) same) k.known;
     whole = k.whole;
     present = k.present;
-    reports = λ r is. report_on part n m g epoch r.from r.end (k.reports r is);
+    reports = λ r fact. report_on part n m g epoch r.from r.end (k.reports r fact);
     once = k.once;
     ready = k.ready;
   }

@@ -88,7 +88,7 @@ module _ (part : ℕ) (texts : Texts) (questions : Questions) (exists : part < 8
     came = λ e none. inl none;
     stay = λ e h. h;
     entered = λ e z some none. absurd (some_none z (sym some ∙ none));
-    grows = λ x is. is;
+    grows = λ x fact. fact;
     does = All-from_recursion (ManagerDoes part questions n) outs done;
   }
 
@@ -210,11 +210,11 @@ module _ (part : ℕ) (texts : Texts) (questions : Questions) (exists : part < 8
     here = here;
     writer = record {
       same_log = refl;
-      named = λ f is. absurd (some_none f (sym is));
+      named = λ f fact. absurd (some_none f (sym fact));
       nothing_waits = refl;
       idle = λ _. refl;
-      answered = λ e is. refl;
-      work = λ w is of. absurd (some_none w (sym is));
+      answered = λ e fact. refl;
+      work = λ w fact of. absurd (some_none w (sym fact));
     };
     closed = λ _. (refl, refl);
     done = tt;
@@ -226,7 +226,7 @@ module _ (part : ℕ) (texts : Texts) (questions : Questions) (exists : part < 8
       → takes_welcome peers kept hello welcome ≡ true
       → FlightIsText texts (on_news (again kept (forgotten peers.servers) welcome.news.groups) peers.clients welcome.news).state.log
       → Goes (Waiting kept hello) (Deliver packet) (serves (on_news (again kept (forgotten peers.servers) welcome.news.groups) peers.clients welcome.news))
-  opens_goes peers kept hello packet welcome number filed is gets takes writes =
+  opens_goes peers kept hello packet welcome number filed fact gets takes writes =
       let what : Do = Deliver packet in
       let answered : (welcome.inc == kept.inc) && (welcome.ask == hello) ≡ true = and_first ((welcome.inc == kept.inc) && (welcome.ask == hello))
       (fits (forgotten peers.servers) welcome.news) takes in
@@ -237,7 +237,7 @@ module _ (part : ℕ) (texts : Texts) (questions : Questions) (exists : part < 8
       (begun_agreed kept (forgotten peers.servers) unknown_table welcome.news.groups refl (subst (PhaseAgrees part texts n _) (sym (unknown_at part)) tt))
       filed (λ f there. absurd (some_none f (sym there)))
       (subst (λ k. AllNewsGets part texts questions j n k welcome.news.slots) (sym none) (gets same_inc))
-      (λ x there of ours. subst (NamedBy part j x.epoch) (sym is) (x, there, of, refl, ours)) in
+      (λ x there of ours. subst (NamedBy part j x.epoch) (sym fact) (x, there, of, refl, ours)) in
       record {
         next = h.next;
         runs = h.runs;
@@ -256,13 +256,13 @@ module _ (part : ℕ) (texts : Texts) (questions : Questions) (exists : part < 8
       → WritesTexts part texts questions j n (on_waiting peers kept hello b).state
       → Goes (Waiting kept hello) (Deliver packet) (on_waiting peers kept hello b)
   unfolding on_welcome
-  waiting_gets peers kept hello packet (body.Welcome welcome) number filed is gets writes =
+  waiting_gets peers kept hello packet (body.Welcome welcome) number filed fact gets writes =
       by_test (λ (w : Went_to). WritesTexts part texts questions j n w.state → Goes (Waiting kept hello) (Deliver packet) w)
       (takes_welcome peers kept hello welcome)
       (serves (on_news (again kept (forgotten peers.servers) welcome.news.groups) peers.clients welcome.news)) (still (Waiting kept hello))
-      (λ takes text. opens_goes peers kept hello packet welcome number filed is gets takes text) (λ _ _. to_itself (Waiting kept hello) (Deliver packet) tt)
+      (λ takes text. opens_goes peers kept hello packet welcome number filed fact gets takes text) (λ _ _. to_itself (Waiting kept hello) (Deliver packet) tt)
       writes
-  waiting_gets peers kept hello packet _ number filed is gets writes = to_itself (Waiting kept hello) (Deliver packet) tt
+  waiting_gets peers kept hello packet _ number filed fact gets writes = to_itself (Waiting kept hello) (Deliver packet) tt
 
   packet_goes : (peers : Peers) (p : Phase) (packet : Sent) → (lasting_of p).number ≡ j → ManagerAgrees part texts n p → AreTexts texts n.filed
       → PacketGets part texts questions j n p packet → WritesTexts part texts questions j n (on_packet peers p packet).state
@@ -273,7 +273,7 @@ module _ (part : ℕ) (texts : Texts) (questions : Questions) (exists : part < 8
   packet_goes peers (Serves s) packet number agrees filed gets writes =
       to_serving s (Deliver packet) (hears s peers.clients packet) writes
       (hears_serves part texts questions exists (brings (Deliver packet)) j n s peers.clients packet number agrees.0 filed agrees.1 gets
-      (λ e is. is) ((λ x. x), (λ x. x)))
+      (λ e fact. fact) ((λ x. x), (λ x. x)))
 
   deliver_goes : (peers : Peers) (p : Phase) (packet : Sent) → (lasting_of p).number ≡ j → ManagerAgrees part texts n p → AreTexts texts n.filed
       → PacketGets part texts questions j n p packet → WritesTexts part texts questions j n (on_deliver peers p packet).state

@@ -67,8 +67,8 @@ filed_more base (Settled s r ∷ xs) seq rows less =
         → filed_by base (xs ++ Settled seq rows ∷ []) ≡ filed_by base xs ++ record { seq = seq; rows = rows } ∷ []
         → cond t (record { seq = s; rows = r } ∷ filed_by s (xs ++ Settled seq rows ∷ [])) (filed_by base (xs ++ Settled seq rows ∷ []))
         ≡ cond t (record { seq = s; rows = r } ∷ filed_by s xs) (filed_by base xs) ++ record { seq = seq; rows = rows } ∷ []
-    by true is a b = ap (λ fs. record { seq = s; rows = r } ∷ fs) (a is)
-    by false is a b = b
+    by true fact a b = ap (λ fs. record { seq = s; rows = r } ∷ fs) (a fact)
+    by false fact a b = b
 filed_more base (Ack slot applied ∷ xs) seq rows less = filed_more base xs seq rows less
 filed_more base (NewEpoch slot ∷ xs) seq rows less = filed_more base xs seq rows less
 filed_more base (Push slot ∷ xs) seq rows less = filed_more base xs seq rows less
@@ -126,9 +126,9 @@ module _ (part : ℕ) (n : Net) (l : ℕ) (feed : FeedState) (k : FeedSeen part 
         beyond h i = grind (arith, nat_tests)
 
         by : (t u : Bool) → nat_le q head ≡ t → (q == suc head) ≡ u → RowsFit (rows_at later l q)
-        by true u is other = subst RowsFit (sym (old_rows q (within is))) (k.fit q)
-        by false true is at = subst (λ x. RowsFit (rows_at later l x)) (sym (eqb-true q (suc head) at)) (subst RowsFit (sym new_rows) fit)
-        by false false is other = subst RowsFit (sym (no_rows q (beyond is other))) tt
+        by true u fact other = subst RowsFit (sym (old_rows q (within fact))) (k.fit q)
+        by false true fact at = subst (λ x. RowsFit (rows_at later l x)) (sym (eqb-true q (suc head) at)) (subst RowsFit (sym new_rows) fit)
+        by false false fact other = subst RowsFit (sym (no_rows q (beyond fact other))) tt
 
     old_feds : (first m : ℕ) → first + m ≤ suc head → map (fed_at n.filed l) (range_with_len first m) ≡ map (fed_at later l) (range_with_len first m)
     old_feds first zero low = refl

@@ -72,8 +72,8 @@ module _ (s : LogState) where
   stays t same_log dirty flight outs sends_ = inl (record {
     same_log = same_log;
     dirty = dirty;
-    flight = λ f is. record
-        { old = f; was = sym flight ∙ is; items = refl; of = refl };
+    flight = λ f fact. record
+        { old = f; was = sym flight ∙ fact; items = refl; of = refl };
     sends = sends_;
   })
 
@@ -94,7 +94,7 @@ module _ (s : LogState) where
     followed_went Restripe = inl (record {
       same_log = same_log;
       dirty = dirty;
-      flight = λ h is. let same = some_is _ h is in record {
+      flight = λ h fact. let same = some_is _ h fact in record {
         old = f;
         was = was;
         items = ap (λ (x : FlightState). x.segment.items) (sym same) ∙ ap (λ (x : Segment). x.items) segment;
@@ -117,7 +117,7 @@ module _ (s : LogState) where
     followed_went Wait = inl (record {
       same_log = same_log;
       dirty = dirty;
-      flight = λ h is. let same = some_is _ h is in record {
+      flight = λ h fact. let same = some_is _ h fact in record {
         old = f;
         was = was;
         items = ap (λ (x : FlightState). x.segment.items) (sym same) ∙ ap (λ (x : Segment). x.items) segment;
@@ -137,9 +137,9 @@ module _ (s : LogState) where
     where
       by : (o : Option FlightState) → s.flight ≡ o
           → Went (elim o [ None ↦ still s | Some f ↦ cond (is_of f name index generation) (looked_at s s (noting f index)) (still s) ])
-      by None is = stays s refl refl refl [] tt
-      by (Some f) is = by_test Went (is_of f name index generation) (looked_at s s (noting f index)) (still s)
-          (λ _. looked_went none s refl refl f (noting f index) is refl) (λ _. stays s refl refl refl [] tt)
+      by None fact = stays s refl refl refl [] tt
+      by (Some f) fact = by_test Went (is_of f name index generation) (looked_at s s (noting f index)) (still s)
+          (λ _. looked_went none s refl refl f (noting f index) fact refl) (λ _. stays s refl refl refl [] tt)
 
   maps_went : s.dirty ≡ [] → (groups : GroupMapState) → Went (on_maps s groups)
   unfolding on_maps
@@ -147,8 +147,8 @@ module _ (s : LogState) where
     where
       by : (o : Option FlightState) → s.flight ≡ o
           → Went (elim o [ None ↦ still (record s { groups = groups }) | Some f ↦ looked_at s (record s { groups = groups }) f ])
-      by None is = stays (record s { groups = groups }) refl refl refl [] tt
-      by (Some f) is = looked_went none (record s { groups = groups }) refl refl f f is refl
+      by None fact = stays (record s { groups = groups }) refl refl refl [] tt
+      by (Some f) fact = looked_went none (record s { groups = groups }) refl refl f f fact refl
 
   tick_went : Went (on_tick s)
   unfolding on_tick
@@ -190,13 +190,13 @@ module _ (s : LogState) where
       (λ _. record {
         same_log = refl;
         dirty = refl;
-        items_are = λ f is. ap (λ (x : FlightState). x.segment.items) (sym (some_is _ f is));
-        of = λ f is. ap (λ (x : FlightState). x.segment.name.log) (sym (some_is _ f is));
+        items_are = λ f fact. ap (λ (x : FlightState). x.segment.items) (sym (some_is _ f fact));
+        of = λ f fact. ap (λ (x : FlightState). x.segment.name.log) (sym (some_is _ f fact));
       })
       (λ _. record {
         same_log = refl;
         dirty = refl;
-        items_are = λ f is. absurd (some_none f (sym is ∙ none));
-        of = λ f is. absurd
-            (some_none f (sym is ∙ none));
+        items_are = λ f fact. absurd (some_none f (sym fact ∙ none));
+        of = λ f fact. absurd
+            (some_none f (sym fact ∙ none));
       })

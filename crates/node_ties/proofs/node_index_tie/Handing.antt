@@ -68,8 +68,8 @@ module _ (part : ℕ) (n : Net) where
   known_of epoch l end k = by (l == 9) refl k
     where
       by : (t : Bool) → (l == 9) ≡ t → ReportKnown part n epoch (cond t Cleaner (Client l)) end → EndKnown part n epoch l end
-      by true is k = subst (λ x. EndKnown part n epoch x end) (sym (eqb-true l 9 is)) k.0
-      by false is k = k
+      by true fact k = subst (λ x. EndKnown part n epoch x end) (sym (eqb-true l 9 fact)) k.0
+      by false fact k = k
 
   cleaner_from : (epoch : ℕ) (rs : List Heard) → is_heard rs Cleaner ≡ true → ((r : Heard) → Among r rs → ReportKnown part n epoch r.from r.end)
       → In (CleanerReported epoch (end_from Cleaner rs).seq) n.sent
@@ -79,8 +79,8 @@ module _ (part : ℕ) (n : Net) where
     where
       one : (t : Bool) → same_node r.from Cleaner ≡ t → (same_node r.from Cleaner ≡ false → In (CleanerReported epoch (end_from Cleaner rs).seq) n.sent)
           → In (CleanerReported epoch (cond t r.end (end_from Cleaner rs)).seq) n.sent
-      one true is later = (subst (λ node. ReportKnown part n epoch node r.end) (same_node_is r.from Cleaner is) (known r (inl refl))).1
-      one false is later = later is
+      one true fact later = (subst (λ node. ReportKnown part n epoch node r.end) (same_node_is r.from Cleaner fact) (known r (inl refl))).1
+      one false fact later = later fact
 
   module _ (epoch : ℕ) (reports : List Heard) (all : (r : Heard) → Among r reports → ReportKnown part n epoch r.from r.end) where
     -- what holds of no end, and of the end of the log that is known, holds of the reported one
@@ -122,7 +122,7 @@ module _ (part : ℕ) (texts : Texts) (n : Net) where
       let one = after_one (record { state = started k.news k.groups k.clients; read = record { whole = []; present = [] } }) k.inputs given in
       let h = took take given k.ready k.once in
       let read : AllRead part texts (after_input c given).read = read_on part texts c.state c.read given (record { whole = k.whole; present = k.present })
-      (λ s is. owes.reads s (ap (λ x. completes x given) k.take_is ∙ is)) in
+      (λ s fact. owes.reads s (ap (λ x. completes x given) k.take_is ∙ fact)) in
       record {
         news = k.news;
         groups = k.groups;
@@ -134,7 +134,7 @@ module _ (part : ℕ) (texts : Texts) (n : Net) where
         known = k.known;
         whole = (subst (λ (x : Course). AllRead part texts x.read) (sym one) read).whole;
         present = (subst (λ (x : Course). AllRead part texts x.read) (sym one) read).present;
-        reports = λ r is. ⊎_elim (λ old. k.reports r old) (λ new. owes.brings r new) (h.reports r is);
+        reports = λ r fact. ⊎_elim (λ old. k.reports r old) (λ new. owes.brings r new) (h.reports r fact);
         once = h.once;
         ready = h.ready;
       }
@@ -159,10 +159,10 @@ module _ (part : ℕ) (texts : Texts) (asked : Questions) (brought : Brought) (d
 
     read : AllRead part texts (after_input course given).read
     read = read_on part texts course.state course.read given (record { whole = k.whole; present = k.present })
-        (λ s is. owes.reads s (ap (λ x. completes x given) k.take_is ∙ is))
+        (λ s fact. owes.reads s (ap (λ x. completes x given) k.take_is ∙ fact))
 
     known : (r : Heard) → Among r later.reports → ReportKnown part n t.epoch r.from r.end
-    known r is = ⊎_elim (λ old. k.reports r old) (λ new. owes.brings r new) ((took t.take given k.ready k.once).reports r is)
+    known r fact = ⊎_elim (λ old. k.reports r old) (λ new. owes.brings r new) ((took t.take given k.ready k.once).reports r fact)
 
     horizon : n.horizon t.epoch ≡ k.news.horizon
     horizon = ap n.horizon (sym k.of_epoch) ∙ sym k.known.horizon
@@ -342,9 +342,9 @@ module _ (part : ℕ) (texts : Texts) (asked : Questions) (brought : Brought) (d
     where
       owes : (p : SlotPhase) → report.epoch ≡ epoch_of p → OwesAt part texts n p (report_input from report)
       owes (phase.Taking t) same = record {
-        brings = λ r is. subst (λ (x : Heard). ReportKnown part n t.epoch x.from x.end) (sym is)
+        brings = λ r fact. subst (λ (x : Heard). ReportKnown part n t.epoch x.from x.end) (sym fact)
             (subst (λ e. ReportKnown part n e from report.end) same known);
-        reads = λ s is. absurd (none s is);
+        reads = λ s fact. absurd (none s fact);
       }
         where
           none : (s : Segment) → None ≡ Some s → ⊥
@@ -384,9 +384,9 @@ module _ (part : ℕ) (texts : Texts) (asked : Questions) (brought : Brought) (d
           known = known ours;
           whole = tt;
           present = tt;
-          reports = λ r is. absurd is;
-          once = λ r q is. absurd is;
-          ready = λ p is. absurd (none p is);
+          reports = λ r fact. absurd fact;
+          once = λ r q fact. absurd fact;
+          ready = λ p fact. absurd (none p fact);
         };
         held = λ e h. subst brought.names h (named_ ours);
         epoch = refl;

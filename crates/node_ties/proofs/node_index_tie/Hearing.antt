@@ -67,13 +67,13 @@ one_fetch t ask k = by (slice_get t k)
 -- it awaits the answer, under its own number
 fetch_is : (t : Table) (ask : ℕ) (slots : List ℕ) (which : ℕ × ℕ) → table.fetch_among t ask slots ≡ Some which
     → fetch_in (phase_at t which.0) ask ≡ Some which.1
-fetch_is t ask [] which is = absurd (some_none which (sym is))
-fetch_is t ask (k ∷ ks) which is = by (table.fetch_at t ask k) refl is (fetch_is t ask ks which)
+fetch_is t ask [] which fact = absurd (some_none which (sym fact))
+fetch_is t ask (k ∷ ks) which fact = by (table.fetch_at t ask k) refl fact (fetch_is t ask ks which)
   where
     by : (o : Option ℕ) → table.fetch_at t ask k ≡ o → table.first_fetch k o (table.fetch_among t ask ks) ≡ Some which
         → (table.fetch_among t ask ks ≡ Some which → fetch_in (phase_at t which.0) ask ≡ Some which.1) → fetch_in (phase_at t which.0) ask ≡ Some which.1
-    by None at is more = more is
-    by (Some own) at is more = subst (λ (w : ℕ × ℕ). fetch_in (phase_at t w.0) ask ≡ Some w.1) (some_is (k, own) which is) (sym (one_fetch t ask k) ∙ at)
+    by None at fact more = more fact
+    by (Some own) at fact more = subst (λ (w : ℕ × ℕ). fetch_in (phase_at t w.0) ask ≡ Some w.1) (some_is (k, own) which fact) (sym (one_fetch t ask k) ∙ at)
 
 -- the body may end a takeover: it is no news of the maps
 abbrev pub MayEnd : Body → Type 0
@@ -185,11 +185,11 @@ module _ (part : ℕ) (texts : Texts) (questions : Questions) (exists : part < 8
 
     owes_answer : (j : ℕ) (n : Net) (p : SlotPhase) (ask own : ℕ) (given : ℕ → TakeoverIn) → ((own : ℕ) (r : Heard) → Brings (given own) r → ⊥)
         → AnswerGets part texts questions j n p ask given → fetch_in p ask ≡ Some own → OwesAt part texts n p (given own)
-    owes_answer j n (phase.Taking t) ask own given none gets is = record
-        { brings = λ r b. absurd (none own r b); reads = λ s done. gets t own s refl is done }
-    owes_answer j n (phase.Active a) ask own given none gets is = tt
-    owes_answer j n (phase.Away epoch) ask own given none gets is = tt
-    owes_answer j n (phase.Broken epoch seg) ask own given none gets is = tt
+    owes_answer j n (phase.Taking t) ask own given none gets fact = record
+        { brings = λ r b. absurd (none own r b); reads = λ s done. gets t own s refl fact done }
+    owes_answer j n (phase.Active a) ask own given none gets fact = tt
+    owes_answer j n (phase.Away epoch) ask own given none gets fact = tt
+    owes_answer j n (phase.Broken epoch seg) ask own given none gets fact = tt
 
     serves_answer : brought.ends → (j : ℕ) (n : Net) (s : Serving) (ask : ℕ) (given : ℕ → TakeoverIn) → ServingAgrees part texts n s → AreTexts texts n.filed
         → ((own : ℕ) (r : Heard) → Brings (given own) r → ⊥) → AnswerGets part texts questions j n (phase_at s.slots part) ask given
@@ -198,12 +198,12 @@ module _ (part : ℕ) (texts : Texts) (questions : Questions) (exists : part < 8
     serves_answer ends j n s ask given agrees filed none gets = by (serving.fetch_of s ask) refl
       where
         by : (o : Option (ℕ × ℕ)) → serving.fetch_of s ask ≡ o → Of part texts questions exists brought n s (serving.answered_by s o given)
-        by None is = still_of part texts questions exists brought n s agrees
-        by (Some which) is =
+        by None fact = still_of part texts questions exists brought n s agrees
+        by (Some which) fact =
             by_asker n s agrees (table.takes (asker_of s) which.0 (given which.1))
             (table_takes part texts questions exists brought (desk_of s agrees.given) ends n (asker_of s) which.0 (given which.1) (table_of n s agrees filed)
             (λ same. owes_answer j n (phase_at s.slots part) ask which.1 given none gets
-            (subst (λ k. fetch_in (phase_at s.slots k) ask ≡ Some which.1) same (fetch_is s.slots ask table.all_slots which is))))
+            (subst (λ k. fetch_in (phase_at s.slots k) ask ≡ Some which.1) same (fetch_is s.slots ask table.all_slots which fact))))
 
     serves_found : brought.ends → (j : ℕ) (n : Net) (s : Serving) (from : NodeId) (m : Found) → ServingAgrees part texts n s → AreTexts texts n.filed
         → FoundGets part texts questions j n (phase_at s.slots part) from m → Of part texts questions exists brought n s (serving.on_found s (server_in from) m)
@@ -392,11 +392,11 @@ module _ (part : ℕ) (texts : Texts) (questions : Questions) (exists : part < 8
         → Of part texts questions exists brought n s (serving.on_body s clients from b)
     body_serves n s clients from (body.MapNews news) number agrees filed text gets names ends =
         fitting_serves ends.0 n s clients news number agrees filed text gets
-        (λ x is of ours. names x.epoch (x, is, of, refl, ours))
+        (λ x fact of ours. names x.epoch (x, fact, of, refl, ours))
     body_serves n s clients from (body.Welcome welcome) number agrees filed text gets names ends =
         by_test (Of part texts questions exists brought n s) (welcome.inc == s.lasting.inc) (serving.on_fitting_news s clients welcome.news) (still s)
         (λ same. fitting_serves ends.0 n s clients welcome.news number agrees filed text (gets (eqb-true welcome.inc s.lasting.inc same))
-        (λ x is of ours. names x.epoch (x, is, of, refl, ours)))
+        (λ x fact of ours. names x.epoch (x, fact, of, refl, ours)))
         (λ _. still_of part texts questions exists brought n s agrees)
     body_serves n s clients from (body.Want want) number agrees filed text gets names ends = serves_want brought n s from want agrees filed
     body_serves n s clients from (body.Gave gave) number agrees filed text gets names ends = serves_gave brought n s from gave agrees filed

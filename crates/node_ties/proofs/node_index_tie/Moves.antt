@@ -33,13 +33,13 @@ all_weaker P Q f [] all = tt
 all_weaker P Q f (x ∷ xs) all = (f x all.0, all_weaker P Q f xs all.1)
 
 pub in_more : {X : Type 0} (x : X) (xs ys : List X) → In x ys → In x (xs ++ ys)
-in_more x [] ys is = is
-in_more x (z ∷ zs) ys is = inr (in_more x zs ys is)
+in_more x [] ys fact = fact
+in_more x (z ∷ zs) ys fact = inr (in_more x zs ys fact)
 
 pub in_front : {X : Type 0} (x : X) (xs ys : List X) → In x xs → In x (xs ++ ys)
-in_front x [] ys is = absurd is
+in_front x [] ys fact = absurd fact
 in_front x (z ∷ zs) ys (inl same) = inl same
-in_front x (z ∷ zs) ys (inr is) = inr (in_front x zs ys is)
+in_front x (z ∷ zs) ys (inr fact) = inr (in_front x zs ys fact)
 
 pub put_here : {X : Type 0} (f : ℕ → X) (c : ℕ) (x : X) → put f c x c ≡ x
 put_here f c x = at_same c x (f c)
@@ -77,20 +77,20 @@ pub record Grows (n m : Net) : Type 0 where
   pub sent : (x : Packet) → In x n.sent → In x m.sent
 
 pub grows_itself : (n : Net) → Grows n n
-grows_itself n = record { rest = refl; stay = λ e h. h; sent = λ x is. is }
+grows_itself n = record { rest = refl; stay = λ e h. h; sent = λ x fact. fact }
 
 pub grows_then : (n m o : Net) → Grows n m → Grows m o → Grows n o
-grows_then n m o g h = record { rest = h.rest ∙ g.rest; stay = λ e is. g.stay e (h.stay e is); sent = λ x is. h.sent x (g.sent x is) }
+grows_then n m o g h = record { rest = h.rest ∙ g.rest; stay = λ e fact. g.stay e (h.stay e fact); sent = λ x fact. h.sent x (g.sent x fact) }
 
 pub grows_slot : (n : Net) (e : ℕ) (s : SlotState) → Grows n (with_slot n e s)
 grows_slot n e s = record {
   rest = refl;
   stay = put_each (λ d o. o ≡ None → n.slots d ≡ None) n.slots e (Some s) (λ h. absurd (some_none s h)) (λ d other h. h);
-  sent = λ x is. is;
+  sent = λ x fact. fact;
 }
 
 pub grows_sent : (n : Net) (new : List Packet) → Grows n (record n { sent = new ++ n.sent })
-grows_sent n new = record { rest = refl; stay = λ e h. h; sent = λ x is. in_more x new n.sent is }
+grows_sent n new = record { rest = refl; stay = λ e h. h; sent = λ x fact. in_more x new n.sent fact }
 
 module _ (part : ℕ) (n m : Net) (g : Grows n m) where
   pub end_on : (epoch log : ℕ) (end : End) → EndKnown part n epoch log end → EndKnown part m epoch log end
@@ -238,8 +238,8 @@ module _ (part : ℕ) (texts : Texts) (asked : Questions) where
     one_enters {X = X} m e none some = by (m.slots e) refl
       where
         by : (o : Option SlotState) → m.slots e ≡ o → X
-        by None is = none is
-        by (Some z) is = some z is
+        by None fact = none fact
+        by (Some z) fact = some z fact
 
     pub sees_then : (n : Net) (p q r : SlotPhase) (outs more : List Effect) (At Bt : Net → Type 0) → Sees brought n p q outs At
         → ((m : Net) → Grows n m → At m → Sees brought m q r more Bt) → Sees brought n p r (outs ++ more) Bt
@@ -252,7 +252,7 @@ module _ (part : ℕ) (texts : Texts) (asked : Questions) where
           slots = λ e other not_named. k.slots e (λ at. ⊎_elim other not_named (h.held e at)) not_named ∙ h.slots e other not_named;
           came = λ e none. ⊎_elim (λ free. k.came e free) (λ low. inr (let b = k.rises in omega arith)) (h.came e none);
           enters = λ e z some none. one_enters h.next e (λ still. k.enters e z some still)
-              (λ x is. let first = h.enters e x is none in (first.0, k.stays first.0 e first.1));
+              (λ x fact. let first = h.enters e x fact none in (first.0, k.stays first.0 e first.1));
           stays = λ ends e at. k.stays ends e (h.stays ends e at);
           held = λ e at. ⊎_elim (λ x. h.held e x) (λ x. inr x) (k.held e at);
           rises = let a = h.rises in let b = k.rises in omega arith;

@@ -83,13 +83,13 @@ module _ (part : ℕ) (n : Net) (l : ℕ) (some : 0 < l) (limit : l ≤ 9) (feed
       by : (t : Bool) → (nat_lt slot 8 && nat_lt (acked_of feed slot) feed.end) ≡ t
           → AllByRecursion (OwnerDoes part n l)
           (map (range managers) (cond t (Range slot (acked_of feed slot + 1) feed.end (rows_after slot (acked_of feed slot) feed.filed) ∷ []) []))
-      by true is = (
+      by true fact = (
         known slot (Push slot) (subst (λ os. Contains os (Range slot (acked_of feed slot + 1) feed.end (rows_after slot (acked_of feed slot) feed.filed)))
-            (ap (λ t. cond t (Range slot (acked_of feed slot + 1) feed.end (rows_after slot (acked_of feed slot) feed.filed) ∷ []) []) (sym is))
+            (ap (λ t. cond t (Range slot (acked_of feed slot + 1) feed.end (rows_after slot (acked_of feed slot) feed.filed) ∷ []) []) (sym fact))
             (contains_first _ [])),
         tt,
       )
-      by false is = tt
+      by false fact = tt
 
   map_both : (xs ys : List Out) → map (range managers) (xs ++ ys) ≡ map (range managers) xs ++ map (range managers) ys
   map_both [] ys = refl

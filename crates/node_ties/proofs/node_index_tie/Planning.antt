@@ -56,18 +56,18 @@ spent : (writer : WriterState) → writer.work ≡ None → writer.asked ≡ Non
 spent writer no_work no_asked busy = by (writer.number == u32_end) refl (sym (free_writer writer no_work no_asked) ∙ busy)
   where
     by : (t : Bool) → (writer.number == u32_end) ≡ t → not t ≡ false → writer.number ≡ u32_end
-    by true is off = eqb-true writer.number u32_end is
-    by false is off = contrary (sym off)
+    by true fact off = eqb-true writer.number u32_end fact
+    by false fact off = contrary (sym off)
 
 not_spent : (writer : WriterState) → writer.work ≡ None → writer.asked ≡ None → is_idle writer ≡ true → writer.number ≡ u32_end → ⊥
-not_spent writer no_work no_asked idle is = by (writer.number == u32_end) refl (sym (free_writer writer no_work no_asked) ∙ idle)
+not_spent writer no_work no_asked idle fact = by (writer.number == u32_end) refl (sym (free_writer writer no_work no_asked) ∙ idle)
   where
     same : (x : ℕ) → (x == u32_end) ≡ false → x ≡ u32_end → ⊥
     same x h = grind (arith, nat_tests)
 
     by : (t : Bool) → (writer.number == u32_end) ≡ t → not t ≡ true → ⊥
     by true at on = contrary on
-    by false at on = same writer.number at is
+    by false at on = same writer.number at fact
 
 -- ---- the horizon of a slot
 
@@ -160,8 +160,8 @@ module _ (part : ℕ) (texts : Texts) (questions : Questions) (exists : part < 8
       named = k.named;
       nothing_waits = k.nothing_waits;
       idle = λ _. landed;
-      answered = λ e is. absurd (some_none e (sym is ∙ no_asked));
-      work = λ x is of. let same = some_is w x is in subst (λ y. WorkSeen part texts m (record { log = s.log; given = []; writer = at_work w }) y) same
+      answered = λ e fact. absurd (some_none e (sym fact ∙ no_asked));
+      work = λ x fact of. let same = some_is w x fact in subst (λ y. WorkSeen part texts m (record { log = s.log; given = []; writer = at_work w }) y) same
           (seen (ap (λ (y : WorkState). y.slot) same ∙ of));
     }
 
@@ -172,7 +172,7 @@ module _ (part : ℕ) (texts : Texts) (questions : Questions) (exists : part < 8
 
     cleaned_is : (p : SlotPhase) → now ≡ p → phase_at cleaned_here.slots part ≡ cleaned_phase p
     unfolding cleaned_at
-    cleaned_is p is = changed_here s.slots part cleaned_phase (let e = agrees.eight in omega arith) ∙ ap cleaned_phase is
+    cleaned_is p fact = changed_here s.slots part cleaned_phase (let e = agrees.eight in omega arith) ∙ ap cleaned_phase fact
 
     cleaned_eight : length cleaned_here.slots ≡ 8
     unfolding cleaned_at
@@ -231,7 +231,7 @@ module _ (part : ℕ) (texts : Texts) (questions : Questions) (exists : part < 8
 
       -- or it begins
       module _ (events : List Event) (may : AllMayCome (held_in part texts) nothing_checkpointed events)
-          (is : slot_after events ≡ checkpointed (pages_of a.slot.index) a.parts) where
+          (fact : slot_after events ≡ checkpointed (pages_of a.slot.index) a.parts) where
         abbrev planned : Net
         planned = with_packet n (CheckpointPlanned epoch events (horizon_of a.slot))
 
@@ -254,9 +254,9 @@ module _ (part : ℕ) (texts : Texts) (questions : Questions) (exists : part < 8
           begun = λ none. some_none (slot.cleaned a.slot) (sym there ∙ none);
           may = may;
           segments = [];
-          parts = ap (λ (c : Checkpointed). (plan_of c.pages c.parts).parts) (sym is) ∙ sym
+          parts = ap (λ (c : Checkpointed). (plan_of c.pages c.parts).parts) (sym fact) ∙ sym
               (append-nil (plan_of (slot_after events).pages (slot_after events).parts).parts);
-          rows = ap (λ (c : Checkpointed). rows_of (plan_of c.pages c.parts).pages) (sym is);
+          rows = ap (λ (c : Checkpointed). rows_of (plan_of c.pages c.parts).pages) (sym fact);
           flies = λ f flies. absurd (some_none f (sym flies ∙ landed));
         }
 
@@ -269,7 +269,7 @@ module _ (part : ℕ) (texts : Texts) (questions : Questions) (exists : part < 8
               there = there;
               nine = k.nine;
               short = k.short;
-              pages = Written events asked_work [] refl refl refl work tt (cleaned_pages a.slot.index ∙ ap (λ (c : Checkpointed). cleaned c.pages) (sym is));
+              pages = Written events asked_work [] refl refl refl work tt (cleaned_pages a.slot.index ∙ ap (λ (c : Checkpointed). cleaned c.pages) (sym fact));
             });
             writer = writer_begun later (writer_on part texts n later grows (desk_of s agrees.given) agrees.writer) asked_work
                 (λ _. record { events = events; as_planned = work });
@@ -283,7 +283,7 @@ module _ (part : ℕ) (texts : Texts) (questions : Questions) (exists : part < 8
             (node.said_by cleaned_here (go_on (record s.writer { number = s.writer.number + 1 }) asked_work))
         begins_covered = begins_on n s virtual asked_work now refl landed refl (record {
           next = later;
-          runs = On (On Begun (Plans epoch a.slot events (horizon_of a.slot) k.there (ap (λ (c : Checkpointed). c.pages) is) may
+          runs = On (On Begun (Plans epoch a.slot events (horizon_of a.slot) k.there (ap (λ (c : Checkpointed). c.pages) fact) may
               (horizon_next a.slot k.short))) (Cleans epoch a.slot k.there);
           grows = grows;
           slots = λ d other _. put_there n.slots epoch (Some (slot.cleaned a.slot)) d (λ same. other (subst (λ p. HeldAt p d) (sym is_now) (sym same)));
@@ -308,8 +308,8 @@ module _ (part : ℕ) (texts : Texts) (questions : Questions) (exists : part < 8
         where
           by : is_idle s.writer ≡ true → Paged part texts n (desk_of s agrees.given) epoch (pages_of a.slot.index) a.parts
               → Serves part texts questions exists brought n s (node.said_by cleaned_here (go_on (record s.writer { number = s.writer.number + 1 }) asked_work))
-          by idle (Covered events may is never) = begins_covered events may is
-          by idle (Written events w rows it of at work_ fits is) = absurd (some_none w (sym it ∙ no_work))
+          by idle (Covered events may fact never) = begins_covered events may fact
+          by idle (Written events w rows it of at work_ fits fact) = absurd (some_none w (sym it ∙ no_work))
           by idle (Ended number none) = absurd (not_spent s.writer no_work no_asked idle number)
 
           refused : is_idle s.writer ≡ false → Serves part texts questions exists brought n s (node.said_by cleaned_here (still s.writer))
@@ -317,8 +317,8 @@ module _ (part : ℕ) (texts : Texts) (questions : Questions) (exists : part < 8
 
     -- a slot that isn't managed
     begins_nothing : (p : SlotPhase) → now ≡ p → cleaned_phase p ≡ p → Serves part texts questions exists brought n s (still cleaned_here)
-    begins_nothing p is same =
-        let at : phase_at cleaned_here.slots part ≡ now = cleaned_is p is ∙ same ∙ sym is in
+    begins_nothing p fact same =
+        let at : phase_at cleaned_here.slots part ≡ now = cleaned_is p fact ∙ same ∙ sym fact in
         sees_quiet part texts questions brought n now (phase_at cleaned_here.slots part) [] (λ m. ServingAgrees part texts m cleaned_here)
         (λ e h. inl (subst (λ q. HeldAt q e) at h)) (λ _ e h. managed_as now (phase_at cleaned_here.slots part) at e h)
         (let e = ap epoch_of at in omega arith) tt
@@ -333,10 +333,10 @@ module _ (part : ℕ) (texts : Texts) (questions : Questions) (exists : part < 8
 
     begins_here : (p : SlotPhase) → now ≡ p → Serves part texts questions exists brought n s (node.writes_slot cleaned_here (begin_in part p))
     unfolding cleaned_phase
-    begins_here (phase.Active a) is = begins_active a is (subst (PhaseAgrees part texts n (desk_of s agrees.given)) is agrees.here)
-    begins_here (phase.Away epoch_) is = begins_nothing (phase.Away epoch_) is refl
-    begins_here (phase.Taking t) is = begins_nothing (phase.Taking t) is refl
-    begins_here (phase.Broken epoch_ seg) is = begins_nothing (phase.Broken epoch_ seg) is refl
+    begins_here (phase.Active a) fact = begins_active a fact (subst (PhaseAgrees part texts n (desk_of s agrees.given)) fact agrees.here)
+    begins_here (phase.Away epoch_) fact = begins_nothing (phase.Away epoch_) fact refl
+    begins_here (phase.Taking t) fact = begins_nothing (phase.Taking t) fact refl
+    begins_here (phase.Broken epoch_ seg) fact = begins_nothing (phase.Broken epoch_ seg) fact refl
 
     -- ---- another slot
 
@@ -372,9 +372,9 @@ module _ (part : ℕ) (texts : Texts) (questions : Questions) (exists : part < 8
 
         pages_there : (e : ℕ) (pages : PagesState) (parts : List SegRef) → Paged part texts n (desk_of s agrees.given) e pages parts
             → Paged part texts n (desk_of virtual_there []) e pages parts
-        pages_there e pages parts (Covered events may is never) = Covered events may is
+        pages_there e pages parts (Covered events may fact never) = Covered events may fact
             (λ x it ours at. other (sym of ∙ ap (λ (y : WorkState). y.slot) (some_is w x it) ∙ ours))
-        pages_there e pages parts (Written events x rows it ours at work_ fits is) = absurd (some_none x (sym it ∙ no_work))
+        pages_there e pages parts (Written events x rows it ours at work_ fits fact) = absurd (some_none x (sym it ∙ no_work))
         pages_there e pages parts (Ended number none) = absurd (not_spent s.writer no_work no_asked idle number)
 
         phase_there : (p : SlotPhase) → PhaseAgrees part texts n (desk_of s agrees.given) p → PhaseAgrees part texts n (desk_of virtual_there []) p

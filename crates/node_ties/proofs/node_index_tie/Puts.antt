@@ -51,14 +51,14 @@ module _ (part : ℕ) (texts : Texts) where
   pub paged_put : (n : Net) (desk : Desk) (epoch : ℕ) (pages : PagesState) (parts : List SegRef) (rows : Rows) → RowsFit rows
       → Paged part texts n desk epoch pages parts
       → Paged part texts n desk epoch (put_all pages rows) parts
-  paged_put n desk epoch pages parts rows fit (Covered events may is none) =
+  paged_put n desk epoch pages parts rows fit (Covered events may fact none) =
       Covered (events ++ merges rows) (may_both (held_in part texts) nothing_checkpointed events (merges rows) may
       (may_merges (held_in part texts) (slot_after events) rows fit))
       (after_both nothing_checkpointed events (merges rows) ∙ after_merges (slot_after events) rows ∙ ap
-      (λ (k : Checkpointed). checkpointed (put_all k.pages rows) k.parts) is) none
-  paged_put n desk epoch pages parts rows fit (Written events w before there of at work fits is) =
+      (λ (k : Checkpointed). checkpointed (put_all k.pages rows) k.parts) fact) none
+  paged_put n desk epoch pages parts rows fit (Written events w before there of at work fits fact) =
       Written events w (before ++ rows) there of at work (all_both (λ row. row.0.blk < 2 ^ 32) before rows fits fit)
-      (ap (λ (p : PagesState). put_all p rows) is ∙ sym (put_all-append (cleaned (slot_after events).pages) before rows))
+      (ap (λ (p : PagesState). put_all p rows) fact ∙ sym (put_all-append (cleaned (slot_after events).pages) before rows))
   paged_put n desk epoch pages parts rows fit (Ended number none) = Ended number none
 
   -- a slot that a takeover hands out, before its first checkpoint
@@ -85,9 +85,9 @@ module _ (part : ℕ) (texts : Texts) where
 
   pub paged_on : (n m : Net) (g : Grows n m) (desk : Desk) (epoch : ℕ) (pages : PagesState) (parts : List SegRef) → Paged part texts n desk epoch pages parts
       → Paged part texts m desk epoch pages parts
-  paged_on n m g desk epoch pages parts (Covered events may is none) = Covered events may is none
-  paged_on n m g desk epoch pages parts (Written events w rows there of at work fits is) = Written events w rows there of at
-      (work_on n m g desk events w work) fits is
+  paged_on n m g desk epoch pages parts (Covered events may fact none) = Covered events may fact none
+  paged_on n m g desk epoch pages parts (Written events w rows there of at work fits fact) = Written events w rows there of at
+      (work_on n m g desk events w work) fits fact
   paged_on n m g desk epoch pages parts (Ended number none) = Ended number none
 
   pub seen_on : (n m : Net) (g : Grows n m) (desk : Desk) (w : WorkState) → WorkSeen part texts n desk w → WorkSeen part texts m desk w

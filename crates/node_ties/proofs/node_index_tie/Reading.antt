@@ -122,5 +122,5 @@ pub end_from_is : (P : End → Type 0) (node : NodeId) (reports : List Heard) �
     → P (end_from node reports)
 end_from_is P node [] none some = none
 end_from_is P node (r ∷ rs) none some =
-    by_test P (same_node r.from node) r.end (end_from node rs) (λ is. some r (inl refl) (same_node_is r.from node is))
+    by_test P (same_node r.from node) r.end (end_from node rs) (λ fact. some r (inl refl) (same_node_is r.from node fact))
     (λ _. end_from_is P node rs none (λ x there. some x (inr there)))

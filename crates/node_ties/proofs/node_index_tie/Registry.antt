@@ -112,11 +112,11 @@ module _ (part : ℕ) (below : part < 8) (b : BoardState) (eight : length b.chec
     put_in = slice_set b.checkpoints m.slot (record { parts = m.parts; horizon = m.horizon })
 
     covers_some : (o : Option Checkpoint) → covers o m.horizon ≡ true → no_lower (horizon_in o) m.horizon ≡ true
-    covers_some None is = contrary is
-    covers_some (Some c) is = is
+    covers_some None fact = contrary fact
+    covers_some (Some c) fact = fact
 
     kept_here : m.slot ≡ part → is_kept b m.slot m.epoch m.horizon ≡ true → KeptOne part b (checkpointed b m.slot m.parts m.horizon) what
-    kept_here same is =
+    kept_here same fact =
         let at : Checkpoint = record { parts = []; horizon = [] } in
         let within : part < length b.checkpoints = omega arith in
         let here : get_or put_in part at ≡ record { parts = m.parts; horizon = m.horizon } = ap
@@ -128,9 +128,9 @@ module _ (part : ℕ) (below : part < 8) (b : BoardState) (eight : length b.chec
           comes = comes;
           slot = same;
           epoch = subst (λ k. epoch_in b k ≡ m.epoch) same (eqb-true (entry_of b.entries m.slot).epoch m.epoch
-              (and_first ((entry_of b.entries m.slot).epoch == m.epoch) (covers_kept b.checkpoints m.slot m.horizon) is));
+              (and_first ((entry_of b.entries m.slot).epoch == m.epoch) (covers_kept b.checkpoints m.slot m.horizon) fact));
           covers = covers_some (slice_get b.checkpoints part) (subst (λ k. covers_kept b.checkpoints k m.horizon ≡ true) same
-              (and_second ((entry_of b.entries m.slot).epoch == m.epoch) (covers_kept b.checkpoints m.slot m.horizon) is));
+              (and_second ((entry_of b.entries m.slot).epoch == m.epoch) (covers_kept b.checkpoints m.slot m.horizon) fact));
           next_horizon = horizon_is put_in part ∙ ap (λ (c : Checkpoint). c.horizon) here;
           next_parts = parts_is put_in part ∙ ap (λ (c : Checkpoint). c.parts) here;
           same_epoch = refl;
@@ -151,7 +151,7 @@ module _ (part : ℕ) (below : part < 8) (b : BoardState) (eight : length b.chec
 
     keep_goes : is_kept b m.slot m.epoch m.horizon ≡ true → Went part b (keep b m.slot m.epoch m.parts m.horizon).state what
     unfolding keep
-    keep_goes is =
+    keep_goes fact =
         by_test (λ (made : Made). Went part b made.state what) (b.version == 4294967295) (still b)
         (record { state = checkpointed b m.slot m.parts m.horizon; outs = Kept m.epoch ∷ [] })
         (λ _. stays what b refl)
@@ -163,7 +163,7 @@ module _ (part : ℕ) (below : part < 8) (b : BoardState) (eight : length b.chec
       where
         by_slot : (t : Bool) → (m.slot == part) ≡ t
             → Kept_so part b (checkpointed b m.slot m.parts m.horizon) ⊎ KeptOne part b (checkpointed b m.slot m.parts m.horizon) what
-        by_slot true same = inr (kept_here (eqb-true m.slot part same) is)
+        by_slot true same = inr (kept_here (eqb-true m.slot part same) fact)
         by_slot false other = inl (kept_there (apart m.slot part other))
 
     done_goes : Went part b (done b m.slot m.epoch m.parts m.horizon).state what
@@ -174,7 +174,7 @@ module _ (part : ℕ) (below : part < 8) (b : BoardState) (eight : length b.chec
         (record { state = b; outs = Kept (entry_of b.entries m.slot).epoch ∷ [] }))
         (λ _. stays what b refl)
         (λ _. by_test (λ (made : Made). Went part b made.state what) (is_kept b m.slot m.epoch m.horizon) (keep b m.slot m.epoch m.parts m.horizon)
-        (record { state = b; outs = Kept (entry_of b.entries m.slot).epoch ∷ [] }) (λ is. keep_goes is)
+        (record { state = b; outs = Kept (entry_of b.entries m.slot).epoch ∷ [] }) (λ fact. keep_goes fact)
         (λ _. stays what b refl))
 
 -- ---- the node
@@ -242,8 +242,8 @@ each_place P h (suc (suc (suc (suc (suc (suc (suc (suc (suc k))))))))) low = abs
 
 -- none of its numbers is lower
 rises_by : (kept horizon : List ℕ) → no_lower kept horizon ≡ true → (l : ℕ) → 0 < l → l ≤ 9 → of_log kept l ≤ of_log horizon l
-rises_by kept horizon is l some limit =
-    let all : none_lower kept horizon ≡ true = and_second (length horizon == 9) (none_lower kept horizon) is in
+rises_by kept horizon fact l some limit =
+    let all : none_lower kept horizon ≡ true = and_second (length horizon == 9) (none_lower kept horizon) fact in
     let one = each_place (λ place. nat_le (slice_index kept place) (slice_index horizon place)) all (l - 1) (omega arith) in
     let a = of_log_at kept l some limit in
     let b = of_log_at horizon l some limit in
@@ -263,12 +263,12 @@ module _ (part : ℕ) (below : part < 8) (texts : Texts) (n : Net) (r : Registry
   told m k news there of = by all_slots there
     where
       by : (slots : List ℕ) → Among news (map (slot_news later.board) slots) → NewsTold part m news
-      by [] is = absurd is
-      by (x ∷ xs) (inl is) =
-          let ours : x ≡ part = sym (ap (λ (s : SlotNews). s.slot) is) ∙ of in
-          subst (NewsTold part m) (sym (is ∙ ap (slot_news later.board) ours))
+      by [] fact = absurd fact
+      by (x ∷ xs) (inl fact) =
+          let ours : x ≡ part = sym (ap (λ (s : SlotNews). s.slot) fact) ∙ of in
+          subst (NewsTold part m) (sym (fact ∙ ap (slot_news later.board) ours))
           (record { epoch = k.epoch; horizon = k.horizon; parts = k.parts; horizon_fits = subst IsHorizon (sym k.horizon) k.horizon_fits })
-      by (x ∷ xs) (inr is) = by xs is
+      by (x ∷ xs) (inr fact) = by xs fact
 
   -- nothing that is kept of the slot has changed
   same_goes : length later.board.checkpoints ≡ 8 → Kept_so part r.board later.board → epoch_in later.board part ≡ epoch_in r.board part
@@ -419,15 +419,15 @@ one_at (suc (suc (suc (suc (suc (suc (suc (suc (suc k))))))))) h = absurd (omega
 
 -- what holds of the first checkpoint holds of that of each slot
 eight_at : (P : Option Checkpoint → Type 0) → P (Some first_checkpoint) → (k : ℕ) → k < 8 → P (slice_get (map (λ _. first_checkpoint) all_slots) k)
-eight_at P is zero low = is
-eight_at P is (suc zero) low = is
-eight_at P is (suc (suc zero)) low = is
-eight_at P is (suc (suc (suc zero))) low = is
-eight_at P is (suc (suc (suc (suc zero)))) low = is
-eight_at P is (suc (suc (suc (suc (suc zero))))) low = is
-eight_at P is (suc (suc (suc (suc (suc (suc zero)))))) low = is
-eight_at P is (suc (suc (suc (suc (suc (suc (suc zero))))))) low = is
-eight_at P is (suc (suc (suc (suc (suc (suc (suc (suc k)))))))) low = absurd (omega arith)
+eight_at P fact zero low = fact
+eight_at P fact (suc zero) low = fact
+eight_at P fact (suc (suc zero)) low = fact
+eight_at P fact (suc (suc (suc zero))) low = fact
+eight_at P fact (suc (suc (suc (suc zero)))) low = fact
+eight_at P fact (suc (suc (suc (suc (suc zero))))) low = fact
+eight_at P fact (suc (suc (suc (suc (suc (suc zero)))))) low = fact
+eight_at P fact (suc (suc (suc (suc (suc (suc (suc zero))))))) low = fact
+eight_at P fact (suc (suc (suc (suc (suc (suc (suc (suc k)))))))) low = absurd (omega arith)
 
 first_horizon : IsHorizon (1 ∷ 1 ∷ 1 ∷ 1 ∷ 1 ∷ 1 ∷ 1 ∷ 1 ∷ 1 ∷ [])
 first_horizon = record {

@@ -76,8 +76,8 @@ module _ (part : ℕ) (texts : Texts) (questions : Questions) (exists : part < 8
     where
       by_item : (o : Option ℕ) → s.lasting.items.unanswered ≡ o
           → Of n s (cond (is_some o) (gives s (Answers number answer.Busy ∷ [])) (node.next_slot (node.waits s number)))
-      by_item None is =
-          let idle = agrees.closed is in
+      by_item None fact =
+          let idle = agrees.closed fact in
           next_serves n (node.waits s number) (λ none. absurd (some_none number none)) idle.0 idle.1
           (record {
             eight = agrees.eight;
@@ -87,7 +87,7 @@ module _ (part : ℕ) (texts : Texts) (questions : Questions) (exists : part < 8
             closed = λ none. absurd (some_none number none);
             done = tt;
           })
-      by_item (Some x) is = serves_same part texts questions exists brought n s (Answers number answer.Busy ∷ []) agrees (tt, tt)
+      by_item (Some x) fact = serves_same part texts questions exists brought n s (Answers number answer.Busy ∷ []) agrees (tt, tt)
 
   -- ---- the registry answers a checkpoint
 
@@ -114,9 +114,9 @@ module _ (part : ℕ) (texts : Texts) (questions : Questions) (exists : part < 8
 
     turned : Turn part texts n (desk_of s agrees.given) (record { log = s.log; given = agrees.given; writer = answered_writer })
     turned = record {
-      forth = λ w is. absurd (some_none w (sym is ∙ no_work));
-      back = λ w is. record { before = w; was = is; slot = refl; epoch = refl };
-      none = λ is. is;
+      forth = λ w fact. absurd (some_none w (sym fact ∙ no_work));
+      back = λ w fact. record { before = w; was = fact; slot = refl; epoch = refl };
+      none = λ fact. fact;
       number = refl;
     }
 
@@ -134,8 +134,8 @@ module _ (part : ℕ) (texts : Texts) (questions : Questions) (exists : part < 8
         named = agrees.writer.named;
         nothing_waits = agrees.writer.nothing_waits;
         idle = agrees.writer.idle;
-        answered = λ e is. no_work;
-        work = λ w is of. absurd (some_none w (sym is ∙ no_work));
+        answered = λ e fact. no_work;
+        work = λ w fact of. absurd (some_none w (sym fact ∙ no_work));
       };
       closed = λ none. absurd (is_open none);
       done = counted_done n s.checkpoint x agrees.done;
@@ -151,11 +151,11 @@ module _ (part : ℕ) (texts : Texts) (questions : Questions) (exists : part < 8
       (λ _. by_asked s.writer.asked refl) (λ _. still_of n s agrees)
     where
       by_asked : (o : Option ℕ) → s.writer.asked ≡ o → Of n s (node.answered_by s (writer.acked s.writer o ack.epoch s.dones))
-      by_asked None is = still_of n s agrees
-      by_asked (Some own) is =
+      by_asked None fact = still_of n s agrees
+      by_asked (Some own) fact =
           by_test (λ (r : Stepped WriterState Out). Of n s (node.answered_by s r)) (not (s.dones == s.writer.number) || nat_lt ack.epoch own) (still s.writer)
           (record { state = record s.writer { asked = None }; outs = writer.answer own ack.epoch ∷ [] }) (λ _. still_of n s agrees)
-          (λ _. answered_next n s agrees own is (writer.answer own ack.epoch))
+          (λ _. answered_next n s agrees own fact (writer.answer own ack.epoch))
 
   -- ---- time, for what awaits the registry's answer
 

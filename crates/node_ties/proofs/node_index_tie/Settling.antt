@@ -52,9 +52,9 @@ module _ (part : ℕ) (texts : Texts) (questions : Questions) (exists : part < 8
       let desk = desk_of s agrees.given in
       let later : Desk = record { log = r.state; given = agrees.given; writer = s.writer } in
       let turn : Turn part texts n desk later = record {
-        forth = λ w is. record {
+        forth = λ w fact. record {
           on = w;
-          writes = is;
+          writes = fact;
           slot = refl;
           epoch = refl;
           work = λ events of k. record {
@@ -67,8 +67,8 @@ module _ (part : ℕ) (texts : Texts) (questions : Questions) (exists : part < 8
             flies = λ f there. let b = g.flight f there in b.items ∙ k.flies b.old b.was;
           };
         };
-        back = λ w is. record { before = w; was = is; slot = refl; epoch = refl };
-        none = λ is. is;
+        back = λ w fact. record { before = w; was = fact; slot = refl; epoch = refl };
+        none = λ fact. fact;
         number = refl;
       } in
       sends_each n (record s { log = r.state }) r.outs g.sends (record {
@@ -88,8 +88,8 @@ module _ (part : ℕ) (texts : Texts) (questions : Questions) (exists : part < 8
       })
     where
       none_flies : s.log.flight ≡ None → (o : Option FlightState) → r.state.flight ≡ o → r.state.flight ≡ None
-      none_flies none None is = is
-      none_flies none (Some f) is = let b = g.flight f is in absurd (some_none b.old (sym b.was ∙ none))
+      none_flies none None fact = fact
+      none_flies none (Some f) fact = let b = g.flight f fact in absurd (some_none b.old (sym b.was ∙ none))
 
   -- ---- a segment is settled
 
@@ -135,14 +135,14 @@ module _ (part : ℕ) (texts : Texts) (questions : Questions) (exists : part < 8
             rows = ap (λ r. r ++ rows_of w.left) (rows_in-append (held_in part texts) k.segments (part_ref ∷ []) ∙ ap (λ r. all ++ r)
                 (append-nil (held_in part texts part_ref) ∙ holds (k.flies old was)))
                 ∙ append_assoc all (rows_of agrees.given) (rows_of w.left) ∙ k.rows;
-            flies = λ f is. absurd (some_none f (sym is ∙ landed));
+            flies = λ f fact. absurd (some_none f (sym fact ∙ landed));
           }
 
       turn : Turn part texts n desk later
       turn = record {
-        forth = λ x is. subst (Forth part texts n desk later) (some_is w x (sym there ∙ is))
+        forth = λ x fact. subst (Forth part texts n desk later) (some_is w x (sym there ∙ fact))
             (record { on = next_work; writes = refl; slot = refl; epoch = refl; work = laid });
-        back = λ x is. let same = some_is next_work x is in record {
+        back = λ x fact. let same = some_is next_work x fact in record {
           before = w;
           was = there;
           slot = ap (λ (y : WorkState). y.slot) same;
@@ -160,10 +160,10 @@ module _ (part : ℕ) (texts : Texts) (questions : Questions) (exists : part < 8
         here = phase_turn part texts n desk later turn (phase_at s.slots part) agrees.here;
         writer = record {
           same_log = same_log ∙ agrees.writer.same_log;
-          named = λ f is. absurd (some_none f (sym is ∙ landed));
+          named = λ f fact. absurd (some_none f (sym fact ∙ landed));
           nothing_waits = dirty ∙ agrees.writer.nothing_waits;
           idle = λ _. landed;
-          answered = λ e is. absurd (some_none w (sym there ∙ agrees.writer.answered e is));
+          answered = λ e fact. absurd (some_none w (sym there ∙ agrees.writer.answered e fact));
           work = seen_turn part texts n desk later turn agrees.writer.work;
         };
         closed = λ none. absurd (some_none w (sym there ∙ (agrees.closed none).0));

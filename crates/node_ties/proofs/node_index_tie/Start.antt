@@ -60,7 +60,7 @@ module _ (part : ℕ) (texts : Texts) (any : ℕ → ℕ → Segment) where
     there = refl;
     nine = refl;
     short = λ l some limit. let none = none_applied (l - 1) in omega arith;
-    pages = Covered [] tt refl (λ w is of at. some_none w (sym is ∙ idle));
+    pages = Covered [] tt refl (λ w fact of at. some_none w (sym fact ∙ idle));
   }
 
   pub first_agrees : (number : ℕ) (setup : Setup) (works : List Work) → part < 8
@@ -72,7 +72,7 @@ module _ (part : ℕ) (texts : Texts) (any : ℕ → ℕ → Segment) where
             (subst (PhaseAgrees part texts (opening any) _) (sym (first_at f part exists))
             (by_test (PhaseAgrees part texts (opening any) _) ((entry_at (start_entries setup.managers) (slot_of part)).manager == number) first_active
             (phase.Away 1) (λ _. first_is _ refl) (λ _. tt))),
-        λ f_ is. absurd (some_none f_ (sym is)),
+        λ f_ fact. absurd (some_none f_ (sym fact)),
       )
 
 pub first_manager_agrees : FirstManagerAgrees

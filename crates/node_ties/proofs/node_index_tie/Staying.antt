@@ -90,7 +90,7 @@ module _ (part : ℕ) (texts : Texts) (n m : Net) (held : SlotPhase) (t : Passes
         };
         whole = k.whole;
         present = k.present;
-        reports = λ r is. report_stays epoch here free r.from r.end (k.reports r is);
+        reports = λ r fact. report_stays epoch here free r.from r.end (k.reports r fact);
         once = k.once;
         ready = k.ready;
       }
@@ -108,9 +108,9 @@ module _ (part : ℕ) (texts : Texts) (n m : Net) (held : SlotPhase) (t : Passes
 
   pages_stay : (desk : Desk) (epoch : ℕ) (pages : PagesState) (parts : List SegRef) → Paged part texts n desk epoch pages parts
       → Paged part texts m desk epoch pages parts
-  pages_stay desk epoch pages parts (Covered events may is none) = Covered events may is none
-  pages_stay desk epoch pages parts (Written events w rows there of at work fits is) = Written events w rows there of at (work_stays desk events w work) fits
-      is
+  pages_stay desk epoch pages parts (Covered events may fact none) = Covered events may fact none
+  pages_stay desk epoch pages parts (Written events w rows there of at work fits fact) = Written events w rows there of at (work_stays desk events w work) fits
+      fact
   pages_stay desk epoch pages parts (Ended number none) = Ended number none
 
   phase_stays : (desk : Desk) (p : SlotPhase) → ((e : ℕ) → HeldAt p e → HeldAt held e) → PhaseAgrees part texts n desk p → PhaseAgrees part texts m desk p

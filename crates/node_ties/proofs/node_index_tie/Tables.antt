@@ -53,9 +53,9 @@ pub set_there : (t : Table) (k m : ℕ) (q : SlotPhase) → (m ≡ k → ⊥) �
 set_there t k m q other = as_read (slice_set t k q) m ∙ get_or-set_other t k m q (phase.Away 0) other ∙ sym (as_read t m)
 
 pub past : (t : Table) (k : ℕ) → slice_get t k ≡ None → length t ≤ k
-past [] k is = omega arith
-past (x ∷ xs) zero is = absurd (some_none x is)
-past (x ∷ xs) (suc k) is = let rest = past xs k is in omega arith
+past [] k fact = omega arith
+past (x ∷ xs) zero fact = absurd (some_none x fact)
+past (x ∷ xs) (suc k) fact = let rest = past xs k fact in omega arith
 
 -- what holds of a table whose slot took the event holds of what the event makes of the table
 pub by_slot : (P : Table → List Effect → Type 0) (t : Table) (k : ℕ) (event : SlotPhase → Stepped SlotPhase Effect) → (length t ≤ k → P t [])
@@ -64,9 +64,9 @@ pub by_slot : (P : Table → List Effect → Type 0) (t : Table) (k : ℕ) (even
 by_slot P t k event none some = by (slice_get t k) refl
   where
     by : (o : Option SlotPhase) → slice_get t k ≡ o → P (table.in_slot t k event o).state (table.in_slot t k event o).outs
-    by None is = none (past t k is)
-    by (Some p) is = let same : phase_at t k ≡ p = ap (λ o. unwrap_or o (phase.Away 0)) is in subst (λ x. P (slice_set t k (event x).state) (event x).outs)
-        same (some (slice_get_within t k p is))
+    by None fact = none (past t k fact)
+    by (Some p) fact = let same : phase_at t k ≡ p = ap (λ o. unwrap_or o (phase.Away 0)) fact in subst (λ x. P (slice_set t k (event x).state) (event x).outs)
+        same (some (slice_get_within t k p fact))
 
 abbrev pub as_slot : Numbers → (Asker → Stepped Asker Effect) → SlotPhase → Stepped SlotPhase Effect
 as_slot q event p = record { state = (event (asker p q)).state.phase; outs = (event (asker p q)).outs }
@@ -86,11 +86,11 @@ pub by_part : (k part : ℕ) (P : Type 0) → (k ≡ part → P) → ((k ≡ par
 by_part k part P f g = by (k == part) refl
   where
     apart : (k == part) ≡ false → k ≡ part → ⊥
-    apart is = grind (arith, nat_tests)
+    apart fact = grind (arith, nat_tests)
 
     by : (b : Bool) → (k == part) ≡ b → P
-    by true is = f (eqb-true k part is)
-    by false is = g (apart is)
+    by true fact = f (eqb-true k part fact)
+    by false fact = g (apart fact)
 
 module _ (part : ℕ) (texts : Texts) (asked : Questions) (exists : part < 8) (brought : Brought) (desk : Desk) where
   -- how a table is seen
@@ -251,7 +251,7 @@ module _ (part : ℕ) (texts : Texts) (asked : Questions) (exists : part < 8) (b
 
   -- newer groups bring nothing
   regroup_owes : (n : Net) (p : SlotPhase) (groups : GroupMapState) → OwesAt part texts n p (input.Maps groups)
-  regroup_owes n (phase.Taking t) groups = record { brings = λ r is. absurd is; reads = λ s is. absurd (let clash : None ≡ Some s = is in cc) }
+  regroup_owes n (phase.Taking t) groups = record { brings = λ r fact. absurd fact; reads = λ s fact. absurd (let clash : None ≡ Some s = fact in cc) }
   regroup_owes n (phase.Active a) groups = tt
   regroup_owes n (phase.Away epoch) groups = tt
   regroup_owes n (phase.Broken epoch seg) groups = tt
@@ -362,8 +362,8 @@ module _ (part : ℕ) (texts : Texts) (asked : Questions) (exists : part < 8) (b
       let d = table.hears h a news in
       let one = table_hears j n h a news is_j agrees (known news (inl refl)) (named_ news (inl refl)) in
       let up = one.rises in
-      let more = table_hears_all j n h d.state slots is_j one.agrees (λ x is same ours above. known x (inr is) same ours (omega arith))
-      (λ x is. named_ x (inr is)) in
+      let more = table_hears_all j n h d.state slots is_j one.agrees (λ x fact same ours above. known x (inr fact) same ours (omega arith))
+      (λ x fact. named_ x (inr fact)) in
       record {
         agrees = more.agrees;
         held = λ e at. ⊎_elim (λ x. one.held e x) (λ x. inr x) (more.held e at);

@@ -28,11 +28,11 @@ pub changed_here : (t : Table) (k : ℕ) (change : SlotPhase → SlotPhase) → 
 changed_here t k change within = by (slice_get t k) refl
   where
     by : (o : Option SlotPhase) → slice_get t k ≡ o → phase_at (changed_in t k change o) k ≡ change (phase_at t k)
-    by None is = absurd (here within is)
+    by None fact = absurd (here within fact)
       where
         here : k < length t → slice_get t k ≡ None → ⊥
         here within none = let p = past t k none in absurd (omega arith)
-    by (Some p) is = set_here t k (change p) within ∙ ap change (sym (ap (λ o. unwrap_or o (phase.Away 0)) is))
+    by (Some p) fact = set_here t k (change p) within ∙ ap change (sym (ap (λ o. unwrap_or o (phase.Away 0)) fact))
 
 pub changed_there : (t : Table) (k m : ℕ) (change : SlotPhase → SlotPhase) → (m ≡ k → ⊥) → phase_at (changed_in t k change (slice_get t k)) m ≡ phase_at t m
 changed_there t k m change other = by (slice_get t k)
@@ -75,11 +75,11 @@ module _ (part : ℕ) (texts : Texts) (n : Net) (desk later : Desk) where
   module _ (t : Turn) where
     pub paged_turn : (epoch : ℕ) (pages : PagesState) (parts : List SegRef) → Paged part texts n desk epoch pages parts
         → Paged part texts n later epoch pages parts
-    paged_turn epoch pages parts (Covered events may is none) = Covered events may is
+    paged_turn epoch pages parts (Covered events may fact none) = Covered events may fact
         (λ w there of at. let b = t.back w there in none b.before b.was (b.slot ∙ of) (b.epoch ∙ at))
-    paged_turn epoch pages parts (Written events w rows there of at work fits is) =
+    paged_turn epoch pages parts (Written events w rows there of at work fits fact) =
         let f = t.forth w there in
-        Written events f.on rows f.writes (f.slot ∙ of) (f.epoch ∙ at) (f.work events of work) fits is
+        Written events f.on rows f.writes (f.slot ∙ of) (f.epoch ∙ at) (f.work events of work) fits fact
     paged_turn epoch pages parts (Ended number none) = Ended (t.number ∙ number) (t.none none)
 
     pub seen_turn : ((w : WorkState) → desk.writer.work ≡ Some w → w.slot ≡ part → WorkSeen part texts n desk w) → (w : WorkState)

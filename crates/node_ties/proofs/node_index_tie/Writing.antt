@@ -62,9 +62,9 @@ split left = sym (rows_of-append (take 24 left) (drop 24 left)) ∙ ap rows_of (
 -- where nothing is given out and nothing is left, the settled segments hold all
 laid_of : (holds : SegRef → Rows) (segments : List SegRef) (given left : List Rows) (all : Rows) → given ≡ [] → left ≡ []
     → rows_in holds segments ++ (rows_of given ++ rows_of left) ≡ all → rows_in holds segments ≡ all
-laid_of holds segments given left all none nil is =
+laid_of holds segments given left all none nil fact =
     sym (append-nil (rows_in holds segments)) ∙ sym (ap (λ g. rows_in holds segments ++ (rows_of g ++ rows_of [])) none) ∙ sym
-    (ap (λ l. rows_in holds segments ++ (rows_of given ++ rows_of l)) nil) ∙ is
+    (ap (λ l. rows_in holds segments ++ (rows_of given ++ rows_of l)) nil) ∙ fact
 
 module _ (part : ℕ) (texts : Texts) (questions : Questions) (exists : part < 8) (brought : Brought) where
   -- what an event makes of a manager that serves, and of the small world
@@ -114,7 +114,7 @@ module _ (part : ℕ) (texts : Texts) (questions : Questions) (exists : part < 8
       idle_desk = record { log = v.log; given = agrees.given; writer = idle_writer }
 
       no_work : {X : Type 0} (x : WorkState) → idle_writer.work ≡ Some x → X
-      no_work x is = absurd (some_none x (sym is))
+      no_work x fact = absurd (some_none x (sym fact))
 
       writer_idle : (m : Net) → WriterAgrees part texts m idle_desk
       writer_idle m = record {
@@ -123,25 +123,25 @@ module _ (part : ℕ) (texts : Texts) (questions : Questions) (exists : part < 8
         nothing_waits = agrees.writer.nothing_waits;
         idle = λ _. landed;
         answered = λ _ _. refl;
-        work = λ x is. no_work x is;
+        work = λ x fact. no_work x fact;
       }
 
       is_it : (x : WorkState) → v.writer.work ≡ Some x → x ≡ w
-      is_it x is = some_is x w (sym is ∙ there)
+      is_it x fact = some_is x w (sym fact ∙ there)
 
       -- pages of which nothing was written, or which belong to another epoch
       paged_still : (m : Net) (epoch : ℕ) (pages : PagesState) (parts : List SegRef) → (w.slot ≡ part → w.epoch ≡ epoch → ⊥)
           → Paged part texts n desk epoch pages parts → Paged part texts m idle_desk epoch pages parts
-      paged_still m epoch pages parts other (Covered events may is never) = Covered events may is (λ x thing. no_work x thing)
-      paged_still m epoch pages parts other (Written events x rows it of at work fits is) =
+      paged_still m epoch pages parts other (Covered events may fact never) = Covered events may fact (λ x thing. no_work x thing)
+      paged_still m epoch pages parts other (Written events x rows it of at work fits fact) =
           absurd (other (sym (ap (λ (y : WorkState). y.slot) (is_it x it)) ∙ of) (sym (ap (λ (y : WorkState). y.epoch) (is_it x it)) ∙ at))
       paged_still m epoch pages parts other (Ended number over) = absurd (some_none w (sym there ∙ over))
 
       -- pages whose checkpoint this is
       paged_done : (m : Net) (epoch : ℕ) (pages : PagesState) (parts : List SegRef) → w.slot ≡ part → w.epoch ≡ epoch
           → Paged part texts n desk epoch pages parts → Paged part texts m idle_desk epoch pages w.parts
-      paged_done m epoch pages parts ours same (Covered events may is never) = absurd (never w there ours same)
-      paged_done m epoch pages parts ours same (Written events x rows it of at work fits is) =
+      paged_done m epoch pages parts ours same (Covered events may fact never) = absurd (never w there ours same)
+      paged_done m epoch pages parts ours same (Written events x rows it of at work fits fact) =
           let holds = held_in part texts in
           let plan = plan_of (slot_after events).pages (slot_after events).parts in
           let left : x.left ≡ [] = ap (λ (y : WorkState). y.left) (is_it x it) ∙ nil in
@@ -152,7 +152,7 @@ module _ (part : ℕ) (texts : Texts) (questions : Questions) (exists : part < 8
           (laid, may_merges holds (after_event (slot_after events) (Laid work.segments)) rows fits))
           (after_both nothing_checkpointed events (Laid work.segments ∷ merges rows) ∙ after_merges (after_event (slot_after events) (Laid work.segments))
           rows
-          ∙ ap (λ (p : PagesState). checkpointed p (plan.parts ++ work.segments)) (sym is) ∙ ap (checkpointed pages)
+          ∙ ap (λ (p : PagesState). checkpointed p (plan.parts ++ work.segments)) (sym fact) ∙ ap (checkpointed pages)
           (sym work.parts ∙ ap (λ (y : WorkState). y.parts) (is_it x it)))
           (λ y thing. no_work y thing)
         where
@@ -165,12 +165,12 @@ module _ (part : ℕ) (texts : Texts) (questions : Questions) (exists : part < 8
       unfolding named_phase
       named_on m g same ours (phase.Active a) k =
           by_test (PhaseAgrees part texts m idle_desk) (a.slot.epoch == w.epoch) (phase.Active (record a { parts = w.parts })) (phase.Active a)
-          (λ is. record {
+          (λ fact. record {
             there = same a.slot.epoch ∙ k.there;
             nine = k.nine;
             short = k.short;
             pages = paged_done m a.slot.epoch (pages_of a.slot.index)
-                a.parts ours (sym (eqb-true a.slot.epoch w.epoch is)) k.pages;
+                a.parts ours (sym (eqb-true a.slot.epoch w.epoch fact)) k.pages;
           })
           (λ no. record {
             there = same a.slot.epoch ∙ k.there;
@@ -311,7 +311,7 @@ module _ (part : ℕ) (texts : Texts) (questions : Questions) (exists : part < 8
 
     turned : Turn part texts n desk busy_desk
     turned = record {
-      forth = λ x is. subst (Forth part texts n desk busy_desk) (some_is w x (sym there ∙ is)) (record {
+      forth = λ x fact. subst (Forth part texts n desk busy_desk) (some_is w x (sym there ∙ fact)) (record {
         on = next_work;
         writes = refl;
         slot = refl;
@@ -324,10 +324,10 @@ module _ (part : ℕ) (texts : Texts) (questions : Questions) (exists : part < 8
           parts = k.parts;
           rows = ap (λ r. rows_in (held_in part texts) k.segments ++ r) (split w.left) ∙ ap
               (λ g. rows_in (held_in part texts) k.segments ++ (rows_of g ++ rows_of w.left)) (sym none) ∙ k.rows;
-          flies = λ f is. wrote.items_are f is ∙ ap (λ x. items_of x (take 24 w.left)) of;
+          flies = λ f fact. wrote.items_are f fact ∙ ap (λ x. items_of x (take 24 w.left)) of;
         };
       });
-      back = λ x is. let same = some_is next_work x is in record {
+      back = λ x fact. let same = some_is next_work x fact in record {
         before = w;
         was = there;
         slot = ap (λ (y : WorkState). y.slot) same;
@@ -349,10 +349,10 @@ module _ (part : ℕ) (texts : Texts) (questions : Questions) (exists : part < 8
           here = phase_turn part texts n desk busy_desk turned (phase_at v.slots part) agrees.here;
           writer = record {
             same_log = wrote.same_log ∙ agrees.writer.same_log;
-            named = λ f is. wrote.of f is ∙ sym wrote.same_log;
+            named = λ f fact. wrote.of f fact ∙ sym wrote.same_log;
             nothing_waits = wrote.dirty ∙ agrees.writer.nothing_waits;
             idle = λ no. absurd (some_none next_work no);
-            answered = λ e is. absurd (some_none w (sym there ∙ agrees.writer.answered e is));
+            answered = λ e fact. absurd (some_none w (sym there ∙ agrees.writer.answered e fact));
             work = seen_turn part texts n desk busy_desk turned agrees.writer.work;
           };
           closed = λ closed. open_now closed;
@@ -374,6 +374,6 @@ module _ (part : ℕ) (texts : Texts) (questions : Questions) (exists : part < 8
     goes_on =
         by_test (λ (r : Stepped WriterState Out). Serves n v (steps node.says (record v { writer = r.state }) r.outs)) (length w.left == 0)
         (finished v.writer w) (gives v.writer w)
-        (λ is. serves_one node.says n v (record v { writer = (finished v.writer w).state }) (out.Done w.slot w.epoch w.parts w.horizon)
-        (says_done (nil_from_length w.left (eqb-true (length w.left) 0 is))))
+        (λ fact. serves_one node.says n v (record v { writer = (finished v.writer w).state }) (out.Done w.slot w.epoch w.parts w.horizon)
+        (says_done (nil_from_length w.left (eqb-true (length w.left) 0 fact))))
         (λ _. serves_one node.says n v (record v { writer = busy_writer }) (out.Parts pages_out) says_parts)

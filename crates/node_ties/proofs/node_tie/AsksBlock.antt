@@ -65,22 +65,22 @@ module _ (n : Need) (block : BlockId) where
   copy_answered mode m (Some w) req p answers other = at_mode w.mode m p.0 p.1 (and_second _ _ answers) other
     where
       at_mode : (x m : Mode) → n ≡ Some (block, x) → allows mode x ≡ false → same_mode x m ≡ true → is_own m ≡ false → n ≡ Some (block, Copy)
-      at_mode Nothing m is above same other = contrary (sym above)
-      at_mode Copy m is above same other = is
-      at_mode Own Nothing is above same other = contrary same
-      at_mode Own Copy is above same other = contrary same
-      at_mode Own Own is above same other = contrary (sym other)
+      at_mode Nothing m fact above same other = contrary (sym above)
+      at_mode Copy m fact above same other = fact
+      at_mode Own Nothing fact above same other = contrary same
+      at_mode Own Copy fact above same other = contrary same
+      at_mode Own Own fact above same other = contrary (sym other)
 
   module _ (h : Held) (p : Suits n block h) where
     pub asked-suits : (req : ℕ) (mode : Mode) → n ≡ Some (block, mode) → allows h.mode mode ≡ false → Suits n block (asked h req mode)
-    asked-suits req mode is above = record { want = (is, above); fetch = p.fetch }
+    asked-suits req mode fact above = record { want = (fact, above); fetch = p.fetch }
 
     pub asked_again-suits : (w : Wanted) → WantSuits n block h.mode (Some w) → Suits n block (asked_again h w)
     asked_again-suits w q = record { want = q; fetch = p.fetch }
 
     copy_granted-suits : (stamp : Stamp) (ver : ℕ) (place : Option Place) → n ≡ Some (block, Copy) → Suits n block (copy_granted h stamp ver place)
-    copy_granted-suits stamp ver None is = record { want = tt; fetch = tt }
-    copy_granted-suits stamp ver (Some place) is = record { want = tt; fetch = is }
+    copy_granted-suits stamp ver None fact = record { want = tt; fetch = tt }
+    copy_granted-suits stamp ver (Some place) fact = record { want = tt; fetch = fact }
 
     pub grant_needed : (req : ℕ) (mode : Mode) → is_wanted h.want req mode ≡ true → is_own mode ≡ false → n ≡ Some (block, Copy)
     grant_needed req mode answers other = copy_answered h.mode mode h.want req p.want answers other

@@ -6,11 +6,11 @@ use Rattle.client_parts.specs.declared.call.Call.{Call}
 use Rattle.client_parts.specs.declared.call.Going.TheVariants.{On, Ends}
 use Rattle.client_parts.specs.declared.call.Going.{Going}
 use Rattle.client_parts.specs.Fitting.{put_fits}
-use Rattle.client_serving.specs.Blocks.{Made, answers, changed, changes, changes_if_fits, got, gets, held_back, lets_go, makes, needs, put_of, puts, puts_again, puts_at, synced_answer, syncs, waits, wrote}
+use Rattle.client_calls.specs.Blocks.{Made, answers, changed, changes, changes_if_fits, got, gets, held_back, lets_go, makes, needs, put_of, puts, puts_again, puts_at, synced_answer, syncs, waits, wrote}
 use Rattle.client_serving.specs.declared.serving.Serving.{Serving}
 use Rattle.client_serving.specs.Flights.{held_at}
 use Rattle.client_serving.specs.Follow.{hands, notes_gone, seals}
-use Rattle.client_serving.specs.Running.{Ran, answers_call, goes_on, most_steps, runs, runs_call, runs_once, runs_upto}
+use Rattle.client_calls.specs.Running.{Ran, answers_call, goes_on, most_steps, runs, runs_call, runs_once, runs_upto}
 use Rattle.client_serving.specs.Sends.{Done}
 use Rattle.file_plan.specs.declared.block_call.BlockAnswer.{BlockAnswer}
 use Rattle.file_plan.specs.declared.block_call.BlockCall.{BlockCall}
@@ -194,14 +194,14 @@ answers_call-asks s call None a closed busy = asks_for (record s { call = Some c
 answers_call-asks s call (Some answer) a closed busy = goes_on-asks s (after_answer call.plan answer) a closed busy
 
 runs_call-asks : (s : Serving) (c : Option Call) → s.call ≡ c → AsksForCall s → AsksForCall (runs_call s c).done.state
-runs_call-asks s None is p = p
-runs_call-asks s (Some call) is p =
+runs_call-asks s None fact p = p
+runs_call-asks s (Some call) fact p =
     let u : Serving = record s { call = None } in
     let m : Made = makes u call.step in
-    let a : AsksAs (needed_by call.step) s.tokens = subst (λ c. AsksAs (needed c) s.tokens) is (asks_as s p) in
+    let a : AsksAs (needed_by call.step) s.tokens = subst (λ c. AsksAs (needed c) s.tokens) fact (asks_as s p) in
     let k : MadeFor (needed_by call.step) u m = makes-for u call.step a in
     answers_call-asks m.done.state call m.answer k.asks (closed_same m.done.state.call None k.call refl)
-    (λ none. contrary (sym (ap is_none is) ∙ ap is_none (p.waits (sym k.item ∙ none))))
+    (λ none. contrary (sym (ap is_none fact) ∙ ap is_none (p.waits (sym k.item ∙ none))))
 
 runs_once-asks : (s : Serving) → AsksForCall s → AsksForCall (runs_once s).done.state
 unfolding runs_once

@@ -9,11 +9,11 @@ use Rattle.client_parts.specs.declared.call.Going.{Going}
 use Rattle.client_parts.specs.declared.lasting.Lasting.{Lasting}
 use Rattle.client_parts.specs.Lasting.{first_lasting}
 use Rattle.client_serving.specs.declared.serving.Serving.{Serving}
-use Rattle.client_serving.specs.Opens.{begins_call, call_at, opens}
+use Rattle.client_calls.specs.Opens.{begins_call, call_at, opens}
 use Rattle.client_serving.specs.Packets.{on_packet, on_tick}
-use Rattle.client_serving.specs.Running.{goes_on}
+use Rattle.client_calls.specs.Running.{goes_on}
 use Rattle.client_serving.specs.Sends.{Done, gives}
-use Rattle.client_serving.specs.Starting.{returned, first_serving}
+use Rattle.client_node.specs.Serving.{returned, first_serving}
 use Rattle.delta_feed.specs.FeedState.{FeedState}
 use Rattle.group_map.specs.GroupMapState.{GroupMapState}
 use Rattle.group_map.specs.Groups as groups

@@ -89,12 +89,12 @@ module _ (n : Need) where
   -- the tokens take an input, and what they say is done
   pub hands-keeps : (s : Serving) (i : In) → InputSuits n i → Keeps n s (hands s i).state
   unfolding hands
-  hands-keeps s i is a =
+  hands-keeps s i fact a =
       let t : Serving = record s { tokens = (transition s.tokens i).state } in
       let outs : List Out = (transition s.tokens i).outs in
       let u : Serving = ends_reading t in
-      let followed : Keeps n u (follows u outs).state = follows-keeps u outs (transition-quiet n s.tokens a i is) in
-      keeps_through n s t (follows u outs).state (takes-keeps n s i is) (keeps_through n t u (follows u outs).state (ends_reading-keeps t) followed) a
+      let followed : Keeps n u (follows u outs).state = follows-keeps u outs (transition-quiet n s.tokens a i fact) in
+      keeps_through n s t (follows u outs).state (takes-keeps n s i fact) (keeps_through n t u (follows u outs).state (ends_reading-keeps t) followed) a
 
   pub takes_back-keeps : (s : Serving) (block : BlockId) (stamp : Stamp) (keep : Bool) → Keeps n s (takes_back s block stamp keep).state
   unfolding takes_back

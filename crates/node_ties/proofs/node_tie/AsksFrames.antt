@@ -61,7 +61,7 @@ module _ (n : Need) where
 
   -- the tokens take an input
   pub takes-keeps : (s : Serving) (i : In) → InputSuits n i → Keeps n s (record s { tokens = (transition s.tokens i).state })
-  takes-keeps s i is a = record { asks = transition-asks n s.tokens a i is; call = refl; item = refl }
+  takes-keeps s i fact a = record { asks = transition-asks n s.tokens a i fact; call = refl; item = refl }
 
 -- ---- what a client asks for, and what is needed
 
@@ -84,12 +84,12 @@ closed_same (Some call) d same closed = contrary (ap is_none same ∙ ap (λ x. 
 module _ (s : Serving) where
   want_suits : (p : AsksForCall s) (block : BlockId) (mode : Mode) (w : Option Wanted) → (held_at s block).mode ≡ mode → (held_at s block).want ≡ w
       → WantSuits (needed s.call) block mode w
-  want_suits p block mode None held is = tt
-  want_suits p block mode (Some w) held is = (p.wanted block w is, ap (λ m. allows m w.mode) (sym held) ∙ p.above block w is)
+  want_suits p block mode None held fact = tt
+  want_suits p block mode (Some w) held fact = (p.wanted block w fact, ap (λ m. allows m w.mode) (sym held) ∙ p.above block w fact)
 
   fetch_suits : (p : AsksForCall s) (block : BlockId) (f : Option Fetch) → (held_at s block).fetch ≡ f → FetchSuits (needed s.call) block f
-  fetch_suits p block None is = tt
-  fetch_suits p block (Some f) is = p.fetched block f is
+  fetch_suits p block None fact = tt
+  fetch_suits p block (Some f) fact = p.fetched block f fact
 
   -- the tokens of a client that asks for its call ask for what the call needs
   pub asks_as : AsksForCall s → AsksAs (needed s.call) s.tokens
@@ -103,9 +103,9 @@ module _ (s : Serving) where
   pub asks_for : AsksAs (needed s.call) s.tokens → (open_in s ≡ None → s.call ≡ None) → AsksForCall s
   asks_for a waits = record {
     sound = a.sound;
-    wanted = λ b w is. (subst (WantSuits (needed s.call) b (held_at s b).mode) is (a.suits b).want).0;
-    above = λ b w is. (subst (WantSuits (needed s.call) b (held_at s b).mode) is (a.suits b).want).1;
-    fetched = λ b f is. subst (FetchSuits (needed s.call) b) is (a.suits b).fetch;
+    wanted = λ b w fact. (subst (WantSuits (needed s.call) b (held_at s b).mode) fact (a.suits b).want).0;
+    above = λ b w fact. (subst (WantSuits (needed s.call) b (held_at s b).mode) fact (a.suits b).want).1;
+    fetched = λ b f fact. subst (FetchSuits (needed s.call) b) fact (a.suits b).fetch;
     waits = waits;
   }
 

@@ -71,25 +71,25 @@ transition-sound s i sound = (transition-follows (λ b. Unit {0}) s sound i (λ 
 
 module _ (n : Need) (s : TokensState) (a : AsksAs n s) where
   transition-goes_on : (i : In) → InputSuits n i → GoesOn n (transition s i)
-  transition-goes_on (input.Need block mode) is = on_need-goes_on n s a.sound a.suits block mode is
-  transition-goes_on (input.Granted block stamp inc req mode entry) is = absurd is
-  transition-goes_on (input.Supplied block stamp inc req ver value) is = on_supplied-goes_on n s a.sound a.suits block stamp inc req ver value
-  transition-goes_on (input.Forwarded block stamp ver) is = on_forwarded-goes_on n s a.sound a.suits block stamp ver
-  transition-goes_on (input.Recalled block stamp keep) is = on_recalled-goes_on n s a.sound a.suits block stamp keep
-  transition-goes_on (input.Wrote block value) is = on_wrote-goes_on n s a.sound a.suits block value
-  transition-goes_on (input.Settled block ver) is = on_settled-goes_on n s a.sound a.suits block ver
-  transition-goes_on (input.Fetched block value) is = on_fetched-goes_on n s a.sound a.suits block value
-  transition-goes_on (input.Evict block) is = on_evict-goes_on n s a.sound a.suits block
-  transition-goes_on (input.Reask block) is = on_reask-goes_on n s a.sound a.suits block
-  transition-goes_on (input.Quit block) is = on_quit-goes_on n s a.sound a.suits block
-  transition-goes_on (input.Promise slot epoch) is = on_promise-goes_on n s a.sound a.suits slot epoch
-  transition-goes_on input.Tick is = on_tick-goes_on n s a.suits
+  transition-goes_on (input.Need block mode) fact = on_need-goes_on n s a.sound a.suits block mode fact
+  transition-goes_on (input.Granted block stamp inc req mode entry) fact = absurd fact
+  transition-goes_on (input.Supplied block stamp inc req ver value) fact = on_supplied-goes_on n s a.sound a.suits block stamp inc req ver value
+  transition-goes_on (input.Forwarded block stamp ver) fact = on_forwarded-goes_on n s a.sound a.suits block stamp ver
+  transition-goes_on (input.Recalled block stamp keep) fact = on_recalled-goes_on n s a.sound a.suits block stamp keep
+  transition-goes_on (input.Wrote block value) fact = on_wrote-goes_on n s a.sound a.suits block value
+  transition-goes_on (input.Settled block ver) fact = on_settled-goes_on n s a.sound a.suits block ver
+  transition-goes_on (input.Fetched block value) fact = on_fetched-goes_on n s a.sound a.suits block value
+  transition-goes_on (input.Evict block) fact = on_evict-goes_on n s a.sound a.suits block
+  transition-goes_on (input.Reask block) fact = on_reask-goes_on n s a.sound a.suits block
+  transition-goes_on (input.Quit block) fact = on_quit-goes_on n s a.sound a.suits block
+  transition-goes_on (input.Promise slot epoch) fact = on_promise-goes_on n s a.sound a.suits slot epoch
+  transition-goes_on input.Tick fact = on_tick-goes_on n s a.suits
 
   pub transition-asks : (i : In) → InputSuits n i → AsksAs n (transition s i).state
-  transition-asks i is = record { sound = transition-sound s i a.sound; suits = (transition-goes_on i is).suits }
+  transition-asks i fact = record { sound = transition-sound s i a.sound; suits = (transition-goes_on i fact).suits }
 
   pub transition-quiet : (i : In) → InputSuits n i → Each IsQuiet (transition s i).outs
-  transition-quiet i is = (transition-goes_on i is).quiet
+  transition-quiet i fact = (transition-goes_on i fact).quiet
 
   module _ (block : BlockId) (stamp : Stamp) (inc req : ℕ) (mode : Mode) (entry : Entry) where
     -- a grant ends its want
@@ -107,8 +107,8 @@ module _ (n : Need) (s : TokensState) (a : AsksAs n s) where
     }
 
     copy_next-suits : (place : Option Place) → n ≡ Some (block, Copy) → ReadSuits n (copy_next block place)
-    copy_next-suits None is = tt
-    copy_next-suits (Some place) is = is
+    copy_next-suits None fact = tt
+    copy_next-suits (Some place) fact = fact
 
     -- and has a block read that is needed, where it is taken
     grant_next-suits : accepts s block stamp inc req mode ≡ true → ReadSuits n (grant_next block mode entry.place)
@@ -145,7 +145,7 @@ none_asks n t a = record {
       record { want = unasked_suits n b h.mode h.want (a.suits b).want; fetch = unfetched_suits n b h.fetch (a.suits b).fetch });
 }
 
-module _ (n : Need) (block : BlockId) (mode : Mode) (is : n ≡ Some (block, mode))
+module _ (n : Need) (block : BlockId) (mode : Mode) (fact : n ≡ Some (block, mode))
     (t : TokensState) (a : AsksAs n t) (idle : is_asking (held_of t.blocks block) ≡ false) where
   -- the block that is needed is the one that asks
   abbrev block_in : Need → BlockId
@@ -153,7 +153,7 @@ module _ (n : Need) (block : BlockId) (mode : Mode) (is : n ≡ Some (block, mod
   block_in (Some e) = e.0
 
   same : (b : BlockId) (m : Mode) → n ≡ Some (b, m) → b ≡ block
-  same b m asks = ap block_in (sym asks ∙ is)
+  same b m asks = ap block_in (sym asks ∙ fact)
 
   idle_at : (b : BlockId) (m : Mode) → n ≡ Some (b, m) → is_asking (held_of t.blocks b) ≡ false
   idle_at b m asks = ap (λ c. is_asking (held_of t.blocks c)) (same b m asks) ∙ idle

@@ -205,8 +205,8 @@ module _ (s : Serving) (p : AsksForCall s) where
   -- the open want that can't be served is of the call
   gone_needed : (g : Gone) (w : Option Wanted) → (held_at s g.block).want ≡ w → is_want (option_map (λ want. want.req) w) g.req ≡ true
       → AsksForCall (loses s g.block g.seg).state
-  gone_needed g None is asked = contrary asked
-  gone_needed g (Some w) is asked = loses-asks s g.block w.mode g.seg p (p.wanted g.block w is)
+  gone_needed g None fact asked = contrary asked
+  gone_needed g (Some w) fact asked = loses-asks s g.block w.mode g.seg p (p.wanted g.block w fact)
 
   on_gone-asks : (g : Gone) → StillAsks (on_gone s g)
   unfolding on_gone

@@ -66,10 +66,10 @@ confirmed-target r ask = at_stage r.stage
 pub loses-asks : (s : Serving) (block : BlockId) (mode : Mode) (seg : SegName) → AsksForCall s → needed s.call ≡ Some (block, mode)
     → AsksForCall (loses s block seg).state
 unfolding loses
-loses-asks s block mode seg p is =
+loses-asks s block mode seg p fact =
     let t : TokensState = (transition s.tokens (input.Quit block)).state in
     let a : AsksAs (needed s.call) t = transition-asks (needed s.call) s.tokens (asks_as s p) (input.Quit block) tt in
-    asks_none (loses s block seg).state (nothing_asks (needed s.call) block mode is t a (quit_ends s.tokens block)) (λ none. refl)
+    asks_none (loses s block seg).state (nothing_asks (needed s.call) block mode fact t a (quit_ends s.tokens block)) (λ none. refl)
 
 draws-asks : (s : Serving) → AsksForCall s → AsksForCall (draws s)
 draws-asks s p = kept s (draws s) (λ a. record { asks = a; call = refl; item = refl }) p
@@ -125,9 +125,9 @@ module _ (block : BlockId) where
   unfolding reads
   reads-asks s place p =
       let u : Serving = with_reading s None in
-      let is : needed u.call ≡ Some (block, Copy) = needed_same u.call s.call (call_with-step s.call None) ∙ p.needs in
+      let fact : needed u.call ≡ Some (block, Copy) = needed_same u.call s.call (call_with-step s.call None) ∙ p.needs in
       by_test (λ (d : Done). AsksForCall d.state) (is_none s.call) (still s) (reads_over u (target_of block place) (reading_in s.call)) (λ t. p.asks)
-      (λ t. reads_over-asks u place (reading_in s.call) (record { asks = with_reading-asks s None p.asks; needs = is }))
+      (λ t. reads_over-asks u place (reading_in s.call) (record { asks = with_reading-asks s None p.asks; needs = fact }))
 
 -- ---- grants
 

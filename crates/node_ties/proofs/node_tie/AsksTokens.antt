@@ -66,18 +66,18 @@ module _ (n : Need) where
   ask-suits : (s : TokensState) → AllSuit n s → (block : BlockId) (mode : Mode) → n ≡ Some (block, mode) → allows (held_of s.blocks block).mode mode ≡ false
       → AllSuit n (new_want s block mode).state
   unfolding new_want
-  ask-suits s p block mode is above =
+  ask-suits s p block mode fact above =
       let h : Held = held_of s.blocks block in
       by_test (λ (d : Done). AllSuit n d.state) (nat_lt s.req (2 ^ 32 - 1))
       (record { state = record (with_held s block (asked h (s.req + 1) mode)) { req = s.req + 1 }; outs = Want block (s.req + 1) 0 mode ∷ [] })
-      (still s) (λ t. put-suits s p block (asked h (s.req + 1) mode) (asked-suits n block h (p block) (s.req + 1) mode is above)) (λ t. p)
+      (still s) (λ t. put-suits s p block (asked h (s.req + 1) mode) (asked-suits n block h (p block) (s.req + 1) mode fact above)) (λ t. p)
 
   ask_copy-quiet : (s : TokensState) (block : BlockId) → Each IsQuiet (ask_copy s block).outs
   ask_copy-quiet s block = ask-quiet s block Copy
 
   ask-goes_on : (s : TokensState) → AllSuit n s → (block : BlockId) (mode : Mode) → n ≡ Some (block, mode) → allows (held_of s.blocks block).mode mode ≡ false
       → GoesOn n (new_want s block mode)
-  ask-goes_on s p block mode is above = record { suits = ask-suits s p block mode is above; quiet = ask-quiet s block mode }
+  ask-goes_on s p block mode fact above = record { suits = ask-suits s p block mode fact above; quiet = ask-quiet s block mode }
 
   module _ (s : TokensState) (sound : IsSound s) (p : AllSuit n s) where
     stays : GoesOn n (still s)
@@ -88,10 +88,10 @@ module _ (n : Need) where
 
     pub on_need-goes_on : (block : BlockId) (mode : Mode) → n ≡ Some (block, mode) → GoesOn n (on_need s block mode)
     unfolding on_need
-    on_need-goes_on block mode is =
+    on_need-goes_on block mode fact =
         let h : Held = held_of s.blocks block in
         by_test (GoesOn n) (must_ask h mode) (new_want s block mode) (still s)
-        (λ t. ask-goes_on s p block mode is (not_true (allows h.mode mode) (and_second (not (is_asking h) && is_none h.giving) (not (allows h.mode mode)) t)))
+        (λ t. ask-goes_on s p block mode fact (not_true (allows h.mode mode) (and_second (not (is_asking h) && is_none h.giving) (not (allows h.mode mode)) t)))
         (λ t. stays)
 
     pub answers_want : (block : BlockId) (stamp : Stamp) (inc req : ℕ) (mode : Mode) → accepts s block stamp inc req mode ≡ true

@@ -50,14 +50,14 @@ by_own l own P here there = by (l == own) refl
     by false t = there (is_not t)
 
 not_behind : (q n : ℕ) → q ≤ n → q ≡ suc n → ⊥
-not_behind q n h is = omega arith
+not_behind q n h fact = omega arith
 
 -- the segment behind the end says something else
 rows_behind : (k : Books) (own : ℕ) (rows : List (BlockId × Row)) (l q : ℕ) → q ≤ k.end l
     → put k.rows own (put (k.rows own) (suc (k.end own)) rows) l q ≡ k.rows l q
 rows_behind k own rows l q within = by_own l own (put k.rows own (put (k.rows own) (suc (k.end own)) rows) l q ≡ k.rows l q)
-    (λ is. ap (λ (f : ℕ → List (BlockId × Row)). f q) (ap (put k.rows own (put (k.rows own) (suc (k.end own)) rows)) is ∙ put_here k.rows own _)
-    ∙ put_there (k.rows own) (suc (k.end own)) rows q (not_behind q (k.end own) (subst (λ x. q ≤ k.end x) is within)) ∙ ap (λ x. k.rows x q) (sym is))
+    (λ fact. ap (λ (f : ℕ → List (BlockId × Row)). f q) (ap (put k.rows own (put (k.rows own) (suc (k.end own)) rows)) fact ∙ put_here k.rows own _)
+    ∙ put_there (k.rows own) (suc (k.end own)) rows q (not_behind q (k.end own) (subst (λ x. q ≤ k.end x) fact within)) ∙ ap (λ x. k.rows x q) (sym fact))
     (λ other. ap (λ (f : ℕ → List (BlockId × Row)). f q) (put_there k.rows own _ l other))
 
 pub lasts_sealed : (k : Books) (own : ℕ) (rows : List (BlockId × Row)) → Lasts k (sealed k own rows)
@@ -69,8 +69,8 @@ sealed_others k own rows l other = record { end = refl; flying = put_there k.fly
 pub lasts_filed : (k : Books) (own : ℕ) → Lasts k (filed k own)
 lasts_filed k own = record {
   filed = λ l. by_own l own (k.end l ≤ put k.end own (suc (k.end own)) l)
-      (λ is. let here : put k.end own (suc (k.end own)) l ≡ suc (k.end own) = ap (put k.end own (suc (k.end own))) is ∙ put_here k.end own _ in
-      let same : k.end l ≡ k.end own = ap k.end is in omega arith)
+      (λ fact. let here : put k.end own (suc (k.end own)) l ≡ suc (k.end own) = ap (put k.end own (suc (k.end own))) fact ∙ put_here k.end own _ in
+      let same : k.end l ≡ k.end own = ap k.end fact in omega arith)
       (λ other. let there = put_there k.end own (suc (k.end own)) l other in omega arith);
   rows = λ l q within. refl;
 }
@@ -118,20 +118,20 @@ module _ (logs : Bool) (members part : ℕ) where
   happens_last n m (Acts c end i serves own) = lasts_still n.books
   happens_last n m (Elsewhere c end i serves other) = lasts_still n.books
   happens_last n m (Reports c end serves) = lasts_still n.books
-  happens_last n m (GetsCopy c end block stamp inc req entry serves is) = lasts_still n.books
-  happens_last n m (GetsOwn c end block stamp inc req entry value serves is accepts room) = lasts_still n.books
-  happens_last n m (Declines c end block stamp inc req entry serves is accepts) = lasts_still n.books
-  happens_last n m (GetsRecall c end block stamp keep serves is) = lasts_still n.books
-  happens_last n m (GetsForward c other block stamp inc req ver value pos less is up serves held) = lasts_still n.books
-  happens_last n m (GetsSupply c end block stamp inc req ver value serves is) = lasts_still n.books
+  happens_last n m (GetsCopy c end block stamp inc req entry serves fact) = lasts_still n.books
+  happens_last n m (GetsOwn c end block stamp inc req entry value serves fact accepts room) = lasts_still n.books
+  happens_last n m (Declines c end block stamp inc req entry serves fact accepts) = lasts_still n.books
+  happens_last n m (GetsRecall c end block stamp keep serves fact) = lasts_still n.books
+  happens_last n m (GetsForward c other block stamp inc req ver value pos less fact up serves held) = lasts_still n.books
+  happens_last n m (GetsSupply c end block stamp inc req ver value serves fact) = lasts_still n.books
   happens_last n m (Fetches c end block value serves there) = lasts_still n.books
   happens_last n m (Reads c block value pos less up holds held) = lasts_still n.books
   happens_last n m (Syncs c pos less up clean) = lasts_still n.books
   happens_last n m (Seals c rows pos less up idle newest) = lasts_sealed n.books c rows
   happens_last n m (Files c pos less up flies) = lasts_filed n.books c
   happens_last n m (GetsDeltas e s log first upto rows at known some covers) = lasts_still n.books
-  happens_last n m (GetsWant e s c inc req again block mode end at is) = lasts_still n.books
-  happens_last n m (GetsGave e s c block stamp end at is) = lasts_still n.books
+  happens_last n m (GetsWant e s c inc req again block mode end at fact) = lasts_still n.books
+  happens_last n m (GetsGave e s c block stamp end at fact) = lasts_still n.books
   happens_last n m (Ticks e s at) = lasts_still n.books
   happens_last n m (Crashes c flight falls pos less up once so) = lasts_still n.books
   happens_last n m (Returns c inc epochs chain count pos less up later rises flies) = opens_last n.books c (adopts n.acts c chain) count

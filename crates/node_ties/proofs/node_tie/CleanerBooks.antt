@@ -206,8 +206,8 @@ module _ (members part : ℕ) (few : members ≤ its_log) where
   flight_or k s P seen none some = by s.flight refl
     where
       by : (o : Option FlightState) → s.flight ≡ o → P o
-      by None is = none
-      by (Some f) is = some f (seen.flying ∙ ap is_some is) (flown_in k its_log s f is seen)
+      by None fact = none
+      by (Some f) fact = some f (seen.flying ∙ ap is_some fact) (flown_in k its_log s f fact seen)
 
   pub log_goes : (k : Books) (s : LogState) (i : LogIn) → LogSeen k its_log s → AreCopies k (rows_waiting s) → PutCopies k i
       → LogGone k (log.transition s i).state

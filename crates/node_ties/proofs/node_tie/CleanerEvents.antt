@@ -103,7 +103,7 @@ module _ (part promised limit : ℕ) (small : part < 8) (low : promised ≤ limi
     does = All-from_recursion (CleanerDoes part promised (lasting_of q).inc) outs done;
     later = later;
     begins = begins;
-    keeps = λ is. refl;
+    keeps = λ fact. refl;
   }
 
   begins_same : (p : Phase) → OpensLater p p
@@ -182,18 +182,18 @@ module _ (part promised limit : ℕ) (small : part < 8) (low : promised ≤ limi
               (done_answers now l.inc l.items.unanswered answer.Done)));
           later = omega arith;
           begins = tt;
-          keeps = λ is. absurd is;
+          keeps = λ fact. absurd fact;
         }
 
     opens_so : promising.Opens Kept o
     opens_so = by stands.promises
       where
         by : AwaitsFirst o.stage ⊎ Kept o.known.promised → promising.Opens Kept o
-        by (inl is) = inl (client_opening.awaits_there o.stage is)
+        by (inl fact) = inl (client_opening.awaits_there o.stage fact)
         by (inr kept) = inr kept
 
     opens_here : (q : openings.Opening) → promising.Opens Kept q → AwaitsFirst q.stage ⊎ Kept q.known.promised
-    opens_here q (inl is) = inl (client_opening.awaits_here q.stage is)
+    opens_here q (inl fact) = inl (client_opening.awaits_here q.stage fact)
     opens_here q (inr k) = inr k
 
     ends_so : (questions : Questions) (effects : List Effect) (p : Progress) → ((now : ℕ) → AllDone now l.inc effects) → IsOf o.known.owner p
@@ -217,7 +217,7 @@ module _ (part promised limit : ℕ) (small : part < 8) (low : promised ≤ limi
     went_so w done its kept = ends_so w.questions w.effects w.progress done its kept
 
     own : o.known.owner.inc ≤ l.inc
-    own = (let is = stands.owner in omega arith)
+    own = (let fact = stands.owner in omega arith)
 
     -- a Welcome promises within the bounds
     brings_so : (b : Body) → CleanerGets part promised limit (Opening l o) b → has_logs b ≡ true → promising.Brings Kept o b
@@ -235,7 +235,7 @@ module _ (part promised limit : ℕ) (small : part < 8) (low : promised ≤ limi
             → AllByRecursion (λ (x : SlotNews). x.slot ≡ part → x.epoch ≤ limit) slots
             → AllByRecursion (client_opening.Says part promised limit small) slots
         each [] rises within = tt
-        each (x ∷ slots) rises within = (λ is. (rises.0 is, within.0 is), each slots rises.1 within.1)
+        each (x ∷ slots) rises within = (λ fact. (rises.0 fact, within.0 fact), each slots rises.1 within.1)
     brings_so _ gets logs = tt
 
     opening_packet : (packet : Packet) → CleanerGets part promised limit (Opening l o) packet.body → has_logs packet.body ≡ true
@@ -257,16 +257,16 @@ module _ (part promised limit : ℕ) (small : part < 8) (low : promised ≤ limi
     begun_emptying = record e { lasting = begun_life e.lasting }
 
     bears : (f : Emptying) → f.promised ≡ e.promised → emptying.Bears part limit small f
-    bears f is = record {
-      eight = ap (λ (p : Promised). length p.epochs) is ∙ stands.eight;
-      within = subst (λ (p : Promised). epoch_of p.epochs part ≤ limit) (sym is) (let k = stands.promises in omega arith);
+    bears f fact = record {
+      eight = ap (λ (p : Promised). length p.epochs) fact ∙ stands.eight;
+      within = subst (λ (p : Promised). epoch_of p.epochs part ≤ limit) (sym fact) (let k = stands.promises in omega arith);
     }
 
     serves_so : (f : Emptying) → f.lasting.inc ≡ e.lasting.inc → f.promised ≡ e.promised → (d : Done) → emptying.ServesOn part limit small f d
         → Goes (Serves e) (serves_on d)
-    serves_so f inc is d x = record {
+    serves_so f inc fact d x = record {
       next = epoch_of d.state.promised.epochs part;
-      rises = (let at : epoch_of f.promised.epochs part ≡ promised = ap (λ (p : Promised). epoch_of p.epochs part) is ∙ stands.promises in let up = x.rises in
+      rises = (let at : epoch_of f.promised.epochs part ≡ promised = ap (λ (p : Promised). epoch_of p.epochs part) fact ∙ stands.promises in let up = x.rises in
           omega arith);
       within = x.bears.within;
       stands = record { eight = x.bears.eight; promises = refl };
@@ -275,7 +275,7 @@ module _ (part promised limit : ℕ) (small : part < 8) (low : promised ≤ limi
           (subst (λ life. AllSay (CleanerSends part (epoch_of d.state.promised.epochs part) life) d.outs) (sym x.inc) x.says));
       later = (let a = x.inc in omega arith);
       begins = tt;
-      keeps = λ is. absurd is;
+      keeps = λ fact. absurd fact;
     }
 
     serving_wished : (number : ℕ) (wish : Wish) → Goes (Serves e) (serving_wishes begun_emptying number wish)

@@ -74,10 +74,10 @@ module _ (k : Books) where
   -- a block that is live is moved at its version
   live_copies : (block told : BlockId) (entry : Entry) (fate : Fate) → told ≡ block → FateTold k told entry fate → FateCopies k block fate
       → FateCopies k block (after_live entry fate)
-  live_copies block told entry (Asked value) same is h = subst (λ (b : BlockId). IsCopy k b (record { version = entry.ver; value = value })) same is
-  live_copies block told entry (Live e value) same is h = h
-  live_copies block told entry Moved same is h = tt
-  live_copies block told entry Dead same is h = tt
+  live_copies block told entry (Asked value) same fact h = subst (λ (b : BlockId). IsCopy k b (record { version = entry.ver; value = value })) same fact
+  live_copies block told entry (Live e value) same fact h = h
+  live_copies block told entry Moved same fact h = tt
+  live_copies block told entry Dead same fact h = tt
 
   dead_copies : (block : BlockId) (fate : Fate) → FateCopies k block fate → FateCopies k block (after_dead fate)
   dead_copies block (Asked value) h = tt
@@ -278,9 +278,9 @@ module _ (k : Books) where
 
   live_check : (block : BlockId) (entry : Entry) (c : Check) → (same_block c.block block ≡ true → FateTold k block entry c.fate) → CheckCopies c
       → CheckCopies (live_at block entry c)
-  live_check block entry c is h =
+  live_check block entry c fact h =
       by_test CheckCopies (same_block c.block block) (record c { fate = after_live entry c.fate }) c
-      (λ t. live_copies c.block block entry c.fate (same_block_exact c.block block t) (is t) h) (λ t. h)
+      (λ t. live_copies c.block block entry c.fate (same_block_exact c.block block t) (fact t) h) (λ t. h)
 
   live_checks : (block : BlockId) (entry : Entry) (checks : List Check)
       → AllByRecursion (λ (c : Check). same_block c.block block ≡ true → FateTold k block entry c.fate) checks
@@ -295,11 +295,11 @@ module _ (k : Books) where
   live_phase : (block : BlockId) (entry : Entry) (p : Phase) → PhaseTold k block entry p → PhaseCopies k p → TurnCopies (answered_in (live_at block entry) p)
   live_phase block entry p told h =
       answered_phase (live_at block entry) p
-      (λ j seg checks is. live_checks block entry checks (subst (PhaseTold k block entry) is told) (subst (PhaseCopies k) is h)) h
+      (λ j seg checks fact. live_checks block entry checks (subst (PhaseTold k block entry) fact told) (subst (PhaseCopies k) fact h)) h
 
   dead_phase : (block : BlockId) (p : Phase) → PhaseCopies k p → TurnCopies (answered_in (dead_at block) p)
   dead_phase block p h =
-      answered_phase (dead_at block) p (λ j seg checks is. answers_copy (dead_at block) (dead_check block) checks (subst (PhaseCopies k) is h)) h
+      answered_phase (dead_at block) p (λ j seg checks fact. answers_copy (dead_at block) (dead_check block) checks (subst (PhaseCopies k) fact h)) h
 
   awaits_copies : (p : Phase) → AllByRecursion OutCopies (awaits p)
   awaits_copies Greeting = (tt, tt)

@@ -8,11 +8,11 @@ use Rattle.client_parts.specs.declared.call.Call.{Call}
 use Rattle.client_parts.specs.declared.call.Going.TheVariants.{On, Ends}
 use Rattle.client_parts.specs.declared.call.Going.{Going}
 use Rattle.client_parts.specs.Fitting.{put_fits}
-use Rattle.client_serving.specs.Blocks.{Made, needs, got, gets, wrote, put_of, changes, changes_if_fits, puts, lets_go, held_back, changed, puts_again, puts_at, is_settled, synced_acts, syncs, makes}
+use Rattle.client_calls.specs.Blocks.{Made, needs, got, gets, wrote, put_of, changes, changes_if_fits, puts, lets_go, held_back, changed, puts_again, puts_at, is_settled, synced_acts, syncs, makes}
 use Rattle.client_serving.specs.declared.serving.Serving.{Serving}
 use Rattle.client_serving.specs.Flights.{held_at}
 use Rattle.client_serving.specs.Follow.{notes_gone, seals}
-use Rattle.client_serving.specs.Running.{goes_on, Ran, answers_call, ran, runs_call, runs_once, runs_upto, runs}
+use Rattle.client_calls.specs.Running.{goes_on, Ran, answers_call, ran, runs_call, runs_once, runs_upto, runs}
 use Rattle.client_serving.specs.Sends.{Done, gives}
 use Rattle.coop_cache.specs.Transition.{touched}
 use Rattle.file_plan.specs.declared.block_call.BlockAnswer.{BlockAnswer}
@@ -68,35 +68,35 @@ module _ (logs : Bool) (members part limit c life room highest : ℕ) (pos : 0 <
   got_so n s block something h = by_value (held_at s block).value refl ((h.bears.held block).0 (is_held_so (held_at s block).mode something))
     where
       is_held_so : (mode : Mode) → is_nothing mode ≡ false → is_held mode ≡ true
-      is_held_so Nothing is = contrary (sym is)
-      is_held_so Copy is = refl
-      is_held_so Own is = refl
+      is_held_so Nothing fact = contrary (sym fact)
+      is_held_so Copy fact = refl
+      is_held_so Own fact = refl
 
       happens : (value : Option (List ℕ)) → (held_at s block).value ≡ Some value
           → Happens logs members part n (nets.acted n (Read c block (held_at s block).ver value ∷ []))
-      happens value is =
+      happens value fact =
           subst (λ (t : TokensState). Happens logs members part n (nets.acted n (Read c block (held_of t.blocks block).ver value ∷ []))) h.tokens
           (Reads c block value pos less h.up
           (subst (λ (t : TokensState). is_held (held_of t.blocks block).mode ≡ true) (sym h.tokens) (is_held_so (held_at s block).mode something))
-          (subst (λ (t : TokensState). (held_of t.blocks block).value ≡ Some value) (sym h.tokens) is))
+          (subst (λ (t : TokensState). (held_of t.blocks block).value ≡ Some value) (sym h.tokens) fact))
 
       grown : (value : Option (List ℕ)) → (held_at s block).value ≡ Some value
           → frames.Grown logs members part c n (nets.acted n (Read c block (held_at s block).ver value ∷ [])) (Read c block (held_at s block).ver value ∷ [])
-      grown value is = frames.grown_acting logs members part c n (Read c block (held_at s block).ver value ∷ []) (happens value is)
+      grown value fact = frames.grown_acting logs members part c n (Read c block (held_at s block).ver value ∷ []) (happens value fact)
 
       act_is : (value : Option (List ℕ)) → (held_at s block).value ≡ Some value
           → Read c block (held_at s block).ver value ≡ Read s.lasting.number block (held_at s block).ver (value_of (held_at s block))
-      act_is value is =
+      act_is value fact =
           ap (λ k. Read k block (held_at s block).ver value) (sym h.number_is)
-          ∙ ap (λ (o : Option (Option (List ℕ))). Read s.lasting.number block (held_at s block).ver (unwrap_or o None)) (sym is)
+          ∙ ap (λ (o : Option (Option (List ℕ))). Read s.lasting.number block (held_at s block).ver (unwrap_or o None)) (sym fact)
 
       by_value : (o : Option (Option (List ℕ))) → (held_at s block).value ≡ o → is_some o ≡ true → Goes n (got s block (held_at s block)).done
-      by_value None is some = contrary some
-      by_value (Some value) is some =
+      by_value None fact some = contrary some
+      by_value (Some value) fact some =
           let t : Serving = record s { cache = touched s.cache block } in
           let a : Act = Read s.lasting.number block (held_at s block).ver (value_of (held_at s block)) in
           frames.goes_acting logs members part limit c life room highest n (nets.acted n (a ∷ [])) a (still t) tt
-          (subst (λ (x : Act). frames.Grown logs members part c n (nets.acted n (x ∷ [])) (x ∷ [])) (act_is value is) (grown value is))
+          (subst (λ (x : Act). frames.Grown logs members part c n (nets.acted n (x ∷ [])) (x ∷ [])) (act_is value fact) (grown value fact))
           (frames.goes_still logs members part limit c life room highest (nets.acted n (a ∷ [])) t
           (frames.stands_acted logs members part limit c life room highest n (a ∷ []) s.tokens s.log s.lasting.number s.lasting.inc h))
 
@@ -140,9 +140,9 @@ module _ (logs : Bool) (members part limit c life room highest : ℕ) (pos : 0 <
   lets_go_so n s block h =
       let t : Serving = record s { tokens = (client.on_evict s.tokens block).state } in
       by_test (λ (u : Serving). Goes n (still u)) (is_none (held_at s block).value) (notes_gone t block) s
-      (λ is. frames.goes_on logs members part limit c life room highest n (still t) (still (notes_gone t block))
+      (λ fact. frames.goes_on logs members part limit c life room highest n (still t) (still (notes_gone t block))
       (tokens.acts_so logs members part limit c life room highest pos less n s (input.Evict block) tt (λ u. refl) tt h) (λ m k. gone_from m s block k))
-      (λ is. frames.goes_still logs members part limit c life room highest n s h)
+      (λ fact. frames.goes_still logs members part limit c life room highest n s h)
 
   changes_if_fits_so : (n : Net) (s : Serving) (block : BlockId) (value : Option (List ℕ)) → may_write (held_at s block) ≡ true → At n s
       → Goes n (changes_if_fits s block value).done
@@ -179,15 +179,15 @@ module _ (logs : Bool) (members part limit c life room highest : ℕ) (pos : 0 <
       (all_known logs members part limit c life room highest s.log s.tokens h.bears.held)
     where
       none_waits : (dirty : List (BlockId × Change)) → (length dirty == 0) ≡ true → dirty ≡ []
-      none_waits [] is = refl
-      none_waits (x ∷ dirty) is = contrary (not_none (length dirty) is)
+      none_waits [] fact = refl
+      none_waits (x ∷ dirty) fact = contrary (not_none (length dirty) fact)
         where
           not_none : (k : ℕ) → (suc k == 0) ≡ true → false ≡ true
-          not_none k is = grind (arith, nat_tests)
+          not_none k fact = grind (arith, nat_tests)
 
       none_flies : (o : Option FlightState) → is_none o ≡ true → o ≡ None
-      none_flies None is = refl
-      none_flies (Some f) is = contrary is
+      none_flies None fact = refl
+      none_flies (Some f) fact = contrary fact
 
       clean_then : (dirty : List (BlockId × Change)) (o : Option FlightState) → dirty ≡ [] → o ≡ None
           → AllUnsettled s.tokens (row_in (map told dirty)) (row_in (rows_flown o)) → AllClean s.tokens

@@ -40,10 +40,10 @@ said_still k c rows q other =
     ap (λ (f : ℕ → Rows). f q) (put_here k.rows c (put (k.rows c) (suc (k.end c)) rows)) ∙ put_there (k.rows c) (suc (k.end c)) rows q other
 
 pub sealed_beyond : (k : Books) (c : ℕ) (rows : Rows) → NothingBeyond k c → NothingBeyond (sealed k c rows) c
-sealed_beyond k c rows h q past = said_still k c rows q (λ is. not_it q (suc (k.end c)) is past) ∙ h q past
+sealed_beyond k c rows h q past = said_still k c rows q (λ fact. not_it q (suc (k.end c)) fact past) ∙ h q past
   where
     not_it : (q e : ℕ) → q ≡ e → e < q → ⊥
-    not_it q e is past = omega (arith, is, past)
+    not_it q e fact past = omega (arith, fact, past)
 
 pub filed_end : (k : Books) (c : ℕ) → (filed k c).end c ≡ suc (k.end c)
 filed_end k c = put_here k.end c (suc (k.end c))
@@ -110,13 +110,13 @@ onward_on k m o c p q = record {
 pub onward_sealed : (k : Books) (c : ℕ) (rows : Rows) → k.flying c ≡ false → Onward k (sealed k c rows) c
 onward_sealed k c rows idle = record {
   rises = omega arith;
-  past = λ q low. said_still k c rows q (λ is. not_it q (k.end c) is low);
+  past = λ q low. said_still k c rows q (λ fact. not_it q (k.end c) fact low);
   flown = λ flies. contrary (sym idle ∙ flies);
   lands = λ flies same. contrary (sym idle ∙ flies);
 }
   where
     not_it : (q e : ℕ) → q ≡ suc e → q ≤ e → ⊥
-    not_it q e is low = omega (arith, is, low)
+    not_it q e fact low = omega (arith, fact, low)
 
 pub onward_filed : (k : Books) (c : ℕ) → Onward k (filed k c) c
 onward_filed k c = record {
@@ -130,4 +130,4 @@ onward_filed k c = record {
     more e = omega arith
 
     not_same : (e : ℕ) → suc e ≡ e → ⊥
-    not_same e is = omega (arith, is)
+    not_same e fact = omega (arith, fact)

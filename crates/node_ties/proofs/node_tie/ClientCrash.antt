@@ -11,7 +11,7 @@ use Rattle.std.proofs.lemmas.Cmp.{tied_itself}
 use Rattle.act_tie.specs.BlockActs as acts
 use Rattle.client_parts.specs.Crash.{flight_of, flown_version, version_in}
 use Rattle.client_parts.specs.Reads.{value_in}
-use Rattle.client_serving.specs.Crash.{fall_of}
+use Rattle.client_node.specs.Crash.{fall_of}
 use Rattle.client_serving.specs.declared.serving.Serving.{Serving}
 use Rattle.log_flight.specs.Flights.{FlightState}
 use Rattle.segment_format.specs.declared.segment.Item.{Item}
@@ -63,21 +63,21 @@ high_is h b None waits some p = none h.settled
 high_is h b (Some f) waits some p = by_flown (flown_of f.segment.items b h.settled f.segment.items some) p.flown
   where
     none : (low v : ℕ) → v ≡ 0 → low ≡ max low v
-    none low v is = omega (arith, is)
+    none low v fact = omega (arith, fact)
 
     more : (low v : ℕ) → low < v → v ≡ max low v
-    more low v is = omega (arith, is)
+    more low v fact = omega (arith, fact)
 
     not_none : (v : ℕ) → 0 < v → v ≡ 0 → ⊥
-    not_none v less is = omega (arith, less, is)
+    not_none v less fact = omega (arith, less, fact)
 
     by_flown : Flown b h.settled (version_in b h.settled f.segment.items) (row_in (rows_told f.segment.items) b)
         → ((row_in (rows_told f.segment.items) b).version ≡ 0)
         ⊎ ((h.settled < (row_in (rows_told f.segment.items) b).version) × ((row_in (rows_told f.segment.items) b).version ≤ h.ver))
         → version_in b h.settled f.segment.items ≡ max h.settled (row_in (rows_told f.segment.items) b).version
-    by_flown (inl is) (inl zero_is) = absurd (not_none (row_in (rows_told f.segment.items) b).version is.1 zero_is)
-    by_flown (inl is) (inr above) = is.0 ∙ more h.settled (row_in (rows_told f.segment.items) b).version above.0
-    by_flown (inr is) flown = is.1 ∙ none h.settled (row_in (rows_told f.segment.items) b).version (ap (λ (r : Row). r.version) is.0)
+    by_flown (inl fact) (inl zero_is) = absurd (not_none (row_in (rows_told f.segment.items) b).version fact.1 zero_is)
+    by_flown (inl fact) (inr above) = fact.0 ∙ more h.settled (row_in (rows_told f.segment.items) b).version above.0
+    by_flown (inr fact) flown = fact.1 ∙ none h.settled (row_in (rows_told f.segment.items) b).version (ap (λ (r : Row). r.version) fact.0)
 
 -- ---- the dirty ones
 
@@ -86,12 +86,12 @@ apart : (a b : BlockId) → block_cmp a b ≡ Less → same_block a b ≡ false
 apart a b below = by_same (same_block a b) refl
   where
     less_equal : Less ≡ Equal → true ≡ false
-    less_equal is = cc
+    less_equal fact = cc
 
     by_same : (t : Bool) → same_block a b ≡ t → t ≡ false
     by_same true same =
-        let is : block_cmp a b ≡ Equal = ap (block_cmp a) (same_block_exact a b same) ∙ tied_itself block_cmp_total a in
-        less_equal (sym below ∙ is)
+        let fact : block_cmp a b ≡ Equal = ap (block_cmp a) (same_block_exact a b same) ∙ tied_itself block_cmp_total a in
+        less_equal (sym below ∙ fact)
     by_same false other = refl
 
 -- the table finds by the order what the names say
@@ -99,15 +99,15 @@ eq_same : (a b : BlockId) → is_eq (block_cmp b a) ≡ same_block a b
 eq_same a b = by_same (same_block a b) refl
   where
     equal : (o : Ordering) → is_eq o ≡ true → o ≡ Equal
-    equal Less is = contrary is
-    equal Equal is = refl
-    equal Greater is = contrary is
+    equal Less fact = contrary fact
+    equal Equal fact = refl
+    equal Greater fact = contrary fact
 
     not_equal : same_block a b ≡ false → (t : Bool) → is_eq (block_cmp b a) ≡ t → t ≡ false
-    not_equal other true is =
-        let same : b ≡ a = block_cmp_exact b a (equal (block_cmp b a) is) in
+    not_equal other true fact =
+        let same : b ≡ a = block_cmp_exact b a (equal (block_cmp b a) fact) in
         sym (sym other ∙ ap (same_block a) same ∙ same_block_itself a)
-    not_equal other false is = refl
+    not_equal other false fact = refl
 
     by_same : (t : Bool) → same_block a b ≡ t → is_eq (block_cmp b a) ≡ t
     by_same true same = ap (λ k. is_eq (block_cmp k a)) (same_block_exact a b same) ∙ ap is_eq (tied_itself block_cmp_total a)

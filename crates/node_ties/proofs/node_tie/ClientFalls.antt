@@ -4,7 +4,7 @@ use Rattle.std.specs.Map.{keys_of}
 use Rattle.std.specs.Prelude.{All}
 use Rattle.std.proofs.lemmas.List.Elements.{All-weaker}
 use Rattle.client_node.specs.declared.phase.Phase.{Phase}
-use Rattle.client_serving.specs.Crash.{fall_of}
+use Rattle.client_node.specs.Crash.{fall_of}
 use Rattle.client_serving.specs.declared.serving.Serving.{Serving}
 use Rattle.node_base.specs.declared.effects.Effect.{Effect}
 use Rattle.node_base.specs.declared.effects.Effect.TheVariants.{Send, Answer, Lose, Does}
@@ -42,14 +42,14 @@ module _ (part c : ℕ) (n : Net) (sent : List Packet) (life : ℕ) (q : Phase) 
 falls_among : (s : Serving) (table es : List (BlockId × Held)) → Agrees table es → (f : Fall) → In f (map (fall_of s) (dirty_in es))
     → is_dirty (held_of table f.block) ≡ true
 unfolding fall_of
-falls_among s table [] agrees f is = absurd is
-falls_among s table (e ∷ es) agrees f is =
+falls_among s table [] agrees f fact = absurd fact
+falls_among s table (e ∷ es) agrees f fact =
     let rows = filter (λ (x : BlockId × Held). is_dirty x.1) es in
     by_test (λ (xs : List (BlockId × Held)). In f (map (fall_of s) (keys_of xs)) → is_dirty (held_of table f.block) ≡ true) (is_dirty e.1) (e ∷ rows) rows
-    (λ dirty is. ⊎_elim (λ same. ap (λ (x : Fall). is_dirty (held_of table x.block)) same ∙ (ap is_dirty agrees.0 ∙ dirty))
-    (λ later. falls_among s table es agrees.1 f later) is)
-    (λ clean is. falls_among s table es agrees.1 f is) is
+    (λ dirty fact. ⊎_elim (λ same. ap (λ (x : Fall). is_dirty (held_of table x.block)) same ∙ (ap is_dirty agrees.0 ∙ dirty))
+    (λ later. falls_among s table es agrees.1 f later) fact)
+    (λ clean fact. falls_among s table es agrees.1 f fact) fact
 
 pub falls_dirty : (s : Serving) → InOrder s.tokens.blocks → (f : Fall) → In f (map (fall_of s) (dirty_in s.tokens.blocks))
     → is_dirty (held_of s.tokens.blocks f.block) ≡ true
-falls_dirty s sorted f is = falls_among s s.tokens.blocks s.tokens.blocks (agrees-itself s.tokens.blocks sorted) f is
+falls_dirty s sorted f fact = falls_among s s.tokens.blocks s.tokens.blocks (agrees-itself s.tokens.blocks sorted) f fact

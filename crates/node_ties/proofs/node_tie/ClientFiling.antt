@@ -126,7 +126,7 @@ module _ (logs : Bool) (members part limit c life room highest : ℕ) (pos : 0 <
         record { below = upto f.segment.name.seq l.end.seq x.seen.flight.0 left.below; next = left.next }) r.stands.logged r.stands.numbers
       where
         upto : (seq end : ℕ) → seq ≡ suc end → end + (room + 1) ≤ highest → seq + room ≤ highest
-        upto seq end is low = omega (arith, is, low)
+        upto seq end fact low = omega (arith, fact, low)
 
     files : frames.Passes logs members part limit c life room highest n (all_settled t rows) (log.landed l f) number inc
     files = record {

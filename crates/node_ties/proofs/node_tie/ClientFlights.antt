@@ -46,8 +46,8 @@ module _ (logs : Bool) (members part limit c life room highest : ℕ) (pos : 0 <
     where
       by_slot : (end : ℕ) → IsServing logs members n c end → (t : Bool) → is_in_slot part block ≡ t
           → Happens logs members part n (after_client n c end (client.transition (n.tokens c) (input.Recalled block stamp keep)))
-      by_slot end serves true is = GetsRecall c end block stamp keep serves (sent is)
-      by_slot end serves false is = Elsewhere c end (input.Recalled block stamp keep) serves is
+      by_slot end serves true fact = GetsRecall c end block stamp keep serves (sent fact)
+      by_slot end serves false fact = Elsewhere c end (input.Recalled block stamp keep) serves fact
 
   -- ---- a segment is settled
 

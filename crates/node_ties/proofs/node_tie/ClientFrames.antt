@@ -98,7 +98,7 @@ module _ (part c life : ℕ) where
   plain_does sent es h = all_more part c life [] sent (λ x none. absurd none) es (All-weaker (May part c life) (ClientDoes part [] c life) may_does es h)
 
   pub plain_acts : (es : List Effect) → Plain part c life es → AllByRecursion IsNeutral (acts_of (Client c) es)
-  plain_acts es h = neutral_acts (Client c) (May part c life) (λ a is. is) es (recursion_from_All (May part c life) es h)
+  plain_acts es h = neutral_acts (Client c) (May part c life) (λ a fact. fact) es (recursion_from_All (May part c life) es h)
 
 -- what is done by one list and then by another
 pub acts_on : (c : ℕ) (es fs : List Effect) → acts_of (Client c) (es ++ fs) ≡ acts_of (Client c) es ++ acts_of (Client c) fs

@@ -96,15 +96,15 @@ module _ (logs : Bool) (members part limit c life room highest : ℕ) (pos : 0 <
     where
       by_slot : (end : ℕ) → IsServing logs members n c end → (t : Bool) → is_in_slot part p.block ≡ t
           → Happens logs members part n (after_client n c end (client.transition (n.tokens c) (input.Supplied p.block p.stamp p.inc p.req p.ver p.value)))
-      by_slot end serves true is = GetsSupply c end p.block p.stamp p.inc p.req p.ver p.value serves (sent is)
-      by_slot end serves false is = Elsewhere c end (input.Supplied p.block p.stamp p.inc p.req p.ver p.value) serves is
+      by_slot end serves true fact = GetsSupply c end p.block p.stamp p.inc p.req p.ver p.value serves (sent fact)
+      by_slot end serves false fact = Elsewhere c end (input.Supplied p.block p.stamp p.inc p.req p.ver p.value) serves fact
 
   -- the value that is held is supplied
   supplied_so : (n : Net) (s : Serving) (f : Forward) (value : Option (Option (List ℕ))) → At n s
       → SentOf part n.sent f.block (ForwardSent c f.to f.block f.stamp f.inc f.req f.ver) → client.serves s.tokens f.block f.stamp f.ver ≡ true
       → (held_of s.tokens.blocks f.block).value ≡ value → Goes n (supplied_by s f (record { state = s.tokens; outs = client.supplies f.block f.ver value }))
-  supplied_so n s f None h sent serves is = frames.goes_still logs members part limit c life room highest n s h
-  supplied_so n s f (Some value) h sent serves is = by_slot (is_in_slot part f.block) refl
+  supplied_so n s f None h sent serves fact = frames.goes_still logs members part limit c life room highest n s h
+  supplied_so n s f (Some value) h sent serves fact = by_slot (is_in_slot part f.block) refl
     where
       by_slot : (t : Bool) → is_in_slot part f.block ≡ t
           → Goes n (supplied_by s f (record { state = s.tokens; outs = output.Supply f.block f.ver value ∷ [] }))
@@ -115,7 +115,7 @@ module _ (logs : Bool) (members part limit c life room highest : ℕ) (pos : 0 <
             grown = record {
               runs = On Begun (GetsForward c f.to f.block f.stamp f.inc f.req f.ver value pos less (sent is_in) h.up
                   (subst (λ (t : TokensState). client.serves t f.block f.stamp f.ver ≡ true) (sym h.tokens) serves)
-                  (subst (λ (t : TokensState). (held_of t.blocks f.block).value ≡ Some value) (sym h.tokens) is));
+                  (subst (λ (t : TokensState). (held_of t.blocks f.block).value ≡ Some value) (sym h.tokens) fact));
               others = λ d other. (refl, refl);
               slots = λ e. refl;
               grows = λ x k. inr k;
@@ -157,13 +157,13 @@ module _ (logs : Bool) (members part limit c life room highest : ℕ) (pos : 0 <
       let d : client.Done = client.on_recalled s.tokens r.block r.stamp r.keep in
       let t : Serving = record s { tokens = d.state } in
       by_test (λ (x : Done). Goes n x) (is_stamp (held_at s r.block).stamp r.stamp) (says_again s r d) (takes_back s r.block r.stamp r.keep)
-      (λ is.
+      (λ fact.
       let k : taking.Taken logs members part limit c life room highest n s.log s.log.end.seq s.lasting.number s.lasting.inc d [] =
       taking.takes logs members part limit c life room highest n s.tokens s.log s.lasting.number s.lasting.inc
       (input.Recalled r.block r.stamp r.keep) pos less h may in
       frames.goes_from logs members part limit c life room highest n k.next (says_again s r d) k.grown
-      (again_so k.next t r d.outs (said_again s.tokens r.block r.stamp r.keep is) k.seen k.stands))
-      (λ is. tokens.takes_back_so logs members part limit c life room highest pos less n s r.block r.stamp r.keep may h)
+      (again_so k.next t r d.outs (said_again s.tokens r.block r.stamp r.keep fact) k.seen k.stands))
+      (λ fact. tokens.takes_back_so logs members part limit c life room highest pos less n s r.block r.stamp r.keep may h)
 
   pub on_gone_so : (n : Net) (s : Serving) (g : Gone) → At n s → Goes n (on_gone s g)
   unfolding on_gone

@@ -120,19 +120,19 @@ module _ (part low high : ℕ) (small : part < 8) where
 
   -- the slot is promised
   pub promise_here : (p : Promised) (news : SlotNews) → length p.epochs ≡ 8 → news.slot ≡ part → Says news → Bounded part low high (promise p news)
-  promise_here p news e is says =
+  promise_here p news e fact says =
       by_test (Bounded part low high) (nat_lt news.slot 8)
       (record { epochs = slice_set p.epochs news.slot news.epoch; managers = manager_set p.managers news.slot news.manager }) p
       (λ t.
       let inside : news.slot < length p.epochs = omega arith in
       let now : epoch_of (slice_set p.epochs news.slot news.epoch) part ≡ news.epoch = subst
-      (λ k. epoch_of (slice_set p.epochs news.slot news.epoch) k ≡ news.epoch) is (get_or-set_same p.epochs news.slot news.epoch 0 inside) in
+      (λ k. epoch_of (slice_set p.epochs news.slot news.epoch) k ≡ news.epoch) fact (get_or-set_same p.epochs news.slot news.epoch 0 inside) in
       record {
         eight = length-set p.epochs news.slot news.epoch ∙ e;
-        rises = subst (λ k. low ≤ k) (sym now) (says is).0;
-        within = subst (λ k. k ≤ high) (sym now) (says is).1;
+        rises = subst (λ k. low ≤ k) (sym now) (says fact).0;
+        within = subst (λ k. k ≤ high) (sym now) (says fact).1;
       })
-      (λ t. absurd (is_low news.slot t is))
+      (λ t. absurd (is_low news.slot t fact))
 
   -- another slot is
   promise_there : (p : Promised) (news : SlotNews) → (part ≡ news.slot → ⊥) → Bounded part low high p → Bounded part low high (promise p news)
@@ -153,8 +153,8 @@ module _ (part low high : ℕ) (small : part < 8) where
   promise_keeps p news says h = by_slot (news.slot == part) refl
     where
       by_slot : (t : Bool) → (news.slot == part) ≡ t → Bounded part low high (promise p news)
-      by_slot true is = promise_here p news h.eight (same news.slot part is) says
-      by_slot false is = promise_there p news (apart news.slot part is) h
+      by_slot true fact = promise_here p news h.eight (same news.slot part fact) says
+      by_slot false fact = promise_there p news (apart news.slot part fact) h
 
   all_keep : (p : Promised) (slots : List SlotNews) → AllByRecursion Says slots → Bounded part low high p → Bounded part low high (fold promise p slots)
   all_keep p [] says h = h
@@ -180,8 +180,8 @@ module _ (part low high : ℕ) (small : part < 8) where
 
       by_slot : (t : Bool) → (number == part) ≡ t → ((part ≡ number → ⊥) → Bounded part low high (fold promise (promise p news) slots))
           → Bounded part low high (fold promise (promise p news) slots)
-      by_slot true is rest = all_keep (promise p news) slots says.1 (promise_here p news e (here ∙ same number part is) says.0)
-      by_slot false is rest = rest (apart number part is)
+      by_slot true fact rest = all_keep (promise p news) slots says.1 (promise_here p news e (here ∙ same number part fact) says.0)
+      by_slot false fact rest = rest (apart number part fact)
 
   pub welcome_promises : (slots : List SlotNews) → length slots ≡ 8 → are_from 0 slots ≡ true → AllByRecursion Says slots
       → Bounded part low high (promised_in slots)

@@ -120,8 +120,8 @@ module _ (logs : Bool) (members part limit c : ℕ) (small : part < 8) (pos : 0 
     opens_so = both sees.promised h.promises
       where
         both : AwaitsFirst o.stage ⊎ Raises logs part c n o → AwaitsFirst o.stage ⊎ (epoch_of o.known.promised.epochs part ≤ limit) → promising.Opens Kept o
-        both (inl is) within = inl (awaits_there o.stage is)
-        both (inr raises) (inl is) = inl (awaits_there o.stage is)
+        both (inl fact) within = inl (awaits_there o.stage fact)
+        both (inr raises) (inl fact) = inl (awaits_there o.stage fact)
         both (inr raises) (inr within) = inr (record { eight = raises.epochs; rises = raises.rises; within = within })
 
     -- it serves again
@@ -153,7 +153,7 @@ module _ (logs : Bool) (members part limit c : ℕ) (small : part < 8) (pos : 0 
       opens_again : (k : ℕ) → Happens logs members part before (open_again k)
       opens_again k =
           Returns c l.inc r.promised.epochs r.chain k pos less sees.up sees.inc kept.rises
-          (premise_by logs (λ (o : ReopensSo n.books n.acts c r) (is : adopts before.acts c r.chain ≡ true). o.adopted (sym adopted_same ∙ is)) ended)
+          (premise_by logs (λ (o : ReopensSo n.books n.acts c r) (fact : adopts before.acts c r.chain ≡ true). o.adopted (sym adopted_same ∙ fact)) ended)
 
       other_logs : (k d : ℕ) → (d ≡ c → ⊥) → SameLog n.books (books k) d
       other_logs k d other =
@@ -198,7 +198,7 @@ module _ (logs : Bool) (members part limit c : ℕ) (small : part < 8) (pos : 0 
               inc = refl;
               epochs = kept.eight;
               giving = λ b
-                  g inside is. none_given g is;
+                  g inside fact. none_given g fact;
               valued = λ b held. contrary held;
               logged = logged k ends_so;
             };
@@ -230,8 +230,8 @@ module _ (logs : Bool) (members part limit c : ℕ) (small : part < 8) (pos : 0 
               append_assoc (n.acts ++ first) (Back c r.chain ∷ []) later ∙ append_assoc n.acts first (Back c r.chain ∷ later)
 
           behind : (x : Effect) (xs ys : List Effect) → In x ys → In x (xs ++ ys)
-          behind x [] ys is = is
-          behind x (y ∷ xs) ys is = inr (behind x xs ys is)
+          behind x [] ys fact = fact
+          behind x (y ∷ xs) ys fact = inr (behind x xs ys fact)
 
           back_said : In (Does (Back c r.chain)) (effects ++ (Does (Back l.number r.chain) ∷ rest))
           back_said =
@@ -239,7 +239,7 @@ module _ (logs : Bool) (members part limit c : ℕ) (small : part < 8) (pos : 0 
               (behind (Does (Back l.number r.chain)) effects (Does (Back l.number r.chain) ∷ rest) (inl refl))
 
           none_given : (g : Giving) → {A : Type 0} → None ≡ Some g → A
-          none_given g is = absurd (cc)
+          none_given g fact = absurd (cc)
 
     went_so : (capacity : ℕ) (w : Went) → Behaves o.known.owner w → promising.Holds Kept w.progress → Premise logs (EndsSo n.books n.acts c w.progress)
         → Goes (Opening l o) (opened_on l capacity w)
@@ -264,11 +264,11 @@ module _ (logs : Bool) (members part limit c : ℕ) (small : part < 8) (pos : 0 
             (All-append (frames.May part c l.inc) w.effects [] plain (All-nil (frames.May part c l.inc)))
           where
             raises : (q : openings.Opening) → promising.Opens Kept q → AwaitsFirst q.stage ⊎ Raises logs part c n q
-            raises q (inl is) = inl (awaits_here q.stage is)
+            raises q (inl fact) = inl (awaits_here q.stage fact)
             raises q (inr k) = inr (record { epochs = k.eight; rises = k.rises })
 
             within : (q : openings.Opening) → promising.Opens Kept q → AwaitsFirst q.stage ⊎ (epoch_of q.known.promised.epochs part ≤ limit)
-            within q (inl is) = inl (awaits_here q.stage is)
+            within q (inl fact) = inl (awaits_here q.stage fact)
             within q (inr k) = inr k.within
         by_progress (progress.Opened r) its kept ended = back_so w.questions capacity w.effects r plain kept ended
         by_progress (progress.Lost seg) its kept ended =
@@ -294,7 +294,7 @@ module _ (logs : Bool) (members part limit c : ℕ) (small : part < 8) (pos : 0 
             → AllByRecursion (λ (x : SlotNews). x.slot ≡ part → x.epoch ≤ limit) slots
             → AllByRecursion (Says part (epoch_of (n.tokens c).epochs part) limit small) slots
         each [] rises within = tt
-        each (x ∷ slots) rises within = (λ is. (rises.0 is, within.0 is), each slots rises.1 within.1)
+        each (x ∷ slots) rises within = (λ fact. (rises.0 fact, within.0 fact), each slots rises.1 within.1)
     brings_so _ gets known = tt
 
     pub opening_packet : (capacity : ℕ) (packet : wire.Packet) → ClientGets logs part limit c n (Opening l o) packet → has_logs packet.body ≡ true

@@ -4,13 +4,13 @@ use Rattle.std.proofs.lemmas.Bool.Decides.{nat_tests}
 use Rattle.client_parts.specs.declared.call.Call.{Call}
 use Rattle.client_parts.specs.Fitting.{put_fits}
 use Rattle.client_parts.specs.Reads.{kept_while, reading_in, call_with}
-use Rattle.client_serving.specs.Blocks.{Made, changes, changes_if_fits, puts, needs, changed, held_back, puts_again, puts_at, makes}
+use Rattle.client_calls.specs.Blocks.{Made, changes, changes_if_fits, puts, needs, changed, held_back, puts_again, puts_at, makes}
 use Rattle.client_serving.specs.declared.serving.Serving.{Serving}
 use Rattle.client_serving.specs.Flights.{held_at}
 use Rattle.client_serving.specs.Follow.{notes_clean, notes_copy, notes_gone, follows_one, follows, hands}
 use Rattle.client_serving.specs.Packets.{on_grant}
 use Rattle.client_serving.specs.Reads.{ends_reading}
-use Rattle.client_serving.specs.Running.{runs_call, runs_once, runs}
+use Rattle.client_calls.specs.Running.{runs_call, runs_once, runs}
 use Rattle.client_serving.specs.Sends.{Done}
 use Rattle.file_plan.specs.declared.block_call.BlockCall.{BlockCall}
 use Rattle.file_plan.specs.declared.block_call.BlockCall.TheVariants.{Get, Put, PutAt, Sync}
@@ -91,9 +91,9 @@ module _ (logs : Bool) (members part limit c life room highest : ℕ) (pos : 0 <
         owning.let_gone logs members part limit c life room highest pos less n s h asks block stamp inc req entry sent below taken in
         let gone : Serving = notes_gone (record running { tokens = (client.on_evict granted.state block).state }) block in
         by_test (λ (t : Serving). Goes n (still t)) (is_none (held_at running block).value) gone running
-        (λ is. frames.goes_from logs members part limit c life room highest n k.next (still gone) k.grown
+        (λ fact. frames.goes_from logs members part limit c life room highest n k.next (still gone) k.grown
         (blocks.gone_from logs members part limit c life room highest pos less k.next running block k.stands))
-        (λ is. contrary (sym is ∙ ap (λ (g : Held). is_none g.value) known))
+        (λ fact. contrary (sym fact ∙ ap (λ (g : Held). is_none g.value) known))
 
     writes_if_fits : (value : Option (List ℕ)) → Goes n (changes_if_fits running block value).done
     unfolding changes_if_fits
@@ -128,10 +128,10 @@ module _ (logs : Bool) (members part limit c life room highest : ℕ) (pos : 0 <
     -- the open call's first turn
     runs_it : (call : Option Call) → s.call ≡ call → needed call ≡ Some (block, Own) → Goes n (runs_once owner).done
     unfolding runs_once
-    runs_it None is e = absurd (cc)
-    runs_it (Some call) is e =
+    runs_it None fact e = absurd (cc)
+    runs_it (Some call) fact e =
         let kept : Call = record call { reading = kept_while granted.state call.reading } in
-        let now : owner.call ≡ Some kept = ap (λ (k : Option Call). call_with k (kept_while granted.state (reading_in k))) is in
+        let now : owner.call ≡ Some kept = ap (λ (k : Option Call). call_with k (kept_while granted.state (reading_in k))) fact in
         subst (λ (k : Option Call). Goes n (runs_call owner k).done) (sym now)
         (blocks.ran_so logs members part limit c life room highest pos less n kept (makes running kept.step) (makes_it call.step e))
 
@@ -154,9 +154,9 @@ module _ (logs : Bool) (members part limit c life room highest : ℕ) (pos : 0 <
       → client.accepts s.tokens block stamp inc req mode ≡ false
       → Goes n (hands s (input.Granted block stamp inc req mode entry))
   unfolding hands
-  refused_so n s h block stamp inc req mode entry is =
+  refused_so n s h block stamp inc req mode entry fact =
       subst (λ (d : client.Done). Goes n (follows (ends_reading (record s { tokens = d.state })) d.outs))
-      (sym (refused s.tokens block stamp inc req mode entry is))
+      (sym (refused s.tokens block stamp inc req mode entry fact))
       (tokens.follows_so logs members part limit c life room highest pos less n (ends_reading s) [] h tt)
 
   -- one of a copy, of the slot or of another
@@ -169,8 +169,8 @@ module _ (logs : Bool) (members part limit c life room highest : ℕ) (pos : 0 <
     where
       by_slot : (end : ℕ) → IsServing logs members n c end → (t : Bool) → is_in_slot part block ≡ t
           → Happens logs members part n (after_client n c end (client.transition (n.tokens c) (input.Granted block stamp inc req Copy entry)))
-      by_slot end serves true is = GetsCopy c end block stamp inc req entry serves (sent is)
-      by_slot end serves false is = Elsewhere c end (input.Granted block stamp inc req Copy entry) serves is
+      by_slot end serves true fact = GetsCopy c end block stamp inc req entry serves (sent fact)
+      by_slot end serves false fact = Elsewhere c end (input.Granted block stamp inc req Copy entry) serves fact
 
   granted_so : (n : Net) (s : Serving) → At n s → AsksForCall s → (block : BlockId) (stamp : Stamp) (inc req : ℕ) (mode : Mode) (entry : Entry)
       → SentOf part n.sent block (GrantSent c block stamp inc req mode entry)
@@ -184,15 +184,15 @@ module _ (logs : Bool) (members part limit c life room highest : ℕ) (pos : 0 <
 
       by_accepts : (t : Bool) → client.accepts s.tokens block stamp inc req Own ≡ t
           → Goes n (and_runs (hands s (input.Granted block stamp inc req Own entry)))
-      by_accepts true is = owns_so n s h asks block stamp inc req entry sent (is_below entry.ver low) is
-      by_accepts false is = runs_after n (hands s (input.Granted block stamp inc req Own entry)) (refused_so n s h block stamp inc req Own entry is)
+      by_accepts true fact = owns_so n s h asks block stamp inc req entry sent (is_below entry.ver low) fact
+      by_accepts false fact = runs_after n (hands s (input.Granted block stamp inc req Own entry)) (refused_so n s h block stamp inc req Own entry fact)
   granted_so n s h asks block stamp inc req Nothing entry sent low =
       by_accepts (client.accepts s.tokens block stamp inc req Nothing) refl
     where
       by_accepts : (t : Bool) → client.accepts s.tokens block stamp inc req Nothing ≡ t
           → Goes n (and_runs (hands s (input.Granted block stamp inc req Nothing entry)))
-      by_accepts true is = absurd (no_call_needs s.call block (call_needs s asks block stamp inc req Nothing is))
-      by_accepts false is = runs_after n (hands s (input.Granted block stamp inc req Nothing entry)) (refused_so n s h block stamp inc req Nothing entry is)
+      by_accepts true fact = absurd (no_call_needs s.call block (call_needs s asks block stamp inc req Nothing fact))
+      by_accepts false fact = runs_after n (hands s (input.Granted block stamp inc req Nothing entry)) (refused_so n s h block stamp inc req Nothing entry fact)
 
   -- a grant, and then the open call runs
   pub on_grant_so : (n : Net) (s : Serving) (g : Grant) → At n s → AsksForCall s

@@ -125,22 +125,22 @@ pub record Owned (s : TokensState) (block : BlockId) (stamp : Stamp) (entry : En
 pub owned_so : (s : TokensState) (block : BlockId) (stamp : Stamp) (inc req : ℕ) (entry : Entry) → client.accepts s block stamp inc req Own ≡ true
     → Owned s block stamp entry (client.on_granted s block stamp inc req Own entry)
 unfolding client.on_granted
-owned_so s block stamp inc req entry is =
+owned_so s block stamp inc req entry fact =
     let g : Held = grant_taken (held_of s.blocks block) stamp Own entry in
     let d : client.Done = record { state = with_held s block g; outs = output.Ready block ∷ [] } in
     by_test (λ (d : client.Done). Owned s block stamp entry d) (client.accepts s block stamp inc req Own) d (still s)
-    (λ t. record { outs_are = refl; known = held_of-put_itself block g s.blocks }) (λ t. contrary (sym t ∙ is))
+    (λ t. record { outs_are = refl; known = held_of-put_itself block g s.blocks }) (λ t. contrary (sym t ∙ fact))
 
 pub refused : (s : TokensState) (block : BlockId) (stamp : Stamp) (inc req : ℕ) (mode : Mode) (entry : Entry)
     → client.accepts s block stamp inc req mode ≡ false
     → client.on_granted s block stamp inc req mode entry ≡ still s
 unfolding client.on_granted
-refused s block stamp inc req mode entry is = ap
+refused s block stamp inc req mode entry fact = ap
     (λ t. cond t (record {
       state = with_held s block (grant_taken (held_of s.blocks block) stamp mode entry);
       outs = client.grant_next block mode
           entry.place ∷ [];
-    }) (still s)) is
+    }) (still s)) fact
 
 module _ (logs : Bool) (members part limit c life room highest : ℕ) (pos : 0 < c) (less : c < members) where
   abbrev At : Net → Serving → Type 0
@@ -308,11 +308,11 @@ module _ (logs : Bool) (members part limit c life room highest : ℕ) (pos : 0 <
     by_slot {P = P} inside out = cases (is_in_slot part block) refl
       where
         cases : (t : Bool) → is_in_slot part block ≡ t → P
-        cases true is = inside is
-        cases false is = out is
+        cases true fact = inside fact
+        cases false fact = out fact
 
     pub written : (value : Option (List ℕ)) → Written value
-    written value = by_slot (λ is. written_inside is value) (λ is. written_outside is value)
+    written value = by_slot (λ fact. written_inside fact value) (λ fact. written_outside fact value)
 
     -- ---- it is let go
 

@@ -6,11 +6,11 @@ use Rattle.client_node.specs.declared.phase.Phase.TheVariants.{Down, Opening, Se
 use Rattle.client_node.specs.declared.phase.Phase.{Phase}
 use Rattle.client_node.specs.Phases.{Went_to, crashed, answers, serves_on, wish_of, wish_at, serving_begins, lasting_of, with_begun, item_begins, begins_item, on_begin, then_runs, on_deliver, on_time, delivers, happens, phase_room, client_room}
 use Rattle.client_parts.specs.Crash.{flight_of}
-use Rattle.client_serving.specs.Crash.{fall_of, falls}
+use Rattle.client_node.specs.Crash.{fall_of, falls}
 use Rattle.client_serving.specs.declared.serving.Serving.{Serving}
-use Rattle.client_serving.specs.Opens.{opens}
+use Rattle.client_calls.specs.Opens.{opens}
 use Rattle.client_serving.specs.Packets as packets
-use Rattle.client_serving.specs.Packets.{serving_room, tokens_room}
+use Rattle.client_node.specs.Room.{serving_room, tokens_room}
 use Rattle.client_serving.specs.Sends.{gives}
 use Rattle.log_owner.specs.Opening.{attempt_of, log_room}
 use Rattle.node_base.specs.Beginning.{next_item, work_at, begun, answers_unanswered}
@@ -118,8 +118,8 @@ module _ (logs : Bool) (members part limit c : ℕ) (small : part < 8) (pos : 0 
           (frames.grown_saying logs members part c fallen (acts_of (AClient c) after_falls) (frames.plain_acts part c s.lasting.inc after_falls plain_after))
 
       dirty_ones : (f : Fall) → In f falling → is_dirty (held_of (n.tokens c).blocks f.block) ≡ true
-      dirty_ones f is =
-          subst (λ (t : TokensState). is_dirty (held_of t.blocks f.block) ≡ true) (sym sees.tokens) (falls_dirty begun_serving h.asks.sound.sorted f is)
+      dirty_ones f fact =
+          subst (λ (t : TokensState). is_dirty (held_of t.blocks f.block) ≡ true) (sym sees.tokens) (falls_dirty begun_serving h.asks.sound.sorted f fact)
 
       low : (n.tokens c).inc ≤ s.lasting.inc
       low = (let e : (n.tokens c).inc ≡ s.lasting.inc = ap (λ (t : TokensState). t.inc) sees.tokens ∙ sees.inc in omega arith)
@@ -259,11 +259,11 @@ module _ (logs : Bool) (members part limit c : ℕ) (small : part < 8) (pos : 0 
       Formed x = (q : wire.Packet) → x ≡ Deliver q → is_well_formed client.peers q ≡ true
 
       by_event : (x : Do) → what ≡ x → (Formed x → ClientOwed logs part limit c n client.phase x) → Goes client.phase (happens client x)
-      by_event Begin is owed = on_begin_so client.peers.servers client.phase sees h later inside
-      by_event (Deliver packet) is owed =
+      by_event Begin fact owed = on_begin_so client.peers.servers client.phase sees h later inside
+      by_event (Deliver packet) fact owed =
           delivers_so client.peers client.cache client.phase packet sees h
           (λ formed. owed (λ q same. subst (λ (x : wire.Packet). is_well_formed client.peers x ≡ true) (one_packet packet q same) formed)) inside
-      by_event Tick is owed = on_time_so client.cache client.phase sees h (owed (λ q clash. absurd cc)) inside
+      by_event Tick fact owed = on_time_so client.cache client.phase sees h (owed (λ q clash. absurd cc)) inside
 
 -- an event is taken where no counter is near its end, and changes nothing else
 pub client_takes : ClientTakes

@@ -98,8 +98,8 @@ fetched_alone s asks a b fa fb = ap block_in (sym (need a (held_at s a).fetch re
     block_in (Some n) = n.0
 
     need : (k : BlockId) (fetch : Option Fetch) → (held_at s k).fetch ≡ fetch → is_some fetch ≡ true → needed s.call ≡ Some (k, Copy)
-    need k None is f = contrary f
-    need k (Some x) is f = asks.fetched k x is
+    need k None fact f = contrary f
+    need k (Some x) fact f = asks.fetched k x fact
 
 -- a promise that may be reported is made
 promise_made : (s : Serving) (slot epoch : ℕ) → AsksForCall s → has_room s.tokens.req ≡ true
@@ -262,7 +262,7 @@ module _ (logs : Bool) (members part limit c life room highest : ℕ) (small : p
         grown = grown;
         stands = taking.stands_more logs members part limit c life room highest m next.sent p.state.tokens s.log s.lasting.number s.lasting.inc
             (λ x i. inr i) k.stands;
-        does = All-cons (ClientDoes part next.sent c life) (report p.state slot epoch) [] (λ is. inl (reported m k.stands.tokens is))
+        does = All-cons (ClientDoes part next.sent c life) (report p.state slot epoch) [] (λ fact. inl (reported m k.stands.tokens fact))
             (All-nil (ClientDoes part next.sent c life));
       } in
       frames.goes_from logs members part limit c life room highest n m (reports slot epoch p) k.grown
@@ -275,10 +275,10 @@ module _ (logs : Bool) (members part limit c life room highest : ℕ) (small : p
       reported : (m : Net) → m.tokens c ≡ (client.on_promise s.tokens slot epoch).state → slot ≡ part
           → ReportSent c epoch (held_in slot (client.on_promise s.tokens slot epoch).state.blocks) s.log.end.seq
           ≡ ReportSent c (epoch_of (m.tokens c).epochs part) (held_in part (m.tokens c).blocks) s.log.end.seq
-      reported m same is =
+      reported m same fact =
           let t : TokensState = (client.on_promise s.tokens slot epoch).state in
           ap (λ k. ReportSent c k (held_in slot t.blocks) s.log.end.seq) (sym (promise_kept s.tokens slot epoch h.bears.promised.eight low may))
-          ∙ ap (λ k. ReportSent c (epoch_of t.epochs k) (held_in k t.blocks) s.log.end.seq) is
+          ∙ ap (λ k. ReportSent c (epoch_of t.epochs k) (held_in k t.blocks) s.log.end.seq) fact
           ∙ ap (λ (u : TokensState). ReportSent c (epoch_of u.epochs part) (held_in part u.blocks) s.log.end.seq) (sym same)
 
   polled_so : (n : Net) (s : Serving) (manager : ℕ) (p : Poll) → PollSeen part n.sent limit p → AsksForCall s → has_room s.tokens.req ≡ true → At n s
@@ -337,11 +337,11 @@ module _ (logs : Bool) (members part limit c life room highest : ℕ) (small : p
       (λ m k. regroups_so m d.state (is_older s.maps news) news.groups k (more_then m d.state (all_heard-log t news.slots) k))
     where
       more_then : (m : Net) (u : Serving) → u.log ≡ s.log → At m u → More m u
-      more_then m u same k f is =
+      more_then m u same k f fact =
           frames.stands_upto logs members part limit c life room (room + 1) highest m u.tokens u.log u.lasting.number u.lasting.inc
           (premise_by logs
           (λ (x : frames.HasNumbers s.log.end.seq (room + 1) highest). subst (λ (l : LogState). frames.HasNumbers l.end.seq (room + 1) highest) (sym same) x)
-          (more f (ap (λ (l : LogState). l.flight) (sym same) ∙ is)).numbers) k
+          (more f (ap (λ (l : LogState). l.flight) (sym same) ∙ fact)).numbers) k
 
   pub on_news_so : (n : Net) (s : Serving) (news : News) → NewsWithin part limit c n news.slots → At n s → More n s → Goes n (on_news s news)
   on_news_so n s news within h more =

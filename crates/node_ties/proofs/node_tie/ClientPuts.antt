@@ -46,7 +46,8 @@ unfolding client.on_wrote
 written_some t block value may =
     let g : Held = written (held_of t.blocks block) value in
     by_test (λ (d : client.Done). 0 < (held_of d.state.blocks block).ver) (may_write (held_of t.blocks block)) (still (with_held t block g)) (still t)
-    (λ is. subst (λ (k : Held). 0 < k.ver) (sym (held_of-put_itself block g t.blocks)) (some (held_of t.blocks block).ver)) (λ is. contrary (sym is ∙ may))
+    (λ fact. subst (λ (k : Held). 0 < k.ver) (sym (held_of-put_itself block g t.blocks)) (some (held_of t.blocks block).ver)) (λ fact. contrary (sym fact
+    ∙ may))
   where
     some : (ver : ℕ) → 0 < ver + 1
     some ver = omega arith
@@ -93,13 +94,13 @@ module _ (logs : Bool) (block : BlockId) (value : Option (List ℕ)) where
     unfolding client.on_wrote
     written_known =
         by_test (λ (d : client.Done). (b : BlockId) → Known logs (waits l block (change_of d.state block value)) b (held_of d.state.blocks b)) (may_write h)
-        (still wrote) (still t) (λ is b. (
+        (still wrote) (still t) (λ fact b. (
           values b,
           premise_at logs
               (λ b. IsUnsettled (held_of wrote.blocks b) (row_in (rows_waiting (waits l block (change_of wrote block value))) b)
               (row_in (rows_flown l.flight) b))
               unsettled_then b,
-        )) (λ is. contrary (sym is ∙ may))
+        )) (λ fact. contrary (sym fact ∙ may))
 
 module _ (logs : Bool) (members part limit c life room highest : ℕ) (pos : 0 < c) (less : c < members) where
   -- the net in which the block is written, and its version waits

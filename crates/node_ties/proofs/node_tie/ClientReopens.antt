@@ -45,8 +45,8 @@ discarded_rests k c h = record { flying = put_here k.flying c false; blank = λ 
     row : (q : ℕ) → (discarded k c).rows c q ≡ put (k.rows c) (suc (k.end c)) [] q
     row q = ap (λ (f : ℕ → Rows). f q) (put_here k.rows c (put (k.rows c) (suc (k.end c)) []))
 
-    is : (a b : ℕ) → (a == b) ≡ true → a ≡ b
-    is a b t = grind (arith, nat_tests)
+    fact : (a b : ℕ) → (a == b) ≡ true → a ≡ b
+    fact a b t = grind (arith, nat_tests)
 
     further : (q e : ℕ) → (q == suc e) ≡ false → e < q → suc e < q
     further q e t past = grind (arith, nat_tests)
@@ -56,7 +56,7 @@ discarded_rests k c h = record { flying = put_here k.flying c false; blank = λ 
 
     by_next : (q : ℕ) → k.end c < q → (t : Bool) → (q == suc (k.end c)) ≡ t → (discarded k c).rows c q ≡ []
     by_next q past true t =
-        row q ∙ ap (put (k.rows c) (suc (k.end c)) []) (is q (suc (k.end c)) t) ∙ put_here (k.rows c) (suc (k.end c)) []
+        row q ∙ ap (put (k.rows c) (suc (k.end c)) []) (fact q (suc (k.end c)) t) ∙ put_here (k.rows c) (suc (k.end c)) []
     by_next q past false t =
         row q ∙ put_there (k.rows c) (suc (k.end c)) [] q (apart q (k.end c) (further q (k.end c) t past)) ∙ h q (further q (k.end c) t past)
 
@@ -126,15 +126,15 @@ module _ (k : Books) (c inc : ℕ) (epochs : List ℕ) (rests : Rests k c) where
 -- ---- acts that change no history
 
 neutral_after : (a : Act) → IsNeutral a → (h : History) → after_act a h ≡ h
-neutral_after (act.Lost node seg) is h = refl
-neutral_after (act.Filed seg) is h = refl
-neutral_after (act.Dropped seg) is h = refl
-neutral_after (act.Answered node item answer) is h = refl
-neutral_after (act.Wrote client block value) is h = absurd is
-neutral_after (act.Read client block ver value) is h = absurd is
-neutral_after (act.Synced client) is h = absurd is
-neutral_after (act.Fell client flight falls) is h = absurd is
-neutral_after (act.Back client chain) is h = absurd is
+neutral_after (act.Lost node seg) fact h = refl
+neutral_after (act.Filed seg) fact h = refl
+neutral_after (act.Dropped seg) fact h = refl
+neutral_after (act.Answered node item answer) fact h = refl
+neutral_after (act.Wrote client block value) fact h = absurd fact
+neutral_after (act.Read client block ver value) fact h = absurd fact
+neutral_after (act.Synced client) fact h = absurd fact
+neutral_after (act.Fell client flight falls) fact h = absurd fact
+neutral_after (act.Back client chain) fact h = absurd fact
 
 neutral_history : (done : List Act) → AllByRecursion IsNeutral done → (h : History) → history_after done h ≡ h
 neutral_history [] all h = refl

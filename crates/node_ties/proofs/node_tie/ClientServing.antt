@@ -10,9 +10,9 @@ use Rattle.client_parts.specs.Reads.{fetches_again, reading_in}
 use Rattle.client_serving.specs.declared.serving.Serving.{Serving}
 use Rattle.client_serving.specs.Flights.{writes}
 use Rattle.client_serving.specs.Follow.{hands}
-use Rattle.client_serving.specs.Opens.{begins_call, call_at, opens}
+use Rattle.client_calls.specs.Opens.{begins_call, call_at, opens}
 use Rattle.client_serving.specs.Packets.{on_body, on_packet, asks_for_maps, on_tick}
-use Rattle.client_serving.specs.Running.{goes_on, runs}
+use Rattle.client_calls.specs.Running.{goes_on, runs}
 use Rattle.client_serving.specs.Sends.{Done, gives}
 use Rattle.log_flight.specs.Flights.{FlightState}
 use Rattle.log_owner.specs.Sending.{pushes_all}
@@ -217,14 +217,14 @@ module _ (logs : Bool) (members part limit c : ℕ) (n : Net) (s : Serving) wher
   }
     where
       by_giving : (b : BlockId) (g : Option Giving) → (held_of s.tokens.blocks b).giving ≡ g → frames.Sent part c n.sent b g
-      by_giving b None is = tt
-      by_giving b (Some g) is = λ inside. sees.giving b g inside is
+      by_giving b None fact = tt
+      by_giving b (Some g) fact = λ inside. sees.giving b g inside fact
 
   pub stands : SeesServing logs part c n s → ClientStands part limit c n (Serves s) → has_room s.log.end.seq ≡ true
       → MayBegin logs members part limit c s.lasting.inc highest n s
   stands sees h room = record {
     here = stands_so 0 sees h (upto s.log.end.seq s.log.flight) (inside s.log.end.seq s.log.flight room);
-    more = λ f is. stands_so 1 sees h (one_more s.log.end.seq s.log.flight f is) (inside s.log.end.seq s.log.flight room);
+    more = λ f fact. stands_so 1 sees h (one_more s.log.end.seq s.log.flight f fact) (inside s.log.end.seq s.log.flight room);
   }
     where
       upto : (end : ℕ) (o : Option FlightState) → end + 0 ≤ end_upto end o
@@ -232,7 +232,7 @@ module _ (logs : Bool) (members part limit c : ℕ) (n : Net) (s : Serving) wher
       upto end (Some f) = omega arith
 
       one_more : (end : ℕ) (o : Option FlightState) (f : FlightState) → o ≡ Some f → end + 1 ≤ end_upto end o
-      one_more end o f is = subst (λ x. end + 1 ≤ end_upto end x) (sym is) (itself (end + 1))
+      one_more end o f fact = subst (λ x. end + 1 ≤ end_upto end x) (sym fact) (itself (end + 1))
         where
           itself : (k : ℕ) → k ≤ k
           itself k = omega arith
@@ -249,7 +249,7 @@ module _ (logs : Bool) (members part limit c : ℕ) (n : Net) (s : Serving) wher
     number = h.number_is;
     inc = h.bears.life_is ∙ sym h.inc_is;
     epochs = h.bears.promised.eight;
-    giving = λ b g inside is. subst (frames.Sent part c m.sent b) is (h.bears.giving b) inside;
+    giving = λ b g inside fact. subst (frames.Sent part c m.sent b) fact (h.bears.giving b) inside;
     valued = λ b. (h.bears.held b).0;
     logged = premise_both logs
         (λ (x : frames.LogStands m.books c t.log) (p : AllUnsettled t.tokens (row_in (rows_waiting t.log)) (row_in (rows_flown t.log.flight))). record {
@@ -276,7 +276,7 @@ module _ (logs : Bool) (members part limit c : ℕ) (n : Net) (s : Serving) wher
       p.stands.logged p.stands.numbers))
     where
       within : (a b : ℕ) → a ≡ b → b + 0 ≤ highest → a ≤ highest
-      within a b is low = omega (arith, is, low)
+      within a b fact low = omega (arith, fact, low)
 
   pub serves_on_so : SeesServing logs part c n s → (d : Done) → frames.Goes logs members part limit c s.lasting.inc 0 highest n d
       → ClientGoes logs members part limit c n (Serves s) (Serves d.state) d.outs

@@ -8,7 +8,7 @@ use Rattle.node_ties.specs.node_tie.ClientEvents.{ClientStarts}
 use Rattle.node_ties.proofs.node_tie.SmallWorld.{premise}
 
 none_given : (g : Giving) {A : Type 0} → None ≡ Some g → A
-none_given g is = absurd (cc)
+none_given g fact = absurd (cc)
 
 pub client_starts : ClientStarts
 client_starts logs part limit c small low setup works = record {
@@ -18,7 +18,7 @@ client_starts logs part limit c small low setup works = record {
     number = refl;
     inc = refl;
     epochs = refl;
-    giving = λ b g inside is. none_given g is;
+    giving = λ b g inside fact. none_given g fact;
     valued = λ b held. contrary held;
     logged = premise logs (record {
       seen = record { end = refl; flying = refl; flight = tt };

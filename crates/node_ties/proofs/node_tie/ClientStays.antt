@@ -62,7 +62,7 @@ module _ (logs : Bool) (members part limit c : ℕ) (small : part < 8) (pos : 0 
       record { up = h.up; number = h.number; inc = h.inc; owner = h.owner; promised = by_stage h.promised; beyond = h.beyond }
     where
       by_stage : AwaitsFirst o.stage ⊎ Raises logs part c n o → AwaitsFirst o.stage ⊎ Raises logs part c (acted n done) o
-      by_stage (inl is) = inl is
+      by_stage (inl fact) = inl fact
       by_stage (inr raises) = inr (record { epochs = raises.epochs; rises = raises.rises })
   agrees_acted done (Serves s) h = record {
     up = h.up;

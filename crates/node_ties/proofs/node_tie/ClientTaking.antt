@@ -214,9 +214,9 @@ module _ (logs : Bool) (members part limit c life room highest : ℕ) where
       apart n m t = grind (arith, nat_tests)
 
       by_slot : (t : Bool) → (slot == part) ≡ t → epoch_of (slice_set epochs slot epoch) part ≤ limit
-      by_slot true is =
-          let here : slot ≡ part = same slot part is in
+      by_slot true fact =
+          let here : slot ≡ part = same slot part fact in
           let inside : part < length epochs = (let e : length epochs ≡ 8 = h.eight in omega arith) in
           subst (λ k. epoch_of (slice_set epochs k epoch) part ≤ limit) (sym here)
           (subst (λ m. m ≤ limit) (sym (get_or-set_same epochs part epoch 0 inside)) (fits here))
-      by_slot false is = subst (λ m. m ≤ limit) (sym (get_or-set_other epochs slot part epoch 0 (apart slot part is))) h.within
+      by_slot false fact = subst (λ m. m ≤ limit) (sym (get_or-set_other epochs slot part epoch 0 (apart slot part fact))) h.within

@@ -29,14 +29,14 @@ nothing_waits h w f p clean = by_newest p.newest
   where
     by_newest : IsNewest h w → w ≡ nothing_said
     by_newest (inl none) = none
-    by_newest (inr is) = contrary (sym clean ∙ is.0)
+    by_newest (inr fact) = contrary (sym clean ∙ fact.0)
 
 nothing_flies : (h : Held) (w f : Row) → IsUnsettled h w f → is_dirty h ≡ false → f.version ≡ 0
 nothing_flies h w f p clean = by_flown p.flown
   where
     by_flown : (f.version ≡ 0) ⊎ ((h.settled < f.version) × (f.version ≤ h.ver)) → f.version ≡ 0
     by_flown (inl none) = none
-    by_flown (inr is) = contrary (clean_low h.settled h.ver f.version clean is.0 is.1)
+    by_flown (inr fact) = contrary (clean_low h.settled h.ver f.version clean fact.0 fact.1)
 
 module _ (w f : Row) where
   -- a clean block, of which nothing waits or flies
@@ -61,11 +61,11 @@ module _ (w f : Row) where
 
       by_newest : IsNewest h w → IsNewest g w
       by_newest (inl none) = inl none
-      by_newest (inr is) = inr (same ∙ is.0, is.1 ∙ sym ver, value ∙ is.2)
+      by_newest (inr fact) = inr (same ∙ fact.0, fact.1 ∙ sym ver, value ∙ fact.2)
 
       by_flown : (f.version ≡ 0) ⊎ ((h.settled < f.version) × (f.version ≤ h.ver)) → (f.version ≡ 0) ⊎ ((g.settled < f.version) × (f.version ≤ g.ver))
       by_flown (inl none) = inl none
-      by_flown (inr is) = inr (subst (λ k. k < f.version) (sym settled) is.0, subst (λ k. f.version ≤ k) (sym ver) is.1)
+      by_flown (inr fact) = inr (subst (λ k. k < f.version) (sym settled) fact.0, subst (λ k. f.version ≤ k) (sym ver) fact.1)
 
       by_all : (0 < w.version) ⊎ (f.version ≡ h.ver) → (0 < w.version) ⊎ (f.version ≡ g.ver)
       by_all (inl waits) = inl waits
@@ -88,45 +88,45 @@ module _ (w f : Row) where
       positive ver = omega arith
 
       zero_less : (v ver : ℕ) → v ≡ 0 → v < ver + 1
-      zero_less v ver is = omega (arith, is)
+      zero_less v ver fact = omega (arith, fact)
 
       less : (v ver : ℕ) → v ≤ ver → v < ver + 1
-      less v ver is = omega (arith, is)
+      less v ver fact = omega (arith, fact)
 
       more : (v ver : ℕ) → v ≤ ver → v ≤ ver + 1
-      more v ver is = omega (arith, is)
+      more v ver fact = omega (arith, fact)
 
       under : (f.version ≡ 0) ⊎ ((h.settled < f.version) × (f.version ≤ h.ver)) → f.version < h.ver + 1
       under (inl none) = zero_less f.version h.ver none
-      under (inr is) = less f.version h.ver is.1
+      under (inr fact) = less f.version h.ver fact.1
 
       further : (f.version ≡ 0) ⊎ ((h.settled < f.version) × (f.version ≤ h.ver)) → (f.version ≡ 0) ⊎ ((h.settled < f.version) × (f.version ≤ h.ver + 1))
       further (inl none) = inl none
-      further (inr is) = inr (is.0, more f.version h.ver is.1)
+      further (inr fact) = inr (fact.0, more f.version h.ver fact.1)
 
 -- it is sealed: what waits is in flight
 sealed_first : (h : Held) (w : Row) → IsUnsettled h w nothing_said → IsUnsettled h nothing_said w
 sealed_first h w p = record { newest = inl refl; unflown = inl refl; flown = flies p.newest; all = λ dirty. inr (newest_flies dirty p.newest (p.all dirty)) }
   where
     low : (settled ver v : ℕ) → nat_lt settled ver ≡ true → v ≡ ver → (settled < v) × (v ≤ ver)
-    low settled ver v dirty is = (above, omega (arith, is))
+    low settled ver v dirty fact = (above, omega (arith, fact))
       where
         above : settled < v
         above = grind (arith, nat_tests)
 
     none_dirty : (settled ver : ℕ) → nat_lt settled ver ≡ true → 0 ≡ ver → false ≡ true
-    none_dirty settled ver dirty is = grind (arith, nat_tests)
+    none_dirty settled ver dirty fact = grind (arith, nat_tests)
 
     flies : IsNewest h w → (w.version ≡ 0) ⊎ ((h.settled < w.version) × (w.version ≤ h.ver))
     flies (inl none) = inl (ap (λ (r : Row). r.version) none)
-    flies (inr is) = inr (low h.settled h.ver w.version is.0 is.1)
+    flies (inr fact) = inr (low h.settled h.ver w.version fact.0 fact.1)
 
     newest_flies : is_dirty h ≡ true → IsNewest h w → (0 < w.version) ⊎ (0 ≡ h.ver) → w.version ≡ h.ver
-    newest_flies dirty (inr is) waits = is.1
+    newest_flies dirty (inr fact) waits = fact.1
     newest_flies dirty (inl none) (inl waits) = absurd (not_positive w.version (ap (λ (r : Row). r.version) none) waits)
       where
         not_positive : (v : ℕ) → v ≡ 0 → 0 < v → ⊥
-        not_positive v is more = omega (arith, is, more)
+        not_positive v fact more = omega (arith, fact, more)
     newest_flies dirty (inl none) (inr flies) = contrary (none_dirty h.settled h.ver dirty flies)
 
 -- what is in flight of it is settled
@@ -137,19 +137,19 @@ settled_now : (h : Held) (w f : Row) → IsUnsettled h w f → IsUnsettled (sett
 settled_now h w f p = by_flown p.flown
   where
     not_news : (settled ver v : ℕ) → v ≡ 0 → is_settled_by (record h { settled = settled; ver = ver }) v ≡ false
-    not_news settled ver v is = grind (arith, nat_tests)
+    not_news settled ver v fact = grind (arith, nat_tests)
 
     news : (k : Held) (v : ℕ) → k.settled < v → v ≤ k.ver → is_settled_by k v ≡ true
     news k v low high = grind (arith, nat_tests)
 
     late : (v ver x : ℕ) → v < x → x ≡ ver → nat_lt v ver ≡ true
-    late v ver x less is = grind (arith, nat_tests)
+    late v ver x less fact = grind (arith, nat_tests)
 
     some : (v x : ℕ) → v < x → 0 < x
     some v x less = omega (arith, less)
 
     not_late : (v ver : ℕ) → nat_lt v ver ≡ true → v ≡ ver → false ≡ true
-    not_late v ver less is = grind (arith, nat_tests)
+    not_late v ver less fact = grind (arith, nat_tests)
 
     was_dirty : (settled ver v : ℕ) → settled < v → v ≤ ver → nat_lt settled ver ≡ true
     was_dirty settled ver v low high = grind (arith, nat_tests)
@@ -164,7 +164,7 @@ settled_now h w f p = by_flown p.flown
     }
       where
         by_unflown : (w ≡ nothing_said) ⊎ (f.version < w.version) → (w ≡ nothing_said) ⊎ (0 < w.version)
-        by_unflown (inl is) = inl is
+        by_unflown (inl fact) = inl fact
         by_unflown (inr less) = inr (some f.version w.version less)
 
         by_all : (0 < w.version) ⊎ (f.version ≡ h.ver) → (0 < w.version) ⊎ (0 ≡ h.ver)
@@ -181,11 +181,11 @@ settled_now h w f p = by_flown p.flown
       where
         by_newest : IsNewest h w → (w ≡ nothing_said) ⊎ (f.version < w.version) → IsNewest (version_settled h f.version) w
         by_newest (inl none) u = inl none
-        by_newest (inr is) (inl none) = inl none
-        by_newest (inr is) (inr less) = inr (late f.version h.ver w.version less is.1, is.1, is.2)
+        by_newest (inr fact) (inl none) = inl none
+        by_newest (inr fact) (inr less) = inr (late f.version h.ver w.version less fact.1, fact.1, fact.2)
 
         by_unflown : (w ≡ nothing_said) ⊎ (f.version < w.version) → (w ≡ nothing_said) ⊎ (0 < w.version)
-        by_unflown (inl is) = inl is
+        by_unflown (inl fact) = inl fact
         by_unflown (inr less) = inr (some f.version w.version less)
 
         by_all : nat_lt f.version h.ver ≡ true → (0 < w.version) ⊎ (f.version ≡ h.ver) → (0 < w.version) ⊎ (0 ≡ h.ver)
@@ -195,8 +195,8 @@ settled_now h w f p = by_flown p.flown
     by_flown : (f.version ≡ 0) ⊎ ((h.settled < f.version) × (f.version ≤ h.ver)) → IsUnsettled (settled_by h f.version) w nothing_said
     by_flown (inl none) =
         subst (λ t. IsUnsettled (cond t (version_settled h f.version) h) w nothing_said) (sym (not_news h.settled h.ver f.version none)) (quiet none)
-    by_flown (inr is) =
-        subst (λ t. IsUnsettled (cond t (version_settled h f.version) h) w nothing_said) (sym (news h f.version is.0 is.1)) (lands is.0 is.1)
+    by_flown (inr fact) =
+        subst (λ t. IsUnsettled (cond t (version_settled h f.version) h) w nothing_said) (sym (news h f.version fact.0 fact.1)) (lands fact.0 fact.1)
 
 -- where nothing waits or flies it is clean
 pub nothing_dirty : (h : Held) → IsUnsettled h nothing_said nothing_said → is_dirty h ≡ false
@@ -204,14 +204,14 @@ nothing_dirty h p = by_dirty (is_dirty h) refl
   where
     never : (settled ver : ℕ) → nat_lt settled ver ≡ true → (0 < 0) ⊎ (0 ≡ ver) → false ≡ true
     never settled ver dirty (inl less) = absurd (omega (arith, less))
-    never settled ver dirty (inr is) = none settled ver dirty is
+    never settled ver dirty (inr fact) = none settled ver dirty fact
       where
         none : (settled ver : ℕ) → nat_lt settled ver ≡ true → 0 ≡ ver → false ≡ true
-        none settled ver dirty is = grind (arith, nat_tests)
+        none settled ver dirty fact = grind (arith, nat_tests)
 
     by_dirty : (t : Bool) → is_dirty h ≡ t → t ≡ false
-    by_dirty true is = sym (never h.settled h.ver is (p.all is))
-    by_dirty false is = refl
+    by_dirty true fact = sym (never h.settled h.ver fact (p.all fact))
+    by_dirty false fact = refl
 
 -- ---- all blocks
 
@@ -263,8 +263,8 @@ unfolding on_settled
 settled_known t k v P here there =
     let h : Held = held_of t.blocks k in
     by_test (λ (d : Done). (b : BlockId) → P b (held_of d.state.blocks b)) (is_settled_by h v) (still (with_held t k (version_settled h v))) (still t)
-    (λ is. put_cases P k (version_settled h v) t.blocks (subst (λ x. P k (cond x (version_settled h v) h)) is here) there)
-    (λ is. by_block (λ b. P b (held_of t.blocks b)) k (subst (λ x. P k (cond x (version_settled h v) h)) is here) there)
+    (λ fact. put_cases P k (version_settled h v) t.blocks (subst (λ x. P k (cond x (version_settled h v) h)) fact here) there)
+    (λ fact. by_block (λ b. P b (held_of t.blocks b)) k (subst (λ x. P k (cond x (version_settled h v) h)) fact here) there)
 
 -- what is in flight is settled
 pub rows_settled : (t : TokensState) (w : BlockId → Row) (rows : Rows) → AreOnce rows → AllUnsettled t w (row_in rows)

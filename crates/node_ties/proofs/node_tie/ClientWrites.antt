@@ -217,19 +217,19 @@ module _ (logs : Bool) (members part limit c life room highest : ℕ) (pos : 0 <
     module _ (h : (f : FlightState) → s.log.flight ≡ Some f → Before n s.tokens s.log s.lasting.number s.lasting.inc) where
       -- what is in flight of it
       flying : (f : FlightState) → s.log.flight ≡ Some f → Before n s.tokens (record s.log { flight = Some f }) s.lasting.number s.lasting.inc
-      flying f is = subst (λ (o : Option FlightState). Before n s.tokens (record s.log { flight = o }) s.lasting.number s.lasting.inc) is (h f is)
+      flying f fact = subst (λ (o : Option FlightState). Before n s.tokens (record s.log { flight = o }) s.lasting.number s.lasting.inc) fact (h f fact)
 
       abbrev acked : SegName → ℕ → ℕ → Option FlightState → log.Done
       acked name index generation None = still s.log
       acked name index generation (Some f) = if flights.is_of f name index generation then log.looked_at s.log s.log (flights.noting f index) else still s.log
 
       acked_so : (name : SegName) (index generation : ℕ) (o : Option FlightState) → s.log.flight ≡ o → Wrote n s (acked name index generation o)
-      acked_so name index generation None is = still_logged
-      acked_so name index generation (Some f) is =
+      acked_so name index generation None fact = still_logged
+      acked_so name index generation (Some f) fact =
           by_test (λ (r : log.Done). Wrote n s r) (flights.is_of f name index generation) (log.looked_at s.log s.log (flights.noting f index)) (still s.log)
           (λ t. looked_so n s s.log (flights.noting f index)
           (reflown logs members part limit c life (room + 1) highest n s.tokens s.log f (flights.noting f index) s.lasting.number s.lasting.inc refl refl
-          (flying f is))
+          (flying f fact))
           s.log here)
           (λ t. still_logged)
 
@@ -238,13 +238,13 @@ module _ (logs : Bool) (members part limit c life room highest : ℕ) (pos : 0 <
       mapped groups (Some f) = log.looked_at s.log (record s.log { groups = groups }) f
 
       mapped_so : (groups : GroupMapState) (o : Option FlightState) → s.log.flight ≡ o → Wrote n s (mapped groups o)
-      mapped_so groups None is =
+      mapped_so groups None fact =
           frames.goes_still logs members part limit c life room highest n (record s { log = record s.log { groups = groups } })
           (regrouped logs members part limit c life room highest n s.tokens s.log groups s.lasting.number s.lasting.inc here)
-      mapped_so groups (Some f) is =
+      mapped_so groups (Some f) fact =
           looked_so n s (record s.log { groups = groups }) f
           (regrouped logs members part limit c life (room + 1) highest n s.tokens (record s.log { flight = Some f }) groups s.lasting.number s.lasting.inc
-          (flying f is)) s.log here
+          (flying f fact)) s.log here
 
       pub acks_so : (name : SegName) (index generation : ℕ) → Goes n (writes s (log_in.Acked name index generation))
       unfolding log.on_acked

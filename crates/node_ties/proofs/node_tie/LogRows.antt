@@ -57,23 +57,23 @@ Tells all cs =
 tells_more : (all : List Item) → length all ≤ no_item → (block : BlockId) (entry : Entry) (value : Option (List ℕ)) (cs : List (BlockId × Change))
     → Tells all cs
     → Tells all ((block, record { entry = entry; value = value }) ∷ cs)
-tells_more all within block entry None cs tells before first at is =
+tells_more all within block entry None cs tells before first at fact =
     let here : Item = Delta block entry.ver entry.hop no_item in
-    let rest = tells (before + 1) (first ++ here ∷ []) (let e = length_more first (here ∷ []) in omega arith) (is ∙ sym (append_assoc first (here ∷ []) _)) in
+    let rest = tells (before + 1) (first ++ here ∷ []) (let e = length_more first (here ∷ []) in omega arith) (fact ∙ sym (append_assoc first (here ∷ []) _)) in
     ap (λ (v : Option (List ℕ)). (block, record { version = entry.ver; value = v }) ∷ filter_map (row_told all) (items_of (before + 1) cs))
     (ap value_in (get_past all no_item within))
     ∙ ap (λ rows. (block, record { version = entry.ver; value = None }) ∷ rows) rest
-tells_more all within block entry (Some bytes) cs tells before first at is =
+tells_more all within block entry (Some bytes) cs tells before first at fact =
     let here : List Item = Block block (Some bytes) ∷ Delta block entry.ver entry.hop before ∷ [] in
-    let rest = tells (before + 2) (first ++ here) (let e = length_more first here in omega arith) (is ∙ sym (append_assoc first here _)) in
+    let rest = tells (before + 2) (first ++ here) (let e = length_more first here in omega arith) (fact ∙ sym (append_assoc first here _)) in
     let found : slice_get all before ≡ Some (Block block (Some bytes)) =
-    ap (λ n. slice_get all n) (sym at) ∙ ap (λ items. slice_get items (length first)) is ∙ get_at first (Block block (Some bytes)) _ in
+    ap (λ n. slice_get all n) (sym at) ∙ ap (λ items. slice_get items (length first)) fact ∙ get_at first (Block block (Some bytes)) _ in
     ap (λ (v : Option (List ℕ)). (block, record { version = entry.ver; value = v }) ∷ filter_map (row_told all) (items_of (before + 2) cs)) (ap value_in found)
     ∙ ap (λ rows. (block, record { version = entry.ver; value = Some bytes }) ∷ rows) rest
 
 tells_all : (all : List Item) → length all ≤ no_item → (cs : List (BlockId × Change)) → Tells all cs
-tells_all all within [] before first at is = refl
-tells_all all within (c ∷ cs) before first at is = tells_more all within c.0 c.1.entry c.1.value cs (tells_all all within cs) before first at is
+tells_all all within [] before first at fact = refl
+tells_all all within (c ∷ cs) before first at fact = tells_more all within c.0 c.1.entry c.1.value cs (tells_all all within cs) before first at fact
 
 -- the items of so few changes say what the changes do
 pub rows_told_of : (cs : List (BlockId × Change)) → length cs ≤ segment_blocks → rows_told (items_of 0 cs) ≡ map told cs

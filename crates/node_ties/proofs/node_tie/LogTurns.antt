@@ -16,15 +16,15 @@ abbrev pub IsFlown : Books → ℕ → LogState → FlightState → Type 0
 IsFlown k l s f = (f.segment.name.seq ≡ suc s.end.seq) × (k.rows l (suc (k.end l)) ≡ rows_told f.segment.items)
 
 pub flown_in : (k : Books) (l : ℕ) (s : LogState) (f : FlightState) → s.flight ≡ Some f → LogSeen k l s → IsFlown k l s f
-flown_in k l s f is seen = subst (λ (o : Option FlightState). IfSome o (IsFlown k l s)) is seen.flight
+flown_in k l s f fact seen = subst (λ (o : Option FlightState). IfSome o (IsFlown k l s)) fact seen.flight
 
 -- another log that ends so, with this in flight, or nothing
 pub flies_seen : (k : Books) (l : ℕ) (s t : LogState) (f : FlightState) → k.flying l ≡ true → k.end l ≡ s.end.seq → t.end.seq ≡ s.end.seq → t.flight ≡ Some f
     → IsFlown k l s f → LogSeen k l t
-flies_seen k l s t f flying end same is flown = record {
+flies_seen k l s t f flying end same fact flown = record {
   end = end ∙ sym same;
-  flying = flying ∙ sym (ap is_some is);
-  flight = subst (λ (o : Option FlightState). IfSome o (IsFlown k l t)) (sym is) (flown.0 ∙ ap suc (sym same), flown.1);
+  flying = flying ∙ sym (ap is_some fact);
+  flight = subst (λ (o : Option FlightState). IfSome o (IsFlown k l t)) (sym fact) (flown.0 ∙ ap suc (sym same), flown.1);
 }
 
 pub rests_seen : (k : Books) (l : ℕ) (s t : LogState) → s.flight ≡ None → t.end.seq ≡ s.end.seq → t.flight ≡ None → LogSeen k l s → LogSeen k l t

@@ -55,9 +55,15 @@ module _ (logs : Bool) (members part limit life : ℕ) where
       → AllDone logs members part limit life n (flat_map (said k epoch) outs)
   unfolding said
   said_seen n k epoch [] all = tt
-  said_seen n k epoch (out.Grant client block stamp inc req mode entry ∷ os) all = (λ inside. all _ (inl refl), said_seen n k epoch os (λ x is. all x (inr is)))
-  said_seen n k epoch (out.Forward client block stamp to inc req ver ∷ os) all = (λ inside. all _ (inl refl), said_seen n k epoch os (λ x is. all x (inr is)))
-  said_seen n k epoch (out.Recall client block stamp keep ∷ os) all = (λ inside. all _ (inl refl), said_seen n k epoch os (λ x is. all x (inr is)))
+  said_seen n k epoch (out.Grant client block stamp inc req mode entry ∷ os) all = (
+    λ inside. all _ (inl refl),
+    said_seen n k epoch os (λ x fact. all x (inr fact)),
+  )
+  said_seen n k epoch (out.Forward client block stamp to inc req ver ∷ os) all = (
+    λ inside. all _ (inl refl),
+    said_seen n k epoch os (λ x fact. all x (inr fact)),
+  )
+  said_seen n k epoch (out.Recall client block stamp keep ∷ os) all = (λ inside. all _ (inl refl), said_seen n k epoch os (λ x fact. all x (inr fact)))
   said_seen n k epoch (out.Applied log applied ∷ os) all = (tt, said_seen n k epoch os all)
   said_seen n k epoch (out.Live entry ∷ os) all = said_seen n k epoch os all
   said_seen n k epoch (out.Dead ∷ os) all = said_seen n k epoch os all
@@ -127,9 +133,9 @@ module _ (logs : Bool) (members part limit life : ℕ) where
               (λ y _ none. some_none z (sym agrees.there ∙ none)) (λ x other y some none. some_none y (sym some ∙ none)) k y some none);
           taking = λ k h. h;
           held = λ k h. sym stay.0 ∙ h;
-          grows = λ x is. in_more x (slot_packets d.outs) n.sent is;
+          grows = λ x fact. in_more x (slot_packets d.outs) n.sent fact;
           does = said_seen next k e (slot.transition a.slot given).outs
-              (λ x is. in_front x (slot_packets d.outs) n.sent (subst (λ os. In x (slot_packets os)) (sym alike.outs) is));
+              (λ x fact. in_front x (slot_packets d.outs) n.sent (subst (λ os. In x (slot_packets os)) (sym alike.outs) fact));
         };
         agrees = record {
           slot = d.state;
@@ -180,25 +186,25 @@ module _ (logs : Bool) (members part limit life : ℕ) where
 
       joined : (t : Bool) → slot_recalls.is_followed log ≡ true → slot.joins_on (applied_of a.slot.applied log.0) deltas.first deltas.upto ≡ t
           → Made n deltas.slot a (slot.transition a.slot (deltas_input log deltas))
-      joined true of is =
+      joined true of fact =
           let f = followed log.0 of in
           let nine : length agrees.slot.applied ≡ 9 = ap (λ (s : SlotState). length s.applied) agrees.same ∙ agrees.nine in
           let joins = subst (λ (applied : List ℕ). slot.joins_on (applied_of applied log.0) deltas.first deltas.upto ≡ true)
-          (sym (ap (λ (s : SlotState). s.applied) agrees.same)) is in
+          (sym (ap (λ (s : SlotState). s.applied) agrees.same)) fact in
           active_takes n deltas.slot a (deltas_input log deltas) agrees
           (GetsDeltas a.slot.epoch agrees.slot log deltas.first deltas.upto deltas.rows agrees.there (let w = f.1 in omega arith) (premise logs f.0)
           (premise_by logs
           (λ (owed : DeltasJoin members part n (phase.Active a) log deltas) latest. owed a.slot.epoch agrees.slot refl agrees.there latest joins) owed))
-      joined false of is =
+      joined false of fact =
           subst (Made n deltas.slot a)
           (sym (ap (λ t. cond t (slot.deltas_of a.slot log deltas.first deltas.upto deltas.rows) (still a.slot)) of
-          ∙ ap (λ t. cond t (slot.apply_or_not a.slot log deltas.upto deltas.rows) (slot.told_applied a.slot log)) is))
+          ∙ ap (λ t. cond t (slot.apply_or_not a.slot log deltas.upto deltas.rows) (slot.told_applied a.slot log)) fact))
           (event_same n (phase.Active a) _ agrees (tt, tt))
 
       by : (t : Bool) → slot_recalls.is_followed log ≡ t → Made n deltas.slot a (slot.transition a.slot (deltas_input log deltas))
-      by true is = joined (slot.joins_on (applied_of a.slot.applied log.0) deltas.first deltas.upto) is refl
-      by false is =
-          subst (Made n deltas.slot a) (sym (ap (λ t. cond t (slot.deltas_of a.slot log deltas.first deltas.upto deltas.rows) (still a.slot)) is))
+      by true fact = joined (slot.joins_on (applied_of a.slot.applied log.0) deltas.first deltas.upto) fact refl
+      by false fact =
+          subst (Made n deltas.slot a) (sym (ap (λ t. cond t (slot.deltas_of a.slot log deltas.first deltas.upto deltas.rows) (still a.slot)) fact))
           (event_same n (phase.Active a) [] agrees tt)
 
   pub slot_deltas : (n : Net) (p : SlotPhase) (log : LogId) (deltas : Deltas) → PhaseAgrees members part n p

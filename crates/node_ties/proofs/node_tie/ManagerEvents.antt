@@ -77,7 +77,7 @@ module _ (logs : Bool) (members part limit j : ℕ) (n : Net) where
       (neutral_acts (Manager j) (DoesAt logs members part limit life m) (λ a neutral. neutral) outs does))
 
   done_agrees : (m : Net) (outs : List Effect) (p : Phase) → ManagerAgrees members part m j p → ManagerAgrees members part (done m outs) j p
-  done_agrees m outs p agrees = manager_on members part m (done m outs) (λ x is. is) (omega arith) j p (λ e held. refl) agrees
+  done_agrees m outs p agrees = manager_on members part m (done m outs) (λ x fact. fact) (omega arith) j p (λ e held. refl) agrees
 
   done_acts : (m : Net) (outs : List Effect) → m.acts ≡ n.acts → (done m outs).acts ≡ n.acts ++ acts_of (Manager j) outs
   done_acts m outs same = ap (λ acts. acts ++ acts_of (Manager j) outs) same
@@ -96,13 +96,13 @@ module _ (logs : Bool) (members part limit j : ℕ) (n : Net) where
     slots = λ e other. refl;
     entered = λ e z some none. nothing_enters n e z some none;
     taken = λ e h. absurd h;
-    rises = λ _ is. contrary is;
+    rises = λ _ fact. contrary fact;
     within = omega arith;
-    grows = λ x is. is;
+    grows = λ x fact. fact;
     does = all_of kept.inc outs does;
     later = omega arith;
-    restarts = λ is. contrary is;
-    opens = λ is. contrary is;
+    restarts = λ fact. contrary fact;
+    opens = λ fact. contrary fact;
     lives = inl lives;
   }
 
@@ -121,13 +121,13 @@ module _ (logs : Bool) (members part limit j : ℕ) (n : Net) where
     slots = λ e other. refl;
     entered = λ e z some none. nothing_enters n e z some none;
     taken = λ e h. absurd h;
-    rises = λ _ is. contrary is;
+    rises = λ _ fact. contrary fact;
     within = omega arith;
-    grows = λ x is. is;
+    grows = λ x fact. fact;
     does = all_of kept.inc outs does;
     later = later;
     restarts = λ _ h. new h;
-    opens = λ is. contrary is;
+    opens = λ fact. contrary fact;
     lives = inr refl;
   }
 
@@ -154,8 +154,8 @@ module _ (logs : Bool) (members part limit j : ℕ) (exists : part < 8) (n : Net
     does = subst (λ life. All (ManagerDoes part h.next.sent limit life) d.outs) (sym h.lives)
         (All-from_recursion (ManagerDoes part h.next.sent limit s.lasting.inc) d.outs h.goes.does);
     later = let same = h.lives in omega arith;
-    restarts = λ is. contrary is;
-    opens = λ _ is. contrary (sym is);
+    restarts = λ fact. contrary fact;
+    opens = λ _ fact. contrary (sym fact);
     lives = inl h.lives;
   }
 
@@ -168,7 +168,7 @@ module _ (logs : Bool) (members part limit j : ℕ) (exists : part < 8) (n : Net
   to_itself : (p : Phase) (what : Do) → ManagerAgrees members part n j p → epoch_in part p ≤ limit → ManagerGoes logs members part limit j n p what (still p)
   to_itself (Down kept) what agrees low = to_down logs members part limit j n (Down kept) what kept [] agrees refl tt
   to_itself (Waiting kept hello) what agrees low = to_waiting logs members part limit j n (Waiting kept hello) what kept hello [] agrees (omega arith)
-      (λ is. contrary (sym is)) tt
+      (λ fact. contrary (sym fact)) tt
   to_itself (Serves s) what agrees low =
       serves_on s what (still s) agrees.number low (serves_quiet logs members part limit s.lasting.inc exists n s.lasting.number s.lasting.inc s.slots (still s)
       (record { number = refl; lives = refl; stays = stays_same logs members part limit s.lasting.inc n (phase_at s.slots part) [] tt; agrees = agrees.table }))
@@ -254,7 +254,8 @@ module _ (logs : Bool) (members part limit j : ℕ) (exists : part < 8) (n : Net
   begin_goes (Waiting kept hello) agrees low room = by (next_item kept.items)
     where
       by : (o : Option ℕ) → ManagerGoes logs members part limit j n (Waiting kept hello) Begin (waiting_item (with_begun kept) hello o)
-      by None = to_waiting logs members part limit j n (Waiting kept hello) Begin (with_begun kept) hello [] agrees (omega arith) (λ is. contrary (sym is)) tt
+      by None =
+          to_waiting logs members part limit j n (Waiting kept hello) Begin (with_begun kept) hello [] agrees (omega arith) (λ fact. contrary (sym fact)) tt
       by (Some number) = waiting_goes (Waiting kept hello) (with_begun kept) hello number (work_at (with_begun kept).items number) agrees refl refl
   begin_goes (Serves s) agrees low room = by (next_item s.lasting.items)
     where
@@ -268,7 +269,7 @@ module _ (logs : Bool) (members part limit j : ℕ) (exists : part < 8) (n : Net
   unfolding on_time
   time_goes (Down kept) agrees low = to_itself (Down kept) Tick agrees low
   time_goes (Waiting kept ask) agrees low = to_waiting logs members part limit j n (Waiting kept ask) Tick kept ask _ agrees (omega arith)
-      (λ is. contrary (sym is)) ((omega arith), tt)
+      (λ fact. contrary (sym fact)) ((omega arith), tt)
   time_goes (Serves s) agrees low =
       serves_on s Tick (on_tick s) agrees.number low (serves_tick logs members part limit s.lasting.inc exists n s agrees.table low)
 
@@ -298,7 +299,7 @@ module _ (logs : Bool) (members part limit j : ℕ) (exists : part < 8) (n : Net
       → packet.body ≡ body.Welcome welcome → WaitingGets part limit j n kept.inc (body.Welcome welcome)
       → takes_welcome peers kept hello welcome ≡ true → ManagerGoes logs members part limit j n (Waiting kept hello) (Deliver packet)
       (serves (on_news (again kept (forgotten peers.servers) welcome.news.groups) peers.clients welcome.news))
-  opens_goes clients peers kept hello packet welcome many is_j is gets takes =
+  opens_goes clients peers kept hello packet welcome many is_j fact gets takes =
       let what : Do = Deliver packet in
       let answered : (welcome.inc == kept.inc) && (welcome.ask == hello) ≡ true = and_first ((welcome.inc == kept.inc) && (welcome.ask == hello))
       (fits (forgotten peers.servers) welcome.news) takes in
@@ -312,7 +313,7 @@ module _ (logs : Bool) (members part limit j : ℕ) (exists : part < 8) (n : Net
         number = is_j;
         many = sym many;
         gets = subst (λ k. AllNewsGets part limit j n k welcome.news.slots) (sym none) g.slots;
-        names = λ news there of ours. subst (NamedBy part j news.epoch) (sym is) (news, there, of, refl, ours);
+        names = λ news there of ours. subst (NamedBy part j news.epoch) (sym fact) (news, there, of, refl, ours);
       }) (newer welcome.news.version g.newer) in
       let d = on_news s peers.clients welcome.news in
       record {
@@ -333,7 +334,7 @@ module _ (logs : Bool) (members part limit j : ℕ) (exists : part < 8) (n : Net
         does = subst (λ life. All (ManagerDoes part h.next.sent limit life) d.outs) (sym h.lives)
             (All-from_recursion (ManagerDoes part h.next.sent limit kept.inc) d.outs h.goes.does);
         later = let same = h.lives in omega arith;
-        restarts = λ is. contrary is;
+        restarts = λ fact. contrary fact;
         opens = λ _ _. record {
           kept = kept;
           hello = hello;
@@ -341,7 +342,7 @@ module _ (logs : Bool) (members part limit j : ℕ) (exists : part < 8) (n : Net
           welcome = welcome;
           was = refl;
           gets = refl;
-          bears = is;
+          bears = fact;
           inc = same_inc;
           ask = same_ask;
           life = h.lives;
@@ -356,16 +357,16 @@ module _ (logs : Bool) (members part limit j : ℕ) (exists : part < 8) (n : Net
   waits_on : (kept : Kept) (hello : ℕ) (packet : Sent) → kept.number ≡ j
       → ManagerGoes logs members part limit j n (Waiting kept hello) (Deliver packet) (still (Waiting kept hello))
   waits_on kept hello packet is_j = to_waiting logs members part limit j n (Waiting kept hello) (Deliver packet) kept hello [] is_j (omega arith)
-      (λ is. contrary (sym is)) tt
+      (λ fact. contrary (sym fact)) tt
 
   waiting_gets : (peers : Peers) (kept : Kept) (hello : ℕ) (packet : Sent) (b : Body) → members ≡ peers.clients + 1 → kept.number ≡ j → packet.body ≡ b
       → WaitingGets part limit j n kept.inc b → ManagerGoes logs members part limit j n (Waiting kept hello) (Deliver packet) (on_waiting peers kept hello b)
   unfolding on_welcome
-  waiting_gets peers kept hello packet (body.Welcome welcome) many is_j is gets =
+  waiting_gets peers kept hello packet (body.Welcome welcome) many is_j fact gets =
       by_test (ManagerGoes logs members part limit j n (Waiting kept hello) (Deliver packet)) (takes_welcome peers kept hello welcome)
       (serves (on_news (again kept (forgotten peers.servers) welcome.news.groups) peers.clients welcome.news)) (still (Waiting kept hello))
-      (λ takes. opens_goes peers.clients peers kept hello packet welcome many is_j is gets takes) (λ _. waits_on kept hello packet is_j)
-  waiting_gets peers kept hello packet _ many is_j is gets = waits_on kept hello packet is_j
+      (λ takes. opens_goes peers.clients peers kept hello packet welcome many is_j fact gets takes) (λ _. waits_on kept hello packet is_j)
+  waiting_gets peers kept hello packet _ many is_j fact gets = waits_on kept hello packet is_j
 
   packet_goes : (peers : Peers) (p : Phase) (packet : Sent) → members ≡ peers.clients + 1 → ManagerAgrees members part n j p → epoch_in part p ≤ limit
       → EventGets logs part limit j n members p (Deliver packet) → ManagerGoes logs members part limit j n p (Deliver packet) (on_packet peers p packet)
@@ -374,7 +375,7 @@ module _ (logs : Bool) (members part limit j : ℕ) (exists : part < 8) (n : Net
   packet_goes peers (Serves s) packet many agrees low gets =
       to_serving s (Deliver packet) (hears s peers.clients packet) agrees.number
       (went_hears logs members part limit s.lasting.inc exists j (λ e. Names part j e (Deliver packet)) n s peers.clients packet agrees.number refl
-      (sym many) agrees.table low gets (λ e is. is))
+      (sym many) agrees.table low gets (λ e fact. fact))
 
   deliver_goes : (peers : Peers) (p : Phase) (packet : Sent) → members ≡ peers.clients + 1 → ManagerAgrees members part n j p → epoch_in part p ≤ limit
       → EventGets logs part limit j n members p (Deliver packet) → ManagerGoes logs members part limit j n p (Deliver packet) (on_deliver peers p packet)

@@ -22,10 +22,10 @@ one_fetch t ask k = by (slice_get t k)
 
 pub fetch_is : (t : Table) (ask : ℕ) (slots : List ℕ) (which : ℕ × ℕ) → table.fetch_among t ask slots ≡ Some which
     → fetch_in (phase_at t which.0) ask ≡ Some which.1
-fetch_is t ask [] which is = absurd (some_none which (sym is))
-fetch_is t ask (k ∷ ks) which is = by (table.fetch_at t ask k) refl is (fetch_is t ask ks which)
+fetch_is t ask [] which fact = absurd (some_none which (sym fact))
+fetch_is t ask (k ∷ ks) which fact = by (table.fetch_at t ask k) refl fact (fetch_is t ask ks which)
   where
     by : (o : Option ℕ) → table.fetch_at t ask k ≡ o → table.first_fetch k o (table.fetch_among t ask ks) ≡ Some which
         → (table.fetch_among t ask ks ≡ Some which → fetch_in (phase_at t which.0) ask ≡ Some which.1) → fetch_in (phase_at t which.0) ask ≡ Some which.1
-    by None at is more = more is
-    by (Some own) at is more = subst (λ (w : ℕ × ℕ). fetch_in (phase_at t w.0) ask ≡ Some w.1) (some_is (k, own) which is) (sym (one_fetch t ask k) ∙ at)
+    by None at fact more = more fact
+    by (Some own) at fact more = subst (λ (w : ℕ × ℕ). fetch_in (phase_at t w.0) ask ≡ Some w.1) (some_is (k, own) which fact) (sym (one_fetch t ask k) ∙ at)

@@ -31,7 +31,7 @@ module _ (members part : ℕ) (n m : Net) (grows : Grows n m) (promises : n.prom
     slot = agrees.slot;
     epoch = agrees.epoch;
     clients = agrees.clients;
-    reported = λ r is. report_on t.epoch r.from r.held r.end (agrees.reported r is);
+    reported = λ r fact. report_on t.epoch r.from r.held r.end (agrees.reported r fact);
     once = agrees.once;
     ready = agrees.ready;
   }

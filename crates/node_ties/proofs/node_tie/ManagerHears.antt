@@ -51,7 +51,7 @@ module _ (logs : Bool) (members part limit life : ℕ) (exists : part < 8) (j : 
     goes = goes_moving logs members part limit life named n h.event.next (phase_at s.slots part) (phase_at d.state.slots part) d.outs h.event.moves;
     agrees = h.event.agrees;
     within = serves.low_on logs members part limit life exists n s.lasting.number s.lasting.inc s.slots d h low;
-    above = λ is. contrary is;
+    above = λ fact. contrary fact;
   }
 
   -- how the slots rise, where nothing happens in the small world
@@ -83,7 +83,7 @@ module _ (logs : Bool) (members part limit life : ℕ) (exists : part < 8) (j : 
         rises = rises_of logs members part limit life named n _ _ [] (stays_same logs members part limit life n (phase_at s.slots part) [] tt);
         agrees = agrees;
         within = low;
-        above = λ is. contrary is;
+        above = λ fact. contrary fact;
       }
       by (Some groups) =
           let h = table_hears_all logs members part limit life exists named j n (hearer_of s clients groups) (asker_of s) slots
@@ -129,13 +129,13 @@ module _ (logs : Bool) (members part limit life : ℕ) (exists : part < 8) (j : 
             (phase_at e.state.slots part) d.outs e.outs h.goes k.stays;
         agrees = k.agrees;
         within = let w = h.within in omega arith;
-        above = λ is news there of. let a = h.above is news there of in omega arith;
+        above = λ fact news there of. let a = h.above fact news there of in omega arith;
       }
 
   went_less : (n : Net) (s : Serving) (known : Bool) (slots : List SlotNews) (d : Done) → Went n s.lasting.number s.lasting.inc s.slots known slots d
       → WentOf n s d
   went_less n s known slots d h =
-      record { numbered = h.numbered; lives = h.lives; next = h.next; goes = h.goes; agrees = h.agrees; within = h.within; above = λ is. contrary is }
+      record { numbered = h.numbered; lives = h.lives; next = h.next; goes = h.goes; agrees = h.agrees; within = h.within; above = λ fact. contrary fact }
 
   serves_regroups : (n : Net) (s : Serving) (groups : GroupMapState) → TableAgrees members part n s.slots
       → serves.Low logs members part limit life exists s.slots → serves.Of logs members part limit life exists n s (regroups s groups)
@@ -217,7 +217,7 @@ module _ (logs : Bool) (members part limit life : ℕ) (exists : part < 8) (j : 
       → ServingGets logs part limit j n members s.lasting.inc (phase_at s.slots part) from b → ((e : ℕ) → NamedBy part j e b → named e) → WentOf n s
       (on_body s clients from b)
   went_body n s clients from (body.MapNews news) number many agrees low gets names = went_fitting n s clients news agrees low
-      (record { number = number; many = many; gets = gets; names = λ x is of ours. names x.epoch (x, is, of, refl, ours) })
+      (record { number = number; many = many; gets = gets; names = λ x fact of ours. names x.epoch (x, fact, of, refl, ours) })
   went_body n s clients from (body.Welcome welcome) number many agrees low gets names =
       by_test (WentOf n s) (welcome.inc == s.lasting.inc) (on_fitting_news s clients welcome.news) (still s)
       (λ same. went_fitting n s clients welcome.news agrees low
@@ -225,8 +225,8 @@ module _ (logs : Bool) (members part limit life : ℕ) (exists : part < 8) (j : 
         number = number;
         many = many;
         gets = gets (eqb-true welcome.inc s.lasting.inc same);
-        names = λ x is of ours. names x.epoch
-            (x, is, of, refl, ours);
+        names = λ x fact of ours. names x.epoch
+            (x, fact, of, refl, ours);
       }))
       (λ _. went_still n s agrees low)
   went_body n s clients from (body.Want want) number many agrees low gets names =

@@ -72,12 +72,12 @@ module _ (k : ℕ) where
   the_job j job h = cc
 
   of_found : (jobs : List (BlockId × Job)) (block : BlockId) (job : Job) → AreOf jobs → slot_recalls.job_at jobs block ≡ Some job → IsOf job.want.block
-  of_found [] block job all is = absurd (cc)
-  of_found (e ∷ es) block job all is =
+  of_found [] block job all fact = absurd (cc)
+  of_found (e ∷ es) block job all fact =
       elim (is_at (block_cmp block) e.0) as (λ t. cond t (Some e.1) (slot_recalls.job_at es block) ≡ Some job → IsOf job.want.block) [
         | true ↦ λ h. subst (λ (j : Job). IsOf j.want.block) (the_job e.1 job h) all.0.1
         | false ↦ λ h. of_found es block job all.1 h
-      ] is
+      ] fact
 
   -- ---- steps
 
@@ -108,7 +108,7 @@ module _ (k : ℕ) where
   of_finished_at : (s : SlotState) (block : BlockId) → AreOf s.jobs → KeepsTo (slot.finished_at s block)
   of_finished_at s block all =
       by_finished_at KeepsTo s block (record { jobs = all; outs = tt })
-      (λ job is. of_finished (let_go s block) job.want (of_removed (is_at (block_cmp block)) s.jobs all) (of_found s.jobs block job all is))
+      (λ job fact. of_finished (let_go s block) job.want (of_removed (is_at (block_cmp block)) s.jobs all) (of_found s.jobs block job all fact))
 
   of_steps : (s : SlotState) (blocks : List BlockId) → AreOf s.jobs → KeepsTo (steps slot.finished_at s blocks)
   of_steps s [] all = record { jobs = all; outs = tt }
@@ -132,9 +132,9 @@ module _ (k : ℕ) where
       (λ _. record { jobs = of_put s.jobs block _ all of of; outs = of_sent block (recalls s.epoch s.turn (not (is_own mode)) (recalled_from s want)) of })
   of_takes s (input.Gave client block stamp end) of all =
       by_gave KeepsTo s client block stamp end (record { jobs = all; outs = tt })
-      (λ job is _. of_finished (all_given s client block job.want) job.want (of_removed (is_at (block_cmp block)) s.jobs all)
-      (of_found s.jobs block job all is))
-      (λ job is. record { jobs = of_put s.jobs block _ all of (of_found s.jobs block job all is); outs = tt })
+      (λ job fact _. of_finished (all_given s client block job.want) job.want (of_removed (is_at (block_cmp block)) s.jobs all)
+      (of_found s.jobs block job all fact))
+      (λ job fact. record { jobs = of_put s.jobs block _ all of (of_found s.jobs block job all fact); outs = tt })
   of_takes s (input.Deltas log first upto rows) of all =
       by_deltas KeepsTo s log first upto rows (record { jobs = all; outs = tt }) (record { jobs = all; outs = (tt, tt) })
       (λ _. let t = of_steps (slot.with_deltas s log upto rows) (ready_blocks s.jobs (slot_recalls.applied_upto s.applied log upto)) all in

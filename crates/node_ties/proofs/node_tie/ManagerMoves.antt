@@ -19,13 +19,13 @@ use Rattle.node_ties.specs.node_tie.ManagerEvents.{TakingAt, HeldAt}
 use Rattle.node_ties.proofs.node_tie.SmallWorld.{runs_through, promised_stays}
 
 pub in_more : {X : Type 0} (x : X) (xs ys : List X) → In x ys → In x (xs ++ ys)
-in_more x [] ys is = is
-in_more x (z ∷ zs) ys is = inr (in_more x zs ys is)
+in_more x [] ys fact = fact
+in_more x (z ∷ zs) ys fact = inr (in_more x zs ys fact)
 
 pub in_front : {X : Type 0} (x : X) (xs ys : List X) → In x xs → In x (xs ++ ys)
-in_front x [] ys is = absurd is
+in_front x [] ys fact = absurd fact
 in_front x (z ∷ zs) ys (inl same) = inl same
-in_front x (z ∷ zs) ys (inr is) = inr (in_front x zs ys is)
+in_front x (z ∷ zs) ys (inr fact) = inr (in_front x zs ys fact)
 
 pub all_both : {X : Type 0} (P : X → Type 0) (xs ys : List X) → AllByRecursion P xs → AllByRecursion P ys → AllByRecursion P (xs ++ ys)
 all_both P [] ys all more = more
@@ -122,7 +122,7 @@ module _ (logs : Bool) (members part limit life : ℕ) where
     entered = λ e z some none. absurd (clash n n e z refl some none);
     taking = t.taking;
     held = t.held;
-    grows = λ x is. is;
+    grows = λ x fact. fact;
     does = t.does;
   }
 
@@ -149,13 +149,13 @@ module _ (logs : Bool) (members part limit life : ℕ) where
     entered = λ e z some none. by e z (m.slots e) refl some none;
     taking = λ e h. t.taking e (u.taking e h);
     held = λ e h. t.held e (u.held e h);
-    grows = λ x is. u.grows x (t.grows x is);
+    grows = λ x fact. u.grows x (t.grows x fact);
     does = all_both (DoesAt o) outs more (done_on m o u.grows outs t.does) u.does;
   }
     where
       by : (e : ℕ) (z : SlotState) (o_ : Option SlotState) → m.slots e ≡ o_ → o.slots e ≡ Some z → n.slots e ≡ None → TakingAt p e × (e ≤ n.promised)
-      by e z None is some none = (let h = u.entered e z some is in (t.taking e h.0, subst (λ k. e ≤ k) (promised_stays logs members part n m t.runs) h.1))
-      by e z (Some y) is some none = t.entered e y is none
+      by e z None fact some none = (let h = u.entered e z some fact in (t.taking e h.0, subst (λ k. e ≤ k) (promised_stays logs members part n m t.runs) h.1))
+      by e z (Some y) fact some none = t.entered e y fact none
 
   -- ---- the slot gets a later epoch, where nothing happens in the small world: these epochs are named
 

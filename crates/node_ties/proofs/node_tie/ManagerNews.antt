@@ -117,28 +117,28 @@ module _ (logs : Bool) (members part limit life : ℕ) (exists : part < 8) where
     rises = rises_of logs members part limit life named n _ _ [] (stays_same logs members part limit life n (phase_at a.table part) [] tt);
     agrees = agrees;
     within = low;
-    above = λ news is. absurd is;
+    above = λ news fact. absurd fact;
   }
   table_hears_all named j n h a (news ∷ slots) ears agrees low gets named_ =
       let d = table.hears h a news in
       let one = table_hears named j n h a news ears agrees low (gets news (inl refl)) (named_ news (inl refl)) in
       let up = one.0.rises.rises in
       let rest = table_hears_all named j n h d.state slots ears one.0.agrees one.0.within
-      (λ x is same. later_gets j n (epoch_of (phase_at a.table part)) (epoch_of (phase_at d.state.table part)) x up (gets x (inr is) same))
-      (λ x is. named_ x (inr is)) in
+      (λ x fact same. later_gets j n (epoch_of (phase_at a.table part)) (epoch_of (phase_at d.state.table part)) x up (gets x (inr fact) same))
+      (λ x fact. named_ x (inr fact)) in
       record {
         rises = rises_then logs members part limit life named n (phase_at a.table part) (phase_at d.state.table part)
             (phase_at (table.hears_all h d.state slots).state.table part) d.outs (table.hears_all h d.state slots).outs one.0.rises rest.rises;
         agrees = rest.agrees;
         within = rest.within;
-        above = λ x is same. either x (phase_at d.state.table part) (phase_at (table.hears_all h d.state slots).state.table part) news rest.rises.rises one.1
-            (λ there. rest.above x there same) is same;
+        above = λ x fact same. either x (phase_at d.state.table part) (phase_at (table.hears_all h d.state slots).state.table part) news rest.rises.rises one.1
+            (λ there. rest.above x there same) fact same;
       }
     where
       either : (x : SlotNews) (p q : SlotPhase) (y : SlotNews) → epoch_of p ≤ epoch_of q → (y.slot ≡ part → y.epoch ≤ epoch_of p)
           → (In x slots → x.epoch ≤ epoch_of q) → (x ≡ y) ⊎ In x slots → x.slot ≡ part → x.epoch ≤ epoch_of q
-      either x p q y up above rest (inl is) same =
-          let here = above (sym (ap (λ (z : SlotNews). z.slot) is) ∙ same) in
-          let e : x.epoch ≡ y.epoch = ap (λ (z : SlotNews). z.epoch) is in
+      either x p q y up above rest (inl fact) same =
+          let here = above (sym (ap (λ (z : SlotNews). z.slot) fact) ∙ same) in
+          let e : x.epoch ≡ y.epoch = ap (λ (z : SlotNews). z.epoch) fact in
           omega arith
-      either x p q y up above rest (inr is) same = rest is
+      either x p q y up above rest (inr fact) same = rest fact

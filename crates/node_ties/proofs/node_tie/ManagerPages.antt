@@ -162,7 +162,7 @@ stays_same s = (refl, refl)
 
 steps_stay : (s : SlotState) (blocks : List BlockId) → Stays s (steps slot.finished_at s blocks)
 steps_stay s blocks = steps_keep slot.finished_at (λ t. (t.epoch ≡ s.epoch) × (length t.applied ≡ length s.applied))
-    (λ t block h. by_finished_at (λ r. (r.state.epoch ≡ s.epoch) × (length r.state.applied ≡ length s.applied)) t block h (λ job is. h)) s blocks (refl, refl)
+    (λ t block h. by_finished_at (λ r. (r.state.epoch ≡ s.epoch) × (length r.state.applied ≡ length s.applied)) t block h (λ job fact. h)) s blocks (refl, refl)
 
 pub takes_stay : (s : SlotState) (given : In) → Stays s (slot.transition s given)
 takes_stay s (input.Want client block inc req again mode end) = by_want (Stays s) s (slot.want_of client block inc req again mode) end (stays_same s)

@@ -22,9 +22,9 @@ use Rattle.node_ties.proofs.node_tie.ManagerTakes.{IsPlain, ArePlain, fetches_pl
 pub plain_hands_nothing : (outs : List Out) → ArePlain outs
     → (epoch : ℕ) (index : List (BlockId × Entry)) (beliefs : List (BlockId × ℕ × Mode)) (applied : List ℕ)
     → In (Active epoch index beliefs applied) outs → ⊥
-plain_hands_nothing [] plain epoch index beliefs applied is = is
-plain_hands_nothing (o ∷ outs) plain epoch index beliefs applied (inl is) = subst IsPlain (sym is) plain.0
-plain_hands_nothing (o ∷ outs) plain epoch index beliefs applied (inr is) = plain_hands_nothing outs plain.1 epoch index beliefs applied is
+plain_hands_nothing [] plain epoch index beliefs applied fact = fact
+plain_hands_nothing (o ∷ outs) plain epoch index beliefs applied (inl fact) = subst IsPlain (sym fact) plain.0
+plain_hands_nothing (o ∷ outs) plain epoch index beliefs applied (inr fact) = plain_hands_nothing outs plain.1 epoch index beliefs applied fact
 
 -- newer groups never end a takeover
 pub maps_said : (s : TakeState) (groups : GroupMapState) → ArePlain (transition s (input.Maps groups)).outs

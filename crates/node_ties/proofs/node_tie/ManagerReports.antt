@@ -53,20 +53,20 @@ abbrev First : List Heard → ℕ → Type 0
 First reports c = (q : Heard) × In q reports × (q.from ≡ Client c) × (rows_of reports c ≡ q.held) × (end_from (Client c) reports ≡ q.end)
 
 first_found : (reports : List Heard) (c : ℕ) (r : Heard) → In r reports → r.from ≡ Client c → First reports c
-first_found [] c r is from = absurd is
-first_found (x ∷ xs) c r is from =
+first_found [] c r fact from = absurd fact
+first_found (x ∷ xs) c r fact from =
     elim (same_node x.from (Client c)) as (λ t. same_node x.from (Client c) ≡ t → (q : Heard) × In q (x ∷ xs) × (q.from ≡ Client c) ×
     (cond t x.held (rows_of xs c) ≡ q.held) × (cond t x.end (end_from (Client c) xs) ≡ q.end)) [
       | true ↦ λ same. (x, inl refl, same_node_is x.from (Client c) same, refl, refl)
       | false ↦ λ other.
           let there : In r xs = ⊎_elim (λ same. absurd (contrary
           (sym other ∙ subst (λ k. same_node k (Client c) ≡ true) (sym from ∙ ap (λ (y : Heard). y.from) same) (same_node_itself (Client c)))))
-          (λ h. h) is in
+          (λ h. h) fact in
           let rest = first_found xs c r there from in (rest.0, inr rest.1, rest.2, rest.3, rest.4)
     ] refl
 
 rows_are : (reports : List Heard) → IsOnce reports → (c : ℕ) (r : Heard) → In r reports → r.from ≡ Client c → rows_of reports c ≡ r.held
-rows_are reports once c r is from = let q = first_found reports c r is from in q.3 ∙ once q.0 r q.1 is (q.2 ∙ sym from)
+rows_are reports once c r fact from = let q = first_found reports c r fact from in q.3 ∙ once q.0 r q.1 fact (q.2 ∙ sym from)
 
 both_reported : (rows : ℕ → List (BlockId × Mode)) (cs ds : List ℕ) → all_reported rows (cs ++ ds) ≡ all_reported rows cs ++ all_reported rows ds
 both_reported rows [] ds = refl
@@ -86,19 +86,19 @@ beliefs_are : (rows : ℕ → List (BlockId × Mode)) (reports : List Heard) →
     → beliefs_of reports ≡ all_reported rows (order_of reports)
 beliefs_are rows [] say = refl
 beliefs_are rows (r ∷ rs) say =
-    ap (λ xs. held_by r.from r.held ++ xs) (beliefs_are rows rs (λ c q is. say c q (inr is))) ∙ ap (λ xs. xs ++ all_reported rows (order_of rs))
+    ap (λ xs. held_by r.from r.held ++ xs) (beliefs_are rows rs (λ c q fact. say c q (inr fact))) ∙ ap (λ xs. xs ++ all_reported rows (order_of rs))
     (one_reported rows r.from r.held (λ c. say c r (inl refl)))
     ∙ sym (both_reported rows (client_of r.from) (order_of rs))
 
 contains_either : (cs ds : List ℕ) (c : ℕ) → Contains ds c → Contains (cs ++ ds) c
-contains_either [] ds c is = is
-contains_either (d ∷ cs) ds c is = contains_rest d c (cs ++ ds) (contains_either cs ds c is)
+contains_either [] ds c fact = fact
+contains_either (d ∷ cs) ds c fact = contains_rest d c (cs ++ ds) (contains_either cs ds c fact)
 
 in_order : (reports : List Heard) (c : ℕ) (r : Heard) → In r reports → r.from ≡ Client c → Contains (order_of reports) c
-in_order [] c r is from = absurd is
+in_order [] c r fact from = absurd fact
 in_order (x ∷ xs) c r (inl same) from = subst (λ k. Contains (client_of k ++ order_of xs) c) (sym from ∙ ap (λ (y : Heard). y.from) same)
     (contains_first c (order_of xs))
-in_order (x ∷ xs) c r (inr is) from = contains_either (client_of x.from) (order_of xs) c (in_order xs c r is from)
+in_order (x ∷ xs) c r (inr fact) from = contains_either (client_of x.from) (order_of xs) c (in_order xs c r fact from)
 
 in_range : (a n c : ℕ) → a ≤ c → c < a + n → In (client_after c) (map client_after (range_with_len a n))
 in_range a zero c low high = absurd (omega arith)
@@ -156,7 +156,7 @@ module _ (members part : ℕ) (n : Net) where
       → AllByRecursion IsClient (order_of reports)
   are_clients e [] known = tt
   are_clients e (r ∷ rs) known = all_both IsClient (client_of r.from) (order_of rs) (one r.from r.held r.end (known r (inl refl)))
-      (are_clients e rs (λ q is. known q (inr is)))
+      (are_clients e rs (λ q fact. known q (inr fact)))
     where
       one : (node : NodeId) (held : List (BlockId × Mode)) (end : End) → ReportKnown members part n e node held end → AllByRecursion IsClient (client_of node)
       one (Client c) held end k = ((k.0, k.1), tt)
@@ -167,7 +167,7 @@ module _ (members part : ℕ) (n : Net) where
 
   known_at : (e c : ℕ) (node : NodeId) (held : List (BlockId × Mode)) (end : End) → node ≡ Client c → ReportKnown members part n e node held end
       → In (ReportSent c e held end.seq) n.sent
-  known_at e c node held end is known = (subst (λ k. ReportKnown members part n e k held end) is known).2
+  known_at e c node held end fact known = (subst (λ k. ReportKnown members part n e k held end) fact known).2
 
   -- once all have reported, the slot becomes active in the small world
   pub activates : (logs : Bool) (s : TakeState) (e : ℕ) (index : List (BlockId × Entry)) (applied : List ℕ) → n.slots e ≡ None → s.clients + 1 ≡ members

@@ -138,15 +138,15 @@ module _ (logs : Bool) (members part limit life : ℕ) (exists : part < 8) where
   serves_answer n s ask given agrees low none owed = by (fetch_of s ask) refl
     where
       by : (o : Option (ℕ × ℕ)) → fetch_of s ask ≡ o → Of n s (answered_by s o given)
-      by None is = still_serves n s agrees
-      by (Some which) is = serves_takes n s which.0 (given which.1) agrees low (none which.1)
-          (λ same. owed which.1 (subst (λ k. fetch_in (phase_at s.slots k) ask ≡ Some which.1) same (fetch_is s.slots ask table.all_slots which is)))
+      by None fact = still_serves n s agrees
+      by (Some which) fact = serves_takes n s which.0 (given which.1) agrees low (none which.1)
+          (λ same. owed which.1 (subst (λ k. fetch_in (phase_at s.slots k) ask ≡ Some which.1) same (fetch_is s.slots ask table.all_slots which fact)))
 
   pub serves_found : (n : Net) (s : Serving) (from : NodeId) (found : Found) → TableAgrees members part n s.slots → Low s.slots
       → FoundGets logs members part n (phase_at s.slots part) from found → Of n s (on_found s (server_in from) found)
   unfolding on_found
   serves_found n s (Server v) found agrees low owed = serves_answer n s found.ask
-      (λ own. input.Got own v found.generation found.fragment) agrees low (λ own r is. is) owed
+      (λ own. input.Got own v found.generation found.fragment) agrees low (λ own r fact. fact) owed
   serves_found n s (Client c) found agrees low owed = still_serves n s agrees
   serves_found n s (Manager c) found agrees low owed = still_serves n s agrees
   serves_found n s Cleaner found agrees low owed = still_serves n s agrees
@@ -156,7 +156,7 @@ module _ (logs : Bool) (members part limit life : ℕ) (exists : part < 8) where
       → AbsentGets logs members part n (phase_at s.slots part) from missing → Of n s (on_missing s (server_in from) missing)
   unfolding on_missing
   serves_missing n s (Server v) missing agrees low owed = serves_answer n s missing.ask
-      (λ own. input.Missing own v missing.generation) agrees low (λ own r is. is) owed
+      (λ own. input.Missing own v missing.generation) agrees low (λ own r fact. fact) owed
   serves_missing n s (Client c) missing agrees low owed = still_serves n s agrees
   serves_missing n s (Manager c) missing agrees low owed = still_serves n s agrees
   serves_missing n s Cleaner missing agrees low owed = still_serves n s agrees

@@ -56,9 +56,9 @@ set_there t k m q other = as_read (slice_set t k q) m ∙ get_or-set_other t k m
 
 -- what holds of a table whose slot took the event holds of what the event makes of the table
 past : (t : Table) (k : ℕ) → slice_get t k ≡ None → length t ≤ k
-past [] k is = omega arith
-past (x ∷ xs) zero is = absurd (some_none x is)
-past (x ∷ xs) (suc k) is = let rest = past xs k is in omega arith
+past [] k fact = omega arith
+past (x ∷ xs) zero fact = absurd (some_none x fact)
+past (x ∷ xs) (suc k) fact = let rest = past xs k fact in omega arith
 
 pub by_slot : (P : Table → List Effect → Type 0) (t : Table) (k : ℕ) (event : SlotPhase → Stepped SlotPhase Effect) → (length t ≤ k → P t [])
     → (k < length t → P (slice_set t k (event (phase_at t k)).state) (event (phase_at t k)).outs)
@@ -66,9 +66,9 @@ pub by_slot : (P : Table → List Effect → Type 0) (t : Table) (k : ℕ) (even
 by_slot P t k event none some = by (slice_get t k) refl
   where
     by : (o : Option SlotPhase) → slice_get t k ≡ o → P (table.in_slot t k event o).state (table.in_slot t k event o).outs
-    by None is = none (past t k is)
-    by (Some p) is = let same : phase_at t k ≡ p = ap (λ o. unwrap_or o (phase.Away 0)) is in subst
-        (λ x. P (slice_set t k (event x).state) (event x).outs) same (some (slice_get_within t k p is))
+    by None fact = none (past t k fact)
+    by (Some p) fact = let same : phase_at t k ≡ p = ap (λ o. unwrap_or o (phase.Away 0)) fact in subst
+        (λ x. P (slice_set t k (event x).state) (event x).outs) same (some (slice_get_within t k p fact))
 
 module _ (logs : Bool) (members part limit life : ℕ) (exists : part < 8) where
   -- what an event of the table makes of the small world
@@ -119,12 +119,12 @@ module _ (logs : Bool) (members part limit life : ℕ) (exists : part < 8) where
   }
     where
       apart : (x : ℕ) → (x == k) ≡ false → x ≡ k → ⊥
-      apart x is = grind (arith, nat_tests)
+      apart x fact = grind (arith, nat_tests)
 
       by : (x : ℕ) → (x ≡ part → ⊥) → (b : Bool) → (x == k) ≡ b → OtherAgrees x (phase_at (slice_set t k q) x)
-      by x x_other true is = let same : x ≡ k = eqb-true x k is in subst (λ y. OtherAgrees y (phase_at (slice_set t k q) y)) (sym same)
+      by x x_other true fact = let same : x ≡ k = eqb-true x k fact in subst (λ y. OtherAgrees y (phase_at (slice_set t k q) y)) (sym same)
           (subst (OtherAgrees k) (sym (set_here t k q within)) new)
-      by x x_other false is = subst (OtherAgrees x) (sym (set_there t k x q (apart x is))) (agrees.there x x_other)
+      by x x_other false fact = subst (OtherAgrees x) (sym (set_there t k x q (apart x fact))) (agrees.there x x_other)
 
   -- ---- an event of one slot
 
@@ -132,11 +132,11 @@ module _ (logs : Bool) (members part limit life : ℕ) (exists : part < 8) where
   slot_or_other k P f g = by (k == part) refl
     where
       apart : (k == part) ≡ false → k ≡ part → ⊥
-      apart is = grind (arith, nat_tests)
+      apart fact = grind (arith, nat_tests)
 
       by : (b : Bool) → (k == part) ≡ b → P
-      by true is = f (eqb-true k part is)
-      by false is = g (apart is)
+      by true fact = f (eqb-true k part fact)
+      by false fact = g (apart fact)
 
   set_goes : (n : Net) (t : Table) (k : ℕ) (q : SlotPhase) (outs : List Effect) → TableAgrees members part n t → k ≡ part
       → Event logs members part limit life n (phase_at t part) q outs → TableEvent n t (slice_set t k q) outs
@@ -258,7 +258,7 @@ module _ (logs : Bool) (members part limit life : ℕ) (exists : part < 8) where
   unfolding table.takes
   table_takes n a k given agrees low none owed =
       at_taken-goes n a k (λ one. takeovers.takes one k given) agrees
-      (λ same. slot_hears logs members part limit life n k (phase_at a.table part) a.questions given agrees.here (λ _. low) (λ r is. absurd (none r is))
+      (λ same. slot_hears logs members part limit life n k (phase_at a.table part) a.questions given agrees.here (λ _. low) (λ r fact. absurd (none r fact))
       (owed same))
       (λ other. other_hears logs members part limit life n k (asker (phase_at a.table k) a.questions) given other (agrees.there k other))
 
@@ -306,7 +306,7 @@ module _ (logs : Bool) (members part limit life : ℕ) (exists : part < 8) where
   pub table_regroups : (n : Net) (groups : GroupMapState) (a : TableAsker) → TableAgrees members part n a.table → IsLow a.table
       → AskTable n a.table (table.regroups_all groups a)
   table_regroups n groups a agrees low = each_goes (λ (b : TableAsker). b.table) (table.regroups groups)
-      (λ n b k h l. table_takes n b k (input.Maps groups) h l (λ r is. is) (λ _. maps_owed logs members part limit life n (phase_at b.table part) groups))
+      (λ n b k h l. table_takes n b k (input.Maps groups) h l (λ r fact. fact) (λ _. maps_owed logs members part limit life n (phase_at b.table part) groups))
       n a all_slots agrees low
 
   -- ---- checkpoints
@@ -336,9 +336,9 @@ module _ (logs : Bool) (members part limit life : ℕ) (exists : part < 8) where
           })
 
       by : (o : Option SlotPhase) → slice_get t k ≡ o → TableStays n t (table.changed_in t k change o)
-      by None is = record { stays = stays_same logs members part limit life n (phase_at t part) [] tt; agrees = agrees }
-      by (Some p) is = let same : phase_at t k ≡ p = ap (λ o. unwrap_or o (phase.Away 0)) is in subst (λ x. TableStays n t (slice_set t k (change x))) same
-          (at (slice_get_within t k p is))
+      by None fact = record { stays = stays_same logs members part limit life n (phase_at t part) [] tt; agrees = agrees }
+      by (Some p) fact = let same : phase_at t k ≡ p = ap (λ o. unwrap_or o (phase.Away 0)) fact in subst (λ x. TableStays n t (slice_set t k (change x))) same
+          (at (slice_get_within t k p fact))
 
   clean_stays : (n : Net) (p : SlotPhase) → Stays logs members part limit life n p (table.cleaned_phase p) []
   unfolding table.cleaned_phase

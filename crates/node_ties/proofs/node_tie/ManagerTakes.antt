@@ -94,14 +94,14 @@ abbrev AllIn : TakeState → Type 0
 AllIn s = awaited s ≡ []
 
 reads_on : (s : TakeState) (source : Source) (r : Option ReadingState) → AllIn s → On s (still (reads s source r))
-reads_on s source r all = record { news = refl; clients = refl; reports = refl; ready = λ p is. all; said = inl tt }
+reads_on s source r all = record { news = refl; clients = refl; reports = refl; ready = λ p fact. all; said = inl tt }
 
 asks_on : (s : TakeState) (source : Source) (r : ReadingState) → AllIn s → On s (asks s source r)
 asks_on s source r all = record {
   news = refl;
   clients = refl;
   reports = refl;
-  ready = λ p is. all;
+  ready = λ p fact. all;
   said = inl
       (fetches_plain source.seg.name (s.ask + 1) (to_ask r));
 }
@@ -115,7 +115,7 @@ sought_on s source all = by (group_of s.groups source.seg.group)
     by (Some group) = asks_on s source (begun (target_of source) group (s.ask + 1)) all
 
 next_on : (sources : List Source) (s : TakeState) → AllIn s → On s (next_of sources s)
-next_on [] s all = record { news = refl; clients = refl; reports = refl; ready = λ p is. all; said = by (is_index s.index) }
+next_on [] s all = record { news = refl; clients = refl; reports = refl; ready = λ p fact. all; said = by (is_index s.index) }
   where
     done : TakeState
     done = record s { sources = []; present = None }
@@ -143,7 +143,7 @@ again_on s source r all = by (on_confirmed r (s.ask + 1)).state (on_confirmed r 
   where
     by : (q : ReadingState) (n : Next) → On s (confirmed_as s source q n)
     by q next.Ask = asks_on s source q all
-    by q next.Lost = record { news = refl; clients = refl; reports = refl; ready = λ p is. all; said = inl (tt, tt) }
+    by q next.Lost = record { news = refl; clients = refl; reports = refl; ready = λ p fact. all; said = inl (tt, tt) }
     by q next.Wait = reads_on s source (Some q) all
     by q next.Again = reads_on s source (Some q) all
     by q (next.Read segment) = reads_on s source (Some q) all
@@ -170,7 +170,7 @@ told_on s ask server t ready = by_test (On s) (can_ask s) (told_at (record s { p
     (λ _. stays_on s ready)
   where
     by : (o : Option Present) → ((p : Present) → o ≡ Some p → awaited s ≡ []) → On s (told_at (record s { present = None }) o ask server t)
-    by None all = record { news = refl; clients = refl; reports = refl; ready = λ p is. absurd (let clash : None ≡ Some p = is in cc); said = inl tt }
+    by None all = record { news = refl; clients = refl; reports = refl; ready = λ p fact. absurd (let clash : None ≡ Some p = fact in cc); said = inl tt }
     by (Some p) all = told_in-on (record s { present = None }) p.source p.reading ask server t (all p refl)
 
 maps_on : (s : TakeState) (groups : GroupMapState) → IsReady s → On s (on_maps s groups)
@@ -215,7 +215,7 @@ begun_on s report ready awaits_it =
     let h : TakeState = record s { reports = s.reports ++ report ∷ [] } in
     by_test (On h) (length (awaited h) == 0) (go_on (record h { sources = sources_of h.news h.reports })) (still h)
     (λ all. go_on-on (record h { sources = sources_of h.news h.reports }) (nil_from_length (awaited h) (eqb-true (length (awaited h)) 0 all)))
-    (λ _. record { news = refl; clients = refl; reports = refl; ready = λ p is. absurd (nobody s report.from (ready p is) awaits_it); said = inl tt })
+    (λ _. record { news = refl; clients = refl; reports = refl; ready = λ p fact. absurd (nobody s report.from (ready p fact) awaits_it); said = inl tt })
 
 -- ---- who has reported
 
@@ -277,18 +277,18 @@ same_node_itself Registry = refl
 
 -- who is heard is heard
 heard_here : (reports : List Report) (node : NodeId) (r : Report) → In r reports → r.from ≡ node → is_heard reports node ≡ true
-heard_here [] node r is from = absurd is
+heard_here [] node r fact from = absurd fact
 heard_here (x ∷ xs) node r (inl same) from = or_first (same_node x.from node) (is_heard xs node)
     (subst (λ k. same_node k node ≡ true) (sym from ∙ ap (λ (y : Report). y.from) same) (same_node_itself node))
-heard_here (x ∷ xs) node r (inr is) from = or_second (same_node x.from node) (is_heard xs node) (heard_here xs node r is from)
+heard_here (x ∷ xs) node r (inr fact) from = or_second (same_node x.from node) (is_heard xs node) (heard_here xs node r fact from)
 
 -- a report of a node that is heard is in
 pub heard_is : (reports : List Report) (node : NodeId) → is_heard reports node ≡ true → (r : Report) × In r reports × (r.from ≡ node)
 heard_is [] node h = contrary h
 heard_is (x ∷ xs) node h =
     elim (same_node x.from node) as (λ t. same_node x.from node ≡ t → (t || is_heard xs node) ≡ true → (r : Report) × In r (x ∷ xs) × (r.from ≡ node)) [
-      | true ↦ λ is k. (x, inl refl, same_node_is x.from node is)
-      | false ↦ λ is k. let rest = heard_is xs node k in (rest.0, inr rest.1, rest.2)
+      | true ↦ λ fact k. (x, inl refl, same_node_is x.from node fact)
+      | false ↦ λ fact k. let rest = heard_is xs node k in (rest.0, inr rest.1, rest.2)
     ] refl h
 
 -- who is awaited is not heard
@@ -298,7 +298,7 @@ unheard_not reports node [] h = contrary h
 unheard_not reports node (n ∷ ns) h =
     elim (is_heard reports n) as (λ t. is_heard reports n ≡ t → list_any (λ x. same_node x node)
     (cond (not t) (n ∷ unheard reports ns) (unheard reports ns)) ≡ true → is_heard reports node ≡ false) [
-      | true ↦ λ is k. unheard_not reports node ns k
+      | true ↦ λ fact k. unheard_not reports node ns k
       | false ↦ λ none.
           elim (same_node n node) as (λ u. same_node n node ≡ u → (u || list_any (λ x. same_node x node) (unheard reports ns)) ≡ true
           → is_heard reports node ≡ false) [
@@ -312,19 +312,19 @@ not_nothing n ns h = cc
 
 -- where nobody is awaited all are heard
 pub all_heard : (reports : List Report) (nodes : List NodeId) (node : NodeId) → unheard reports nodes ≡ [] → In node nodes → is_heard reports node ≡ true
-all_heard reports [] node none is = absurd is
-all_heard reports (n ∷ ns) node none is =
+all_heard reports [] node none fact = absurd fact
+all_heard reports (n ∷ ns) node none fact =
     elim (is_heard reports n) as (λ t. is_heard reports n ≡ t → cond (not t) (n ∷ unheard reports ns) (unheard reports ns) ≡ []
     → is_heard reports node ≡ true) [
-      | true ↦ λ heard k. ⊎_elim (λ same. subst (λ x. is_heard reports x ≡ true) (sym same) heard) (λ rest. all_heard reports ns node k rest) is
+      | true ↦ λ heard k. ⊎_elim (λ same. subst (λ x. is_heard reports x ≡ true) (sym same) heard) (λ rest. all_heard reports ns node k rest) fact
       | false ↦ λ heard k. absurd (not_nothing n (unheard reports ns) k)
     ] refl none
 
 pub in_last : {X : Type 0} (x y : X) (xs : List X) → In x (xs ++ y ∷ []) → In x xs ⊎ (x ≡ y)
 in_last x y [] (inl same) = inr same
-in_last x y [] (inr is) = absurd is
+in_last x y [] (inr fact) = absurd fact
 in_last x y (z ∷ zs) (inl same) = inl (inl same)
-in_last x y (z ∷ zs) (inr is) = ⊎_elim (λ h. inl (inr h)) (λ h. inr h) (in_last x y zs is)
+in_last x y (z ∷ zs) (inr fact) = ⊎_elim (λ h. inl (inr h)) (λ h. inr h) (in_last x y zs fact)
 
 -- of each node one report is kept
 abbrev pub IsOnce : List Report → Type 0
@@ -334,7 +334,7 @@ once_more : (s : TakeState) (report : Report) → awaits s report.from ≡ true 
 once_more s report new once r q r_in q_in same = by (in_last r report s.reports r_in) (in_last q report s.reports q_in)
   where
     other : (x : Report) → In x s.reports → x.from ≡ report.from → ⊥
-    other x is from = let a = heard_here s.reports report.from x is from in let b = unheard_not s.reports report.from (polled s.clients) new in contrary
+    other x fact from = let a = heard_here s.reports report.from x fact from in let b = unheard_not s.reports report.from (polled s.clients) new in contrary
         (sym b ∙ a)
 
     by : In r s.reports ⊎ (r ≡ report) → In q s.reports ⊎ (q ≡ report) → r.held ≡ q.held
@@ -367,7 +367,7 @@ took_on s i d once t = record {
   clients = t.clients;
   ready = t.ready;
   said = t.said;
-  reports = λ r is. inl (subst (In r) t.reports is);
+  reports = λ r fact. inl (subst (In r) t.reports fact);
   once = subst IsOnce (sym t.reports) once;
 }
 
@@ -387,7 +387,7 @@ took_report s from held end ready once =
       clients = h.clients;
       ready = h.ready;
       said = h.said;
-      reports = λ r is. in_last r report s.reports (subst (In r) h.reports is);
+      reports = λ r fact. in_last r report s.reports (subst (In r) h.reports fact);
       once = subst IsOnce (sym h.reports) (once_more s report new once);
     })
     (λ _. took_on s i (still s) once (stays_on s ready))

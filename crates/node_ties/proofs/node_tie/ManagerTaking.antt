@@ -145,7 +145,7 @@ module _ (logs : Bool) (members part limit life : ℕ) where
         next = next;
         moves = record {
           runs = On Begun (activates members part n logs t.take e index applied (ap n.slots of ∙ agrees.free) agrees.clients hands.reported agrees.once
-              (λ r is. subst (λ x. ReportKnown members part n x r.from r.held r.end) (sym of) (agrees.reported r is)) gathered);
+              (λ r fact. subst (λ x. ReportKnown members part n x r.from r.held r.end) (sym of) (agrees.reported r fact)) gathered);
           tokens = refl;
           up = refl;
           books = refl;
@@ -157,7 +157,7 @@ module _ (logs : Bool) (members part limit life : ℕ) where
               (λ k other y some none. absurd (some_none y (sym some ∙ none)));
           taking = λ k h. absurd h;
           held = λ k h. sym of ∙ h;
-          grows = λ x is. is;
+          grows = λ x fact. fact;
           does = tt;
         };
         agrees = record { slot = z; there = put_here n.slots e (Some z); same = refl; nine = refl };
@@ -173,7 +173,7 @@ module _ (logs : Bool) (members part limit life : ℕ) where
         slot = ap (λ (x : SlotNews). x.slot) h.news ∙ agrees.slot;
         epoch = ap (λ (x : SlotNews). x.epoch) h.news ∙ agrees.epoch;
         clients = ap (λ c. c + 1) h.clients ∙ agrees.clients;
-        reported = λ r is. ⊎_elim (λ old. agrees.reported r old) (λ new. known r new) (h.reports r is);
+        reported = λ r fact. ⊎_elim (λ old. agrees.reported r old) (λ new. known r new) (h.reports r fact);
         once = h.once;
         ready = h.ready;
       }
@@ -229,7 +229,7 @@ module _ (logs : Bool) (members part limit life : ℕ) where
   slot_reports n p q from report agrees low of gets owed =
       by_test (AskEvent n p) (report.epoch == epoch_of p) (takes (asker p q) report.slot (report_input from report)) (still (asker p q))
       (λ same. slot_hears n report.slot p q (report_input from report) agrees (λ _. low)
-      (λ r is. known from gets (eqb-true report.epoch (epoch_of p) same) r is) (owed of (eqb-true report.epoch (epoch_of p) same)))
+      (λ r fact. known from gets (eqb-true report.epoch (epoch_of p) same) r fact) (owed of (eqb-true report.epoch (epoch_of p) same)))
       (λ _. event_same logs members part limit life n p [] agrees tt)
     where
       of_node : (node : NodeId) → ReportGets part n members node report → report.epoch ≡ epoch_of p
@@ -242,12 +242,12 @@ module _ (logs : Bool) (members part limit life : ℕ) where
 
       known : (node : NodeId) → ReportGets part n members node report → report.epoch ≡ epoch_of p → (r : Heard)
           → r ≡ record { from = node; held = report.held; end = report.end } → ReportKnown members part n (epoch_of p) r.from r.held r.end
-      known node g same r is = subst (λ (x : Heard). ReportKnown members part n (epoch_of p) x.from x.held x.end) (sym is) (of_node node g same)
+      known node g same r fact = subst (λ (x : Heard). ReportKnown members part n (epoch_of p) x.from x.held x.end) (sym fact) (of_node node g same)
 
   -- newer groups complete no takeover
   pub maps_owed : (n : Net) (p : SlotPhase) (groups : GroupMapState) → TakeoverGets logs members part n p (input.Maps groups)
   maps_owed n (phase.Taking t) groups = premise logs
-      (λ index is _. absurd (plain_hands_nothing (transition t.take (input.Maps groups)).outs (maps_said t.take groups) _ _ _ _ is))
+      (λ index fact _. absurd (plain_hands_nothing (transition t.take (input.Maps groups)).outs (maps_said t.take groups) _ _ _ _ fact))
   maps_owed n (phase.Active a) groups = tt
   maps_owed n (phase.Away epoch) groups = tt
   maps_owed n (phase.Broken epoch seg) groups = tt
@@ -324,9 +324,9 @@ module _ (logs : Bool) (members part limit life : ℕ) where
           slot = of;
           epoch = refl;
           clients = many;
-          reported = λ r is. absurd is;
-          once = λ r q is. absurd is;
-          ready = λ p is. absurd (some_none p (sym is));
+          reported = λ r fact. absurd fact;
+          once = λ r q fact. absurd fact;
+          ready = λ p fact. absurd (some_none p (sym fact));
         };
         epoch = refl;
         held = λ e h. subst named h (named_ ours);

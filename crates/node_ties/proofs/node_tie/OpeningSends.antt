@@ -37,11 +37,11 @@ pub record OpeningMay (owner : Owner) (D : Effect → Type 0) : Type 0 where
   pub filed : (seg : SegName) → D (Does (act.Filed seg))
 
 of_server : (P : NodeId → Type 0) → ((n : ℕ) → P (Server n)) → (to : NodeId) → IsServer to → P to
-of_server P each (Server n) is = each n
-of_server P each (Client n) is = absurd is
-of_server P each (Manager n) is = absurd is
-of_server P each Cleaner is = absurd is
-of_server P each Registry is = absurd is
+of_server P each (Server n) fact = each n
+of_server P each (Client n) fact = absurd fact
+of_server P each (Manager n) fact = absurd fact
+of_server P each Cleaner fact = absurd fact
+of_server P each Registry fact = absurd fact
 
 module _ (owner : Owner) (D : Effect → Type 0) (may : OpeningMay owner D) where
   act_does : (a : Act) → MayAct a → D (Does a)
@@ -79,7 +79,7 @@ module _ (o : Opening) (q : Questions) (D : Effect → Type 0) (may : OpeningMay
 -- a client, in an incarnation that it may say
 pub client_opening : (part : ℕ) (sent : List nets.Packet) (c life : ℕ) (owner : Owner) → owner.inc ≤ life → OpeningMay owner (ClientDoes part sent c life)
 client_opening part sent c life owner low = record {
-  hello = λ m is. omega arith;
+  hello = λ m fact. omega arith;
   fence = λ n m. tt;
   fetch = λ n m. tt;
   store = λ n m. tt;
@@ -90,7 +90,7 @@ client_opening part sent c life owner low = record {
 -- the cleaner, in an incarnation that it may say
 pub cleaner_opening : (part promised life : ℕ) (owner : Owner) → owner.inc ≤ life → OpeningMay owner (CleanerDoes part promised life)
 cleaner_opening part promised life owner low = record {
-  hello = λ m is. omega arith;
+  hello = λ m fact. omega arith;
   fence = λ n m. tt;
   fetch = λ n m. tt;
   store = λ n m. tt;

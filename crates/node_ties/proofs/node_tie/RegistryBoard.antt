@@ -47,9 +47,9 @@ module _ (part : ℕ) (Told : ℕ → ℕ → Type 0) (s : BoardState) (sound : 
       epochs = λ slot below. omega (arith, sound.epochs slot below, ap (λ (es : List SlotEntry). (entry_at es slot).epoch) entries);
     };
     slot = inl (ap (λ (es : List SlotEntry). (entry_of es part).epoch) entries, ap (λ (es : List SlotEntry). (entry_of es part).manager) entries);
-    rises = λ manager. omega (arith, ap (λ (is : List (ℕ × ℕ)). inc_of is manager) incs);
-    keeps = λ manager same its. ap (λ (is : List (ℕ × ℕ)). inc_of is manager) incs;
-    heard = λ manager. inl (omega (arith, ap (λ (is : List (ℕ × ℕ)). inc_of is manager) incs));
+    rises = λ manager. omega (arith, ap (λ (fact : List (ℕ × ℕ)). inc_of fact manager) incs);
+    keeps = λ manager same its. ap (λ (fact : List (ℕ × ℕ)). inc_of fact manager) incs;
+    heard = λ manager. inl (omega (arith, ap (λ (fact : List (ℕ × ℕ)). inc_of fact manager) incs));
     version = version;
   }
 
@@ -185,8 +185,8 @@ module _ (part : ℕ) (Told : ℕ → ℕ → Type 0) (s : BoardState) (sound : 
 
     -- the slot that is given has its next epoch
     moved_up : (slot : ℕ) → at ≡ slot → (entry_at (after_move s.entries at m) slot).epoch ≡ (entry_at s.entries slot).epoch + 1
-    moved_up slot is =
-        subst (λ (q : ℕ). (entry_at (after_move s.entries at m) q).epoch ≡ (entry_at s.entries q).epoch + 1) is
+    moved_up slot fact =
+        subst (λ (q : ℕ). (entry_at (after_move s.entries at m) q).epoch ≡ (entry_at s.entries q).epoch + 1) fact
         (ap (λ (e : SlotEntry). e.epoch) moved_here ∙ next_epoch (entry_at s.entries at) m (low_epochs low at there))
 
     move_little : (slot : ℕ) → slot < 8 → (entry_at (after_move s.entries at m) slot).epoch ≤ (entry_at s.entries slot).epoch + 1

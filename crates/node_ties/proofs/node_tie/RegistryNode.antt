@@ -93,8 +93,8 @@ module _ (part : ℕ) (below : part < 8) (r : RegistryNode) (sound : RegistrySou
   hello_goes Registry m hears = goes_still part (ToldIn what) r.board sound
 
   hello_kept : (from : NodeId) (m : Hello) (manager : ℕ) → from ≡ Manager manager → m.inc ≤ inc_in (transition r.board (board.Hello from m.inc)).state manager
-  hello_kept from m manager is =
-      subst (λ (n : NodeId). m.inc ≤ inc_in (transition r.board (board.Hello n m.inc)).state manager) (sym is)
+  hello_kept from m manager fact =
+      subst (λ (n : NodeId). m.inc ≤ inc_in (transition r.board (board.Hello n m.inc)).state manager) (sym fact)
       (manager_heard part (ToldIn what) r.board sound low manager m.inc)
 
   hello_answered : (from : NodeId) (m : Hello) → HearsHello what from m.inc → GoesTo (on_hello r from m)
@@ -155,14 +155,14 @@ module _ (part : ℕ) (below : part < 8) (r : RegistryNode) (sound : RegistrySou
   heard from _ hello = stays part r sound what
 
   hello_heard : (packet : Packet) → what ≡ Deliver packet → (m : Hello) → packet.body ≡ body.Hello m → HearsHello what packet.from m.inc
-  hello_heard packet is m said =
-      subst (λ (w : Do). HearsHello w packet.from m.inc) (sym is) (record { from = refl; hello = m; said = said; told = refl })
+  hello_heard packet fact m said =
+      subst (λ (w : Do). HearsHello w packet.from m.inc) (sym fact) (record { from = refl; hello = m; said = said; told = refl })
 
   delivered : (packet : Packet) → what ≡ Deliver packet → GoesTo (on_packet r packet)
   unfolding on_packet
-  delivered packet is =
+  delivered packet fact =
       by_test GoesTo (is_well_formed r.peers packet) (hears r packet.from packet.body) (still r)
-      (λ t. heard packet.from packet.body (λ m said. hello_heard packet is m said))
+      (λ t. heard packet.from packet.body (λ m said. hello_heard packet fact m said))
       (λ t. stays part r sound what)
 
   ticks : GoesTo (record { state = r; outs = tells_all r })
@@ -191,7 +191,7 @@ module _ (part : ℕ) (below : part < 8) (r : RegistryNode) (sound : RegistrySou
         sends =
             packets_do (λ (p : Packet). RegistrySends part what next p.to p.body) (RegistryDoes part what next) Registry (λ to said does. does)
             (takes r what).outs goes.does;
-        acts = all_neutral (RegistryDoes part what next) Registry (λ act is. is) (takes r what).outs goes.does;
+        acts = all_neutral (RegistryDoes part what next) Registry (λ act fact. fact) (takes r what).outs goes.does;
       }
 
 -- ---- the start

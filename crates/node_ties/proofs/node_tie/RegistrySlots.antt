@@ -94,9 +94,9 @@ raise_range manager es from (suc n) p low high below long =
         (entry_at (raise_one manager es from) p))
         → entry_at (fold (raise_one manager) (raise_one manager es from) (range_with_len (from + 1) n)) p ≡ raised_entry manager (entry_at es p)
     at true same later =
-        let is : from ≡ p = grind (arith, nat_tests) in
+        let fact : from ≡ p = grind (arith, nat_tests) in
         raise_below manager (raise_one manager es from) (from + 1) n p (omega arith)
-        ∙ ap (λ (q : ℕ). entry_at (raise_one manager es q) p) is ∙ raise_same manager es p below long
+        ∙ ap (λ (q : ℕ). entry_at (raise_one manager es q) p) fact ∙ raise_same manager es p below long
     at false other later =
         let apart : from ≢ p = grind (arith, nat_tests) in
         later (omega arith) ∙ ap (raised_entry manager) (raise_other manager es from p apart)
@@ -123,8 +123,8 @@ all_can_rise manager es below = all_so all_slots
         or_second (not ((entry_of es slot).manager == manager)) (nat_lt (entry_of es slot).epoch 4294967295) (grind (arith, nat_tests))
 
     both : (a b : Bool) → a ≡ true → b ≡ true → (a && b) ≡ true
-    both true b is so = so
-    both false b is so = is
+    both true b fact so = so
+    both false b fact so = fact
 
     all_so : (slots : List ℕ) → list_all (can_rise_one manager es) slots ≡ true
     all_so [] = refl

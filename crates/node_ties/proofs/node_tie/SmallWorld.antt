@@ -55,20 +55,20 @@ module _ (logs : Bool) (members part : ℕ) where
   stays n m (Acts c end i serves own) = refl
   stays n m (Elsewhere c end i serves other) = refl
   stays n m (Reports c end serves) = refl
-  stays n m (GetsCopy c end block stamp inc req entry serves is) = refl
-  stays n m (GetsOwn c end block stamp inc req entry value serves is accepts room) = refl
-  stays n m (Declines c end block stamp inc req entry serves is accepts) = refl
-  stays n m (GetsRecall c end block stamp keep serves is) = refl
-  stays n m (GetsForward c other block stamp inc req ver value pos less is up serves held) = refl
-  stays n m (GetsSupply c end block stamp inc req ver value serves is) = refl
+  stays n m (GetsCopy c end block stamp inc req entry serves fact) = refl
+  stays n m (GetsOwn c end block stamp inc req entry value serves fact accepts room) = refl
+  stays n m (Declines c end block stamp inc req entry serves fact accepts) = refl
+  stays n m (GetsRecall c end block stamp keep serves fact) = refl
+  stays n m (GetsForward c other block stamp inc req ver value pos less fact up serves held) = refl
+  stays n m (GetsSupply c end block stamp inc req ver value serves fact) = refl
   stays n m (Fetches c end block value serves there) = refl
   stays n m (Reads c block value pos less up holds held) = refl
   stays n m (Syncs c pos less up clean) = refl
   stays n m (Seals c rows pos less up idle newest) = refl
   stays n m (Files c pos less up flies) = refl
   stays n m (GetsDeltas e s log first upto rows at known some covers) = refl
-  stays n m (GetsWant e s c inc req again block mode end at is) = refl
-  stays n m (GetsGave e s c block stamp end at is) = refl
+  stays n m (GetsWant e s c inc req again block mode end at fact) = refl
+  stays n m (GetsGave e s c block stamp end at fact) = refl
   stays n m (Ticks e s at) = refl
   stays n m (Crashes c flight falls pos less up once so) = refl
   stays n m (Returns c inc epochs chain count pos less up later rises flies) = refl
@@ -90,24 +90,24 @@ module _ (logs : Bool) (members part : ℕ) where
   happens_any k n m (Acts c end i serves own) = Acts c end i (serving_any k n c end serves) own
   happens_any k n m (Elsewhere c end i serves other) = Elsewhere c end i (serving_any k n c end serves) other
   happens_any k n m (Reports c end serves) = Reports c end (serving_any k n c end serves)
-  happens_any k n m (GetsCopy c end block stamp inc req entry serves is) = GetsCopy c end block stamp inc req entry (serving_any k n c end serves) is
-  happens_any k n m (GetsOwn c end block stamp inc req entry value serves is accepts room) =
-      GetsOwn c end block stamp inc req entry value (serving_any k n c end serves) is accepts room
-  happens_any k n m (Declines c end block stamp inc req entry serves is accepts) =
-      Declines c end block stamp inc req entry (serving_any k n c end serves) is accepts
-  happens_any k n m (GetsRecall c end block stamp keep serves is) = GetsRecall c end block stamp keep (serving_any k n c end serves) is
-  happens_any k n m (GetsForward c other block stamp inc req ver value pos less is up serves held) =
-      GetsForward c other block stamp inc req ver value pos less is up serves held
-  happens_any k n m (GetsSupply c end block stamp inc req ver value serves is) =
-      GetsSupply c end block stamp inc req ver value (serving_any k n c end serves) is
+  happens_any k n m (GetsCopy c end block stamp inc req entry serves fact) = GetsCopy c end block stamp inc req entry (serving_any k n c end serves) fact
+  happens_any k n m (GetsOwn c end block stamp inc req entry value serves fact accepts room) =
+      GetsOwn c end block stamp inc req entry value (serving_any k n c end serves) fact accepts room
+  happens_any k n m (Declines c end block stamp inc req entry serves fact accepts) =
+      Declines c end block stamp inc req entry (serving_any k n c end serves) fact accepts
+  happens_any k n m (GetsRecall c end block stamp keep serves fact) = GetsRecall c end block stamp keep (serving_any k n c end serves) fact
+  happens_any k n m (GetsForward c other block stamp inc req ver value pos less fact up serves held) =
+      GetsForward c other block stamp inc req ver value pos less fact up serves held
+  happens_any k n m (GetsSupply c end block stamp inc req ver value serves fact) =
+      GetsSupply c end block stamp inc req ver value (serving_any k n c end serves) fact
   happens_any k n m (Fetches c end block value serves there) = Fetches c end block value (serving_any k n c end serves) there
   happens_any k n m (Reads c block value pos less up holds held) = Reads c block value pos less up holds held
   happens_any k n m (Syncs c pos less up clean) = Syncs c pos less up clean
   happens_any k n m (Seals c rows pos less up idle newest) = Seals c rows pos less up idle newest
   happens_any k n m (Files c pos less up flies) = Files c pos less up flies
   happens_any k n m (GetsDeltas e s log first upto rows at known some covers) = GetsDeltas e s log first upto rows at known some covers
-  happens_any k n m (GetsWant e s c inc req again block mode end at is) = GetsWant e s c inc req again block mode end at is
-  happens_any k n m (GetsGave e s c block stamp end at is) = GetsGave e s c block stamp end at is
+  happens_any k n m (GetsWant e s c inc req again block mode end at fact) = GetsWant e s c inc req again block mode end at fact
+  happens_any k n m (GetsGave e s c block stamp end at fact) = GetsGave e s c block stamp end at fact
   happens_any k n m (Ticks e s at) = Ticks e s at
   happens_any k n m (Crashes c flight falls pos less up once so) = Crashes c flight falls pos less up once so
   happens_any k n m (Returns c inc epochs chain count pos less up later rises flies) = Returns c inc epochs chain count pos less up later rises flies

@@ -232,7 +232,7 @@ taken_so node what = by_test ServerDoes (is_far_from_ends node) (on_event node w
 pub server_sends : (node : Node) (what : Do) → PacketsSay ServerSends (server_step node what).packets × AllNeutral (server_step node what).acts
 server_sends node what = (
   packets_say ServerSends (Server node.number) (takes node what).outs (taken_so node what),
-  all_neutral (Says ServerSends) (Server node.number) (λ act is. is) (takes node what).outs (taken_so node what),
+  all_neutral (Says ServerSends) (Server node.number) (λ act fact. fact) (takes node what).outs (taken_so node what),
 )
 
 pub server_from : (node : Node) (what : Do) → All (λ (p : Packet). p.from ≡ Server node.number) (server_step node what).packets

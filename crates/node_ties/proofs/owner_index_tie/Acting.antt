@@ -78,11 +78,11 @@ flies None name named = absurd (another_not name named)
 flies (Some f) name named = by (name.seq == f.segment.name.seq) refl
   where
     by : (t : Bool) → (name.seq == f.segment.name.seq) ≡ t → Flies (Some f) name
-    by true is =
-        let text : text_in (Some f) name ≡ f.segment = ap (λ t. cond t f.segment (another name)) is in
+    by true fact =
+        let text : text_in (Some f) name ≡ f.segment = ap (λ t. cond t f.segment (another name)) fact in
         record { flight = f; flying = refl; named = ap (λ (x : Segment). x.name) (sym text) ∙ named; text = text }
-    by false is =
-        let text : text_in (Some f) name ≡ another name = ap (λ t. cond t f.segment (another name)) is in
+    by false fact =
+        let text : text_in (Some f) name ≡ another name = ap (λ t. cond t f.segment (another name)) fact in
         absurd (another_not name (ap (λ (x : Segment). x.name) (sym text) ∙ named))
 
 module _ (s : LogState) where
@@ -90,7 +90,7 @@ module _ (s : LogState) where
   its_texts = text_in s.flight
 
   are_texts : FlightIsText its_texts s
-  are_texts f is = ap (λ o. text_in o f.segment.name) is ∙ ap (λ t. cond t f.segment (another f.segment.name)) (itself f.segment.name.seq)
+  are_texts f fact = ap (λ o. text_in o f.segment.name) fact ∙ ap (λ t. cond t f.segment (another f.segment.name)) (itself f.segment.name.seq)
     where
       itself : (q : ℕ) → (q == q) ≡ true
       itself q = grind (arith, nat_tests)
@@ -118,8 +118,8 @@ module _ (part : ℕ) (texts : Texts) (n : Net) (c : ℕ) (s : Serving) where
   Its = its_texts s.log
 
   agrees_as : (p : Phase) → p ≡ client.Serving s → client_owed.ClientAgrees part texts n c p → client_owed.ClientAgrees part Its n c p
-  agrees_as p is agrees = subst (client_owed.ClientAgrees part Its n c) (sym is)
-      ((subst (client_owed.ClientAgrees part texts n c) is agrees).0, are_texts s.log)
+  agrees_as p fact agrees = subst (client_owed.ClientAgrees part Its n c) (sym fact)
+      ((subst (client_owed.ClientAgrees part texts n c) fact agrees).0, are_texts s.log)
 
   gets_as : (p : Phase) (what : Do) → client_owed.EventGets part texts n c p what → client_owed.EventGets part Its n c p what
   gets_as p Begin gets = tt
@@ -133,16 +133,16 @@ module _ (part : ℕ) (texts : Texts) (n : Net) (c : ℕ) (s : Serving) where
       by _ gets = tt
 
   reopens_none : (p q : Phase) → p ≡ client.Serving s → client_owed.ReopensOn part Its n c p q
-  reopens_none (client.Down l) q is = tt
-  reopens_none (client.Opening l o) q is = absurd cc
-  reopens_none (client.Serving t) q is = tt
+  reopens_none (client.Down l) q fact = tt
+  reopens_none (client.Opening l o) q fact = absurd cc
+  reopens_none (client.Serving t) q fact = tt
 
 pub clients_file_flights : ClientsFileFlights
-clients_file_flights part texts n c node what s some below is agrees gets may =
+clients_file_flights part texts n c node what s some below fact agrees gets may =
     let its = its_texts s.log in
     let k = serving.takes_so Any part its n c some (omega arith) node what
-    (serving.stands Any part its n c some (omega arith) node.phase (agrees_as part texts n c s node.phase is agrees))
-    (gets_as part texts n c s node.phase what gets) (reopens_none part texts n c s node.phase (clients.takes node what).state is) in
+    (serving.stands Any part its n c some (omega arith) node.phase (agrees_as part texts n c s node.phase fact agrees))
+    (gets_as part texts n c s node.phase what gets) (reopens_none part texts n c s node.phase (clients.takes node what).state fact) in
     all_then (IsNamed its) (IsFlight s.log) (is_flight s.log) (clients.takes node what).outs (k.1 (may_land s.log c may))
 
 -- ---- the cleaner
@@ -152,24 +152,24 @@ module _ (part : ℕ) (texts : Texts) (n : Net) (small : part < 8) (e : Emptying
   Of = its_texts e.log
 
   phase_as : (p : cleaner_phases.Phase) → p ≡ cleaning.Serving e → cleaner_owed.PhaseAgrees part n texts p → cleaner_owed.PhaseAgrees part n Of p
-  phase_as p is agrees = subst (cleaner_owed.PhaseAgrees part n Of) (sym is)
-      ((subst (cleaner_owed.PhaseAgrees part n texts) is agrees).0, are_texts e.log)
+  phase_as p fact agrees = subst (cleaner_owed.PhaseAgrees part n Of) (sym fact)
+      ((subst (cleaner_owed.PhaseAgrees part n texts) fact agrees).0, are_texts e.log)
 
   none_moved : (p : cleaner_phases.Phase) → p ≡ cleaning.Serving e → emptying.OpensMoved Any part Of n small p
-  none_moved (cleaning.Down l) is = tt
-  none_moved (cleaning.Opening l o) is = absurd (let f : cleaning.Opening l o ≡ cleaning.Serving e = is in cc)
-  none_moved (cleaning.Serving t) is = tt
+  none_moved (cleaning.Down l) fact = tt
+  none_moved (cleaning.Opening l o) fact = absurd (let f : cleaning.Opening l o ≡ cleaning.Serving e = fact in cc)
+  none_moved (cleaning.Serving t) fact = tt
 
   none_reopened : (p q : cleaner_phases.Phase) → p ≡ cleaning.Serving e → cleaner_owed.ReopensOn part Of n p q
-  none_reopened (cleaning.Down l) q is = tt
-  none_reopened (cleaning.Opening l o) q is = absurd (let f : cleaning.Opening l o ≡ cleaning.Serving e = is in cc)
-  none_reopened (cleaning.Serving t) q is = tt
+  none_reopened (cleaning.Down l) q fact = tt
+  none_reopened (cleaning.Opening l o) q fact = absurd (let f : cleaning.Opening l o ≡ cleaning.Serving e = fact in cc)
+  none_reopened (cleaning.Serving t) q fact = tt
 
 pub cleaner_files_flights : CleanerFilesFlights
-cleaner_files_flights part texts n node what e small is agrees gets asks may =
+cleaner_files_flights part texts n node what e small fact agrees gets asks may =
     let its = its_texts e.log in
     let w = cleaners.takes node.peers node.phase what in
-    let k = emptying.takes_so Any part its n small [] node.peers node.phase what (none_moved part texts n small e node.phase is)
-    (emptying.stands Any part its n small node.phase (phase_as part texts n small e node.phase is agrees.phase) agrees.moves) gets
-    (none_reopened part texts n small e node.phase w.state is) in
+    let k = emptying.takes_so Any part its n small [] node.peers node.phase what (none_moved part texts n small e node.phase fact)
+    (emptying.stands Any part its n small node.phase (phase_as part texts n small e node.phase fact agrees.phase) agrees.moves) gets
+    (none_reopened part texts n small e node.phase w.state fact) in
     all_then (IsNamed its) (IsFlight e.log) (is_flight e.log) w.outs (k.1 asks (may_land e.log 9 may))

@@ -96,7 +96,7 @@ module _ (New : Filed → Segment → Type 0) (part : ℕ) (texts : Texts) (sinc
         subst (λ o. frames.Goes_to New part texts since answered P asked n
         (steps says (takes_in e o (input.Promise slot epoch)).state (takes_in e o (input.Promise slot epoch)).outs)) (sym k.has)
         (subst (λ outs. frames.Goes_to New part texts since answered P asked n (steps says told outs)) (sym waits.outs)
-        (frames.went_after New part texts since answered P asked asked n m (still told) (On Begun happens) (jobs.grows_job n d) refl (λ x is. is)
+        (frames.went_after New part texts since answered P asked asked n m (still told) (On Begun happens) (jobs.grows_job n d) refl (λ x fact. fact)
         (frames.went_quiet New part texts since answered asked m P told [] holds tt)))
 
     -- of another slot
@@ -220,15 +220,15 @@ module _ (New : Filed → Segment → Type 0) (part : ℕ) (texts : Texts) (sinc
       (λ j same. by j same (slot == part) refl)
     where
       at : (slot == part) ≡ true → slot ≡ part
-      at is = eqb-true slot part is
+      at fact = eqb-true slot part fact
 
       other : (slot == part) ≡ false → slot ≡ part → ⊥
-      other is equal = let s = equal in grind (arith, nat_tests, s, is)
+      other fact equal = let s = equal in grind (arith, nat_tests, s, fact)
 
       by : (j : Job) (same : e.job ≡ Some j) (t : Bool) → (slot == part) ≡ t
           → jobs.Takes New part texts since answered n (epoch_of e.promised part) (job.transition j.cleaning (input.Promise slot (epoch_of e.promised slot)))
-      by j same true is = again_here n e slot h j same (at is)
-      by j same false is = again_other n e slot h j same (other is)
+      by j same true fact = again_here n e slot h j same (at fact)
+      by j same false fact = again_other n e slot h j same (other fact)
 
   -- ---- all slots
 
@@ -239,10 +239,10 @@ module _ (New : Filed → Segment → Type 0) (part : ℕ) (texts : Texts) (sinc
   first_told slot slots rest asked n e k among = by (slot == part) refl
     where
       at : (slot == part) ≡ true → slot ≡ part
-      at is = eqb-true slot part is
+      at fact = eqb-true slot part fact
 
       other : (slot == part) ≡ false → slot ≡ part → ⊥
-      other is equal = let s = equal in grind (arith, nat_tests, s, is)
+      other fact equal = let s = equal in grind (arith, nat_tests, s, fact)
 
       behind : (slot ≡ part → ⊥) → Among part slots
       behind apart = elim among [
@@ -251,13 +251,13 @@ module _ (New : Filed → Segment → Type 0) (part : ℕ) (texts : Texts) (sinc
       ]
 
       by : (t : Bool) → (slot == part) ≡ t → Goes asked n (steps promises_slot e (slot ∷ slots))
-      by true is = frames.went_through New part texts since answered At At asked n (promises_slot e slot)
+      by true fact = frames.went_through New part texts since answered At At asked n (promises_slot e slot)
           (steps promises_slot (promises_slot e slot).state slots)
-          (now_at asked n e k slot (at is))
+          (now_at asked n e k slot (at fact))
           (λ w. frames.went_steps New part texts since answered promises_slot again_so w.questions w.next (promises_slot e slot).state slots w.stands)
-      by false is = frames.went_through New part texts since answered Before At asked n (promises_slot e slot)
+      by false fact = frames.went_through New part texts since answered Before At asked n (promises_slot e slot)
           (steps promises_slot (promises_slot e slot).state slots)
-          (still_before asked n e k slot (other is)) (λ w. rest w.questions w.next (promises_slot e slot).state w.stands (behind (other is)))
+          (still_before asked n e k slot (other fact)) (λ w. rest w.questions w.next (promises_slot e slot).state w.stands (behind (other fact)))
 
   all_told : (slots : List ℕ) → Claim slots
   all_told [] = λ asked n e k among. absurd among
@@ -289,8 +289,8 @@ module _ (New : Filed → Segment → Type 0) (part : ℕ) (texts : Texts) (sinc
         parts = refl;
         promised = let q = n.promised in omega arith;
         filed = more_itself n.filed;
-        sent = λ x is. is;
-        deleted = λ name is. is;
+        sent = λ x fact. fact;
+        deleted = λ name fact. fact;
       } in
       let before : Before m r = record {
         stands = record {
@@ -311,7 +311,7 @@ module _ (New : Filed → Segment → Type 0) (part : ℕ) (texts : Texts) (sinc
         greets = refl;
       } in
       frames.went_after New part texts since answered At asked asked n m (saying d.outs (cleans d.state input.Tick)) (On Begun (JobBegins count)) grows refl
-      (λ x is. is)
+      (λ x fact. fact)
       (frames.went_on New part texts since answered asked m d (cleans d.state input.Tick) (all_told (range_with_len 0 8) asked m r before (in_slots part small))
       (λ w. jobs.cleans_so New part texts since answered w.questions w.next d.state input.Tick w.stands
       (jobs.may_other New part texts since answered w.next d.state input.Tick w.stands tt tt)))

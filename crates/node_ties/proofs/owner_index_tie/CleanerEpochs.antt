@@ -28,7 +28,7 @@ to_here p slot epoch manager small eight =
     (record { epochs = slice_set p.epochs slot epoch; managers = manager_set p.managers slot manager }) p
     (λ _. epoch_is (record { epochs = slice_set p.epochs slot epoch; managers = manager_set p.managers slot manager }) slot
     ∙ get_or-set_same p.epochs slot epoch 0 (omega arith))
-    (λ is. absurd (let s = small in grind (arith, nat_tests, s, is)))
+    (λ fact. absurd (let s = small in grind (arith, nat_tests, s, fact)))
 
 pub to_other : (p : Promised) (slot epoch manager k : ℕ) → (slot ≡ k → ⊥) → epoch_of (promised_to p slot epoch manager) k ≡ epoch_of p k
 to_other p slot epoch manager k other =
@@ -44,4 +44,4 @@ unfolding job.on_promise
 promise_is s slot epoch =
     by_test (λ (d : job.Done). d.state.promised ≡ promised_with s.promised slot epoch) (is_above s.promised slot epoch)
     (job.turned (record s { promised = promised_with s.promised slot epoch }) (job.forgetting slot s.phase)) (still s) (λ _. refl)
-    (λ is. sym (second_of (is_above s.promised slot epoch) _ s.promised is))
+    (λ fact. sym (second_of (is_above s.promised slot epoch) _ s.promised fact))

@@ -69,8 +69,8 @@ grows_itself n = record {
   parts = refl;
   promised = let p = n.promised in omega arith;
   filed = more_itself n.filed;
-  sent = λ x is. is;
-  deleted = λ name is. is;
+  sent = λ x fact. fact;
+  deleted = λ name fact. fact;
 }
 
 pub grows_then : (n m o : Net) → Grows n m → Grows m o → Grows n o
@@ -81,8 +81,8 @@ grows_then n m o g h = record {
   parts = h.parts ∙ g.parts;
   promised = let a = g.promised in let b = h.promised in omega arith;
   filed = more_then n.filed m.filed o.filed g.filed h.filed;
-  sent = λ x is. h.sent x (g.sent x is);
-  deleted = λ name is. h.deleted name (g.deleted name is);
+  sent = λ x fact. h.sent x (g.sent x fact);
+  deleted = λ name fact. h.deleted name (g.deleted name fact);
 }
 
 -- more was asked
@@ -127,8 +127,8 @@ module _ (part : ℕ) (n m : Net) (g : Grows n m) where
         promised = let a = k.promised in let b = g.promised in omega arith;
         within = within_on name within;
         below = subst (λ h. name.seq < of_log (h k.epoch) name.log.0) (sym g.horizon) k.below;
-        lies = λ is. ap (λ (e : Entry). e.place) (row_stays c.block n.filed m.filed name.log.0 name.seq g.filed last)
-            ∙ k.lies (ap (λ (s : Segment). same_name name s.name) (sym (g.filed.segment name.log.0 name.seq within.some last)) ∙ is);
+        lies = λ fact. ap (λ (e : Entry). e.place) (row_stays c.block n.filed m.filed name.log.0 name.seq g.filed last)
+            ∙ k.lies (ap (λ (s : Segment). same_name name s.name) (sym (g.filed.segment name.log.0 name.seq within.some last)) ∙ fact);
       }
 
   sends_later : (b : Body) → SaysOwed part n b → SaysOwed part m b
@@ -167,7 +167,7 @@ module _ (New : Filed → Segment → Type 0) (part : ℕ) (texts : Texts) (sinc
       → m.job ≡ n.job → ((x : Packet) → In x n.sent → In x m.sent) → Stands n log feed promised job → Stands m log feed promised job
   moved_on n m log feed promised job same as_promised as_job sent h = record {
     late = let a = h.late in let b = same.head in omega arith;
-    heard = λ x is. sent x (h.heard x is);
+    heard = λ x fact. sent x (h.heard x fact);
     seen = record {
       owner = same_owner part n m 9 9 log feed same h.seen.owner;
       eight = h.seen.eight;
@@ -226,7 +226,7 @@ module _ (New : Filed → Segment → Type 0) (part : ℕ) (texts : Texts) (sinc
               grows = grows_then n one.next two.next one.grows two.grows;
               filed = two.filed ∙ ap (λ f. filed_after texts 9 f e.outs) one.filed ∙ sym (after_both texts 9 n.filed d.outs e.outs);
               questions = two.questions;
-              kept = λ x is. two.kept x (one.kept x is);
+              kept = λ x fact. two.kept x (one.kept x fact);
               stands = two.stands;
               says = all_both (CleanerDoes part two.questions two.next since) d.outs e.outs
                   (all_weaker (CleanerDoes part one.questions one.next since) (CleanerDoes part two.questions two.next since)
@@ -256,7 +256,7 @@ module _ (New : Filed → Segment → Type 0) (part : ℕ) (texts : Texts) (sinc
       grows = grows_itself n;
       filed = refl;
       questions = asked;
-      kept = λ x is. is;
+      kept = λ x fact. fact;
       stands = h;
       says = tt;
     },
@@ -329,7 +329,7 @@ module _ (New : Filed → Segment → Type 0) (part : ℕ) (texts : Texts) (sinc
         grows = grows_itself n;
         filed = sym (plain_files outs all);
         questions = asked;
-        kept = λ x is. is;
+        kept = λ x fact. fact;
         stands = h;
         says = all_weaker Plain (CleanerDoes part asked n since) plain_does outs all;
       },
@@ -390,7 +390,7 @@ module _ (New : Filed → Segment → Type 0) (part : ℕ) (texts : Texts) (sinc
             grows = grows_then n m w.next grows w.grows;
             filed = w.filed ∙ ap (λ f. filed_after texts 9 f d.outs) same;
             questions = w.questions;
-            kept = λ x is. w.kept x (kept x is);
+            kept = λ x fact. w.kept x (kept x fact);
             stands = w.stands;
             says = w.says;
           }
@@ -407,8 +407,8 @@ module _ (New : Filed → Segment → Type 0) (part : ℕ) (texts : Texts) (sinc
     parts = refl;
     promised = let p = n.promised in omega arith;
     filed = more_is_filed n.filed 9 (texts name);
-    sent = λ x is. is;
-    deleted = λ x is. is;
+    sent = λ x fact. fact;
+    deleted = λ x fact. fact;
   }
 
   -- a segment of the log

@@ -111,10 +111,10 @@ module _ (New : Filed → Segment → Type 0) (part : ℕ) (texts : Texts) (sinc
       (λ out. by out (slot_of m.block.ino.0 == part) refl) (λ _. still_so e h)
     where
       inside : (slot_of m.block.ino.0 == part) ≡ true → slot_of m.block.ino.0 ≡ part
-      inside is = eqb-true (slot_of m.block.ino.0) part is
+      inside fact = eqb-true (slot_of m.block.ino.0) part fact
 
       outside : (slot_of m.block.ino.0 == part) ≡ false → slot_of m.block.ino.0 ≡ part → ⊥
-      outside is same = let s = same in grind (arith, nat_tests, s, is)
+      outside fact same = let s = same in grind (arith, nat_tests, s, fact)
 
       given : DeadGiven part n m → Goes (cleans e (input.Dead m.block m.epoch))
       given k = jobs.cleans_so New part texts since answered asked n e (input.Dead m.block m.epoch) h
@@ -122,8 +122,8 @@ module _ (New : Filed → Segment → Type 0) (part : ℕ) (texts : Texts) (sinc
 
       by : is_out (check_of (hand_of e.job) m.block) m.ask ≡ true → (t : Bool) → (slot_of m.block.ino.0 == part) ≡ t
           → Goes (cleans e (input.Dead m.block m.epoch))
-      by out true is = given (gets (inside is) out)
-      by out false is = calm e (input.Dead m.block m.epoch) tt (outside is) h
+      by out true fact = given (gets (inside fact) out)
+      by out false fact = calm e (input.Dead m.block m.epoch) tt (outside fact) h
 
   -- ---- its reading
 
@@ -196,15 +196,15 @@ module _ (New : Filed → Segment → Type 0) (part : ℕ) (texts : Texts) (sinc
   -- ---- a Poll
 
   no_later : (a b : ℕ) → nat_lt a b ≡ false → b ≤ a
-  no_later a b is = grind (arith, nat_tests)
+  no_later a b fact = grind (arith, nat_tests)
 
   polled_by : (e : Emptying) (manager : ℕ) (p : Poll) → At e → PollGets part n e p → Goes (polled e manager p)
   polled_by e manager p h gets =
       by_test Goes (nat_lt p.epoch (epoch_of e.promised p.slot)) (still e) (reports e manager p) (λ _. still_so e h)
-      (λ is. polled_so New part texts since answered small asked n p.slot p.epoch manager e h (late is) (λ same. gets same (late is same)))
+      (λ fact. polled_so New part texts since answered small asked n p.slot p.epoch manager e h (late fact) (λ same. gets same (late fact same)))
     where
       late : nat_lt p.epoch (epoch_of e.promised p.slot) ≡ false → p.slot ≡ part → epoch_of e.promised part ≤ p.epoch
-      late is same = subst (λ k. epoch_of e.promised k ≤ p.epoch) same (no_later p.epoch (epoch_of e.promised p.slot) is)
+      late fact same = subst (λ k. epoch_of e.promised k ≤ p.epoch) same (no_later p.epoch (epoch_of e.promised p.slot) fact)
 
   pub poll_so : (e : Emptying) (from : NodeId) (p : Poll) → At e → PollGets part n e p → Goes (on_poll e from p)
   unfolding on_poll

@@ -42,7 +42,7 @@ use Rattle.node_ties.proofs.owner_index_tie.Frames.{more_itself}
 
 known_in : (deleted : List SegName) (outs : List Out) → ((name : SegName) → In name (deletes_of outs) → In name deleted) → AllByRecursion (Known deleted) outs
 known_in deleted [] all = tt
-known_in deleted (out.Delete server name ∷ outs) all = (all name (inl refl), known_in deleted outs (λ x is. all x (inr is)))
+known_in deleted (out.Delete server name ∷ outs) all = (all name (inl refl), known_in deleted outs (λ x fact. all x (inr fact)))
 known_in deleted (out.Hello ∷ outs) all = (tt, known_in deleted outs all)
 known_in deleted (out.List server ∷ outs) all = (tt, known_in deleted outs all)
 known_in deleted (out.UsageAsk slot ∷ outs) all = (tt, known_in deleted outs all)
@@ -53,7 +53,7 @@ known_in deleted (out.Finished count ∷ outs) all = (tt, known_in deleted outs 
 
 -- what a job says to delete is to be deleted there
 pub said_known : (n : Net) (d : job.Done) → AllByRecursion (Known (with_job n d).deleted) d.outs
-said_known n d = known_in (deletes_of d.outs ++ n.deleted) d.outs (λ name is. in_front name (deletes_of d.outs) n.deleted is)
+said_known n d = known_in (deletes_of d.outs ++ n.deleted) d.outs (λ name fact. in_front name (deletes_of d.outs) n.deleted fact)
 
 pub grows_job : (n : Net) (d : job.Done) → Grows n (with_job n d)
 grows_job n d = record {
@@ -63,8 +63,8 @@ grows_job n d = record {
   parts = refl;
   promised = let p = n.promised in omega arith;
   filed = more_itself n.filed;
-  sent = λ x is. is;
-  deleted = λ name is. in_more name (deletes_of d.outs) n.deleted is;
+  sent = λ x fact. fact;
+  deleted = λ name fact. in_more name (deletes_of d.outs) n.deleted fact;
 }
 
 -- ---- what it has promised
@@ -103,7 +103,7 @@ pub with_here : (promised : List ℕ) (slot epoch : ℕ) → slot < 8 → length
     → promised_at (promised_with promised slot epoch) slot ≡ epoch
 with_here promised slot epoch small eight low =
     by_test (λ (p : List ℕ). promised_at p slot ≡ epoch) (is_above promised slot epoch) (set promised slot epoch) promised
-    (λ _. get_or-set_same promised slot epoch 0 (omega arith)) (λ is. let a = low in grind (arith, nat_tests, a, is, small))
+    (λ _. get_or-set_same promised slot epoch 0 (omega arith)) (λ fact. let a = low in grind (arith, nat_tests, a, fact, small))
 
 pub with_other : (promised : List ℕ) (slot epoch k : ℕ) → (slot ≡ k → ⊥) → promised_at (promised_with promised slot epoch) k ≡ promised_at promised k
 with_other promised slot epoch k other =
@@ -114,7 +114,7 @@ with_other promised slot epoch k other =
 pub with_lower : (promised : List ℕ) (slot epoch : ℕ) → epoch ≤ promised_at promised slot → promised_with promised slot epoch ≡ promised
 with_lower promised slot epoch low =
     by_test (λ (p : List ℕ). p ≡ promised) (is_above promised slot epoch) (set promised slot epoch) promised
-    (λ is. absurd (let a = low in grind (arith, nat_tests, a, is))) (λ _. refl)
+    (λ fact. absurd (let a = low in grind (arith, nat_tests, a, fact))) (λ _. refl)
 
 module _ (part : ℕ) where
   -- news of slots of which none of this one is higher
@@ -126,15 +126,15 @@ module _ (part : ℕ) where
   with_news promised news low = by (news.slot == part) refl
     where
       at : (news.slot == part) ≡ true → news.slot ≡ part
-      at is = eqb-true news.slot part is
+      at fact = eqb-true news.slot part fact
 
       other : (news.slot == part) ≡ false → news.slot ≡ part → ⊥
-      other is same = let s = same in grind (arith, nat_tests, s, is)
+      other fact same = let s = same in grind (arith, nat_tests, s, fact)
 
       by : (t : Bool) → (news.slot == part) ≡ t → promised_at (promised_with promised news.slot news.epoch) part ≡ promised_at promised part
-      by true is = ap (λ p. promised_at p part)
-          (with_lower promised news.slot news.epoch (subst (λ k. news.epoch ≤ promised_at promised k) (sym (at is)) (low (at is))))
-      by false is = with_other promised news.slot news.epoch part (other is)
+      by true fact = ap (λ p. promised_at p part)
+          (with_lower promised news.slot news.epoch (subst (λ k. news.epoch ≤ promised_at promised k) (sym (at fact)) (low (at fact))))
+      by false fact = with_other promised news.slot news.epoch part (other fact)
 
   pub of_news : (slots : List SlotNews) (promised : List ℕ) → NoHigher (promised_at promised part) slots
       → promised_at (promised_of slots promised) part ≡ promised_at promised part
@@ -170,7 +170,7 @@ module _ (New : Filed → Segment → Type 0) (part : ℕ) (texts : Texts) (sinc
   taken asked n e j d h t =
       let m = with_job n d in
       frames.went_after New part texts since answered At asked asked n m (steps says (rejobbed e j d) d.outs) (On Begun t.happens) (grows_job n d) refl
-      (λ x is. is)
+      (λ x fact. fact)
       (all_said New part texts since answered asked m (rejobbed e j d) d.outs (said_known n d)
       (record {
         late = h.late;

@@ -173,10 +173,10 @@ module _ (New : Filed → Segment → Type 0) (part : ℕ) (texts : Texts) (sinc
   no_higher_later (news ∷ slots) u v g all = (λ same. let a = all.0 same in let b = g.promised in omega arith, no_higher_later slots u v g all.1)
 
   no_later : (a b : ℕ) → nat_lt a b ≡ false → b ≤ a
-  no_later a b is = grind (arith, nat_tests)
+  no_later a b fact = grind (arith, nat_tests)
 
   later_is : (a b : ℕ) → nat_lt a b ≡ true → a ≤ b
-  later_is a b is = grind (arith, nat_tests)
+  later_is a b fact = grind (arith, nat_tests)
 
   hears_so : (asked : Questions) (n : Net) (e : Emptying) (news : SlotNews) → At n e
       → Goes_to (UpTo New part texts since answered small news.slot news.epoch) asked n (hears_slot e news)
@@ -184,12 +184,12 @@ module _ (New : Filed → Segment → Type 0) (part : ℕ) (texts : Texts) (sinc
   hears_so asked n e news h =
       by_test (Goes_to (UpTo New part texts since answered small news.slot news.epoch) asked n) (nat_lt (epoch_of e.promised news.slot) news.epoch)
       (cleans (promises e news.slot news.epoch news.manager) (input.Promise news.slot news.epoch)) (still e)
-      (λ is. promised_so New part texts since answered small asked n news.slot news.epoch news.manager e h
-      (λ same. subst (λ k. epoch_of e.promised k ≤ news.epoch) same (later_is (epoch_of e.promised news.slot) news.epoch is)))
-      (λ is. frames.went_quiet New part texts since answered asked n (UpTo New part texts since answered small news.slot news.epoch) e [] (
+      (λ fact. promised_so New part texts since answered small asked n news.slot news.epoch news.manager e h
+      (λ same. subst (λ k. epoch_of e.promised k ≤ news.epoch) same (later_is (epoch_of e.promised news.slot) news.epoch fact)))
+      (λ fact. frames.went_quiet New part texts since answered asked n (UpTo New part texts since answered small news.slot news.epoch) e [] (
         h,
         λ same. let a = subst (λ k. news.epoch ≤ epoch_of e.promised k) same
-            (no_later (epoch_of e.promised news.slot) news.epoch is) in let b = h.seen.promised in omega arith,
+            (no_later (epoch_of e.promised news.slot) news.epoch fact) in let b = h.seen.promised in omega arith,
       ) tt)
 
   all_hear : (asked : Questions) (n : Net) (e : Emptying) (slots : List SlotNews) → At n e → Goes_to (Heard slots) asked n (steps hears_slot e slots)

@@ -148,7 +148,7 @@ module _ (New : Filed → Segment → Type 0) (part : ℕ) (texts : Texts) (n : 
       frames.went_after New part texts since n.sent PhaseSo asked asked v (jobless New part texts since n.sent v) (crashes e.lasting number)
       (On Begun (JobBegins 0))
       (grows_jobless New part texts since n.sent v) refl
-      (λ x is. is)
+      (λ x fact. fact)
       (crashes_so asked (jobless New part texts since n.sent v) e.lasting number
       (record { fits = record { fit = h.seen.owner.feed.fit; short = h.seen.owner.feed.short }; job = told_nothing 0 part }, same))
 
@@ -172,16 +172,16 @@ module _ (New : Filed → Segment → Type 0) (part : ℕ) (texts : Texts) (n : 
   Newer (Serving e) = (length e.promised.epochs ≡ 8) × (n.promised ≤ epoch_of e.promised part)
 
   fits_in : (v : Net) → v ≡ filing n v.filed → LogFits part (filing n v.filed) 9 → LogFits part v 9
-  fits_in v is k = same_fits part (filing n v.filed) v 9 (record { head = refl; segment = λ q some limit. refl }) k
+  fits_in v fact k = same_fits part (filing n v.filed) v 9 (record { head = refl; segment = λ q some limit. refl }) k
 
   job_in : (v : Net) → v ≡ filing n v.filed → v.job ≡ n.job
-  job_in v is = ap (λ (x : Net). x.job) is
+  job_in v fact = ap (λ (x : Net). x.job) fact
 
   promised_in : (v : Net) → v ≡ filing n v.filed → v.promised ≡ n.promised
-  promised_in v is = ap (λ (x : Net). x.promised) is
+  promised_in v fact = ap (λ (x : Net). x.promised) fact
 
   sent_in : (v : Net) → v ≡ filing n v.filed → v.sent ≡ n.sent
-  sent_in v is = ap (λ (x : Net). x.sent) is
+  sent_in v fact = ap (λ (x : Net). x.sent) fact
 
   -- what is filed there is moved
   abbrev pub IsMovedThere : Type 0
@@ -207,22 +207,22 @@ module _ (New : Filed → Segment → Type 0) (part : ℕ) (texts : Texts) (n : 
               parts = refl;
               promised = let p = n.promised in omega arith;
               filed = effects.more_after texts 9 n.filed w.effects;
-              sent = λ x is. is;
-              deleted = λ name is. is;
+              sent = λ x fact. fact;
+              deleted = λ name fact. fact;
             };
             filed = refl;
             questions = asked;
-            kept = λ x is. is;
+            kept = λ x fact. fact;
             stands = record { only_files = refl; seen = k.stands };
             says = opener_all part asked m since owner w.effects may;
           }
 
   module _ (none : promised_at n.job.promised part ≡ 0) where
     none_in : (v : Net) → v ≡ filing n v.filed → promised_at v.job.promised part ≡ 0
-    none_in v is = ap (λ (x : CleaningState). promised_at x.promised part) (job_in v is) ∙ none
+    none_in v fact = ap (λ (x : CleaningState). promised_at x.promised part) (job_in v fact) ∙ none
 
     rests_in : (v : Net) → v ≡ filing n v.filed → LogFits part (filing n v.filed) 9 → Rests v
-    rests_in v is fits = (record { fits = fits_in v is fits; job = none_in v is }, promised_in v is)
+    rests_in v fact fits = (record { fits = fits_in v fact fits; job = none_in v fact }, promised_in v fact)
 
     back_so : (asked : Questions) (v : Net) (l : Lasting) (o : Opened) → Files v (progress.Opened o) → length o.promised.epochs ≡ 8
         → n.promised ≤ epoch_of o.promised part
@@ -238,17 +238,17 @@ module _ (New : Filed → Segment → Type 0) (part : ℕ) (texts : Texts) (n : 
           parts = refl;
           promised = low;
           filed = effects.more_itself v.filed;
-          sent = λ x is. is;
-          deleted = λ name is. is;
+          sent = λ x fact. fact;
+          deleted = λ name fact. fact;
         } in
         let owner = same_owner part (filing n v.filed) m 9 9 o.log o.feed (record { head = refl; segment = λ q some limit. refl }) k.seen.seen in
         let at : PhaseSo m (back l o).state = record {
           late = k.seen.late;
-          heard = λ x is. subst (λ xs. In x xs) (sym (sent_in v k.only_files)) is;
+          heard = λ x fact. subst (λ xs. In x xs) (sym (sent_in v k.only_files)) fact;
           seen = record { owner = owner; eight = eight; promised = refl; job = none_in v k.only_files };
         } in
         frames.went_after New part texts since n.sent PhaseSo asked asked v m (back l o) (On Begun (Promises epoch low (none_in v k.only_files))) grows refl
-        (λ x is. is)
+        (λ x fact. fact)
         (quiet asked m (back l o).state (back l o).outs at
         (all_both (frames.Plain New part texts since n.sent asked m) (pushes_all o.promised.managers o.feed) _
         (pushes_plain New part texts since n.sent asked m o.promised.managers o.feed owner.feed)
@@ -391,7 +391,7 @@ module _ (New : Filed → Segment → Type 0) (part : ℕ) (texts : Texts) (n : 
   pub stands : (p : Phase) → PhaseAgrees part n texts p → CleanerMoves part n.sent p → PhaseText p
   stands (Down l) h moves = ((h, refl), (tt, moves))
   stands (Opening l o) h moves = (((h.0, refl), h.1.0), (h.1.1, moves))
-  stands (Serving e) h moves = (record { late = omega arith; heard = λ x is. is; seen = h.0 }, (h.1, moves))
+  stands (Serving e) h moves = (record { late = omega arith; heard = λ x fact. fact; seen = h.0 }, (h.1, moves))
 
   pub agrees : (v : Net) (p : Phase) → PhaseSo v p → WritesTexts part texts n p → PhaseAgrees part v texts p
   agrees v (Down l) h text = h.0

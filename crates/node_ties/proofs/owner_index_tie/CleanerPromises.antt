@@ -73,7 +73,7 @@ module _ (New : Filed → Segment → Type 0) (part : ℕ) (texts : Texts) (sinc
     kept_at : (m : Net) (o : Option Job) → HasPromised m o → Stands New part texts since answered m e.log e.feed kept.promised o
     kept_at m o k = record {
       late = let a = h.late in let b = ap (λ (f : Filed). f.head 9) k.filed in omega arith;
-      heard = λ x is. k.grows.sent x (h.heard x is);
+      heard = λ x fact. k.grows.sent x (h.heard x fact);
       seen = record {
         owner = same_files n m e k.filed h.seen.owner;
         eight = to_length e.promised part epoch manager h.seen.eight;
@@ -88,7 +88,7 @@ module _ (New : Filed → Segment → Type 0) (part : ℕ) (texts : Texts) (sinc
 
     ups : (m : Net) (d : Done) → Grows n m → m.promised ≡ epoch → Runs part (held_in part texts) n m → m.filed ≡ n.filed → Goes asked m d
         → frames.Goes_to New part texts since answered Up asked n d
-    ups m d grows is runs same goes =
+    ups m d grows fact runs same goes =
         frames.went_after New part texts since answered Up asked asked n m d runs grows same (λ x there. there) (
           λ owed. let w = goes.0 owed in record {
             next = w.next;
@@ -115,8 +115,8 @@ module _ (New : Filed → Segment → Type 0) (part : ℕ) (texts : Texts) (sinc
             parts = refl;
             promised = let a = h.seen.promised in omega arith;
             filed = more_itself n.filed;
-            sent = λ x is. is;
-            deleted = λ name is. is;
+            sent = λ x fact. fact;
+            deleted = λ name fact. fact;
           };
           filed = refl;
           promised = refl;
@@ -153,7 +153,7 @@ module _ (New : Filed → Segment → Type 0) (part : ℕ) (texts : Texts) (sinc
           parts = refl;
           promised = let a = h.seen.promised in let b = promised_now in omega arith;
           filed = more_itself n.filed;
-          sent = λ x is. is;
+          sent = λ x fact. fact;
           deleted = g.deleted;
         };
         filed = refl;
@@ -201,7 +201,7 @@ module _ (New : Filed → Segment → Type 0) (part : ℕ) (texts : Texts) (sinc
         parts = k.grows.parts;
         promised = k.grows.promised;
         filed = k.grows.filed;
-        sent = λ x is. inr (k.grows.sent x is);
+        sent = λ x fact. inr (k.grows.sent x fact);
         deleted = k.grows.deleted;
       };
       filed = k.filed;
@@ -274,14 +274,14 @@ module _ (New : Filed → Segment → Type 0) (part : ℕ) (texts : Texts) (sinc
     may_promise : jobs.May New part texts since answered n others (input.Promise slot epoch)
     may_promise j same =
         let k = subst (JobAgrees part n (epoch_of others.promised part)) same still_at.seen.job in
-        let is = promise_is j.cleaning slot epoch in
+        let fact = promise_is j.cleaning slot epoch in
         record {
           happens = subst (λ s. Happens part (held_in part texts) n (with_job n (job.transition s (input.Promise slot epoch)))) k.same_job
               (JobTakes (input.Promise slot epoch) other);
           seen = record {
             same_job = refl;
-            eight = ap length is ∙ jobs.with_length j.cleaning.promised slot epoch ∙ k.eight;
-            told = ap (λ p. promised_at p part) is ∙ jobs.with_other j.cleaning.promised slot epoch part other ∙ k.told;
+            eight = ap length fact ∙ jobs.with_length j.cleaning.promised slot epoch ∙ k.eight;
+            told = ap (λ p. promised_at p part) fact ∙ jobs.with_other j.cleaning.promised slot epoch part other ∙ k.told;
           };
         }
 
@@ -325,10 +325,10 @@ module _ (New : Filed → Segment → Type 0) (part : ℕ) (texts : Texts) (sinc
 
   module _ (asked : Questions) (n : Net) (slot epoch manager : ℕ) where
     at_slot : (slot == part) ≡ true → slot ≡ part
-    at_slot is = eqb-true slot part is
+    at_slot fact = eqb-true slot part fact
 
     at_other : (slot == part) ≡ false → slot ≡ part → ⊥
-    at_other is same = let s = same in grind (arith, nat_tests, s, is)
+    at_other fact same = let s = same in grind (arith, nat_tests, s, fact)
 
     any_slot : (e : Emptying) → At n e → (slot ≡ part → epoch_of e.promised part ≤ epoch)
         → frames.Goes_to New part texts since answered (UpTo slot epoch) asked n
@@ -338,15 +338,15 @@ module _ (New : Filed → Segment → Type 0) (part : ℕ) (texts : Texts) (sinc
         by : (t : Bool) → (slot == part) ≡ t
             → frames.Goes_to New part texts since answered (UpTo slot epoch) asked n
             (cleans (record e { promised = promised_to e.promised slot epoch manager }) (input.Promise slot epoch))
-        by true is = subst (λ k. frames.Goes_to New part texts since answered (UpTo k epoch) asked n
+        by true fact = subst (λ k. frames.Goes_to New part texts since answered (UpTo k epoch) asked n
             (cleans (record e { promised = promised_to e.promised k epoch manager }) (input.Promise k epoch)))
-            (sym (at_slot is))
+            (sym (at_slot fact))
             (weaker (λ v s u. (u.0, λ same. u.1)) asked n
             (cleans (record e { promised = promised_to e.promised part epoch manager }) (input.Promise part epoch))
-            (of_slot asked n e h epoch manager (low (at_slot is))))
-        by false is = weaker (λ v s u. (u, λ same. absurd (at_other is same))) asked n
+            (of_slot asked n e h epoch manager (low (at_slot fact))))
+        by false fact = weaker (λ v s u. (u, λ same. absurd (at_other fact same))) asked n
             (cleans (record e { promised = promised_to e.promised slot epoch manager }) (input.Promise slot epoch))
-            (of_other asked n e h slot epoch manager (at_other is))
+            (of_other asked n e h slot epoch manager (at_other fact))
 
     -- a slot is promised to an epoch of a manager
     pub promised_so : (e : Emptying) → At n e → (slot ≡ part → epoch_of e.promised part ≤ epoch)
@@ -374,13 +374,13 @@ module _ (New : Filed → Segment → Type 0) (part : ℕ) (texts : Texts) (sinc
       where
         by : (t : Bool) → (slot == part) ≡ t
             → Goes asked n (saying (its_report e ∷ []) (cleans (record e { promised = promised_to e.promised slot epoch manager }) (input.Promise slot epoch)))
-        by true is = subst (λ k. Goes asked n
+        by true fact = subst (λ k. Goes asked n
             (saying (Send (Manager manager) (body.Report (record { slot = k; epoch = epoch; held = []; end = e.log.end })) ∷ [])
-            (cleans (record e { promised = promised_to e.promised k epoch manager }) (input.Promise k epoch)))) (sym (at_slot is))
-            (weaker (λ v s u. u.0) asked n _ (of_poll asked n e h epoch manager (low (at_slot is)) (linked (at_slot is))))
-        by false is = frames.went_behind New part texts since answered asked n (its_report e ∷ [])
+            (cleans (record e { promised = promised_to e.promised k epoch manager }) (input.Promise k epoch)))) (sym (at_slot fact))
+            (weaker (λ v s u. u.0) asked n _ (of_poll asked n e h epoch manager (low (at_slot fact)) (linked (at_slot fact))))
+        by false fact = frames.went_behind New part texts since answered asked n (its_report e ∷ [])
             (cleans (record e { promised = promised_to e.promised slot epoch manager }) (input.Promise slot epoch))
-            (other_report e h (at_other is), tt) (of_other asked n e h slot epoch manager (at_other is))
+            (other_report e h (at_other fact), tt) (of_other asked n e h slot epoch manager (at_other fact))
 
     pub polled_so : (e : Emptying) → At n e → (slot ≡ part → epoch_of e.promised part ≤ epoch)
         → (slot ≡ part → 0 < of_log (n.horizon epoch) 9 → Linked n.filed 9 (of_log (n.horizon epoch) 9) (n.filed.head 9))

@@ -180,10 +180,10 @@ module _ (New : Filed → Segment → Type 0) (part : ℕ) (texts : Texts) (sinc
       c = record { block = block; place = place; ask = ask }
 
       of_slot : (slot_of block.ino.0 == part) ≡ true → slot_of block.ino.0 ≡ part
-      of_slot is = eqb-true (slot_of block.ino.0) part is
+      of_slot fact = eqb-true (slot_of block.ino.0) part fact
 
       of_other : (slot_of block.ino.0 == part) ≡ false → slot_of block.ino.0 ≡ part → ⊥
-      of_other is inside = let i = inside in grind (arith, nat_tests, i, is)
+      of_other fact inside = let i = inside in grind (arith, nat_tests, i, fact)
 
       asked_there : (may : MayAsk part n c) → frames.Went New part texts since answered asked n At e (check_sent e block place (Some ask)).outs
       asked_there may =
@@ -201,22 +201,22 @@ module _ (New : Filed → Segment → Type 0) (part : ℕ) (texts : Texts) (sinc
               parts = refl;
               promised = let q = n.promised in omega arith;
               filed = more_itself n.filed;
-              sent = λ x is. inr is;
-              deleted = λ name is. is;
+              sent = λ x fact. inr fact;
+              deleted = λ name fact. fact;
             };
             filed = refl;
             questions = (ask, n.number, place.seg.name) ∷ asked;
-            kept = λ x is. inr is;
+            kept = λ x fact. inr fact;
             stands = frames.moved_on New part texts since answered n (with_packet n p) e.log e.feed e.promised e.job
                 (record { head = refl; segment = λ q some limit. refl }) refl refl
-                (λ x is. inr is) h;
+                (λ x fact. inr fact) h;
             says = (λ inside. record { number = n.number; below = may.epoch; sent = inl refl; question = inl refl }, tt);
           }
 
       by : frames.Owed New part texts since answered n (check_sent e block place (Some ask)).outs → (t : Bool) → (slot_of block.ino.0 == part) ≡ t
           → frames.Went New part texts since answered asked n At e (check_sent e block place (Some ask)).outs
-      by owed true is = asked_there (owed.asks.0 (of_slot is))
-      by owed false is = (quiet asked n e (check_sent e block place (Some ask)).outs h ((λ inside. absurd (of_other is inside)), tt)).0 owed
+      by owed true fact = asked_there (owed.asks.0 (of_slot fact))
+      by owed false fact = (quiet asked n e (check_sent e block place (Some ask)).outs h ((λ inside. absurd (of_other fact inside)), tt)).0 owed
 
   checks_in : (asked : Questions) (n : Net) (e : Emptying) (o : Option Job) (block : BlockId) (place : Place) → e.job ≡ o → At n e
       → Goes asked n (check_sent (checked_in e o block).state block place (checked_in e o block).ask)
@@ -291,14 +291,14 @@ module _ (New : Filed → Segment → Type 0) (part : ℕ) (texts : Texts) (sinc
     parts = refl;
     promised = let q = n.promised in omega arith;
     filed = more_itself n.filed;
-    sent = λ x is. is;
-    deleted = λ name is. is;
+    sent = λ x fact. fact;
+    deleted = λ name fact. fact;
   }
 
   finishes_so : (asked : Questions) (n : Net) (e : Emptying) (count : ℕ) → At n e → Goes asked n (finishes e count)
   finishes_so asked n e count h =
       let m = jobless n in
-      frames.went_after New part texts since answered At asked asked n m (finishes e count) (On Begun (JobBegins 0)) (grows_jobless n) refl (λ x is. is)
+      frames.went_after New part texts since answered At asked asked n m (finishes e count) (On Begun (JobBegins 0)) (grows_jobless n) refl (λ x fact. fact)
       (quiet asked m (finishes e count).state (finishes e count).outs
       (record {
         late = h.late;

@@ -49,7 +49,7 @@ cleaner_start_agrees part texts any setup works small = record {
       promised = first_epoch setup.managers part small;
       job = told_nothing 0 part;
     },
-    λ f is. absurd (some_none f (sym is)),
+    λ f fact. absurd (some_none f (sym fact)),
   );
   moves = cleaner_starts_moving part [] setup works;
 }

@@ -24,8 +24,8 @@ pub by_filed : (P : List (BlockId × Entry) → Type 0) (f : Filed) (l q : ℕ) 
 by_filed P f l q here elsewhere = by (nat_lt 0 q && nat_le q (f.head l)) refl
   where
     by : (t : Bool) → (nat_lt 0 q && nat_le q (f.head l)) ≡ t → P (cond t (rows_of (f.segment l q)) [])
-    by true is = here (grind (arith, nat_tests)) (grind (arith, nat_tests))
-    by false is = elsewhere
+    by true fact = here (grind (arith, nat_tests)) (grind (arith, nat_tests))
+    by false fact = elsewhere
 
 -- a feed ends where its log does
 pub feed_ends : (part : ℕ) (n : Net) (l : ℕ) (feed : FeedState) → FeedSeen part n l feed → feed.end ≡ n.filed.head l
@@ -35,14 +35,14 @@ pub same_rows : (l : ℕ) (f g : Filed) → IsSameLog l f g → (q : ℕ) → ro
 same_rows l f g same q = ap (λ h. cond (nat_lt 0 q && nat_le q h) (rows_of (g.segment l q)) []) same.head ∙ by (nat_lt 0 q && nat_le q (f.head l)) refl
   where
     some : (nat_lt 0 q && nat_le q (f.head l)) ≡ true → 0 < q
-    some is = grind (arith, nat_tests)
+    some fact = grind (arith, nat_tests)
 
     within : (nat_lt 0 q && nat_le q (f.head l)) ≡ true → q ≤ f.head l
-    within is = grind (arith, nat_tests)
+    within fact = grind (arith, nat_tests)
 
     by : (t : Bool) → (nat_lt 0 q && nat_le q (f.head l)) ≡ t → cond t (rows_of (g.segment l q)) [] ≡ cond t (rows_of (f.segment l q)) []
-    by true is = ap rows_of (same.segment q (some is) (within is))
-    by false is = refl
+    by true fact = ap rows_of (same.segment q (some fact) (within fact))
+    by false fact = refl
 
 same_feds : (l : ℕ) (f g : Filed) → IsSameLog l f g → (qs : List ℕ) → map (fed_at f l) qs ≡ map (fed_at g l) qs
 same_feds l f g same [] = refl

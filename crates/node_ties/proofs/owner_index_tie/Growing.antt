@@ -39,10 +39,10 @@ module _ (part : ℕ) (texts : Texts) (n : Net) (l since : ℕ) (f : Filed) (num
   pub grown : since ≤ f.head l → number ≡ l → FeedSeen part (filing n f) l feed → RowsFit (rows_of s) → suc (f.head l) < u32_end → LogNext l later
       → later.end ≡ end_from s
       → s.name.seq ≡ suc (f.head l) → Stands part n l since (with_segment f l s) number later (settled feed s.name.seq (rows_of s))
-  grown from is fed fits short next end seq = record {
+  grown from fact fed fits short next end seq = record {
     late = let a = from in let b = head_is l f s in omega arith;
     seen = record {
-      number_is = is;
+      number_is = fact;
       log = next;
       end = record {
         seq = ap (λ (e : End). e.seq) end ∙ seq ∙ sym (head_is l f s);

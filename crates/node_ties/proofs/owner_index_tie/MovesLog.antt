@@ -96,7 +96,7 @@ module _ (part : ℕ) (sent : List Packet) where
       → After (launched s name prior items)
   unfolding launched After
   launched_moves s name prior items dirty all =
-      record { dirty = dirty; flight = λ f is. subst (λ (x : FlightState). AllMove x.segment.items) (some_is _ f is) all }
+      record { dirty = dirty; flight = λ f fact. subst (λ (x : FlightState). AllMove x.segment.items) (some_is _ f fact) all }
 
   sealed_moves : (s : LogState) → LogMoves part sent s → After (sealed s)
   unfolding sealed
@@ -134,8 +134,8 @@ module _ (part : ℕ) (sent : List Packet) where
   followed_moves : (s : LogState) (f : FlightState) (fate : Fate) → LogMoves part sent s → AllMove f.segment.items → After (followed s f fate)
   unfolding restriped settled After
   followed_moves s f Restripe h all = launched_moves s (next_attempt f.segment.name) f.segment.prior f.segment.items h.dirty all
-  followed_moves s f Settle h all = full_moves (landed s f) (record { dirty = h.dirty; flight = λ g is. absurd (some_none g (sym is)) })
-  followed_moves s f Wait h all = record { dirty = h.dirty; flight = λ g is. subst (λ (x : FlightState). AllMove x.segment.items) (some_is f g is) all }
+  followed_moves s f Settle h all = full_moves (landed s f) (record { dirty = h.dirty; flight = λ g fact. absurd (some_none g (sym fact)) })
+  followed_moves s f Wait h all = record { dirty = h.dirty; flight = λ g fact. subst (λ (x : FlightState). AllMove x.segment.items) (some_is f g fact) all }
 
   looked_moves : (before s : LogState) (f : FlightState) → LogMoves part sent before → LogMoves part sent s → AllMove f.segment.items
       → After (looked_at before s f)
@@ -150,9 +150,9 @@ module _ (part : ℕ) (sent : List Packet) where
     where
       by : (o : Option FlightState) → s.flight ≡ o
           → After (elim o [ None ↦ still s | Some f ↦ cond (is_of f name index generation) (looked_at s s (noting f index)) (still s) ])
-      by None is = still_moves s h
-      by (Some f) is = by_test After (is_of f name index generation) (looked_at s s (noting f index)) (still s)
-          (λ _. looked_moves s s (noting f index) h h (h.flight f is)) (λ _. still_moves s h)
+      by None fact = still_moves s h
+      by (Some f) fact = by_test After (is_of f name index generation) (looked_at s s (noting f index)) (still s)
+          (λ _. looked_moves s s (noting f index) h h (h.flight f fact)) (λ _. still_moves s h)
 
   maps_move : (s : LogState) (m : GroupMapState) → LogMoves part sent s → After (on_maps s m)
   unfolding on_maps
@@ -163,8 +163,8 @@ module _ (part : ℕ) (sent : List Packet) where
 
       by : (o : Option FlightState) → s.flight ≡ o
           → After (elim o [ None ↦ still (record s { groups = m }) | Some f ↦ looked_at s (record s { groups = m }) f ])
-      by None is = still_moves (record s { groups = m }) now
-      by (Some f) is = looked_moves s (record s { groups = m }) f h now (h.flight f is)
+      by None fact = still_moves (record s { groups = m }) now
+      by (Some f) fact = looked_moves s (record s { groups = m }) f h now (h.flight f fact)
 
   tick_moves : (s : LogState) → LogMoves part sent s → After (on_tick s)
   unfolding on_tick After
@@ -226,4 +226,4 @@ abbrev pub FlightKnown : ℕ → Texts → List Packet → LogState → Type 0
 FlightKnown part texts sent s = FlightIsText texts s × ((f : FlightState) → s.flight ≡ Some f → AllByRecursion (ItemMoves part sent) f.segment.items)
 
 pub flights_are_moves : FlightsAreMoves
-flights_are_moves part sent s f h is b inside some = segment_moves part sent f.segment (h.flight f is) b inside some
+flights_are_moves part sent s f h fact b inside some = segment_moves part sent f.segment (h.flight f fact) b inside some

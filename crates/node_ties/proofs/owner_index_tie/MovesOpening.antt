@@ -79,7 +79,7 @@ module _ (part : ℕ) (sent : List Packet) where
   starts_so k s segments end low groups =
       let t : Settling = behind k (record { segments = segments; end = end; low = low }) groups in
       by_test Goes (is_log k.owner.log.0) (writes k t (log_in.Parts [])) (still (at_scan k s))
-      (λ _. writes_so k t (log_in.Parts []) (record { dirty = tt; flight = λ f is. absurd (some_none f (sym is)) }) tt) (λ _. tt)
+      (λ _. writes_so k t (log_in.Parts []) (record { dirty = tt; flight = λ f fact. absurd (some_none f (sym fact)) }) tt) (λ _. tt)
 
   settles_so : (k : Known) (s : Scanning) (segments : List Segment) (end : End) (low : ℕ) (groups : Option GroupMapState)
       → Goes (settles_over k s (record { segments = segments; end = end; low = low }) groups)

@@ -123,7 +123,7 @@ cleaner_moves_answered part sent cleaner what h live =
     (λ _. happens_so part sent cleaner.peers cleaner.phase what h live) (λ _. h)
 
 pub cleaner_starts_moving : CleanerStartsMoving
-cleaner_starts_moving part sent setup works = (record { dirty = tt; flight = λ f is. absurd (some_none f (sym is)) }, tt)
+cleaner_starts_moving part sent setup works = (record { dirty = tt; flight = λ f fact. absurd (some_none f (sym fact)) }, tt)
 
 -- ---- more is answered
 
@@ -140,7 +140,7 @@ module _ (part : ℕ) (sent more : List Packet) (grows : (x : Packet) → In x s
   log_later s h = record {
     dirty = all_weaker (λ (c : BlockId × Change). IsMovedOnce part sent c.0 c.1.entry) (λ (c : BlockId × Change). IsMovedOnce part more c.0 c.1.entry)
         (λ c k. once_later c.0 c.1.entry k) s.dirty h.dirty;
-    flight = λ f is. all_weaker (ItemMoves part sent) (ItemMoves part more) item_later f.segment.items (h.flight f is);
+    flight = λ f fact. all_weaker (ItemMoves part sent) (ItemMoves part more) item_later f.segment.items (h.flight f fact);
   }
 
   fate_later : (block : BlockId) (f : Fate) → FateMoves part sent block f → FateMoves part more block f

@@ -213,7 +213,7 @@ module _ (New : Filed → Segment → Type 0) (part : ℕ) (texts : Texts) (n : 
         (λ (g : GoesOn s.log r). record {
           log = next;
           nothing_waits = g.dirty ∙ h.nothing_waits;
-          empty = λ x is. let b = g.flight x is in b.items
+          empty = λ x fact. let b = g.flight x fact in b.items
               ∙ h.empty b.old b.was;
         })
         (λ (lands : flights.Lands s.log r). absurd (subst (AllByRecursion IsSend) lands.outs rests.sends).0)

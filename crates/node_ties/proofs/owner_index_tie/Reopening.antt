@@ -97,22 +97,22 @@ module _ (New : Filed → Segment → Type 0) (part : ℕ) (texts : Texts) (n : 
     same_more h old new q some limit = by (nat_le q (v.head l)) refl
       where
         within : nat_le q (v.head l) ≡ true → q ≤ v.head l
-        within is = grind (arith, nat_tests)
+        within fact = grind (arith, nat_tests)
 
         highest : nat_le q (v.head l) ≡ false → suc (v.head l) ≡ q
-        highest is = let e = head_is l v s in grind (arith, nat_tests, e, limit)
+        highest fact = let e = head_is l v s in grind (arith, nat_tests, e, limit)
 
         by : (t : Bool) → nat_le q (v.head l) ≡ t → h.segment l q ≡ later.segment l q
-        by true is = old q some (within is) ∙ k.same q some (within is) ∙ sym ((more_is_filed v l s).segment l q some (within is))
-        by false is = subst (λ p. h.segment l p ≡ later.segment l p) (highest is) (new ∙ sym (segment_is l v s))
+        by true fact = old q some (within fact) ∙ k.same q some (within fact) ∙ sym ((more_is_filed v l s).segment l q some (within fact))
+        by false fact = subst (λ p. h.segment l p ≡ later.segment l p) (highest fact) (new ∙ sym (segment_is l v s))
 
     -- that is filed already
     reads_on : suc (v.head l) ≤ g.head l → s ≡ g.segment l s.name.seq → Along later (with_name texts l g s.name) (fed_with feed s)
-    reads_on within is = subst (λ h. Along later h (fed_with feed s)) (sym (second_of (s.name.seq == suc (g.head l)) (with_segment g l (texts s.name)) g
+    reads_on within fact = subst (λ h. Along later h (fed_with feed s)) (sym (second_of (s.name.seq == suc (g.head l)) (with_segment g l (texts s.name)) g
         (grind (arith, nat_tests, seq, within)))) (record {
           feed = fed_more (let a = k.short in omega arith);
           head = let e = head_is l v s in omega arith;
-          same = same_more g (λ q some limit. refl) (subst (λ q. g.segment l q ≡ s) seq (sym is));
+          same = same_more g (λ q some limit. refl) (subst (λ q. g.segment l q ≡ s) seq (sym fact));
           short = k.short;
         })
 
@@ -156,47 +156,47 @@ module _ (New : Filed → Segment → Type 0) (part : ℕ) (texts : Texts) (n : 
       next_to = let t = to in omega arith
 
       low : nat_le first (v.head l) ≡ true → s.name.seq ≤ v.head l
-      low is = let e = seq in grind (arith, nat_tests, e)
+      low fact = let e = seq in grind (arith, nat_tests, e)
 
       highest : nat_le first (v.head l) ≡ false → s.name.seq ≡ suc (v.head l)
-      highest is = let e = seq in let f = from in grind (arith, nat_tests, e, f)
+      highest fact = let e = seq in let f = from in grind (arith, nat_tests, e, f)
 
       inside : nat_lt (v.head l) (g.head l) ≡ true → suc (v.head l) ≤ g.head l
-      inside is = grind (arith, nat_tests)
+      inside fact = grind (arith, nat_tests)
 
       level : nat_lt (v.head l) (g.head l) ≡ false → v.head l ≡ g.head l
-      level is = let h = k.head in grind (arith, nat_tests, h)
+      level fact = let h = k.head in grind (arith, nat_tests, h)
 
       by : (t u : Bool) → nat_le first (v.head l) ≡ t → nat_lt (v.head l) (g.head l) ≡ u
           → Arrives last (filed_after texts l (with_name texts l g s.name) (map filed chain)) (fed (fed_with feed s) chain)
-      by true u is other =
-          let over = passes_over v g feed s k (low is) in
+      by true u fact other =
+          let over = passes_over v g feed s k (low fact) in
           subst (λ h. Arrives last (filed_after texts l h (map filed chain)) (fed (fed_with feed s) chain)) (sym over.1)
           (subst (λ x. Arrives last (filed_after texts l g (map filed chain)) (fed x chain)) (sym over.0)
-          (rest v g feed k numbers.1 (let a = low is in let e = seq in omega arith) next_to limit
+          (rest v g feed k numbers.1 (let a = low fact in let e = seq in omega arith) next_to limit
           (λ x there. old x (inr there)) text.1 fits.1 (subst (λ h. FilesOwed New texts l h (map filed chain)) over.1 owed.1)))
-      by false true is within =
+      by false true fact within =
           let h = with_name texts l g s.name in
           let same : h ≡ g = second_of (s.name.seq == suc (g.head l)) (with_segment g l (texts s.name)) g
-          (let e = highest is in let w = inside within in grind (arith, nat_tests, e, w)) in
+          (let e = highest fact in let w = inside within in grind (arith, nat_tests, e, w)) in
           let e = head_is l v s in
           rest (with_segment v l s) h (fed_with feed s)
-          (reads_on v g feed s k (highest is) fits.0 (inside within)
-          (old s (inl refl) (let t = highest is in omega arith) (let t = highest is in let w = inside within in omega arith)))
-          numbers.1 (let a = seq in let t = highest is in omega arith) next_to (subst (λ x. x.head l ≤ last) (sym same) limit)
+          (reads_on v g feed s k (highest fact) fits.0 (inside within)
+          (old s (inl refl) (let t = highest fact in omega arith) (let t = highest fact in let w = inside within in omega arith)))
+          numbers.1 (let a = seq in let t = highest fact in omega arith) next_to (subst (λ x. x.head l ≤ last) (sym same) limit)
           (λ x there after upto. subst (λ (y : Filed). x ≡ y.segment l x.name.seq) (sym same)
           (old x (inr there) (omega arith) (subst (λ (y : Filed). x.name.seq ≤ y.head l) same upto)))
           text.1 fits.1 owed.1
-      by false false is within =
+      by false false fact within =
           let h = with_name texts l g s.name in
-          let at : s.name.seq ≡ suc (g.head l) = highest is ∙ ap suc (level within) in
+          let at : s.name.seq ≡ suc (g.head l) = highest fact ∙ ap suc (level within) in
           let same = next_files texts l g s.name at in
           let e = head_is l v s in
           let d = head_is l g (texts s.name) in
           let heads : h.head l ≡ suc (g.head l) = ap (λ (x : Filed). x.head l) same ∙ d in
           rest (with_segment v l s) h (fed_with feed s)
-          (files_on v g feed s k (highest is) fits.0 (level within) text.0 (owed.0 at))
-          numbers.1 (let a = seq in let t = highest is in omega arith) next_to (let a = seq in let t = next_to in omega arith)
+          (files_on v g feed s k (highest fact) fits.0 (level within) text.0 (owed.0 at))
+          numbers.1 (let a = seq in let t = highest fact in omega arith) next_to (let a = seq in let t = next_to in omega arith)
           (λ x there after upto. absurd (let w = level within in omega arith))
           text.1 fits.1 owed.1
 

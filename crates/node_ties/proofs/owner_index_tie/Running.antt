@@ -24,13 +24,13 @@ use Rattle.node_ties.specs.owner_index_tie.Filing.{IsSameLog, filing, with_name,
 
 module _ (New : Filed → Segment → Type 0) (texts : Texts) (l : ℕ) where
   is_next : (f : Filed) (name : SegName) → (name.seq == suc (f.head l)) ≡ true → name.seq ≡ suc (f.head l)
-  is_next f name is = eqb-true name.seq (suc (f.head l)) is
+  is_next f name fact = eqb-true name.seq (suc (f.head l)) fact
 
   -- what holds where it is next, and where it isn't, holds
   pub by_next : (P : Filed → Type 0) (f : Filed) (name : SegName) → OwedAct New texts l f (ActsFiled name)
       → (FilesNext New texts l f name → P (with_segment f l (texts name))) → P f → P (with_name texts l f name)
   by_next P f name owed files rests =
-      by_test P (name.seq == suc (f.head l)) (with_segment f l (texts name)) f (λ is. files (owed (is_next f name is))) (λ _. rests)
+      by_test P (name.seq == suc (f.head l)) (with_segment f l (texts name)) f (λ fact. files (owed (is_next f name fact))) (λ _. rests)
 
   segment_text : (f : Filed) (name : SegName) → AreTexts texts f → (texts name).name ≡ name → AreTexts texts (with_segment f l (texts name))
   segment_text f name are named m q some limit = by (m == l) (q == suc (f.head l)) refl refl
@@ -39,14 +39,14 @@ module _ (New : Filed → Segment → Type 0) (texts : Texts) (l : ℕ) where
       old other = subst (λ (b : Bool). q ≤ cond b (suc (f.head l)) (f.head m)) other limit
 
       lower : (m == l) ≡ true → (q == suc (f.head l)) ≡ false → q ≤ f.head m
-      lower is other =
-          let at = subst (λ (b : Bool). q ≤ cond b (suc (f.head l)) (f.head m)) is limit in
-          subst (λ k. q ≤ f.head k) (sym (eqb-true m l is)) (grind (arith, nat_tests, at, other))
+      lower fact other =
+          let at = subst (λ (b : Bool). q ≤ cond b (suc (f.head l)) (f.head m)) fact limit in
+          subst (λ k. q ≤ f.head k) (sym (eqb-true m l fact)) (grind (arith, nat_tests, at, other))
 
       by : (t u : Bool) → (m == l) ≡ t → (q == suc (f.head l)) ≡ u
           → cond t (cond u (texts name) (f.segment m q)) (f.segment m q) ≡ texts (cond t (cond u (texts name) (f.segment m q)) (f.segment m q)).name
-      by true true is at = ap texts (sym named)
-      by true false is other = are m q some (lower is other)
+      by true true fact at = ap texts (sym named)
+      by true false fact other = are m q some (lower fact other)
       by false u other at = are m q some (old other)
 
   name_text : (f : Filed) (name : SegName) → OwedAct New texts l f (ActsFiled name) → AreTexts texts f → AreTexts texts (with_name texts l f name)

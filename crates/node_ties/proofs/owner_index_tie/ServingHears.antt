@@ -171,10 +171,10 @@ module _ (part : ℕ) (n : Net) (l since : ℕ) (some : 0 < l) (limit : l ≤ 9)
       (tokens.follows_so part n l since some limit f p.state p.outs h)
 
   not_past : (s : Serving) (p : Poll) → may_report s p ≡ true → p.slot ≡ part → epoch_of s.tokens.epochs part ≤ p.epoch
-  not_past s p is same = subst (λ k. epoch_of s.tokens.epochs k ≤ p.epoch) same (no_later p.slot (epoch_of s.tokens.epochs p.slot) p.epoch is)
+  not_past s p fact same = subst (λ k. epoch_of s.tokens.epochs k ≤ p.epoch) same (no_later p.slot (epoch_of s.tokens.epochs p.slot) p.epoch fact)
     where
       no_later : (slot a b : ℕ) → nat_lt slot 8 && nat_le a b ≡ true → a ≤ b
-      no_later slot a b is = grind (arith, nat_tests)
+      no_later slot a b fact = grind (arith, nat_tests)
 
   polled_so : (s : Serving) (manager : ℕ) (p : Poll) → At s → PollLinked part n l f s p → Goes (polled s manager p)
   unfolding polled

@@ -6,7 +6,7 @@ use Rattle.client_serving.specs.declared.serving.Serving.{Serving}
 use Rattle.client_serving.specs.Flights.{writes}
 use Rattle.client_serving.specs.Follow.{follows_one, follows}
 use Rattle.client_serving.specs.Packets.{renews, promises, promised_in, is_news, hears, regroups, takes_news, on_news, on_welcome, on_body, asks_for_maps, on_packet, on_tick}
-use Rattle.client_serving.specs.Running.{runs}
+use Rattle.client_calls.specs.Running.{runs}
 use Rattle.client_serving.specs.Sends.{Done}
 use Rattle.delta_feed.specs.Transition.{new_epoch}
 use Rattle.index_tie.specs.Filed.{Filed}

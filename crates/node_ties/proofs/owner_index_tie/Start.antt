@@ -30,7 +30,7 @@ first_client_agrees part texts any c setup works = (
       short = omega arith;
     };
   },
-  λ f is. absurd (some_none f (sym is)),
+  λ f fact. absurd (some_none f (sym fact)),
 )
 
 module _ (part : ℕ) (texts : Texts) (n m : Net) (c : ℕ) (same : IsSameLog c n.filed m.filed) where

@@ -64,19 +64,19 @@ module _ (l : ℕ) where
   pub same_next : (s t : LogState) → t.log ≡ s.log → t.flight ≡ s.flight → t.end ≡ s.end → LogNext l s → LogNext l t
   same_next s t log flight end h = record {
     own = log ∙ h.own;
-    of = λ f is. h.of f (sym flight ∙ is) ∙ sym log;
-    next = λ f is. h.next f (sym flight ∙ is) ∙ ap (λ e. suc e.seq) (sym end);
+    of = λ f fact. h.of f (sym flight ∙ fact) ∙ sym log;
+    next = λ f fact. h.next f (sym flight ∙ fact) ∙ ap (λ e. suc e.seq) (sym end);
   }
 
   pub none_next : (t : LogState) → t.log ≡ record { 0 = l } → t.flight ≡ None → LogNext l t
-  none_next t own none = record { own = own; of = λ f is. absurd (some_none f (sym is ∙ none)); next = λ f is. absurd (some_none f (sym is ∙ none)) }
+  none_next t own none = record { own = own; of = λ f fact. absurd (some_none f (sym fact ∙ none)); next = λ f fact. absurd (some_none f (sym fact ∙ none)) }
 
   flying : (t : LogState) (g : FlightState) → t.log ≡ record { 0 = l } → g.segment.name.log ≡ t.log → g.segment.name.seq ≡ suc t.end.seq
       → LogNext l (record t { flight = Some g })
   flying t g own of next = record {
     own = own;
-    of = λ f is. ap (λ (x : FlightState). x.segment.name.log) (sym (some_is g f is)) ∙ of;
-    next = λ f is. ap (λ (x : FlightState). x.segment.name.seq) (sym (some_is g f is)) ∙ next;
+    of = λ f fact. ap (λ (x : FlightState). x.segment.name.log) (sym (some_is g f fact)) ∙ of;
+    next = λ f fact. ap (λ (x : FlightState). x.segment.name.seq) (sym (some_is g f fact)) ∙ next;
   }
 
   launched_stays : (s t : LogState) (name : SegName) (prior : Prior) (items : List Item) → t.end ≡ s.end → t.log ≡ record { 0 = l } → name.log ≡ t.log
@@ -178,9 +178,9 @@ module _ (l : ℕ) where
       where
         by : (o : Option FlightState) → s.flight ≡ o
             → Turns l s (elim o [ None ↦ still s | Some f ↦ cond (is_of f name index generation) (looked_at s s (noting f index)) (still s) ])
-        by None is = stay_turns (still s) (still_stays s s refl h)
-        by (Some f) is = by_test (Turns l s) (is_of f name index generation) (looked_at s s (noting f index)) (still s)
-            (λ _. looks_turn s refl refl f (noting f index) is refl) (λ _. stay_turns (still s) (still_stays s s refl h))
+        by None fact = stay_turns (still s) (still_stays s s refl h)
+        by (Some f) fact = by_test (Turns l s) (is_of f name index generation) (looked_at s s (noting f index)) (still s)
+            (λ _. looks_turn s refl refl f (noting f index) fact refl) (λ _. stay_turns (still s) (still_stays s s refl h))
 
     maps_turn : (groups : GroupMapState) → Turns l s (on_maps s groups)
     unfolding on_maps
@@ -188,9 +188,9 @@ module _ (l : ℕ) where
       where
         by : (o : Option FlightState) → s.flight ≡ o
             → Turns l s (elim o [ None ↦ still (record s { groups = groups }) | Some f ↦ looked_at s (record s { groups = groups }) f ])
-        by None is = stay_turns (still (record s { groups = groups }))
+        by None fact = stay_turns (still (record s { groups = groups }))
             (still_stays s (record s { groups = groups }) refl (same_next s (record s { groups = groups }) refl refl refl h))
-        by (Some f) is = looks_turn (record s { groups = groups }) refl refl f f is refl
+        by (Some f) fact = looks_turn (record s { groups = groups }) refl refl f f fact refl
 
     pub log_turns : (i : In) → Turns l s (transition s i)
     log_turns (Put block entry value) = stay_turns (on_put s block (record { entry = entry; value = value }))

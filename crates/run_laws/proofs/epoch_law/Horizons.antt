@@ -60,8 +60,8 @@ holds_keeps n horizon managed h e less absent =
 module _ (part : ℕ) (holds : SegRef → Rows) where
   happens_holds : (n m : Net) → Happens part holds n m → Steady n
       → ((horizon : List ℕ) (parts : List SegRef) → In (CheckpointDone n.epoch horizon parts) n.sent → n.slots n.epoch ≡ None → ⊥) → Holds n → Holds m
-  happens_holds n m (ClientFiles l s some less is newer) k managed h = h
-  happens_holds n m (CleanerFiles s is copies) k managed h = h
+  happens_holds n m (ClientFiles l s some less fact newer) k managed h = h
+  happens_holds n m (CleanerFiles s fact copies) k managed h = h
   happens_holds n m (GetsDeltas e s log first upto rows at known tell) k managed h = holds_put n e _ h
   happens_holds n m (GetsOther e s i at of) k managed h = holds_put n e _ h
   happens_holds n m (Answers e s number b place d at asked) k managed h = h

@@ -44,11 +44,11 @@ module _ (logs : Bool) (k : Cluster) (part : ℕ) (texts : Texts) (first : ℕ �
   one : IsOne k j
   one = is_one k nodes j (any.Manager node) at
 
-  is : t.manager j ≡ node
-  is = one_manager (t.manager j) node (node_in nodes (place_of k (Manager j))) (both.tokens.placed.managers j one.some one.limit) at
+  premise : t.manager j ≡ node
+  premise = one_manager (t.manager j) node (node_in nodes (place_of k (Manager j))) (both.tokens.placed.managers j one.some one.limit) at
 
   sees : owners.ManagerSees k part t j node.phase
-  sees = subst (λ (x : ManagerNode). owners.ManagerSees k part t j x.phase) is (both.tokens.managers j one.some one.limit)
+  sees = subst (λ (x : ManagerNode). owners.ManagerSees k part t j x.phase) premise (both.tokens.managers j one.some one.limit)
 
   -- ---- no other manager holds an epoch that it holds or is given
 
@@ -105,7 +105,7 @@ module _ (logs : Bool) (k : Cluster) (part : ℕ) (texts : Texts) (first : ℕ �
   do_given (Deliver q) brought =
       let fact = brought q refl in
       packet_given (owners.epoch_now k part t) node.phase q
-      (manager_gets k part t both.tokens.entered j false node.phase (ap (λ (x : ManagerNode). x.phase) is) sees q fact.0 fact.1 tt)
+      (manager_gets k part t both.tokens.entered j false node.phase (ap (λ (x : ManagerNode). x.phase) premise) sees q fact.0 fact.1 tt)
 
 pub tokens_are_given : TokensAreGiven
 tokens_are_given logs k part texts first nodes sent acts t i (Manager j) (any.Manager node) what both at brought = record {

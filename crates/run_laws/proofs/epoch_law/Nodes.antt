@@ -38,8 +38,8 @@ pub record IsOne (k : Cluster) (j : ℕ) : Type 0 where
   pub limit : j ≤ k.managers
 
 pub is_one : (k : Cluster) (nodes : List AnyNode) (j : ℕ) (node : AnyNode) → node_in nodes (place_of k (Manager j)) ≡ Some node → IsOne k j
-is_one k nodes j node is = by (place_of k (Manager j)) refl
+is_one k nodes j node fact = by (place_of k (Manager j)) refl
   where
     by : (o : Option ℕ) → place_of k (Manager j) ≡ o → IsOne k j
-    by None none = let clash : None ≡ Some node = sym (ap (node_in nodes) none) ∙ is in absurd (cc)
+    by None none = let clash : None ≡ Some node = sym (ap (node_in nodes) none) ∙ fact in absurd (cc)
     by (Some p) at = let b = behind k.clients k.managers j p at in record { some = b.some; limit = b.within }

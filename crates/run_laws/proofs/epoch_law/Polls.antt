@@ -136,8 +136,8 @@ module _ (managed : CheckpointsHaveManagers) (promised : ActiveEpochsPromised) (
     nobody e above = both.same e (by (t.net.slots e) refl)
       where
         by : (o : Option SlotState) → t.net.slots e ≡ o → t.net.slots e ≡ None
-        by None is = is
-        by (Some z) is = let low = bound e z is in absurd (omega arith)
+        by None fact = fact
+        by (Some z) fact = let low = bound e z fact in absurd (omega arith)
 
     same_horizon : (more : ℕ) → limit + more ≤ i.net.epoch → i.net.horizon (limit + more) ≡ i.net.horizon limit
     same_horizon zero within = ap i.net.horizon (plus limit)
@@ -167,27 +167,27 @@ module _ (managed : CheckpointsHaveManagers) (promised : ActiveEpochsPromised) (
   pub of_client : (c : ℕ) (s : Serving) → 0 < c → c < owners.members k part → (t.client c).phase ≡ clients.Serving s → (e : ℕ) (z : SlotState)
       → t.net.slots e ≡ Some z
       → e ≤ epoch_of s.tokens.epochs part
-  of_client c s some less is e z there =
-      let agreed = subst (ClientAgrees logs part c t.net) is (both.tokens.clients c some less).0 in
+  of_client c s some less fact e z there =
+      let agreed = subst (ClientAgrees logs part c t.net) fact (both.tokens.clients c some less).0 in
       subst (λ (x : TokensState). e ≤ epoch_of x.epochs part) agreed.tokens
       (promised logs (owners.members k part) part (with_promise 1 t.net) some_block (record { run = both.tokens.runs; inside = of_slot }) e z there c
       (record { some = some; within = less }))
 
   of_cleaner : (v : Emptying) → t.cleaner.phase ≡ cleaning.Serving v → (e : ℕ) (z : SlotState) → t.net.slots e ≡ Some z → e ≤ epoch_of v.promised.epochs part
-  of_cleaner v is e z there =
-      let stands = subst (CleanerStands part t.net.promised (owners.epoch_now k part t)) is both.tokens.cleaner.1 in
+  of_cleaner v fact e z there =
+      let stands = subst (CleanerStands part t.net.promised (owners.epoch_now k part t)) fact both.tokens.cleaner.1 in
       subst (λ x. e ≤ x) (sym stands.promises) (both.tokens.entered e z there).4
 
 pub client_polls_low : CheckpointsHaveManagers → ActiveEpochsPromised → ClientPollsAreLow
-client_polls_low managed promised logs k part texts first nodes sent acts t i c s m of_eight both some less is poll low =
+client_polls_low managed promised logs k part texts first nodes sent acts t i c s m of_eight both some less fact poll low =
     polled_low managed promised logs k part texts first nodes sent acts t i of_eight both m.epoch
     (λ e z there. up_to e (epoch_of s.tokens.epochs part) m.epoch
-    (of_client managed promised logs k part texts first nodes sent acts t i of_eight both c s some less is e z there) low)
+    (of_client managed promised logs k part texts first nodes sent acts t i of_eight both c s some less fact e z there) low)
     (poll_begun managed promised logs k part texts first nodes sent acts t i of_eight both m poll)
 
 pub cleaner_polls_low : CheckpointsHaveManagers → ActiveEpochsPromised → CleanerPollsAreLow
-cleaner_polls_low managed promised logs k part texts first nodes sent acts t i v m of_eight both is poll low =
+cleaner_polls_low managed promised logs k part texts first nodes sent acts t i v m of_eight both fact poll low =
     polled_low managed promised logs k part texts first nodes sent acts t i of_eight both m.epoch
     (λ e z there. up_to e (epoch_of v.promised.epochs part) m.epoch
-    (of_cleaner managed promised logs k part texts first nodes sent acts t i of_eight both v is e z there) low)
+    (of_cleaner managed promised logs k part texts first nodes sent acts t i of_eight both v fact e z there) low)
     (poll_begun managed promised logs k part texts first nodes sent acts t i of_eight both m poll)

@@ -78,23 +78,23 @@ module _ (logs : Bool) (k : Cluster) (part : ℕ) (texts : Texts) (nodes : List 
           one_manager (next.manager j) (after_event node) _ (go.tokens.placed.managers j one.some one.limit) at_after
 
       enters : (z : SlotState) → m.slots e ≡ Some z → ⊥
-      enters z is =
+      enters z fact =
           let one = is_one k (slice_set nodes place (any.Manager (after_event node))) j (any.Manager (after_event node)) at_after in
           managed_there (owners.members k part) part next.net j (after_event node).phase e
           (subst (λ (x : ManagerNode). ManagerAgrees (owners.members k part) part next.net j x.phase) is_after
           (go.tokens.managers j one.some one.limit).agrees)
-          (go.index.entered e z is (same e (go.leaves e none))) none
+          (go.index.entered e z fact (same e (go.leaves e none))) none
 
       by : (o : Option SlotState) → m.slots e ≡ o → m.slots e ≡ None
-      by None is = is
-      by (Some z) is = absurd (enters z is)
+      by None fact = fact
+      by (Some z) fact = absurd (enters z fact)
 
   goes : (name : NodeId) (node : AnyNode) → Goes name node → Makes part texts n m name node what → SameSlots next.net m
-  goes (Client c) (any.Client node) go is = as_it_was (Client c) (any.Client node) go (ap (λ (x : index.Net). x.slots) is)
-  goes (Manager j) (any.Manager node) go is = manager_goes j node go
-  goes Cleaner (any.Cleaner node) go is = as_it_was Cleaner (any.Cleaner node) go is.slots
-  goes Registry (any.Registry node) go is = as_it_was Registry (any.Registry node) go is.slots
-  goes name node go is = as_it_was name node go (ap (λ (x : index.Net). x.slots) is)
+  goes (Client c) (any.Client node) go fact = as_it_was (Client c) (any.Client node) go (ap (λ (x : index.Net). x.slots) fact)
+  goes (Manager j) (any.Manager node) go fact = manager_goes j node go
+  goes Cleaner (any.Cleaner node) go fact = as_it_was Cleaner (any.Cleaner node) go fact.slots
+  goes Registry (any.Registry node) go fact = as_it_was Registry (any.Registry node) go fact.slots
+  goes name node go fact = as_it_was name node go (ap (λ (x : index.Net). x.slots) fact)
 
 pub slots_stay_same : SlotsStaySame
 slots_stay_same logs k part texts nodes place what sent acts name node t next n m same go =

@@ -40,9 +40,9 @@ use Rattle.run_laws.proofs.filed_law.Reaching.{filed_rises, filed_reached, is_fi
 
 module _ {X : Type 0} (P : X → Type 0) where
   pub all_got : (xs : List X) (place : ℕ) (x : X) → AllByRecursion P xs → slice_get xs place ≡ Some x → P x
-  all_got [] place x all is = (let clash : None ≡ Some x = is in absurd (cc))
-  all_got (y ∷ xs) zero x all is = subst P (ap (λ o. unwrap_or o y) is) all.0
-  all_got (y ∷ xs) (suc place) x all is = all_got xs place x all.1 is
+  all_got [] place x all fact = (let clash : None ≡ Some x = fact in absurd (cc))
+  all_got (y ∷ xs) zero x all fact = subst P (ap (λ o. unwrap_or o y) fact) all.0
+  all_got (y ∷ xs) (suc place) x all fact = all_got xs place x all.1 fact
 
   pub all_set : (xs : List X) (place : ℕ) (x : X) → AllByRecursion P xs → P x → AllByRecursion P (slice_set xs place x)
   all_set [] place x all h = tt
@@ -50,8 +50,8 @@ module _ {X : Type 0} (P : X → Type 0) where
   all_set (y ∷ xs) (suc place) x all h = (all.0, all_set xs place x all.1 h)
 
   all_among : (xs : List X) (x : X) → AllByRecursion P xs → In x xs → P x
-  all_among [] x all is = absurd is
-  all_among (y ∷ xs) x all (inl is) = subst P (sym is) all.0
+  all_among [] x all fact = absurd fact
+  all_among (y ∷ xs) x all (inl fact) = subst P (sym fact) all.0
   all_among (y ∷ xs) x all (inr later) = all_among xs x all.1 later
 
 -- ---- nodes of any kind
@@ -128,12 +128,12 @@ module _ (laws : NodeLaws) where
     turned : (place : ℕ) (node : AnyNode) (clock : ℕ) → slice_get w.nodes place ≡ Some node
         → Told (slice_set w.nodes place (any_step node what).node) (w.sent ++ map (sent_at clock) (any_step node what).packets)
         (w.acts ++ (any_step node what).acts)
-    turned place node clock is =
+    turned place node clock fact =
         let reach : Reach = filed_upto w.acts in
         let later : Reach = filed_upto (w.acts ++ (any_step node what).acts) in
         let rises : Rises reach later = filed_rises w.acts (any_step node what).acts in
         let t : TellsFiled AnyReaches later (any_step node what) =
-        any_tells reach later rises node what (all_got (AnyReaches reach) w.nodes place node told.nodes is) tells
+        any_tells reach later rises node what (all_got (AnyReaches reach) w.nodes place node told.nodes fact) tells
         (filed_reached w.acts (any_step node what).acts)
         in (
           all_set (AnyReaches later) w.nodes place (any_step node what).node (nodes_rise reach later rises w.nodes told.nodes) t.node,
@@ -145,7 +145,7 @@ module _ (laws : NodeLaws) where
   event_keeps w event may told =
       let k : Told (next_world any_step w event).nodes (next_world any_step w event).sent (next_world any_step w event).acts =
       next_keeps any_step Told w event (told.nodes, told.packets)
-      (λ place node clock at is. turned w told (what_of event) (delivered w event may told.packets) place node clock is)
+      (λ place node clock at fact. turned w told (what_of event) (delivered w event may told.packets) place node clock fact)
       in
       record { nodes = k.0; packets = k.1 }
 

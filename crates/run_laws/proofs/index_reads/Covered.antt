@@ -61,8 +61,8 @@ module _ (members part : ℕ) (texts : Texts) (t : tokens.Net) (i : index.Net) (
   joins_covered : (p : SlotPhase) (desk : Desk) (l : ℕ) (m : Deltas) → owners.PhaseAgrees members part t p → places.PhaseAgrees part texts i desk p
       → DeltasKnown part i l m → owners.DeltasJoin members part t p (record { 0 = l }) m
   joins_covered (phase.Active a) desk l m owned placed known e z held at latest joins =
-      let is : owned.slot ≡ z = some_one owned.slot z (sym owned.there ∙ ap t.slots held ∙ at) in
-      slot_covers z a.slot a.slot.epoch l m (subst (λ x. owners.SameButPages x a.slot) is owned.same) placed.there known joins
+      let fact : owned.slot ≡ z = some_one owned.slot z (sym owned.there ∙ ap t.slots held ∙ at) in
+      slot_covers z a.slot a.slot.epoch l m (subst (λ x. owners.SameButPages x a.slot) fact owned.same) placed.there known joins
   joins_covered (phase.Taking u) desk l m owned placed known e z held at latest joins = absurd (none_there e z (ap t.slots (sym held) ∙ owned.free) at)
   joins_covered (phase.Away epoch) desk l m owned placed known e z held at latest joins = absurd held
   joins_covered (phase.Broken epoch seg) desk l m owned placed known e z held at latest joins = absurd held

@@ -30,8 +30,8 @@ below_or_in : (first q : ℕ) → (q < first) ⊎ (first ≤ q)
 below_or_in first q = by (nat_le first q) refl
   where
     by : (t : Bool) → nat_le first q ≡ t → (q < first) ⊎ (first ≤ q)
-    by true is = inr (grind (arith, nat_tests))
-    by false is = inl (grind (arith, nat_tests))
+    by true fact = inr (grind (arith, nat_tests))
+    by false fact = inl (grind (arith, nat_tests))
 
 -- the first greatest of two is one of them, no older than either
 pub record IsOneOf (a b c : Entry) : Type 0 where
@@ -43,8 +43,8 @@ greatest_is : (a b : Entry) → IsOneOf a b (first_greatest a b)
 greatest_is a b = by (is_newer b a) refl
   where
     by : (t : Bool) → is_newer b a ≡ t → IsOneOf a b (cond t b a)
-    by true is = record { first = grind (arith, nat_tests); second = omega arith; one = inr refl }
-    by false is = record { first = omega arith; second = grind (arith, nat_tests); one = inl refl }
+    by true fact = record { first = grind (arith, nat_tests); second = omega arith; one = inr refl }
+    by false fact = record { first = omega arith; second = grind (arith, nat_tests); one = inl refl }
 
 module _ (k : Books) (f : Filed) (same : Same k f) (begins : BeginsAtOne k) (b : BlockId) (w : IndexState) (reached : IndexReached w)
     (tells : Tells b f w) where

@@ -50,7 +50,7 @@ use Rattle.run_laws.proofs.index_reads.Worlds.{of_slot, some_block, same, begins
 end_applied : (horizon : List ℕ) (reports : List Heard) (c : ℕ) → 0 < c → c < 9 → ends_of reports c ≤ applied_in_slot (applied_of horizon reports) c
 end_applied horizon reports c some less =
     let at = of_log_in (applied_of horizon reports) c some (omega arith) in
-    let is = applied_in horizon reports c some (omega arith) in
+    let fact = applied_in horizon reports c some (omega arith) in
     let its : (end_of reports c).seq ≡ ends_of reports c =
     ap (λ node. (end_from node reports).seq) (second_of (c == 9) Cleaner (Client c) (grind (arith, nat_tests))) in
     let limit = least (end_of reports c).seq (horizon_at horizon c - 1) in
@@ -81,7 +81,7 @@ module _ (members part : ℕ) (texts : Texts) (t : tokens.Net) (i : index.Net) (
     applied_filed : (l : ℕ) → 0 < l → l ≤ 9 → applied l ≤ i.filed.head l
     applied_filed l some limit =
         let v = good.views (some_block part) (its_block members part (held_in part texts) t i tied) in
-        let is = (v.slots e slot at).applied l some in
+        let fact = (v.slots e slot at).applied l some in
         let bound = (index_in_bounds_always v.state v.reached).applied_filed e l in
         let head = v.tells.head l in
         omega arith
@@ -145,12 +145,12 @@ module _ (members part : ℕ) (texts : Texts) (t : tokens.Net) (i : index.Net) (
           (ThenIndex tied.index_run (starts part texts asked (nothing (Unit {0})) desk i u given k owes filed hands)))
 
     pub completes : owners.Completes members part t u.take given
-    completes rows is latest =
+    completes rows fact latest =
         ⊎_elim
         (λ plain. absurd (plain_hands_nothing (transition u.take given).outs plain later.news.epoch rows (beliefs_of later.reports)
-        (applied_of later.news.horizon later.reports) is))
+        (applied_of later.news.horizon later.reports) fact))
         (λ hands. subst (λ xs. Gathered members part t.books xs (applied_of later.news.horizon later.reports) (ends_of later.reports))
-        (sym (its_index hands (subst (In (active later rows)) hands.says_active is))) (handed hands))
+        (sym (its_index hands (subst (In (active later rows)) hands.says_active fact))) (handed hands))
         (took u.take given k.ready k.once).said
       where
         its_index : (hands : Hands later (transition u.take given).outs) → In (active later rows) (active later hands.index ∷ []) → rows ≡ hands.index

@@ -24,7 +24,7 @@ use Rattle.run_laws.proofs.index_reads.Sayings.{same_version, of_log}
 use Rattle.run_laws.proofs.index_reads.Worlds.{same, begins}
 
 module _ (members part : ℕ) (holds : SegRef → Rows) (t : tokens.Net) (i : index.Net) (tied : Tied members part holds t i) (c : ℕ) (s : Segment)
-    (is : IsClient members c) (flight : IsFlight t c s) (b : BlockId) (inside : slot_of b.ino.0 ≡ part) where
+    (fact : IsClient members c) (flight : IsFlight t c s) (b : BlockId) (inside : slot_of b.ino.0 ≡ part) where
   -- what the books have of the flight
   flown : (said t.books c (suc (t.books.end c)) b).version ≡ (said_of s b).ver
   flown = ap (λ rows. (row_in rows b).version) flight.rows ∙ (rows_are_entries s b flight.plain flight.versioned).version
@@ -41,14 +41,14 @@ module _ (members part : ℕ) (holds : SegRef → Rows) (t : tokens.Net) (i : in
           let end = tied.books.end l at.some at.limit in
           let to = at.to in
           let its = flown in
-          let above = flights_are_newer members part t b (record { run = tied.tokens_run; inside = eq-eqb (slot_of b.ino.0) part inside }) c is
+          let above = flights_are_newer members part t b (record { run = tied.tokens_run; inside = eq-eqb (slot_of b.ino.0) part inside }) c fact
           (omega arith) l q
           (omega arith) in
           omega arith
 
 pub flights_are_news : FlightsAreNews
-flights_are_news members part holds t i c s tied is flight b inside = record {
-  newer = newer members part holds t i tied c s is flight b inside;
+flights_are_news members part holds t i c s tied fact flight b inside = record {
+  newer = newer members part holds t i tied c s fact flight b inside;
   first_hand = λ some. join_has (λ (e : Entry). e.hop ≡ 0) b (rows_of s) refl flight.first_hand;
 }
 

@@ -33,7 +33,7 @@ versioned e some = first_greatest-newer no_entry e (grind (arith, nat_tests))
 -- the join of one more row
 joined : (m : BlockId × Entry) (ms : List (BlockId × Entry)) (b : BlockId) (t : Bool) → same_block b m.0 ≡ t
     → join (m ∷ ms) b ≡ first_greatest (cond t (first_greatest no_entry m.1) no_entry) (join ms b)
-joined m ms b t is = join-cons m ms b ∙ ap (λ e. first_greatest e (join ms b)) (join-one m b ∙ ap (λ t. cond t (first_greatest no_entry m.1) no_entry) is)
+joined m ms b t fact = join-cons m ms b ∙ ap (λ e. first_greatest e (join ms b)) (join-one m b ∙ ap (λ t. cond t (first_greatest no_entry m.1) no_entry) fact)
 
 module _ (s : Segment) where
   abbrev told : List Item → List (BlockId × Row)
@@ -70,7 +70,7 @@ module _ (s : Segment) where
   somewhere place h = absurd (cc)
 
   one_place : (x y : Place) → Some x ≡ Some y → x ≡ y
-  one_place x y is = ap (λ (o : Option Place). unwrap_or o x) is
+  one_place x y fact = ap (λ (o : Option Place). unwrap_or o x) fact
 
   -- a Delta's item, where it names one, has its value
   module _ (few : length s.items ≤ no_item) (ver hop item : ℕ) where
@@ -86,12 +86,12 @@ module _ (s : Segment) where
         by : (t : Bool) → (item == no_item) ≡ t
             → SaysSame s (record { version = ver; value = value_in (slice_get s.items item) })
             (record { ver = ver; hop = hop; place = cond t None (Some here) })
-        by true is = record {
+        by true fact = record {
           version = refl;
-          absent = λ _. ap value_in (ap (slice_get s.items) (is_none item no_item is) ∙ get_past s.items no_item few);
+          absent = λ _. ap value_in (ap (slice_get s.items) (is_none item no_item fact) ∙ get_past s.items no_item few);
           place = λ place lies. absurd (nowhere place lies);
         }
-        by false is = record {
+        by false fact = record {
           version = refl;
           absent = λ none. absurd (somewhere here none);
           place = λ place lies. subst (LiesIn s (value_in (slice_get s.items item))) (one_place here place lies)
@@ -113,14 +113,14 @@ module _ (s : Segment) where
 
       by : (t : Bool) → same_block b block ≡ t → SaysSame s (row_in (told items) b) (join (entries items) b)
           → SaysSame s (cond (same_block block b) row (row_in (told items) b)) (join ((block, entry) ∷ entries items) b)
-      by true is rest =
+      by true fact rest =
           let its : join ((block, entry) ∷ entries items) b ≡ entry =
-          subst (λ k. join ((block, entry) ∷ entries items) k ≡ entry) (same_block_exact b block is) (first_said items block entry once.0 versions.0) in
-          subst (λ t. SaysSame s (cond t row (row_in (told items) b)) (join ((block, entry) ∷ entries items) b)) (sym (same_turned block b ∙ is))
+          subst (λ k. join ((block, entry) ∷ entries items) k ≡ entry) (same_block_exact b block fact) (first_said items block entry once.0 versions.0) in
+          subst (λ t. SaysSame s (cond t row (row_in (told items) b)) (join ((block, entry) ∷ entries items) b)) (sym (same_turned block b ∙ fact))
           (subst (SaysSame s row) (sym its) (said few ver hop item))
-      by false is rest =
-          subst (λ t. SaysSame s (cond t row (row_in (told items) b)) (join ((block, entry) ∷ entries items) b)) (sym (same_turned block b ∙ is))
-          (subst (SaysSame s (row_in (told items) b)) (sym (joined (block, entry) (entries items) b false is ∙ none-join (entries items) b)) rest)
+      by false fact rest =
+          subst (λ t. SaysSame s (cond t row (row_in (told items) b)) (join ((block, entry) ∷ entries items) b)) (sym (same_turned block b ∙ fact))
+          (subst (SaysSame s (row_in (told items) b)) (sym (joined (block, entry) (entries items) b false fact ∙ none-join (entries items) b)) rest)
 
   -- ---- each Delta's entry is what the segment says
 
@@ -151,8 +151,8 @@ module _ (s : Segment) where
       entry = record { ver = ver; hop = hop; place = place_of s item }
 
       behind : (t : Bool) → same_block b block ≡ t → stands b items ≡ true → join (entries items) b ≡ e → join ((block, entry) ∷ entries items) b ≡ e
-      behind true is there rest = contrary (sym once.0 ∙ ap (λ k. stands k items) (same_block_exact b block is) ∙ there)
-      behind false is there rest = joined (block, entry) (entries items) b false is ∙ none-join (entries items) b ∙ rest
+      behind true fact there rest = contrary (sym once.0 ∙ ap (λ k. stands k items) (same_block_exact b block fact) ∙ there)
+      behind false fact there rest = joined (block, entry) (entries items) b false fact ∙ none-join (entries items) b ∙ rest
 
 pub rows_are_entries : RowsAreEntries
 rows_are_entries s b plain versions = says s plain.few s.items b plain.once versions

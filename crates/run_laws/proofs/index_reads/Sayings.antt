@@ -83,7 +83,7 @@ module _ (k : Books) (f : Filed) (same : Same k f) (b : BlockId) where
     where
       by : (v : ℕ) → (row_at f b l q).ver ≡ v → IsFiled k b (row_at f b l q)
       by zero none = inl (none, ap (λ (e : Entry). e.place) (row_versioned b f l q same.filed none))
-      by (suc v) is = inr (l, q, row_made l q (omega arith))
+      by (suc v) fact = inr (l, q, row_made l q (omega arith))
 
   -- an entry that names a row is filed
   pub names_filed : (e : Entry) (named : abstract.Entry) → Names b f e named → IsFiled k b e
@@ -91,7 +91,7 @@ module _ (k : Books) (f : Filed) (same : Same k f) (b : BlockId) where
     where
       by : (v : ℕ) → e.ver ≡ v → IsFiled k b e
       by zero none = inl (none, ap (λ (x : Entry). x.place) (n.none none))
-      by (suc v) is = subst (IsFiled k b) (sym (n.row (omega arith))) (row_filed named.log named.seq)
+      by (suc v) fact = subst (IsFiled k b) (sym (n.row (omega arith))) (row_filed named.log named.seq)
 
 -- ---- places
 
@@ -113,11 +113,11 @@ places_are_kept k f b e l q place filed books plain has lies =
         let s = f.segment l q in
         let its = filed.each l q within.0 within.1 in
         let there = rows_there f l q within.0 within.1 in
-        let is : row_at f b l q ≡ e =
+        let fact : row_at f b l q ≡ e =
         ap (λ rows. join rows b) there
         ∙ deltas_are_said s b e (plain l q some limit within.0 within.1) its.versions (subst (λ rows. Contains rows (b, e)) there has) in
         let says = says_same k f same b l q some limit within.0 within.1 in
-        let at = says.place place (ap (λ (x : Entry). x.place) is ∙ lies) in
+        let at = says.place place (ap (λ (x : Entry). x.place) fact ∙ lies) in
         let log : place.seg.name.log.0 ≡ l = ap (λ (n : SegName). n.log.0) at.name ∙ its.log in
         let seq : place.seg.name.seq ≡ q = ap (λ (n : SegName). n.seq) at.name ∙ its.seq in
         let m = place.seg.name.seq in
@@ -126,6 +126,6 @@ places_are_kept k f b e l q place filed books plain has lies =
         record {
           filed = let last = ap k.end log ∙ books.end l some limit in let to = within.1 in omega arith;
           name = ap (λ (x : Segment). x.name) segment ∙ sym at.name;
-          version = ap (λ (r : Row). r.version) row ∙ says.version ∙ ap (λ (x : Entry). x.ver) is;
+          version = ap (λ (r : Row). r.version) row ∙ says.version ∙ ap (λ (x : Entry). x.ver) fact;
           value = ap (λ (r : Row). r.value) row ∙ at.item ∙ sym (ap (λ (x : Segment). value_at x place.item) segment);
         }

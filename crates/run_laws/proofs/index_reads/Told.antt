@@ -50,8 +50,8 @@ module _ (part : ℕ) (texts : Texts) (i : index.Net) where
   report_owes : (p : SlotPhase) (from : NodeId) (m : Report) → ReportKnown part i m.epoch from m.end → m.epoch ≡ epoch_of p
       → OwesAt part texts i p (report_input from m)
   report_owes (phase.Taking u) from m known same = record {
-    brings = λ r is. subst (λ (x : Heard). ReportKnown part i u.epoch x.from x.end) (sym is) (subst (λ e. ReportKnown part i e from m.end) same known);
-    reads = λ s is. absurd (none_is s is);
+    brings = λ r fact. subst (λ (x : Heard). ReportKnown part i u.epoch x.from x.end) (sym fact) (subst (λ e. ReportKnown part i e from m.end) same known);
+    reads = λ s fact. absurd (none_is s fact);
   }
   report_owes (phase.Active a) from m known same = tt
   report_owes (phase.Away epoch) from m known same = tt
@@ -59,11 +59,11 @@ module _ (part : ℕ) (texts : Texts) (i : index.Net) where
 
   answer_owes : (asked : Questions) (j : ℕ) (p : SlotPhase) (ask own : ℕ) (given : ℕ → Input) → ((own : ℕ) (r : Heard) → Brings (given own) r → ⊥)
       → places.AnswerGets part texts asked j i p ask given → fetch_of p ask ≡ Some own → OwesAt part texts i p (given own)
-  answer_owes asked j (phase.Taking u) ask own given none gets is =
-      record { brings = λ r b. absurd (none own r b); reads = λ s done. gets u own s refl is done }
-  answer_owes asked j (phase.Active a) ask own given none gets is = tt
-  answer_owes asked j (phase.Away epoch) ask own given none gets is = tt
-  answer_owes asked j (phase.Broken epoch seg) ask own given none gets is = tt
+  answer_owes asked j (phase.Taking u) ask own given none gets fact =
+      record { brings = λ r b. absurd (none own r b); reads = λ s done. gets u own s refl fact done }
+  answer_owes asked j (phase.Active a) ask own given none gets fact = tt
+  answer_owes asked j (phase.Away epoch) ask own given none gets fact = tt
+  answer_owes asked j (phase.Broken epoch seg) ask own given none gets fact = tt
 
 pub reports_gather : ReportsGather
 reports_gather members part j texts asked t i p from m seen gets =
@@ -71,8 +71,8 @@ reports_gather members part j texts asked t i p from m seen gets =
 
 pub found_gather : FoundGather
 found_gather members part j texts asked t i p (Server v) m seen gets =
-    λ own is. takeover_told members part texts asked t i p (Got own v m.generation m.fragment) seen
-    (answer_owes part texts i asked j p m.ask own (λ own. Got own v m.generation m.fragment) (λ own r b. b) gets is)
+    λ own fact. takeover_told members part texts asked t i p (Got own v m.generation m.fragment) seen
+    (answer_owes part texts i asked j p m.ask own (λ own. Got own v m.generation m.fragment) (λ own r b. b) gets fact)
 found_gather members part j texts asked t i p (Client c) m seen gets = tt
 found_gather members part j texts asked t i p (Manager c) m seen gets = tt
 found_gather members part j texts asked t i p Cleaner m seen gets = tt
@@ -80,8 +80,8 @@ found_gather members part j texts asked t i p Registry m seen gets = tt
 
 pub missing_gather : MissingGather
 missing_gather members part j texts asked t i p (Server v) m seen gets =
-    λ own is. takeover_told members part texts asked t i p (Lacks own v m.generation) seen
-    (answer_owes part texts i asked j p m.ask own (λ own. Lacks own v m.generation) (λ own r b. b) gets is)
+    λ own fact. takeover_told members part texts asked t i p (Lacks own v m.generation) seen
+    (answer_owes part texts i asked j p m.ask own (λ own. Lacks own v m.generation) (λ own r b. b) gets fact)
 missing_gather members part j texts asked t i p (Client c) m seen gets = tt
 missing_gather members part j texts asked t i p (Manager c) m seen gets = tt
 missing_gather members part j texts asked t i p Cleaner m seen gets = tt

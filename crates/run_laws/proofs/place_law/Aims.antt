@@ -41,14 +41,14 @@ Its r t =
 -- ---- the reading
 
 one_reading : (x y : ReadingState) → Some x ≡ Some y → x ≡ y
-one_reading x y is = cc
+one_reading x y fact = cc
 
 pub its_none : (t : TokensState) → Its None t
-its_none t x at f is block fetch = absurd (cc)
+its_none t x at f fact block fetch = absurd (cc)
 
 pub its_same : (x y : ReadingState) (t : TokensState) → y.target ≡ x.target → Its (Some x) t → Its (Some y) t
-its_same x y t same h z at f is block fetch =
-    let target : z.target ≡ x.target = ap (λ (r : ReadingState). r.target) (sym (one_reading y z is)) ∙ same in
+its_same x y t same h z at f fact block fetch =
+    let target : z.target ≡ x.target = ap (λ (r : ReadingState). r.target) (sym (one_reading y z fact)) ∙ same in
     h x at f refl (ap (λ (t : Target). t.block) (sym target) ∙ block) fetch ∙ ap (λ (t : Target). record { seg = t.seg; item = at.item }) (sym target)
 
 pub its_kept : (u : TokensState) (r : Option ReadingState) (t : TokensState) → Its r t → Its (kept_while u r) t
@@ -60,12 +60,12 @@ abbrev pub HasPlace : TokensState → BlockId → Place → Type 0
 HasPlace t block place = (f : Fetch) → (held_of t.blocks block).fetch ≡ Some f → f.place ≡ place
 
 one_at : (x y : BlockAt) → Some x ≡ Some y → x ≡ y
-one_at x y is = cc
+one_at x y fact = cc
 
 pub its_place : (x : ReadingState) (t : TokensState) (block : BlockId) (place : Place) → x.target ≡ target_of block place → HasPlace t block place
     → Its (Some x) t
-its_place x t block place target has y at f is its fetch =
-    let same : y.target ≡ target_of block place = ap (λ (r : ReadingState). r.target) (sym (one_reading x y is)) ∙ target in
+its_place x t block place target has y at f fact its fetch =
+    let same : y.target ≡ target_of block place = ap (λ (r : ReadingState). r.target) (sym (one_reading x y fact)) ∙ target in
     let here : record { item = place.item; block = block } ≡ at =
     one_at (record { item = place.item; block = block }) at (sym (ap (λ (t : Target). t.block) same) ∙ its) in
     has f (subst (λ (a : BlockAt). (held_of t.blocks a.block).fetch ≡ Some f) (sym here) fetch)
@@ -135,24 +135,24 @@ Aims r b e =
     (x : ReadingState) (at : BlockAt) (place : Place) → r ≡ Some x → x.target.block ≡ Some at → at.block ≡ b → e.place ≡ Some place → place ≡ place_read x at
 
 one_place : (p q : Place) → Some p ≡ Some q → p ≡ q
-one_place p q is = cc
+one_place p q fact = cc
 
 aims : (r : Option ReadingState) (t : TokensState) → Its r t → FetchesTold (Aims r) t
 aims r t h b = by (held_of t.blocks b).fetch refl
   where
     by : (o : Option Fetch) → (held_of t.blocks b).fetch ≡ o → FetchTold (Aims r) b o
-    by None is = tt
-    by (Some f) is = record {
+    by None fact = tt
+    by (Some f) fact = record {
       hop = 0;
       place_told = λ x at place its block same lies.
           sym (one_place f.place place lies)
-          ∙ h x at f its block (subst (λ (c : BlockId). (held_of t.blocks c).fetch ≡ Some f) (sym same) is);
+          ∙ h x at f its block (subst (λ (c : BlockId). (held_of t.blocks c).fetch ≡ Some f) (sym same) fact);
     }
 
 aimed : (r : Option ReadingState) (t : TokensState) → FetchesTold (Aims r) t → Its r t
-aimed r t h x at f is block fetch =
+aimed r t h x at f fact block fetch =
     let p : PlaceTold (Aims r) at.block f.ver f.place = subst (FetchTold (Aims r) at.block) fetch (h at.block) in
-    p.place_told x at f.place is block refl refl
+    p.place_told x at f.place fact block refl refl
 
 -- an input that is no grant of a place
 abbrev pub NoGrant : In → Type 0

@@ -7,8 +7,8 @@ use Rattle.client_node.specs.Phases.{Went_to, after_opening, opened_on, wish_of,
 use Rattle.client_parts.specs.declared.call.Going.{Going}
 use Rattle.client_parts.specs.declared.lasting.Lasting.{Lasting}
 use Rattle.client_serving.specs.declared.serving.Serving.{Serving}
-use Rattle.client_serving.specs.Opens.{begins_call, call_at, opens}
-use Rattle.client_serving.specs.Running.{goes_on}
+use Rattle.client_calls.specs.Opens.{begins_call, call_at, opens}
+use Rattle.client_calls.specs.Running.{goes_on}
 use Rattle.client_serving.specs.Sends.{Done, gives}
 use Rattle.log_owner.specs.declared.opened.Progress.{Progress}
 use Rattle.log_owner.specs.declared.opened.Progress.TheVariants as progress
@@ -42,7 +42,7 @@ aimed_so s h = record { other = its_none s.tokens; own = h }
 
 after_opening_so : (l : Lasting) (capacity : ℕ) (p : Progress) → Goes (after_opening l capacity p)
 after_opening_so l capacity (progress.Opening o) = tt
-after_opening_so l capacity (progress.Opened o) = λ r at f is block fetch. absurd (let clash : None ≡ Some r = is in cc)
+after_opening_so l capacity (progress.Opened o) = λ r at f fact block fetch. absurd (let clash : None ≡ Some r = fact in cc)
 after_opening_so l capacity (progress.Lost seg) = tt
 
 opened_on_so : (l : Lasting) (capacity : ℕ) (w : Went) → Goes (opened_on l capacity w)
@@ -51,10 +51,10 @@ opened_on_so l capacity w = after_opening_so (record l { questions = w.questions
 -- ---- the next item begins
 
 begins_so : (s : Serving) (number : ℕ) (going : Option Going) → AnyGoingNew going → Aimed None s → Aimed None (begins_call s number going).state
-begins_so s number None is h = h
-begins_so s number (Some x) is h =
+begins_so s number None fact h = h
+begins_so s number (Some x) fact h =
     let t : Serving = record s { lasting = record s.lasting { items = waiting s.lasting.items number } } in
-    serving.runs_so (goes_on t x).state (serving.goes_on_so t x is (record { other = h.other; own = h.own }))
+    serving.runs_so (goes_on t x).state (serving.goes_on_so t x fact (record { other = h.other; own = h.own }))
 
 call_begun : (s : Serving) (number : ℕ) (wanted : Option Work) → AnyGoingNew (call_at s number wanted)
 call_begun s number None = tt
@@ -124,4 +124,4 @@ clients_keep_so client what h =
     by_test Goes (client_room client) (happens client what) (still client.phase) (λ _. happens_so client what h) (λ _. h)
 
 pub clients_start_so : ClientsStartSo
-clients_start_so number setup works = λ r at f is block fetch. absurd (let clash : None ≡ Some r = is in cc)
+clients_start_so number setup works = λ r at f fact block fetch. absurd (let clash : None ≡ Some r = fact in cc)

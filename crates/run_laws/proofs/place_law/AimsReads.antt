@@ -96,8 +96,8 @@ begun_new _ number self = tt
 
 -- the open call reads this
 call_so : (call : Option Call) (r : Option ReadingState) (t : TokensState) → Its r t → Its (reading_in (call_with call r)) t
-call_so None r t is = its_none t
-call_so (Some call) r t is = is
+call_so None r t fact = its_none t
+call_so (Some call) r t fact = fact
 
 -- without a call nothing is read
 unread : (call : Option Call) (t : TokensState) → is_none call ≡ true → Its (reading_in call) t
@@ -112,7 +112,7 @@ module _ (r : Option ReadingState) where
   Goes d = At d.state
 
   pub read_so : (s : Serving) (o : Option ReadingState) → Its o s.tokens → Aimed r s → Aimed r (with_reading s o)
-  read_so s o is h = record { other = h.other; own = call_so s.call o s.tokens is }
+  read_so s o fact h = record { other = h.other; own = call_so s.call o s.tokens fact }
 
   pub ends_so : (s : Serving) → Aimed r s → Aimed r (ends_reading s)
   ends_so s h = read_so s (kept_while s.tokens (reading_in s.call)) (its_kept s.tokens (reading_in s.call) s.tokens h.own) h
@@ -154,12 +154,12 @@ module _ (r : Option ReadingState) where
 
   follows_one_so : (s : Serving) (o : outputs.Out) → OutTold Nowhere o → At s → Goes (follows_one s o)
   unfolding follows_one
-  follows_one_so s (output.Want block req again mode) is h = h
-  follows_one_so s (output.Gave block stamp) is h = h
-  follows_one_so s (output.Flush block) is h = seals_so s h
-  follows_one_so s (output.Read block place) is h = absurd (let e = is.there.place_told in cc)
-  follows_one_so s (output.Ready block) is h = notes_copy_so s block h
-  follows_one_so s (output.Supply block ver value) is h = h
+  follows_one_so s (output.Want block req again mode) fact h = h
+  follows_one_so s (output.Gave block stamp) fact h = h
+  follows_one_so s (output.Flush block) fact h = seals_so s h
+  follows_one_so s (output.Read block place) fact h = absurd (let e = fact.there.place_told in cc)
+  follows_one_so s (output.Ready block) fact h = notes_copy_so s block h
+  follows_one_so s (output.Supply block ver value) fact h = h
 
   pub follows_so : (s : Serving) (outs : List outputs.Out) → AllByRecursion (OutTold Nowhere) outs → Aimed r s → Aimed r (follows s outs).state
   unfolding follows
@@ -214,25 +214,25 @@ module _ (block : BlockId) (place : Place) where
   loses_at_so s (Some at) seg h = loses_so None s at.block seg h
 
   confirmed_next_so : (s : Serving) (x : ReadingState) (n : Next) → Its (Some x) s.tokens → Alone s → AloneDone (confirmed_next s x n)
-  confirmed_next_so s x next.Lost is h = loses_at_so s x.target.block x.target.seg.name h
-  confirmed_next_so s x next.Ask is h = read_so None s (Some x) is h
-  confirmed_next_so s x next.Wait is h = read_so None s (Some x) is h
-  confirmed_next_so s x next.Again is h = read_so None s (Some x) is h
-  confirmed_next_so s x (next.Read segment) is h = read_so None s (Some x) is h
+  confirmed_next_so s x next.Lost fact h = loses_at_so s x.target.block x.target.seg.name h
+  confirmed_next_so s x next.Ask fact h = read_so None s (Some x) fact h
+  confirmed_next_so s x next.Wait fact h = read_so None s (Some x) fact h
+  confirmed_next_so s x next.Again fact h = read_so None s (Some x) fact h
+  confirmed_next_so s x (next.Read segment) fact h = read_so None s (Some x) fact h
 
   drawn_after_so : (s : Serving) (x : ReadingState) (n : Next) (stage : Stage) → Its (Some x) s.tokens → Alone s
       → AloneDone (confirmed_next (drawn_after s stage) x n)
-  drawn_after_so s x n Between is h = confirmed_next_so (draws s) x n is (record { other = h.other; own = h.own })
-  drawn_after_so s x n Asking is h = confirmed_next_so s x n is h
-  drawn_after_so s x n Doubted is h = confirmed_next_so s x n is h
-  drawn_after_so s x n Over is h = confirmed_next_so s x n is h
+  drawn_after_so s x n Between fact h = confirmed_next_so (draws s) x n fact (record { other = h.other; own = h.own })
+  drawn_after_so s x n Asking fact h = confirmed_next_so s x n fact h
+  drawn_after_so s x n Doubted fact h = confirmed_next_so s x n fact h
+  drawn_after_so s x n Over fact h = confirmed_next_so s x n fact h
 
   confirms_so : (s : Serving) (x : ReadingState) → x.target ≡ target → HasPlace s.tokens block place → Alone s → AloneDone (confirms s x)
   unfolding confirms
-  confirms_so s x is has h =
+  confirms_so s x fact has h =
       let step : Step = on_confirmed x (ask_after s x.ask x.stage) in
       drawn_after_so s step.state step.next x.stage
-      (its_place step.state s.tokens block place (confirmed-target x (ask_after s x.ask x.stage) ∙ is) has) h
+      (its_place step.state s.tokens block place (confirmed-target x (ask_after s x.ask x.stage) ∙ fact) has) h
 
   reads_over_so : (s : Serving) (reading : Option ReadingState) → HasPlace s.tokens block place → Alone s → AloneDone (reads_over s target reading)
   reads_over_so s None has h = begins_so s has h
@@ -264,7 +264,7 @@ module _ (s : Serving) (h : Alone s) (block : BlockId) (stamp : Stamp) (inc req 
       let t : TokensState = with_held s.tokens block g in
       let now : held_of t.blocks block ≡ g = held_of-put_itself block g s.tokens.blocks in
       reads_so block place (ends_reading (record s { tokens = t }))
-      (λ f is. ap (λ (o : Option Fetch). (unwrap_or o f).place) (sym is ∙ ap (λ (x : Held). x.fetch) now))
+      (λ f fact. ap (λ (o : Option Fetch). (unwrap_or o f).place) (sym fact ∙ ap (λ (x : Held). x.fetch) now))
 
   copied : (ver hop : ℕ) (place : Option Place) → AloneDone (hands s (input.Granted block stamp inc req Copy (record { ver = ver; hop = hop; place = place })))
   unfolding hands client.on_granted follows

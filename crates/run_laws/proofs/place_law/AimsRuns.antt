@@ -58,8 +58,8 @@ start_reads script = first_ones script (nodes_of (cluster_of script.setup))
 event_reads : (w : World AnyNode) (event : Event) → AllRead w → AllRead (next_world any_step w event)
 event_reads w event h =
     next_keeps any_step (λ xs sent acts. AllByRecursion AnyReads xs) w event h
-    (λ place node clock at is.
-    all_set AnyReads w.nodes place (any_step node (what_of event)).node h (any_keeps node (what_of event) (all_got AnyReads w.nodes place node h is)))
+    (λ place node clock at fact.
+    all_set AnyReads w.nodes place (any_step node (what_of event)).node h (any_keeps node (what_of event) (all_got AnyReads w.nodes place node h fact)))
 
 front_reads : (events : List Event) (count : ℕ) (w : World AnyNode) → AllRead w → AllRead (fold (next_world any_step) w (take count events))
 front_reads [] zero w h = h
@@ -69,10 +69,10 @@ front_reads (event ∷ more) (suc count) w h = front_reads more count (next_worl
 
 named_reads : (xs : List AnyNode) (o : Option ℕ) (node : Client) → AllByRecursion AnyReads xs → node_in xs o ≡ Some (any.Client node)
     → PhaseReadsItsFetch node.phase
-named_reads xs None node all is = absurd (let clash : None ≡ Some (any.Client node) = is in cc)
-named_reads xs (Some place) node all is = all_got AnyReads xs place (any.Client node) all is
+named_reads xs None node all fact = absurd (let clash : None ≡ Some (any.Client node) = fact in cc)
+named_reads xs (Some place) node all fact = all_got AnyReads xs place (any.Client node) all fact
 
 pub runs_read_their_fetches : RunsReadTheirFetches
-runs_read_their_fetches e count c node is =
+runs_read_their_fetches e count c node fact =
     named_reads (moment e count).nodes (place_of (moment e count).cluster (nodes.Client c)) node
-    (front_reads e.events count (start_world any_start e.script) (start_reads e.script)) is
+    (front_reads e.events count (start_world any_start e.script) (start_reads e.script)) fact

@@ -15,13 +15,13 @@ use Rattle.client_parts.specs.Fitting.{put_fits}
 use Rattle.client_parts.specs.Flights.{is_settling, is_giving}
 use Rattle.client_parts.specs.Grants.{is_stamp}
 use Rattle.client_parts.specs.Reads.{block_read, Heard, heard, reading_in, value_at}
-use Rattle.client_serving.specs.Blocks.{Made, needs, got, gets, wrote, changes, held_back, changes_if_fits, puts, lets_go, changed, puts_again, puts_at, syncs, makes}
+use Rattle.client_calls.specs.Blocks.{Made, needs, got, gets, wrote, changes, held_back, changes_if_fits, puts, lets_go, changed, puts_again, puts_at, syncs, makes}
 use Rattle.client_serving.specs.declared.serving.Serving.{Serving}
 use Rattle.client_serving.specs.Flights.{held_at, notes_settled, keeps_clean, gives_up, gives_if_clean, feeds, settled_rows, settles, writes_one, seals_again, writes}
 use Rattle.client_serving.specs.Follow.{follows, notes_clean, notes_gone, seals, hands, takes_back}
 use Rattle.client_serving.specs.Packets.{on_grant, on_supply, on_forward, says_again, on_recall, is_gone, on_gone, is_acked, on_ack, ends_fetch, told_at, told_by, on_told, renews, promises, reports, may_report, polled, on_poll, promised_in, is_news, hears, regroups, takes_news, on_news, on_welcome, on_tick, on_body, asks_for_maps, on_packet}
 use Rattle.client_serving.specs.Reads.{with_reading, loses}
-use Rattle.client_serving.specs.Running.{goes_on, Ran, answers_call, ran, runs_call, runs_once, runs_upto, runs, most_steps}
+use Rattle.client_calls.specs.Running.{goes_on, Ran, answers_call, ran, runs_call, runs_once, runs_upto, runs, most_steps}
 use Rattle.client_serving.specs.Sends.{Done}
 use Rattle.delta_feed.specs.Transition.{acknowledged, new_epoch}
 use Rattle.file_plan.specs.declared.block_call.BlockAnswer.{BlockAnswer}
@@ -187,21 +187,21 @@ alone_so s h = record { other = its_none s.tokens; own = h }
 
 pub goes_on_so : (s : Serving) (going : Going) → GoingNew going → Aimed None s → Aimed None (goes_on s going).state
 unfolding goes_on
-goes_on_so s (On call) is h = alone_so (record s { call = Some call }) (subst (λ o. Its o s.tokens) (sym is) (its_none s.tokens))
-goes_on_so s (Ends answer) is h = record { other = h.other; own = h.own }
+goes_on_so s (On call) fact h = alone_so (record s { call = Some call }) (subst (λ o. Its o s.tokens) (sym fact) (its_none s.tokens))
+goes_on_so s (Ends answer) fact h = record { other = h.other; own = h.own }
 
 answers_call_so : (s : Serving) (call : Call) (answer : Option BlockAnswer) → Its call.reading s.tokens → Alone s → AloneDone (answers_call s call answer).done
-answers_call_so s call None is h = alone_so (record s { call = Some call }) is
-answers_call_so s call (Some a) is h = goes_on_so s (after_answer call.plan a) (next_new call.plan a) h
+answers_call_so s call None fact h = alone_so (record s { call = Some call }) fact
+answers_call_so s call (Some a) fact h = goes_on_so s (after_answer call.plan a) (next_new call.plan a) h
 
 ran_so : (call : Call) (made : Made) → Aimed call.reading made.done.state → AloneDone (ran call made).done
 ran_so call made h = answers_call_so made.done.state call made.answer h.other (alone_so made.done.state h.own)
 
 runs_call_so : (s : Serving) (call : Option Call) → Its (reading_in call) s.tokens → Alone s → AloneDone (runs_call s call).done
-runs_call_so s None is h = h
-runs_call_so s (Some call) is h =
+runs_call_so s None fact h = h
+runs_call_so s (Some call) fact h =
     ran_so call (makes (record s { call = None }) call.step)
-    (makes_so call.reading (record s { call = None }) call.step (record { other = is; own = its_none s.tokens }))
+    (makes_so call.reading (record s { call = None }) call.step (record { other = fact; own = its_none s.tokens }))
 
 runs_once_so : (s : Serving) → Alone s → AloneDone (runs_once s).done
 unfolding runs_once
@@ -264,8 +264,8 @@ ends_fetch_so s at next.Ask h = h
 ends_fetch_so s at next.Lost h = h
 
 told_at_so : (s : Serving) (at : Option BlockAt) (x : Heard) → Its x.reading s.tokens → Alone s → AloneDone (told_at s at x)
-told_at_so s None x is h = h
-told_at_so s (Some at) x is h = ends_fetch_so (with_reading s x.reading) at x.next (read_so None s x.reading is h)
+told_at_so s None x fact h = h
+told_at_so s (Some at) x fact h = ends_fetch_so (with_reading s x.reading) at x.next (read_so None s x.reading fact h)
 
 told_by_so : (s : Serving) (server ask : ℕ) (t : Answered) → Alone s → AloneDone (told_by s server ask t)
 unfolding told_by

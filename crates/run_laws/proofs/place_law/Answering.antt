@@ -36,8 +36,8 @@ use Rattle.run_laws.specs.place_law.Answers.{AnswersBody, AnswersDo, IfLive, Man
 use Rattle.run_laws.specs.place_law.Copies.{LiveAnswers, LivesAnswer}
 
 in_before : {X : Type 0} (xs ys : List X) (x : X) → In x xs → In x (xs ++ ys)
-in_before [] ys x is = absurd is
-in_before (y ∷ xs) ys x (inl is) = inl is
+in_before [] ys x premise = absurd premise
+in_before (y ∷ xs) ys x (inl premise) = inl premise
 in_before (y ∷ xs) ys x (inr later) = inr (in_before xs ys x later)
 
 -- ---- what is delivered was sent
@@ -51,16 +51,16 @@ module _ (sent : List Packet) where
   }
 
   body_answers : (packet : Packet) → In packet sent → (m : Live) (b : Body) → packet.body ≡ b → AnswersBody b m → LiveAnswers sent m
-  body_answers packet among m (body.Check c) is a = record {
+  body_answers packet among m (body.Check c) premise a = record {
     place = c.place;
     lies = a.place;
     asked = record {
       packet = packet;
       among = among;
-      bears = is ∙ (λ i. body.Check (record { block = a.block i; place = c.place; ask = a.ask i }));
+      bears = premise ∙ (λ i. body.Check (record { block = a.block i; place = c.place; ask = a.ask i }));
     };
   }
-  body_answers packet among m _ is a = absurd a
+  body_answers packet among m _ premise a = absurd a
 
   abbrev WasDelivered : Do → Type 0
   WasDelivered Begin = Unit {0}
@@ -84,7 +84,7 @@ IsNoManager Registry = Unit {0}
 
 module _ (k : Cluster) (part : ℕ) (s : Scene) (m : Live) where
   no_live : (from to : NodeId) (b : Body) → b ≡ body.Live m → IsNoManager from → SentBy k part s from to b → ⊥
-  no_live from to b is no_manager h = at from no_manager (subst (SentBy k part s from to) is h)
+  no_live from to b premise no_manager h = at from no_manager (subst (SentBy k part s from to) premise h)
     where
       at : (from : NodeId) → IsNoManager from → SentBy k part s from to (body.Live m) → ⊥
       at (Client c) other fact = fact.2
@@ -96,16 +96,16 @@ module _ (k : Cluster) (part : ℕ) (s : Scene) (m : Live) where
   -- what such a node sends is no Live
   none_sent : (node : NodeId) → IsNoManager node → (clock : ℕ) (outs : List Effect) (q : Packet) → In q (map (sent_at clock) (packets_of node outs))
       → q.body ≡ body.Live m → Fact k part s q → ⊥
-  none_sent node other clock outs q is live fact =
-      let from : q.from ≡ node = sends node clock (λ e. Unit {0}) (λ (p : Packet). p.from ≡ node) (λ to said d. refl) outs (λ i d less. tt) q is in
+  none_sent node other clock outs q premise live fact =
+      let from : q.from ≡ node = sends node clock (λ e. Unit {0}) (λ (p : Packet). p.from ≡ node) (λ to said d. refl) outs (λ i d less. tt) q premise in
       no_live q.from q.to q.body live (subst IsNoManager (sym from) other) fact
 
 -- what is known of packets is known of them with the clock
 clocked : (A : Live → Type 0) (clock : ℕ) (ps : List Packet) → AllByRecursion (λ (p : Packet). IfLive A p.body) ps → (q : Packet)
     → In q (map (sent_at clock) ps)
     → IfLive A q.body
-clocked A clock [] all q is = absurd is
-clocked A clock (p ∷ ps) all q (inl is) = subst (λ (x : Packet). IfLive A x.body) (sym is) all.0
+clocked A clock [] all q premise = absurd premise
+clocked A clock (p ∷ ps) all q (inl premise) = subst (λ (x : Packet). IfLive A x.body) (sym premise) all.0
 clocked A clock (p ∷ ps) all q (inr later) = clocked A clock ps all.1 q later
 
 -- ---- an event
@@ -114,15 +114,16 @@ module _ (manager : ManagersAnswer) (k : Cluster) (s : Scene) (sent : List Packe
   -- the packets of a node's step
   fresh : (x : AnyNode) (what : Do) → WasDelivered sent what → (clock : ℕ) (q : Packet) (m : Live) → In q (map (sent_at clock) (any_step x what).packets)
       → q.body ≡ body.Live m → Fact k 0 s q → LiveAnswers sent m
-  fresh (any.Manager node) what was clock q m is live fact =
-      do_answers sent what was m (subst (IfLive (AnswersDo what)) live (clocked (AnswersDo what) clock _ (manager node what) q is))
-  fresh (any.Client node) what was clock q m is live fact =
-      absurd (none_sent k 0 s m (Client (clients.lasting_of node.phase).number) tt clock (clients.takes node what).outs q is live fact)
-  fresh (any.Server node) what was clock q m is live fact =
-      absurd (none_sent k 0 s m (Server node.number) tt clock (servers.takes node what).outs q is live fact)
-  fresh (any.Cleaner node) what was clock q m is live fact =
-      absurd (none_sent k 0 s m Cleaner tt clock (cleaners.takes node.peers node.phase what).outs q is live fact)
-  fresh (any.Registry node) what was clock q m is live fact = absurd (none_sent k 0 s m Registry tt clock (registries.takes node what).outs q is live fact)
+  fresh (any.Manager node) what was clock q m premise live fact =
+      do_answers sent what was m (subst (IfLive (AnswersDo what)) live (clocked (AnswersDo what) clock _ (manager node what) q premise))
+  fresh (any.Client node) what was clock q m premise live fact =
+      absurd (none_sent k 0 s m (Client (clients.lasting_of node.phase).number) tt clock (clients.takes node what).outs q premise live fact)
+  fresh (any.Server node) what was clock q m premise live fact =
+      absurd (none_sent k 0 s m (Server node.number) tt clock (servers.takes node what).outs q premise live fact)
+  fresh (any.Cleaner node) what was clock q m premise live fact =
+      absurd (none_sent k 0 s m Cleaner tt clock (cleaners.takes node.peers node.phase what).outs q premise live fact)
+  fresh (any.Registry node) what was clock q m premise live fact =
+      absurd (none_sent k 0 s m Registry tt clock (registries.takes node what).outs q premise live fact)
 
   -- where each packet of then is a fact, each Live of then answers
   abbrev Kept : List AnyNode → List Packet → List Act → Type 0
@@ -131,15 +132,15 @@ module _ (manager : ManagersAnswer) (k : Cluster) (s : Scene) (sent : List Packe
   step_keeps : LivesAnswer sent → (x : AnyNode) (what : Do) → WasDelivered sent what → (clock : ℕ)
       → ((q : Packet) → In q (sent ++ map (sent_at clock) (any_step x what).packets) → Fact k 0 s q)
       → LivesAnswer (sent ++ map (sent_at clock) (any_step x what).packets)
-  step_keeps old x what was clock facts p m among is =
+  step_keeps old x what was clock facts p m among premise =
       answers_more sent new (in_before sent (map (sent_at clock) (any_step x what).packets)) m (by (in_append sent _ p among))
     where
       new : List Packet
       new = sent ++ map (sent_at clock) (any_step x what).packets
 
       by : In p sent ⊎ In p (map (sent_at clock) (any_step x what).packets) → LiveAnswers sent m
-      by (inl before) = old p m before is
-      by (inr now) = fresh x what was clock p m now is (facts p among)
+      by (inl before) = old p m before premise
+      by (inr now) = fresh x what was clock p m now premise (facts p among)
 
 module _ (manager : ManagersAnswer) (laws : tokens.NodeLaws) (k : Cluster) where
   delivered : (w : World AnyNode) (event : Event) → MayHappen w event → WasDelivered w.sent (what_of event)
@@ -154,7 +155,7 @@ module _ (manager : ManagersAnswer) (laws : tokens.NodeLaws) (k : Cluster) where
       → LivesAnswer (next_world any_step w event).sent
   event_answers w event may good old =
       next_keeps any_step (Kept manager k good.0 w.sent) w event (λ facts. old)
-      (λ place x clock at is facts. step_keeps manager k good.0 w.sent old x (what_of event) (delivered w event may) clock facts)
+      (λ place x clock at premise facts. step_keeps manager k good.0 w.sent old x (what_of event) (delivered w event may) clock facts)
       good.1.facts
 
   front_answers : (events_ : List Event) (count : ℕ) (w end : World AnyNode) → w.cluster ≡ k → Leads any_step w events_ end → GoodWorld w
@@ -171,4 +172,4 @@ pub runs_answer : ManagersAnswer → tokens.NodeLaws → RunsAnswer
 unfolding start_world
 runs_answer manager laws e count setup run =
     front_answers manager laws (cluster_of e.script.setup) e.events count (start_world any_start e.script) e.world refl run
-    (tokens.front laws e setup run 0 0 (omega arith)).1 (λ p m among is. absurd among)
+    (tokens.front laws e setup run 0 0 (omega arith)).1 (λ p m among premise. absurd among)

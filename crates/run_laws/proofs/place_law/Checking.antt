@@ -69,7 +69,7 @@ module _ (s : Segment) where
 
   -- another fate leaves it of the same Block
   refated : (c : Check) (fate : Fate) → FateLies s c.block fate → CheckLies s c → CheckLies s (record c { fate = fate })
-  refated c fate is h = record { asked = is; sits = h.sits }
+  refated c fate fact h = record { asked = fact; sits = h.sits }
 
   live_lies : (block : BlockId) (entry : Entry) (c : Check) → CheckLies s c → CheckLies s (live_at block entry c)
   live_lies block entry c h =
@@ -91,9 +91,9 @@ module _ (s : Segment) where
 
   -- each Block among some of its items is asked for
   one_begun : (number : ℕ) (i : Item) → In i s.items → slice_get s.items number ≡ Some i → AllByRecursion (CheckLies s) (check_of number i)
-  one_begun number (item.Block block value) is at = (
+  one_begun number (item.Block block value) fact at = (
     record {
-      asked = is;
+      asked = fact;
       sits = λ few. record {
         value = value;
         there = ap (slice_get s.items) (least number (length s.items) (slice_get_within s.items number (item.Block block value) at) few) ∙ at;
@@ -104,8 +104,8 @@ module _ (s : Segment) where
     where
       least : (k n : ℕ) → k < n → n ≤ no_item → min k no_item ≡ k
       least k n less few = omega arith
-  one_begun number (item.Delta block ver hop place) is at = tt
-  one_begun number (item.Part slot rows) is at = tt
+  one_begun number (item.Delta block ver hop place) fact at = tt
+  one_begun number (item.Part slot rows) fact at = tt
 
   -- these are the items from this number on
   abbrev AreFrom : ℕ → List Item → Type 0
@@ -114,10 +114,10 @@ module _ (s : Segment) where
   all_begun : (number : ℕ) (items : List Item) → ((i : Item) → In i items → In i s.items) → AreFrom number items
       → AllByRecursion (CheckLies s) (checks_from number items)
   all_begun number [] sub from = tt
-  all_begun number (i ∷ is) sub from =
-      all_append (CheckLies s) (check_of number i) (checks_from (number + 1) is)
+  all_begun number (i ∷ fact) sub from =
+      all_append (CheckLies s) (check_of number i) (checks_from (number + 1) fact)
       (one_begun number i (sub i (inl refl)) (ap (slice_get s.items) (none_more number) ∙ from 0 i refl))
-      (all_begun (number + 1) is (λ j h. sub j (inr h)) (λ k j at. ap (slice_get s.items) (one_more number k) ∙ from (suc k) j at))
+      (all_begun (number + 1) fact (λ j h. sub j (inr h)) (λ k j at. ap (slice_get s.items) (one_more number k) ∙ from (suc k) j at))
     where
       none_more : (n : ℕ) → n ≡ n + 0
       none_more n = omega arith
@@ -141,7 +141,7 @@ module _ (f : Filed) where
   lie_mapped : (g : Check → Check) → ((s : Segment) (c : Check) → CheckLies s c → CheckLies s (g c)) → (name : SegName) (checks : List Check)
       → ChecksLie f name checks → ChecksLie f name (map g checks)
   lie_mapped g each name checks h =
-      record { within = h.within; lie = λ is. (let s : Segment = f.segment name.log.0 name.seq in all_mapped s g (each s) checks (h.lie is)) }
+      record { within = h.within; lie = λ fact. (let s : Segment = f.segment name.log.0 name.seq in all_mapped s g (each s) checks (h.lie fact)) }
 
   next_keeps : (j : JobState) → Keeps (next j)
   next_keeps j = by j.left
@@ -210,8 +210,8 @@ module _ (f : Filed) where
       begun : read.name ≡ segment.name → ChecksLie f segment.name (checks_from 0 read.items)
       begun named = record {
         within = owed.0;
-        lie = λ is.
-            subst (λ s. AllByRecursion (CheckLies s) (checks_from 0 read.items)) (owed.1 is named) (whole_begun read);
+        lie = λ fact.
+            subst (λ s. AllByRecursion (CheckLies s) (checks_from 0 read.items)) (owed.1 fact named) (whole_begun read);
       }
   read_keeps read (Counting c) owed h = tt
   read_keeps read (Listing l) owed h = tt
@@ -230,24 +230,24 @@ module _ (f : Filed) where
 
   pub taken : (s : CleaningState) (i : inputs.In) → Given s.phase i → PhaseLies f s.phase → KeepsOn (transition s i)
   unfolding on_welcome on_promise on_usage on_live on_dead
-  taken s (input.Welcome slots groups) is h =
+  taken s (input.Welcome slots groups) fact h =
       by_test KeepsOn (is_greeting s.phase && (length slots == 8)) (welcomed s slots groups) (still s) (λ t. tt) (λ t. h)
-  taken s (input.Promise slot epoch) is h =
+  taken s (input.Promise slot epoch) fact h =
       by_test KeepsOn (is_above s.promised slot epoch) _ (still s) (λ t. forgetting_keeps slot s.phase h) (λ t. h)
-  taken s (input.Maps groups) is h = mapped_keeps groups s.phase h
-  taken s (input.Listed server held) is h = listed_keeps server held s.phase h
-  taken s (input.Usage slot epoch counts) is h =
+  taken s (input.Maps groups) fact h = mapped_keeps groups s.phase h
+  taken s (input.Listed server held) fact h = listed_keeps server held s.phase h
+  taken s (input.Usage slot epoch counts) fact h =
       by_test KeepsOn (is_promised s.promised slot epoch) _ (still s) (λ t. counted_keeps s.count slot counts s.phase h) (λ t. h)
-  taken s (input.Read read) is h = read_keeps read s.phase is h
-  taken s (input.Live block epoch entry) is h =
+  taken s (input.Read read) fact h = read_keeps read s.phase fact h
+  taken s (input.Live block epoch entry) fact h =
       by_test KeepsOn (is_heard s.promised block epoch && may_move entry) _ (still s)
       (λ t. answered_keeps (live_at block entry) (λ z c here. live_lies z block entry c here) s.phase h) (λ t. h)
-  taken s (input.Dead block epoch) is h =
+  taken s (input.Dead block epoch) fact h =
       by_test KeepsOn (is_heard s.promised block epoch) _ (still s)
       (λ t. answered_keeps (dead_at block) (λ z c here. dead_lies z block c here) s.phase h) (λ t. h)
-  taken s input.Moved is h = moved_keeps s.phase h
-  taken s (input.Deleted server name) is h = deleted_keeps server name s.phase h
-  taken s input.Tick is h = h
+  taken s input.Moved fact h = moved_keeps s.phase h
+  taken s (input.Deleted server name) fact h = deleted_keeps server name s.phase h
+  taken s input.Tick fact h = h
 
 -- ---- more is filed
 
@@ -257,9 +257,9 @@ more_lies f g (Checking j segment checks) more h =
     let same : g.segment name.log.0 name.seq ≡ f.segment name.log.0 name.seq = more.segment name.log.0 name.seq h.within.some h.within.filed in
     record {
       within = record { some = h.within.some; filed = (let a = h.within.filed in let b = more.head name.log.0 in omega arith) };
-      lie = λ is.
+      lie = λ fact.
           subst (λ s. AllByRecursion (CheckLies s) checks) (sym same)
-          (h.lie (subst (λ (s : Segment). same_name name s.name ≡ true) same is));
+          (h.lie (subst (λ (s : Segment). same_name name s.name ≡ true) same fact));
     }
 more_lies f g p more h = tt
 
@@ -280,8 +280,8 @@ module _ (part : ℕ) (holds : SegRef → Rows) where
   given f p input.Tick other = tt
 
   happens_lie : (n m : Net) → Happens part holds n m → PhaseLies n.filed n.job.phase → PhaseLies m.filed m.job.phase
-  happens_lie n m (ClientFiles l s some less is newer) h = more_lies n.filed (with_segment n.filed l s) n.job.phase (more_is_filed n.filed l s) h
-  happens_lie n m (CleanerFiles s is copies) h = more_lies n.filed (with_segment n.filed 9 s) n.job.phase (more_is_filed n.filed 9 s) h
+  happens_lie n m (ClientFiles l s some less fact newer) h = more_lies n.filed (with_segment n.filed l s) n.job.phase (more_is_filed n.filed l s) h
+  happens_lie n m (CleanerFiles s fact copies) h = more_lies n.filed (with_segment n.filed 9 s) n.job.phase (more_is_filed n.filed 9 s) h
   happens_lie n m (GetsDeltas e s log first upto rows at known tell) h = h
   happens_lie n m (GetsOther e s i at of) h = h
   happens_lie n m (Answers e s number b place d at asked) h = h

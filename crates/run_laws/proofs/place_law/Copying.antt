@@ -49,19 +49,19 @@ module _ (k : Books) (f : Filed) (exact : AreExact f) (b : BlockId) (e : Entry) 
 
   -- a Block of the block in the segment has the value that the books have
   fate_told : (block : BlockId) (fate : Fate) → block ≡ b → FateLies there block fate → FateTold k b e fate
-  fate_told block (Asked value) same is = record {
+  fate_told block (Asked value) same fact = record {
     log = place.seg.name.log.0;
     segment = place.seg.name.seq;
     filed = lies.filed;
     row_said =
         let its : (said k place.seg.name.log.0 place.seg.name.seq b).value ≡ value =
-        lies.value ∙ exact _ _ lies.some lies.limit b value e place (subst (λ x. In (Block x value) there.items) same is) lies.says at
+        lies.value ∙ exact _ _ lies.some lies.limit b value e place (subst (λ x. In (Block x value) there.items) same fact) lies.says at
         in
         λ i. record { version = sym lies.version i; value = sym its i };
   }
-  fate_told block (IsLive entry value) same is = tt
-  fate_told block Moved same is = tt
-  fate_told block Dead same is = tt
+  fate_told block (IsLive entry value) same fact = tt
+  fate_told block Moved same fact = tt
+  fate_told block Dead same fact = tt
 
   checks_told : (checks : List Check) → AllByRecursion (CheckLies there) checks
       → AllByRecursion (λ (c : Check). same_block c.block b ≡ true → FateTold k b e c.fate) checks
@@ -70,11 +70,11 @@ module _ (k : Books) (f : Filed) (exact : AreExact f) (b : BlockId) (e : Entry) 
 
   phase_told : (p : Phase) → PhaseLies f p → IsInHand place.seg.name p → PhaseTold k b e p
   phase_told (Checking j segment checks) h named =
-      let is : is_filed_name f segment.name ≡ true =
+      let fact : is_filed_name f segment.name ≡ true =
       subst (λ (n : SegName). is_filed_name f n ≡ true) (sym named)
       (subst (λ (n : SegName). same_name place.seg.name n ≡ true) lies.name (itself place.seg.name))
       in
-      checks_told checks (subst (λ (n : SegName). AllByRecursion (CheckLies (f.segment n.log.0 n.seq)) checks) named (h.lie is))
+      checks_told checks (subst (λ (n : SegName). AllByRecursion (CheckLies (f.segment n.log.0 n.seq)) checks) named (h.lie fact))
   phase_told Greeting h named = tt
   phase_told (Listing l) h named = tt
   phase_told (Counting c) h named = tt
@@ -83,12 +83,12 @@ module _ (k : Books) (f : Filed) (exact : AreExact f) (b : BlockId) (e : Entry) 
   phase_told Over h named = tt
 
 pub lives_tell_copies : LivesTellCopies
-lives_tell_copies members part holds t i packets e p m tied exact has answers asks among is told out = by e.job refl
+lives_tell_copies members part holds t i packets e p m tied exact has answers asks among fact told out = by e.job refl
   where
     by : (o : Option Job) → e.job ≡ o → IfSome o (λ job. PhaseTold t.books m.block m.entry job.cleaning.phase)
     by None at = tt
     by (Some job) at =
-        let a : LiveAnswers packets m = answers p m among is in
+        let a : LiveAnswers packets m = answers p m among fact in
         let hand : IfSome e.job (λ job. IsInHand a.place.seg.name job.cleaning.phase) =
         asks m.block m.ask a.place (awaited (check_of (hand_of e.job) m.block) m.ask out) a.asked in
         let named : IsInHand a.place.seg.name job.cleaning.phase =

@@ -47,14 +47,14 @@ module _ (texts : Texts) (packets : List Packet) (to : NodeId) (cuts : Cuts) (f 
   module _ (one : OneNameOneText) (place : APlaceNamesOneContent) (reads : ClientsReadWhatCame) (s : Serving) (well : FetchesWell packets to cuts f s) where
     read_there : (r : ReadingState) (at : BlockAt) (segment : Segment) → reading_in s.call ≡ Some r → r.target.block ≡ Some at
         → ReadsTarget (answered_in packets to) (cut_by cuts) r.target segment → ReadsThere k s.tokens at.block (value_at segment at.item)
-    read_there r at segment is block h x fetch =
+    read_there r at segment fact block h x fetch =
         let t : PlaceTold (told_by (rows_at f)) at.block x.ver x.place =
         subst (FetchTold (told_by (rows_at f)) at.block) fetch (well.told.fetches at.block) in
         let e : Entry = record { ver = x.ver; hop = t.hop; place = Some x.place } in
         let lies : LiesAt f k at.block e x.place x.place.seg.name.log.0 x.place.seg.name.seq =
         lies_there f k at.block e x.place known.filed books plain refl t.place_told in
         let there : Segment = f.segment x.place.seg.name.log.0 x.place.seg.name.seq in
-        let same : x.place ≡ place_read r at = well.its r at x is block fetch in
+        let same : x.place ≡ place_read r at = well.its r at x fact block fetch in
         let named : there ≡ texts x.place.seg.name = known.texts_of _ _ lies.some lies.limit ∙ ap texts (sym lies.name) in
         let group : NamesItsGroup texts x.place.seg = lies.group ∙ ap (λ (z : Segment). z.group) named in
         let log : LogKnown texts packets cuts x.place.seg.name.log = known.logs _ _ lies.some lies.limit in
@@ -66,11 +66,11 @@ module _ (texts : Texts) (packets : List Packet) (to : NodeId) (cuts : Cuts) (f 
         ap (λ (z : Segment). value_at z at.item) read ∙ sym (ap (λ (p : Place). value_at (texts p.seg.name) p.item) same)
         ∙ sym (lies.value ∙ ap (λ (z : Segment). value_at z x.place.item) named)
 
-    module _ (r : ReadingState) (is : reading_in s.call ≡ Some r) where
+    module _ (r : ReadingState) (fact : reading_in s.call ≡ Some r) where
       brings : (b : Option BlockAt) (x : Next) → r.target.block ≡ b
           → ((segment : Segment) → x ≡ next.Read segment → ReadsTarget (answered_in packets to) (cut_by cuts) r.target segment) → BringsRead k s b x
       brings None x at h = tt
-      brings (Some at) (next.Read segment) block h = read_there r at segment is block (h segment refl)
+      brings (Some at) (next.Read segment) block h = read_there r at segment fact block (h segment refl)
       brings (Some at) next.Again block h = tt
       brings (Some at) next.Wait block h = tt
       brings (Some at) next.Ask block h = tt
@@ -84,31 +84,31 @@ module _ (texts : Texts) (packets : List Packet) (to : NodeId) (cuts : Cuts) (f 
     tells (node.Server server) ask t came = by (reading_in s.call) refl
       where
         by : (o : Option ReadingState) → reading_in s.call ≡ o → BringsRead k s (block_read o) (heard o s.maps.groups ask server t).next
-        by None is = tt
-        by (Some r) is = brings r is r.target.block (heard (Some r) s.maps.groups ask server t).next refl
-            (λ segment done. subst (λ (o : Option ReadingState). ReadsPlace (answered_in packets to) (cut_by cuts) o segment) is
-            (reads packets to cuts s ask server t segment well.came (came server refl) (ap (λ o. (heard o s.maps.groups ask server t).next) is ∙ done)))
+        by None fact = tt
+        by (Some r) fact = brings r fact r.target.block (heard (Some r) s.maps.groups ask server t).next refl
+            (λ segment done. subst (λ (o : Option ReadingState). ReadsPlace (answered_in packets to) (cut_by cuts) o segment) fact
+            (reads packets to cuts s ask server t segment well.came (came server refl) (ap (λ o. (heard o s.maps.groups ask server t).next) fact ∙ done)))
 
     -- a packet that was sent
     module _ (p : Packet) (among : In p packets) (own : p.to ≡ to) (part limit c : ℕ) (n : tokens.Net) (its : n.books ≡ k) where
       came_so : (m : Body) (ask : ℕ) (t : Answered) → p.body ≡ m → came.Tells ask t m → (server : ℕ) → p.from ≡ node.Server server
           → AnsweredIn packets to ask server t
-      came_so m ask t is told server from = record {
+      came_so m ask t fact told server from = record {
         packet = p;
         among = among;
         reader = own;
         from = ap server_in from;
-        tells = subst (came.Tells ask t) (sym is) told;
+        tells = subst (came.Tells ask t) (sym fact) told;
       }
 
       pub reads_so : (m : Body) → p.body ≡ m → ServingReads part limit c n s p m
-      reads_so (body.Fragment m) is =
+      reads_so (body.Fragment m) fact =
           subst (λ (b : Books). Tells b s p.from m.ask (answered.Held m.fragment)) (sym its)
-          (tells p.from m.ask (answered.Held m.fragment) (came_so (body.Fragment m) m.ask (answered.Held m.fragment) is (refl, refl)))
-      reads_so (body.Missing m) is =
+          (tells p.from m.ask (answered.Held m.fragment) (came_so (body.Fragment m) m.ask (answered.Held m.fragment) fact (refl, refl)))
+      reads_so (body.Missing m) fact =
           subst (λ (b : Books). Tells b s p.from m.ask (answered.Missing m.generation)) (sym its)
-          (tells p.from m.ask (answered.Missing m.generation) (came_so (body.Missing m) m.ask (answered.Missing m.generation) is (refl, refl)))
-      reads_so _ is = tt
+          (tells p.from m.ask (answered.Missing m.generation) (came_so (body.Missing m) m.ask (answered.Missing m.generation) fact (refl, refl)))
+      reads_so _ fact = tt
 
 pub fetches_read_there : OneNameOneText → APlaceNamesOneContent → ClientsReadWhatCame → FetchesReadThere
 fetches_read_there one place reads texts packets to cuts f s p part limit c n known books plain well among own =

@@ -37,24 +37,24 @@ module _ (one : OneNameOneText) (place : APlaceNamesOneContent) (reads : Cleaner
   read_for : (o : Option Hand) (s : Segment) (p : Phase) → HandRefers texts o → ReadsWithin i.filed p
       → ReadsHand (answered_in packets Cleaner) (cut_by cuts) o s
       → ReadFor i.filed (Some s) p
-  read_for None s p refers within is = absurd is
-  read_for (Some hand) s (Reading j segment) refers within is = (within, λ filed named. at filed named)
+  read_for None s p refers within fact = absurd fact
+  read_for (Some hand) s (Reading j segment) refers within fact = (within, λ filed named. at filed named)
     where
       at : is_filed_name i.filed segment.name ≡ true → s.name ≡ segment.name → s ≡ i.filed.segment segment.name.log.0 segment.name.seq
       at filed named =
-          let same : segment.name ≡ hand.seg.name = sym named ∙ is.named in
+          let same : segment.name ≡ hand.seg.name = sym named ∙ fact.named in
           let log : LogKnown texts packets cuts hand.seg.name.log =
           subst (λ (n : SegName). LogKnown texts packets cuts n.log) same (known.logs segment.name.log.0 segment.name.seq within.some within.filed) in
           let there : Segment = i.filed.segment segment.name.log.0 segment.name.seq in
           let its : segment.name ≡ there.name = tells_apart seg_cmp_exact segment.name there.name filed in
-          what_is_read_is_the_text one place texts packets Cleaner cuts hand.seg s log refers is ∙ ap texts (sym same ∙ its)
+          what_is_read_is_the_text one place texts packets Cleaner cuts hand.seg s log refers fact ∙ ap texts (sym same ∙ its)
           ∙ sym (known.texts_of segment.name.log.0 segment.name.seq within.some within.filed)
-  read_for (Some hand) s Greeting refers within is = tt
-  read_for (Some hand) s (Listing l) refers within is = tt
-  read_for (Some hand) s (Counting c) refers within is = tt
-  read_for (Some hand) s (Checking j segment checks) refers within is = tt
-  read_for (Some hand) s (Deleting j segment servers) refers within is = tt
-  read_for (Some hand) s Over refers within is = tt
+  read_for (Some hand) s Greeting refers within fact = tt
+  read_for (Some hand) s (Listing l) refers within fact = tt
+  read_for (Some hand) s (Counting c) refers within fact = tt
+  read_for (Some hand) s (Checking j segment checks) refers within fact = tt
+  read_for (Some hand) s (Deleting j segment servers) refers within fact = tt
+  read_for (Some hand) s Over refers within fact = tt
 
   module _ (part : ℕ) (e : Emptying) (well : ReadsWell texts packets cuts i e) (p : Packet) (among : In p packets) (own : p.to ≡ Cleaner) where
     gets : (o : Option ℕ) (ask : ℕ) (t : Told) → server_in p.from ≡ o → Tells ask t p.body → ReadGets part i e o ask t
@@ -64,11 +64,11 @@ module _ (one : OneNameOneText) (place : APlaceNamesOneContent) (reads : Cleaner
         (reads packets Cleaner cuts e ask server t s well.came (record { packet = p; among = among; reader = own; from = from; tells = told }) done)
 
     pub answer_reads : (m : Body) → p.body ≡ m → AnswerReads part i e p.from m
-    answer_reads (body.Fragment m) is =
-        gets (server_in p.from) m.ask (Held m.fragment) refl (subst (Tells m.ask (Held m.fragment)) (sym is) (refl, refl))
-    answer_reads (body.Missing m) is =
-        gets (server_in p.from) m.ask (Missing m.generation) refl (subst (Tells m.ask (Missing m.generation)) (sym is) (refl, refl))
-    answer_reads _ is = tt
+    answer_reads (body.Fragment m) fact =
+        gets (server_in p.from) m.ask (Held m.fragment) refl (subst (Tells m.ask (Held m.fragment)) (sym fact) (refl, refl))
+    answer_reads (body.Missing m) fact =
+        gets (server_in p.from) m.ask (Missing m.generation) refl (subst (Tells m.ask (Missing m.generation)) (sym fact) (refl, refl))
+    answer_reads _ fact = tt
 
 pub hands_read_texts : OneNameOneText → APlaceNamesOneContent → CleanerReadsWhatCame → HandsReadTexts
 hands_read_texts one place reads part texts packets cuts i e p known well among own =

@@ -44,9 +44,9 @@ some_or_none (a ∷ rest) = by a.told refl (some_or_none rest)
   where
     by : (t : Told) → a.told ≡ t → HasFragment rest ⊎ ((i : ℕ) → bytes_in i rest ≡ None)
         → HasFragment (a ∷ rest) ⊎ ((i : ℕ) → bytes_in i (a ∷ rest) ≡ None)
-    by (Held f) is x = inl (record { answer = a; fragment = f; holds = is; among = inl refl })
-    by (Missing generation) is (inl h) = inl (record { answer = h.answer; fragment = h.fragment; holds = h.holds; among = inr h.among })
-    by (Missing generation) is (inr none) = inr (λ i. ap (λ t. bytes_told i t (bytes_in i rest)) is ∙ none i)
+    by (Held f) fact x = inl (record { answer = a; fragment = f; holds = fact; among = inl refl })
+    by (Missing generation) fact (inl h) = inl (record { answer = h.answer; fragment = h.fragment; holds = h.holds; among = inr h.among })
+    by (Missing generation) fact (inr none) = inr (λ i. ap (λ t. bytes_told i t (bytes_in i rest)) fact ∙ none i)
 
 none_counted : (f : ℕ → Option (List ℕ)) → ((i : ℕ) → f i ≡ None) → (from n : ℕ) → count_by is_some (map f (range_with_len from n)) ≡ 0
 none_counted f none from zero = refl
@@ -54,21 +54,21 @@ none_counted f none from (suc n) = ap (λ o. count_by is_some (o ∷ map f (rang
 
 reads_enough : (r : RoundSoFar) (text : List ℕ) → state_of r ≡ Read text → is_enough r ≡ true
 unfolding state_of
-reads_enough r text is =
+reads_enough r text fact =
     by_test (λ (s : RoundState). s ≡ Read text → is_enough r ≡ true) (is_enough r)
     (Read (joins.joined (parts_in r.n r.answers) r.parity (unwrap_or (len_in r.answers) 0)))
     (cond (have_answered r.answers r.servers) (Short (missing_in r.answers)) Waiting) (λ t h. t)
     (λ _. by_test (λ (s : RoundState). s ≡ Read text → is_enough r ≡ true) (have_answered r.answers r.servers) (Short (missing_in r.answers)) Waiting
     (λ _ x. absurd (cc)) (λ _ x. absurd (cc)))
-    is
+    fact
 
 pub has_fragment : (r : RoundSoFar) (text : List ℕ) → IsRound r → state_of r ≡ Read text → HasFragment r.answers
-has_fragment r text round is = by (some_or_none r.answers)
+has_fragment r text round fact = by (some_or_none r.answers)
   where
     by : HasFragment r.answers ⊎ ((i : ℕ) → bytes_in i r.answers ≡ None) → HasFragment r.answers
     by (inl h) = h
     by (inr none) =
-        let enough : nat_le (count_of r) (count_by is_some (parts_in r.n r.answers)) ≡ true = reads_enough r text is in
+        let enough : nat_le (count_of r) (count_by is_some (parts_in r.n r.answers)) ≡ true = reads_enough r text fact in
         let empty : count_by is_some (parts_in r.n r.answers) ≡ 0 = none_counted (λ index. bytes_in index r.answers) none 0 r.n in
         let least = round.cut.least in
         absurd (clash (count_of r) (count_by is_some (parts_in r.n r.answers)) r.n r.parity refl least enough empty)
@@ -79,8 +79,8 @@ has_fragment r text round is = by (some_or_none r.answers)
 -- ---- the text
 
 all_among : {X : Type 0} (P : X → Type 0) (xs : List X) (x : X) → AllByRecursion P xs → In x xs → P x
-all_among P [] x all is = absurd is
-all_among P (y ∷ xs) x all (inl is) = subst P (sym is) all.0
+all_among P [] x all fact = absurd fact
+all_among P (y ∷ xs) x all (inl fact) = subst P (sym fact) all.0
 all_among P (y ∷ xs) x all (inr later) = all_among P xs x all.1 later
 
 -- what came of fragments, of the log, was sent there
@@ -91,8 +91,8 @@ module _ (one : OneNameOneText) (place : APlaceNamesOneContent) (texts : Texts) 
     (l : LogKnown texts packets cuts seg.name.log) (own_group : NamesItsGroup texts seg)
     (sent : CameOf came (λ f. is_of_log l.setting f.meta.name ≡ true → In (FragmentSent f) l.net.sent)) where
   its_log : (name : SegName) → name ≡ seg.name → is_of_log l.setting name ≡ true
-  its_log name is =
-      subst (λ (n : SegName). (n.log.0 == l.setting.log.0) ≡ true) (sym is)
+  its_log name fact =
+      subst (λ (n : SegName). (n.log.0 == l.setting.log.0) ≡ true) (sym fact)
       (subst (λ (x : LogId). (seg.name.log.0 == x.0) ≡ true) (sym l.own) (itself seg.name.log.0))
 
   answers_came : (s : Segment) (ask : ℕ) → s.name ≡ seg.name → (answers : List Answer) → AllByRecursion (AnswerCame came ask seg.name) answers
@@ -111,8 +111,8 @@ module _ (one : OneNameOneText) (place : APlaceNamesOneContent) (texts : Texts) 
     pub named : segment.name ≡ seg.name
 
   flew : (ask : ℕ) (r : RoundSoFar) (text : List ℕ) → RoundCame came (cut_by cuts) seg ask r → state_of r ≡ Read text → Flew
-  flew ask r text of is =
-      let has : HasFragment r.answers = has_fragment r text of.is_round is in
+  flew ask r text of fact =
+      let has : HasFragment r.answers = has_fragment r text of.is_round fact in
       let answer : AnswerCame came ask seg.name has.answer = all_among (AnswerCame came ask seg.name) r.answers _ of.answers has.among in
       let came_so : came ask has.answer.server (Held has.fragment) = subst (came ask has.answer.server) has.holds answer.came_so in
       let of_name : has.fragment.meta.name ≡ seg.name = subst (IsOfName seg.name) has.holds answer.of_name in
@@ -122,8 +122,8 @@ module _ (one : OneNameOneText) (place : APlaceNamesOneContent) (texts : Texts) 
 
   reading : (x : Flew) (ask : ℕ) (r : RoundSoFar) → RoundCame came (cut_by cuts) seg ask r → IsReading l.setting l.net x.segment r
   reading x ask r of =
-      let is : texts seg.name ≡ x.segment = ap texts (sym x.named) ∙ l.texts_of x.segment x.among in
-      let group : seg.group ≡ x.segment.group = own_group ∙ ap (λ (s : Segment). s.group) is in
+      let fact : texts seg.name ≡ x.segment = ap texts (sym x.named) ∙ l.texts_of x.segment x.among in
+      let group : seg.group ≡ x.segment.group = own_group ∙ ap (λ (s : Segment). s.group) fact in
       record {
         is_round = of.is_round;
         count = of.cut_so.0 ∙ l.members seg.group ∙ ap (λ id. length (l.setting.stripe id).members) group;

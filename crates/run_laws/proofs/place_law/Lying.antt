@@ -24,12 +24,12 @@ pub one_of_nine : (f : Filed) → IsFiled f → (l q : ℕ) → 0 < q → q ≤ 
 one_of_nine f filed l q some limit = (least (nat_lt 0 l) refl, greatest (nat_lt 9 l) refl)
   where
     least : (t : Bool) → nat_lt 0 l ≡ t → 0 < l
-    least true is = grind (arith, nat_tests)
-    least false is = absurd (let zero_is : l ≡ 0 = grind (arith, nat_tests) in let none = filed.others l (inl zero_is) in omega arith)
+    least true fact = grind (arith, nat_tests)
+    least false fact = absurd (let zero_is : l ≡ 0 = grind (arith, nat_tests) in let none = filed.others l (inl zero_is) in omega arith)
 
     greatest : (t : Bool) → nat_lt 9 l ≡ t → l ≤ 9
-    greatest true is = absurd (let over : 9 < l = grind (arith, nat_tests) in let none = filed.others l (inr over) in omega arith)
-    greatest false is = grind (arith, nat_tests)
+    greatest true fact = absurd (let over : 9 < l = grind (arith, nat_tests) in let none = filed.others l (inr over) in omega arith)
+    greatest false fact = grind (arith, nat_tests)
 
 -- what is filed at a number is what its segment says
 pub rows_there : (f : Filed) (l q : ℕ) → 0 < q → q ≤ f.head l → rows_at f l q ≡ rows_of (f.segment l q)

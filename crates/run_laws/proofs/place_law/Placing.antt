@@ -35,9 +35,9 @@ module _ (f : Filed) (filed : IsFiled f) (plain : ArePlain f) (named : AreNamed 
     of_row : (c : Check) → CheckLies there c → (row_at f c.block l q).place ≡ Some (place_in segment c.item)
     of_row c h =
         let e = named l q some limit c.block c.item (h.sits its_plain.few) in
-        let is : row_at f c.block l q ≡ e.0 =
+        let fact : row_at f c.block l q ≡ e.0 =
         ap (λ rows. join rows c.block) (rows_there f l q some limit) ∙ deltas_are_said there c.block e.0 its_plain (filed.each l q some limit).versions e.1 in
-        ap (λ (x : Entry). x.place) is ∙ e.2 ∙ (λ i. Some (record { seg = record { name = sym name i; group = sym group i }; item = c.item }))
+        ap (λ (x : Entry). x.place) fact ∙ e.2 ∙ (λ i. Some (record { seg = record { name = sym name i; group = sym group i }; item = c.item }))
 
     all_of_rows : (checks : List Check) → AllByRecursion (CheckLies there) checks
         → AllByRecursion (λ (c : Check). (row_at f c.block l q).place ≡ Some (place_in segment c.item)) checks
@@ -45,8 +45,8 @@ module _ (f : Filed) (filed : IsFiled f) (plain : ArePlain f) (named : AreNamed 
     all_of_rows (c ∷ cs) all = (of_row c all.0, all_of_rows cs all.1)
 
 pub checks_are_of_rows : ChecksAreOfRows
-checks_are_of_rows part holds any n j segment checks run plain named phase is group =
+checks_are_of_rows part holds any n j segment checks run plain named phase fact group =
     let f : Filed = n.filed in
     let h : ChecksLie f segment.name checks = subst (PhaseLies f) phase (jobs_checks_lie part holds any n run) in
     all_of_rows f (good_in part holds any n run).filed plain named segment h.within.some h.within.filed
-    (tells_apart seg_cmp_exact segment.name (f.segment segment.name.log.0 segment.name.seq).name is) group checks (h.lie is)
+    (tells_apart seg_cmp_exact segment.name (f.segment segment.name.log.0 segment.name.seq).name fact) group checks (h.lie fact)

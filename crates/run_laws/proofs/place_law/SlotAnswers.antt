@@ -92,12 +92,12 @@ module _ (A : Live → Type 0) where
     found_so epoch entry = by (is_place entry.place check.place) refl
       where
         by : (t : Bool) → is_place entry.place check.place ≡ t → AllSay A (flat_map (tokens.check_said check epoch) (cond t (out.Live entry) out.Dead ∷ []))
-        by true is = (
+        by true fact = (
           may (record { block = check.block; ask = check.ask; epoch = epoch; entry = entry })
-              (record { block = refl; ask = refl; place = is_at entry.place check.place is }),
+              (record { block = refl; ask = refl; place = is_at entry.place check.place fact }),
           tt,
         )
-        by false is = (tt, tt)
+        by false fact = (tt, tt)
 
     check_so : (p : SlotPhase) → AllSay A (tokens.on_check p check).outs
     unfolding tokens.on_check

@@ -42,14 +42,14 @@ module _ (texts : Texts) (packets : List Packet) (to : NodeId) (cuts : Cuts) (se
 
   -- a body that tells of a fragment bears it
   bears : (p : Packet) (ask : ℕ) (f : Fragment) (m : Body) → In p packets → p.body ≡ m → Tells ask (Held f) m → WasSent f
-  bears p ask f (body.Fragment m) among is t own =
+  bears p ask f (body.Fragment m) among fact t own =
       let same : f ≡ m.fragment = held_same t.1 in
-      subst (λ g. In (FragmentSent g) l.net.sent) (sym same) (l.told p m among is (subst (λ (g : Fragment). is_of_log l.setting g.meta.name ≡ true) same own))
+      subst (λ g. In (FragmentSent g) l.net.sent) (sym same) (l.told p m among fact (subst (λ (g : Fragment). is_of_log l.setting g.meta.name ≡ true) same own))
     where
       held_same : {a b : Fragment} → Held a ≡ Held b → a ≡ b
       held_same e = cc
-  bears p ask f (body.Missing m) among is t own = absurd (let clash = t.1 in cc)
-  bears p ask f _ among is t own = absurd t
+  bears p ask f (body.Missing m) among fact t own = absurd (let clash = t.1 in cc)
+  bears p ask f _ among fact t own = absurd t
 
   pub was_sent : CameOf (answered_in packets to) WasSent
   was_sent ask server f h = bears h.packet ask f h.packet.body h.among refl h.tells
@@ -68,9 +68,9 @@ module _ (part : ℕ) (s : Segment) where
   item_fits (Delta block ver hop item) h = tt
   item_fits (Part slot rows) h = by_test RowsFit (slot == part) rows [] (λ _. blocks_fit rows h) (λ _. tt)
 
-  parts_fit : (is : List Item) → AllByRecursion FitsItem is → RowsFit (flat_map (part_rows part) is)
+  parts_fit : (fact : List Item) → AllByRecursion FitsItem fact → RowsFit (flat_map (part_rows part) fact)
   parts_fit [] all = tt
-  parts_fit (i ∷ is) all = all_append _ (part_rows part i) (flat_map (part_rows part) is) (item_fits i all.0) (parts_fit is all.1)
+  parts_fit (i ∷ fact) all = all_append _ (part_rows part i) (flat_map (part_rows part) fact) (item_fits i all.0) (parts_fit fact all.1)
 
   deltas_fit : AllByRecursion FitsItem s.items → RowsFit (rows_of s)
   deltas_fit all = all_filter_map _ FitsItem (row_of s) one s.items all
@@ -95,12 +95,12 @@ takeovers_read_texts one place ranged reads part texts packets to cuts take p as
     by p.reading refl (subst (λ o. completes_at take o own server told ≡ Some s) at completes)
   where
     by : (o : Option ReadingState) → p.reading ≡ o → completes_in take o own server told ≡ Some s → IsRead part texts s
-    by None is done = absurd (cc)
-    by (Some r) is done =
+    by None fact done = absurd (cc)
+    by (Some r) fact done =
         let flown : IsFlown one place texts packets cuts (to_any (answered_in packets to)) p.source.seg l group
         (any_was_sent texts packets to cuts p.source.seg l) s =
         joined one place texts packets cuts (to_any (answered_in packets to)) p.source.seg l group (any_was_sent texts packets to cuts p.source.seg l) s
-        (reads packets to cuts take p r ask own server told s h at is answered done)
+        (reads packets to cuts take p r ask own server told s h at fact answered done)
         in
         record {
           text = sym (l.texts_of s flown.among);

@@ -52,7 +52,7 @@ module _ (below : Below) (end : World AnyNode) (k : Cluster) where
       → groups_of (node_in w.nodes (place_of k Registry)) ≡ Some m → MapStriped (cut_by (cuts_at end)) m
   registry_so w cluster stays has m found =
       let here : groups_of (node_named w Registry) ≡ Some m = subst (λ c. groups_of (node_in w.nodes (place_of c Registry)) ≡ Some m) (sym cluster) found in
-      map_so end m (has m here) (λ id group is. stays id group (ap (λ o. group_in o id) here ∙ is))
+      map_so end m (has m here) (λ id group fact. stays id group (ap (λ o. group_in o id) here ∙ fact))
 
   known_now : (w : World AnyNode) → w.cluster ≡ k → Tokens w → StayIn below.groups w end → HasMap (node_named w Registry)
       → Known below.nodes (cuts_at end) k w.nodes w.sent

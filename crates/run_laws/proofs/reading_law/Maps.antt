@@ -69,10 +69,10 @@ can_cut servers group stripe =
 -- a map whose groups are those of the end, over the same members, is cut as that
 pub map_so : (end : World AnyNode) (m : GroupMapState) → IsGroupMap m
     → ((id : ℕ) (group : Group) → group_of m id ≡ Some group → Names (group_at end id) (stripe_of_group group)) → MapStriped (cut_by (cuts_at end)) m
-map_so end m ok stays id group is =
-    let n : Names (group_at end id) (stripe_of_group group) = stays id group is in
+map_so end m ok stays id group fact =
+    let n : Names (group_at end id) (stripe_of_group group) = stays id group fact in
     record {
-      cut = can_cut m.servers group (its_stripe m ok id group is);
+      cut = can_cut m.servers group (its_stripe m ok id group fact);
       said = (
         sym (ap (λ (o : Option Group). (cut_of o).members) n.named ∙ ap (λ (s : Stripe). length s.members) n.stripe_is),
         sym (ap (λ (o : Option Group). (cut_of o).parity) n.named ∙ ap (λ (s : Stripe). s.parity) n.stripe_is),
@@ -94,7 +94,7 @@ module _ (node : NodeId) (clock : ℕ) (D : Effect → Type 0) (F : Packet → T
     (each : (to : NodeId) (said : Body) → D (Send to said) → F (record { from = node; to = to; clock = clock; body = said })) where
   sent_so : (es : List Effect) → AllByRecursion D es → (q : Packet) → In q (map (sent_at clock) (packets_of node es)) → F q
   sent_so [] all q h = absurd h
-  sent_so (Send to said ∷ es) all q (inl is) = subst F (sym is) (each to said all.0)
+  sent_so (Send to said ∷ es) all q (inl fact) = subst F (sym fact) (each to said all.0)
   sent_so (Send to said ∷ es) all q (inr later) = sent_so es all.1 q later
   sent_so (Answer item answer ∷ es) all q h = sent_so es all.1 q h
   sent_so (Lose seg ∷ es) all q h = sent_so es all.1 q h
@@ -161,32 +161,32 @@ module _ (cuts : Cuts) where
   Tells d = MapStriped (cut_by cuts) d.state.board.groups → AllSay d.outs
 
   all_told : (node : RegistryNode) → MapStriped (cut_by cuts) node.board.groups → AllSay (tells_all node)
-  all_told node is = all_map Says (λ (to : NodeId). Send to (body.MapNews (news_of node.board))) (λ to. is) (others node.peers Registry)
+  all_told node fact = all_map Says (λ (to : NodeId). Send to (body.MapNews (news_of node.board))) (λ to. fact) (others node.peers Registry)
 
   moved_says : (node : RegistryNode) (number : ℕ) → MapStriped (cut_by cuts) node.board.groups → (o : Out) → AllSay (moved node number o)
-  moved_says node number is Changed = all_told node is
-  moved_says node number is (Epoch epoch) = (tt, tt)
-  moved_says node number is (Kept epoch) = tt
+  moved_says node number fact Changed = all_told node fact
+  moved_says node number fact (Epoch epoch) = (tt, tt)
+  moved_says node number fact (Kept epoch) = tt
 
   move_says : (node : RegistryNode) (number slot manager : ℕ) → Tells (on_move node number slot manager)
   unfolding on_move
-  move_says node number slot manager is =
+  move_says node number slot manager fact =
       let made = transition node.board (input.Reassign slot manager) in
       let to : RegistryNode = record node { board = made.state } in
-      all_flat_map Says (moved to number) (moved_says to number is) made.outs
+      all_flat_map Says (moved to number) (moved_says to number fact) made.outs
 
   changed_says : (node : RegistryNode) → MapStriped (cut_by cuts) node.board.groups → (o : Out) → AllSay (changed node o)
-  changed_says node is Changed = all_told node is
-  changed_says node is (Epoch epoch) = tt
-  changed_says node is (Kept epoch) = tt
+  changed_says node fact Changed = all_told node fact
+  changed_says node fact (Epoch epoch) = tt
+  changed_says node fact (Kept epoch) = tt
 
   hello_says : (node : RegistryNode) (from : NodeId) (hello : Hello) → Tells (on_hello node from hello)
   unfolding on_hello
-  hello_says node from hello is =
+  hello_says node from hello fact =
       let made = transition node.board (input.Hello from hello.inc) in
       let to : RegistryNode = record node { board = made.state } in
       all_append Says (flat_map (changed to) made.outs) (Send from (body.Welcome (welcome_of to hello)) ∷ [])
-      (all_flat_map Says (changed to) (changed_says to is) made.outs) (is, tt)
+      (all_flat_map Says (changed to) (changed_says to fact) made.outs) (fact, tt)
 
   kept_says : (from : NodeId) (m : CkptDone) (o : Out) → AllSay (kept from m o)
   kept_says from m Changed = tt
@@ -195,30 +195,30 @@ module _ (cuts : Cuts) where
 
   done_says : (node : RegistryNode) (from : NodeId) (m : CkptDone) → Tells (on_done node from m)
   unfolding on_done
-  done_says node from m is = all_flat_map Says (kept from m) (kept_says from m) (transition node.board (input.Done m.slot m.epoch m.parts m.horizon)).outs
+  done_says node from m fact = all_flat_map Says (kept from m) (kept_says from m) (transition node.board (input.Done m.slot m.epoch m.parts m.horizon)).outs
 
   item_says : (node : RegistryNode) (number : ℕ) (wish : Option (ℕ × ℕ)) → Tells (on_item node number wish)
-  item_says node number None is = tt
-  item_says node number (Some wish) is = move_says node number wish.0 wish.1 is
+  item_says node number None fact = tt
+  item_says node number (Some wish) fact = move_says node number wish.0 wish.1 fact
 
   begun_says : (node : RegistryNode) (item : Option ℕ) → Tells (at_item node item)
-  begun_says node None is = tt
-  begun_says node (Some number) is = item_says node number (move_of (work_at node.items number)) is
+  begun_says node None fact = tt
+  begun_says node (Some number) fact = item_says node number (move_of (work_at node.items number)) fact
 
   begin_says : (node : RegistryNode) → Tells (on_begin node)
   unfolding on_begin
-  begin_says node is = begun_says (record node { items = begun node.items }) (next_item node.items) is
+  begin_says node fact = begun_says (record node { items = begun node.items }) (next_item node.items) fact
 
   body_says : (node : RegistryNode) (from : NodeId) (said : Body) → Tells (hears node from said)
-  body_says node from (body.Hello hello) is = hello_says node from hello is
-  body_says node from (body.CkptDone m) is = done_says node from m is
-  body_says node from _ is = tt
+  body_says node from (body.Hello hello) fact = hello_says node from hello fact
+  body_says node from (body.CkptDone m) fact = done_says node from m fact
+  body_says node from _ fact = tt
 
   packet_says : (node : RegistryNode) (packet : Packet) → Tells (on_packet node packet)
   unfolding on_packet
   packet_says node packet =
       by_test Tells (is_well_formed node.peers packet) (hears node packet.from packet.body) (still node) (λ _. body_says node packet.from packet.body)
-      (λ _ is. tt)
+      (λ _ fact. tt)
 
   event_says : (node : RegistryNode) (what : Do) → Tells (on_event node what)
   event_says node Begin = begin_says node
@@ -226,7 +226,7 @@ module _ (cuts : Cuts) where
   event_says node Tick = all_told node
 
   takes_says : (node : RegistryNode) (what : Do) → Tells (takes node what)
-  takes_says node what = by_test Tells (has_room node.board.version) (on_event node what) (still node) (λ _. event_says node what) (λ _ is. tt)
+  takes_says node what = by_test Tells (has_room node.board.version) (on_event node what) (still node) (λ _. event_says node what) (λ _ fact. tt)
 
 -- ---- nodes of any kind
 
@@ -281,18 +281,18 @@ kind_starts Cleaner setup items = tt
 kind_starts Registry setup items = tt
 
 pub kind_stays : (x : AnyNode) (name : NodeId) (what : Do) → KindOf x name → KindOf (any_step x what).node name
-kind_stays (any.Client node) name what is = is
-kind_stays (any.Manager node) name what is = is
-kind_stays (any.Server node) name what is = is
-kind_stays (any.Cleaner node) name what is = is
-kind_stays (any.Registry node) name what is = is
+kind_stays (any.Client node) name what fact = fact
+kind_stays (any.Manager node) name what fact = fact
+kind_stays (any.Server node) name what fact = fact
+kind_stays (any.Cleaner node) name what fact = fact
+kind_stays (any.Registry node) name what fact = fact
 
 registry_named : (name : NodeId) → of_registry name → name ≡ Registry
-registry_named (Client c) is = absurd is
-registry_named (Manager j) is = absurd is
-registry_named (Server v) is = absurd is
-registry_named Cleaner is = absurd is
-registry_named Registry is = refl
+registry_named (Client c) fact = absurd fact
+registry_named (Manager j) fact = absurd fact
+registry_named (Server v) fact = absurd fact
+registry_named Cleaner fact = absurd fact
+registry_named Registry fact = refl
 
 -- the maps that a node sends are so, where the registry's own is then
 pub new_maps : (cuts : Cuts) (x : AnyNode) (name : NodeId) (what : Do) (clock : ℕ) → KindOf x name

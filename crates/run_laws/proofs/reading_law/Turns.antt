@@ -57,12 +57,12 @@ pub record NodeLaws : Type 0 where
 module _ (laws : NodeLaws) (cuts : Cuts) where
   pub any_starts : (name : NodeId) (setup : Setup) (items : List Work) → MapStriped (cut_by cuts) (groups.started setup.servers setup.groups)
       → AnyHolds [] name cuts (any_start name setup items)
-  any_starts (nodes.Client c) setup items is = laws.client_starts [] (nodes.Client c) cuts c setup items is
-  any_starts (nodes.Manager j) setup items is = laws.manager_starts [] (nodes.Manager j) cuts j setup items is
-  any_starts (nodes.Server v) setup items is = tt
-  any_starts nodes.Cleaner setup items is =
-      record { holds = laws.cleaner_starts [] nodes.Cleaner cuts setup items is; meets = laws.met_starts [] nodes.Cleaner setup items }
-  any_starts nodes.Registry setup items is = tt
+  any_starts (nodes.Client c) setup items fact = laws.client_starts [] (nodes.Client c) cuts c setup items fact
+  any_starts (nodes.Manager j) setup items fact = laws.manager_starts [] (nodes.Manager j) cuts j setup items fact
+  any_starts (nodes.Server v) setup items fact = tt
+  any_starts nodes.Cleaner setup items fact =
+      record { holds = laws.cleaner_starts [] nodes.Cleaner cuts setup items fact; meets = laws.met_starts [] nodes.Cleaner setup items }
+  any_starts nodes.Registry setup items fact = tt
 
   any_rises : (sent more : List Packet) (name : NodeId) (x : AnyNode) → ((p : Packet) → In p sent → In p more) → AnyHolds sent name cuts x
       → AnyHolds more name cuts x
@@ -74,18 +74,18 @@ module _ (laws : NodeLaws) (cuts : Cuts) where
   any_rises sent more name (any.Registry node) grows h = tt
 
   only_sent : (sent : List Packet) (name : NodeId) (what : Do) → DoSent sent name cuts what → IsSent sent name what
-  only_sent sent name done.Begin is = tt
-  only_sent sent name (done.Deliver packet) is = (is.0, is.1)
-  only_sent sent name done.Tick is = tt
+  only_sent sent name done.Begin fact = tt
+  only_sent sent name (done.Deliver packet) fact = (fact.0, fact.1)
+  only_sent sent name done.Tick fact = tt
 
   any_keeps : (sent : List Packet) (name : NodeId) (x : AnyNode) (what : Do) → DoSent sent name cuts what → AnyHolds sent name cuts x
       → AnyHolds sent name cuts (any_step x what).node
-  any_keeps sent name (any.Client node) what is h = laws.client sent name cuts node what h is
-  any_keeps sent name (any.Manager node) what is h = laws.manager sent name cuts node what h is
-  any_keeps sent name (any.Server node) what is h = tt
-  any_keeps sent name (any.Cleaner node) what is h =
-      record { holds = laws.cleaner sent name cuts node what h.holds is; meets = laws.met sent name node what h.meets (only_sent sent name what is) }
-  any_keeps sent name (any.Registry node) what is h = tt
+  any_keeps sent name (any.Client node) what fact h = laws.client sent name cuts node what h fact
+  any_keeps sent name (any.Manager node) what fact h = laws.manager sent name cuts node what h fact
+  any_keeps sent name (any.Server node) what fact h = tt
+  any_keeps sent name (any.Cleaner node) what fact h =
+      record { holds = laws.cleaner sent name cuts node what h.holds fact; meets = laws.met sent name node what h.meets (only_sent sent name what fact) }
+  any_keeps sent name (any.Registry node) what fact h = tt
 
   -- ---- a moment
 
@@ -113,7 +113,7 @@ module _ (laws : NodeLaws) (cuts : Cuts) where
   brought w (Tick node) may maps = tt
 
   module _ (k : Cluster) (w : World AnyNode) (event : Event) (may : MayHappen w event) (good : Good k w.nodes w.sent) (place : ℕ) (x : AnyNode) (clock : ℕ)
-      (at : place_of k (node_of event) ≡ Some place) (is : slice_get w.nodes place ≡ Some x) where
+      (at : place_of k (node_of event) ≡ Some place) (fact : slice_get w.nodes place ≡ Some x) where
     abbrev name : NodeId
     name = node_of event
 
@@ -133,10 +133,10 @@ module _ (laws : NodeLaws) (cuts : Cuts) where
     grows q h = in_before w.sent new q h
 
     here : node_in later (place_of k name) ≡ Some y
-    here = places.here k w.nodes name place at y x is
+    here = places.here k w.nodes name place at y x fact
 
     its : NodeSo w.sent name x
-    its = good.nodes name x (ap (node_in w.nodes) at ∙ is)
+    its = good.nodes name x (ap (node_in w.nodes) at ∙ fact)
 
     its_turn : NodeSo sent name y
     its_turn = record {
@@ -176,4 +176,4 @@ module _ (laws : NodeLaws) (cuts : Cuts) where
       → Good k (next_world any_step w event).nodes (next_world any_step w event).sent
   event_keeps k w cluster event may good known =
       next_keeps any_step (λ all sent acts. Known k all sent → Good k all sent) w event (λ _. good)
-      (λ place x clock at is. turned k w event may good place x clock (subst (λ c. place_of c (node_of event) ≡ Some place) cluster at) is) known
+      (λ place x clock at fact. turned k w event may good place x clock (subst (λ c. place_of c (node_of event) ≡ Some place) cluster at) fact) known

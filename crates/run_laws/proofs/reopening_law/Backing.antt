@@ -49,14 +49,14 @@ IsNoBack (Does (act.Back c chain)) = ⊥
 IsNoBack (Does _) = Unit {0}
 
 none_back : (outs : List Effect) → AllByRecursion IsNoBack outs → (c : ℕ) (chain : List SegName) → In (Does (act.Back c chain)) outs → ⊥
-none_back [] none c chain is = is
+none_back [] none c chain fact = fact
 none_back (e ∷ outs) none c chain (inl same) = subst IsNoBack (sym same) none.0
-none_back (e ∷ outs) none c chain (inr is) = none_back outs none.1 c chain is
+none_back (e ∷ outs) none c chain (inr fact) = none_back outs none.1 c chain fact
 
 in_either : (xs ys : List Effect) (e : Effect) → In e (xs ++ ys) → In e xs ⊎ In e ys
-in_either [] ys e is = inr is
+in_either [] ys e fact = inr fact
 in_either (x ∷ xs) ys e (inl same) = inl (inl same)
-in_either (x ∷ xs) ys e (inr is) = ⊎_elim (λ a. inl (inr a)) inr (in_either xs ys e is)
+in_either (x ∷ xs) ys e (inr fact) = ⊎_elim (λ a. inl (inr a)) inr (in_either xs ys e fact)
 
 act_no_back : (a : Act) → MayAct a → IsNoBack (Does a)
 act_no_back (act.Back c chain) may = absurd may
@@ -91,11 +91,11 @@ module _ (c : ℕ) (l : Lasting) (o : Opening) (s : Serving) where
 
   progress_comes : (what : Do) (m : Lasting) (capacity : ℕ) (p : Progress) (effects : List Effect) → AllByRecursion IsNoBack effects
       → comes_to o l.questions what ≡ p → Comes what (saying effects (after_opening m capacity p))
-  progress_comes what m capacity (progress.Opening x) effects none is e = absurd cc
-  progress_comes what m capacity (progress.Lost seg) effects none is e = absurd cc
-  progress_comes what m capacity (progress.Opened r) effects none is e = record {
+  progress_comes what m capacity (progress.Opening x) effects none fact e = absurd cc
+  progress_comes what m capacity (progress.Lost seg) effects none fact e = absurd cc
+  progress_comes what m capacity (progress.Opened r) effects none fact e = record {
     opened = r;
-    comes = is;
+    comes = fact;
     log = sym (same_log (served m capacity r) s e);
     back = λ chain among. ⊎_elim (λ there. absurd (none_back effects none c chain there)) (its chain)
         (in_either effects _ (Does (act.Back c chain)) among);
@@ -109,10 +109,10 @@ module _ (c : ℕ) (l : Lasting) (o : Opening) (s : Serving) where
 
       its : (chain : List SegName) → In (Does (act.Back c chain)) (Does (act.Back m.number r.chain) ∷ rest) → chain ≡ r.chain
       its chain (inl same) = one_chain chain same
-      its chain (inr is) = absurd
+      its chain (inr fact) = absurd
           (⊎_elim (none_back (pushes_all r.promised.managers r.feed) (pushes_no_back r.promised.managers r.feed) c chain)
           (none_back (answers_unanswered m.items.unanswered answer.Done) (answers_no_back m.items.unanswered answer.Done) c chain)
-          (in_either (pushes_all r.promised.managers r.feed) (answers_unanswered m.items.unanswered answer.Done) (Does (act.Back c chain)) is))
+          (in_either (pushes_all r.promised.managers r.feed) (answers_unanswered m.items.unanswered answer.Done) (Does (act.Back c chain)) fact))
 
   wish_comes : (m : Lasting) (number : ℕ) (wanted : Option Work) → Comes Begin (opening_begins m o number (wish_of wanted))
   wish_comes m number (Some (work.Crash node)) e = absurd cc
@@ -142,10 +142,10 @@ module _ (c : ℕ) (l : Lasting) (o : Opening) (s : Serving) where
       (λ t. still_comes (Deliver packet))
 
   taken_comes : (client : AClient) (what : Do) → client.phase ≡ phase.Opening l o → Comes what (takes client what)
-  taken_comes client what is =
+  taken_comes client what fact =
       by_test (Comes what) (client_room client) (happens client what) (still client.phase)
-      (λ t. subst (λ p. Comes what (on_event client.peers client.cache p what)) (sym is) (event_comes client.peers client.cache what))
-      (λ t. subst (λ (p : Phase). Comes what (still p)) (sym is) (still_comes what))
+      (λ t. subst (λ p. Comes what (on_event client.peers client.cache p what)) (sym fact) (event_comes client.peers client.cache what))
+      (λ t. subst (λ (p : Phase). Comes what (still p)) (sym fact) (still_comes what))
 
 pub clients_come_back : ClientsComeBack
-clients_come_back c client what l o s is = taken_comes c l o s client what is
+clients_come_back c client what l o s fact = taken_comes c l o s client what fact

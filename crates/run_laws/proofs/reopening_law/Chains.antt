@@ -18,38 +18,38 @@ use Rattle.xfs_base.specs.declared.segment.SegName.{SegName}
 -- ---- names
 
 pub in_left : {X : Type 0} (xs ys : List X) (x : X) → In x xs → In x (xs ++ ys)
-in_left [] ys x is = absurd is
+in_left [] ys x fact = absurd fact
 in_left (z ∷ xs) ys x (inl e) = inl e
-in_left (z ∷ xs) ys x (inr is) = inr (in_left xs ys x is)
+in_left (z ∷ xs) ys x (inr fact) = inr (in_left xs ys x fact)
 
 pub in_right : {X : Type 0} (xs ys : List X) (x : X) → In x ys → In x (xs ++ ys)
-in_right [] ys x is = is
-in_right (z ∷ xs) ys x is = inr (in_right xs ys x is)
+in_right [] ys x fact = fact
+in_right (z ∷ xs) ys x fact = inr (in_right xs ys x fact)
 
 pub in_either : {X : Type 0} (xs ys : List X) (x : X) → In x (xs ++ ys) → In x xs ⊎ In x ys
-in_either [] ys x is = inr is
+in_either [] ys x fact = inr fact
 in_either (z ∷ xs) ys x (inl e) = inl (inl e)
-in_either (z ∷ xs) ys x (inr is) = ⊎_elim (λ a. inl (inr a)) inr (in_either xs ys x is)
+in_either (z ∷ xs) ys x (inr fact) = ⊎_elim (λ a. inl (inr a)) inr (in_either xs ys x fact)
 
 pub among_in : {X : Type 0} (xs : List X) (x : X) → Among x xs → In x xs
-among_in [] x is = absurd is
+among_in [] x fact = absurd fact
 among_in (y ∷ xs) x (inl e) = inl e
-among_in (y ∷ xs) x (inr is) = inr (among_in xs x is)
+among_in (y ∷ xs) x (inr fact) = inr (among_in xs x fact)
 
 pub named : (chain : List Segment) (t : Segment) → In t chain → In t.name (names_of chain)
-named [] t is = absurd is
+named [] t fact = absurd fact
 named (s ∷ chain) t (inl e) = inl (ap (λ (z : Segment). z.name) e)
-named (s ∷ chain) t (inr is) = inr (named chain t is)
+named (s ∷ chain) t (inr fact) = inr (named chain t fact)
 
 pub its_segment : (chain : List Segment) (name : SegName) → In name (names_of chain) → (t : Segment) × In t chain × (t.name ≡ name)
-its_segment [] name is = absurd is
+its_segment [] name fact = absurd fact
 its_segment (s ∷ chain) name (inl e) = (s, inl refl, sym e)
-its_segment (s ∷ chain) name (inr is) = (let t = its_segment chain name is in (t.0, inr t.1, t.2))
+its_segment (s ∷ chain) name (inr fact) = (let t = its_segment chain name fact in (t.0, inr t.1, t.2))
 
 -- what holds of each segment holds of all
 pub all_so : {P : Segment → Type 0} (chain : List Segment) → ((t : Segment) → In t chain → P t) → AllByRecursion P chain
 all_so [] each = tt
-all_so (s ∷ chain) each = (each s (inl refl), all_so chain (λ t is. each t (inr is)))
+all_so (s ∷ chain) each = (each s (inl refl), all_so chain (λ t fact. each t (inr fact)))
 
 -- ---- numbers
 
@@ -112,11 +112,11 @@ right false b t = t
 pub found : (chain : List Segment) (f : FlightState) (t : Segment) → In t chain → t.name.seq ≡ f.segment.name.seq
     → t.name.pass.inc ≡ f.segment.name.pass.inc
     → holds_flight (names_in chain) (flight_of (Some f)) ≡ true
-found [] f t is seq boot = absurd is
+found [] f t fact seq boot = absurd fact
 found (s ∷ chain) f t (inl e) seq boot =
     left ((s.name.seq == f.segment.name.seq) && (s.name.pass.inc == f.segment.name.pass.inc)) _
     (both (s.name.seq == f.segment.name.seq) (s.name.pass.inc == f.segment.name.pass.inc)
     (same s.name.seq f.segment.name.seq (ap (λ (z : Segment). z.name.seq) (sym e) ∙ seq))
     (same s.name.pass.inc f.segment.name.pass.inc (ap (λ (z : Segment). z.name.pass.inc) (sym e) ∙ boot)))
-found (s ∷ chain) f t (inr is) seq boot =
-    right ((s.name.seq == f.segment.name.seq) && (s.name.pass.inc == f.segment.name.pass.inc)) _ (found chain f t is seq boot)
+found (s ∷ chain) f t (inr fact) seq boot =
+    right ((s.name.seq == f.segment.name.seq) && (s.name.pass.inc == f.segment.name.pass.inc)) _ (found chain f t fact seq boot)

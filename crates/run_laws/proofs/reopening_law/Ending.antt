@@ -112,21 +112,21 @@ module _ (g : Setting) where
 
   -- a scan doesn't come to serve by it
   scan_not : (n o : Net) → Happens g n o → (s : ScanState) → n.owner ≡ Scans s → is_serving o.owner ≡ true → ⊥
-  scan_not n o (Acts t i is came texts) s scans serves = absurd cc
-  scan_not n o (Writes chain t i is came texts) s scans serves = absurd cc
-  scan_not n o (Opens t i is came can) s scans serves =
+  scan_not n o (Acts t i fact came texts) s scans serves = absurd cc
+  scan_not n o (Writes chain t i fact came texts) s scans serves = absurd cc
+  scan_not n o (Opens t i fact came can) s scans serves =
       contrary (sym (told_not n t (scan.transition t i) (chain_in (scan.transition t i).outs) (scan.transition t i).state.opening.groups) ∙ serves)
   scan_not n o Crashes s scans serves = contrary serves
-  scan_not n o (Restarts is) s scans serves = contrary serves
-  scan_not n o (Renews m high doubts is came) s scans serves = absurd cc
+  scan_not n o (Restarts fact) s scans serves = contrary serves
+  scan_not n o (Renews m high doubts fact came) s scans serves = absurd cc
   scan_not n o (Serves v deed some came) s scans serves = contrary (sym (ap is_serving scans) ∙ serves)
   scan_not n o (Bars v l pass) s scans serves = contrary (sym (ap is_serving scans) ∙ serves)
   scan_not n o (Lists v) s scans serves = contrary (sym (ap is_serving scans) ∙ serves)
   scan_not n o (Hears v generation up reached) s scans serves = contrary (sym (ap is_serving scans) ∙ serves)
-  scan_not n o (Raises low name up is below) s scans serves = contrary (sym (ap is_serving scans) ∙ serves)
+  scan_not n o (Raises low name up fact below) s scans serves = contrary (sym (ap is_serving scans) ∙ serves)
   scan_not n o (Publishes m whole) s scans serves = contrary (sym (ap is_serving scans) ∙ serves)
-  scan_not n o (Welcomes inc ask news m is least whole) s scans serves = contrary (sym (ap is_serving scans) ∙ serves)
-  scan_not n o (Drops lists meta is listed below) s scans serves = contrary (sym (ap is_serving scans) ∙ serves)
+  scan_not n o (Welcomes inc ask news m fact least whole) s scans serves = contrary (sym (ap is_serving scans) ∙ serves)
+  scan_not n o (Drops lists meta fact listed below) s scans serves = contrary (sym (ap is_serving scans) ∙ serves)
 
   -- where at most one thing happens, and the owner comes to serve, it is that one
   record OneThing (n o : Net) (runs : Runs g n o) : Type 0 where
@@ -145,16 +145,16 @@ module _ (g : Setting) where
 
     ends_at : (at : Stage) → o.stage ≡ at → SeesStage g c w o.known last at → ((s : Settling) → at ≡ stage.Settling s → r.chain ≡ names_in s.chain)
         → EndsByOne g w v runs o r
-    ends_at (stage.Scanning s) is sees chain =
+    ends_at (stage.Scanning s) fact sees chain =
         let away : is_serving w.net.owner ≡ false = ap is_serving sees.owner in
         let t : OneThing w.net v.net runs = one_thing w.net v.net runs (straight.once away serves) away serves in
         absurd (scan_not w.net v.net t.happens s.scan sees.owner serves)
-    ends_at (stage.Settling s) is sees chain =
+    ends_at (stage.Settling s) fact sees chain =
         let away : is_serving w.net.owner ≡ false = ap is_serving sees.owner in
         let t : OneThing w.net v.net runs = one_thing w.net v.net runs (straight.once away serves) away serves in
         record {
           settling = s;
-          settles = is;
+          settles = fact;
           happens = t.happens;
           one = t.one;
           writes = sees.owner;
@@ -190,11 +190,11 @@ pub openings_end_by_one : OpeningsEndByOne
 openings_end_by_one g c o q = (
   λ p. ends_so g c o (on_packet o q p).progress (
     λ waits. packet_empty o q p waits,
-    λ s is. subst (λ (at : Stage). HasChain s.chain (on_packet (record o { stage = at }) q p).progress) (sym is) (packet_chain q s o p),
+    λ s fact. subst (λ (at : Stage). HasChain s.chain (on_packet (record o { stage = at }) q p).progress) (sym fact) (packet_chain q s o p),
   ),
   ends_so g c o (on_tick o q).progress (
     λ waits. tick_empty o q waits,
-    λ s is. subst (λ (at : Stage). HasChain s.chain (on_tick (record o { stage = at }) q).progress) (sym is) (tick_chain q s o),
+    λ s fact. subst (λ (at : Stage). HasChain s.chain (on_tick (record o { stage = at }) q).progress) (sym fact) (tick_chain q s o),
   ),
 )
 

@@ -11,7 +11,7 @@ use Rattle.client_node.specs.Phases.{Went_to, after_opening, begins_item, client
 use Rattle.client_parts.specs.Crash.{flight_of}
 use Rattle.client_parts.specs.declared.lasting.Lasting.{Lasting}
 use Rattle.client_parts.specs.Lasting.{next_life}
-use Rattle.client_serving.specs.Crash.{falls, fall_of}
+use Rattle.client_node.specs.Crash.{falls, fall_of}
 use Rattle.client_serving.specs.declared.serving.Serving.{Serving}
 use Rattle.log_flight.specs.Flights.{FlightState}
 use Rattle.log_owner.proofs.Behaving as behaving

@@ -41,7 +41,7 @@ seen_flew k l s seen = record { flying = seen.flying; next = next s.flight seen.
 
 pub flights_of_owners : FlightsOfOwners
 flights_of_owners g first n run s serves k l seen =
-    (let is = served_last g first n run s serves in record { flying = is; books = subst (LastFlew k l) (sym is) (seen_flew k l s seen) })
+    (let fact = served_last g first n run s serves in record { flying = fact; books = subst (LastFlew k l) (sym fact) (seen_flew k l s seen) })
 
 -- ---- while it doesn't
 
@@ -90,14 +90,14 @@ module _ (g : Setting) where
   writing_comes : (n : Net) (chain : List Segment) (d : log.Done) (s : LogState) (x : Option FlightState) → n.owner ≡ Writing chain s
       → Comes n (after_flight g n chain d x)
   unfolding progress
-  writing_comes n chain d s None is = record { inc = omega arith; far = λ e. (let a = ap progress is in omega arith) }
-  writing_comes n chain d s (Some f) is = record { inc = omega arith; far = λ e. (let a = ap progress is in omega arith) }
+  writing_comes n chain d s None fact = record { inc = omega arith; far = λ e. (let a = ap progress fact in omega arith) }
+  writing_comes n chain d s (Some f) fact = record { inc = omega arith; far = λ e. (let a = ap progress fact in omega arith) }
 
   scan_comes : (n : Net) (s : ScanState) (d : scan.Done) (t : Option Told) (m : Option GroupMapState) → n.owner ≡ Opening s → Comes n (after_told g n s d t m)
   unfolding progress
-  scan_comes n s d None m is = record { inc = omega arith; far = λ e. (let a = ap progress is in omega arith) }
-  scan_comes n s d (Some t) None is = record { inc = omega arith; far = λ e. (let a = ap progress is in omega arith) }
-  scan_comes n s d (Some t) (Some m) is = record { inc = omega arith; far = λ e. (let a = ap progress is in omega arith) }
+  scan_comes n s d None m fact = record { inc = omega arith; far = λ e. (let a = ap progress fact in omega arith) }
+  scan_comes n s d (Some t) None fact = record { inc = omega arith; far = λ e. (let a = ap progress fact in omega arith) }
+  scan_comes n s d (Some t) (Some m) fact = record { inc = omega arith; far = λ e. (let a = ap progress fact in omega arith) }
 
   crash_far : (x : Owner) → progress x ≤ 3
   unfolding progress
@@ -111,21 +111,21 @@ module _ (g : Setting) where
 
   comes : (n o : Net) → Happens g n o → Comes n o
   unfolding progress
-  comes n o (Acts s i is came texts) = record { inc = omega arith; far = λ e. (let a = ap progress is in omega arith) }
-  comes n o (Writes chain s i is came texts) = writing_comes n chain (log.transition s i) s (log.transition s i).state.flight is
-  comes n o (Opens s i is came can) =
-      scan_comes n s (scan.transition s i) (chain_in (scan.transition s i).outs) (scan.transition s i).state.opening.groups is
+  comes n o (Acts s i fact came texts) = record { inc = omega arith; far = λ e. (let a = ap progress fact in omega arith) }
+  comes n o (Writes chain s i fact came texts) = writing_comes n chain (log.transition s i) s (log.transition s i).state.flight fact
+  comes n o (Opens s i fact came can) =
+      scan_comes n s (scan.transition s i) (chain_in (scan.transition s i).outs) (scan.transition s i).state.opening.groups fact
   comes n o Crashes = record { inc = omega arith; far = λ e. crash_far n.owner }
-  comes n o (Restarts is) = record { inc = omega arith; far = λ e. absurd (later n.inc e) }
-  comes n o (Renews m high doubts is came) = record { inc = omega arith; far = λ e. absurd (later n.inc e) }
+  comes n o (Restarts fact) = record { inc = omega arith; far = λ e. absurd (later n.inc e) }
+  comes n o (Renews m high doubts fact came) = record { inc = omega arith; far = λ e. absurd (later n.inc e) }
   comes n o (Serves v deed some came) = same_comes n o refl refl
   comes n o (Bars v l pass) = same_comes n o refl refl
   comes n o (Lists v) = same_comes n o refl refl
   comes n o (Hears v generation up reached) = same_comes n o refl refl
-  comes n o (Raises low name up is below) = same_comes n o refl refl
+  comes n o (Raises low name up fact below) = same_comes n o refl refl
   comes n o (Publishes m whole) = same_comes n o refl refl
-  comes n o (Welcomes inc ask news m is least whole) = same_comes n o refl refl
-  comes n o (Drops lists meta is listed below) = same_comes n o refl refl
+  comes n o (Welcomes inc ask news m fact least whole) = same_comes n o refl refl
+  comes n o (Drops lists meta fact listed below) = same_comes n o refl refl
 
   goes_comes : (n o : Net) → Runs g n o → Comes n o
   goes_comes n o Begun = record { inc = omega arith; far = λ e. omega arith }

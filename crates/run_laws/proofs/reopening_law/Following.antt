@@ -58,7 +58,7 @@ module _ (k : Below) (g : Setting) (n o : Net) (chain : List Segment) (s r : Log
 
   -- all that is filed then is no further than the end
   filed_upto : (name : SegName) → In name o.filed → name.seq ≤ r.end.seq
-  filed_upto name is = (then.last k g n o chain s r e).last name is
+  filed_upto name fact = (then.last k g n o chain s r e).last name fact
 
   -- the log's last filed segment is one of those
   pub head_upto : f.head l ≤ r.end.seq
@@ -87,9 +87,9 @@ module _ (k : Below) (g : Setting) (n o : Net) (chain : List Segment) (s r : Log
 
   -- so it goes on to the end, with some more segments
   pub more : (adopted : Bool) → has_flight e ≡ adopted → (reopened b l adopted).end l ≤ r.end.seq
-  more false is = (let a = head_upto in let c = h.books.end in omega arith)
-  more true is =
-      let x = has chain flight is in
+  more false fact = (let a = head_upto in let c = h.books.end in omega arith)
+  more true fact =
+      let x = has chain flight fact in
       let a = adopts x in
       let c = filed_upto x.holds.segment.name (then.chain_filed k g n o chain s r e x.holds.segment x.holds.among) in
       let d = a.seq in
@@ -100,8 +100,8 @@ module _ (k : Below) (g : Setting) (n o : Net) (chain : List Segment) (s r : Log
 
   pub opens_at : (adopted : Bool) → has_flight e ≡ adopted
       → r.end.seq ≡ (with_empty (r.end.seq - (reopened b l adopted).end l) (reopened b l adopted) l).end l
-  opens_at adopted is =
-      (let a = more adopted is in let c = empty_end (r.end.seq - (reopened b l adopted).end l) (reopened b l adopted) l in omega arith)
+  opens_at adopted fact =
+      (let a = more adopted fact in let c = empty_end (r.end.seq - (reopened b l adopted).end l) (reopened b l adopted) l in omega arith)
 
   -- ---- what is filed
 
@@ -149,7 +149,7 @@ module _ (k : Below) (g : Setting) (n o : Net) (chain : List Segment) (s r : Log
       tells = by (k.only g n o e.sure e.moment e.happens e.calm (then.ends k g n o chain s r e) it.name (now.filed q some within))
         where
           same : (t : Segment) → In t o.flown → t.name ≡ it.name → t ≡ it
-          same t is named = (then.text k g n o chain s r e).one t it (then.flown_then k g n o chain s r e t is) flew named
+          same t fact named = (then.text k g n o chain s r e).one t it (then.flown_then k g n o chain s r e t fact) flew named
 
           nothing : g.content it.items ≡ 0 → it.items ≡ []
           nothing none = e.apart it.items [] (none ∙ sym g.no_content)
@@ -167,7 +167,7 @@ module _ (k : Below) (g : Setting) (n o : Net) (chain : List Segment) (s r : Log
           by_name : (x : FlightState) → flight ≡ Some x → IsAttemptOf g x it
               → In it.name (log_filed g.log (log.transition s (then.by k g n o chain s r e).input).outs) ⊎ In it.name (names_of chain ++ n.filed)
               → it.items ≡ []
-          by_name x is attempt (inl opening) =
+          by_name x fact attempt (inl opening) =
               let z = landed s (then.by k g n o chain s r e).input g.log (log.transition s (then.by k g n o chain s r e).input).outs
               (k.due s (then.by k g n o chain s r e).input) it.name opening in
               let named : z.0.segment.name ≡ it.name =
@@ -175,11 +175,11 @@ module _ (k : Below) (g : Setting) (n o : Net) (chain : List Segment) (s r : Log
               ap (λ (t : Segment). t.items)
               (sym ((then.text k g n o chain s r e).one z.0.segment it (then.opening_flew k g n o chain s r e z.0 z.1) flew named))
               ∙ e.empty z.0 z.1
-          by_name x is attempt (inr read) = ⊎_elim
+          by_name x fact attempt (inr read) = ⊎_elim
               (λ in_chain.
               let t = its_segment chain it.name in_chain in
               contrary
-              (sym none ∙ subst (λ y. holds_flight (names_in chain) (flight_of y) ≡ true) (sym is)
+              (sym none ∙ subst (λ y. holds_flight (names_in chain) (flight_of y) ≡ true) (sym fact)
               (found chain x t.0 t.1 (ap (λ (z : SegName). z.seq) t.2 ∙ attempt.seq) (ap (λ (z : SegName). z.pass.inc) t.2 ∙ attempt.boot))))
               (λ was. absurd (is_new was)) (in_either (names_of chain) n.filed it.name read)
 
@@ -196,7 +196,7 @@ module _ (k : Below) (g : Setting) (n o : Net) (chain : List Segment) (s r : Log
           number = now.seq q some within ∙ (next ∙ sym (adopts x).seq)
 
           is_it : (t : Segment) → In t n.flown → In t.name o.filed → t.name.seq ≡ x.it.segment.name.seq → t ≡ it
-          is_it t is filed seq = then.one k g n o chain s r e t it is flew filed (now.filed q some within) (seq ∙ sym number)
+          is_it t fact filed seq = then.one k g n o chain s r e t it fact flew filed (now.filed q some within) (seq ∙ sym number)
 
           tail : IsTailAdopted g o x.it → it.items ≡ x.it.segment.items
           tail t =
@@ -223,7 +223,7 @@ module _ (k : Below) (g : Setting) (n o : Net) (chain : List Segment) (s r : Log
               one_flight : (z : Option FlightState) (p q : FlightState) → z ≡ Some p → z ≡ Some q → p ≡ q
               one_flight z p q a b = cc
 
-    module _ (count : ℕ) (adopted_is : Bool) (is : has_flight e ≡ adopted_is)
+    module _ (count : ℕ) (adopted_is : Bool) (fact : has_flight e ≡ adopted_is)
         (end : (with_empty count (reopened b l adopted_is) l).end l ≡ r.end.seq) where
       abbrev after : Books
       after = with_empty count (reopened b l adopted_is) l
@@ -265,7 +265,7 @@ module _ (k : Below) (g : Setting) (n o : Net) (chain : List Segment) (s r : Log
               empty_keeps count (reopened b l adopted_is) l q (let a = reopened_rises b l adopted_is in let c = h.books.end in omega arith)
               ∙ (reopened_keeps b l adopted_is q (let c = h.books.end in omega arith)
               ∙ (h.books.rows q some upto ∙ ap (λ (z : Segment). rows_told z.items) (old q some upto within)))
-          by false t = by_flight (is_not q (f.head l) t) adopted_is is refl
+          by false t = by_flight (is_not q (f.head l) t) adopted_is fact refl
 
       pub follows : BooksAfter after l later
       follows = record {
@@ -279,41 +279,41 @@ books_follow k g n o chain s r e b l f h later now count end = follows k g n o c
 -- ---- what tokens are owed
 
 module _ (k : Below) (g : Setting) (n o : Net) (chain : List Segment) (s r : LogState) (e : Reopens g n o chain s r) (b : Books) (l : ℕ) (f : Filed)
-    (h : BooksThen e b l f) (opened : Opened) (is : IsOpened chain r opened) where
+    (h : BooksThen e b l f) (opened : Opened) (fact : IsOpened chain r opened) where
   -- how many segments are behind the end that the books come to
   abbrev pub count : Bool → ℕ
   count adopted = r.end.seq - (reopened b l adopted).end l
 
   pub its_end : (adopted : Bool) → has_flight e ≡ adopted → opened.log.end.seq ≡ (with_empty (count adopted) (reopened b l adopted) l).end l
-  its_end adopted has_it = ap (λ (z : LogState). z.end.seq) is.log ∙ opens_at k g n o chain s r e b l f h adopted has_it
+  its_end adopted has_it = ap (λ (z : LogState). z.end.seq) fact.log ∙ opens_at k g n o chain s r e b l f h adopted has_it
 
   pub its_flight : has_flight e ≡ true → b.flying l ≡ true
   its_flight has_it = (adopts k g n o chain s r e b l f h (has chain (last_flight e.moment.run) has_it)).flying
 
   pub waits : opened.log.dirty ≡ []
-  waits = ap (λ (z : LogState). z.dirty) is.log ∙ is.nothing_waits
+  waits = ap (λ (z : LogState). z.dirty) fact.log ∙ fact.nothing_waits
 
   pub flies : opened.log.flight ≡ None
-  flies = ap (λ (z : LogState). z.flight) is.log ∙ is.nothing_flies
+  flies = ap (λ (z : LogState). z.flight) fact.log ∙ fact.nothing_flies
 
 pub clients_reopen_so : Below → ClientsReopenSo
-clients_reopen_so k g n o chain s r e b c f h opened is acts fell = record {
-  count = count k g n o chain s r e b c f h opened is (owned.adopts acts c opened.chain);
-  end = its_end k g n o chain s r e b c f h opened is (owned.adopts acts c opened.chain) same;
-  adopted = λ adopted. its_flight k g n o chain s r e b c f h opened is (same ∙ adopted);
-  nothing_waits = waits k g n o chain s r e b c f h opened is;
-  nothing_flies = flies k g n o chain s r e b c f h opened is;
+clients_reopen_so k g n o chain s r e b c f h opened fact acts fell = record {
+  count = count k g n o chain s r e b c f h opened fact (owned.adopts acts c opened.chain);
+  end = its_end k g n o chain s r e b c f h opened fact (owned.adopts acts c opened.chain) same;
+  adopted = λ adopted. its_flight k g n o chain s r e b c f h opened fact (same ∙ adopted);
+  nothing_waits = waits k g n o chain s r e b c f h opened fact;
+  nothing_flies = flies k g n o chain s r e b c f h opened fact;
 }
   where
     same : has_flight e ≡ owned.adopts acts c opened.chain
     same = ap (holds_flight (names_in chain)) (sym fell.with_flight)
-        ∙ (ap (λ names. holds_flight names fell.fall.flight) (sym is.chain_is) ∙ ap (is_adopted opened.chain) (sym fell.waits))
+        ∙ (ap (λ names. holds_flight names fell.fall.flight) (sym fact.chain_is) ∙ ap (is_adopted opened.chain) (sym fell.waits))
 
 pub the_cleaner_reopens_so : Below → TheCleanerReopensSo
-the_cleaner_reopens_so k g n o chain s r e b f h opened is = record {
-  count = count k g n o chain s r e b its_log f h opened is (has_flight e);
-  end = its_end k g n o chain s r e b its_log f h opened is (has_flight e) refl;
-  flies = its_flight k g n o chain s r e b its_log f h opened is;
-  nothing_waits = waits k g n o chain s r e b its_log f h opened is;
-  nothing_flies = flies k g n o chain s r e b its_log f h opened is;
+the_cleaner_reopens_so k g n o chain s r e b f h opened fact = record {
+  count = count k g n o chain s r e b its_log f h opened fact (has_flight e);
+  end = its_end k g n o chain s r e b its_log f h opened fact (has_flight e) refl;
+  flies = its_flight k g n o chain s r e b its_log f h opened fact;
+  nothing_waits = waits k g n o chain s r e b its_log f h opened fact;
+  nothing_flies = flies k g n o chain s r e b its_log f h opened fact;
 }

@@ -30,8 +30,8 @@ module _ (k : Below) (g : Setting) (n o : Net) (chain : List Segment) (s r : Log
   to = (let a = short s.end.seq chain reaches.numbers in omega arith)
 
   its_place : (t : Segment) → Among t chain → low ≤ t.name.seq → t.name.seq ≤ f.head l → t ≡ f.segment l t.name.seq
-  its_place t is from upto =
-      let in_chain = among_in chain t is in
+  its_place t fact from upto =
+      let in_chain = among_in chain t fact in
       let some : 0 < t.name.seq = (let a = reaches.some in omega arith) in
       let seq = filed.seq t.name.seq some upto in
       reopened.one k g n o chain s r e t (f.segment l t.name.seq) (reopened.chain_flew k g n o chain s r e t in_chain) (filed.flew t.name.seq some upto)
@@ -48,8 +48,8 @@ module _ (k : Below) (g : Setting) (n o : Net) (chain : List Segment) (s r : Log
     horizon = horizon;
     reaches = reopened.head_before k g n o chain s r e l f filed;
     filed = its_place;
-    named = all_so chain (λ t is. sym (there.texts_are t (reopened.chain_flew k g n o chain s r e t is)));
-    fits = all_so chain (λ t is. there.fit t (reopened.chain_flew k g n o chain s r e t is));
+    named = all_so chain (λ t fact. sym (there.texts_are t (reopened.chain_flew k g n o chain s r e t fact)));
+    fits = all_so chain (λ t fact. there.fit t (reopened.chain_flew k g n o chain s r e t fact));
   }
 
 pub reopenings_read_back : Below → ReopeningsReadBack

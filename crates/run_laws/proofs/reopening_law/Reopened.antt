@@ -45,7 +45,7 @@ module _ (k : Below) (g : Setting) (n o : Net) (chain : List Segment) (s r : Log
   flew = subst (OwnerFlew n.flown) e.writes (k.held g n e.moment)
 
   pub chain_flew : (t : Segment) → In t chain → In t n.flown
-  chain_flew t is = flew.read t is
+  chain_flew t fact = flew.read t fact
 
   pub opening_flew : (f : FlightState) → s.flight ≡ Some f → In f.segment n.flown
   opening_flew f flies = subst (λ (x : Option FlightState). IfSome x (λ z. In z.segment n.flown)) flies flew.flight
@@ -54,14 +54,14 @@ module _ (k : Below) (g : Setting) (n o : Net) (chain : List Segment) (s r : Log
   outs = log_filed g.log (log.transition s by.input).outs
 
   pub was_filed : (name : SegName) → In name n.filed → In name o.filed
-  was_filed name is = subst (In name) (sym by.filed) (in_right outs (names_of chain ++ n.filed) name (in_right (names_of chain) n.filed name is))
+  was_filed name fact = subst (In name) (sym by.filed) (in_right outs (names_of chain ++ n.filed) name (in_right (names_of chain) n.filed name fact))
 
   pub chain_filed : (t : Segment) → In t chain → In t.name o.filed
-  chain_filed t is =
-      subst (In t.name) (sym by.filed) (in_right outs (names_of chain ++ n.filed) t.name (in_left (names_of chain) n.filed t.name (named chain t is)))
+  chain_filed t fact =
+      subst (In t.name) (sym by.filed) (in_right outs (names_of chain ++ n.filed) t.name (in_left (names_of chain) n.filed t.name (named chain t fact)))
 
   pub flown_then : (t : Segment) → In t o.flown → In t n.flown
-  flown_then t is = subst (In t) by.flown is
+  flown_then t fact = subst (In t) by.flown fact
 
   -- two segments that were in flight, are filed then, and have one number are one
   pub one : (a b : Segment) → In a n.flown → In b n.flown → In a.name o.filed → In b.name o.filed → a.name.seq ≡ b.name.seq → a ≡ b

@@ -66,24 +66,24 @@ module _ (g : Setting) where
 
   pub ends_by : (n o : Net) (happens : Happens g n o) (chain : List Segment) (s r : LogState) → n.owner ≡ Writing chain s → o.owner ≡ Serving r
       → EndsBy g n o chain s r
-  ends_by n o (Writes c t i is came texts) chain s r writes serves =
-      let same_chain = one_chain n.owner c chain t s is writes in
-      let same_log = one_log n.owner c chain t s is writes in
+  ends_by n o (Writes c t i fact came texts) chain s r writes serves =
+      let same_chain = one_chain n.owner c chain t s fact writes in
+      let same_log = one_log n.owner c chain t s fact writes in
       subst (λ z. EndsBy g n (after_writing g n c (log.transition t i)) z s r) same_chain
       (subst (λ z. EndsBy g n (after_writing g n c (log.transition t i)) c z r) same_log (by_writing n c t r i serves))
-  ends_by n o (Acts t i is came texts) chain s r writes serves = contrary (sym (ap is_writing is) ∙ ap is_writing writes)
-  ends_by n o (Opens t i is came can) chain s r writes serves = contrary (sym (ap is_writing is) ∙ ap is_writing writes)
+  ends_by n o (Acts t i fact came texts) chain s r writes serves = contrary (sym (ap is_writing fact) ∙ ap is_writing writes)
+  ends_by n o (Opens t i fact came can) chain s r writes serves = contrary (sym (ap is_writing fact) ∙ ap is_writing writes)
   ends_by n o Crashes chain s r writes serves = contrary (ap is_serving serves)
-  ends_by n o (Restarts is) chain s r writes serves = contrary (ap is_serving serves)
-  ends_by n o (Renews m high doubts is came) chain s r writes serves = contrary (sym (ap is_writing is) ∙ ap is_writing writes)
+  ends_by n o (Restarts fact) chain s r writes serves = contrary (ap is_serving serves)
+  ends_by n o (Renews m high doubts fact came) chain s r writes serves = contrary (sym (ap is_writing fact) ∙ ap is_writing writes)
   ends_by n o (Serves v deed some came) chain s r writes serves = contrary (sym (ap is_serving writes) ∙ ap is_serving serves)
   ends_by n o (Bars v l pass) chain s r writes serves = contrary (sym (ap is_serving writes) ∙ ap is_serving serves)
   ends_by n o (Lists v) chain s r writes serves = contrary (sym (ap is_serving writes) ∙ ap is_serving serves)
   ends_by n o (Hears v generation up reached) chain s r writes serves = contrary (sym (ap is_serving writes) ∙ ap is_serving serves)
-  ends_by n o (Raises low highest up is below) chain s r writes serves = contrary (sym (ap is_serving writes) ∙ ap is_serving serves)
+  ends_by n o (Raises low highest up fact below) chain s r writes serves = contrary (sym (ap is_serving writes) ∙ ap is_serving serves)
   ends_by n o (Publishes m whole) chain s r writes serves = contrary (sym (ap is_serving writes) ∙ ap is_serving serves)
-  ends_by n o (Welcomes inc ask news m is least whole) chain s r writes serves = contrary (sym (ap is_serving writes) ∙ ap is_serving serves)
-  ends_by n o (Drops lists meta is listed below) chain s r writes serves = contrary (sym (ap is_serving writes) ∙ ap is_serving serves)
+  ends_by n o (Welcomes inc ask news m fact least whole) chain s r writes serves = contrary (sym (ap is_serving writes) ∙ ap is_serving serves)
+  ends_by n o (Drops lists meta fact listed below) chain s r writes serves = contrary (sym (ap is_serving writes) ∙ ap is_serving serves)
 
 -- what a log files by an input was in flight
 pub landed : (s : LogState) (i : Input) (l : LogId) (outs : List Out) → AllByRecursion (TellsWhatIsDue s i) outs → (name : SegName) → In name (log_filed l outs)
@@ -108,35 +108,35 @@ module _ (g : Setting) where
   writing_reached : (n : Net) (chain : List Segment) (d : log.Done) (x : Option FlightState) → IsReached n → IsReached (after_flight g n chain d x)
   writing_reached n chain d None h =
       still_reached n (after_flight g n chain d None) refl
-      (λ name is. in_right (log_filed g.log d.outs) (names_of chain ++ n.filed) name (in_right (names_of chain) n.filed name is)) h
+      (λ name fact. in_right (log_filed g.log d.outs) (names_of chain ++ n.filed) name (in_right (names_of chain) n.filed name fact)) h
   writing_reached n chain d (Some f) h =
-      still_reached n (after_flight g n chain d (Some f)) refl (λ name is. in_right (log_filed g.log d.outs) n.filed name is) h
+      still_reached n (after_flight g n chain d (Some f)) refl (λ name fact. in_right (log_filed g.log d.outs) n.filed name fact) h
 
   opening_reached : (n : Net) (s : ScanState) (d : scan.Done) (t : Option Told) (m : Option GroupMapState) → IsReached n
       → IsReached (after_told g n s d t m)
-  opening_reached n s d None m h = still_reached n (after_told g n s d None m) refl (λ name is. is) h
-  opening_reached n s d (Some t) None h = still_reached n (after_told g n s d (Some t) None) refl (λ name is. is) h
+  opening_reached n s d None m h = still_reached n (after_told g n s d None m) refl (λ name fact. fact) h
+  opening_reached n s d (Some t) None h = still_reached n (after_told g n s d (Some t) None) refl (λ name fact. fact) h
   opening_reached n s d (Some t) (Some m) h =
       still_reached n (after_told g n s d (Some t) (Some m)) refl
-      (λ name is. in_right (log_filed g.log (first_write g n.inc t.end m).outs) n.filed name is) h
+      (λ name fact. in_right (log_filed g.log (first_write g n.inc t.end m).outs) n.filed name fact) h
 
   reached_on : (n o : Net) → Happens g n o → IsReached n → IsReached o
-  reached_on n o (Acts s i is came texts) h =
+  reached_on n o (Acts s i fact came texts) h =
       still_reached n o refl (λ name among. in_right (log_filed g.log (log.transition s i).outs) n.filed name among) h
-  reached_on n o (Writes chain s i is came texts) h = writing_reached n chain (log.transition s i) (log.transition s i).state.flight h
-  reached_on n o (Opens s i is came can) h =
+  reached_on n o (Writes chain s i fact came texts) h = writing_reached n chain (log.transition s i) (log.transition s i).state.flight h
+  reached_on n o (Opens s i fact came can) h =
       opening_reached n s (scan.transition s i) (chain_in (scan.transition s i).outs) (scan.transition s i).state.opening.groups h
   reached_on n o Crashes h = h
-  reached_on n o (Restarts is) h = h
-  reached_on n o (Renews m high doubts is came) h = h
+  reached_on n o (Restarts fact) h = h
+  reached_on n o (Renews m high doubts fact came) h = h
   reached_on n o (Serves v deed some came) h = h
   reached_on n o (Bars v l pass) h = h
   reached_on n o (Lists v) h = h
   reached_on n o (Hears v generation up reached) h = h
-  reached_on n o (Raises low name up is below) h = inr (name, is, below)
+  reached_on n o (Raises low name up fact below) h = inr (name, fact, below)
   reached_on n o (Publishes m whole) h = h
-  reached_on n o (Welcomes inc ask news m is least whole) h = h
-  reached_on n o (Drops lists meta is listed below) h = h
+  reached_on n o (Welcomes inc ask news m fact least whole) h = h
+  reached_on n o (Drops lists meta fact listed below) h = h
 
   along : (n o : Net) → Runs g n o → IsReached n → IsReached o
   along n o Begun h = h

@@ -34,73 +34,73 @@ AreDrops n = (name : SegName) → In (DeleteSent name) n.sent → In name n.drop
 -- ---- what is sent
 
 in_both : {X : Type 0} (xs ys : List X) (x : X) → In x (xs ++ ys) → In x xs ⊎ In x ys
-in_both [] ys x is = inr is
+in_both [] ys x fact = inr fact
 in_both (y ∷ xs) ys x (inl e) = inl (inl e)
-in_both (y ∷ xs) ys x (inr is) = ⊎_elim (λ first. inl (inr first)) inr (in_both xs ys x is)
+in_both (y ∷ xs) ys x (inr fact) = ⊎_elim (λ first. inl (inr first)) inr (in_both xs ys x fact)
 
 by_log : (outs : List log_outs.Out) → DeletesNone (log_packets outs)
-by_log [] name is = is
+by_log [] name fact = fact
 by_log (log_out.Send f m ∷ os) name (inl e) = absurd cc
-by_log (log_out.Send f m ∷ os) name (inr is) = by_log os name is
-by_log (log_out.Settled end rows ∷ os) name is = by_log os name is
+by_log (log_out.Send f m ∷ os) name (inr fact) = by_log os name fact
+by_log (log_out.Settled end rows ∷ os) name fact = by_log os name fact
 
 by_scan : (inc : ℕ) (outs : List scan_outs.Out) → DeletesNone (scan_packets inc outs)
-by_scan inc [] name is = is
+by_scan inc [] name fact = fact
 by_scan inc (scan_out.Hello ask ∷ os) name (inl e) = absurd cc
-by_scan inc (scan_out.Hello ask ∷ os) name (inr is) = by_scan inc os name is
+by_scan inc (scan_out.Hello ask ∷ os) name (inr fact) = by_scan inc os name fact
 by_scan inc (scan_out.Fence server ∷ os) name (inl e) = absurd cc
-by_scan inc (scan_out.Fence server ∷ os) name (inr is) = by_scan inc os name is
-by_scan inc (scan_out.Fetch server wanted ask ∷ os) name is = by_scan inc os name is
-by_scan inc (scan_out.Chain segments end prior ∷ os) name is = by_scan inc os name is
-by_scan inc (scan_out.Lost lost ∷ os) name is = by_scan inc os name is
+by_scan inc (scan_out.Fence server ∷ os) name (inr fact) = by_scan inc os name fact
+by_scan inc (scan_out.Fetch server wanted ask ∷ os) name fact = by_scan inc os name fact
+by_scan inc (scan_out.Chain segments end prior ∷ os) name fact = by_scan inc os name fact
+by_scan inc (scan_out.Lost lost ∷ os) name fact = by_scan inc os name fact
 
 by_fragment : (o : Option Fragment) → DeletesNone (fragment_told o)
-by_fragment None name is = is
+by_fragment None name fact = fact
 by_fragment (Some f) name (inl e) = absurd cc
-by_fragment (Some f) name (inr is) = is
+by_fragment (Some f) name (inr fact) = fact
 
 none_is : DeletesNone []
-none_is name is = is
+none_is name fact = fact
 
 one_stored : (stored : SegName) (index generation : ℕ) → DeletesNone (StoredSent stored index generation ∷ [])
 one_stored stored index generation name (inl e) = absurd cc
-one_stored stored index generation name (inr is) = is
+one_stored stored index generation name (inr fact) = fact
 
 by_server : (g : Setting) (v : ℕ) (s : ShelfState) (deed : Deed) → DeletesNone (answers g v s deed)
-by_server g v s (Stores f generation) name is =
+by_server g v s (Stores f generation) name fact =
     by_test DeletesNone (is_of_log g f.meta.name && is_stored s f generation) (StoredSent f.meta.name f.meta.index generation ∷ []) []
-    (λ t. one_stored f.meta.name f.meta.index generation) (λ t. none_is) name is
-by_server g v s (Fetches wanted) name is =
-    by_test DeletesNone (is_of_log g wanted) (fragment_told (held_at s.held wanted)) [] (λ t. by_fragment (held_at s.held wanted)) (λ t. none_is) name is
+    (λ t. one_stored f.meta.name f.meta.index generation) (λ t. none_is) name fact
+by_server g v s (Fetches wanted) name fact =
+    by_test DeletesNone (is_of_log g wanted) (fragment_told (held_at s.held wanted)) [] (λ t. by_fragment (held_at s.held wanted)) (λ t. none_is) name fact
 by_server g v s (Fences inc) name (inl e) = absurd cc
-by_server g v s (Fences inc) name (inr is) = is
-by_server g v s (Deletes gone) name is = is
-by_server g v s (Fills f) name is = is
-by_server g v s Loses name is = is
+by_server g v s (Fences inc) name (inr fact) = fact
+by_server g v s (Deletes gone) name fact = fact
+by_server g v s (Fills f) name fact = fact
+by_server g v s Loses name fact = fact
 
 -- ---- what happens
 
 module _ (g : Setting) (n : Net) (so : AreDrops n) where
   -- what is sent anew stands before what was sent
   more_so : (more : List Packet) (name : SegName) → DeletesNone more → In (DeleteSent name) (more ++ n.sent) → In name n.dropped
-  more_so more name none is = ⊎_elim (λ first. absurd (none name first)) (so name) (in_both more n.sent (DeleteSent name) is)
+  more_so more name none fact = ⊎_elim (λ first. absurd (none name first)) (so name) (in_both more n.sent (DeleteSent name) fact)
 
   flight_so : (chain : List Segment) (d : log.Done) (o : Option FlightState) → AreDrops (after_flight g n chain d o)
-  flight_so chain d None name is = more_so (log_packets d.outs) name (by_log d.outs) is
-  flight_so chain d (Some f) name is = more_so (log_packets d.outs) name (by_log d.outs) is
+  flight_so chain d None name fact = more_so (log_packets d.outs) name (by_log d.outs) fact
+  flight_so chain d (Some f) name fact = more_so (log_packets d.outs) name (by_log d.outs) fact
 
   told_so : (s : ScanState) (d : scan.Done) (t : Option Told) (groups : Option GroupMapState) → AreDrops (after_told g n s d t groups)
-  told_so s d None groups name is = more_so (scan_packets n.inc d.outs) name (by_scan n.inc d.outs) is
-  told_so s d (Some t) None name is = more_so (scan_packets n.inc d.outs) name (by_scan n.inc d.outs) is
-  told_so s d (Some t) (Some m) name is =
+  told_so s d None groups name fact = more_so (scan_packets n.inc d.outs) name (by_scan n.inc d.outs) fact
+  told_so s d (Some t) None name fact = more_so (scan_packets n.inc d.outs) name (by_scan n.inc d.outs) fact
+  told_so s d (Some t) (Some m) name fact =
       let first = first_write g n.inc t.end m in
       ⊎_elim (λ here. absurd (by_log first.outs name here)) (more_so (scan_packets n.inc d.outs) name (by_scan n.inc d.outs))
-      (in_both (log_packets first.outs) (scan_packets n.inc d.outs ++ n.sent) (DeleteSent name) is)
+      (in_both (log_packets first.outs) (scan_packets n.inc d.outs ++ n.sent) (DeleteSent name) fact)
 
   happens_so : (o : Net) → Happens g n o → AreDrops o
-  happens_so o (Acts s i is came texts) name sent = more_so (log_packets (log.transition s i).outs) name (by_log (log.transition s i).outs) sent
-  happens_so o (Writes chain s i is came texts) name sent = flight_so chain (log.transition s i) (log.transition s i).state.flight name sent
-  happens_so o (Opens s i is came can) name sent =
+  happens_so o (Acts s i fact came texts) name sent = more_so (log_packets (log.transition s i).outs) name (by_log (log.transition s i).outs) sent
+  happens_so o (Writes chain s i fact came texts) name sent = flight_so chain (log.transition s i) (log.transition s i).state.flight name sent
+  happens_so o (Opens s i fact came can) name sent =
       told_so s (scan.transition s i) (chain_in (scan.transition s i).outs) (scan.transition s i).state.opening.groups name sent
   happens_so o Crashes name sent = so name sent
   happens_so o (Restarts down) name sent = so name sent
@@ -110,7 +110,7 @@ module _ (g : Setting) (n : Net) (so : AreDrops n) where
   happens_so o (Lists v) name (inl e) = absurd cc
   happens_so o (Lists v) name (inr sent) = so name sent
   happens_so o (Hears v generation past reached) name sent = so name sent
-  happens_so o (Raises low highest past is below) name sent = so name sent
+  happens_so o (Raises low highest past fact below) name sent = so name sent
   happens_so o (Publishes map whole) name (inl e) = absurd cc
   happens_so o (Publishes map whole) name (inr sent) = so name sent
   happens_so o (Welcomes inc ask news map hello low whole) name (inl e) = absurd cc
@@ -123,4 +123,4 @@ runs_so g n o Begun so = so
 runs_so g n o (On {m = m} run happens) so = happens_so g m (runs_so g n m run so) o happens
 
 pub deletes_are_drops : (g : Setting) (n : Net) → Moment g n → (name : SegName) → In (DeleteSent name) n.sent → In name n.dropped
-deletes_are_drops g n m = runs_so g (opening g m.map) n m.run (λ name is. is)
+deletes_are_drops g n m = runs_so g (opening g m.map) n m.run (λ name fact. fact)

@@ -73,27 +73,27 @@ module _ (b : Below) (base : Setting) (e : Estate AnyNode) (r : Role) (is_there 
 
   said : (count : ℕ) (packet : Packet) (m : Body) → WasSent (moment e count).sent packet → packet.body ≡ m
       → BodySeen g (asker_by r (line.at count)) (small count) packet.from packet.to m
-  said count packet m was is =
-      subst (BodySeen g (asker_by r (line.at count)) (small count) packet.from packet.to) is
+  said count packet m was fact =
+      subst (BodySeen g (asker_by r (line.at count)) (small count) packet.from packet.to) fact
       ((line.stands count).facts packet (was_sent (moment e count).sent packet was))
 
   said_to : (count : ℕ) (packet : Packet) (m : Body) (to : NodeId) → WasSent (moment e count).sent packet → packet.to ≡ to → packet.body ≡ m
       → BodySeen g (asker_by r (line.at count)) (small count) packet.from to m
-  said_to count packet m to was at is = subst (λ t. BodySeen g (asker_by r (line.at count)) (small count) packet.from t m) at (said count packet m was is)
+  said_to count packet m to was at fact = subst (λ t. BodySeen g (asker_by r (line.at count)) (small count) packet.from t m) at (said count packet m was fact)
 
   of_log : (name : SegName) → name.log ≡ g.log → is_of_log g name ≡ true
   of_log name own = subst (λ (l : LogId). (l.0 == g.log.0) ≡ true) (sym own) (itself g.log.0)
 
   held_there : (count v : ℕ) (shelf : ShelfState) → shelf_at (moment e count) v ≡ Some shelf → (small count).shelves v ≡ shelf
-  held_there count v shelf is = subst (ShelfIs g (line.at count) v) is (shelf_is base e r is_there keeps line count v)
+  held_there count v shelf fact = subst (ShelfIs g (line.at count) v) fact (shelf_is base e r is_there keeps line count v)
 
   -- what isn't dropped was deleted by no one
   not_deleted : (count : ℕ) (name : SegName) → name.log ≡ g.log → (tables.In name (small count).dropped → ⊥) → NotDeleted (moment e count) name
-  not_deleted count name own kept packet m was is named =
+  not_deleted count name own kept packet m was fact named =
       kept
       (subst (λ n. tables.In n (small count).dropped) named
       (deletes_are_drops g (small count) (moment_at count) m.name
-      (said count packet (body.Delete m) was is (subst (λ n. is_of_log g n ≡ true) (sym named) (of_log name own)))))
+      (said count packet (body.Delete m) was fact (subst (λ n. is_of_log g n ≡ true) (sym named) (of_log name own)))))
 
   lacked_or_lost : (at : ℕ) (name : SegName) (v : ℕ) → LacksOrLoses (small at) (small (suc at)) name v
       → nodes.Lacks (shelf_at (moment e at) v) name ⊎ LostDisk (shelf_at (moment e at) v) (shelf_at (moment e (suc at)) v)
@@ -122,8 +122,8 @@ module _ (b : Below) (base : Setting) (e : Estate AnyNode) (r : Role) (is_there 
     one = b.text g (small k) (moment_at k)
 
     one_at_last : (t : Segment) → tables.In t (small k).flown → t.name ≡ segment.name → t ≡ segment
-    one_at_last t is same =
-        (b.text g (small count) (moment_at count)).one t segment ((grows base e r line k count within).flown t is) flown same
+    one_at_last t fact same =
+        (b.text g (small count) (moment_at count)).one t segment ((grows base e r line k count within).flown t fact) flown same
 
     its_log : segment.name.log ≡ g.log
     its_log = b.own g (small count) (moment_at count) segment flown
@@ -134,7 +134,7 @@ module _ (b : Below) (base : Setting) (e : Estate AnyNode) (r : Role) (is_there 
     -- a fragment of a segment of this name is one of this segment
     of_it : (f : Fragment) (t : Segment) → tables.In t (small k).flown → t.name ≡ segment.name → f ≡ fragment_of g t f.meta.index
         → f ≡ piece segment group f.meta.index
-    of_it f t is same cut = cut ∙ ap (λ (z : Segment). fragment_of g z f.meta.index) (one_at_last t is same) ∙ cut_so f.meta.index
+    of_it f t fact same cut = cut ∙ ap (λ (z : Segment). fragment_of g z f.meta.index) (one_at_last t fact same) ∙ cut_so f.meta.index
 
     named_so : (f : Fragment) (t : Segment) → f ≡ fragment_of g t f.meta.index → f.meta.name ≡ segment.name → t.name ≡ segment.name
     named_so f t cut same = ap (λ (z : Fragment). z.meta.name) (sym cut) ∙ same
@@ -144,13 +144,13 @@ module _ (b : Below) (base : Setting) (e : Estate AnyNode) (r : Role) (is_there 
 
     its_text : IsText (moment e k) segment.name segment group
     its_text = record {
-      held = λ v shelf f at is.
+      held = λ v shelf f at fact.
           (let t = one.held v segment.name f its_log
-          (subst (λ (s : ShelfState). held_at s.held segment.name ≡ Some f) (sym (held_there k v shelf at)) is) in of_it f t.0 t.1 t.2 t.3);
-      stored = λ v packet m was to is same.
-          (let t = one.stored v m.generation m.fragment (said_to k packet (body.Store m) (Server v) was to is (ours m.fragment.meta.name same)) in
+          (subst (λ (s : ShelfState). held_at s.held segment.name ≡ Some f) (sym (held_there k v shelf at)) fact) in of_it f t.0 t.1 t.2 t.3);
+      stored = λ v packet m was to fact same.
+          (let t = one.stored v m.generation m.fragment (said_to k packet (body.Store m) (Server v) was to fact (ours m.fragment.meta.name same)) in
           of_it m.fragment t.0 t.1 (named_so m.fragment t.0 t.2 same) t.2);
-      told = λ packet m was is same. (let t = one.told m.fragment (said k packet (body.Fragment m) was is (ours m.fragment.meta.name same)) in
+      told = λ packet m was fact same. (let t = one.told m.fragment (said k packet (body.Fragment m) was fact (ours m.fragment.meta.name same)) in
           of_it m.fragment t.0 t.1 (named_so m.fragment t.0 t.2 same) t.2);
     }
 

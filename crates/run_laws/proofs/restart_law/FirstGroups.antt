@@ -43,21 +43,21 @@ IsFirstGroup group = (place : ℕ) → place < length group.members → generati
 
 numbered_first : (first id : ℕ) (groups : List GroupSetup) (group : Group) → find (λ g. g.id == id) (numbered first (map first_layout groups)) ≡ Some group
     → IsFirstGroup group
-numbered_first first id [] group is = absurd cc
-numbered_first first id (g ∷ groups) group is =
+numbered_first first id [] group fact = absurd cc
+numbered_first first id (g ∷ groups) group fact =
     by_test (λ (o : Option Group). o ≡ Some group → IsFirstGroup group) (first == id)
     (Some (record { id = first; members = first_members g.servers; parity = g.parity; current = true }))
     (find (λ x. x.id == id) (numbered (first + 1) (map first_layout groups)))
     (λ t h. subst IsFirstGroup (same (record { id = first; members = first_members g.servers; parity = g.parity; current = true }) group h)
     (members_first g.servers))
-    (λ t h. numbered_first (first + 1) id groups group h) is
+    (λ t h. numbered_first (first + 1) id groups group h) fact
   where
     same : (a b : Group) → Some a ≡ Some b → a ≡ b
     same a b h = cc
 
 pub group_is_first : (servers : ℕ) (groups : List GroupSetup) (id : ℕ) (group : Group) → group_of (started servers groups) id ≡ Some group
     → IsFirstGroup group
-group_is_first servers groups id group is = numbered_first 1 id groups group is
+group_is_first servers groups id group fact = numbered_first 1 id groups group fact
 
 -- ---- the registry
 
@@ -70,9 +70,9 @@ module _ (servers : ℕ) (groups : List GroupSetup) where
   TellsNone from inc = (v : ℕ) → from ≡ Server v → IsServer servers v → inc ≤ 1
 
   no_loss : (b : BoardState) (v inc : ℕ) → KeepsGroups b → TellsNone (Server v) inc → hears_server b v inc ≡ true → ⊥
-  no_loss b v inc is none hears =
+  no_loss b v inc fact none hears =
       let may : may_lose (started servers groups) v inc ≡ true =
-      ap (λ (m : GroupMapState). may_lose m v inc) (sym is) ∙ and_second (nat_lt b.version u32_end) _ hears in
+      ap (λ (m : GroupMapState). may_lose m v inc) (sym fact) ∙ and_second (nat_lt b.version u32_end) _ hears in
       let there : IsServer servers v = loss_exists (started servers groups) v inc may in
       let newer = loss_newer (started servers groups) v inc may in
       let some = there.0 in
@@ -83,35 +83,35 @@ module _ (servers : ℕ) (groups : List GroupSetup) where
 
   hello_so : (b : BoardState) (from : NodeId) (inc : ℕ) → KeepsGroups b → TellsNone from inc → KeepsGroups (board.hello b from inc).state
   unfolding board.manager_hello board.server_hello
-  hello_so b (Client n) inc is none = is
-  hello_so b (Manager n) inc is none = by_test (λ (d : board.Made). KeepsGroups d.state) (hears_manager b n inc) _ _ (λ t. is) (λ t. is)
-  hello_so b (Server n) inc is none =
-      by_test (λ (d : board.Made). KeepsGroups d.state) (hears_server b n inc) _ _ (λ t. absurd (no_loss b n inc is none t)) (λ t. is)
-  hello_so b Cleaner inc is none = is
-  hello_so b Registry inc is none = is
+  hello_so b (Client n) inc fact none = fact
+  hello_so b (Manager n) inc fact none = by_test (λ (d : board.Made). KeepsGroups d.state) (hears_manager b n inc) _ _ (λ t. fact) (λ t. fact)
+  hello_so b (Server n) inc fact none =
+      by_test (λ (d : board.Made). KeepsGroups d.state) (hears_server b n inc) _ _ (λ t. absurd (no_loss b n inc fact none t)) (λ t. fact)
+  hello_so b Cleaner inc fact none = fact
+  hello_so b Registry inc fact none = fact
 
   move_so : (b : BoardState) (slot manager : ℕ) → KeepsGroups b → KeepsGroups (board.reassign b slot manager).state
   unfolding board.reassign
-  move_so b slot manager is = by_test (λ (d : board.Made). KeepsGroups d.state) (can_move b slot) _ _ (λ t. is) (λ t. is)
+  move_so b slot manager fact = by_test (λ (d : board.Made). KeepsGroups d.state) (can_move b slot) _ _ (λ t. fact) (λ t. fact)
 
   done_so : (b : BoardState) (slot epoch : ℕ) (parts : _) (horizon : List ℕ) → KeepsGroups b → KeepsGroups (board.done b slot epoch parts horizon).state
   unfolding board.done board.keep
-  done_so b slot epoch parts horizon is =
-      by_test (λ (d : board.Made). KeepsGroups d.state) (nat_lt 7 slot) _ _ (λ t. is)
+  done_so b slot epoch parts horizon fact =
+      by_test (λ (d : board.Made). KeepsGroups d.state) (nat_lt 7 slot) _ _ (λ t. fact)
       (λ t. by_test (λ (d : board.Made). KeepsGroups d.state) (is_kept b slot epoch horizon) (board.keep b slot epoch parts horizon) _
-      (λ u. by_test (λ (d : board.Made). KeepsGroups d.state) (b.version == 4294967295) _ _ (λ v. is) (λ v. is)) (λ u. is))
+      (λ u. by_test (λ (d : board.Made). KeepsGroups d.state) (b.version == 4294967295) _ _ (λ v. fact) (λ v. fact)) (λ u. fact))
 
   abbrev KeepsIn : registry.Done → Type 0
   KeepsIn d = KeepsGroups d.state.board
 
   item_so : (r : RegistryNode) (item : Option ℕ) → KeepsGroups r.board → KeepsIn (registry.at_item r item)
   unfolding registry.on_move
-  item_so r None is = is
-  item_so r (Some number) is = by_wish (registry.move_of (work_at r.items number))
+  item_so r None fact = fact
+  item_so r (Some number) fact = by_wish (registry.move_of (work_at r.items number))
     where
       by_wish : (wish : Option (ℕ × ℕ)) → KeepsIn (registry.on_item r number wish)
-      by_wish None = is
-      by_wish (Some wish) = move_so r.board wish.0 wish.1 is
+      by_wish None = fact
+      by_wish (Some wish) = move_so r.board wish.0 wish.1 fact
 
   -- what a packet tells
   abbrev pub PacketTellsNone : Packet → Type 0
@@ -120,9 +120,9 @@ module _ (servers : ℕ) (groups : List GroupSetup) where
   body_so : (r : RegistryNode) (from : NodeId) (said : Body) → ((m : _) → said ≡ body.Hello m → TellsNone from m.inc) → KeepsGroups r.board
       → KeepsIn (registry.hears r from said)
   unfolding registry.on_hello registry.on_done
-  body_so r from (body.Hello m) none is = hello_so r.board from m.inc is (none m refl)
-  body_so r from (body.CkptDone m) none is = done_so r.board m.slot m.epoch m.parts m.horizon is
-  body_so r from _ none is = is
+  body_so r from (body.Hello m) none fact = hello_so r.board from m.inc fact (none m refl)
+  body_so r from (body.CkptDone m) none fact = done_so r.board m.slot m.epoch m.parts m.horizon fact
+  body_so r from _ none fact = fact
 
   abbrev pub DoTellsNone : Do → Type 0
   DoTellsNone Begin = Unit {0}
@@ -131,10 +131,10 @@ module _ (servers : ℕ) (groups : List GroupSetup) where
 
   event_so : (r : RegistryNode) (what : Do) → DoTellsNone what → KeepsGroups r.board → KeepsIn (registry.on_event r what)
   unfolding registry.on_begin registry.on_packet
-  event_so r Begin none is = item_so (record r { items = begun r.items }) (next_item r.items) is
-  event_so r (Deliver p) none is =
-      by_test KeepsIn (is_well_formed r.peers p) (registry.hears r p.from p.body) _ (λ t. body_so r p.from p.body none is) (λ t. is)
-  event_so r Tick none is = is
+  event_so r Begin none fact = item_so (record r { items = begun r.items }) (next_item r.items) fact
+  event_so r (Deliver p) none fact =
+      by_test KeepsIn (is_well_formed r.peers p) (registry.hears r p.from p.body) _ (λ t. body_so r p.from p.body none fact) (λ t. fact)
+  event_so r Tick none fact = fact
 
   pub registry_so : (r : RegistryNode) (what : Do) → DoTellsNone what → KeepsGroups r.board → KeepsGroups (registry_step r what).node.board
-  registry_so r what none is = by_test KeepsIn (has_room r.board.version) (registry.on_event r what) _ (λ t. event_so r what none is) (λ t. is)
+  registry_so r what none fact = by_test KeepsIn (has_room r.board.version) (registry.on_event r what) _ (λ t. event_so r what none fact) (λ t. fact)

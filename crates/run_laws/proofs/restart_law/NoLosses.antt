@@ -50,7 +50,7 @@ abbrev N : World AnyNode → Event → World AnyNode
 N = next_world any_step
 
 same_event : (x y : Event) → Some x ≡ Some y → x ≡ y
-same_event x y is = cc
+same_event x y fact = cc
 
 take_none : (events : List Event) → take 0 events ≡ []
 take_none [] = refl
@@ -58,22 +58,22 @@ take_none (x ∷ more) = refl
 
 fold_next : (events : List Event) (count : ℕ) (w : World AnyNode) (event : Event) → slice_get events count ≡ Some event
     → fold N w (take (suc count) events) ≡ N (fold N w (take count events)) event
-fold_next [] count w event is = absurd cc
-fold_next (x ∷ more) zero w event is = ap (λ (ys : List Event). fold N (N w x) ys) (take_none more) ∙ ap (λ y. N w y) (same_event x event is)
-fold_next (x ∷ more) (suc count) w event is = fold_next more count (N w x) event is
+fold_next [] count w event fact = absurd cc
+fold_next (x ∷ more) zero w event fact = ap (λ (ys : List Event). fold N (N w x) ys) (take_none more) ∙ ap (λ y. N w y) (same_event x event fact)
+fold_next (x ∷ more) (suc count) w event fact = fold_next more count (N w x) event fact
 
 fold_past : (events : List Event) (count : ℕ) (w : World AnyNode) → slice_get events count ≡ None
     → fold N w (take (suc count) events) ≡ fold N w (take count events)
-fold_past [] zero w is = refl
-fold_past [] (suc count) w is = refl
-fold_past (x ∷ more) zero w is = absurd cc
-fold_past (x ∷ more) (suc count) w is = fold_past more count (N w x) is
+fold_past [] zero w fact = refl
+fold_past [] (suc count) w fact = refl
+fold_past (x ∷ more) zero w fact = absurd cc
+fold_past (x ∷ more) (suc count) w fact = fold_past more count (N w x) fact
 
 may_at : (events : List Event) (count : ℕ) (w end : World AnyNode) (event : Event) → Leads any_step w events end → slice_get events count ≡ Some event
     → MayHappen (fold N w (take count events)) event
-may_at [] count w end event leads is = absurd cc
-may_at (x ∷ more) zero w end event leads is = subst (MayHappen w) (same_event x event is) leads.0
-may_at (x ∷ more) (suc count) w end event leads is = may_at more count (N w x) end event leads.1 is
+may_at [] count w end event leads fact = absurd cc
+may_at (x ∷ more) zero w end event leads fact = subst (MayHappen w) (same_event x event fact) leads.0
+may_at (x ∷ more) (suc count) w end event leads fact = may_at more count (N w x) end event leads.1 fact
 
 module _ (base : Setting) (e : Estate AnyNode) (run : IsRun any_step any_start e.script e.events e.world) (lines : HasLines base e)
     (none : LosesNone (works_of e.script.lines)) where
@@ -97,9 +97,9 @@ module _ (base : Setting) (e : Estate AnyNode) (run : IsRun any_step any_start e
 
   tells_none : (count : ℕ) (p : Packet) → MayHappen (moment e count) (Deliver p)
       → DoTellsNone e.script.setup.servers e.script.setup.groups (what_of (Deliver p))
-  tells_none count p may m is v from there =
+  tells_none count p may m fact v from there =
       let seen = (its.stands count).facts p (was_sent (moment e count).sent p may) in
-      let hello = subst (BodySeen (setting base e OfCleaner) (asker_by OfCleaner (its.at count)) (its.at count).net p.from p.to) is seen in
+      let hello = subst (BodySeen (setting base e OfCleaner) (asker_by OfCleaner (its.at count)) (its.at count).net p.from p.to) fact seen in
       reached_one count v m.inc there
       (subst (λ n. ReachedBy (setting base e OfCleaner) (asker_by OfCleaner (its.at count)) (its.at count).net n m.inc) from hello.reached)
 
@@ -128,19 +128,19 @@ module _ (base : Setting) (e : Estate AnyNode) (run : IsRun any_step any_start e
   turn_keeps (any.Registry node) what tells h = registry_so e.script.setup.servers e.script.setup.groups node what tells h
 
   same_node : (x y : AnyNode) → Some x ≡ Some y → x ≡ y
-  same_node x y is = cc
+  same_node x y fact = cc
 
   placed_keeps : (nodes : List AnyNode) (name : NodeId) (place : ℕ) (what : Do) (x : AnyNode) → place_of k name ≡ Some place → slice_get nodes place ≡ Some x
       → DoTellsNone e.script.setup.servers e.script.setup.groups what → Keeps nodes → Keeps (slice_set nodes place (any_step x what).node)
-  placed_keeps nodes name place what x at is tells h z here = ⊎_elim same other (same_or_other Registry name)
+  placed_keeps nodes name place what x at fact tells h z here = ⊎_elim same other (same_or_other Registry name)
     where
       y : AnyNode
       y = (any_step x what).node
 
       same : Registry ≡ name → NodeKeeps z
       same e_ =
-          let put = places.here k nodes name place at y x is in
-          let was = ap (node_in nodes) at ∙ is in
+          let put = places.here k nodes name place at y x fact in
+          let was = ap (node_in nodes) at ∙ fact in
           subst NodeKeeps (same_node y z (sym put ∙ subst (λ n. node_in (slice_set nodes place y) (place_of k n) ≡ Some z) e_ here))
           (turn_keeps x what tells (h x (subst (λ n. node_in nodes (place_of k n) ≡ Some x) (sym e_) was)))
 
@@ -153,15 +153,15 @@ module _ (base : Setting) (e : Estate AnyNode) (run : IsRun any_step any_start e
   next_keeps_so : (count : ℕ) (event : Event) → MayHappen (moment e count) event → Keeps (moment e count).nodes → Keeps (N (moment e count) event).nodes
   next_keeps_so count event may h =
       next_keeps any_step (λ nodes sent acts. Keeps nodes) (moment e count) event h
-      (λ place node clock at is.
+      (λ place node clock at fact.
       placed_keeps (moment e count).nodes (node_of event) place (what_of event) node
-      (subst (λ c. place_of c (node_of event) ≡ Some place) (cluster_is count) at) is (event_tells count event may) h)
+      (subst (λ c. place_of c (node_of event) ≡ Some place) (cluster_is count) at) fact (event_tells count event may) h)
 
   start_keeps : Keeps (start_world any_start e.script).nodes
   unfolding start_world
-  start_keeps x is =
+  start_keeps x fact =
       subst NodeKeeps
-      (same_node _ x (sym (first_stands e.script Registry (e.script.setup.clients + e.script.setup.managers + e.script.setup.servers + 1) refl) ∙ is)) refl
+      (same_node _ x (sym (first_stands e.script Registry (e.script.setup.clients + e.script.setup.managers + e.script.setup.servers + 1) refl) ∙ fact)) refl
 
   keeps_first : Keeps (moment e 0).nodes
   keeps_first =
@@ -172,10 +172,10 @@ module _ (base : Setting) (e : Estate AnyNode) (run : IsRun any_step any_start e
   next_count count h = by (slice_get e.events count) refl
     where
       by : (o : Option Event) → slice_get e.events count ≡ o → Keeps (moment e (suc count)).nodes
-      by None is = subst (λ (w : World AnyNode). Keeps w.nodes) (sym (fold_past e.events count (start_world any_start e.script) is)) h
-      by (Some event) is =
-          subst (λ (w : World AnyNode). Keeps w.nodes) (sym (fold_next e.events count (start_world any_start e.script) event is))
-          (next_keeps_so count event (may_at e.events count (start_world any_start e.script) e.world event run is) h)
+      by None fact = subst (λ (w : World AnyNode). Keeps w.nodes) (sym (fold_past e.events count (start_world any_start e.script) fact)) h
+      by (Some event) fact =
+          subst (λ (w : World AnyNode). Keeps w.nodes) (sym (fold_next e.events count (start_world any_start e.script) event fact))
+          (next_keeps_so count event (may_at e.events count (start_world any_start e.script) e.world event run fact) h)
 
   keeps_at : (count : ℕ) → Keeps (moment e count).nodes
   keeps_at zero = keeps_first
@@ -185,27 +185,27 @@ module _ (base : Setting) (e : Estate AnyNode) (run : IsRun any_step any_start e
 
   group_so : (o : Option AnyNode) → ((x : AnyNode) → o ≡ Some x → NodeKeeps x) → (id : ℕ) (group : Group) → group_in (groups_of o) id ≡ Some group
       → group_of first id ≡ Some group
-  group_so None h id group is = absurd cc
-  group_so (Some (any.Client node)) h id group is = absurd cc
-  group_so (Some (any.Manager node)) h id group is = absurd cc
-  group_so (Some (any.Server node)) h id group is = absurd cc
-  group_so (Some (any.Cleaner node)) h id group is = absurd cc
-  group_so (Some (any.Registry node)) h id group is = subst (λ (m : GroupMapState). group_of m id ≡ Some group) (h (any.Registry node) refl) is
+  group_so None h id group fact = absurd cc
+  group_so (Some (any.Client node)) h id group fact = absurd cc
+  group_so (Some (any.Manager node)) h id group fact = absurd cc
+  group_so (Some (any.Server node)) h id group fact = absurd cc
+  group_so (Some (any.Cleaner node)) h id group fact = absurd cc
+  group_so (Some (any.Registry node)) h id group fact = subst (λ (m : GroupMapState). group_of m id ≡ Some group) (h (any.Registry node) refl) fact
 
   named_first : (id : ℕ) (group : Group) → group_at e.world id ≡ Some group → group_of first id ≡ Some group
-  named_first id group is =
+  named_first id group fact =
       let end = length e.events in
       let same : moment e end ≡ e.world = end_at e.events (start_world any_start e.script) e.world run in
       let found = ap (λ c. group_in (groups_of (node_in (moment e end).nodes (place_of c Registry))) id) (sym (cluster_is end))
-      ∙ (ap (λ w. group_at w id) same ∙ is) in
+      ∙ (ap (λ w. group_at w id) same ∙ fact) in
       group_so (node_in (moment e end).nodes (place_of k Registry)) (λ x at. keeps_at end x at) id group found
 
   pub no_disk_is_lost : NoDiskIsLost e
-  no_disk_is_lost count id group is place within =
+  no_disk_is_lost count id group fact place within =
       by (shelf_at (moment e count) (server_of group.members place)) (shelf_is_first e none count (server_of group.members place))
     where
       one : generation_of group.members place ≡ 1
-      one = group_is_first e.script.setup.servers e.script.setup.groups id group (named_first id group is) place within
+      one = group_is_first e.script.setup.servers e.script.setup.groups id group (named_first id group fact) place within
 
       by : (o : Option ShelfState) → IfSome o (λ s. s.generation ≡ 1) → IfSome o (λ s. s.generation ≡ generation_of group.members place)
       by None h = tt

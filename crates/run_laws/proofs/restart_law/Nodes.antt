@@ -57,10 +57,10 @@ module _ (k : Cluster) (name : NodeId) where
 
   turn_has : (nodes : List AnyNode) (other : NodeId) (place : ℕ) (x y : AnyNode) → place_of k other ≡ Some place → slice_get nodes place ≡ Some x
       → Has nodes → Has (slice_set nodes place y)
-  turn_has nodes other place x y at is had = ⊎_elim same differs (same_or_other name other)
+  turn_has nodes other place x y at fact had = ⊎_elim same differs (same_or_other name other)
     where
       same : name ≡ other → Has (slice_set nodes place y)
-      same e = (y, subst (λ n. node_in (slice_set nodes place y) (place_of k n) ≡ Some y) (sym e) (here k nodes other place at y x is))
+      same e = (y, subst (λ n. node_in (slice_set nodes place y) (place_of k n) ≡ Some y) (sym e) (here k nodes other place at y x fact))
 
       differs : (name ≡ other → ⊥) → Has (slice_set nodes place y)
       differs other_one = (had.0, there k nodes other place at y name other_one ∙ had.1)
@@ -68,8 +68,8 @@ module _ (k : Cluster) (name : NodeId) where
   next_has : (w : World AnyNode) (event : Event) → w.cluster ≡ k → Has w.nodes → Has (next_world any_step w event).nodes
   next_has w event cluster had =
       next_keeps any_step (λ nodes sent acts. Has nodes) w event had
-      (λ place node clock at is. turn_has w.nodes (node_of event) place node (any_step node (what_of event)).node
-      (subst (λ c. place_of c (node_of event) ≡ Some place) cluster at) is had)
+      (λ place node clock at fact. turn_has w.nodes (node_of event) place node (any_step node (what_of event)).node
+      (subst (λ c. place_of c (node_of event) ≡ Some place) cluster at) fact had)
 
   front_has : (events : List Event) (count : ℕ) (w : World AnyNode) → Holds w → Holds (fold (next_world any_step) w (take count events))
   front_has [] zero w h = h
@@ -123,16 +123,16 @@ owner_reads_to (Writing chain s) = Some (s.end.seq + 1 - length chain)
 owner_reads_to (Serving s) = None
 
 pub some_serving : (x : Owner) → is_serving x ≡ true → (s : LogState) × (x ≡ Serving s)
-some_serving Down is = contrary is
-some_serving (Opening s) is = contrary is
-some_serving (Writing chain s) is = contrary is
-some_serving (Serving s) is = (s, refl)
+some_serving Down fact = contrary fact
+some_serving (Opening s) fact = contrary fact
+some_serving (Writing chain s) fact = contrary fact
+some_serving (Serving s) fact = (s, refl)
 
 none_serving : (x : Owner) → is_serving x ≡ false → serving_log x ≡ None
-none_serving Down is = refl
-none_serving (Opening s) is = refl
-none_serving (Writing chain s) is = refl
-none_serving (Serving s) is = contrary (sym is)
+none_serving Down fact = refl
+none_serving (Opening s) fact = refl
+none_serving (Writing chain s) fact = refl
+none_serving (Serving s) fact = contrary (sym fact)
 
 module _ (g : Setting) (w : Scene) where
   stage_log : (c : ℕ) (k : Known) (last : ℕ) (at : Stage) → SeesStage g c w k last at → serving_log w.net.owner ≡ None
@@ -223,8 +223,8 @@ module _ (base : Setting) (e : Estate AnyNode) (r : Role) (is_there : IsThere e.
 
   pub here_at : (count : ℕ) (name : NodeId) (o : Option AnyNode) → node_in (moment e count).nodes (place_of (cluster_of e.script.setup) name) ≡ o
       → node_named (moment e count) name ≡ o
-  here_at count name o is =
-      subst (λ c. node_in (moment e count).nodes (place_of c name) ≡ o) (sym (owner_there e r is_there keeps count).cluster) is
+  here_at count name o fact =
+      subst (λ c. node_in (moment e count).nodes (place_of c name) ≡ o) (sym (owner_there e r is_there keeps count).cluster) fact
 
   there_at : (count : ℕ) → (x : AnyNode) × (node_named (moment e count) (owner_by r) ≡ Some x) × IsOwner (setting base e r) (line.at count) x
   there_at count =
@@ -246,10 +246,10 @@ module _ (base : Setting) (e : Estate AnyNode) (r : Role) (is_there : IsThere e.
   low_is count = (let x = there_at count in ap low_in x.1 ∙ x.2.low)
 
   pub serves_there : (count : ℕ) (s : LogState) → owner count ≡ Serving s → log_at e r count ≡ Some s
-  serves_there count s is = log_is count ∙ ap serving_log is
+  serves_there count s fact = log_is count ∙ ap serving_log fact
 
   pub away_there : (count : ℕ) → is_serving (owner count) ≡ false → log_at e r count ≡ None
-  away_there count is = log_is count ∙ none_serving (owner count) is
+  away_there count fact = log_is count ∙ none_serving (owner count) fact
 
   -- shelves are those of the small world
   pub shelf_is : (count v : ℕ) → ShelfIs (setting base e r) (line.at count) v (shelf_at (moment e count) v)
@@ -257,7 +257,7 @@ module _ (base : Setting) (e : Estate AnyNode) (r : Role) (is_there : IsThere e.
     where
       by : (o : Option AnyNode) → node_in (moment e count).nodes (place_of (cluster_of e.script.setup) (Server v)) ≡ o
           → ShelfIs (setting base e r) (line.at count) v (shelf_at (moment e count) v)
-      by None is = subst (λ o. ShelfIs (setting base e r) (line.at count) v (shelf_of o)) (sym (here_at count (Server v) None is)) tt
-      by (Some x) is =
-          subst (λ o. ShelfIs (setting base e r) (line.at count) v (shelf_of o)) (sym (here_at count (Server v) (Some x) is))
-          (shelf_there (setting base e r) (line.at count) r v x ((line.stands count).seen (Server v) x is))
+      by None fact = subst (λ o. ShelfIs (setting base e r) (line.at count) v (shelf_of o)) (sym (here_at count (Server v) None fact)) tt
+      by (Some x) fact =
+          subst (λ o. ShelfIs (setting base e r) (line.at count) v (shelf_of o)) (sym (here_at count (Server v) (Some x) fact))
+          (shelf_there (setting base e r) (line.at count) r v x ((line.stands count).seen (Server v) x fact))

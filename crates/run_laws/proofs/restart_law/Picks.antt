@@ -53,11 +53,11 @@ pub record Bounded (x : Owner) (picked : ℕ) : Type 0 where
   pub limit : low ≤ picked
 
 reads_down : (st : Stage) (low : ℕ) → is_reading st ≡ true → scans_to st low ≡ Some low
-reads_down Hails low is = contrary is
-reads_down (Gathers lists) low is = contrary is
-reads_down (Asks lists) low is = contrary is
-reads_down (Reads b r) low is = refl
-reads_down Over low is = contrary is
+reads_down Hails low fact = contrary fact
+reads_down (Gathers lists) low fact = contrary fact
+reads_down (Asks lists) low fact = contrary fact
+reads_down (Reads b r) low fact = refl
+reads_down Over low fact = contrary fact
 
 -- the first segment leaves the end of the log
 parts_end : (s : LogState) → (log.on_parts s []).state.end ≡ s.end
@@ -70,14 +70,14 @@ module _ (g : Setting) (n : Net) where
   by_flight : (chain : List Segment) (s : LogState) (d : log.Done) (o : Option FlightState) → n.owner ≡ Writing chain s
       → has_picked (after_flight g n chain d o).owner ≡ true
       → Kept n (after_flight g n chain d o)
-  by_flight chain s d None is picked = contrary picked
-  by_flight chain s d (Some f) is picked = record { had = ap has_picked is; inc = refl; picked = refl }
+  by_flight chain s d None fact picked = contrary picked
+  by_flight chain s d (Some f) fact picked = record { had = ap has_picked fact; inc = refl; picked = refl }
 
   -- an opening had picked, or it picks
-  module _ (s : ScanState) (d : scan.Done) (is : n.owner ≡ Opening s) where
+  module _ (s : ScanState) (d : scan.Done) (fact : n.owner ≡ Opening s) where
     reads_on : (o : Net) → o.inc ≡ n.inc → o.picked ≡ net.picked_by n s d → is_reading s.stage ≡ true → Kept n o
     reads_on o inc picked reading = record {
-      had = ap has_picked is ∙ reading;
+      had = ap has_picked fact ∙ reading;
       inc = inc;
       picked = picked ∙ ap (λ t. cond t n.picked d.state.opening.low) reading;
     }
@@ -118,10 +118,11 @@ module _ (g : Setting) (n : Net) where
 
 module _ (below : OpeningsReadDown) (g : Setting) (n : Net) (m : Moment g n) where
   happens_so : (o : Net) → Happens g n o → has_picked o.owner ≡ true → Kept n o ⊎ Bounded o.owner o.picked
-  happens_so o (Acts s i is came texts) has = contrary has
-  happens_so o (Writes chain s i is came texts) has = inl (by_flight g n chain s (log.transition s i) (log.transition s i).state.flight is has)
-  happens_so o (Opens s i is came can) has =
-      by_told g n s (scan.transition s i) is (chain_in (scan.transition s i).outs) (scan.transition s i).state.opening.groups can (below g n m s is i came) has
+  happens_so o (Acts s i fact came texts) has = contrary has
+  happens_so o (Writes chain s i fact came texts) has = inl (by_flight g n chain s (log.transition s i) (log.transition s i).state.flight fact has)
+  happens_so o (Opens s i fact came can) has =
+      by_told g n s (scan.transition s i) fact (chain_in (scan.transition s i).outs) (scan.transition s i).state.opening.groups can
+      (below g n m s fact i came) has
   happens_so o Crashes has = contrary has
   happens_so o (Restarts down) has = contrary has
   happens_so o (Renews map high doubts down came) has = contrary has
@@ -129,7 +130,7 @@ module _ (below : OpeningsReadDown) (g : Setting) (n : Net) (m : Moment g n) whe
   happens_so o (Bars v l pass) has = inl (record { had = has; inc = refl; picked = refl })
   happens_so o (Lists v) has = inl (record { had = has; inc = refl; picked = refl })
   happens_so o (Hears v generation past reached) has = inl (record { had = has; inc = refl; picked = refl })
-  happens_so o (Raises low name past is low_below) has = inl (record { had = has; inc = refl; picked = refl })
+  happens_so o (Raises low name past fact low_below) has = inl (record { had = has; inc = refl; picked = refl })
   happens_so o (Publishes map whole) has = inl (record { had = has; inc = refl; picked = refl })
   happens_so o (Welcomes inc ask news map hello low whole) has = inl (record { had = has; inc = refl; picked = refl })
   happens_so o (Drops lists meta listed within low_below) has = inl (record { had = has; inc = refl; picked = refl })
@@ -142,16 +143,16 @@ module _ (below : OpeningsReadDown) (g : Setting) (n : Net) (m : Moment g n) whe
 -- ---- along the line
 
 serves_unpicked : (x : Owner) → is_serving x ≡ true → has_picked x ≡ false
-serves_unpicked Down is = refl
-serves_unpicked (Opening s) is = contrary is
-serves_unpicked (Writing chain s) is = contrary is
-serves_unpicked (Serving s) is = refl
+serves_unpicked Down fact = refl
+serves_unpicked (Opening s) fact = contrary fact
+serves_unpicked (Writing chain s) fact = contrary fact
+serves_unpicked (Serving s) fact = refl
 
 pub writing_picked : (x : Owner) → is_writing x ≡ true → has_picked x ≡ true
-writing_picked Down is = contrary is
-writing_picked (Opening s) is = contrary is
-writing_picked (Writing chain s) is = refl
-writing_picked (Serving s) is = contrary is
+writing_picked Down fact = contrary fact
+writing_picked (Opening s) fact = contrary fact
+writing_picked (Writing chain s) fact = refl
+writing_picked (Serving s) fact = contrary fact
 
 module _ (b : Below) (base : Setting) (e : Estate AnyNode) (r : Role) (keeps : renews r ≡ false) (line : Line base e r) where
   abbrev small : ℕ → Net
@@ -189,12 +190,12 @@ module _ (b : Below) (base : Setting) (e : Estate AnyNode) (r : Role) (keeps : r
     event_so = by (slice_get e.events count) refl
       where
         by : (o : Option Event) → slice_get e.events count ≡ o → Picked (suc count)
-        by None is =
-            same_so (ap (λ (w : Scene). w.net.inc) (line.ended count is)) (ap (λ (w : Scene). w.net.owner) (line.ended count is))
-            (ap (λ (w : Scene). w.net.picked) (line.ended count is))
-        by (Some event) is =
-            ⊎_elim (λ own. own_so ((serves_straight r (line.goes count) keeps (line.straight count event is own)).picks has))
-            (λ away. let left = line.others count event is away in same_so left.inc left.owner left.picked) (same_or_other (owner_by r) (node_of event))
+        by None fact =
+            same_so (ap (λ (w : Scene). w.net.inc) (line.ended count fact)) (ap (λ (w : Scene). w.net.owner) (line.ended count fact))
+            (ap (λ (w : Scene). w.net.picked) (line.ended count fact))
+        by (Some event) fact =
+            ⊎_elim (λ own. own_so ((serves_straight r (line.goes count) keeps (line.straight count event fact own)).picks has))
+            (λ away. let left = line.others count event fact away in same_so left.inc left.owner left.picked) (same_or_other (owner_by r) (node_of event))
 
   pub picks : (count : ℕ) → has_picked (small count).owner ≡ true → Picked count
   picks zero has = contrary (sym (serves_unpicked (small 0).owner (first_serves b base e r keeps line)) ∙ has)

@@ -38,20 +38,20 @@ last_stage Down = omega arith
 module _ (g : Setting) (n : Net) where
   flight_rises : (chain : List Segment) (s : LogState) (d : log.Done) (o : Option FlightState) → n.owner ≡ Writing chain s
       → progress n ≤ progress (after_flight g n chain d o)
-  flight_rises chain s d None is = let e = ap stage_of is in omega arith
-  flight_rises chain s d (Some f) is = let e = ap stage_of is in omega arith
+  flight_rises chain s d None fact = let e = ap stage_of fact in omega arith
+  flight_rises chain s d (Some f) fact = let e = ap stage_of fact in omega arith
 
   told_rises : (s : ScanState) (d : scan.Done) (t : Option Told) (groups : Option GroupMapState) → n.owner ≡ Opening s
       → progress n ≤ progress (after_told g n s d t groups)
-  told_rises s d None groups is = let e = ap stage_of is in omega arith
-  told_rises s d (Some t) None is = let e = ap stage_of is in omega arith
-  told_rises s d (Some t) (Some m) is = let e = ap stage_of is in omega arith
+  told_rises s d None groups fact = let e = ap stage_of fact in omega arith
+  told_rises s d (Some t) None fact = let e = ap stage_of fact in omega arith
+  told_rises s d (Some t) (Some m) fact = let e = ap stage_of fact in omega arith
 
   rises : (o : Net) → Happens g n o → progress n ≤ progress o
-  rises o (Acts s i is came texts) = let e = ap stage_of is in omega arith
-  rises o (Writes chain s i is came texts) = flight_rises chain s (log.transition s i) (log.transition s i).state.flight is
-  rises o (Opens s i is came can) =
-      told_rises s (scan.transition s i) (chain_in (scan.transition s i).outs) (scan.transition s i).state.opening.groups is
+  rises o (Acts s i fact came texts) = let e = ap stage_of fact in omega arith
+  rises o (Writes chain s i fact came texts) = flight_rises chain s (log.transition s i) (log.transition s i).state.flight fact
+  rises o (Opens s i fact came can) =
+      told_rises s (scan.transition s i) (chain_in (scan.transition s i).outs) (scan.transition s i).state.opening.groups fact
   rises o Crashes = let e = last_stage n.owner in omega arith
   rises o (Restarts down) = let e = ap stage_of down in omega arith
   rises o (Renews map high doubts down came) = let e = ap stage_of down in omega arith
@@ -59,7 +59,7 @@ module _ (g : Setting) (n : Net) where
   rises o (Bars v l pass) = omega arith
   rises o (Lists v) = omega arith
   rises o (Hears v generation past reached) = omega arith
-  rises o (Raises low name past is below) = omega arith
+  rises o (Raises low name past fact below) = omega arith
   rises o (Publishes map whole) = omega arith
   rises o (Welcomes inc ask news map hello low whole) = omega arith
   rises o (Drops lists meta listed within below) = omega arith
@@ -71,16 +71,16 @@ run_rises g n o (On {m = m} run happens) = (let a = run_rises g n m run in let b
 -- ---- where a restart ends
 
 stage_writing : (x : Owner) → is_writing x ≡ true → stage_of x ≡ 1
-stage_writing Down is = contrary is
-stage_writing (Opening s) is = contrary is
-stage_writing (Writing chain s) is = refl
-stage_writing (Serving s) is = contrary is
+stage_writing Down fact = contrary fact
+stage_writing (Opening s) fact = contrary fact
+stage_writing (Writing chain s) fact = refl
+stage_writing (Serving s) fact = contrary fact
 
 stage_serving : (x : Owner) → is_serving x ≡ true → stage_of x ≡ 2
-stage_serving Down is = contrary is
-stage_serving (Opening s) is = contrary is
-stage_serving (Writing chain s) is = contrary is
-stage_serving (Serving s) is = refl
+stage_serving Down fact = contrary fact
+stage_serving (Opening s) fact = contrary fact
+stage_serving (Writing chain s) fact = contrary fact
+stage_serving (Serving s) fact = refl
 
 -- the owner goes forward
 ends_rise : (n o : Net) → progress n ≤ progress o → EndsRestart n o → progress o ≤ progress n → ⊥
@@ -124,10 +124,10 @@ no_span g a n Begun serves spanning = contrary spanning
 no_span g a n (On run happens) serves spanning = contrary (sym (ended n.owner (in_span run) serves) ∙ spanning)
   where
     ended : (x : Owner) (t : Bool) → is_serving x ≡ true → spans x t ≡ false
-    ended Down t is = contrary is
-    ended (Opening s) t is = contrary is
-    ended (Writing chain s) t is = contrary is
-    ended (Serving s) t is = refl
+    ended Down t fact = contrary fact
+    ended (Opening s) t fact = contrary fact
+    ended (Writing chain s) t fact = contrary fact
+    ended (Serving s) t fact = refl
 
 -- since it served last its owner has begun another boot
 pub span_rises : (g : Setting) (a n o : Net) (run : Runs g a n) (more : Runs g n o) → is_serving n.owner ≡ true → in_span (then_on run more) ≡ true
@@ -146,10 +146,10 @@ span_rises g a n o run (On {m = m} more happens) serves spanning =
     last = rises g m o happens
 
     by : (x : Owner) → o.owner ≡ x → spans x (in_span (then_on run more)) ≡ true → (in_span (then_on run more) ≡ true → n.inc < m.inc) → n.inc < o.inc
-    by Down is t before = (let a_ = before t in let b = ap stage_of is in let c = last in omega arith)
-    by (Opening s) is t before = (let a_ = ap stage_of is in let b = first in let c = through in omega arith)
-    by (Writing chain s) is t before = (let a_ = ap stage_of is in let b = first in let c = through in omega arith)
-    by (Serving s) is t before = contrary t
+    by Down fact t before = (let a_ = before t in let b = ap stage_of fact in let c = last in omega arith)
+    by (Opening s) fact t before = (let a_ = ap stage_of fact in let b = first in let c = through in omega arith)
+    by (Writing chain s) fact t before = (let a_ = ap stage_of fact in let b = first in let c = through in omega arith)
+    by (Serving s) fact t before = contrary t
 
 -- a boot ends no earlier than it begins
 pub boot_rises : (g : Setting) (n o : Net) → Runs g n o → n.inc ≤ o.inc

@@ -168,14 +168,14 @@ rebuild_so node number h =
 
 -- what an item asks for is one of the works
 in_get : (works : List Work) (i : ℕ) (w : Work) → slice_get works i ≡ Some w → In w works
-in_get [] i w is = absurd cc
-in_get (x ∷ works) zero w is = inl cc
-in_get (x ∷ works) (suc i) w is = inr (in_get works i w is)
+in_get [] i w fact = absurd cc
+in_get (x ∷ works) zero w fact = inl cc
+in_get (x ∷ works) (suc i) w fact = inr (in_get works i w fact)
 
 in_works : (items : Items) (number : ℕ) (w : Work) → work_at items number ≡ Some w → In w items.works
-in_works items number w is =
+in_works items number w fact =
     by_test (λ (o : Option Work). o ≡ Some w → In w items.works) (nat_lt 0 number) (slice_get items.works (number - 1)) None
-    (λ t h. in_get items.works (number - 1) w h) (λ t h. absurd cc) is
+    (λ t h. in_get items.works (number - 1) w h) (λ t h. absurd cc) fact
 
 wish_so : (node : Node) (number : ℕ) (o : Option Work) → ((w : Work) → o ≡ Some w → In w node.items.works) → Quiet node
     → QuietDone (server.on_wish node number (server.wish_of o))
@@ -186,7 +186,7 @@ wish_so node number (Some _) among h = h
 
 item_so : (node : Node) (o : Option ℕ) → Quiet node → QuietDone (server.at_item node o)
 item_so node None h = h
-item_so node (Some number) h = wish_so node number (work_at node.items number) (λ w is. in_works node.items number w is) h
+item_so node (Some number) h = wish_so node number (work_at node.items number) (λ w fact. in_works node.items number w fact) h
 
 begun_works : (items : Items) → (begun items).works ≡ items.works
 begun_works items = by_test (λ (x : Items). x.works ≡ items.works) (is_left items) _ items (λ t. refl) (λ t. refl)

@@ -48,10 +48,10 @@ turn_quiet (any.Registry node) what h = tt
 -- ---- the start
 
 in_filter : (p : Work → Bool) (works : List Work) (w : Work) → In w (filter p works) → In w works
-in_filter p [] w is = is
-in_filter p (x ∷ works) w is =
+in_filter p [] w fact = fact
+in_filter p (x ∷ works) w fact =
     by_test (λ (ys : List Work). In w ys → In w (x ∷ works)) (p x) (x ∷ filter p works) (filter p works)
-    (λ t h. ⊎_elim (λ e. inl e) (λ later. inr (in_filter p works w later)) h) (λ t h. inr (in_filter p works w h)) is
+    (λ t h. ⊎_elim (λ e. inl e) (λ later. inr (in_filter p works w later)) h) (λ t h. inr (in_filter p works w h)) fact
 
 module _ (script : Script) (none : LosesNone (works_of script.lines)) where
   start_quiet : (name : NodeId) → NodeQuiet (first_node any_start script name)
@@ -59,7 +59,7 @@ module _ (script : Script) (none : LosesNone (works_of script.lines)) where
   start_quiet (Manager j) = tt
   start_quiet (Server v) = record {
     generation = refl;
-    works = λ server is. none server (in_filter (is_for (Server v)) (works_of script.lines) (work.Lose server) is);
+    works = λ server fact. none server (in_filter (is_for (Server v)) (works_of script.lines) (work.Lose server) fact);
   }
   start_quiet Cleaner = tt
   start_quiet Registry = tt
@@ -70,33 +70,33 @@ abbrev pub AllQuiet : List AnyNode → Type 0
 AllQuiet nodes = (place : ℕ) (x : AnyNode) → slice_get nodes place ≡ Some x → NodeQuiet x
 
 same_node : (x y : AnyNode) → Some x ≡ Some y → x ≡ y
-same_node x y is = cc
+same_node x y fact = cc
 
 decide : (p q : ℕ) → (q ≡ p) ⊎ (q ≡ p → ⊥)
 decide p q = by (p == q) refl
   where
     by : (t : Bool) → (p == q) ≡ t → (q ≡ p) ⊎ (q ≡ p → ⊥)
-    by true is = inl (grind (arith, nat_tests))
-    by false is = inr (λ e. absurd (grind (arith, nat_tests)))
+    by true fact = inl (grind (arith, nat_tests))
+    by false fact = inr (λ e. absurd (grind (arith, nat_tests)))
 
 set_quiet : (nodes : List AnyNode) (place : ℕ) (x y : AnyNode) → slice_get nodes place ≡ Some x → NodeQuiet y → AllQuiet nodes
     → AllQuiet (slice_set nodes place y)
-set_quiet nodes place x y is quiet all q z at =
+set_quiet nodes place x y fact quiet all q z at =
     ⊎_elim
     (λ same. subst NodeQuiet
-    (same_node y z (sym (get_set_same nodes place y x is) ∙ subst (λ k. slice_get (slice_set nodes place y) k ≡ Some z) same at)) quiet)
+    (same_node y z (sym (get_set_same nodes place y x fact) ∙ subst (λ k. slice_get (slice_set nodes place y) k ≡ Some z) same at)) quiet)
     (λ other. all q z (sym (get_set_other nodes place y q other) ∙ at)) (decide place q)
 
 map_quiet : (f : NodeId → AnyNode) → ((name : NodeId) → NodeQuiet (f name)) → (names : List NodeId) → AllQuiet (map f names)
-map_quiet f each [] place x is = absurd cc
-map_quiet f each (n ∷ names) zero x is = subst NodeQuiet (same_node (f n) x is) (each n)
-map_quiet f each (n ∷ names) (suc place) x is = map_quiet f each names place x is
+map_quiet f each [] place x fact = absurd cc
+map_quiet f each (n ∷ names) zero x fact = subst NodeQuiet (same_node (f n) x fact) (each n)
+map_quiet f each (n ∷ names) (suc place) x fact = map_quiet f each names place x fact
 
 next_quiet : (w : World AnyNode) (event : Event) → AllQuiet w.nodes → AllQuiet (next_world any_step w event).nodes
 next_quiet w event all =
     next_keeps any_step (λ nodes sent acts. AllQuiet nodes) w event all
-    (λ place node clock at is.
-    set_quiet w.nodes place node (any_step node (what_of event)).node is (turn_quiet node (what_of event) (all place node is)) all)
+    (λ place node clock at fact.
+    set_quiet w.nodes place node (any_step node (what_of event)).node fact (turn_quiet node (what_of event) (all place node fact)) all)
 
 front_quiet : (events : List Event) (count : ℕ) (w : World AnyNode) → AllQuiet w.nodes → AllQuiet (fold (next_world any_step) w (take count events)).nodes
 front_quiet [] zero w h = h
@@ -127,8 +127,8 @@ module _ (e : Estate AnyNode) (none : LosesNone (works_of e.script.lines)) where
       of_node (any.Registry node) h = tt
 
       at : (place : ℕ) (o : Option AnyNode) → slice_get (moment e count).nodes place ≡ o → IsFirst (shelf_of o)
-      at place None is = tt
-      at place (Some x) is = of_node x (all_quiet count place x is)
+      at place None fact = tt
+      at place (Some x) fact = of_node x (all_quiet count place x fact)
 
       by : (o : Option ℕ) → IsFirst (shelf_of (node_in (moment e count).nodes o))
       by None = tt

@@ -114,12 +114,12 @@ module _ (b : Below) (base : Setting) (e : Estate AnyNode) (r : Role) (keeps : r
   filed_still count none = by (slice_get e.events count) refl
     where
       by : (o : Option Event) → slice_get e.events count ≡ o → (net (suc count)).filed ≡ (net count).filed
-      by None is = ap (λ (w : Scene). w.net.filed) (line.ended count is)
-      by (Some event) is =
+      by None fact = ap (λ (w : Scene). w.net.filed) (line.ended count fact)
+      by (Some event) fact =
           ⊎_elim
           (λ own. b.straight (setting base e r) (net count) (net (suc count)) (at_count count) (line.goes count)
-          (serves_straight r (line.goes count) keeps (line.straight count event is own)) none)
-          (λ away. (line.others count event is away).filed) (same_or_other (owner_by r) (node_of event))
+          (serves_straight r (line.goes count) keeps (line.straight count event fact own)) none)
+          (λ away. (line.others count event fact away).filed) (same_or_other (owner_by r) (node_of event))
 
   -- what is sure of a count was sure at the one before
   sure_back : (count : ℕ) → IsSureAt (suc count) → IsSureAt count

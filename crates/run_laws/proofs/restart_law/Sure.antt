@@ -57,23 +57,23 @@ module _ (b : Below) (base : Setting) (e : Estate AnyNode) (r : Role) (is_there 
       where
         by : (s t : Bool) → is_serving (small count).owner ≡ s → is_serving (small (suc count)).owner ≡ t
             → IsSureRun (then_on (moment_at count).run (line.goes count))
-        by s false was is = calm (none_ends_away g (small count) (small (suc count)) (line.goes count) (straight.never is))
-        by true true was is = calm (none_ends_served g (small count) (small (suc count)) (line.goes count) (straight.stays was is) was is)
-        by false true was is =
-            once_sure g _ (small count) (small (suc count)) (moment_at count).run (line.goes count) (straight.once was is) sure
-            (λ ends d. none r count (omega arith) (doubtful_restart b base e r is_there keeps line count was is ends.0 sure d))
+        by s false was fact = calm (none_ends_away g (small count) (small (suc count)) (line.goes count) (straight.never fact))
+        by true true was fact = calm (none_ends_served g (small count) (small (suc count)) (line.goes count) (straight.stays was fact) was fact)
+        by false true was fact =
+            once_sure g _ (small count) (small (suc count)) (moment_at count).run (line.goes count) (straight.once was fact) sure
+            (λ ends d. none r count (omega arith) (doubtful_restart b base e r is_there keeps line count was fact ends.0 sure d))
 
     event_sure : IsSureRun (then_on (moment_at count).run (line.goes count))
     event_sure = by (slice_get e.events count) refl
       where
         by : (o : Option Event) → slice_get e.events count ≡ o → IsSureRun (then_on (moment_at count).run (line.goes count))
-        by None is =
+        by None fact =
             calm
-            (none_ends_left g (small count) (small (suc count)) (line.goes count) (ap (λ (w : Scene). w.net.inc) (line.ended count is))
-            (ap (λ (w : Scene). w.net.owner) (line.ended count is)))
-        by (Some event) is =
-            ⊎_elim (λ own. own_sure (serves_straight r (line.goes count) keeps (line.straight count event is own)))
-            (λ away. let left = line.others count event is away in
+            (none_ends_left g (small count) (small (suc count)) (line.goes count) (ap (λ (w : Scene). w.net.inc) (line.ended count fact))
+            (ap (λ (w : Scene). w.net.owner) (line.ended count fact)))
+        by (Some event) fact =
+            ⊎_elim (λ own. own_sure (serves_straight r (line.goes count) keeps (line.straight count event fact own)))
+            (λ away. let left = line.others count event fact away in
             calm (none_ends_left g (small count) (small (suc count)) (line.goes count) left.inc left.owner)) (same_or_other (owner_by r) (node_of event))
 
     next_sure : IsSureRun (moment_at (suc count)).run

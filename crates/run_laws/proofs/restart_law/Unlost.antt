@@ -51,8 +51,8 @@ last_or_before : (n count : ℕ) → n < suc count → (n ≡ count) ⊎ (n < co
 last_or_before n count less = by (nat_le count n) refl
   where
     by : (t : Bool) → nat_le count n ≡ t → (n ≡ count) ⊎ (n < count)
-    by true is = inl (grind (arith, nat_tests))
-    by false is = inr (grind (arith, nat_tests))
+    by true fact = inl (grind (arith, nat_tests))
+    by false fact = inr (grind (arith, nat_tests))
 
 -- ---- what is there
 
@@ -61,19 +61,19 @@ end_at [] w end leads = leads
 end_at (event ∷ events) w end leads = end_at events (next_world any_step w event) end leads.1
 
 serving_so : (x : Owner) (s : LogState) → serving_log x ≡ Some s → x ≡ Serving s
-serving_so Down s is = absurd cc
-serving_so (Opening o) s is = absurd cc
-serving_so (Writing chain o) s is = absurd cc
-serving_so (Serving o) s is = cc
+serving_so Down s fact = absurd cc
+serving_so (Opening o) s fact = absurd cc
+serving_so (Writing chain o) s fact = absurd cc
+serving_so (Serving o) s fact = cc
 
 same_group : (a b : Group) → Some a ≡ Some b → a ≡ b
-same_group a b is = cc
+same_group a b fact = cc
 
 held_none : (f : Fragment) → None ≡ Some f → ⊥
-held_none f is = absurd cc
+held_none f fact = absurd cc
 
 has_member : (parity n : ℕ) → is_group_size parity n ≡ true → 0 < n
-has_member parity n is = (let least = and_first (nat_le (parity + 2) n) (nat_le n 8) is in at_least least)
+has_member parity n fact = (let least = and_first (nat_le (parity + 2) n) (nat_le n 8) fact in at_least least)
   where
     at_least : nat_le (parity + 2) n ≡ true → 0 < n
     at_least t = grind (arith, nat_tests)
@@ -96,14 +96,14 @@ module _ (base : Setting) (e : Estate AnyNode) (run : IsRun any_step any_start e
   registry_so (any.Registry node) h = record { node = node; kind = refl; seen = h }
 
   stripe_so : (id : ℕ) (group : Group) → group_at e.world id ≡ Some group → IsStripe e.script.setup.servers group.parity group.members
-  stripe_so id group is =
+  stripe_so id group fact =
       let end = length e.events in
       let h = node_there e Registry (e.script.setup.clients + e.script.setup.managers + e.script.setup.servers + 1) refl end in
       let x = registry_so h.has.0 ((its.stands end).seen Registry h.has.0 h.has.1) in
       let named : node_named (moment e end) Registry ≡ Some (any.Registry x.node) =
       here_at base e OfCleaner tt refl its end Registry (Some h.has.0) h.has.1 ∙ ap Some x.kind in
       let same : moment e end ≡ e.world = end_at e.events (start_world any_start e.script) e.world run in
-      let found = ap (λ o. group_in (groups_of o) id) (sym named) ∙ (ap (λ w. group_at w id) same ∙ is) in
+      let found = ap (λ o. group_in (groups_of o) id) (sym named) ∙ (ap (λ w. group_at w id) same ∙ fact) in
       subst (λ n. IsStripe n group.parity group.members) x.seen.size (its_stripe x.node.board.groups x.seen.map id group found)
 
   -- ---- a server of a group
@@ -132,14 +132,14 @@ module _ (base : Setting) (e : Estate AnyNode) (run : IsRun any_step any_start e
   cluster_is count = (node_there e Registry (e.script.setup.clients + e.script.setup.managers + e.script.setup.servers + 1) refl count).cluster
 
   kind_of_manager : (count j : ℕ) (s : LogState) → log_at e (OfManager j) count ≡ Some s → ⊥
-  kind_of_manager count j s is = by (node_named (moment e count) (Manager j)) refl
+  kind_of_manager count j s fact = by (node_named (moment e count) (Manager j)) refl
     where
       by : (o : Option AnyNode) → node_named (moment e count) (Manager j) ≡ o → ⊥
-      by None at = none_serves (sym (ap log_in at) ∙ is)
+      by None at = none_serves (sym (ap log_in at) ∙ fact)
         where
           none_serves : None ≡ Some s → ⊥
           none_serves h = absurd cc
-      by (Some x) at = by_kind x ((its.stands count).seen (Manager j) x (there_in at)) (sym (ap log_in at) ∙ is)
+      by (Some x) at = by_kind x ((its.stands count).seen (Manager j) x (there_in at)) (sym (ap log_in at) ∙ fact)
         where
           there_in : node_named (moment e count) (Manager j) ≡ Some x
               → node_in (moment e count).nodes (place_of (cluster_of e.script.setup) (Manager j)) ≡ Some x
@@ -157,15 +157,15 @@ module _ (base : Setting) (e : Estate AnyNode) (run : IsRun any_step any_start e
     keeps : renews r ≡ false
 
   whose : (r : Role) (count : ℕ) (s : LogState) → log_at e r count ≡ Some s → Whose r
-  whose OfCleaner count s is = record { there = tt; keeps = refl }
-  whose (OfManager j) count s is = absurd (kind_of_manager count j s is)
-  whose (OfClient c) count s is = by (place_of (cluster_of e.script.setup) (Client c)) refl
+  whose OfCleaner count s fact = record { there = tt; keeps = refl }
+  whose (OfManager j) count s fact = absurd (kind_of_manager count j s fact)
+  whose (OfClient c) count s fact = by (place_of (cluster_of e.script.setup) (Client c)) refl
     where
       by : (o : Option ℕ) → place_of (cluster_of e.script.setup) (Client c) ≡ o → Whose (OfClient c)
       by (Some p) at = record { there = its_client c p at; keeps = refl }
       by None at =
           absurd (no_log (ap (λ k. log_in (node_in (moment e count).nodes (place_of k (Client c)))) (sym (cluster_is count))
-          ∙ is) at)
+          ∙ fact) at)
         where
           no_log : log_in (node_in (moment e count).nodes (place_of (cluster_of e.script.setup) (Client c))) ≡ Some s
               → place_of (cluster_of e.script.setup) (Client c) ≡ None → ⊥
@@ -217,8 +217,8 @@ module _ (b : Below) (base : Setting) (e : Estate AnyNode) (run : IsRun any_step
   filed = (grows base e r line d.last at first.since).filed d.segment.name filed_last
 
   undropped : tables.In d.segment.name (small at).dropped → ⊥
-  undropped is =
-      (let o = (line.stands at).deleted d.segment.name is in
+  undropped fact =
+      (let o = (line.stands at).deleted d.segment.name fact in
       first.kept o.0 (record { name = d.segment.name }) (in_was (moment e at).sent o.0 o.1) o.2 refl)
 
   abbrev flew : (s : Segment) × tables.In s (small at).flown × (s.name ≡ d.segment.name)
@@ -230,10 +230,10 @@ module _ (b : Below) (base : Setting) (e : Estate AnyNode) (run : IsRun any_step
 
   -- ---- a member of a group
 
-  module _ (id : ℕ) (group : Group) (is : group_at e.world id ≡ Some group) (place : ℕ) (within : place < length group.members) where
+  module _ (id : ℕ) (group : Group) (fact : group_at e.world id ≡ Some group) (place : ℕ) (within : place < length group.members) where
     has : (k : ℕ) → (s : ShelfState) × (shelf_at (moment e k) (server_of group.members place) ≡ Some s)
     has k = has_shelf base e run lines k (server_of group.members place)
-        ((stripe_so base e run lines id group is).exist place no_member within)
+        ((stripe_so base e run lines id group fact).exist place no_member within)
 
     shelf_so : (k : ℕ) → (small k).shelves (server_of group.members place) ≡ (has k).0
     shelf_so k =
@@ -241,7 +241,8 @@ module _ (b : Below) (base : Setting) (e : Estate AnyNode) (run : IsRun any_step
         (shelf_is base e r is_whose.there is_whose.keeps line k (server_of group.members place))
 
     as_made : (k : ℕ) → (has k).0.generation ≡ generation_of group.members place
-    as_made k = subst (λ (o : Option ShelfState). IfSome o (λ s. s.generation ≡ generation_of group.members place)) (has k).1 (kept k id group is place within)
+    as_made k =
+        subst (λ (o : Option ShelfState). IfSome o (λ s. s.generation ≡ generation_of group.members place)) (has k).1 (kept k id group fact place within)
 
   -- ---- it held its fragment
 
@@ -252,7 +253,7 @@ module _ (b : Below) (base : Setting) (e : Estate AnyNode) (run : IsRun any_step
   all_have : (place : ℕ) → place < length grouped.0.members → HasOver (record { members = grouped.0.members; parity = grouped.0.parity }) place
   all_have = subst (λ (s : Stripe). (place : ℕ) → place < length s.members → HasOver s place) (ap stripe_by grouped.1)
       ((b.whole g (small at) (line.stands at).moment).whole flew.0 flew.1 (subst (λ n. tables.In n (small at).filed) (sym flew.2) filed)
-      (λ is. undropped (subst (λ n. tables.In n (small at).dropped) flew.2 is)))
+      (λ fact. undropped (subst (λ n. tables.In n (small at).dropped) flew.2 fact)))
 
   holds : (place : ℕ) → place < length grouped.0.members
       → held_at ((small at).shelves (server_of grouped.0.members place)).held d.segment.name ≡ Some (piece flew.0 grouped.0 place)

@@ -36,7 +36,7 @@ use Rattle.run_laws.specs.segment_law.Flown.{IsOriginalLog, LogsGoOnOriginal, Ow
 own_so : (s : LogState) (i : Input) → PutsOwn i → WritesOriginals s → WritesOriginals (transition s i).state
 own_so s (Put block entry value) own h =
     logs.put_so IsFirstHand IsOriginal originals s block (record { entry = entry; value = value }) (record { version = own.0; hop = own.1 }) h
-own_so s (Parts items) own h = logs.parts_so IsFirstHand IsOriginal originals s items (λ t is. (nothing_is t (is ∙ own)).original) h
+own_so s (Parts items) own h = logs.parts_so IsFirstHand IsOriginal originals s items (λ t fact. (nothing_is t (fact ∙ own)).original) h
 own_so s Seal own h = logs.seal_so IsFirstHand IsOriginal originals s h
 own_so s (Acked name index generation) own h = logs.acked_so IsFirstHand IsOriginal originals s name index generation h
 own_so s (Maps groups) own h = logs.maps_so IsFirstHand IsOriginal originals s groups h
@@ -51,9 +51,9 @@ AllFlew flown = (s : Segment) → In s flown → IsOriginal s
 
 -- with what is in flight now
 flies_so : (o : Option FlightState) (before : List Segment) → IfSome o (λ f. IsOriginal f.segment) → AllFlew before → AllFlew (flown_with o before)
-flies_so None before is all s among = all s among
-flies_so (Some f) before is all s (inl e) = subst IsOriginal (sym e) is
-flies_so (Some f) before is all s (inr among) = all s among
+flies_so None before fact all s among = all s among
+flies_so (Some f) before fact all s (inl e) = subst IsOriginal (sym e) fact
+flies_so (Some f) before fact all s (inr among) = all s among
 
 flew_so : (s : LogState) (inputs : List Input) (before : List Segment) → AllByRecursion PutsOwn inputs → WritesOriginals s → AllFlew before
     → AllFlew (flown_after s inputs before)
@@ -63,8 +63,8 @@ flew_so s (i ∷ earlier) before own h all =
     flies_so (state_after s (i ∷ earlier)).flight (flown_after s earlier before) now.flies (flew_so s earlier before own.1 h all)
 
 took_so : (n o : Net) (s : LogState) → n.owner ≡ Serving s → LogTook PutsOwn n o s → IsOriginalLog n → IsOriginalLog o
-took_so n o s is took h =
-    let now : WritesOriginals s = subst OwnerWrites is h.owner in
+took_so n o s fact took h =
+    let now : WritesOriginals s = subst OwnerWrites fact h.owner in
     record {
       owner = subst OwnerWrites (sym took.serves) (all_so s took.inputs took.all now);
       flew = subst AllFlew (sym took.flown) (flew_so s took.inputs n.flown took.all now h.flew);
@@ -81,10 +81,10 @@ module _ (g : Setting) (n : Net) (h : IsOriginalLog n) where
   flight_so : (chain : List Segment) (s : LogState) (i : Input) → WritesNothing (transition s i).state → (o : Option FlightState)
       → (transition s i).state.flight ≡ o
       → IsOriginalLog (after_flight g n chain (transition s i) o)
-  flight_so chain s i now None is = record { owner = openings.opens_originals (transition s i).state now; flew = h.flew }
-  flight_so chain s i now (Some f) is = record {
+  flight_so chain s i now None fact = record { owner = openings.opens_originals (transition s i).state now; flew = h.flew }
+  flight_so chain s i now (Some f) fact = record {
     owner = now;
-    flew = flies_so (Some f) n.flown (nothing_is f.segment (subst (λ o. IfSome o (λ f. f.segment.items ≡ [])) is now.flies)).original h.flew;
+    flew = flies_so (Some f) n.flown (nothing_is f.segment (subst (λ o. IfSome o (λ f. f.segment.items ≡ [])) fact now.flies)).original h.flew;
   }
 
   writes_so : (chain : List Segment) (s : LogState) (i : Input) → CameToWriter n i → WritesNothing s
@@ -116,10 +116,10 @@ module _ (g : Setting) (n : Net) (h : IsOriginalLog n) where
   -- ---- what happens, but for what the log of an owner that serves takes
 
   happens_so : (o : Net) → is_serving n.owner ≡ false ⊎ (is_serving o.owner ≡ false) → Happens g n o → IsOriginalLog o
-  happens_so o (inl away) (Acts s i is came texts) = contrary (sym away ∙ ap is_serving is)
-  happens_so o (inr away) (Acts s i is came texts) = contrary (sym away)
-  happens_so o away (Writes chain s i is came texts) = writes_so chain s i came (subst OwnerWrites is h.owner)
-  happens_so o away (Opens s i is came can) =
+  happens_so o (inl away) (Acts s i fact came texts) = contrary (sym away ∙ ap is_serving fact)
+  happens_so o (inr away) (Acts s i fact came texts) = contrary (sym away)
+  happens_so o away (Writes chain s i fact came texts) = writes_so chain s i came (subst OwnerWrites fact h.owner)
+  happens_so o away (Opens s i fact came can) =
       told_so s (scan.transition s i) (chain_in (scan.transition s i).outs) (scan.transition s i).state.opening.groups
   happens_so o away Crashes = record { owner = tt; flew = h.flew }
   happens_so o away (Restarts down) = record { owner = tt; flew = h.flew }
@@ -128,7 +128,7 @@ module _ (g : Setting) (n : Net) (h : IsOriginalLog n) where
   happens_so o away (Bars v log pass) = record { owner = h.owner; flew = h.flew }
   happens_so o away (Lists v) = record { owner = h.owner; flew = h.flew }
   happens_so o away (Hears v generation up reached) = record { owner = h.owner; flew = h.flew }
-  happens_so o away (Raises low name up is below) = record { owner = h.owner; flew = h.flew }
+  happens_so o away (Raises low name up fact below) = record { owner = h.owner; flew = h.flew }
   happens_so o away (Publishes map whole) = record { owner = h.owner; flew = h.flew }
   happens_so o away (Welcomes inc ask news map hello low whole) = record { owner = h.owner; flew = h.flew }
   happens_so o away (Drops lists meta listed within below) = record { owner = h.owner; flew = h.flew }
@@ -149,8 +149,8 @@ pub logs_go_on : LogsGoOnOriginal
 logs_go_on g n o runs straight puts h = by (is_serving o.owner) refl n.owner refl
   where
     by : (t : _) → is_serving o.owner ≡ t → (x : Owner) → n.owner ≡ x → IsOriginalLog o
-    by false away x is = never_so g n o runs (straight.never away) h
-    by true serves (Serving s) is = took_so n o s is (puts s is serves) h
-    by true serves Down is = once_so g n o runs (straight.once (ap is_serving is) serves) (ap is_serving is) h
-    by true serves (Opening scan) is = once_so g n o runs (straight.once (ap is_serving is) serves) (ap is_serving is) h
-    by true serves (Writing chain s) is = once_so g n o runs (straight.once (ap is_serving is) serves) (ap is_serving is) h
+    by false away x fact = never_so g n o runs (straight.never away) h
+    by true serves (Serving s) fact = took_so n o s fact (puts s fact serves) h
+    by true serves Down fact = once_so g n o runs (straight.once (ap is_serving fact) serves) (ap is_serving fact) h
+    by true serves (Opening scan) fact = once_so g n o runs (straight.once (ap is_serving fact) serves) (ap is_serving fact) h
+    by true serves (Writing chain s) fact = once_so g n o runs (straight.once (ap is_serving fact) serves) (ap is_serving fact) h

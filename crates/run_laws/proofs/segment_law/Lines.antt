@@ -50,17 +50,17 @@ module _ (base : Setting) (e : Estate AnyNode) (c : ℕ) (line : Line base e (Of
   So count = IsOriginalLog (line.at count).net
 
   own_so : (count : ℕ) (event : Event) → slice_get e.events count ≡ Some event → Client c ≡ node_of event → So count → So (suc count)
-  own_so count event is own h =
-      logs_go_on (setting base e (OfClient c)) (line.at count).net (line.at (suc count)).net (line.goes count) (line.straight count event is own)
-      (line.puts count event is own) h
+  own_so count event fact own h =
+      logs_go_on (setting base e (OfClient c)) (line.at count).net (line.at (suc count)).net (line.goes count) (line.straight count event fact own)
+      (line.puts count event fact own) h
 
   left_so : (count : ℕ) → IsLeft (line.at count).net (line.at (suc count)).net → So count → So (suc count)
   left_so count left h = same_so (setting base e (OfClient c)) (line.at count).net h (line.at (suc count)).net left.owner left.flown
 
   next_so : (count : ℕ) (o : Option Event) → slice_get e.events count ≡ o → So count → So (suc count)
-  next_so count None is h = subst (λ w. IsOriginalLog w.net) (sym (line.ended count is)) h
-  next_so count (Some event) is h =
-      ⊎_elim (λ own. own_so count event is own h) (λ away. left_so count (line.others count event is away) h) (is_it c (node_of event))
+  next_so count None fact h = subst (λ w. IsOriginalLog w.net) (sym (line.ended count fact)) h
+  next_so count (Some event) fact h =
+      ⊎_elim (λ own. own_so count event fact own h) (λ away. left_so count (line.others count event fact away) h) (is_it c (node_of event))
 
   each_so : (count : ℕ) → So count
   each_so zero =

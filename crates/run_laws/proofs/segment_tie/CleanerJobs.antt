@@ -105,9 +105,9 @@ read_begun e seg h = in_hand e e.job seg h.job h
 -- what is moved is of a version from 1 on, and moved once more
 moved_waits : (block : BlockId) (entry : Entry) (value : Option (List ℕ)) → MovedTold versions block entry
     → IsWaiting IsMoved (record { entry = entry; value = value })
-moved_waits block entry value is = record {
-  version = subst (λ (x : Entry). 0 < x.ver) (sym is.moved) is.before_told;
-  hop = subst (λ (x : Entry). 0 < x.hop) (sym is.moved) (some is.before.hop);
+moved_waits block entry value fact = record {
+  version = subst (λ (x : Entry). 0 < x.ver) (sym fact.moved) fact.before_told;
+  hop = subst (λ (x : Entry). 0 < x.hop) (sym fact.moved) (some fact.before.hop);
 }
   where
     some : (n : ℕ) → 0 < n + 1
@@ -119,9 +119,9 @@ put_so e i h log = record { job = h.job; log = log }
 
 block_put : (e : Emptying) (one : BlockId × Entry × Option (List ℕ)) → BlockMoved versions one → At e → Goes (puts_block e one)
 unfolding puts_block
-block_put e one is h =
+block_put e one fact h =
     put_so e (log_in.Put one.0 one.1 one.2) h
-    (logs.put_so IsMoved IsCopies copies e.log one.0 (record { entry = one.1; value = one.2 }) (moved_waits one.0 one.1 one.2 is) h.log)
+    (logs.put_so IsMoved IsCopies copies e.log one.0 (record { entry = one.1; value = one.2 }) (moved_waits one.0 one.1 one.2 fact) h.log)
 
 blocks_moved : (e : Emptying) (blocks : List (BlockId × Entry × Option (List ℕ))) → AllByRecursion (BlockMoved versions) blocks → At e → Goes (moves e blocks)
 unfolding moves
@@ -139,31 +139,31 @@ job_over e count h = record { job = tt; log = h.log }
 
 job_says : (e : Emptying) (o : Out) → OutMoved versions o → At e → Goes (says e o)
 unfolding says
-job_says e out.Hello is h = maps_asked e e.job h.job h
-job_says e (out.List server) is h = list_asked e e.job server h.job h
-job_says e (out.UsageAsk slot) is h = usage_asked e e.job slot h.job h
-job_says e (out.Fetch seg) is h = read_begun e seg h
-job_says e (out.Check block place) is h = check_asked e block place h
-job_says e (out.Move blocks) is h = blocks_moved e blocks is h
-job_says e (out.Delete server name) is h = segment_deleted e e.job server name h.job h
-job_says e (out.Finished count) is h = job_over e count h
+job_says e out.Hello fact h = maps_asked e e.job h.job h
+job_says e (out.List server) fact h = list_asked e e.job server h.job h
+job_says e (out.UsageAsk slot) fact h = usage_asked e e.job slot h.job h
+job_says e (out.Fetch seg) fact h = read_begun e seg h
+job_says e (out.Check block place) fact h = check_asked e block place h
+job_says e (out.Move blocks) fact h = blocks_moved e blocks fact h
+job_says e (out.Delete server name) fact h = segment_deleted e e.job server name h.job h
+job_says e (out.Finished count) fact h = job_over e count h
 
 -- ---- the job takes an input
 
 took : (e : Emptying) (job : Option Job) (given : Input) → InputTold versions given → JobTold versions job → At e → At (takes_in e job given).state
-took e None given is held h = h
-took e (Some job) given is held h = record { job = cleaning_so versions job.cleaning given is held; log = h.log }
+took e None given fact held h = h
+took e (Some job) given fact held h = record { job = cleaning_so versions job.cleaning given fact held; log = h.log }
 
 gave : (e : Emptying) (job : Option Job) (given : Input) → InputTold versions given → JobTold versions job
     → AllByRecursion (OutMoved versions) (takes_in e job given).outs
-gave e None given is held = tt
-gave e (Some job) given is held = cleaning_gives versions job.cleaning given is held
+gave e None given fact held = tt
+gave e (Some job) given fact held = cleaning_gives versions job.cleaning given fact held
 
 pub job_goes_on : (e : Emptying) (given : Input) → InputTold versions given → At e → Goes (cleans e given)
 unfolding cleans job_takes
-job_goes_on e given is h =
-    goes_each (OutMoved versions) says job_says (takes_in e e.job given).state (takes_in e e.job given).outs (gave e e.job given is h.job)
-    (took e e.job given is h.job h)
+job_goes_on e given fact h =
+    goes_each (OutMoved versions) says job_says (takes_in e e.job given).state (takes_in e e.job given).outs (gave e e.job given fact h.job)
+    (took e e.job given fact h.job h)
 
 -- ---- what comes for it
 
@@ -182,9 +182,9 @@ usage_came e m h =
 
 pub live_came : (e : Emptying) (m : Live) → versions m.block m.entry → At e → Goes (on_live e m)
 unfolding on_live
-live_came e m is h =
+live_came e m fact h =
     by_test (λ (d : Done). Goes d) (is_out (check_of (hand_of e.job) m.block) m.ask) (cleans e (input.Live m.block m.epoch m.entry)) (still e)
-    (λ t. job_goes_on e (input.Live m.block m.epoch m.entry) is h) (λ t. h)
+    (λ t. job_goes_on e (input.Live m.block m.epoch m.entry) fact h) (λ t. h)
 
 pub dead_came : (e : Emptying) (m : Dead) → At e → Goes (on_dead e m)
 unfolding on_dead

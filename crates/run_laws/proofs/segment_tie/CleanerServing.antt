@@ -169,26 +169,26 @@ welcome_heard e m h =
 -- ---- packets and time
 
 body_heard : (e : Emptying) (from : NodeId) (said : Body) → TellsVersion said → At e → Goes (on_body e from said)
-body_heard e from (body.MapNews m) is h = news_heard e m h
-body_heard e from (body.Welcome m) is h = welcome_heard e m h
-body_heard e from (body.Poll m) is h = poll_heard e from m h
-body_heard e from (body.DeltaAck m) is h = acknowledged e m h
-body_heard e from (body.Stored m) is h =
+body_heard e from (body.MapNews m) fact h = news_heard e m h
+body_heard e from (body.Welcome m) fact h = welcome_heard e m h
+body_heard e from (body.Poll m) fact h = poll_heard e from m h
+body_heard e from (body.DeltaAck m) fact h = acknowledged e m h
+body_heard e from (body.Stored m) fact h =
     log_takes e (log_in.Acked m.name m.index m.generation) h (logs.acked_so IsMoved IsCopies copies e.log m.name m.index m.generation h.log)
-body_heard e from (body.Listed m) is h = list_came e (server_in from) m h
-body_heard e from (body.Usage m) is h = usage_came e m h
-body_heard e from (body.Fragment m) is h = told_came e (server_in from) m.ask (answered.Held m.fragment) h
-body_heard e from (body.Missing m) is h = told_came e (server_in from) m.ask (answered.Missing m.generation) h
-body_heard e from (body.Live m) is h = live_came e m is h
-body_heard e from (body.Dead m) is h = dead_came e m h
-body_heard e from (body.Deleted m) is h = deleted_came e (server_in from) m h
-body_heard e from _ is h = h
+body_heard e from (body.Listed m) fact h = list_came e (server_in from) m h
+body_heard e from (body.Usage m) fact h = usage_came e m h
+body_heard e from (body.Fragment m) fact h = told_came e (server_in from) m.ask (answered.Held m.fragment) h
+body_heard e from (body.Missing m) fact h = told_came e (server_in from) m.ask (answered.Missing m.generation) h
+body_heard e from (body.Live m) fact h = live_came e m fact h
+body_heard e from (body.Dead m) fact h = dead_came e m h
+body_heard e from (body.Deleted m) fact h = deleted_came e (server_in from) m h
+body_heard e from _ fact h = h
 
 pub packet_heard : (e : Emptying) (packet : Packet) → TellsVersion packet.body → At e → Goes (on_packet e packet)
 unfolding on_packet
-packet_heard e packet is h =
+packet_heard e packet fact h =
     by_test (λ (d : Done). Goes d) (names_known e.maps packet.body) (on_body e packet.from packet.body) (asks_for_maps e)
-    (λ t. body_heard e packet.from packet.body is h) (λ t. record { job = h.job; log = h.log })
+    (λ t. body_heard e packet.from packet.body fact h) (λ t. record { job = h.job; log = h.log })
 
 pub time_passes : (e : Emptying) → At e → Goes (on_tick e)
 unfolding on_tick

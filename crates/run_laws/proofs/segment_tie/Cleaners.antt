@@ -93,14 +93,14 @@ item_begun servers (Serving e) h =
 
 heard : (p : Phase) (packet : Packet) → TellsVersion packet.body → So p → Goes (hears p packet)
 unfolding hears
-heard (Down l) packet is h = tt
-heard (Opening l o) packet is h = opened l (opening.on_packet o l.questions packet) (packet_writes o l.questions packet h)
-heard (Serving e) packet is h = packet_heard e packet is h
+heard (Down l) packet fact h = tt
+heard (Opening l o) packet fact h = opened l (opening.on_packet o l.questions packet) (packet_writes o l.questions packet h)
+heard (Serving e) packet fact h = packet_heard e packet fact h
 
 delivered : (peers : Peers) (p : Phase) (packet : Packet) → TellsVersion packet.body → So p → Goes (on_deliver peers p packet)
 unfolding on_deliver
-delivered peers p packet is h =
-    by_test (λ (x : Went_to). Goes x) (is_well_formed peers packet) (hears p packet) (still p) (λ t. heard p packet is h) (λ t. h)
+delivered peers p packet fact h =
+    by_test (λ (x : Went_to). Goes x) (is_well_formed peers packet) (hears p packet) (still p) (λ t. heard p packet fact h) (λ t. h)
 
 passed : (p : Phase) → So p → Goes (on_time p)
 unfolding on_time
@@ -109,13 +109,13 @@ passed (Opening l o) h = opened l (opening.on_tick o l.questions) (tick_writes o
 passed (Serving e) h = time_passes e h
 
 all_events : (peers : Peers) (p : Phase) (what : Do) → BringsVersions what → So p → Goes (happens peers p what)
-all_events peers p Begin is h = item_begun peers.servers p h
-all_events peers p (Deliver packet) is h = delivered peers p packet is h
-all_events peers p Tick is h = passed p h
+all_events peers p Begin fact h = item_begun peers.servers p h
+all_events peers p (Deliver packet) fact h = delivered peers p packet fact h
+all_events peers p Tick fact h = passed p h
 
 taken_so : (peers : Peers) (p : Phase) (what : Do) → BringsVersions what → So p → Goes (takes peers p what)
-taken_so peers p what is h =
-    by_test (λ (x : Went_to). Goes x) (phase_room p) (happens peers p what) (still p) (λ t. all_events peers p what is h) (λ t. h)
+taken_so peers p what fact h =
+    by_test (λ (x : Went_to). Goes x) (phase_room p) (happens peers p what) (still p) (λ t. all_events peers p what fact h) (λ t. h)
 
 -- ---- the law
 
@@ -130,8 +130,8 @@ holds (Opening l o) h = h
 holds (Serving e) h = record { job = h.job; log = h.log }
 
 pub cleaner_writes : CleanerWritesCopies
-cleaner_writes cleaner what is h =
-    holds (takes cleaner.peers cleaner.phase what).state (taken_so cleaner.peers cleaner.phase what is (stands cleaner.phase h))
+cleaner_writes cleaner what fact h =
+    holds (takes cleaner.peers cleaner.phase what).state (taken_so cleaner.peers cleaner.phase what fact (stands cleaner.phase h))
 
 pub cleaner_starts : CleanerStartsWriting
 cleaner_starts setup works = record { job = tt; log = record { once = tt; each = tt; flies = tt } }

@@ -14,7 +14,7 @@ use Rattle.client_node.specs.declared.phase.Phase.TheVariants.{Down, Opening, Se
 use Rattle.client_node.specs.declared.phase.Phase.{Phase}
 use Rattle.client_node.specs.Phases.{takes}
 use Rattle.client_parts.specs.Flights.{is_giving, is_settling}
-use Rattle.client_serving.specs.Blocks.{changes, wrote}
+use Rattle.client_calls.specs.Blocks.{changes, wrote}
 use Rattle.client_serving.specs.declared.serving.Serving.{Serving}
 use Rattle.client_serving.specs.Flights.{feeds, gives_if_clean, gives_up, held_at, keeps_clean, notes_settled, settled_rows, settles, writes, writes_one}
 use Rattle.client_serving.specs.Follow.{evicts, notes_clean, notes_gone, seals}
@@ -56,9 +56,9 @@ So s = WritesOriginals s.log
 takes_keep : (n : ℕ) → TakesKeep (P n)
 takes_keep n = record {
   quiet = λ t u l c q p. p;
-  puts_off = λ t l c block g dirty is p. p;
-  lets = λ t l c block g clean is p. p;
-  lowers = λ t l c block g clean is p. p;
+  puts_off = λ t l c block g dirty fact p. p;
+  lets = λ t l c block g clean fact p. p;
+  lowers = λ t l c block g clean fact p. p;
   leaves = λ t l c block nothing p. p;
   seals = λ t l c p. logs.seal_so IsFirstHand IsOriginal originals l p;
 }
@@ -153,8 +153,8 @@ keeps = record {
   ends = λ t l c p. p;
   takes = takes_keep;
   touches = λ t l c block p. p;
-  copies = λ s block g may sound is p. clean_noted (record s { tokens = with_held s.tokens block g }) block p;
-  owns = λ t l c block g may sound is p. p;
+  copies = λ s block g may sound fact p. clean_noted (record s { tokens = with_held s.tokens block g }) block p;
+  owns = λ t l c block g may sound fact p. p;
   logs = λ s i outer sound p. wrote_so s i (outer_so s.log i outer p);
   puts = λ s block value sound may p. changed_so s block value may p;
   puts_owned = λ s block value sound may p. changed_so s block value may p;

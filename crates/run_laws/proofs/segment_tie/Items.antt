@@ -118,8 +118,8 @@ module _ (Moved : ℕ → Type 0) where
 
   change_says : (before : ℕ) (block : BlockId) (entry : Entry) (value : Option (List ℕ)) → IsWaiting Moved (record { entry = entry; value = value })
       → AllSay Moved (change_items before block (record { entry = entry; value = value }))
-  change_says before block entry None is = ((is.version, is.hop), tt)
-  change_says before block entry (Some bytes) is = (tt, ((is.version, is.hop), tt))
+  change_says before block entry None fact = ((fact.version, fact.hop), tt)
+  change_says before block entry (Some bytes) fact = (tt, ((fact.version, fact.hop), tt))
 
   changes_say : (before : ℕ) (cs : Changes) → AllWait cs → AllSay Moved (items_of before cs)
   changes_say before [] all = tt

@@ -36,13 +36,13 @@ pub record IsKind (Moved : ℕ → Type 0) (Flies : Segment → Type 0) : Type 0
 pub originals : IsKind IsFirstHand IsOriginal
 originals = record {
   alike = original_alike;
-  made = λ s cs few once all is. original_of s (subst (Says IsFirstHand) (sym is) (changes_tell IsFirstHand cs few once all));
+  made = λ s cs few once all fact. original_of s (subst (Says IsFirstHand) (sym fact) (changes_tell IsFirstHand cs few once all));
 }
 
 pub copies : IsKind IsMoved IsCopies
 copies = record {
   alike = copies_alike;
-  made = λ s cs few once all is. copies_of s (subst (Says IsMoved) (sym is) (changes_tell IsMoved cs few once all));
+  made = λ s cs few once all fact. copies_of s (subst (Says IsMoved) (sym fact) (changes_tell IsMoved cs few once all));
 }
 
 module _ (Moved : ℕ → Type 0) (Flies : Segment → Type 0) (kind : IsKind Moved Flies) where
@@ -107,27 +107,27 @@ module _ (Moved : ℕ → Type 0) (Flies : Segment → Type 0) (kind : IsKind Mo
   -- these items
   pub parts_so : (s : LogState) (items : List Item) → ((t : Segment) → t.items ≡ items → Flies t) → So s → So (on_parts s items).state
   unfolding on_parts launched
-  parts_so s items is h =
+  parts_so s items fact h =
       by_test Keeps (is_idle s && has_next s.end.seq && has_text items) (writes s items) (still s)
-      (λ t. record { once = h.once; each = h.each; flies = is _ refl }) (λ t. h)
+      (λ t. record { once = h.once; each = h.each; flies = fact _ refl }) (λ t. h)
 
   -- ---- a segment is settled
 
   -- beside the same that waits, this flies
   flies_so : (s : LogState) (f : FlightState) → So s → Flies f.segment → So (record s { flight = Some f })
-  flies_so s f h is = record { once = h.once; each = h.each; flies = is }
+  flies_so s f h fact = record { once = h.once; each = h.each; flies = fact }
 
   follows_so : (s : LogState) (f : FlightState) (fate : Fate) → So s → Flies f.segment → Keeps (followed s f fate)
   unfolding restriped launched settled
-  follows_so s f Restripe h is = record { once = h.once; each = h.each; flies = kind.alike f.segment _ refl is }
-  follows_so s f Settle h is = if_full_so (landed s f) (record { once = h.once; each = h.each; flies = tt })
-  follows_so s f Wait h is = flies_so s f h is
+  follows_so s f Restripe h fact = record { once = h.once; each = h.each; flies = kind.alike f.segment _ refl fact }
+  follows_so s f Settle h fact = if_full_so (landed s f) (record { once = h.once; each = h.each; flies = tt })
+  follows_so s f Wait h fact = flies_so s f h fact
 
   looks_so : (before s : LogState) (f : FlightState) → So before → So s → Flies f.segment → Keeps (looked_at before s f)
   unfolding looked_at
-  looks_so before s f was h is =
+  looks_so before s f was h fact =
       by_test Keeps (can_follow s f (fate_of s.groups f)) (followed s f (fate_of s.groups f)) (still before)
-      (λ t. follows_so s f (fate_of s.groups f) h is) (λ t. was)
+      (λ t. follows_so s f (fate_of s.groups f) h fact) (λ t. was)
 
   pub acked_so : (s : LogState) (name : SegName) (index generation : ℕ) → So s → So (on_acked s name index generation).state
   unfolding on_acked
@@ -135,9 +135,9 @@ module _ (Moved : ℕ → Type 0) (Flies : Segment → Type 0) (kind : IsKind Mo
     where
       by : (o : Option FlightState) → IfSome o (λ f. Flies f.segment)
           → Keeps (elim o [ None ↦ still s | Some f ↦ cond (is_of f name index generation) (looked_at s s (noting f index)) (still s) ])
-      by None is = h
-      by (Some f) is =
-          by_test Keeps (is_of f name index generation) (looked_at s s (noting f index)) (still s) (λ t. looks_so s s (noting f index) h h is) (λ t. h)
+      by None fact = h
+      by (Some f) fact =
+          by_test Keeps (is_of f name index generation) (looked_at s s (noting f index)) (still s) (λ t. looks_so s s (noting f index) h h fact) (λ t. h)
 
   pub maps_so : (s : LogState) (groups : GroupMapState) → So s → So (on_maps s groups).state
   unfolding on_maps
@@ -148,8 +148,8 @@ module _ (Moved : ℕ → Type 0) (Flies : Segment → Type 0) (kind : IsKind Mo
 
       by : (o : Option FlightState) → IfSome o (λ f. Flies f.segment)
           → Keeps (elim o [ None ↦ still (record s { groups = groups }) | Some f ↦ looked_at s (record s { groups = groups }) f ])
-      by None is = now
-      by (Some f) is = looks_so s (record s { groups = groups }) f h now is
+      by None fact = now
+      by (Some f) fact = looks_so s (record s { groups = groups }) f h now fact
 
   pub tick_so : (s : LogState) → So s → So (on_tick s).state
   unfolding on_tick

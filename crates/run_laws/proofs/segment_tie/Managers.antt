@@ -54,14 +54,14 @@ any_work None = tt
 any_work (Some w) = any_lists w.left
 
 part_told : (i : Item) → IsPart i → PartTold any i
-part_told (Block block value) is = absurd is
-part_told (Delta block ver hop item) is = absurd is
-part_told (Part slot rows) is = any_rows rows
+part_told (Block block value) fact = absurd fact
+part_told (Delta block ver hop item) fact = absurd fact
+part_told (Part slot rows) fact = any_rows rows
 
 part_is : (i : Item) → PartTold any i → IsPart i
-part_is (Block block value) is = absurd is
-part_is (Delta block ver hop item) is = absurd is
-part_is (Part slot rows) is = tt
+part_is (Block block value) fact = absurd fact
+part_is (Delta block ver hop item) fact = absurd fact
+part_is (Part slot rows) fact = tt
 
 flight_held : (o : Option FlightState) → IfSome o (λ f. IsPages f.segment) → IfSome o (FlightHolds any)
 flight_held None h = tt

@@ -66,15 +66,15 @@ begun_so s h =
 
 follows_so : (s : LogState) (f : FlightState) (fate : Fate) → s.dirty ≡ [] → Empty f.segment → Keeps (followed s f fate)
 unfolding restriped launched settled
-follows_so s f Restripe clear is = record { clear = clear; flies = is }
-follows_so s f Settle clear is = if_full_so (landed s f) (record { clear = clear; flies = tt })
-follows_so s f Wait clear is = record { clear = clear; flies = is }
+follows_so s f Restripe clear fact = record { clear = clear; flies = fact }
+follows_so s f Settle clear fact = if_full_so (landed s f) (record { clear = clear; flies = tt })
+follows_so s f Wait clear fact = record { clear = clear; flies = fact }
 
 looks_so : (before s : LogState) (f : FlightState) → WritesNothing before → s.dirty ≡ [] → Empty f.segment → Keeps (looked_at before s f)
 unfolding looked_at
-looks_so before s f was clear is =
+looks_so before s f was clear fact =
     by_test Keeps (can_follow s f (fate_of s.groups f)) (followed s f (fate_of s.groups f)) (still before)
-    (λ t. follows_so s f (fate_of s.groups f) clear is) (λ t. was)
+    (λ t. follows_so s f (fate_of s.groups f) clear fact) (λ t. was)
 
 pub acked_so : (s : LogState) (name : SegName) (index generation : ℕ) → WritesNothing s → Keeps (on_acked s name index generation)
 unfolding on_acked
@@ -82,9 +82,9 @@ acked_so s name index generation h = by s.flight h.flies
   where
     by : (o : Option FlightState) → IfSome o (λ f. Empty f.segment)
         → Keeps (elim o [ None ↦ still s | Some f ↦ cond (is_of f name index generation) (looked_at s s (noting f index)) (still s) ])
-    by None is = h
-    by (Some f) is =
-        by_test Keeps (is_of f name index generation) (looked_at s s (noting f index)) (still s) (λ t. looks_so s s (noting f index) h h.clear is) (λ t. h)
+    by None fact = h
+    by (Some f) fact =
+        by_test Keeps (is_of f name index generation) (looked_at s s (noting f index)) (still s) (λ t. looks_so s s (noting f index) h h.clear fact) (λ t. h)
 
 pub maps_so : (s : LogState) (groups : GroupMapState) → WritesNothing s → Keeps (on_maps s groups)
 unfolding on_maps
@@ -92,8 +92,8 @@ maps_so s groups h = by s.flight h.flies
   where
     by : (o : Option FlightState) → IfSome o (λ f. Empty f.segment)
         → Keeps (elim o [ None ↦ still (record s { groups = groups }) | Some f ↦ looked_at s (record s { groups = groups }) f ])
-    by None is = record { clear = h.clear; flies = h.flies }
-    by (Some f) is = looks_so s (record s { groups = groups }) f h h.clear is
+    by None fact = record { clear = h.clear; flies = h.flies }
+    by (Some f) fact = looks_so s (record s { groups = groups }) f h h.clear fact
 
 pub tick_so : (s : LogState) → WritesNothing s → Keeps (on_tick s)
 unfolding on_tick

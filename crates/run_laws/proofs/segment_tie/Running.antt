@@ -63,11 +63,11 @@ stands_on (any.Cleaner node) what h = tt
 stands_on (any.Registry node) what h = tt
 
 copies_on : (node : AnyNode) (what : Do) → BringsVersions what → NodeCopies node → NodeCopies (any_step node what).node
-copies_on (any.Client node) what is h = tt
-copies_on (any.Manager node) what is h = tt
-copies_on (any.Server node) what is h = tt
-copies_on (any.Cleaner node) what is h = cleaner_writes node what is h
-copies_on (any.Registry node) what is h = tt
+copies_on (any.Client node) what fact h = tt
+copies_on (any.Manager node) what fact h = tt
+copies_on (any.Server node) what fact h = tt
+copies_on (any.Cleaner node) what fact h = cleaner_writes node what fact h
+copies_on (any.Registry node) what fact h = tt
 
 writes : (node : AnyNode) → Stands node → NodeWrites node
 writes (any.Client node) h = h.1
@@ -92,14 +92,14 @@ delivered w (Tick node) may all = tt
 
 event_keeps : (w : World AnyNode) (event : Event) → MayHappen w event → WorldSo w → WorldSo (next_world any_step w event)
 event_keeps w event may h =
-    next_keeps any_step AllSo w event h (λ place node clock at is.
+    next_keeps any_step AllSo w event h (λ place node clock at fact.
     let what : Do = what_of event in
     let more : List Packet = map (sent_at clock) (any_step node what).packets in (
-      all_set Stands w.nodes place (any_step node what).node h.0 (stands_on node what (all_got Stands w.nodes place node h.0 is)),
+      all_set Stands w.nodes place (any_step node what).node h.0 (stands_on node what (all_got Stands w.nodes place node h.0 fact)),
       λ all.
           let before : AllByRecursion PacketTellsVersion w.sent = all_before PacketTellsVersion w.sent more all in
           all_set NodeCopies w.nodes place (any_step node what).node (h.1 before)
-          (copies_on node what (delivered w event may before) (all_got NodeCopies w.nodes place node (h.1 before) is)),
+          (copies_on node what (delivered w event may before) (all_got NodeCopies w.nodes place node (h.1 before) fact)),
     ))
 
 -- ---- runs
@@ -125,17 +125,17 @@ front (event ∷ events) (suc count) w end leads h = front events count (next_wo
 
 -- the node of a name is among the nodes
 found : (P : AnyNode → Type 0) (all : List AnyNode) (place : Option ℕ) (node : AnyNode) → AllByRecursion P all → node_in all place ≡ Some node → P node
-found P all None node h is = (let clash : None ≡ Some node = is in absurd (cc))
-found P all (Some place) node h is = all_got P all place node h is
+found P all None node h fact = (let clash : None ≡ Some node = fact in absurd (cc))
+found P all (Some place) node h fact = all_got P all place node h fact
 
 pub runs_write : RunsWriteOriginals
-runs_write e run count name node is =
+runs_write e run count name node fact =
     let w : World AnyNode = moment e count in
     writes node (found Stands w.nodes (place_of w.cluster name) node
-    (front e.events count (start_world any_start e.script) e.world run (start_so e.script)).0 is)
+    (front e.events count (start_world any_start e.script) e.world run (start_so e.script)).0 fact)
 
 pub runs_copy : RunsWriteCopies
-runs_copy e run count all name node is =
+runs_copy e run count all name node fact =
     let w : World AnyNode = moment e count in
     found NodeCopies w.nodes (place_of w.cluster name) node
-    ((front e.events count (start_world any_start e.script) e.world run (start_so e.script)).1 all) is
+    ((front e.events count (start_world any_start e.script) e.world run (start_so e.script)).1 all) fact

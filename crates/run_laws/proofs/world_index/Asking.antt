@@ -39,10 +39,10 @@ book_with book outs ask name = book ask name ⊎ AsksIn outs ask name
 
 module _ (book fewer : Book) (sub : (ask : ℕ) (name : SegName) → fewer ask name → book ask name) where
   pub drawn_fewer : (q : Questions) → IsDrawn book q → IsDrawn fewer q
-  drawn_fewer q h room ask name is = h room ask name (sub ask name is)
+  drawn_fewer q h room ask name fact = h room ask name (sub ask name fact)
 
   pub hand_fewer : (q : Questions) (hand : Hand) → HandAsks book q hand → HandAsks fewer q hand
-  hand_fewer q hand h = record { drawn = h.drawn; named = λ room block ask name awaited is. h.named room block ask name awaited (sub ask name is) }
+  hand_fewer q hand h = record { drawn = h.drawn; named = λ room block ask name awaited fact. h.named room block ask name awaited (sub ask name fact) }
 
   pub in_fewer : (q : Questions) (phase : Phase) (o : Option Hand) → HandIn book q phase o → HandIn fewer q phase o
   in_fewer q phase None h = tt
@@ -70,12 +70,12 @@ module _ (book : Book) (q r : Questions) (more : q.last ≤ r.last) where
   low a b c h g = omega arith
 
   pub drawn_more : IsDrawn book q → IsDrawn book r
-  drawn_more h room ask name is = low ask q.last r.last (h (room_was q.last r.last u32_end more room) ask name is) more
+  drawn_more h room ask name fact = low ask q.last r.last (h (room_was q.last r.last u32_end more room) ask name fact) more
 
   pub hand_more : (hand : Hand) → HandAsks book q hand → HandAsks book r hand
   hand_more hand h = record {
     drawn = λ room block ask awaited. low ask q.last r.last (h.drawn (room_was q.last r.last u32_end more room) block ask awaited) more;
-    named = λ room block ask name awaited is. h.named (room_was q.last r.last u32_end more room) block ask name awaited is;
+    named = λ room block ask name awaited fact. h.named (room_was q.last r.last u32_end more room) block ask name awaited fact;
   }
 
   pub in_more : (phase : Phase) (o : Option Hand) → HandIn book q phase o → HandIn book r phase o

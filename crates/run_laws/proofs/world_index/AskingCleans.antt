@@ -106,24 +106,24 @@ module _ (book : Book) (q : Questions) (drawn_so : IsDrawn book q) (j : JobState
     hand = record {
       asks = record {
         drawn = λ room block ask awaited. absurd (nothing_asked ask awaited);
-        named = λ room block ask name awaited is. absurd (nothing_asked ask awaited);
+        named = λ room block ask name awaited fact. absurd (nothing_asked ask awaited);
       };
       job = refl;
     };
   }
 
   held_so : (o : Option Hand) → HandOnly book q o → is_in_hand o segment ≡ true → HandIn book q (Reading j segment) o
-  held_so None h is = tt
-  held_so (Some hand) h is = record {
+  held_so None h fact = tt
+  held_so (Some hand) h fact = record {
     asks = h;
-    job = same_name_exact hand.seg.name segment.name (first_true (same_name hand.seg.name segment.name) (hand.seg.group == segment.group) is);
+    job = same_name_exact hand.seg.name segment.name (first_true (same_name hand.seg.name segment.name) (hand.seg.group == segment.group) fact);
   }
 
   takes_so : (groups : _) (o : Option Hand) → HandOnly book q o → TakenSo (takes_in_hand groups q o segment)
   unfolding takes_in_hand
   takes_so groups o h =
       by_test TakenSo (is_in_hand o segment) (record { hand = o; questions = q }) (taken_over q segment (known_group groups segment.group))
-      (λ is. record { drawn = drawn_so; hand = held_so o h is }) (λ _. fresh_so (known_group groups segment.group))
+      (λ fact. record { drawn = drawn_so; hand = held_so o h fact }) (λ _. fresh_so (known_group groups segment.group))
 
 module _ (book : Book) (e : Emptying) (j : JobState) (segment : SegRef) where
   -- the job reads the segment now
@@ -133,17 +133,17 @@ module _ (book : Book) (e : Emptying) (j : JobState) (segment : SegRef) where
 
   held : (o : Option Job) → e.job ≡ o → IsDrawn book e.lasting.questions → JobOnly book e.lasting.questions o → Reads o
       → At book (holds_in e o segment)
-  held None same drawn_so only is = record { drawn = drawn_so; job = subst (JobAsks book e.lasting.questions) (sym same) tt }
-  held (Some job) same drawn_so only is =
+  held None same drawn_so only fact = record { drawn = drawn_so; job = subst (JobAsks book e.lasting.questions) (sym same) tt }
+  held (Some job) same drawn_so only fact =
       let t = takes_so book e.lasting.questions drawn_so j segment e.maps.groups job.hand only in
       let taken = takes_in_hand e.maps.groups e.lasting.questions job.hand segment in
-      record { drawn = t.drawn; job = subst (λ p. HandIn book taken.questions p taken.hand) (sym is) t.hand }
+      record { drawn = t.drawn; job = subst (λ p. HandIn book taken.questions p taken.hand) (sym fact) t.hand }
 
   reads_so : IsDrawn book e.lasting.questions → JobOnly book e.lasting.questions e.job → Reads e.job → Kept book (reads e segment)
   unfolding reads holds
-  reads_so drawn_so only is =
+  reads_so drawn_so only fact =
       quiet book (holds_in e e.job segment) (fetches (hand_of (holds_in e e.job segment).job)) (fetches_silent (hand_of (holds_in e e.job segment).job))
-      (held e.job refl drawn_so only is)
+      (held e.job refl drawn_so only fact)
 
 -- ---- what else it does
 
@@ -167,8 +167,8 @@ pub rehand : (book : Book) (q : Questions) (phase : Phase) (hand later : Hand) �
 rehand book q phase hand later seg checks h = record {
   asks = record {
     drawn = λ room block ask awaited. h.asks.drawn room block ask (subst (λ cs. asked_of cs block ≡ Some ask) checks awaited);
-    named = λ room block ask name awaited is.
-        ap (λ (s : SegRef). s.name) seg ∙ h.asks.named room block ask name (subst (λ cs. asked_of cs block ≡ Some ask) checks awaited) is;
+    named = λ room block ask name awaited fact.
+        ap (λ (s : SegRef). s.name) seg ∙ h.asks.named room block ask name (subst (λ cs. asked_of cs block ≡ Some ask) checks awaited) fact;
   };
   job = subst (λ (s : SegRef). IsOfJob phase s.name) (sym seg) h.job;
 }

@@ -65,7 +65,7 @@ silent_all (e ∷ es) ask name silent (inl asks) = silent_effect e ask name sile
 silent_all (e ∷ es) ask name silent (inr asks) = silent_all es ask name silent.1 asks
 
 no_more : (book : Book) (es : List Effect) → AllSilent es → (ask : ℕ) (name : SegName) → book_with book es ask name → book ask name
-no_more book es silent ask name (inl is) = is
+no_more book es silent ask name (inl fact) = fact
 no_more book es silent ask name (inr asks) = absurd (silent_all es ask name silent asks)
 
 -- ---- one thing after another
@@ -76,7 +76,7 @@ asks_either (e ∷ xs) ys ask name (inl asks) = inl (inl asks)
 asks_either (e ∷ xs) ys ask name (inr asks) = elim (asks_either xs ys ask name asks) [ inl x ↦ inl (inr x) | inr y ↦ inr y ]
 
 both_books : (book : Book) (xs ys : List Effect) (ask : ℕ) (name : SegName) → book_with book (xs ++ ys) ask name → book_with (book_with book xs) ys ask name
-both_books book xs ys ask name (inl is) = inl (inl is)
+both_books book xs ys ask name (inl fact) = inl (inl fact)
 both_books book xs ys ask name (inr asks) = elim (asks_either xs ys ask name asks) [ inl x ↦ inl (inr x) | inr y ↦ inr y ]
 
 -- what the cleaner awaits
@@ -105,7 +105,7 @@ went_on book d e one next =
 pub went_behind : (book : Book) (es : List Effect) (d : Done) → AllSilent es → Kept book d → Kept book (saying es d)
 went_behind book es d silent h =
     so_fewer (book_with book d.outs) (book_with book (es ++ d.outs))
-    (λ ask name is. elim (both_books book es d.outs ask name is) [ inl x ↦ inl (no_more book es silent ask name x) | inr y ↦ inr y ])
+    (λ ask name fact. elim (both_books book es d.outs ask name fact) [ inl x ↦ inl (no_more book es silent ask name x) | inr y ↦ inr y ])
     d.state.lasting.questions d.state.job h
 
 pub all_steps : {A : Type 0} (step : Emptying → A → Done) → ((book : Book) (e : Emptying) (x : A) → At book e → Kept book (step e x))
@@ -123,10 +123,10 @@ below_next q = by_test (λ (n : ℕ). q.last ≤ n) (nat_lt q.last u32_end) (q.l
 -- a new number is a greater one, unless numbers are at their end
 past_last : (q : Questions) → next_ask q < u32_end → q.last < next_ask q
 past_last q = by_test (λ (n : ℕ). n < u32_end → q.last < n) (nat_lt q.last u32_end) (q.last + 1) q.last (λ _ room. omega arith)
-    (λ is room. absurd (not_end q.last u32_end is room))
+    (λ fact room. absurd (not_end q.last u32_end fact room))
   where
     not_end : (x end : ℕ) → nat_lt x end ≡ false → x < end → ⊥
-    not_end x end is less = grind (arith, nat_tests)
+    not_end x end fact less = grind (arith, nat_tests)
 
 pub so_more : (book : Book) (q r : Questions) → q.last ≤ r.last → (o : Option Job) → AsksSo book q o → AsksSo book r o
 so_more book q r more o h = record { drawn = drawn_more book q r more h.drawn; job = job_more book q r more o h.job }
@@ -187,8 +187,8 @@ none_some a same = absurd (cc)
 module _ (block key : BlockId) (ask found : ℕ) where
   one_more : (here : Bool) (rest old : Option ℕ) → cond here (Some ask) rest ≡ Some found → (rest ≡ Some found → (found ≡ ask) ⊎ (old ≡ Some found))
       → (found ≡ ask) ⊎ (old ≡ Some found)
-  one_more true rest old is then = inl (sym (some_is ask found is))
-  one_more false rest old is then = then is
+  one_more true rest old fact then = inl (sym (some_is ask found fact))
+  one_more false rest old fact then = then fact
 
   abbrev Rest : List (BlockId × ℕ) → Type 0
   Rest es = lookup (is_at (block_cmp block)) (insert_entry block_cmp es key ask) ≡ Some found
@@ -196,8 +196,8 @@ module _ (block key : BlockId) (ask found : ℕ) where
 
   looked_up : (es : List (BlockId × ℕ)) → lookup (is_at (block_cmp block)) (insert_entry block_cmp es key ask) ≡ Some found
       → (found ≡ ask) ⊎ (lookup (is_at (block_cmp block)) es ≡ Some found)
-  looked_up [] is = one_more (is_at (block_cmp block) key) None None is (λ same. inr same)
-  looked_up (e ∷ es) is = by (block_cmp key e.0) (looked_up es) is
+  looked_up [] fact = one_more (is_at (block_cmp block) key) None None fact (λ same. inr same)
+  looked_up (e ∷ es) fact = by (block_cmp key e.0) (looked_up es) fact
     where
       keeps : Rest es → (t : Bool) → cond t (Some e.1) (lookup (is_at (block_cmp block)) (insert_entry block_cmp es key ask)) ≡ Some found
           → (found ≡ ask) ⊎ (cond t (Some e.1) (lookup (is_at (block_cmp block)) es) ≡ Some found)
@@ -237,9 +237,9 @@ module _ (book : Book) (q : Questions) (phase : Phase) (hand : Hand) (h : HandSe
   was_room room = let past = past_last q room in omega arith
 
   new_named : new < u32_end → (b : BlockId) (ask : ℕ) (name : SegName) → asked_of then_hand.checks b ≡ Some ask → then_book new ask name → hand.seg.name ≡ name
-  new_named room b ask name awaited is = elim (looked_up b block new ask hand.checks awaited) [
-    | inl fresh ↦ of_new fresh is
-    | inr old ↦ of_old old is
+  new_named room b ask name awaited fact = elim (looked_up b block new ask hand.checks awaited) [
+    | inl fresh ↦ of_new fresh fact
+    | inr old ↦ of_old old fact
   ]
     where
       past : q.last < new
@@ -303,8 +303,8 @@ module _ (book : Book) (e : Emptying) (block : BlockId) (place : Place) where
       q = e.lasting.questions
 
       its : (o : Option ℕ) → kept_ask hand block ≡ o → (ask : ℕ) → o ≡ Some ask → asked_of hand.checks block ≡ Some ask
-      its o known ask is = by_test (λ (x : Option ℕ). x ≡ Some ask → asked_of hand.checks block ≡ Some ask) hand.moved None (asked_of hand.checks block)
-          (λ _ none. absurd (none_some ask none)) (λ _ same. same) (known ∙ is)
+      its o known ask fact = by_test (λ (x : Option ℕ). x ≡ Some ask → asked_of hand.checks block ≡ Some ask) hand.moved None (asked_of hand.checks block)
+          (λ _ none. absurd (none_some ask none)) (λ _ same. same) (known ∙ fact)
 
       by : (o : Option ℕ) → kept_ask hand block ≡ o → ChecksOn (with_checks (job_checked job (checks_under hand q block o)))
       by None known = record {
@@ -326,15 +326,15 @@ module _ (book : Book) (e : Emptying) (block : BlockId) (place : Place) where
 
   checks_in : (job : Job) (o : Option Hand) → job.hand ≡ o → At book e → e.job ≡ Some job → SegIn place.seg o
       → ChecksOn (with_checks (hand_checks_in job e.lasting.questions o block))
-  checks_in job None is h same seg = record {
+  checks_in job None fact h same seg = record {
     kept = quiet book (checked_with e (hand_checks_in job e.lasting.questions None block)).state [] tt (record {
       drawn = h.drawn;
       job = (subst (AsksSo book e.lasting.questions) same h).job;
     });
-    seg = subst (SegIn place.seg) (sym is) tt;
+    seg = subst (SegIn place.seg) (sym fact) tt;
   }
-  checks_in job (Some hand) is h same seg =
-      checks_hand job hand (subst (HandIn book e.lasting.questions job.cleaning.phase) is (subst (AsksSo book e.lasting.questions) same h).job) h.drawn seg
+  checks_in job (Some hand) fact h same seg =
+      checks_hand job hand (subst (HandIn book e.lasting.questions job.cleaning.phase) fact (subst (AsksSo book e.lasting.questions) same h).job) h.drawn seg
 
   checks_by : (o : Option Job) → e.job ≡ o → At book e → SegOf place.seg o
       → ChecksOn (check_sent (checked_in e o block).state block place (checked_in e o block).ask)

@@ -109,13 +109,13 @@ module _ (book : Book) (q : Questions) where
 
   job_hears_so : (job : Job) (o : Option Hand) → job.hand ≡ o → (groups : GroupMapState) (ask server : ℕ) (t : Told) → HandIn book q job.cleaning.phase o
       → JobAsks book q (Some (hand_hears_in job o groups ask server t).state)
-  job_hears_so job None is groups ask server t h = subst (HandIn book q job.cleaning.phase) (sym is) tt
-  job_hears_so job (Some hand) is groups ask server t h = hand_hears_so job.cleaning.phase hand groups ask server t h
+  job_hears_so job None fact groups ask server t h = subst (HandIn book q job.cleaning.phase) (sym fact) tt
+  job_hears_so job (Some hand) fact groups ask server t h = hand_hears_so job.cleaning.phase hand groups ask server t h
 
   job_confirmed_so : (job : Job) (o : Option Hand) → job.hand ≡ o → (ask : ℕ) → HandIn book q job.cleaning.phase o
       → JobAsks book q (Some (hand_confirmed_in job o ask).state)
-  job_confirmed_so job None is ask h = subst (HandIn book q job.cleaning.phase) (sym is) tt
-  job_confirmed_so job (Some hand) is ask h = hand_confirmed_so job.cleaning.phase hand ask h
+  job_confirmed_so job None fact ask h = subst (HandIn book q job.cleaning.phase) (sym fact) tt
+  job_confirmed_so job (Some hand) fact ask h = hand_confirmed_so job.cleaning.phase hand ask h
 
 -- ---- its log
 

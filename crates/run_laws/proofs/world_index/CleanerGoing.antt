@@ -75,10 +75,10 @@ module _ (part : ℕ) (texts : Texts) (asked : Questions) (n : Net) where
     parts = refl;
     promised = let x = n.promised in omega arith;
     away = λ none. refl;
-    sent = λ x is. is;
-    deleted = λ name is. is;
+    sent = λ x premise. premise;
+    deleted = λ name premise. premise;
     questions = asked;
-    kept = λ x is. is;
+    kept = λ x premise. premise;
     does = λ i d less. absurd (omega arith);
   }
 
@@ -90,16 +90,16 @@ module _ (part : ℕ) (texts : Texts) (asked : Questions) (n : Net) where
   cleaner_goes law of_eight cleaner what agreed asks fact owed = by (phase_room cleaner.phase) refl
     where
       by : (t : Bool) → phase_room cleaner.phase ≡ t → CleanerGoes part texts asked n (takes cleaner.peers cleaner.phase what)
-      by true is = law part texts asked n cleaner what of_eight agreed
+      by true premise = law part texts asked n cleaner what of_eight agreed
           (record {
             files = owed.files;
             asks = owed.asks;
             reopens = owed.reopens;
-            gets = cleaner_gets part texts asked n cleaner.phase what agreed.phase asks (room_below cleaner.phase is) fact owed.gets;
+            gets = cleaner_gets part texts asked n cleaner.phase what agreed.phase asks (room_below cleaner.phase premise) fact owed.gets;
             writes = owed.writes;
           })
-      by false is = subst (CleanerGoes part texts asked n)
-          (sym (second_of (phase_room cleaner.phase) (happens cleaner.peers cleaner.phase what) (still cleaner.phase) is))
+      by false premise = subst (CleanerGoes part texts asked n)
+          (sym (second_of (phase_room cleaner.phase) (happens cleaner.peers cleaner.phase what) (still cleaner.phase) premise))
           (rests cleaner.phase agreed)
 
   -- ---- what it asked
@@ -139,7 +139,7 @@ module _ (part : ℕ) (texts : Texts) (asked : Questions) (n : Net) where
 
   -- one more effect that asks nothing of the slot
   quiet_asks : (e : Effect) (es : List Effect) → (r : NewAsks es) → EffectKnown r.list e → NewAsks (e ∷ es)
-  quiet_asks e es r h = record { list = r.list; known = (h, r.known); from = λ x is. inr (r.from x is) }
+  quiet_asks e es r h = record { list = r.list; known = (h, r.known); from = λ x premise. inr (r.from x premise) }
 
   module _ (since : ℕ) (questions : Questions) where
     check_asks : (to : _) (m : Check) (es : List Effect) → (slot_of m.block.ino.0 ≡ part → CheckKnown part questions n m) → NewAsks es
@@ -154,24 +154,24 @@ module _ (part : ℕ) (texts : Texts) (asked : Questions) (n : Net) where
               list = list;
               known = (
                 λ inside. record { number = k.number; below = k.below; sent = k.sent; question = inl refl },
-                all_more r.list list (λ y is. inr is) es r.known,
+                all_more r.list list (λ y premise. inr premise) es r.known,
               );
-              from = λ y is. elim is [
+              from = λ y premise. elim premise [
                 | inl same ↦ inl (ap (λ (z : ℕ × ℕ × SegName). z.0) (sym same), ap (λ (z : ℕ × ℕ × SegName). z.2) (sym same))
                 | inr older ↦ inr (r.from y older)
               ];
             }
 
         by : (t : Bool) → (slot_of m.block.ino.0 == part) ≡ t → NewAsks (Send to (body.Check m) ∷ es)
-        by true is = one (h (eqb-true (slot_of m.block.ino.0) part is))
-        by false is = quiet_asks (Send to (body.Check m)) es r (λ inside. absurd (let same = inside in grind (arith, nat_tests, same, is)))
+        by true premise = one (h (eqb-true (slot_of m.block.ino.0) part premise))
+        by false premise = quiet_asks (Send to (body.Check m)) es r (λ inside. absurd (let same = inside in grind (arith, nat_tests, same, premise)))
 
     body_asks : (to : _) (m : Body) (es : List Effect) → CleanerSays part questions n since m → NewAsks es → NewAsks (Send to m ∷ es)
     body_asks to (body.Check m) es h r = check_asks to m es h r
     body_asks to _ es h r = quiet_asks _ es r tt
 
     pub new_asks : (es : List Effect) → AllByRecursion (CleanerDoes part questions n since) es → NewAsks es
-    new_asks [] all = record { list = []; known = tt; from = λ x is. absurd is }
+    new_asks [] all = record { list = []; known = tt; from = λ x premise. absurd premise }
     new_asks (Send to m ∷ es) all = body_asks to m es all.0 (new_asks es all.1)
     new_asks (Answer item answer ∷ es) all = quiet_asks (Answer item answer) es (new_asks es all.1) tt
     new_asks (Lose seg ∷ es) all = quiet_asks (Lose seg) es (new_asks es all.1) tt

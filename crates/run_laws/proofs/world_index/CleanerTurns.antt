@@ -42,7 +42,7 @@ use Rattle.xfs_base.specs.declared.segment.SegRef.{SegRef}
 -- what is in two lists is in one of them
 in_either : {X : Type 0} (x : X) (xs ys : List X) → tables.In x (xs ++ ys) → tables.In x xs ⊎ tables.In x ys
 in_either x [] ys h = inr h
-in_either x (y ∷ xs) ys (inl is) = inl (inl is)
+in_either x (y ∷ xs) ys (inl fact) = inl (inl fact)
 in_either x (y ∷ xs) ys (inr later) = ⊎_elim (λ h. inl (inr h)) (λ h. inr h) (in_either x xs ys later)
 
 -- what the cleaner says, it tells
@@ -59,7 +59,7 @@ module _ (part : ℕ) (texts : Texts) (n : Net) (old asked questions : Questions
 module _ (clients_stay : ClientsStay) (managers_stay : ManagersStay) (k : Cluster) (part : ℕ) (texts : Texts)
     (first : ℕ → ℕ → Segment) (RegistrySound : RegistryNode → Type 0) (nodes : List AnyNode) (sent : List Packet) (s : Scene)
     (st : Stands k part texts first nodes sent RegistrySound s)
-    (p clock : ℕ) (at : place_of k Cleaner ≡ Some p) (is : slice_get nodes p ≡ Some (any.Cleaner s.cleaner)) (what : Do)
+    (p clock : ℕ) (at : place_of k Cleaner ≡ Some p) (fact : slice_get nodes p ≡ Some (any.Cleaner s.cleaner)) (what : Do)
     (go : CleanerGoes part texts s.asked s.net (takes s.cleaner.peers s.cleaner.phase what))
     (asks : CleanerAsks (book_with (WasAsked s.asked) (takes s.cleaner.peers s.cleaner.phase what).outs) (takes s.cleaner.peers s.cleaner.phase what).state)
   where
@@ -125,7 +125,7 @@ module _ (clients_stay : ClientsStay) (managers_stay : ManagersStay) (k : Cluste
     pub cleaner_turn : Stands k part texts first (slice_set nodes p (any.Cleaner after_node)) sent_now RegistrySound cleaner_scene
     cleaner_turn = record {
       runs = runs_through (opening first) s.net go.next st.runs go.runs;
-      placed = place_cleaner k nodes s st.placed p at is after_node go.next asked_now;
+      placed = place_cleaner k nodes s st.placed p at fact after_node go.next asked_now;
       sound = st.sound;
       registry = registry_frame part s.net go.next go.epoch go.horizon go.parts s.registry st.registry;
       clients = λ c pos less. clients_stay part texts s.net go.next c (s.client c).phase (go.others c (λ same. let few = st.few in absurd (omega arith)))

@@ -43,7 +43,7 @@ says_so part n c since _ h = tt
 module _ (clients_stay : ClientsStay) (managers_stay : ManagersStay) (cleaner_stays : CleanerStays) (k : Cluster) (part : ℕ) (texts : Texts)
     (first : ℕ → ℕ → Segment) (RegistrySound : RegistryNode → Type 0) (nodes : List AnyNode) (sent : List Packet) (s : Scene)
     (st : Stands k part texts first nodes sent RegistrySound s)
-    (c p clock : ℕ) (some : 0 < c) (within : c < members k) (at : place_of k (Client c) ≡ Some p) (is : slice_get nodes p ≡ Some (any.Client (s.client c)))
+    (c p clock : ℕ) (some : 0 < c) (within : c < members k) (at : place_of k (Client c) ≡ Some p) (fact : slice_get nodes p ≡ Some (any.Client (s.client c)))
     (w : Went_to) (go : ClientGoes part texts s.net c w) where
   abbrev after_node : ClientNode
   after_node = record (s.client c) { phase = w.state }
@@ -102,7 +102,7 @@ module _ (clients_stay : ClientsStay) (managers_stay : ManagersStay) (cleaner_st
   pub client_turn : Stands k part texts first (slice_set nodes p (any.Client after_node)) sent_now RegistrySound client_scene
   client_turn = record {
     runs = runs_through (opening first) s.net go.next st.runs go.runs;
-    placed = place_client k nodes s st.placed p c at is after_node go.next;
+    placed = place_client k nodes s st.placed p c at fact after_node go.next;
     sound = st.sound;
     registry = registry_frame part s.net go.next epoch horizon parts s.registry st.registry;
     clients = put_each (λ d (x : ClientNode). 0 < d → d < members k → ClientAgrees part texts go.next d x.phase) s.client c after_node (λ _ _. go.agrees)

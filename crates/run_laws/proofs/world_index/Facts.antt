@@ -105,7 +105,7 @@ module _ (part : ℕ) (n m : Net) (g : Grown n m) where
   }
 
   all_news_stay : (slots : List SlotNews) → AllKept part n slots → AllKept part m slots
-  all_news_stay slots all news is same = news_stay news (all news is same)
+  all_news_stay slots all news fact same = news_stay news (all news fact same)
 
   registry_stays : (b : Body) → RegistryTells part n b → RegistryTells part m b
   registry_stays (body.MapNews x) h = all_news_stay x.slots h

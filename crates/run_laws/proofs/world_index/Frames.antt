@@ -80,8 +80,8 @@ pub grown_itself : (k : Cluster) (part : ℕ) (texts : Texts) (first : ℕ → �
 grown_itself k part texts first nodes sent RegistrySound s st = record {
   filed = more_itself s.net.filed;
   stay = λ e none. none;
-  sent = λ x is. is;
-  deleted = λ name is. is;
+  sent = λ x fact. fact;
+  deleted = λ name fact. fact;
   epoch = let e = s.net.epoch in omega arith;
   from_one = (steady_always part _ first s.net st.runs).from_one;
   rises = λ e l some limit. omega arith;

@@ -56,39 +56,39 @@ module _ (part : ℕ) (texts : Texts) (asked : Questions) (n : Net) where
   -- ---- who sent it
 
   check_told : (from : NodeId) (m : Check) → IsCleaner from → SentBy part n asked from (body.Check m) → slot_of m.block.ino.0 ≡ part → CheckKnown part asked n m
-  check_told (Client c) m is h = absurd is
-  check_told (Manager j) m is h = absurd is
-  check_told (Server v) m is h = absurd is
-  check_told Cleaner m is h = h
-  check_told Registry m is h = absurd is
+  check_told (Client c) m premise h = absurd premise
+  check_told (Manager j) m premise h = absurd premise
+  check_told (Server v) m premise h = absurd premise
+  check_told Cleaner m premise h = h
+  check_told Registry m premise h = absurd premise
 
   news_told : (from : NodeId) (m : News) → IsRegistry from → SentBy part n asked from (body.MapNews m) → AllKept part n m.slots
-  news_told (Client c) m is h = absurd is
-  news_told (Manager j) m is h = absurd is
-  news_told (Server v) m is h = absurd is
-  news_told Cleaner m is h = absurd is
-  news_told Registry m is h = h
+  news_told (Client c) m premise h = absurd premise
+  news_told (Manager j) m premise h = absurd premise
+  news_told (Server v) m premise h = absurd premise
+  news_told Cleaner m premise h = absurd premise
+  news_told Registry m premise h = h
 
   welcome_told : (from : NodeId) (m : Welcome) → IsRegistry from → SentBy part n asked from (body.Welcome m) → AllKept part n m.news.slots
-  welcome_told (Client c) m is h = absurd is
-  welcome_told (Manager j) m is h = absurd is
-  welcome_told (Server v) m is h = absurd is
-  welcome_told Cleaner m is h = absurd is
-  welcome_told Registry m is h = h
+  welcome_told (Client c) m premise h = absurd premise
+  welcome_told (Manager j) m premise h = absurd premise
+  welcome_told (Server v) m premise h = absurd premise
+  welcome_told Cleaner m premise h = absurd premise
+  welcome_told Registry m premise h = h
 
   live_told : (from : NodeId) (m : Live) → IsManager from → SentBy part n asked from (body.Live m) → BodyAnswers part n.sent (body.Live m)
-  live_told (Client c) m is h = absurd is
-  live_told (Manager j) m is h = h
-  live_told (Server v) m is h = absurd is
-  live_told Cleaner m is h = absurd is
-  live_told Registry m is h = absurd is
+  live_told (Client c) m premise h = absurd premise
+  live_told (Manager j) m premise h = h
+  live_told (Server v) m premise h = absurd premise
+  live_told Cleaner m premise h = absurd premise
+  live_told Registry m premise h = absurd premise
 
   dead_told : (from : NodeId) (m : Dead) → IsManager from → SentBy part n asked from (body.Dead m) → slot_of m.block.ino.0 ≡ part → DeadKnown part asked n m
-  dead_told (Client c) m is h = absurd is
-  dead_told (Manager j) m is h = h
-  dead_told (Server v) m is h = absurd is
-  dead_told Cleaner m is h = absurd is
-  dead_told Registry m is h = absurd is
+  dead_told (Client c) m premise h = absurd premise
+  dead_told (Manager j) m premise h = h
+  dead_told (Server v) m premise h = absurd premise
+  dead_told Cleaner m premise h = absurd premise
+  dead_told Registry m premise h = absurd premise
 
   -- ---- a manager
 
@@ -110,9 +110,9 @@ module _ (part : ℕ) (texts : Texts) (asked : Questions) (n : Net) where
     -- news of an epoch at which nobody was active yet are what the registry kept
     news_known : (known : ℕ) (slots : List SlotNews) → AllKept part n slots → NewsFree part j n known slots
         → AllNewsGets part texts asked j n known slots
-    news_known known slots kept free news is same mine new =
-        let t = kept news is same in
-        let none = free news is same mine new in
+    news_known known slots kept free news premise same mine new =
+        let t = kept news premise same in
+        let none = free news premise same mine new in
         record {
           free = none;
           some = t.some;
@@ -156,15 +156,15 @@ module _ (part : ℕ) (texts : Texts) (asked : Questions) (n : Net) where
   -- ---- the cleaner
 
   some_none : (ask : ℕ) → is_out None ask ≡ true → ⊥
-  some_none ask is = absurd (cc)
+  some_none ask premise = absurd (cc)
 
   out_is : (o : Option ℕ) (ask : ℕ) → is_out o ask ≡ true → o ≡ Some ask
-  out_is None ask is = absurd (some_none ask is)
-  out_is (Some x) ask is = ap Some (eqb-true x ask is)
+  out_is None ask premise = absurd (some_none ask premise)
+  out_is (Some x) ask premise = ap Some (eqb-true x ask premise)
 
   in_hand : (phase : Phase) (held name : SegName) → IsOfJob phase held → held ≡ name → IsInHand name phase
-  in_hand (Checking j segment checks) held name of is = of ∙ is
-  in_hand _ held name of is = tt
+  in_hand (Checking j segment checks) held name of premise = of ∙ premise
+  in_hand _ held name of premise = tt
 
   module _ (q : Asker) (room : q.last < u32_end) (m : Dead) (known : DeadKnown part asked n m) where
     -- what is awaited of the segment in hand was told of that
@@ -218,11 +218,11 @@ module _ (part : ℕ) (texts : Texts) (asked : Questions) (n : Net) where
   -- ---- the registry
 
   done_told : (from : NodeId) (m : CkptDone) → IsManager from → SentBy part n asked from (body.CkptDone m) → CkptSeen part n m
-  done_told (Client c) m is h = absurd is
-  done_told (Manager j) m is h = h
-  done_told (Server v) m is h = absurd is
-  done_told Cleaner m is h = absurd is
-  done_told Registry m is h = absurd is
+  done_told (Client c) m premise h = absurd premise
+  done_told (Manager j) m premise h = h
+  done_told (Server v) m premise h = absurd premise
+  done_told Cleaner m premise h = absurd premise
+  done_told Registry m premise h = absurd premise
 
   module _ (managed : CheckpointsHaveManagers) (moment : (b : BlockId) → slot_of b.ino.0 ≡ part → Moment part (held_in part texts) n b) (small : part < 8)
       (heads : (l : ℕ) → n.filed.head l < u32_end) where

@@ -55,7 +55,7 @@ module _ (n : Net) (horizon : List ℕ) (above : (l : ℕ) → 0 < l → l ≤ 9
   kept e = cond (nat_lt e n.epoch) (n.horizon e) horizon
 
   not_past : (a b : ℕ) → nat_lt a b ≡ false → b ≤ a
-  not_past a b is = grind (arith, nat_tests)
+  not_past a b fact = grind (arith, nat_tests)
 
   no_less : (a b : ℕ) → b ≤ a → nat_lt a b ≡ false
   no_less a b least = grind (arith, nat_tests)
@@ -67,19 +67,19 @@ module _ (n : Net) (horizon : List ℕ) (above : (l : ℕ) → 0 < l → l ≤ 9
   kept_rises e l some limit = by (nat_lt e n.epoch) refl
     where
       by : (t : Bool) → nat_lt e n.epoch ≡ t → of_log (n.horizon e) l ≤ of_log (cond t (n.horizon e) horizon) l
-      by true is = omega arith
-      by false is = subst (λ (h : List ℕ). of_log h l ≤ of_log horizon l) (sym (k.later e (not_past e n.epoch is))) (above l some limit)
+      by true fact = omega arith
+      by false fact = subst (λ (h : List ℕ). of_log h l ≤ of_log horizon l) (sym (k.later e (not_past e n.epoch fact))) (above l some limit)
 
   keeps_stays : (m : Net) → m.epoch ≡ n.epoch → m.horizon ≡ kept → Stays n m
-  keeps_stays m epoch is = record {
+  keeps_stays m epoch fact = record {
     steady = record {
       some = subst (λ e. 0 < e) (sym epoch) k.some;
-      later = λ e low. subst (λ (h : ℕ → List ℕ). h e ≡ h m.epoch) (sym is)
+      later = λ e low. subst (λ (h : ℕ → List ℕ). h e ≡ h m.epoch) (sym fact)
           (late e (subst (λ x. x ≤ e) epoch low) ∙ sym (late m.epoch (subst (λ x. n.epoch ≤ x) (sym epoch) (omega arith))));
-      from_one = λ e l some limit. subst (λ (h : ℕ → List ℕ). 0 < of_log (h e) l) (sym is)
+      from_one = λ e l some limit. subst (λ (h : ℕ → List ℕ). 0 < of_log (h e) l) (sym fact)
           (less_than 0 (of_log (n.horizon e) l) (of_log (kept e) l) (k.from_one e l some limit) (kept_rises e l some limit));
     };
-    rises = λ e l some limit. subst (λ (h : ℕ → List ℕ). of_log (n.horizon e) l ≤ of_log (h e) l) (sym is) (kept_rises e l some limit);
+    rises = λ e l some limit. subst (λ (h : ℕ → List ℕ). of_log (n.horizon e) l ≤ of_log (h e) l) (sym fact) (kept_rises e l some limit);
   }
 
 -- the registry's next epoch
@@ -96,8 +96,8 @@ moves_stays n m epoch horizon k = record {
 
 module _ (part : ℕ) (holds : SegRef → Rows) where
   happens_stays : (n m : Net) → Happens part holds n m → Steady n → Stays n m
-  happens_stays n m (ClientFiles l s some less is newer) k = still_stays n m refl refl k
-  happens_stays n m (CleanerFiles s is copies) k = still_stays n m refl refl k
+  happens_stays n m (ClientFiles l s some less fact newer) k = still_stays n m refl refl k
+  happens_stays n m (CleanerFiles s fact copies) k = still_stays n m refl refl k
   happens_stays n m (GetsDeltas e s log first upto rows at known tell) k = still_stays n m refl refl k
   happens_stays n m (GetsOther e s i at of) k = still_stays n m refl refl k
   happens_stays n m (Answers e s number b place d at asked) k = still_stays n m refl refl k

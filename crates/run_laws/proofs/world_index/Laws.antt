@@ -97,7 +97,7 @@ module _ (laws : NodeLaws) (token_laws : tokens.NodeLaws) (k : Cluster) (part : 
   front_keeps [] (suc count) w end leads owed good = good
   front_keeps (event ∷ more) zero w end leads owed good = good
   front_keeps (event ∷ more) (suc count) w end leads owed good =
-      front_keeps more count (next_world any_step w event) end leads.1 (λ n x is. owed (suc n) x is)
+      front_keeps more count (next_world any_step w event) end leads.1 (λ n x premise. owed (suc n) x premise)
       (event_keeps w event leads.0 (owed 0 event refl) good)
 
   -- ---- what is read off
@@ -106,24 +106,24 @@ module _ (laws : NodeLaws) (token_laws : tokens.NodeLaws) (k : Cluster) (part : 
       (st : StandsIn w s) where
     -- a slot that a manager manages is the small world's of its epoch
     slot_there : (desk : Desk) (p : SlotPhase) → PhaseAgrees part texts s.net desk p → (z : SlotState) → active_in p ≡ Some z → s.net.slots z.epoch ≡ Some z
-    slot_there desk (phase.Active a) agreed z is = subst (λ x. s.net.slots x.epoch ≡ Some x) (tokens.one_node a.slot z is) agreed.there
-    slot_there desk (phase.Taking t) agreed z is = absurd (cc)
-    slot_there desk (phase.Away epoch) agreed z is = absurd (cc)
-    slot_there desk (phase.Broken epoch seg) agreed z is = absurd (cc)
+    slot_there desk (phase.Active a) agreed z premise = subst (λ x. s.net.slots x.epoch ≡ Some x) (tokens.one_node a.slot z premise) agreed.there
+    slot_there desk (phase.Taking t) agreed z premise = absurd (cc)
+    slot_there desk (phase.Away epoch) agreed z premise = absurd (cc)
+    slot_there desk (phase.Broken epoch seg) agreed z premise = absurd (cc)
 
     phase_there : (p : ManagerPhase) → ManagerAgrees part texts s.net p → (z : SlotState) → active_in (slot_in part p) ≡ Some z → s.net.slots z.epoch ≡ Some z
-    phase_there (managing.Serving v) agreed z is = slot_there (desk_of v agreed.0.given) (phase_at v.slots part) agreed.0.here z is
-    phase_there (managing.Down kept) agreed z is = absurd (cc)
-    phase_there (managing.Waiting kept hello) agreed z is = absurd (cc)
+    phase_there (managing.Serving v) agreed z premise = slot_there (desk_of v agreed.0.given) (phase_at v.slots part) agreed.0.here z premise
+    phase_there (managing.Down kept) agreed z premise = absurd (cc)
+    phase_there (managing.Waiting kept hello) agreed z premise = absurd (cc)
 
     manager_there : (j : ℕ) (z : SlotState) → active_of part (node_in w.nodes (place_of k (Manager j))) ≡ Some z → s.net.slots z.epoch ≡ Some z
-    manager_there j z is = by_place (place_of k (Manager j)) refl
+    manager_there j z premise = by_place (place_of k (Manager j)) refl
       where
         by_place : (o : Option ℕ) → place_of k (Manager j) ≡ o → s.net.slots z.epoch ≡ Some z
-        by_place None at = (let clash : None ≡ Some z = sym (ap (λ o. active_of part (node_in w.nodes o)) at) ∙ is in absurd (cc))
+        by_place None at = (let clash : None ≡ Some z = sym (ap (λ o. active_of part (node_in w.nodes o)) at) ∙ premise in absurd (cc))
         by_place (Some p) at =
             let b = behind k.clients k.managers j p at in
-            phase_there (s.manager j).phase (st.managers j b.some b.within) z (sym (ap (active_of part) (st.placed.managers j b.some b.within)) ∙ is)
+            phase_there (s.manager j).phase (st.managers j b.some b.within) z (sym (ap (active_of part) (st.placed.managers j b.some b.within)) ∙ premise)
 
     was_to_be_deleted : (name : SegName) → WasDeleted w name → tables.In name s.net.deleted
     was_to_be_deleted name d =
@@ -134,8 +134,8 @@ module _ (laws : NodeLaws) (token_laws : tokens.NodeLaws) (k : Cluster) (part : 
     keeps = record {
       filed = s.net.filed;
       named = st.texts_of;
-      joins = λ j z b is inside. small_joins part (held_in part texts) s.net b z.epoch z (record { any = first; run = st.runs; inside = inside })
-          (manager_there j z (subst (λ c. active_of part (node_in w.nodes (place_of c (Manager j))) ≡ Some z) cluster is));
+      joins = λ j z b premise inside. small_joins part (held_in part texts) s.net b z.epoch z (record { any = first; run = st.runs; inside = inside })
+          (manager_there j z (subst (λ c. active_of part (node_in w.nodes (place_of c (Manager j))) ≡ Some z) cluster premise));
       kept = λ name b d inside filed has newest.
           small_kept part (held_in part texts) s.net b name (record { any = first; run = st.runs; inside = inside })
           (was_to_be_deleted name d) filed has newest;
@@ -160,5 +160,5 @@ every_run_keeps laws token_laws small_joins small_kept e setup run part of_eight
       entered = entered_starts false k part w.nodes w.sent w.acts _ tokens_start _ refl first;
     } in
     let good = front_keeps laws token_laws k part of_eight texts first e.events count w e.world run
-    (λ n event is s node st there. owed n event s node is st there) start in
+    (λ n event premise s node st there. owed n event s node premise st there) start in
     keeps laws token_laws k part of_eight texts first small_joins small_kept (moment e count) good.cluster good.scene good.stands

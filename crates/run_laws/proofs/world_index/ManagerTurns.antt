@@ -47,7 +47,7 @@ module _ (n m : Net) (filed : m.filed ≡ n.filed) where
 module _ (clients_stay : ClientsStay) (managers_stay : ManagersStay) (cleaner_stays : CleanerStays) (k : Cluster) (part : ℕ) (texts : Texts)
     (first : ℕ → ℕ → Segment) (RegistrySound : RegistryNode → Type 0) (nodes : List AnyNode) (sent : List Packet) (s : Scene)
     (st : Stands k part texts first nodes sent RegistrySound s)
-    (j p clock : ℕ) (some : 0 < j) (limit : j ≤ k.managers) (at : place_of k (Manager j) ≡ Some p) (is : slice_get nodes p ≡ Some (any.Manager (s.manager j)))
+    (j p clock : ℕ) (some : 0 < j) (limit : j ≤ k.managers) (at : place_of k (Manager j) ≡ Some p) (fact : slice_get nodes p ≡ Some (any.Manager (s.manager j)))
     (what : Do) (number : (lasting_of (s.manager j).phase).number ≡ j)
     (apart : HeldApart part j s.net k.managers (holder part s) (s.manager j).phase what) (w : Went_to)
     (go : ManagerGoes part texts s.asked j s.net (s.manager j).phase what w) where
@@ -110,7 +110,7 @@ module _ (clients_stay : ClientsStay) (managers_stay : ManagersStay) (cleaner_st
   pub manager_turn : Stands k part texts first (slice_set nodes p (any.Manager after_node)) sent_now RegistrySound manager_scene
   manager_turn = record {
     runs = runs_through (opening first) s.net go.next st.runs go.runs;
-    placed = place_manager k nodes s st.placed p j at is after_node go.next;
+    placed = place_manager k nodes s st.placed p j at fact after_node go.next;
     sound = st.sound;
     registry = registry_frame part s.net go.next epoch horizon parts s.registry st.registry;
     clients = λ c pos less. clients_stay part texts s.net go.next c (s.client c).phase (same_log s.net go.next filed c) (st.clients c pos less);

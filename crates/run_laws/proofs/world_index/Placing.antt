@@ -36,10 +36,10 @@ module _ (k : Cluster) (nodes : List AnyNode) (s : Scene) (st : Placed k nodes s
 
   pub place_client : (c : ℕ) → place_of k (Client c) ≡ Some p → slice_get nodes p ≡ Some (any.Client (s.client c)) → (x : ClientNode) (net : Net)
       → Placed k (with_node (any.Client x)) (record s { net = net; client = put s.client c x })
-  place_client c at is x net = record {
+  place_client c at fact x net = record {
     clients = put_each (λ d (y : ClientNode). 0 < d → d < members k → node_in (with_node (any.Client x)) (place_of k (Client d)) ≡ Some (any.Client y))
         s.client c x
-        (λ _ _. here k nodes (Client c) p at (any.Client x) (any.Client (s.client c)) is)
+        (λ _ _. here k nodes (Client c) p at (any.Client x) (any.Client (s.client c)) fact)
         (λ d other some less. others (Client c) at (any.Client x) (Client d) (λ same. other (ap number same)) ∙ st.clients d some less);
     managers = λ j some limit. others (Client c) at (any.Client x) (Manager j) (λ same. absurd (cc)) ∙ st.managers j some limit;
     servers = other_servers (Client c) at (any.Client x) (λ v same. absurd (cc));
@@ -49,11 +49,11 @@ module _ (k : Cluster) (nodes : List AnyNode) (s : Scene) (st : Placed k nodes s
 
   pub place_manager : (j : ℕ) → place_of k (Manager j) ≡ Some p → slice_get nodes p ≡ Some (any.Manager (s.manager j)) → (x : ManagerNode) (net : Net)
       → Placed k (with_node (any.Manager x)) (record s { net = net; manager = put s.manager j x })
-  place_manager j at is x net = record {
+  place_manager j at fact x net = record {
     clients = λ c some less. others (Manager j) at (any.Manager x) (Client c) (λ same. absurd (cc)) ∙ st.clients c some less;
     managers = put_each (λ d (y : ManagerNode). 0 < d → d ≤ k.managers → node_in (with_node (any.Manager x)) (place_of k (Manager d)) ≡ Some (any.Manager y))
         s.manager j x
-        (λ _ _. here k nodes (Manager j) p at (any.Manager x) (any.Manager (s.manager j)) is)
+        (λ _ _. here k nodes (Manager j) p at (any.Manager x) (any.Manager (s.manager j)) fact)
         (λ d other some limit. others (Manager j) at (any.Manager x) (Manager d) (λ same. other (ap number same)) ∙ st.managers d some limit);
     servers = other_servers (Manager j) at (any.Manager x) (λ v same. absurd (cc));
     cleaner = others (Manager j) at (any.Manager x) Cleaner (λ same. absurd (cc)) ∙ st.cleaner;
@@ -62,14 +62,14 @@ module _ (k : Cluster) (nodes : List AnyNode) (s : Scene) (st : Placed k nodes s
 
   pub place_server : (v : ℕ) → place_of k (Server v) ≡ Some p → (server : ServerNode) → slice_get nodes p ≡ Some (any.Server server) → (x : ServerNode)
       → Placed k (with_node (any.Server x)) s
-  place_server v at server is x = record {
+  place_server v at server fact x = record {
     clients = λ c some less. others (Server v) at (any.Server x) (Client c) (λ same. absurd (cc)) ∙ st.clients c some less;
     managers = λ j some limit. others (Server v) at (any.Server x) (Manager j) (λ same. absurd (cc)) ∙ st.managers j some limit;
     servers = λ m some limit. ⊎_elim
         (λ same. (
           x,
           subst (λ (y : ℕ). node_in (with_node (any.Server x)) (place_of k (Server y)) ≡ Some (any.Server x)) (sym same)
-              (here k nodes (Server v) p at (any.Server x) (any.Server server) is),
+              (here k nodes (Server v) p at (any.Server x) (any.Server server) fact),
         ))
         (λ other. (let h = st.servers m some limit in (h.0, others (Server v) at (any.Server x) (Server m) (λ same. other (ap number same)) ∙ h.1)))
         (equal_or_not m v);
@@ -79,20 +79,20 @@ module _ (k : Cluster) (nodes : List AnyNode) (s : Scene) (st : Placed k nodes s
 
   pub place_cleaner : place_of k Cleaner ≡ Some p → slice_get nodes p ≡ Some (any.Cleaner s.cleaner) → (x : CleanerNode) (net : Net) (asked : Questions)
       → Placed k (with_node (any.Cleaner x)) (record s { net = net; asked = asked; cleaner = x })
-  place_cleaner at is x net asked = record {
+  place_cleaner at fact x net asked = record {
     clients = λ c some less. others Cleaner at (any.Cleaner x) (Client c) (λ same. absurd (cc)) ∙ st.clients c some less;
     managers = λ j some limit. others Cleaner at (any.Cleaner x) (Manager j) (λ same. absurd (cc)) ∙ st.managers j some limit;
     servers = other_servers Cleaner at (any.Cleaner x) (λ v same. absurd (cc));
-    cleaner = here k nodes Cleaner p at (any.Cleaner x) (any.Cleaner s.cleaner) is;
+    cleaner = here k nodes Cleaner p at (any.Cleaner x) (any.Cleaner s.cleaner) fact;
     registry = others Cleaner at (any.Cleaner x) Registry (λ same. absurd (cc)) ∙ st.registry;
   }
 
   pub place_registry : place_of k Registry ≡ Some p → slice_get nodes p ≡ Some (any.Registry s.registry) → (x : RegistryNode) (net : Net)
       → Placed k (with_node (any.Registry x)) (record s { net = net; registry = x })
-  place_registry at is x net = record {
+  place_registry at fact x net = record {
     clients = λ c some less. others Registry at (any.Registry x) (Client c) (λ same. absurd (cc)) ∙ st.clients c some less;
     managers = λ j some limit. others Registry at (any.Registry x) (Manager j) (λ same. absurd (cc)) ∙ st.managers j some limit;
     servers = other_servers Registry at (any.Registry x) (λ v same. absurd (cc));
     cleaner = others Registry at (any.Registry x) Cleaner (λ same. absurd (cc)) ∙ st.cleaner;
-    registry = here k nodes Registry p at (any.Registry x) (any.Registry s.registry) is;
+    registry = here k nodes Registry p at (any.Registry x) (any.Registry s.registry) fact;
   }

@@ -67,7 +67,7 @@ module _ (clients_stay : ClientsStay) (managers_stay : ManagersStay) (cleaner_st
     (p clock : ℕ) (what : Do) where
   -- ---- the registry
 
-  module _ (at : place_of k Registry ≡ Some p) (is : slice_get nodes p ≡ Some (any.Registry s.registry)) (go : RegistryGoes part texts s.net s.registry what)
+  module _ (at : place_of k Registry ≡ Some p) (fact : slice_get nodes p ≡ Some (any.Registry s.registry)) (go : RegistryGoes part texts s.net s.registry what)
       (board : maps.RegistryGoes part s.registry what) where
     abbrev after_node : RegistryNode
     after_node = (registry_step s.registry what).node
@@ -122,7 +122,7 @@ module _ (clients_stay : ClientsStay) (managers_stay : ManagersStay) (cleaner_st
     pub registry_turn : Stands k part texts first (slice_set nodes p (any.Registry after_node)) sent_now RegistrySound registry_scene
     registry_turn = record {
       runs = runs_through (opening first) s.net go.next st.runs go.runs;
-      placed = place_registry k nodes s st.placed p at is after_node go.next;
+      placed = place_registry k nodes s st.placed p at fact after_node go.next;
       sound = board.board.sound;
       registry = go.agrees;
       clients = λ c pos less. clients_stay part texts s.net go.next c (s.client c).phase (same_log s.net go.next go.filed c) (st.clients c pos less);
@@ -157,9 +157,9 @@ module _ (clients_stay : ClientsStay) (managers_stay : ManagersStay) (cleaner_st
       → All DoesNothing (takes server what).outs
       → Stands k part texts first (slice_set nodes p (any.Server (server_step server what).node))
       (sent ++ map (sent_at clock) (server_step server what).packets) RegistrySound s
-  server_turn v at server is does = record {
+  server_turn v at server fact does = record {
     runs = st.runs;
-    placed = place_server k nodes s st.placed p v at server is (server_step server what).node;
+    placed = place_server k nodes s st.placed p v at server fact (server_step server what).node;
     sound = st.sound;
     registry = st.registry;
     clients = st.clients;

@@ -46,15 +46,15 @@ stable_is : (a b : ℕ) → ((a ≡ b → ⊥) → ⊥) → a ≡ b
 stable_is a b not_not = by (a == b) refl
   where
     by : (t : Bool) → (a == b) ≡ t → a ≡ b
-    by true is = grind (arith, nat_tests, is)
-    by false is = absurd (not_not (λ same. grind (arith, nat_tests, is, same)))
+    by true premise = grind (arith, nat_tests, premise)
+    by false premise = absurd (not_not (λ same. grind (arith, nat_tests, premise, same)))
 
 stable_low : (a b : ℕ) → ((a ≤ b → ⊥) → ⊥) → a ≤ b
 stable_low a b not_not = by (nat_le a b) refl
   where
     by : (t : Bool) → nat_le a b ≡ t → a ≤ b
-    by true is = grind (arith, nat_tests, is)
-    by false is = absurd (not_not (λ low. grind (arith, nat_tests, is, low)))
+    by true premise = grind (arith, nat_tests, premise)
+    by false premise = absurd (not_not (λ low. grind (arith, nat_tests, premise, low)))
 
 -- ---- the nodes
 
@@ -113,9 +113,9 @@ module _ (logs : Bool) (k : Cluster) (part : ℕ) (nodes : List AnyNode) (sent :
     named_given j e some limit names = by what refl names
       where
         by : (x : Do) → what ≡ x → Names part j e x → GivenTo j e
-        by Begin is named = absurd named
-        by Tick is named = absurd named
-        by (Deliver q) is named = named_by j e some limit q.from q.to q.body (fact q is) named
+        by Begin premise named = absurd named
+        by Tick premise named = absurd named
+        by (Deliver q) premise named = named_by j e some limit q.from q.to q.body (fact q premise) named
 
     -- no other manager holds an epoch that this one holds, or that news give to it
     pub apart : (n : Net) (s : Scene) → Placed k nodes s → (j : ℕ) → 0 < j → j ≤ k.managers
@@ -134,25 +134,25 @@ module _ (logs : Bool) (k : Cluster) (part : ℕ) (nodes : List AnyNode) (sent :
     none_where e never = by (n.slots e) refl
       where
         by : (o : Option SlotState) → n.slots e ≡ o → n.slots e ≡ None
-        by None is = is
-        by (Some z) is = absurd (never z is)
+        by None premise = premise
+        by (Some z) premise = absurd (never z premise)
 
     -- whoever was active at an epoch that news give to manager j
     past_of : (j : ℕ) (p : Phase) → (t.manager j).phase ≡ p → (news : SlotNews) → tokens.NewsTold k part t news → news.manager ≡ j → (z : SlotState)
         → n.slots news.epoch ≡ Some z
         → tokens.PastAt k part p (t.since news.epoch) news.epoch
-    past_of j p is news told mine z there =
-        subst (λ r. tokens.PastAt k part r (t.since news.epoch) news.epoch) is
+    past_of j p premise news told mine z there =
+        subst (λ r. tokens.PastAt k part r (t.since news.epoch) news.epoch) premise
         (subst (λ x. tokens.PastAt k part (t.manager x).phase (t.since news.epoch) news.epoch) (told.given ∙ mine) (entered news.epoch z there).1)
 
     pub serving_free : (j : ℕ) → 0 < j → j ≤ k.managers → (v : _) → (t.manager j).phase ≡ Serves v → (slots : List SlotNews)
         → tokens.AllTold k part t slots → NewsFree part j n (epoch_in part (Serves v)) slots
-    serving_free j some limit v is slots all news among same mine less =
+    serving_free j some limit v premise slots all news among same mine less =
         let told = all.each news among same in
-        none_where news.epoch (λ z there. clash told (past_of j (Serves v) is news told mine z there))
+        none_where news.epoch (λ z there. clash told (past_of j (Serves v) premise news told mine z there))
       where
         sees : tokens.ManagerSees k part t j (Serves v)
-        sees = subst (tokens.ManagerSees k part t j) is (st.managers j some limit)
+        sees = subst (tokens.ManagerSees k part t j) premise (st.managers j some limit)
 
         clash : tokens.NewsTold k part t news → tokens.PastAt k part (Serves v) (t.since news.epoch) news.epoch → ⊥
         clash told past = ⊎_elim
@@ -162,11 +162,11 @@ module _ (logs : Bool) (k : Cluster) (part : ℕ) (nodes : List AnyNode) (sent :
     pub waiting_free : (j : ℕ) (kept : Kept) (hello : ℕ) → (t.manager j).phase ≡ Waiting kept hello → (m : Welcome)
         → m.inc ≡ kept.inc → tokens.AllTold k part t m.news.slots → tokens.Welcomed k part t (Manager j) m
         → NewsFree part j n 0 m.news.slots
-    waiting_free j kept hello is m life all welcomed news among same mine less =
+    waiting_free j kept hello premise m life all welcomed news among same mine less =
         let told = all.each news among same in
         let own = welcomed.own news among same mine in
         none_where news.epoch (λ z there. ⊎_elim (λ before. absurd (omega arith)) (λ in_life. in_life.1)
-        (past_of j (Waiting kept hello) is news told mine z there))
+        (past_of j (Waiting kept hello) premise news told mine z there))
 
 -- ---- it stays so
 
@@ -184,8 +184,8 @@ module _ (logs : Bool) (k : Cluster) (part : ℕ) (nodes later_nodes : List AnyN
   past_by p life e serves knows low = by (nat_lt life (lasting_of p).inc) refl
     where
       by : (x : Bool) → nat_lt life (lasting_of p).inc ≡ x → tokens.PastAt k part p life e
-      by true is = inl (grind (arith, nat_tests, is))
-      by false is = inr (grind (arith, nat_tests, is, low), been p e serves knows)
+      by true premise = inl (grind (arith, nat_tests, premise))
+      by false premise = inr (grind (arith, nat_tests, premise, low), been p e serves knows)
 
   -- an epoch that has got a manager was given to it
   came_given : (name : NodeId) (e : ℕ) (c : Came k part s v name what e) → GivenTo logs k part nodes sent acts t st c.manager e
@@ -234,26 +234,26 @@ module _ (logs : Bool) (k : Cluster) (part : ℕ) (nodes : List AnyNode) (sent :
   module _ (j : ℕ) (some : 0 < j) (limit : j ≤ k.managers) where
     serving_given : (v : Serving) → (t.manager j).phase ≡ Serves v → (from to : NodeId) (m : Body) → tokens.SentBy k part t from to m
         → ServingFree part j s.net v.lasting.inc (epoch_in part (Serves v)) m
-    serving_given v is from to (body.MapNews m) h =
-        serving_free logs k part nodes sent acts t st s.net entered j some limit v is m.slots (news_told k part t from to m h)
-    serving_given v is from to (body.Welcome m) h =
-        λ life. serving_free logs k part nodes sent acts t st s.net entered j some limit v is m.news.slots (welcome_told k part t from to m h).0
-    serving_given v is from to _ h = tt
+    serving_given v premise from to (body.MapNews m) h =
+        serving_free logs k part nodes sent acts t st s.net entered j some limit v premise m.slots (news_told k part t from to m h)
+    serving_given v premise from to (body.Welcome m) h =
+        λ life. serving_free logs k part nodes sent acts t st s.net entered j some limit v premise m.news.slots (welcome_told k part t from to m h).0
+    serving_given v premise from to _ h = tt
 
     waiting_given : (kept : Kept) (hello : ℕ) → (t.manager j).phase ≡ Waiting kept hello → (from to : NodeId) (m : Body) → tokens.SentBy k part t from to m
         → to ≡ Manager j → WaitingFree part j s.net kept.inc m
-    waiting_given kept hello is from to (body.Welcome m) h same =
+    waiting_given kept hello premise from to (body.Welcome m) h same =
         λ life. (let w = welcome_told k part t from to m h in
-        waiting_free logs k part nodes sent acts t st s.net entered j kept hello is m life w.0 (subst (λ x. tokens.Welcomed k part t x m) same w.1))
-    waiting_given kept hello is from to _ h same = tt
+        waiting_free logs k part nodes sent acts t st s.net entered j kept hello premise m life w.0 (subst (λ x. tokens.Welcomed k part t x m) same w.1))
+    waiting_given kept hello premise from to _ h same = tt
 
     do_given : (p : Phase) (what : Do) → (t.manager j).phase ≡ p → ((q : Packet) → what ≡ Deliver q → tokens.Fact k part t q × (q.to ≡ Manager j))
         → DoFree part j s.net p what
-    do_given p Begin is fact = tt
-    do_given p Tick is fact = tt
-    do_given (Serves v) (Deliver q) is fact = serving_given v is q.from q.to q.body (fact q refl).0
-    do_given (Waiting kept hello) (Deliver q) is fact = let f = fact q refl in waiting_given kept hello is q.from q.to q.body f.0 f.1
-    do_given (Down kept) (Deliver q) is fact = tt
+    do_given p Begin premise fact = tt
+    do_given p Tick premise fact = tt
+    do_given (Serves v) (Deliver q) premise fact = serving_given v premise q.from q.to q.body (fact q refl).0
+    do_given (Waiting kept hello) (Deliver q) premise fact = let f = fact q refl in waiting_given kept hello premise q.from q.to q.body f.0 f.1
+    do_given (Down kept) (Deliver q) premise fact = tt
 
     -- what comes to manager j was sent to it, as the small world of tokens knows
     manager_given : (what : Do) → ((q : Packet) → what ≡ Deliver q → tokens.Fact k part t q × (q.to ≡ Manager j))
@@ -264,7 +264,7 @@ module _ (logs : Bool) (k : Cluster) (part : ℕ) (nodes : List AnyNode) (sent :
           number = subst (λ (x : ManagerNode). (lasting_of x.phase).number ≡ j) (sym same)
               (manager_number (tokens.members k part) part j t.net (t.manager j).phase (st.managers j some limit).agrees);
           free = do_given (s.manager j).phase what (ap (λ (x : ManagerNode). x.phase) (sym same)) fact;
-          apart = apart logs k part nodes sent acts t st what (λ q is. (fact q is).0) s.net s placed j some limit;
+          apart = apart logs k part nodes sent acts t st what (λ q premise. (fact q premise).0) s.net s placed j some limit;
         }
 
   -- so it is of each node of the world
@@ -294,4 +294,7 @@ pub entered_starts : (logs : Bool) (k : Cluster) (part : ℕ) (nodes : List AnyN
     → Entered k part t (opening first)
 entered_starts logs k part nodes sent acts t st y managed_there first =
     put_each (λ e o. (z : SlotState) → o ≡ Some z → (e ≤ tokens.epoch_now k part t) × tokens.PastAt k part (t.manager (t.lord e)).phase (t.since e) e)
-    (λ e. None) 1 ((opening first).slots 1) (λ z is. let was = st.entered 1 y managed_there in (was.0, was.3)) (λ e other z is. absurd (some_none z (sym is)))
+    (λ e. None) 1 ((opening first).slots 1) (λ z premise. let was = st.entered 1 y managed_there in (
+      was.0,
+      was.3,
+    )) (λ e other z premise. absurd (some_none z (sym premise)))

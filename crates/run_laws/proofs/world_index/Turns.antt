@@ -108,7 +108,7 @@ module _ (laws : NodeLaws) (k : Cluster) (part : ℕ) (of_eight : part < 8) (tex
 
     client_after : (c : ℕ) → place_of k (Client c) ≡ Some place → (node : AnyNode) → slice_get nodes place ≡ Some node → Owed (Client c) node
         → Turned (Client c) node
-    client_after c at node is = subst (λ x. Owed (Client c) x → Turned (Client c) x) (one_node (any.Client (s.client c)) node (sym here ∙ is)) turned
+    client_after c at node premise = subst (λ x. Owed (Client c) x → Turned (Client c) x) (one_node (any.Client (s.client c)) node (sym here ∙ premise)) turned
       where
         b : Behind 0 k.clients c place
         b = behind 0 k.clients c place at
@@ -141,8 +141,8 @@ module _ (laws : NodeLaws) (k : Cluster) (part : ℕ) (of_eight : part < 8) (tex
     manager_after : Brought → (j : ℕ) → place_of k (Manager j) ≡ Some place → (node : AnyNode) → slice_get nodes place ≡ Some node → Owed (Manager j) node
         → Given (Manager j) node
         → Turned (Manager j) node
-    manager_after fact j at node is =
-        subst (λ x. Owed (Manager j) x → Given (Manager j) x → Turned (Manager j) x) (one_node (any.Manager (s.manager j)) node (sym here ∙ is)) turned
+    manager_after fact j at node premise =
+        subst (λ x. Owed (Manager j) x → Given (Manager j) x → Turned (Manager j) x) (one_node (any.Manager (s.manager j)) node (sym here ∙ premise)) turned
       where
         b : Behind k.clients k.managers j place
         b = behind k.clients k.managers j place at
@@ -187,7 +187,7 @@ module _ (laws : NodeLaws) (k : Cluster) (part : ℕ) (of_eight : part < 8) (tex
             }
 
     server_after : (v : ℕ) → place_of k (Server v) ≡ Some place → (node : AnyNode) → slice_get nodes place ≡ Some node → Turned (Server v) node
-    server_after v at node is = subst (Turned (Server v)) (one_node (any.Server there.0) node (sym here ∙ is)) (record {
+    server_after v at node premise = subst (Turned (Server v)) (one_node (any.Server there.0) node (sym here ∙ premise)) (record {
       next = s;
       stands = others.server_turn laws.clients_stay laws.managers_stay laws.cleaner_stays k part texts first nodes sent s st place clock what v at there.0 here
           (laws.server there.0 what);
@@ -206,7 +206,7 @@ module _ (laws : NodeLaws) (k : Cluster) (part : ℕ) (of_eight : part < 8) (tex
         here = sym (ap (node_in nodes) at) ∙ there.1
 
     cleaner_after : Brought → place_of k Cleaner ≡ Some place → (node : AnyNode) → slice_get nodes place ≡ Some node → Owed Cleaner node → Turned Cleaner node
-    cleaner_after fact at node is = subst (λ x. Owed Cleaner x → Turned Cleaner x) (one_node (any.Cleaner s.cleaner) node (sym here ∙ is)) turned
+    cleaner_after fact at node premise = subst (λ x. Owed Cleaner x → Turned Cleaner x) (one_node (any.Cleaner s.cleaner) node (sym here ∙ premise)) turned
       where
         here : slice_get nodes place ≡ Some (any.Cleaner s.cleaner)
         here = sym (ap (node_in nodes) at) ∙ st.placed.cleaner
@@ -239,7 +239,7 @@ module _ (laws : NodeLaws) (k : Cluster) (part : ℕ) (of_eight : part < 8) (tex
             }
 
     registry_after : Brought → place_of k Registry ≡ Some place → (node : AnyNode) → slice_get nodes place ≡ Some node → Turned Registry node
-    registry_after fact at node is = subst (Turned Registry) (one_node (any.Registry s.registry) node (sym here ∙ is))
+    registry_after fact at node premise = subst (Turned Registry) (one_node (any.Registry s.registry) node (sym here ∙ premise))
         (went (laws.registry part texts s.net s.registry what of_eight st.sound st.registry
         (registry_gets part texts s.asked s.net laws.managed (λ b inside. record { any = first; run = st.runs; inside = inside }) of_eight st.heads what fact)))
       where
@@ -272,11 +272,11 @@ module _ (laws : NodeLaws) (k : Cluster) (part : ℕ) (of_eight : part < 8) (tex
     pub turns : (name : NodeId) → Brought → place_of k name ≡ Some place → (node : AnyNode) → slice_get nodes place ≡ Some node → Owed name node
         → Given name node
         → Turned name node
-    turns (Client c) fact at node is owed given = client_after c at node is owed
-    turns (Manager j) fact at node is owed given = manager_after fact j at node is owed given
-    turns (Server v) fact at node is owed given = server_after v at node is
-    turns Cleaner fact at node is owed given = cleaner_after fact at node is owed
-    turns Registry fact at node is owed given = registry_after fact at node is
+    turns (Client c) fact at node premise owed given = client_after c at node premise owed
+    turns (Manager j) fact at node premise owed given = manager_after fact j at node premise owed given
+    turns (Server v) fact at node premise owed given = server_after v at node premise
+    turns Cleaner fact at node premise owed given = cleaner_after fact at node premise owed
+    turns Registry fact at node premise owed given = registry_after fact at node premise
 
   -- ---- an event of the world
 
@@ -287,8 +287,8 @@ module _ (laws : NodeLaws) (k : Cluster) (part : ℕ) (of_eight : part < 8) (tex
   delivered_fact sent s facts kinds w same (events.Begin node) may q gets = absurd (cc)
   delivered_fact sent s facts kinds w same (events.Tick node) may q gets = absurd (cc)
   delivered_fact sent s facts kinds w same (events.Deliver packet) may q gets =
-      let is : packet ≡ q = delivered packet q gets in
-      let among = subst (λ xs. In q xs) same (was_sent w.sent q (subst (λ x. MayHappen w (events.Deliver x)) is may)) in
+      let premise : packet ≡ q = delivered packet q gets in
+      let among = subst (λ xs. In q xs) same (was_sent w.sent q (subst (λ x. MayHappen w (events.Deliver x)) premise may)) in
       (facts q among, kinds q among)
 
   module _ (w : World AnyNode) (event : Event) (s : Scene) where
@@ -317,9 +317,10 @@ module _ (laws : NodeLaws) (k : Cluster) (part : ℕ) (of_eight : part < 8) (tex
           makes = inl refl;
           came = λ e z there none. absurd (some_none z (sym there ∙ none));
         })
-        (λ place node clock at is.
+        (λ place node clock at premise.
         let at_k : place_of k (node_of event) ≡ Some place = subst (λ c. place_of c (node_of event) ≡ Some place) cluster at in
-        let there : node_in w.nodes (place_of k (node_of event)) ≡ Some node = ap (node_in w.nodes) at_k ∙ is in
-        let t = turns w.nodes w.sent s st place clock (what_of event) (node_of event) (delivered_fact w.sent s st.facts kinds w refl event may) at_k node is
+        let there : node_in w.nodes (place_of k (node_of event)) ≡ Some node = ap (node_in w.nodes) at_k ∙ premise in
+        let t = turns w.nodes w.sent s st place clock (what_of event) (node_of event)
+        (delivered_fact w.sent s st.facts kinds w refl event may) at_k node premise
         (owed node there) (given node there) in
         record { next = t.next; stands = t.stands; grown = t.grown; makes = inr (node, there, t.makes); came = t.came })

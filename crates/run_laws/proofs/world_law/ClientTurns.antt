@@ -79,12 +79,13 @@ number_is part c n p h = numbered false part c n p h
 -- ---- the turn
 
 pub no_client : (c members l : ℕ) → c < members → members ≤ l → l ≡ c → ⊥
-no_client c members l less few is = omega arith
+no_client c members l less few fact = omega arith
 
 module _ (logs : Bool) (k : Cluster) (part : ℕ) (RegistrySound : RegistryNode → Type 0) (nodes : List AnyNode) (sent : List Packet) (done : List Act)
     (s : Scene)
     (st : Stands logs k part nodes sent done RegistrySound s)
-    (c p clock : ℕ) (some : 0 < c) (within : c < members k part) (at : place_of k (Client c) ≡ Some p) (is : slice_get nodes p ≡ Some (any.Client (s.client c)))
+    (c p clock : ℕ) (some : 0 < c) (within : c < members k part) (at : place_of k (Client c) ≡ Some p)
+    (fact : slice_get nodes p ≡ Some (any.Client (s.client c)))
     (w : Went_to) (go : ClientGoes logs (members k part) part (epoch_now k part s) c s.net (s.client c).phase w.state w.outs) (asks : PhaseAsks w.state) where
   abbrev after_node : ClientNode
   after_node = record (s.client c) { phase = w.state }
@@ -124,7 +125,7 @@ module _ (logs : Bool) (k : Cluster) (part : ℕ) (RegistrySound : RegistryNode 
   placed = record {
     clients = put_each
         (λ d (x : ClientNode). 0 < d → d < members k part → node_in nodes_now (place_of k (Client d)) ≡ Some (any.Client x)) s.client c after_node
-        (λ _ _. here k nodes (Client c) p at (any.Client after_node) (any.Client (s.client c)) is)
+        (λ _ _. here k nodes (Client c) p at (any.Client after_node) (any.Client (s.client c)) fact)
         (λ d other pos less. there k nodes (Client c) p at (any.Client after_node) (Client d) (λ same. other (ap number same)) ∙ st.placed.clients d pos less);
     managers = λ j pos limit. there k nodes (Client c) p at (any.Client after_node) (Manager j) (λ same. absurd (cc)) ∙ st.placed.managers j pos limit;
     servers = λ n pos limit.

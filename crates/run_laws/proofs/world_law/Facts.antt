@@ -162,7 +162,7 @@ module _ (k : Cluster) (part : ℕ) where
     news_stays news h = record { within = up_to _ _ _ h.within g.epochs; some = h.some; given = (g.given news.epoch h.within).0 ∙ h.given }
 
     all_stays : (slots : List SlotNews) → AllTold k part s slots → AllTold k part t slots
-    all_stays slots h = record { each = λ news is same. news_stays news (h.each news is same); here = h.here }
+    all_stays slots h = record { each = λ news fact same. news_stays news (h.each news fact same); here = h.here }
 
     client_welcomed_stays : (c : ℕ) (m : Welcome) → ClientWelcomed k part s c m → ClientWelcomed k part t c m
     client_welcomed_stays c m h = record { life = up_to _ _ _ h.life (g.lives c); rises = g.welcomes c m h.life h.rises }
@@ -171,17 +171,19 @@ module _ (k : Cluster) (part : ℕ) where
     manager_welcomed_stays j m all h = record {
       life = up_to _ _ _ h.life (g.told j);
       version = h.version;
-      later = λ news is same e less limit lord. by_age news is same e less limit lord (nat_le e (epoch_now k part s)) refl;
-      own = λ news is same mine. (let now = g.given news.epoch (all.each news is same).within in subst (λ x. m.inc ≤ x) (sym now.1) (h.own news is same mine));
+      later = λ news fact same e less limit lord. by_age news fact same e less limit lord (nat_le e (epoch_now k part s)) refl;
+      own =
+          λ news fact same mine. (let now = g.given news.epoch (all.each news fact same).within in subst (λ x. m.inc ≤ x) (sym now.1)
+          (h.own news fact same mine));
     }
       where
         by_age : (news : SlotNews) → In news m.news.slots → news.slot ≡ part → (e : ℕ) → news.epoch < e → e ≤ epoch_now k part t → t.lord e ≡ j → (old : Bool)
             → nat_le e (epoch_now k part s) ≡ old → m.inc ≤ t.since e
-        by_age news is same e less limit lord true h_ =
+        by_age news fact same e less limit lord true h_ =
             let within = le_of e (epoch_now k part s) h_ in
             let now = g.given e within in
-            subst (λ x. m.inc ≤ x) (sym now.1) (h.later news is same e less within (sym now.0 ∙ lord))
-        by_age news is same e less limit lord false h_ =
+            subst (λ x. m.inc ≤ x) (sym now.1) (h.later news fact same e less within (sym now.0 ∙ lord))
+        by_age news fact same e less limit lord false h_ =
             up_to m.inc (life_told t j) (t.since e) (up_to _ _ _ h.life (g.told j))
             (subst (λ x. life_told t x ≤ t.since e) lord (g.new e (lt_of e (epoch_now k part s) h_) limit))
 

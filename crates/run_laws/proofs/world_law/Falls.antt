@@ -73,9 +73,9 @@ module _ (F : ℕ → BlockId → Type 0) where
       told = record { flight = flight; falls = falls }
 
       fell : {X : List FallTold} → (c == client) ≡ true → (n : Names b X) → In n.told_so (told ∷ []) → F c b
-      fell t n (inl is) =
+      fell t n (inl fact) =
           subst (λ x. F x b) (sym (eqb-true c client t))
-          (subst (λ x. F client x) n.block (right n.fall (subst (λ (x : FallTold). In n.fall x.falls) is n.named)))
+          (subst (λ x. F client x) n.block (right n.fall (subst (λ (x : FallTold). In n.fall x.falls) fact n.named)))
       fell t n (inr later) = absurd later
   one_told (act.Back client chain) h c b right names =
       by_test (λ (xs : List FallTold). Names b xs → Names b (h.told c) ⊎ F c b) (c == client) [] ((settle chain (h.told client) h).told c)
@@ -93,7 +93,7 @@ module _ (F : ℕ → BlockId → Type 0) where
   -- none waits once its client is back
   pub back_told : (acts : List Act) (h : History) (c : ℕ) (b : BlockId) (chain : List SegName) → In (act.Back c chain) acts → All Falls acts → (F c b → ⊥)
       → Names b ((history_after acts h).told c) → ⊥
-  back_told [] h c b chain is right none names = is
+  back_told [] h c b chain fact right none names = fact
   back_told (a ∷ acts) h c b chain (inl same) right none names =
       ⊎_elim (λ old. over (subst (λ (x : Act). Names b ((after_act x h).told c)) (sym same) old)) none
       (all_told acts (after_act a h) c b (All-tail Falls a acts right) names)
@@ -103,11 +103,11 @@ module _ (F : ℕ → BlockId → Type 0) where
   back_told (a ∷ acts) h c b chain (inr later) right none names = back_told acts (after_act a h) c b chain later (All-tail Falls a acts right) none names
 
 in_behind : {X : Type 0} (x : X) (xs ys : List X) → In x ys → In x (xs ++ ys)
-in_behind x [] ys is = is
-in_behind x (y ∷ xs) ys is = inr (in_behind x xs ys is)
+in_behind x [] ys fact = fact
+in_behind x (y ∷ xs) ys fact = inr (in_behind x xs ys fact)
 
 in_acts : (node : NodeId) (a : Act) (outs : List Effect) → In (Does a) outs → In a (acts_of node outs)
-in_acts node a [] is = is
+in_acts node a [] fact = fact
 in_acts node a (e ∷ outs) (inl same) = subst (λ x. In a (act_of node x ++ acts_of node outs)) same (inl refl)
 in_acts node a (e ∷ outs) (inr later) = in_behind a (act_of node e) (acts_of node outs) (in_acts node a outs later)
 
@@ -160,7 +160,7 @@ module _ (members : ℕ) where
           (recursion_from_All (ClientDid part c n go.next.sent (lasting_of q).inc q) outs go.does)
         where
           each : (a : Act) → ClientActs part c n go.next.sent (lasting_of q).inc q a → Falls (Own q) a
-          each (act.Fell client flight falls) h = λ f is. (h.0, h.1, h.2 f is)
+          each (act.Fell client flight falls) h = λ f fact. (h.0, h.1, h.2 f fact)
           each _ h = tt
 
       -- one that was down and of which a fall waits still doesn't serve

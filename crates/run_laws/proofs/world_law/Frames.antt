@@ -25,7 +25,8 @@ runs_on logs members part n m o first (On more last) = On (runs_on logs members 
 -- ---- a log
 
 pub same_books : (k m : Books) → m ≡ k → (l : ℕ) → SameLog k m l
-same_books k m is l = record { end = ap (λ (b : Books). b.end l) is; flying = ap (λ (b : Books). b.flying l) is; rows = ap (λ (b : Books). b.rows l) is }
+same_books k m fact l =
+    record { end = ap (λ (b : Books). b.end l) fact; flying = ap (λ (b : Books). b.flying l) fact; rows = ap (λ (b : Books). b.rows l) fact }
 
 module _ (k m : Books) (c : ℕ) (same : SameLog k m c) where
   beyond_on : NothingBeyond k c → NothingBeyond m c
@@ -76,7 +77,7 @@ module _ (logs : Bool) (part c : ℕ) (n m : Net) (tokens : m.tokens c ≡ n.tok
     number = h.number;
     inc = h.inc;
     epochs = h.epochs;
-    giving = λ block g inside is. grows _ (h.giving block g inside is);
+    giving = λ block g inside fact. grows _ (h.giving block g inside fact);
     valued = h.valued;
     logged = premise_by logs (log_on n.books m.books c log s.tokens s.log) h.logged;
   }

@@ -98,10 +98,10 @@ module _ (k : Cluster) (part : ℕ) (s : Scene) where
   -- ---- a client
 
   news_within : (c : ℕ) (slots : List SlotNews) → AllTold k part s slots → NewsWithin part (epoch_now k part s) c s.net slots
-  news_within c slots all = all_in (λ news. news.slot ≡ part → news.epoch ≤ epoch_now k part s) slots (λ news is same. (all.each news is same).within)
+  news_within c slots all = all_in (λ news. news.slot ≡ part → news.epoch ≤ epoch_now k part s) slots (λ news premise same. (all.each news premise same).within)
 
   news_low : (slots : List SlotNews) → AllTold k part s slots → NewsLow part s.net.promised (epoch_now k part s) slots
-  news_low slots all = all_in (λ news. news.slot ≡ part → news.epoch ≤ epoch_now k part s) slots (λ news is same. (all.each news is same).within)
+  news_low slots all = all_in (λ news. news.slot ≡ part → news.epoch ≤ epoch_now k part s) slots (λ news premise same. (all.each news premise same).within)
 
   client_body : (c : ℕ) (from to : NodeId) (m : Body) → SentBy k part s from to m → to ≡ Client c
       → GetsBody part (epoch_now k part s) c s.net (s.client c).phase m
@@ -160,7 +160,8 @@ module _ (k : Cluster) (part : ℕ) (s : Scene) where
   -- ---- a manager
 
   free : (e : ℕ) → ((z : SlotState) → s.net.slots e ≡ Some z → ⊥) → s.net.slots e ≡ None
-  free e nobody = elim (s.net.slots e) as (λ o. s.net.slots e ≡ o → s.net.slots e ≡ None) [ None ↦ λ is. is | Some z ↦ λ is. absurd (nobody z is) ] refl
+  free e nobody = elim (s.net.slots e) as (λ o. s.net.slots e ≡ o
+      → s.net.slots e ≡ None) [ None ↦ λ premise. premise | Some z ↦ λ premise. absurd (nobody z premise) ] refl
 
   want_gets : (from to : NodeId) (m : Want) → SentBy k part s from to (body.Want m) → WantGets part s.net from m
   want_gets (Client c) to m h = h.2
@@ -209,7 +210,7 @@ module _ (k : Cluster) (part : ℕ) (s : Scene) where
   found_gets true p from m told = told
   found_gets false p (Client c) m told = tt
   found_gets false p (Manager c) m told = tt
-  found_gets false p (Server v) m told = λ own is. takeover_gets p _
+  found_gets false p (Server v) m told = λ own premise. takeover_gets p _
   found_gets false p Cleaner m told = tt
   found_gets false p Registry m told = tt
 
@@ -218,7 +219,7 @@ module _ (k : Cluster) (part : ℕ) (s : Scene) where
   absent_gets true p from m told = told
   absent_gets false p (Client c) m told = tt
   absent_gets false p (Manager c) m told = tt
-  absent_gets false p (Server v) m told = λ own is. takeover_gets p _
+  absent_gets false p (Server v) m told = λ own premise. takeover_gets p _
   absent_gets false p Cleaner m told = tt
   absent_gets false p Registry m told = tt
 
@@ -231,7 +232,7 @@ module _ (k : Cluster) (part : ℕ) (s : Scene) where
     -- nobody has entered an epoch that is new to the manager that it is given to
     serving_news : (v : Serving) → (s.manager j).phase ≡ Serves v → ManagerSees k part s j (Serves v) → (slots : List SlotNews) → AllTold k part s slots
         → AllNewsGets part (epoch_now k part s) j s.net (epoch_in part (Serves v)) slots
-    serving_news v is sees slots all news among same = (let told = all.each news among same in record {
+    serving_news v premise sees slots all news among same = (let told = all.each news among same in record {
       within = told.within;
       new = λ mine less. free news.epoch (λ z there. clash told mine less (entered news.epoch z there).3);
     })
@@ -242,13 +243,13 @@ module _ (k : Cluster) (part : ℕ) (s : Scene) where
             let lord : s.lord news.epoch ≡ j = told.given ∙ mine in
             ⊎_elim (λ before. let fresh = sees.fresh refl news.epoch less told.within lord in absurd (omega arith))
             (λ in_life. let been = in_life.1 in absurd (omega arith))
-            (subst (λ p. PastAt k part p (s.since news.epoch) news.epoch) is
+            (subst (λ p. PastAt k part p (s.since news.epoch) news.epoch) premise
             (subst (λ x. PastAt k part (s.manager x).phase (s.since news.epoch) news.epoch) lord past))
 
     waiting_news : (kept : Kept) (hello : ℕ) → (s.manager j).phase ≡ Waiting kept hello → (m : Welcome) → m.inc ≡ kept.inc → AllTold k part s m.news.slots
         → Welcomed k part s (Manager j) m
         → AllNewsGets part (epoch_now k part s) j s.net 0 m.news.slots
-    waiting_news kept hello is m life all welcomed news among same = (let told = all.each news among same in record {
+    waiting_news kept hello premise m life all welcomed news among same = (let told = all.each news among same in record {
       within = told.within;
       new = λ mine less. free news.epoch (λ z there. clash told mine (entered news.epoch z there).3);
     })
@@ -258,86 +259,86 @@ module _ (k : Cluster) (part : ℕ) (s : Scene) where
             let lord : s.lord news.epoch ≡ j = told.given ∙ mine in
             let own = welcomed.own news among same mine in
             ⊎_elim (λ before. absurd (omega arith)) (λ in_life. in_life.1)
-            (subst (λ p. PastAt k part p (s.since news.epoch) news.epoch) is
+            (subst (λ p. PastAt k part p (s.since news.epoch) news.epoch) premise
             (subst (λ x. PastAt k part (s.manager x).phase (s.since news.epoch) news.epoch) lord past))
 
     serving_body : (logs : Bool) (v : Serving) → (s.manager j).phase ≡ Serves v → ManagerSees k part s j (Serves v) → (from to : NodeId) (m : Body)
         → SentBy k part s from to m
         → Premise logs (SlotTold (members k part) part s.net (slot_in part (Serves v)) from m)
         → ServingGets logs part (epoch_now k part s) j s.net (members k part) v.lasting.inc (slot_in part (Serves v)) from m
-    serving_body logs v is sees from to (body.Want m) h told = want_gets from to m h
-    serving_body logs v is sees from to (body.Grant m) h told = tt
-    serving_body logs v is sees from to (body.Forward m) h told = tt
-    serving_body logs v is sees from to (body.Supply m) h told = tt
-    serving_body logs v is sees from to (body.Recall m) h told = tt
-    serving_body logs v is sees from to (body.Gave m) h told = gave_gets from to m h
-    serving_body logs v is sees from to (body.Gone m) h told = tt
-    serving_body logs v is sees from to (body.Deltas m) h told = deltas_gets logs (slot_in part (Serves v)) from m told
-    serving_body logs v is sees from to (body.DeltaAck m) h told = tt
-    serving_body logs v is sees from to (body.Poll m) h told = tt
-    serving_body logs v is sees from to (body.Report m) h told = (report_gets from to m h, last_gets logs (slot_in part (Serves v)) from m told)
-    serving_body logs v is sees from to (body.Store m) h told = tt
-    serving_body logs v is sees from to (body.Stored m) h told = tt
-    serving_body logs v is sees from to (body.Fetch m) h told = tt
-    serving_body logs v is sees from to (body.Fragment m) h told = found_gets logs (slot_in part (Serves v)) from m told
-    serving_body logs v is sees from to (body.Missing m) h told = absent_gets logs (slot_in part (Serves v)) from m told
-    serving_body logs v is sees from to (body.Fence m) h told = tt
-    serving_body logs v is sees from to (body.Fenced m) h told = tt
-    serving_body logs v is sees from to (body.List m) h told = tt
-    serving_body logs v is sees from to (body.Listed m) h told = tt
-    serving_body logs v is sees from to (body.Delete m) h told = tt
-    serving_body logs v is sees from to (body.Deleted m) h told = tt
-    serving_body logs v is sees from to (body.Check m) h told = tt
-    serving_body logs v is sees from to (body.Live m) h told = tt
-    serving_body logs v is sees from to (body.Dead m) h told = tt
-    serving_body logs v is sees from to (body.UsageAsk m) h told = tt
-    serving_body logs v is sees from to (body.Usage m) h told = tt
-    serving_body logs v is sees from to (body.Hello m) h told = tt
-    serving_body logs v is sees from to (body.Welcome m) h told = λ life. serving_news v is sees m.news.slots (welcome_told from to m h).0
-    serving_body logs v is sees from to (body.MapNews m) h told = serving_news v is sees m.slots (news_told from to m h)
-    serving_body logs v is sees from to (body.CkptDone m) h told = tt
-    serving_body logs v is sees from to (body.CkptAck m) h told = tt
+    serving_body logs v premise sees from to (body.Want m) h told = want_gets from to m h
+    serving_body logs v premise sees from to (body.Grant m) h told = tt
+    serving_body logs v premise sees from to (body.Forward m) h told = tt
+    serving_body logs v premise sees from to (body.Supply m) h told = tt
+    serving_body logs v premise sees from to (body.Recall m) h told = tt
+    serving_body logs v premise sees from to (body.Gave m) h told = gave_gets from to m h
+    serving_body logs v premise sees from to (body.Gone m) h told = tt
+    serving_body logs v premise sees from to (body.Deltas m) h told = deltas_gets logs (slot_in part (Serves v)) from m told
+    serving_body logs v premise sees from to (body.DeltaAck m) h told = tt
+    serving_body logs v premise sees from to (body.Poll m) h told = tt
+    serving_body logs v premise sees from to (body.Report m) h told = (report_gets from to m h, last_gets logs (slot_in part (Serves v)) from m told)
+    serving_body logs v premise sees from to (body.Store m) h told = tt
+    serving_body logs v premise sees from to (body.Stored m) h told = tt
+    serving_body logs v premise sees from to (body.Fetch m) h told = tt
+    serving_body logs v premise sees from to (body.Fragment m) h told = found_gets logs (slot_in part (Serves v)) from m told
+    serving_body logs v premise sees from to (body.Missing m) h told = absent_gets logs (slot_in part (Serves v)) from m told
+    serving_body logs v premise sees from to (body.Fence m) h told = tt
+    serving_body logs v premise sees from to (body.Fenced m) h told = tt
+    serving_body logs v premise sees from to (body.List m) h told = tt
+    serving_body logs v premise sees from to (body.Listed m) h told = tt
+    serving_body logs v premise sees from to (body.Delete m) h told = tt
+    serving_body logs v premise sees from to (body.Deleted m) h told = tt
+    serving_body logs v premise sees from to (body.Check m) h told = tt
+    serving_body logs v premise sees from to (body.Live m) h told = tt
+    serving_body logs v premise sees from to (body.Dead m) h told = tt
+    serving_body logs v premise sees from to (body.UsageAsk m) h told = tt
+    serving_body logs v premise sees from to (body.Usage m) h told = tt
+    serving_body logs v premise sees from to (body.Hello m) h told = tt
+    serving_body logs v premise sees from to (body.Welcome m) h told = λ life. serving_news v premise sees m.news.slots (welcome_told from to m h).0
+    serving_body logs v premise sees from to (body.MapNews m) h told = serving_news v premise sees m.slots (news_told from to m h)
+    serving_body logs v premise sees from to (body.CkptDone m) h told = tt
+    serving_body logs v premise sees from to (body.CkptAck m) h told = tt
 
     waiting_body : (kept : Kept) (hello : ℕ) → (s.manager j).phase ≡ Waiting kept hello → (from to : NodeId) (m : Body) → SentBy k part s from to m
         → to ≡ Manager j
         → WaitingGets part (epoch_now k part s) j s.net kept.inc m
-    waiting_body kept hello is from to (body.Want m) h same = tt
-    waiting_body kept hello is from to (body.Grant m) h same = tt
-    waiting_body kept hello is from to (body.Forward m) h same = tt
-    waiting_body kept hello is from to (body.Supply m) h same = tt
-    waiting_body kept hello is from to (body.Recall m) h same = tt
-    waiting_body kept hello is from to (body.Gave m) h same = tt
-    waiting_body kept hello is from to (body.Gone m) h same = tt
-    waiting_body kept hello is from to (body.Deltas m) h same = tt
-    waiting_body kept hello is from to (body.DeltaAck m) h same = tt
-    waiting_body kept hello is from to (body.Poll m) h same = tt
-    waiting_body kept hello is from to (body.Report m) h same = tt
-    waiting_body kept hello is from to (body.Store m) h same = tt
-    waiting_body kept hello is from to (body.Stored m) h same = tt
-    waiting_body kept hello is from to (body.Fetch m) h same = tt
-    waiting_body kept hello is from to (body.Fragment m) h same = tt
-    waiting_body kept hello is from to (body.Missing m) h same = tt
-    waiting_body kept hello is from to (body.Fence m) h same = tt
-    waiting_body kept hello is from to (body.Fenced m) h same = tt
-    waiting_body kept hello is from to (body.List m) h same = tt
-    waiting_body kept hello is from to (body.Listed m) h same = tt
-    waiting_body kept hello is from to (body.Delete m) h same = tt
-    waiting_body kept hello is from to (body.Deleted m) h same = tt
-    waiting_body kept hello is from to (body.Check m) h same = tt
-    waiting_body kept hello is from to (body.Live m) h same = tt
-    waiting_body kept hello is from to (body.Dead m) h same = tt
-    waiting_body kept hello is from to (body.UsageAsk m) h same = tt
-    waiting_body kept hello is from to (body.Usage m) h same = tt
-    waiting_body kept hello is from to (body.Hello m) h same = tt
-    waiting_body kept hello is from to (body.Welcome m) h same =
+    waiting_body kept hello premise from to (body.Want m) h same = tt
+    waiting_body kept hello premise from to (body.Grant m) h same = tt
+    waiting_body kept hello premise from to (body.Forward m) h same = tt
+    waiting_body kept hello premise from to (body.Supply m) h same = tt
+    waiting_body kept hello premise from to (body.Recall m) h same = tt
+    waiting_body kept hello premise from to (body.Gave m) h same = tt
+    waiting_body kept hello premise from to (body.Gone m) h same = tt
+    waiting_body kept hello premise from to (body.Deltas m) h same = tt
+    waiting_body kept hello premise from to (body.DeltaAck m) h same = tt
+    waiting_body kept hello premise from to (body.Poll m) h same = tt
+    waiting_body kept hello premise from to (body.Report m) h same = tt
+    waiting_body kept hello premise from to (body.Store m) h same = tt
+    waiting_body kept hello premise from to (body.Stored m) h same = tt
+    waiting_body kept hello premise from to (body.Fetch m) h same = tt
+    waiting_body kept hello premise from to (body.Fragment m) h same = tt
+    waiting_body kept hello premise from to (body.Missing m) h same = tt
+    waiting_body kept hello premise from to (body.Fence m) h same = tt
+    waiting_body kept hello premise from to (body.Fenced m) h same = tt
+    waiting_body kept hello premise from to (body.List m) h same = tt
+    waiting_body kept hello premise from to (body.Listed m) h same = tt
+    waiting_body kept hello premise from to (body.Delete m) h same = tt
+    waiting_body kept hello premise from to (body.Deleted m) h same = tt
+    waiting_body kept hello premise from to (body.Check m) h same = tt
+    waiting_body kept hello premise from to (body.Live m) h same = tt
+    waiting_body kept hello premise from to (body.Dead m) h same = tt
+    waiting_body kept hello premise from to (body.UsageAsk m) h same = tt
+    waiting_body kept hello premise from to (body.Usage m) h same = tt
+    waiting_body kept hello premise from to (body.Hello m) h same = tt
+    waiting_body kept hello premise from to (body.Welcome m) h same =
         λ life. (let w = welcome_told from to m h in let mine : Welcomed k part s (Manager j) m = subst (λ x. Welcomed k part s x m) same w.1 in
-        record { newer = mine.version; slots = waiting_news kept hello is m life w.0 mine })
-    waiting_body kept hello is from to (body.MapNews m) h same = tt
-    waiting_body kept hello is from to (body.CkptDone m) h same = tt
-    waiting_body kept hello is from to (body.CkptAck m) h same = tt
+        record { newer = mine.version; slots = waiting_news kept hello premise m life w.0 mine })
+    waiting_body kept hello premise from to (body.MapNews m) h same = tt
+    waiting_body kept hello premise from to (body.CkptDone m) h same = tt
+    waiting_body kept hello premise from to (body.CkptAck m) h same = tt
 
     pub manager_gets : (logs : Bool) (p : ManagerPhase) → (s.manager j).phase ≡ p → ManagerSees k part s j p → (q : Packet) → Fact k part s q → q.to ≡ Manager j
         → Premise logs (ServingTold (members k part) part s.net p q) → ManagerGets logs part (epoch_now k part s) j s.net (members k part) p q
-    manager_gets logs (Down kept) is sees q fact same told = tt
-    manager_gets logs (Waiting kept hello) is sees q fact same told = waiting_body kept hello is q.from q.to q.body fact same
-    manager_gets logs (Serves v) is sees q fact same told = serving_body logs v is sees q.from q.to q.body fact told
+    manager_gets logs (Down kept) premise sees q fact same told = tt
+    manager_gets logs (Waiting kept hello) premise sees q fact same told = waiting_body kept hello premise q.from q.to q.body fact same
+    manager_gets logs (Serves v) premise sees q fact same told = serving_body logs v premise sees q.from q.to q.body fact told

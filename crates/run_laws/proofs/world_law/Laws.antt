@@ -67,7 +67,7 @@ module _ (laws : NodeLaws) (k : Cluster) (part : ℕ) (of_eight : part < 8) wher
   pub serves_there : {logs : Bool} (nodes : List AnyNode) (sent : List Packet) (acts : List Act) (s : Scene)
       → Stands logs k part nodes sent acts RegistrySound s → (c : ℕ) (t : TokensState) → tokens_of (node_in nodes (place_of k (Client c))) ≡ Some t
       → ServesThere s c t
-  serves_there {logs = logs} nodes sent acts s st c t is = by_place (place_of k (Client c)) refl
+  serves_there {logs = logs} nodes sent acts s st c t fact = by_place (place_of k (Client c)) refl
     where
       by_phase : (p : Phase) → ClientAgrees logs part c s.net p → IsClient (members k part) c → tokens_in p ≡ Some t → ServesThere s c t
       by_phase (Down l) agrees client none = absurd (cc)
@@ -75,12 +75,12 @@ module _ (laws : NodeLaws) (k : Cluster) (part : ℕ) (of_eight : part < 8) wher
       by_phase (Serves v) agrees client has = record { client = client; up = agrees.up; tokens = agrees.tokens ∙ one_node v.tokens t has }
 
       by_place : (o : Option ℕ) → place_of k (Client c) ≡ o → ServesThere s c t
-      by_place None at = (let clash : None ≡ Some t = sym (ap (λ o. tokens_of (node_in nodes o)) at) ∙ is in absurd (cc))
+      by_place None at = (let clash : None ≡ Some t = sym (ap (λ o. tokens_of (node_in nodes o)) at) ∙ fact in absurd (cc))
       by_place (Some p) at =
           let b = behind 0 k.clients c p at in
           let less : c < members k part = (let limit = b.within in omega arith) in
           by_phase (s.client c).phase (st.clients c b.some less).0 (record { some = b.some; within = less })
-          (sym (ap tokens_of (st.placed.clients c b.some less)) ∙ is)
+          (sym (ap tokens_of (st.placed.clients c b.some less)) ∙ fact)
 
 -- each moment of a run stands to the small world of each slot
 pub front : (laws : NodeLaws) (e : Estate AnyNode) → IsSetup e.script.setup → IsRun any_step any_start e.script e.events e.world

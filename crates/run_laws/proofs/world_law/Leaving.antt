@@ -12,27 +12,28 @@ abbrev pub NoneLeaves : Net → Net → Type 0
 NoneLeaves n m = (e : ℕ) → m.slots e ≡ None → n.slots e ≡ None
 
 put_leaves : (n : Net) (e : ℕ) (s : SlotState) (d : ℕ) → put n.slots e (Some s) d ≡ None → n.slots d ≡ None
-put_leaves n e s = put_each (λ d o. o ≡ None → n.slots d ≡ None) n.slots e (Some s) (λ is. let clash : Some s ≡ None = is in absurd (cc)) (λ d other none. none)
+put_leaves n e s =
+    put_each (λ d o. o ≡ None → n.slots d ≡ None) n.slots e (Some s) (λ fact. let clash : Some s ≡ None = fact in absurd (cc)) (λ d other none. none)
 
 module _ (logs : Bool) (members part : ℕ) where
   happens_stay : (n m : Net) → Happens logs members part n m → NoneLeaves n m
   happens_stay n m (Acts c end i serves own) = λ d none. none
   happens_stay n m (Elsewhere c end i serves other) = λ d none. none
   happens_stay n m (Reports c end serves) = λ d none. none
-  happens_stay n m (GetsCopy c end block stamp inc req entry serves is) = λ d none. none
-  happens_stay n m (GetsOwn c end block stamp inc req entry value serves is accepts room) = λ d none. none
-  happens_stay n m (Declines c end block stamp inc req entry serves is accepts) = λ d none. none
-  happens_stay n m (GetsRecall c end block stamp keep serves is) = λ d none. none
-  happens_stay n m (GetsForward c other block stamp inc req ver value pos less is up serves held) = λ d none. none
-  happens_stay n m (GetsSupply c end block stamp inc req ver value serves is) = λ d none. none
+  happens_stay n m (GetsCopy c end block stamp inc req entry serves fact) = λ d none. none
+  happens_stay n m (GetsOwn c end block stamp inc req entry value serves fact accepts room) = λ d none. none
+  happens_stay n m (Declines c end block stamp inc req entry serves fact accepts) = λ d none. none
+  happens_stay n m (GetsRecall c end block stamp keep serves fact) = λ d none. none
+  happens_stay n m (GetsForward c other block stamp inc req ver value pos less fact up serves held) = λ d none. none
+  happens_stay n m (GetsSupply c end block stamp inc req ver value serves fact) = λ d none. none
   happens_stay n m (Fetches c end block value serves there) = λ d none. none
   happens_stay n m (Reads c block value pos less up holds held) = λ d none. none
   happens_stay n m (Syncs c pos less up clean) = λ d none. none
   happens_stay n m (Seals c rows pos less up idle newest) = λ d none. none
   happens_stay n m (Files c pos less up flies) = λ d none. none
   happens_stay n m (GetsDeltas e s log first upto rows at known some covers) = put_leaves n e _
-  happens_stay n m (GetsWant e s c inc req again block mode end at is) = put_leaves n e _
-  happens_stay n m (GetsGave e s c block stamp end at is) = put_leaves n e _
+  happens_stay n m (GetsWant e s c inc req again block mode end at fact) = put_leaves n e _
+  happens_stay n m (GetsGave e s c block stamp end at fact) = put_leaves n e _
   happens_stay n m (Ticks e s at) = put_leaves n e _
   happens_stay n m (Crashes c flight falls pos less up once so) = λ d none. none
   happens_stay n m (Returns c inc epochs chain count pos less up later rises flies) = λ d none. none

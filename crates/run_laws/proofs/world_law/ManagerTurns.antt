@@ -100,7 +100,8 @@ one_of false = inr refl
 module _ (logs : Bool) (k : Cluster) (part : ℕ) (RegistrySound : RegistryNode → Type 0) (nodes : List AnyNode) (sent : List Packet) (done : List Act)
     (s : Scene)
     (st : Stands logs k part nodes sent done RegistrySound s)
-    (j p clock : ℕ) (some : 0 < j) (limit : j ≤ k.managers) (at : place_of k (Manager j) ≡ Some p) (is : slice_get nodes p ≡ Some (any.Manager (s.manager j)))
+    (j p clock : ℕ) (some : 0 < j) (limit : j ≤ k.managers) (at : place_of k (Manager j) ≡ Some p)
+    (premise : slice_get nodes p ≡ Some (any.Manager (s.manager j)))
     (what : Do) (fact : (q : Packet) → what ≡ Deliver q → Fact k part s q × (q.to ≡ Manager j)) (w : Went_to)
     (go : ManagerGoes logs (members k part) part (epoch_now k part s) j s.net (s.manager j).phase what w) where
   abbrev after_node : ManagerNode
@@ -144,7 +145,7 @@ module _ (logs : Bool) (k : Cluster) (part : ℕ) (RegistrySound : RegistryNode 
     clients = λ c pos less. there k nodes (Manager j) p at (any.Manager after_node) (Client c) (λ same. absurd (cc)) ∙ st.placed.clients c pos less;
     managers = put_each
         (λ d (x : ManagerNode). 0 < d → d ≤ k.managers → node_in nodes_now (place_of k (Manager d)) ≡ Some (any.Manager x)) s.manager j after_node
-        (λ _ _. here k nodes (Manager j) p at (any.Manager after_node) (any.Manager (s.manager j)) is)
+        (λ _ _. here k nodes (Manager j) p at (any.Manager after_node) (any.Manager (s.manager j)) premise)
         (λ d other pos less. there k nodes (Manager j) p at (any.Manager after_node) (Manager d) (λ same. other (ap number same))
         ∙ st.placed.managers d pos less);
     servers = λ n pos less.

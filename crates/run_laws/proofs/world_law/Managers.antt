@@ -57,7 +57,7 @@ module _ {logs : Bool} (k : Cluster) (part : ℕ) (nodes : List AnyNode) (sent :
     pub same : SameButPages slot a
 
   pub manages_there : (j : ℕ) (a : SlotState) → active_of part (node_in nodes (place_of k (Manager j))) ≡ Some a → There j a
-  manages_there j a is = by_place (place_of k (Manager j)) refl
+  manages_there j a fact = by_place (place_of k (Manager j)) refl
     where
       by_slot : (p : SlotPhase) → PhaseAgrees (members k part) part s.net p → ((e : ℕ) → HeldAt p e → (s.lord e ≡ j) × (e ≤ epoch_now k part s))
           → active_in p ≡ Some a → There j a
@@ -77,10 +77,10 @@ module _ {logs : Bool} (k : Cluster) (part : ℕ) (nodes : List AnyNode) (sent :
           (λ e held. ((sees.owns e held).0, (let same = held_known (phase_at v.slots part) e held in let a = sees.within in omega arith))) has
 
       by_place : (o : Option ℕ) → place_of k (Manager j) ≡ o → There j a
-      by_place None at = (let clash : None ≡ Some a = sym (ap (λ o. active_of part (node_in nodes o)) at) ∙ is in absurd (cc))
+      by_place None at = (let clash : None ≡ Some a = sym (ap (λ o. active_of part (node_in nodes o)) at) ∙ fact in absurd (cc))
       by_place (Some p) at =
           let b = behind k.clients k.managers j p at in
-          by_phase (s.manager j).phase (st.managers j b.some b.within) (sym (ap (active_of part) (st.placed.managers j b.some b.within)) ∙ is)
+          by_phase (s.manager j).phase (st.managers j b.some b.within) (sym (ap (active_of part) (st.placed.managers j b.some b.within)) ∙ fact)
 
 module _ (laws : NodeLaws) (small_promised : ActiveEpochsPromised) (small_believed : HoldingsBelieved) (small_acceptable : GrantsBelieved) (e : Estate AnyNode)
     (setup : IsSetup e.script.setup) (run : IsRun any_step any_start e.script e.events e.world)
@@ -101,13 +101,14 @@ module _ (laws : NodeLaws) (small_promised : ActiveEpochsPromised) (small_believ
   st = (front laws e setup run count part of_eight).1.1
 
   managed : (j : ℕ) (s : SlotState) → active_at w part j ≡ Some s → There k part w.nodes w.sent w.acts now st j s
-  managed j s is =
-      manages_there k part w.nodes w.sent w.acts now st j s (subst (λ cl. active_of part (node_in w.nodes (place_of cl (Manager j))) ≡ Some s) same_cluster is)
+  managed j s fact =
+      manages_there k part w.nodes w.sent w.acts now st j s (subst
+      (λ cl. active_of part (node_in w.nodes (place_of cl (Manager j))) ≡ Some s) same_cluster fact)
 
   served : (c : ℕ) (t : TokensState) → tokens_at w c ≡ Some t → ServesThere laws k part of_eight now c t
-  served c t is =
+  served c t fact =
       serves_there laws k part of_eight w.nodes w.sent w.acts now st c t
-      (subst (λ cl. tokens_of (node_in w.nodes (place_of cl (Client c))) ≡ Some t) same_cluster is)
+      (subst (λ cl. tokens_of (node_in w.nodes (place_of cl (Client c))) ≡ Some t) same_cluster fact)
 
   registry_epoch : epoch_at w part ≡ epoch_now k part now
   registry_epoch =
@@ -126,7 +127,7 @@ module _ (laws : NodeLaws) (small_promised : ActiveEpochsPromised) (small_believ
   -- the manager at the registry's epoch is the one that reigns in the small world
   newest : (j : ℕ) (s : SlotState) (at_j : active_at w part j ≡ Some s) → s.epoch ≡ epoch_at w part
       → Reigns (with_promise 1 now.net) s.epoch (managed j s at_j).slot
-  newest j s at_j is = record {
+  newest j s at_j fact = record {
     active = (managed j s at_j).there;
     latest = λ i z there. (let h = (st.entered i z there).0 in let r = registry_epoch in omega arith);
   }
@@ -134,8 +135,8 @@ module _ (laws : NodeLaws) (small_promised : ActiveEpochsPromised) (small_believ
   -- a Grant that was sent to a client was sent there
   granted : (c : ℕ) (packet : Packet) (m : Grant) → In packet w.sent → packet.to ≡ Client c → packet.body ≡ body.Grant m
       → GrantSeen part now.net.sent (Client c) m
-  granted c packet m sent to is = grant_told k part now packet.from (Client c) m
-      (subst (λ (x : Body). SentBy k part now packet.from (Client c) x) is
+  granted c packet m sent to fact = grant_told k part now packet.from (Client c) m
+      (subst (λ (x : Body). SentBy k part now packet.from (Client c) x) fact
       (subst (λ (x : NodeId). SentBy k part now packet.from x packet.body) to (st.facts packet sent)))
 
   -- the cleaner has promised what was entered
@@ -166,11 +167,11 @@ module _ (laws : NodeLaws) (small_promised : ActiveEpochsPromised) (small_believ
         (subst (λ beliefs. mode_number (held_of (now.net.tokens c).blocks b).mode ≤ share_of beliefs b c) (ap (λ (z : SlotState). z.beliefs) x.same)
         (small_believed false (members k part) part (with_promise 1 now.net) b (record { run = st.runs; inside = inside }) s.epoch x.slot
         (newest j s at_j latest) c y.client y.up)));
-    acceptable = λ j c s t packet m at_j latest at_c sent to is inside accepted. (let x = managed j s at_j in let y = served c t at_c in
+    acceptable = λ j c s t packet m at_j latest at_c sent to fact inside accepted. (let x = managed j s at_j in let y = served c t at_c in
         subst (λ beliefs. mode_number m.mode ≤ share_of beliefs m.block c) (ap (λ (z : SlotState). z.beliefs) x.same)
         (small_acceptable false (members k part) part (with_promise 1 now.net) m.block (record { run = st.runs; inside = inside }) s.epoch x.slot
         (newest j s at_j latest) c y.client y.up
-        m.stamp m.inc m.req m.mode m.entry (granted c packet m (was_sent w.sent packet sent) to is inside)
+        m.stamp m.inc m.req m.mode m.entry (granted c packet m (was_sent w.sent packet sent) to fact inside)
         (subst (λ (z : TokensState). accepts z m.block m.stamp m.inc m.req m.mode ≡ true) (sym y.tokens) accepted)));
   }
 

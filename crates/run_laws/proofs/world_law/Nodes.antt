@@ -19,8 +19,8 @@ most_of a c h = grind (arith, nat_tests)
 
 module _ {X : Type 0} (xs : List X) (p : ℕ) (x : X) where
   pub get_set_same : (y : X) → slice_get xs p ≡ Some y → slice_get (slice_set xs p x) p ≡ Some x
-  get_set_same y is =
-      let less = slice_get_within xs p y is in
+  get_set_same y fact =
+      let less = slice_get_within xs p y fact in
       slice_get-get_or (slice_set xs p x) p x (subst (λ n. p < n) (sym (length-set xs p x)) less) ∙ ap Some (get_or-set_same xs p x x less)
 
   pub get_set_other : (q : ℕ) → q ≢ p → slice_get (slice_set xs p x) q ≡ slice_get xs q
@@ -35,11 +35,11 @@ module _ {X : Type 0} (xs : List X) (p : ℕ) (x : X) where
 
 module _ (k : Cluster) (nodes : List AnyNode) (name : NodeId) (p : ℕ) (at : place_of k name ≡ Some p) (x : AnyNode) where
   pub here : (y : AnyNode) → slice_get nodes p ≡ Some y → node_in (slice_set nodes p x) (place_of k name) ≡ Some x
-  here y is = ap (node_in (slice_set nodes p x)) at ∙ get_set_same nodes p x y is
+  here y fact = ap (node_in (slice_set nodes p x)) at ∙ get_set_same nodes p x y fact
 
   pub there : (other : NodeId) → (other ≡ name → ⊥) → node_in (slice_set nodes p x) (place_of k other) ≡ node_in nodes (place_of k other)
   there other differs = by_place (place_of k other) refl
     where
       by_place : (o : Option ℕ) → place_of k other ≡ o → node_in (slice_set nodes p x) o ≡ node_in nodes o
-      by_place None is = refl
-      by_place (Some q) is = get_set_other nodes p x q (λ same. differs (one_name k other name q is (at ∙ ap Some (sym same))))
+      by_place None fact = refl
+      by_place (Some q) fact = get_set_other nodes p x q (λ same. differs (one_name k other name q fact (at ∙ ap Some (sym same))))

@@ -149,7 +149,7 @@ module _ (logs : Bool) (k : Cluster) (part : ℕ) (RegistrySound : RegistryNode 
       → PacketsSay ServerSends (server_step server what).packets
       → Stands logs k part (slice_set nodes p (any.Server (server_step server what).node))
       (sent ++ map (sent_at clock) (server_step server what).packets) done RegistrySound s
-  server_turn n at server is says = stands_so now (map (sent_at clock) (server_step server what).packets) placed
+  server_turn n at server fact says = stands_so now (map (sent_at clock) (server_step server what).packets) placed
       (λ q h. at_clock clock (λ x. (x.from ≡ Server server.number) × ServerSends x.body) (Fact k part s)
       (λ x both. subst (λ (y : NodeId). SentBy k part s y x.to x.body) (sym both.0) both.1)
       (server_step server what).packets (λ i d less. (server_from server what i d less, says i d less)) q h)
@@ -171,7 +171,7 @@ module _ (logs : Bool) (k : Cluster) (part : ℕ) (RegistrySound : RegistryNode 
             (λ same. (
               (server_step server what).node,
               subst (λ (x : ℕ). node_in now (place_of k (Server x)) ≡ Some (any.Server (server_step server what).node)) (sym same)
-                  (here k nodes (Server n) p at (any.Server (server_step server what).node) (any.Server server) is),
+                  (here k nodes (Server n) p at (any.Server (server_step server what).node) (any.Server server) fact),
             ))
             (λ other. (let h = st.placed.servers m pos less in (h.0, others (Server m) (λ same. other (ap number same)) ∙ h.1)))
             (equal_or_not m n);
@@ -195,7 +195,7 @@ module _ (part promised limit : ℕ) where
 module _ (logs : Bool) (k : Cluster) (part : ℕ) (RegistrySound : RegistryNode → Type 0) (nodes : List AnyNode) (sent : List Packet) (done : List Act)
     (s : Scene)
     (st : Stands logs k part nodes sent done RegistrySound s) (p clock : ℕ)
-    (at : place_of k Cleaner ≡ Some p) (is : slice_get nodes p ≡ Some (any.Cleaner s.cleaner)) (w : Went_to)
+    (at : place_of k Cleaner ≡ Some p) (fact : slice_get nodes p ≡ Some (any.Cleaner s.cleaner)) (w : Went_to)
     (go : CleanerGoes part s.net.promised (epoch_now k part s) s.cleaner.phase w.state w.outs)
     {adopted : Bool} (run : CleanerRuns logs (members k part) part s.net adopted s.cleaner.phase w.state w.outs) where
   abbrev after_node : CleanerNode
@@ -233,7 +233,7 @@ module _ (logs : Bool) (k : Cluster) (part : ℕ) (RegistrySound : RegistryNode 
     clients = λ c pos less. others (Client c) (λ same. absurd (cc)) ∙ st.placed.clients c pos less;
     managers = λ j pos less. others (Manager j) (λ same. absurd (cc)) ∙ st.placed.managers j pos less;
     servers = λ n pos less. (let h = st.placed.servers n pos less in (h.0, others (Server n) (λ same. absurd (cc)) ∙ h.1));
-    cleaner = here k nodes Cleaner p at (any.Cleaner after_node) (any.Cleaner s.cleaner) is;
+    cleaner = here k nodes Cleaner p at (any.Cleaner after_node) (any.Cleaner s.cleaner) fact;
     registry = others Registry (λ same. absurd (cc)) ∙ st.placed.registry;
   }
 

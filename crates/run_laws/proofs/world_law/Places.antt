@@ -13,14 +13,14 @@ pub record Behind (first count number p : ℕ) : Type 0 where
   pub place : p ≡ first + number - 1
 
 pub some_place : (a p : ℕ) → Some a ≡ Some p → p ≡ a
-some_place a p is = sym (ap (λ o. unwrap_or o 0) is)
+some_place a p fact = sym (ap (λ o. unwrap_or o 0) fact)
 
 pub behind : (first count number p : ℕ) → place_behind first count number ≡ Some p → Behind first count number p
 behind first count number p =
     elim (nat_lt 0 number && nat_le number count) as
     (λ t. (nat_lt 0 number && nat_le number count) ≡ t → cond t (Some (first + number - 1)) None ≡ Some p → Behind first count number p) [
-      | true ↦ λ h is. record { some = positive number count h; within = limit number count h; place = some_place (first + number - 1) p is }
-      | false ↦ λ h is. absurd (cc)
+      | true ↦ λ h fact. record { some = positive number count h; within = limit number count h; place = some_place (first + number - 1) p fact }
+      | false ↦ λ h fact. absurd (cc)
     ] refl
   where
     positive : (a c : ℕ) → (nat_lt 0 a && nat_le a c) ≡ true → 0 < a
@@ -62,24 +62,24 @@ behind_servers c p h = ap (λ t. cond t (Server (p - first_server c + 1)) (last_
 
 -- the node at the place of a name has that name
 pub node_at_place : (c : Cluster) (node : NodeId) (p : ℕ) → place_of c node ≡ Some p → node_at c p ≡ node
-node_at_place c (Client k) p is =
-    let b = behind 0 c.clients k p is in let place = b.place in let some = b.some in let within = b.within in
+node_at_place c (Client k) p fact =
+    let b = behind 0 c.clients k p fact in let place = b.place in let some = b.some in let within = b.within in
     ap (λ t. cond t (Client (p + 1)) (from_managers c p)) (less p c.clients (omega arith)) ∙ ap Client (omega arith)
-node_at_place c (Manager k) p is =
-    let b = behind (first_manager c) c.managers k p is in let place = b.place in let some = b.some in let within = b.within in
+node_at_place c (Manager k) p fact =
+    let b = behind (first_manager c) c.managers k p fact in let place = b.place in let some = b.some in let within = b.within in
     behind_clients c p (omega arith)
     ∙ (ap (λ t. cond t (Manager (p - first_manager c + 1)) (from_servers c p)) (less p (first_server c) (omega arith)) ∙ ap Manager (omega arith))
-node_at_place c (Server k) p is =
-    let b = behind (first_server c) c.servers k p is in let place = b.place in let some = b.some in let within = b.within in
+node_at_place c (Server k) p fact =
+    let b = behind (first_server c) c.servers k p fact in let place = b.place in let some = b.some in let within = b.within in
     behind_clients c p (omega arith)
     ∙ (behind_managers c p (omega arith)
     ∙ (ap (λ t. cond t (Server (p - first_server c + 1)) (last_two c p)) (less p (cleaner_place c) (omega arith)) ∙ ap Server (omega arith)))
-node_at_place c Cleaner p is =
-    let place : p ≡ cleaner_place c = some_place (cleaner_place c) p is in
+node_at_place c Cleaner p fact =
+    let place : p ≡ cleaner_place c = some_place (cleaner_place c) p fact in
     behind_clients c p (omega arith)
     ∙ (behind_managers c p (omega arith) ∙ (behind_servers c p (omega arith) ∙ ap (λ t. cond t Cleaner Registry) (ap (λ k. p == k) (sym place) ∙ equal p)))
-node_at_place c Registry p is =
-    let place : p ≡ cleaner_place c + 1 = some_place (cleaner_place c + 1) p is in
+node_at_place c Registry p fact =
+    let place : p ≡ cleaner_place c + 1 = some_place (cleaner_place c + 1) p fact in
     behind_clients c p (omega arith)
     ∙ (behind_managers c p (omega arith) ∙ (behind_servers c p (omega arith) ∙ ap (λ t. cond t Cleaner Registry) (unequal p (cleaner_place c) (omega arith))))
 

@@ -75,7 +75,7 @@ held_known (phase.Broken epoch seg) e h = absurd h
 
 module _ (logs : Bool) (k : Cluster) (part : ℕ) (nodes : List AnyNode) (sent : List Packet) (done : List Act) (s : Scene)
     (st : Stands logs k part nodes sent done RegistrySound s)
-    (p clock : ℕ) (at : place_of k Registry ≡ Some p) (is : slice_get nodes p ≡ Some (any.Registry s.registry))
+    (p clock : ℕ) (at : place_of k Registry ≡ Some p) (premise : slice_get nodes p ≡ Some (any.Registry s.registry))
     (what : Do) (fact : (q : Packet) → what ≡ Deliver q → Fact k part s q) (go : RegistryGoes part s.registry what) where
   abbrev after_node : RegistryNode
   after_node = (registry_step s.registry what).node
@@ -142,7 +142,7 @@ module _ (logs : Bool) (k : Cluster) (part : ℕ) (nodes : List AnyNode) (sent :
     servers = λ n pos less.
         (let h = st.placed.servers n pos less in (h.0, there k nodes Registry p at (any.Registry after_node) (Server n) (λ same. absurd (cc)) ∙ h.1));
     cleaner = there k nodes Registry p at (any.Registry after_node) Cleaner (λ same. absurd (cc)) ∙ st.placed.cleaner;
-    registry = here k nodes Registry p at (any.Registry after_node) (any.Registry s.registry) is;
+    registry = here k nodes Registry p at (any.Registry after_node) (any.Registry s.registry) premise;
   }
 
   -- ---- who said Hello

@@ -18,7 +18,7 @@ in_get (y ∷ xs) zero d less = inl refl
 in_get (y ∷ xs) (suc i) d less = inr (in_get xs i d (omega arith))
 
 pub in_list : {X : Type 0} (xs : List X) (place : ℕ) (x : X) → slice_get xs place ≡ Some x → In x xs
-in_list xs place x is = subst (λ y. In y xs) (get_or_from_slice_get xs place x x is) (in_get xs place x (slice_get_within xs place x is))
+in_list xs place x fact = subst (λ y. In y xs) (get_or_from_slice_get xs place x x fact) (in_get xs place x (slice_get_within xs place x fact))
 
 -- what was sent is in the list of what was sent
 pub was_sent : (sent : List Packet) (p : Packet) → WasSent sent p → In p sent
@@ -26,12 +26,12 @@ was_sent sent p h = in_list sent h.0 p h.1
 
 pub in_append : {X : Type 0} (xs ys : List X) (x : X) → In x (xs ++ ys) → In x xs ⊎ In x ys
 in_append [] ys x h = inr h
-in_append (y ∷ xs) ys x (inl is) = inl (inl is)
+in_append (y ∷ xs) ys x (inl fact) = inl (inl fact)
 in_append (y ∷ xs) ys x (inr later) = elim (in_append xs ys x later) [ inl h ↦ inl (inr h) | inr h ↦ inr h ]
 
 pub in_all : {X : Type 0} (K : X → Type 0) (xs : List X) → All K xs → (x : X) → In x xs → K x
 in_all K [] all x h = absurd h
-in_all K (y ∷ xs) all x (inl is) = subst K (sym is) (all 0 y (omega arith))
+in_all K (y ∷ xs) all x (inl fact) = subst K (sym fact) (all 0 y (omega arith))
 in_all K (y ∷ xs) all x (inr later) = in_all K xs (λ i d less. all (suc i) d (omega arith)) x later
 
 -- ---- what a step sends
@@ -40,7 +40,7 @@ in_all K (y ∷ xs) all x (inr later) = in_all K xs (λ i d less. all (suc i) d 
 pub at_clock : (clock : ℕ) (K F : Packet → Type 0) → ((p : Packet) → K p → F (sent_at clock p)) → (packets : List Packet) → All K packets → (q : Packet)
     → In q (map (sent_at clock) packets) → F q
 at_clock clock K F each [] all q h = absurd h
-at_clock clock K F each (p ∷ packets) all q (inl is) = subst F (sym is) (each p (all 0 p (omega arith)))
+at_clock clock K F each (p ∷ packets) all q (inl fact) = subst F (sym fact) (each p (all 0 p (omega arith)))
 at_clock clock K F each (p ∷ packets) all q (inr later) = at_clock clock K F each packets (λ i d less. all (suc i) d (omega arith)) q later
 
 module _ (node : NodeId) (clock : ℕ) (D : Effect → Type 0) (F : Packet → Type 0) where
@@ -48,7 +48,7 @@ module _ (node : NodeId) (clock : ℕ) (D : Effect → Type 0) (F : Packet → T
   pub sends : ((to : NodeId) (body : Body) → D (Send to body) → F (record { from = node; to = to; clock = clock; body = body }))
       → (outs : List Effect) → All D outs → (p : Packet) → In p (map (sent_at clock) (packets_of node outs)) → F p
   sends each [] all p h = absurd h
-  sends each (Send to body ∷ outs) all p (inl is) = subst F (sym is) (each to body (all 0 (Send to body) (omega arith)))
+  sends each (Send to body ∷ outs) all p (inl fact) = subst F (sym fact) (each to body (all 0 (Send to body) (omega arith)))
   sends each (Send to body ∷ outs) all p (inr later) = sends each outs (λ i d less. all (suc i) d (omega arith)) p later
   sends each (Answer item answer ∷ outs) all p h = sends each outs (λ i d less. all (suc i) d (omega arith)) p h
   sends each (Lose seg ∷ outs) all p h = sends each outs (λ i d less. all (suc i) d (omega arith)) p h

@@ -42,13 +42,13 @@ use Rattle.xfs_base.specs.declared.node.NodeId.TheVariants.{Client, Manager, Ser
 
 -- each place is below the number of nodes
 place_within : (c : Cluster) (node : NodeId) (p : ℕ) → place_of c node ≡ Some p → p < node_count c
-place_within c (Client n) p is = (let b = behind 0 c.clients n p is in let place = b.place in let some = b.some in let within = b.within in omega arith)
-place_within c (Manager n) p is =
-    (let b = behind c.clients c.managers n p is in let place = b.place in let some = b.some in let within = b.within in omega arith)
-place_within c (Server n) p is =
-    (let b = behind (c.clients + c.managers) c.servers n p is in let place = b.place in let some = b.some in let within = b.within in omega arith)
-place_within c Cleaner p is = (let place = some_place (c.clients + c.managers + c.servers) p is in omega arith)
-place_within c Registry p is = (let place = some_place (c.clients + c.managers + c.servers + 1) p is in omega arith)
+place_within c (Client n) p fact = (let b = behind 0 c.clients n p fact in let place = b.place in let some = b.some in let within = b.within in omega arith)
+place_within c (Manager n) p fact =
+    (let b = behind c.clients c.managers n p fact in let place = b.place in let some = b.some in let within = b.within in omega arith)
+place_within c (Server n) p fact =
+    (let b = behind (c.clients + c.managers) c.servers n p fact in let place = b.place in let some = b.some in let within = b.within in omega arith)
+place_within c Cleaner p fact = (let place = some_place (c.clients + c.managers + c.servers) p fact in omega arith)
+place_within c Registry p fact = (let place = some_place (c.clients + c.managers + c.servers + 1) p fact in omega arith)
 
 module _ (script : Script) where
   abbrev cluster : Cluster
@@ -160,7 +160,7 @@ module _ (logs : Bool) (first_asks : StartsAsking) (first_agrees : FirstManagerA
       × PastAt k part (first_manager (manager_now k part start_scene) script.setup (items_of script.lines (Manager (manager_now k part start_scene)))).phase 1 e
       × (e ≤ 1))
       (λ e. None) 1 (opening.slots 1)
-      (λ z is. (
+      (λ z fact. (
         let b = begun.epoch in omega arith,
         one_of_them.0,
         one_of_them.1,
@@ -172,7 +172,7 @@ module _ (logs : Bool) (first_asks : StartsAsking) (first_agrees : FirstManagerA
         ),
         omega arith,
       ))
-      (λ e other z is. absurd (cc))
+      (λ e other z fact. absurd (cc))
 
   pub start_stands : Stands logs k part (first_nodes any_start script k) [] [] RegistrySound start_scene
   start_stands = record {

@@ -19,9 +19,9 @@ module _ {N : Type 0} (step : N → Do → NodeStep N) (P : List N → List Pack
       (turns : (node : N) (clock : ℕ) → slice_get w.nodes place ≡ Some node
       → P (slice_set w.nodes place (step node what).node) (w.sent ++ map (sent_at clock) (step node what).packets) (w.acts ++ (step node what).acts)) where
     by_turn : (clock : ℕ) (o : Option N) → slice_get w.nodes place ≡ o → Holds (after_turn step w place clock (turn_by step w.nodes place what o))
-    by_turn clock None is =
+    by_turn clock None fact =
         subst (λ acts. P w.nodes (w.sent ++ []) acts) (sym (append-nil w.acts)) (subst (λ sent. P w.nodes sent w.acts) (sym (append-nil w.sent)) still)
-    by_turn clock (Some node) is = turns node clock is
+    by_turn clock (Some node) fact = turns node clock fact
 
     by_clock : (o : Option ℕ) → Holds (turned step w place what o)
     unfolding turn_of
@@ -34,7 +34,7 @@ module _ {N : Type 0} (step : N → Do → NodeStep N) (P : List N → List Pack
       → Holds (at_place step w what o)
   unfolding happened_at
   by_place None turns = still
-  by_place (Some place) turns = by_clock place (λ node clock is. turns place node clock refl is) (clock_at w place what)
+  by_place (Some place) turns = by_clock place (λ node clock fact. turns place node clock refl fact) (clock_at w place what)
 
 -- what holds of nodes, packets and acts still holds, where the node that has its turn keeps it
 pub next_keeps : {N : Type 0} (step : N → Do → NodeStep N) (P : List N → List Packet → List Act → Type 0) (w : World N) (event : Event)

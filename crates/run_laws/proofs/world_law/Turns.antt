@@ -104,7 +104,8 @@ module _ (laws : NodeLaws) (logs : Bool) (k : Cluster) (part : ℕ) (of_eight : 
     client_after : (c : ℕ) → Brought (Client c) → place_of k (Client c) ≡ Some place → (node : AnyNode) → slice_get nodes place ≡ Some node
         → Owed (Client c) node
         → Turned (Client c) node
-    client_after c fact at node is = subst (λ x. Owed (Client c) x → Turned (Client c) x) (one_node (any.Client (s.client c)) node (sym here ∙ is)) turned
+    client_after c fact at node reason = subst (λ x. Owed (Client c) x
+        → Turned (Client c) x) (one_node (any.Client (s.client c)) node (sym here ∙ reason)) turned
       where
         b : Behind 0 k.clients c place
         b = behind 0 k.clients c place at
@@ -151,7 +152,8 @@ module _ (laws : NodeLaws) (logs : Bool) (k : Cluster) (part : ℕ) (of_eight : 
     manager_after : (j : ℕ) → Brought (Manager j) → place_of k (Manager j) ≡ Some place → (node : AnyNode) → slice_get nodes place ≡ Some node
         → Owed (Manager j) node
         → Turned (Manager j) node
-    manager_after j fact at node is = subst (λ x. Owed (Manager j) x → Turned (Manager j) x) (one_node (any.Manager (s.manager j)) node (sym here ∙ is)) turned
+    manager_after j fact at node reason = subst (λ x. Owed (Manager j) x
+        → Turned (Manager j) x) (one_node (any.Manager (s.manager j)) node (sym here ∙ reason)) turned
       where
         b : Behind k.clients k.managers j place
         b = behind k.clients k.managers j place at
@@ -193,12 +195,12 @@ module _ (laws : NodeLaws) (logs : Bool) (k : Cluster) (part : ℕ) (of_eight : 
               falls = falls_stay (members k part) s.net go.next acts _ go.tokens go.up
                   (all_neutral (ManagerDoes part go.next.sent (epoch_now k part s) (managers.lasting_of after.state).inc)
                   (Manager (managers.lasting_of (s.manager j).phase).number)
-                  (λ a is. is) after.outs
+                  (λ a reason. reason) after.outs
                   (recursion_from_All (ManagerDoes part go.next.sent (epoch_now k part s) (managers.lasting_of after.state).inc) after.outs go.does));
             }
 
     server_after : (n : ℕ) → place_of k (Server n) ≡ Some place → (node : AnyNode) → slice_get nodes place ≡ Some node → Turned (Server n) node
-    server_after n at node is = subst (Turned (Server n)) (one_node (any.Server there.0) node (sym here ∙ is)) (record {
+    server_after n at node reason = subst (Turned (Server n)) (one_node (any.Server there.0) node (sym here ∙ reason)) (record {
       next = said_scene logs k part RegistrySound nodes sent acts s st (server_step there.0 what).acts says.1;
       stands = server_turn logs k part RegistrySound nodes sent (acts ++ (server_step there.0 what).acts)
           (said_scene logs k part RegistrySound nodes sent acts s st (server_step there.0 what).acts says.1)
@@ -223,7 +225,7 @@ module _ (laws : NodeLaws) (logs : Bool) (k : Cluster) (part : ℕ) (of_eight : 
 
     cleaner_after : Brought Cleaner → place_of k Cleaner ≡ Some place → (node : AnyNode) → slice_get nodes place ≡ Some node → Owed Cleaner node
         → Turned Cleaner node
-    cleaner_after fact at node is = subst (λ x. Owed Cleaner x → Turned Cleaner x) (one_node (any.Cleaner s.cleaner) node (sym here ∙ is)) turned
+    cleaner_after fact at node reason = subst (λ x. Owed Cleaner x → Turned Cleaner x) (one_node (any.Cleaner s.cleaner) node (sym here ∙ reason)) turned
       where
         here : slice_get nodes place ≡ Some (any.Cleaner s.cleaner)
         here = sym (ap (node_in nodes) at) ∙ st.placed.cleaner
@@ -251,13 +253,13 @@ module _ (laws : NodeLaws) (logs : Bool) (k : Cluster) (part : ℕ) (of_eight : 
               stay = λ e none. none;
               books = record { others = run.others; own = run.own };
               falls = falls_stay (members k part) s.net _ acts _ refl refl
-                  (all_neutral (CleanerDoes part go.next (cleaners.lasting_of went.state).inc) Cleaner (λ a is. is) went.outs
+                  (all_neutral (CleanerDoes part go.next (cleaners.lasting_of went.state).inc) Cleaner (λ a reason. reason) went.outs
                   (recursion_from_All (CleanerDoes part go.next (cleaners.lasting_of went.state).inc) went.outs go.does));
             }
 
     registry_after : ((q : Packet) → what ≡ Deliver q → Fact k part s q) → place_of k Registry ≡ Some place → (node : AnyNode)
         → slice_get nodes place ≡ Some node → Turned Registry node
-    registry_after fact at node is = subst (Turned Registry) (one_node (any.Registry s.registry) node (sym here ∙ is)) (record {
+    registry_after fact at node reason = subst (Turned Registry) (one_node (any.Registry s.registry) node (sym here ∙ reason)) (record {
       next = registry_scene logs k part nodes sent _ said said_st place clock at here what said_facts go;
       stands = registry_turn logs k part nodes sent _ said said_st place clock at here what said_facts go;
       since =
@@ -291,11 +293,11 @@ module _ (laws : NodeLaws) (logs : Bool) (k : Cluster) (part : ℕ) (of_eight : 
     -- what one node's step makes of the moment, if logs give what is owed
     pub turns : (name : NodeId) → Brought name → place_of k name ≡ Some place → (node : AnyNode) → slice_get nodes place ≡ Some node → Owed name node
         → Turned name node
-    turns (Client c) fact at node is owed = client_after c fact at node is owed
-    turns (Manager j) fact at node is owed = manager_after j fact at node is owed
-    turns (Server n) fact at node is owed = server_after n at node is
-    turns Cleaner fact at node is owed = cleaner_after fact at node is owed
-    turns Registry fact at node is owed = registry_after (λ q same. (fact q same).0) at node is
+    turns (Client c) fact at node reason owed = client_after c fact at node reason owed
+    turns (Manager j) fact at node reason owed = manager_after j fact at node reason owed
+    turns (Server n) fact at node reason owed = server_after n at node reason
+    turns Cleaner fact at node reason owed = cleaner_after fact at node reason owed
+    turns Registry fact at node reason owed = registry_after (λ q same. (fact q same).0) at node reason
 
   -- ---- an event of the world
 
@@ -306,8 +308,10 @@ module _ (laws : NodeLaws) (logs : Bool) (k : Cluster) (part : ℕ) (of_eight : 
   delivered_fact sent s facts w same (events.Begin node) may q gets = absurd (cc)
   delivered_fact sent s facts w same (events.Tick node) may q gets = absurd (cc)
   delivered_fact sent s facts w same (events.Deliver packet) may q gets =
-      (let is : packet ≡ q = delivered packet q gets in
-      (facts q (subst (λ xs. In q xs) same (was_sent w.sent q (subst (λ x. MayHappen w (events.Deliver x)) is may))), ap (λ (x : Packet). x.to) (sym is)))
+      (let reason : packet ≡ q = delivered packet q gets in (
+        facts q (subst (λ xs. In q xs) same (was_sent w.sent q (subst (λ x. MayHappen w (events.Deliver x)) reason may))),
+        ap (λ (x : Packet). x.to) (sym reason),
+      ))
 
   module _ (w : World AnyNode) (event : Event) (adopted : Bool) (s : Scene) where
     -- the moment after an event: the node has its turn, or nothing happens
@@ -339,10 +343,10 @@ module _ (laws : NodeLaws) (logs : Bool) (k : Cluster) (part : ℕ) (of_eight : 
       books = inl refl;
       falls = λ falls. falls;
     })
-        (λ place node clock at is.
+        (λ place node clock at reason.
         let at_k : place_of k (node_of event) ≡ Some place = subst (λ c. place_of c (node_of event) ≡ Some place) cluster at in
-        let there : node_in w.nodes (place_of k (node_of event)) ≡ Some node = ap (node_in w.nodes) at_k ∙ is in
+        let there : node_in w.nodes (place_of k (node_of event)) ≡ Some node = ap (node_in w.nodes) at_k ∙ reason in
         let t = turns w.nodes w.sent w.acts s st place clock (what_of event) adopted (node_of event)
-        (delivered_fact w.sent s st.facts w refl event may) at_k node is
+        (delivered_fact w.sent s st.facts w refl event may) at_k node reason
         (owed node there) in
         record { next = t.next; stands = t.stands; since = t.since; stay = t.stay; books = inr (node, there, t.books); falls = t.falls })

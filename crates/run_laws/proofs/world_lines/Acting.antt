@@ -35,17 +35,17 @@ clients_acts_file restarts short flights part texts g c w v n node what some bel
       filed = filed;
       short = short g c w node what sees room
           (all_then (λ name. In name v.net.filed) (HasFlown w.net)
-          (λ name is. restarts g w.net v.net sure.trusted sure.moment runs straight none name is) outs filed);
+          (λ name fact. restarts g w.net v.net sure.trusted sure.moment runs straight none name fact) outs filed);
     }
 
     seen : (p : Phase) → node.phase ≡ p → ClientAgrees g c w p
-    seen p is = subst (ClientAgrees g c w) is sees
+    seen p fact = subst (ClientAgrees g c w) fact sees
 
     by : (p : Phase) → node.phase ≡ p → ActsFile v.net outs
-    by (client.Down l) is = rests (ap is_serving (seen (client.Down l) is).1)
-    by (client.Opening l o) is = rests (stage_rests g c w o.known l.questions.last o.stage (seen (client.Opening l o) is).1)
-    by (client.Serving s) is =
-        record { filed = filed; short = (flights part texts g c w n node what s some below sure room (says s is) sees is agrees gets).short }
+    by (client.Down l) fact = rests (ap is_serving (seen (client.Down l) fact).1)
+    by (client.Opening l o) fact = rests (stage_rests g c w o.known l.questions.last o.stage (seen (client.Opening l o) fact).1)
+    by (client.Serving s) fact =
+        record { filed = filed; short = (flights part texts g c w n node what s some below sure room (says s fact) sees fact agrees gets).short }
 
 pub cleaners_acts_file : RestartsFileWhatFlew → CleanerFilesShort → CleanerFilesItsFlights → CleanersActsFile
 cleaners_acts_file restarts short flights part texts g w v n node what small sure room says sees agrees gets asks runs straight filed = by node.phase refl
@@ -58,14 +58,14 @@ cleaners_acts_file restarts short flights part texts g w v n node what small sur
       filed = filed;
       short = short g w node what sees room
           (all_then (λ name. In name v.net.filed) (HasFlown w.net)
-          (λ name is. restarts g w.net v.net sure.trusted sure.moment runs straight none name is) outs filed);
+          (λ name fact. restarts g w.net v.net sure.trusted sure.moment runs straight none name fact) outs filed);
     }
 
     seen : (p : cleaner_phases.Phase) → node.phase ≡ p → cleaner_log.CleanerAgrees g w p
-    seen p is = subst (cleaner_log.CleanerAgrees g w) is sees
+    seen p fact = subst (cleaner_log.CleanerAgrees g w) fact sees
 
     by : (p : cleaner_phases.Phase) → node.phase ≡ p → ActsFile v.net outs
-    by (cleaning.Down l) is = rests (ap is_serving (seen (cleaning.Down l) is).1)
-    by (cleaning.Opening l o) is = rests (stage_rests g cleaner_log.its_number w o.known l.questions.last o.stage (seen (cleaning.Opening l o) is).sees)
-    by (cleaning.Serving e) is =
-        record { filed = filed; short = (flights part texts g w n node what e small sure room (says e is) sees is agrees gets asks).short }
+    by (cleaning.Down l) fact = rests (ap is_serving (seen (cleaning.Down l) fact).1)
+    by (cleaning.Opening l o) fact = rests (stage_rests g cleaner_log.its_number w o.known l.questions.last o.stage (seen (cleaning.Opening l o) fact).sees)
+    by (cleaning.Serving e) fact =
+        record { filed = filed; short = (flights part texts g w n node what e small sure room (says e fact) sees fact agrees gets asks).short }

@@ -51,39 +51,39 @@ use Rattle.run_laws.specs.world_lines.Owners.{HasFlown, IsRoomy}
 use Rattle.run_laws.specs.world_lines.Turns.{AllSo}
 
 pub what_is_filed_flew : LogsStayWhole → WhatIsFiledFlew
-what_is_filed_flew whole g n o m same name is = (whole g n m).flown name (subst (In name) same is)
+what_is_filed_flew whole g n o m same name fact = (whole g n m).flown name (subst (In name) same fact)
 
 -- ---- an owner whose opening segment is in flight
 
 -- what is in one of two lists
 in_either : (xs ys : List SegName) (name : SegName) → In name (xs ++ ys) → In name xs ⊎ In name ys
-in_either [] ys name is = inr is
+in_either [] ys name fact = inr fact
 in_either (x ∷ xs) ys name (inl e) = inl (inl e)
-in_either (x ∷ xs) ys name (inr is) = ⊎_elim (λ first. inl (inr first)) (λ second. inr second) (in_either xs ys name is)
+in_either (x ∷ xs) ys name (inr fact) = ⊎_elim (λ first. inl (inr first)) (λ second. inr second) (in_either xs ys name fact)
 
 in_names : (chain : List Segment) (name : SegName) → In name (names_of chain) → (s : Segment) × In s chain × (s.name ≡ name)
-in_names [] name is = absurd is
+in_names [] name fact = absurd fact
 in_names (s ∷ chain) name (inl e) = (s, inl refl, sym e)
-in_names (s ∷ chain) name (inr is) = (let t = in_names chain name is in (t.0, inr t.1, t.2))
+in_names (s ∷ chain) name (inr fact) = (let t = in_names chain name fact in (t.0, inr t.1, t.2))
 
 -- what a log files by an input is of its flight
 landed : (s : LogState) (i : Input) (l : LogId) (outs : List Out) → AllByRecursion (TellsWhatIsDue s i) outs → (name : SegName) → In name (log_filed l outs)
     → (f : FlightState) × (s.flight ≡ Some f) × (record { log = l; seq = f.segment.name.seq; pass = f.segment.name.pass } ≡ name)
-landed s i l [] all name is = absurd is
-landed s i l (Send f m ∷ os) all name is = landed s i l os all.1 name is
+landed s i l [] all name fact = absurd fact
+landed s i l (Send f m ∷ os) all name fact = landed s i l os all.1 name fact
 landed s i l (Settled end rows ∷ os) all name (inl e) =
     (all.0.flight, all.0.was, sym (e ∙ ap (λ (z : End). record { log = l; seq = z.seq; pass = z.pass }) all.0.is_end))
-landed s i l (Settled end rows ∷ os) all name (inr is) = landed s i l os all.1 name is
+landed s i l (Settled end rows ∷ os) all name (inr fact) = landed s i l os all.1 name fact
 
 module _ (whole : LogsStayWhole) (held : WhatIsHeldFlew) (written : WhatFlewIsWritten)
     (due : (s : LogState) (input : Input) → AllByRecursion (TellsWhatIsDue s input) (log.transition s input).outs) (g : Setting) (n : Net)
     (m : Moment g n) where
   was_filed : (name : SegName) → In name n.filed → HasFlown n name
-  was_filed name is = (whole g n m).flown name is
+  was_filed name fact = (whole g n m).flown name fact
 
-  module _ (chain : List Segment) (s : LogState) (is : n.owner ≡ Writing chain s) where
+  module _ (chain : List Segment) (s : LogState) (fact : n.owner ≡ Writing chain s) where
     flew : OwnerFlew n.flown (Writing chain s)
-    flew = subst (OwnerFlew n.flown) is (held g n m)
+    flew = subst (OwnerFlew n.flown) fact (held g n m)
 
     flight_flew : (f : FlightState) → s.flight ≡ Some f → In f.segment n.flown
     flight_flew f flies = by s.flight flies flew.flight
@@ -93,45 +93,45 @@ module _ (whole : LogsStayWhole) (held : WhatIsHeldFlew) (written : WhatFlewIsWr
         by (Some x) e there = (let same : x ≡ f = cc in subst (λ (y : FlightState). In y.segment n.flown) same there)
 
     landed_flew : (i : Input) (name : SegName) → In name (log_filed g.log (log.transition s i).outs) → HasFlown n name
-    landed_flew i name is =
-        let l = landed s i g.log (log.transition s i).outs (due s i) name is in
+    landed_flew i name fact =
+        let l = landed s i g.log (log.transition s i).outs (due s i) name fact in
         let there = flight_flew l.0 l.1 in
         (l.0.segment, there, ap (λ k. record { log = k; seq = l.0.segment.name.seq; pass = l.0.segment.name.pass }) (written g n m l.0.segment there).log ∙ l.2)
 
     writes_flew : (i : Input) (o : Option FlightState) (name : SegName) → In name (after_flight g n chain (log.transition s i) o).filed → HasFlown n name
-    writes_flew i None name is =
+    writes_flew i None name fact =
         ⊎_elim (landed_flew i name)
         (λ rest. ⊎_elim (λ read. let t = in_names chain name read in (t.0, flew.read t.0 t.1, t.2)) (was_filed name)
         (in_either (names_of chain) n.filed name rest))
-        (in_either (log_filed g.log (log.transition s i).outs) (names_of chain ++ n.filed) name is)
-    writes_flew i (Some f) name is = ⊎_elim (landed_flew i name) (was_filed name) (in_either (log_filed g.log (log.transition s i).outs) n.filed name is)
+        (in_either (log_filed g.log (log.transition s i).outs) (names_of chain ++ n.filed) name fact)
+    writes_flew i (Some f) name fact = ⊎_elim (landed_flew i name) (was_filed name) (in_either (log_filed g.log (log.transition s i).outs) n.filed name fact)
 
 pub openings_file_what_flew : LogsStayWhole → WhatIsHeldFlew → WhatFlewIsWritten
     → ((s : LogState) (input : Input) → AllByRecursion (TellsWhatIsDue s input) (log.transition s input).outs) → OpeningsFileWhatFlew
-openings_file_what_flew whole held written due g n o m chain s is (Acts t i e came texts) name filed =
-    absurd (let a : Writing chain s ≡ Serving t = sym is ∙ e in cc)
-openings_file_what_flew whole held written due g n o m chain s is (Writes c t i e came texts) name filed =
+openings_file_what_flew whole held written due g n o m chain s fact (Acts t i e came texts) name filed =
+    absurd (let a : Writing chain s ≡ Serving t = sym fact ∙ e in cc)
+openings_file_what_flew whole held written due g n o m chain s fact (Writes c t i e came texts) name filed =
     writes_flew whole held written due g n m c t e i (log.transition t i).state.flight name filed
-openings_file_what_flew whole held written due g n o m chain s is (Opens t i e came can) name filed =
-    absurd (let a : Writing chain s ≡ Opening t = sym is ∙ e in cc)
-openings_file_what_flew whole held written due g n o m chain s is Crashes name filed = (whole g n m).flown name filed
-openings_file_what_flew whole held written due g n o m chain s is (Restarts e) name filed = (whole g n m).flown name filed
-openings_file_what_flew whole held written due g n o m chain s is (Renews map high doubts e came) name filed = (whole g n m).flown name filed
-openings_file_what_flew whole held written due g n o m chain s is (Serves v deed some came) name filed = (whole g n m).flown name filed
-openings_file_what_flew whole held written due g n o m chain s is (Bars v l pass) name filed = (whole g n m).flown name filed
-openings_file_what_flew whole held written due g n o m chain s is (Lists v) name filed = (whole g n m).flown name filed
-openings_file_what_flew whole held written due g n o m chain s is (Hears v generation up reached) name filed = (whole g n m).flown name filed
-openings_file_what_flew whole held written due g n o m chain s is (Raises low highest up within below) name filed = (whole g n m).flown name filed
-openings_file_what_flew whole held written due g n o m chain s is (Publishes map fine) name filed = (whole g n m).flown name filed
-openings_file_what_flew whole held written due g n o m chain s is (Welcomes inc ask news map hello low fine) name filed = (whole g n m).flown name filed
-openings_file_what_flew whole held written due g n o m chain s is (Drops lists meta listed within below) name filed = (whole g n m).flown name filed
+openings_file_what_flew whole held written due g n o m chain s fact (Opens t i e came can) name filed =
+    absurd (let a : Writing chain s ≡ Opening t = sym fact ∙ e in cc)
+openings_file_what_flew whole held written due g n o m chain s fact Crashes name filed = (whole g n m).flown name filed
+openings_file_what_flew whole held written due g n o m chain s fact (Restarts e) name filed = (whole g n m).flown name filed
+openings_file_what_flew whole held written due g n o m chain s fact (Renews map high doubts e came) name filed = (whole g n m).flown name filed
+openings_file_what_flew whole held written due g n o m chain s fact (Serves v deed some came) name filed = (whole g n m).flown name filed
+openings_file_what_flew whole held written due g n o m chain s fact (Bars v l pass) name filed = (whole g n m).flown name filed
+openings_file_what_flew whole held written due g n o m chain s fact (Lists v) name filed = (whole g n m).flown name filed
+openings_file_what_flew whole held written due g n o m chain s fact (Hears v generation up reached) name filed = (whole g n m).flown name filed
+openings_file_what_flew whole held written due g n o m chain s fact (Raises low highest up within below) name filed = (whole g n m).flown name filed
+openings_file_what_flew whole held written due g n o m chain s fact (Publishes map fine) name filed = (whole g n m).flown name filed
+openings_file_what_flew whole held written due g n o m chain s fact (Welcomes inc ask news map hello low fine) name filed = (whole g n m).flown name filed
+openings_file_what_flew whole held written due g n o m chain s fact (Drops lists meta listed within below) name filed = (whole g n m).flown name filed
 
 -- ---- an owner that serves
 
 module _ (held : WhatIsHeldFlew) (written : WhatFlewIsWritten) (next : WhatFliesIsNext) (texts : Texts) (l : ℕ) (g : Setting) (n : Net)
-    (sure : IsSure texts l g n) (s : LogState) (is : n.owner ≡ Serving s) (says : FlightSays s) where
+    (sure : IsSure texts l g n) (s : LogState) (fact : n.owner ≡ Serving s) (says : FlightSays s) where
   serving_flew : (f : FlightState) → s.flight ≡ Some f → In f.segment n.flown
-  serving_flew f flies = by s.flight flies (subst (OwnerFlew n.flown) is (held g n sure.moment))
+  serving_flew f flies = by s.flight flies (subst (OwnerFlew n.flown) fact (held g n sure.moment))
     where
       by : (o : Option FlightState) → o ≡ Some f → IfSome o (λ (x : FlightState). In x.segment n.flown) → In f.segment n.flown
       by None e there = absurd cc
@@ -145,12 +145,12 @@ module _ (held : WhatIsHeldFlew) (written : WhatFlewIsWritten) (next : WhatFlies
     segment = λ f flies. flown_segment written texts l g n sure f.segment f.segment.name.seq (serving_flew f flies) refl
         (subst (λ o. IfSome o (λ (x : FlightState). SaysBlocks x.segment)) flies says);
     fits = λ f flies. flown_fits written texts l g n sure f.segment (serving_flew f flies);
-    short = λ f flies. let seq = (next g n sure.moment s is f flies).seq in
-        below f.segment.name.seq (fits f.segment.name.seq (let e = ap next_number is in omega arith));
+    short = λ f flies. let seq = (next g n sure.moment s fact f flies).seq in
+        below f.segment.name.seq (fits f.segment.name.seq (let e = ap next_number fact in omega arith));
   }
     where
       below : (q : ℕ) → has_next q ≡ true → q < u32_end
-      below q is = grind (arith, nat_tests)
+      below q fact = grind (arith, nat_tests)
 
   -- where the owner has room
   pub files_its_flight : IsRoomy n → NextFits n.owner → (outs : List Effect) → (MayLand l s → AllSo (IsFlight s) outs) → FilesItsFlight n s outs
@@ -162,27 +162,27 @@ nothing_filed : (n : Net) (s : LogState) → FilesItsFlight n s []
 nothing_filed n s = record { flights = tt; flown = tt; short = tt }
 
 serves_so : (g : Setting) (c : ℕ) (w : Scene) (p : Phase) (s : ServingClient) → p ≡ client.Serving s → ClientAgrees g c w p → w.net.owner ≡ Serving s.log
-serves_so g c w p s is sees = (subst (ClientAgrees g c w) is sees).1.owner
+serves_so g c w p s fact sees = (subst (ClientAgrees g c w) fact sees).1.owner
 
 pub clients_file_their_flights : WhatIsHeldFlew → WhatFlewIsWritten → WhatFliesIsNext → ClientsFileFlights → ClientsFileTheirFlights
-clients_file_their_flights held written next flights part texts g c w n node what s some below sure room says sees is agrees gets =
+clients_file_their_flights held written next flights part texts g c w n node what s some below sure room says sees fact agrees gets =
     by_test (λ (t : clients.Went_to). (MayLand c s.log → AllSo (IsFlight s.log) t.outs) → FilesItsFlight w.net s.log t.outs) (clients.client_room node)
     (clients.happens node what) (still node.phase)
-    (λ has. files_its_flight held written next texts c g w.net sure s.log (serves_so g c w node.phase s is sees) says room
+    (λ has. files_its_flight held written next texts c g w.net sure s.log (serves_so g c w node.phase s fact sees) says room
     (client_fits g c w node.phase sees
     (and_second (has_room (clients.lasting_of node.phase).questions.last) (clients.phase_room node.phase)
     (and_second (has_room (clients.lasting_of node.phase).inc) _ has))) (clients.happens node what).outs)
-    (λ _ goes. nothing_filed w.net s.log) (flights part texts n c node what s some below is agrees gets)
+    (λ _ goes. nothing_filed w.net s.log) (flights part texts n c node what s some below fact agrees gets)
 
 emptying_so : (g : Setting) (w : Scene) (p : cleaner_phases.Phase) (e : Emptying) → p ≡ cleaning.Serving e → cleaner_log.CleanerAgrees g w p
     → w.net.owner ≡ Serving e.log
-emptying_so g w p e is sees = (subst (cleaner_log.CleanerAgrees g w) is sees).log.owner
+emptying_so g w p e fact sees = (subst (cleaner_log.CleanerAgrees g w) fact sees).log.owner
 
 pub cleaner_files_its_flights : WhatIsHeldFlew → WhatFlewIsWritten → WhatFliesIsNext → CleanerFilesFlights → CleanerFilesItsFlights
-cleaner_files_its_flights held written next flights part texts g w n node what e small sure room says sees is agrees gets asks =
+cleaner_files_its_flights held written next flights part texts g w n node what e small sure room says sees fact agrees gets asks =
     by_test (λ (t : cleaners.Went_to). (MayLand 9 e.log → AllSo (IsFlight e.log) t.outs) → FilesItsFlight w.net e.log t.outs) (cleaners.phase_room node.phase)
     (cleaners.happens node.peers node.phase what) (still node.phase)
-    (λ has. files_its_flight held written next texts 9 g w.net sure e.log (emptying_so g w node.phase e is sees) says room
+    (λ has. files_its_flight held written next texts 9 g w.net sure e.log (emptying_so g w node.phase e fact sees) says room
     (cleaner_fits g w node.phase sees has)
     (cleaners.happens node.peers node.phase what).outs)
-    (λ _ goes. nothing_filed w.net e.log) (flights part texts n node what e small is agrees gets asks)
+    (λ _ goes. nothing_filed w.net e.log) (flights part texts n node what e small fact agrees gets asks)

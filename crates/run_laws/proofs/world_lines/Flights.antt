@@ -24,14 +24,14 @@ use Rattle.run_laws.specs.world_lines.Lines.{FlownAreTexts}
 
 module _ (held : WhatIsHeldFlew) (texts : Texts) (g : Setting) (w : Scene) (m : Moment g w.net) (are : FlownAreTexts texts w.net) where
   flight_text : (s : LogState) → IfSome s.flight (λ (f : FlightState). In f.segment w.net.flown) → FlightIsText texts s
-  flight_text s flew f is = by s.flight is flew
+  flight_text s flew f fact = by s.flight fact flew
     where
       by : (o : Option FlightState) → o ≡ Some f → IfSome o (λ (f : FlightState). In f.segment w.net.flown) → texts f.segment.name ≡ f.segment
       by None e flew = absurd cc
       by (Some x) e flew = (let same : x ≡ f = cc in subst (λ (y : FlightState). texts y.segment.name ≡ y.segment) same (are x.segment flew))
 
   flew_as : (x : Owner) → w.net.owner ≡ x → OwnerFlew w.net.flown x
-  flew_as x is = subst (OwnerFlew w.net.flown) is (held g w.net m)
+  flew_as x fact = subst (OwnerFlew w.net.flown) fact (held g w.net m)
 
   pub log_writes : (c : ℕ) (s : LogState) → SeesLog g c w s → FlightIsText texts s
   log_writes c s sees = flight_text s (flew_as (Owner.Serving s) sees.owner)

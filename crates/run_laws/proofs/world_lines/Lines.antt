@@ -22,8 +22,8 @@ use Rattle.run_laws.proofs.world_lines.Rows.{rows_fit}
 module _ (written : WhatFlewIsWritten) (texts : Texts) (l : ℕ) (g : Setting) (n : Net) (k : IsSure texts l g n) where
   -- a segment that flew, of a number, and says of blocks
   pub flown_segment : (s : Segment) (q : ℕ) → In s n.flown → s.name.seq ≡ q → SaysBlocks s → IsSegment l q s
-  flown_segment s q is seq says =
-      let w : IsOfLog g s = written g n k.moment s is in record {
+  flown_segment s q fact seq says =
+      let w : IsOfLog g s = written g n k.moment s fact in record {
         log = ap (λ (x : LogId). x.0) (w.log ∙ k.own);
         seq = seq;
         boot = w.boot;
@@ -32,21 +32,21 @@ module _ (written : WhatFlewIsWritten) (texts : Texts) (l : ℕ) (g : Setting) (
       }
 
   pub flown_fits : (s : Segment) → In s n.flown → RowsFit (rows_of s)
-  flown_fits s is = rows_fit s (written g n k.moment s is).written.fits
+  flown_fits s fact = rows_fit s (written g n k.moment s fact).written.fits
 
   module _ (f : Filed) (h : IsLined l n f) where
     fit : (q : ℕ) → RowsFit (rows_at f l q)
-    fit q = by (nat_lt 0 q && nat_le q (f.head l)) (λ is. flown_fits (f.segment l q) (h.flown q (some is) (limit is)))
+    fit q = by (nat_lt 0 q && nat_le q (f.head l)) (λ fact. flown_fits (f.segment l q) (h.flown q (some fact) (limit fact)))
       where
         by : (t : Bool) → (t ≡ true → RowsFit (rows_of (f.segment l q))) → RowsFit (cond t (rows_of (f.segment l q)) [])
         by true fits = fits refl
         by false fits = tt
 
         some : nat_lt 0 q && nat_le q (f.head l) ≡ true → 0 < q
-        some is = grind (arith, nat_tests, is)
+        some fact = grind (arith, nat_tests, fact)
 
         limit : nat_lt 0 q && nat_le q (f.head l) ≡ true → q ≤ f.head l
-        limit is = grind (arith, nat_tests, is)
+        limit fact = grind (arith, nat_tests, fact)
 
     module _ (line : OneLine g n) (all : (name : SegName) → In name n.filed → (0 < name.seq) × (name.seq ≤ f.head l)) where
       linked : (low high : ℕ) → 0 < low → n.low ≤ low → high ≤ f.head l → Linked f l low high
@@ -57,12 +57,12 @@ module _ (written : WhatFlewIsWritten) (texts : Texts) (l : ℕ) (g : Setting) (
           (h.filed (suc q) (omega arith) (omega arith)) (h.filed q (omega arith) (omega arith)) (omega arith) (omega arith)
 
       one : (name : SegName) → In name n.filed → name ≡ (f.segment l name.seq).name
-      one name is =
-          let w = all name is in
-          line.no_two name (f.segment l name.seq).name is (h.filed name.seq w.0 w.1) (sym (h.seq name.seq w.0 w.1))
+      one name fact =
+          let w = all name fact in
+          line.no_two name (f.segment l name.seq).name fact (h.filed name.seq w.0 w.1) (sym (h.seq name.seq w.0 w.1))
 
       ends : (end : End) → In (record { log = record { 0 = l }; seq = end.seq; pass = end.pass }) n.filed → IsEnd f l end
-      ends end is = record { filed = (all _ is).1; named = ap (λ (x : SegName). x.pass) (one _ is) }
+      ends end fact = record { filed = (all _ fact).1; named = ap (λ (x : SegName). x.pass) (one _ fact) }
 
 pub lines_give : WhatFlewIsWritten → LogsStayInLine → LinesGive
 lines_give written in_line texts l g n f k h =

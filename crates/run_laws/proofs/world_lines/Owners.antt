@@ -14,7 +14,7 @@ use Rattle.log_ties.specs.client_log_tie.Owner.{Scene, ClientAgrees, SeesStage}
 use Rattle.client_node.specs.declared.phase.Phase.TheVariants as client
 use Rattle.client_node.specs.declared.phase.Phase.{Phase}
 use Rattle.client_node.specs.Phases as clients
-use Rattle.client_serving.specs.Packets.{tokens_room}
+use Rattle.client_node.specs.Room.{tokens_room}
 use Rattle.index_tie.specs.Filed.{Filed}
 use Rattle.index_tie.specs.Net as index
 use Rattle.log_law.specs.Ends.{EndsAreLast}
@@ -60,9 +60,9 @@ module _ (So : SegName → Type 0) where
   done_so : (node : NodeId) (outs : List Effect) → ((name : SegName) → basics.In (ActsFiled name) (acts_of node outs) → So name) → AllSo So outs
   done_so node [] so = tt
   done_so node (Send to m ∷ outs) so = (tt, done_so node outs so)
-  done_so node (Answer item answer ∷ outs) so = (tt, done_so node outs (λ name is. so name (inr is)))
-  done_so node (Lose seg ∷ outs) so = (tt, done_so node outs (λ name is. so name (inr is)))
-  done_so node (Does act ∷ outs) so = (act_done act (λ name is. so name (inl (sym is))), done_so node outs (λ name is. so name (inr is)))
+  done_so node (Answer item answer ∷ outs) so = (tt, done_so node outs (λ name fact. so name (inr fact)))
+  done_so node (Lose seg ∷ outs) so = (tt, done_so node outs (λ name fact. so name (inr fact)))
+  done_so node (Does act ∷ outs) so = (act_done act (λ name fact. so name (inl (sym fact))), done_so node outs (λ name fact. so name (inr fact)))
 
 pub acts_are_done : ActsAreDone
 acts_are_done n node outs so = done_so (λ name. In name n.filed) node outs so
@@ -151,25 +151,25 @@ log_end o s t a b = (let e : Serving t ≡ Serving s = sym a ∙ b in cc)
 module _ (part : ℕ) (texts : Texts) (g : Setting) where
   client_end : (c : ℕ) (v : Scene) (n : index.Net) (p : Phase) → ClientAgrees g c v p → client_index.ClientAgrees part texts n c p → (s : LogState)
       → v.net.owner ≡ Serving s → s.end.seq ≡ n.filed.head c
-  client_end c v n (client.Down l) sees agrees s is = absurd (let e : Down ≡ Serving s = sym sees.1 ∙ is in cc)
-  client_end c v n (client.Opening l o) sees agrees s is = absurd (up o.known l.questions.last o.stage sees.1)
+  client_end c v n (client.Down l) sees agrees s fact = absurd (let e : Down ≡ Serving s = sym sees.1 ∙ fact in cc)
+  client_end c v n (client.Opening l o) sees agrees s fact = absurd (up o.known l.questions.last o.stage sees.1)
     where
       up : (k : Known) (last : ℕ) (at : stages.Stage) → SeesStage g c v k last at → ⊥
-      up k last (stage.Scanning x) at = (let e : Opening x.scan ≡ Serving s = sym at.owner ∙ is in absurd cc)
-      up k last (stage.Settling x) at = (let e : Writing x.chain x.log ≡ Serving s = sym at.owner ∙ is in absurd cc)
-  client_end c v n (client.Serving t) sees agrees s is =
-      ap (λ (x : LogState). x.end.seq) (log_end v.net.owner s t.log sees.1.owner is) ∙ agrees.0.end.seq
+      up k last (stage.Scanning x) at = (let e : Opening x.scan ≡ Serving s = sym at.owner ∙ fact in absurd cc)
+      up k last (stage.Settling x) at = (let e : Writing x.chain x.log ≡ Serving s = sym at.owner ∙ fact in absurd cc)
+  client_end c v n (client.Serving t) sees agrees s fact =
+      ap (λ (x : LogState). x.end.seq) (log_end v.net.owner s t.log sees.1.owner fact) ∙ agrees.0.end.seq
 
   cleaner_end : (v : Scene) (n : index.Net) (p : CleanerPhase) → cleaner_log.CleanerAgrees g v p → cleaner_index.PhaseAgrees part n texts p → (s : LogState)
       → v.net.owner ≡ Serving s → s.end.seq ≡ n.filed.head 9
-  cleaner_end v n (cleaning.Down l) sees agrees s is = absurd (let e : Down ≡ Serving s = sym sees.1 ∙ is in cc)
-  cleaner_end v n (cleaning.Opening l o) sees agrees s is = absurd (up o.known l.questions.last o.stage sees.sees)
+  cleaner_end v n (cleaning.Down l) sees agrees s fact = absurd (let e : Down ≡ Serving s = sym sees.1 ∙ fact in cc)
+  cleaner_end v n (cleaning.Opening l o) sees agrees s fact = absurd (up o.known l.questions.last o.stage sees.sees)
     where
       up : (k : Known) (last : ℕ) (at : stages.Stage) → SeesStage g cleaner_log.its_number v k last at → ⊥
-      up k last (stage.Scanning x) at = (let e : Opening x.scan ≡ Serving s = sym at.owner ∙ is in absurd cc)
-      up k last (stage.Settling x) at = (let e : Writing x.chain x.log ≡ Serving s = sym at.owner ∙ is in absurd cc)
-  cleaner_end v n (cleaning.Serving t) sees agrees s is =
-      ap (λ (x : LogState). x.end.seq) (log_end v.net.owner s t.log sees.log.owner is) ∙ agrees.0.owner.end.seq
+      up k last (stage.Scanning x) at = (let e : Opening x.scan ≡ Serving s = sym at.owner ∙ fact in absurd cc)
+      up k last (stage.Settling x) at = (let e : Writing x.chain x.log ≡ Serving s = sym at.owner ∙ fact in absurd cc)
+  cleaner_end v n (cleaning.Serving t) sees agrees s fact =
+      ap (λ (x : LogState). x.end.seq) (log_end v.net.owner s t.log sees.log.owner fact) ∙ agrees.0.owner.end.seq
 
 module _ (whole : LogsStayWhole) (last : EndsAreLast) where
   pub clients_lines_go_on : ClientsLinesGoOn
@@ -180,8 +180,8 @@ module _ (whole : LogsStayWhole) (last : EndsAreLast) where
         run = run;
         sure = sure;
         acts = acts;
-        end = λ s is.
-            client_end part texts g c v goes.next (clients.takes node what).state sees goes.agrees s is ∙ ap (λ (f : Filed). f.head c) filed;
+        end = λ s fact.
+            client_end part texts g c v goes.next (clients.takes node what).state sees goes.agrees s fact ∙ ap (λ (f : Filed). f.head c) filed;
         still = files;
       }))
 
@@ -192,8 +192,8 @@ module _ (whole : LogsStayWhole) (last : EndsAreLast) where
         run = run;
         sure = sure;
         acts = acts;
-        end = λ s is.
-            cleaner_end part texts g v goes.next (cleaners.takes node.peers node.phase what).state sees goes.agrees.phase s is
+        end = λ s fact.
+            cleaner_end part texts g v goes.next (cleaners.takes node.peers node.phase what).state sees goes.agrees.phase s fact
             ∙ ap (λ (f : Filed). f.head 9) goes.filed;
         still = files;
       }))

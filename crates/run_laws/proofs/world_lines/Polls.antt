@@ -82,13 +82,13 @@ of_eight (suc (suc (suc (suc (suc (suc (suc zero))))))) below = inr (inr (inr (i
 of_eight (suc (suc (suc (suc (suc (suc (suc (suc slot)))))))) below = absurd (omega arith)
 
 least_of : (l slot : ℕ) (b : BoardState) (slots : List ℕ) → In slot slots → least_horizon l (map (slot_news b) slots) ≤ horizon_of l (slot_news b slot)
-least_of l slot b [] is = absurd is
+least_of l slot b [] fact = absurd fact
 least_of l slot b (x ∷ slots) (inl e) =
     subst (λ y. least_horizon l (map (slot_news b) (x ∷ slots)) ≤ horizon_of l (slot_news b y)) (sym e) (first (horizon_of l (slot_news b x)) _)
   where
     first : (a c : ℕ) → min a c ≤ a
     first a c = omega arith
-least_of l slot b (x ∷ slots) (inr is) = then (horizon_of l (slot_news b x)) _ _ (least_of l slot b slots is)
+least_of l slot b (x ∷ slots) (inr fact) = then (horizon_of l (slot_news b x)) _ _ (least_of l slot b slots fact)
   where
     then : (a c d : ℕ) → c ≤ d → min a c ≤ d
     then a c d h = omega (arith, h)
@@ -130,9 +130,9 @@ links_stay l from to horizon later f h past some rises same k e late begun q low
 -- ---- an owner that serves
 
 module _ (next : WhatFliesIsNext) (part : ℕ) (l : ℕ) (g : Setting) (m : log.Net) (n : Net) (s : LogState) (at : Moment g m)
-    (is : m.owner ≡ Serving s) (end : IsLastFiled part n l s.end) where
+    (fact : m.owner ≡ Serving s) (end : IsLastFiled part n l s.end) where
   at_next : (flight : FlightState) → s.flight ≡ Some flight → flight.segment.name.seq ≡ suc (n.filed.head l)
-  at_next flight flies = let a = (next g m at s is flight flies).seq in let b = end.seq in omega arith
+  at_next flight flies = let a = (next g m at s fact flight flies).seq in let b = end.seq in omega arith
 
   module _ (texts : Texts) (text : FlightIsText texts s) where
     by_name : (f : Filed) (name : SegName) → IsFlight s name → GoesOnByFlight l s n.filed f → GoesOnByFlight l s n.filed (with_name texts l f name)
@@ -186,7 +186,7 @@ module _ (next : WhatFliesIsNext) (part : ℕ) (l : ℕ) (g : Setting) (m : log.
             let now = segment_is l n.filed flight.segment in
             ap (λ k. ((with_segment n.filed l flight.segment).segment l (suc k)).prior.pass) at_head
             ∙ (ap (λ (x : Segment). x.prior.pass) now
-            ∙ (ap (λ (p : Prior). p.pass) (next g m at s is flight flies).prior
+            ∙ (ap (λ (p : Prior). p.pass) (next g m at s fact flight flies).prior
             ∙ (end.pass (omega arith)
             ∙ (ap (λ k. (n.filed.segment l k).name.pass) (sym at_head)
             ∙ ap (λ (x : Segment). x.name.pass) (sym (older n.filed l flight.segment q (not_new q (omega arith))))))))
@@ -200,7 +200,8 @@ module _ (next : WhatFliesIsNext) (part : ℕ) (l : ℕ) (g : Setting) (m : log.
     links_on h (inr more) = subst (LinkedSince l from horizon) (sym more.2) (flown_on more.0 more.1)
 
 pub servers_go_on_by_flights : WhatFliesIsNext → ServersGoOnByFlights
-servers_go_on_by_flights next part texts l g m n s outs at is end text flies = by_effects next part l g m n s at is end texts text n.filed outs flies (inl refl)
+servers_go_on_by_flights next part texts l g m n s outs at fact end text flies =
+    by_effects next part l g m n s at fact end texts text n.filed outs flies (inl refl)
 
 pub links_go_on : WhatFliesIsNext → LinksGoOn
-links_go_on next part l from horizon g m n s h at is end goes linked = links_on next part l g m n s at is end from horizon linked h goes
+links_go_on next part l from horizon g m n s h at fact end goes linked = links_on next part l g m n s at fact end from horizon linked h goes

@@ -27,27 +27,27 @@ use Rattle.run_laws.specs.world_lines.Owners.{HasFlown, StraightFilesStill}
 module _ (unfiled : NothingFiledOpening) (g : Setting) (m : Net) (at : Moment g m) where
   -- an owner that is up keeps its boot
   up : (x : Owner) → m.owner ≡ x → is_down x ≡ false → boot_of m ≡ m.inc
-  up x is not_down = ap (λ (o : Owner). cond (is_down o) (suc m.inc) m.inc) is ∙ ap (λ t. cond t (suc m.inc) m.inc) not_down
+  up x fact not_down = ap (λ (o : Owner). cond (is_down o) (suc m.inc) m.inc) fact ∙ ap (λ t. cond t (suc m.inc) m.inc) not_down
 
   writes_still : (chain : List Segment) (s : LogState) (d : log.Done) → m.owner ≡ Writing chain s → (o : Option FlightState)
       → Happens g m (after_flight g m chain d o) → is_serving (after_flight g m chain d o).owner ≡ false → (after_flight g m chain d o).filed ≡ m.filed
-  writes_still chain s d is None happens none = contrary (sym none)
-  writes_still chain s d is (Some f) happens none =
-      unfiled g m (after_flight g m chain d (Some f)) at (On Begun happens) (sym (up (Writing chain s) is refl)) none
+  writes_still chain s d fact None happens none = contrary (sym none)
+  writes_still chain s d fact (Some f) happens none =
+      unfiled g m (after_flight g m chain d (Some f)) at (On Begun happens) (sym (up (Writing chain s) fact refl)) none
 
   opens_still : (s : ScanState) (d : scan.Done) → m.owner ≡ Opening s → (t : Option Told) (groups : Option GroupMapState)
       → Happens g m (after_told g m s d t groups) → (after_told g m s d t groups).filed ≡ m.filed
-  opens_still s d is None groups happens = refl
-  opens_still s d is (Some t) None happens = refl
-  opens_still s d is (Some t) (Some map) happens =
-      unfiled g m (after_told g m s d (Some t) (Some map)) at (On Begun happens) (sym (up (Opening s) is refl)) refl
+  opens_still s d fact None groups happens = refl
+  opens_still s d fact (Some t) None happens = refl
+  opens_still s d fact (Some t) (Some map) happens =
+      unfiled g m (after_told g m s d (Some t) (Some map)) at (On Begun happens) (sym (up (Opening s) fact refl)) refl
 
   happens_still : (o : Net) → Happens g m o → is_serving o.owner ≡ false → o.filed ≡ m.filed
-  happens_still o (Acts s i is came texts) none = contrary (sym none)
-  happens_still o (Writes chain s i is came texts) none =
-      writes_still chain s (log.transition s i) is (log.transition s i).state.flight (Writes chain s i is came texts) none
-  happens_still o (Opens s i is came can) none =
-      opens_still s (scan.transition s i) is (chain_in (scan.transition s i).outs) (scan.transition s i).state.opening.groups (Opens s i is came can)
+  happens_still o (Acts s i fact came texts) none = contrary (sym none)
+  happens_still o (Writes chain s i fact came texts) none =
+      writes_still chain s (log.transition s i) fact (log.transition s i).state.flight (Writes chain s i fact came texts) none
+  happens_still o (Opens s i fact came can) none =
+      opens_still s (scan.transition s i) fact (chain_in (scan.transition s i).outs) (scan.transition s i).state.opening.groups (Opens s i fact came can)
   happens_still o Crashes none = refl
   happens_still o (Restarts down) none = refl
   happens_still o (Renews map high doubts down came) none = refl
@@ -55,7 +55,7 @@ module _ (unfiled : NothingFiledOpening) (g : Setting) (m : Net) (at : Moment g 
   happens_still o (Bars v l pass) none = refl
   happens_still o (Lists v) none = refl
   happens_still o (Hears v generation past reached) none = refl
-  happens_still o (Raises low name past is below) none = refl
+  happens_still o (Raises low name past fact below) none = refl
   happens_still o (Publishes map whole) none = refl
   happens_still o (Welcomes inc ask news map hello low whole) none = refl
   happens_still o (Drops lists meta listed within below) none = refl
@@ -81,9 +81,9 @@ module _ (openings : OpeningsFileWhatFlew) (g : Setting) (n : Net) (at : Moment 
   both o serves not = contrary (sym not ∙ serves)
 
   by_one : (o : Net) → Happens g n o → is_serving o.owner ≡ true → (name : SegName) → In name o.filed → HasFlown n name
-  by_one o (Acts s i is came texts) serves = absurd (both n.owner (ap is_serving is) none)
-  by_one o (Writes chain s i is came texts) serves = openings g n o at chain s is (Writes chain s i is came texts)
-  by_one o (Opens s i is came can) serves =
+  by_one o (Acts s i fact came texts) serves = absurd (both n.owner (ap is_serving fact) none)
+  by_one o (Writes chain s i fact came texts) serves = openings g n o at chain s fact (Writes chain s i fact came texts)
+  by_one o (Opens s i fact came can) serves =
       absurd (both o.owner serves (told_serves_not s (scan.transition s i) (chain_in (scan.transition s i).outs) (scan.transition s i).state.opening.groups))
   by_one o Crashes serves = contrary serves
   by_one o (Restarts down) serves = contrary serves
@@ -92,7 +92,7 @@ module _ (openings : OpeningsFileWhatFlew) (g : Setting) (n : Net) (at : Moment 
   by_one o (Bars v l pass) serves = absurd (both n.owner serves none)
   by_one o (Lists v) serves = absurd (both n.owner serves none)
   by_one o (Hears v generation past reached) serves = absurd (both n.owner serves none)
-  by_one o (Raises low highest past is below) serves = absurd (both n.owner serves none)
+  by_one o (Raises low highest past fact below) serves = absurd (both n.owner serves none)
   by_one o (Publishes map whole) serves = absurd (both n.owner serves none)
   by_one o (Welcomes inc ask news map hello low whole) serves = absurd (both n.owner serves none)
   by_one o (Drops lists meta listed within below) serves = absurd (both n.owner serves none)
@@ -103,8 +103,8 @@ module _ (openings : OpeningsFileWhatFlew) (g : Setting) (n : Net) (at : Moment 
   by_once o (On (On run before) happens) once serves = absurd once
 
 pub restarts_file_what_flew : LogsStayWhole → NothingFiledOpening → OpeningsFileWhatFlew → RestartsFileWhatFlew
-restarts_file_what_flew whole unfiled openings g n o trusted at runs straight none name is = by (is_serving o.owner) refl
+restarts_file_what_flew whole unfiled openings g n o trusted at runs straight none name fact = by (is_serving o.owner) refl
   where
     by : (t : Bool) → is_serving o.owner ≡ t → HasFlown n name
-    by true serves = by_once openings g n at trusted none o runs (straight.once none serves) serves name is
-    by false not = (whole g n at).flown name (subst (In name) (straight_files_still unfiled g n o at runs straight not) is)
+    by true serves = by_once openings g n at trusted none o runs (straight.once none serves) serves name fact
+    by false not = (whole g n at).flown name (subst (In name) (straight_files_still unfiled g n o at runs straight not) fact)

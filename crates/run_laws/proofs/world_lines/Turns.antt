@@ -35,7 +35,7 @@ use Rattle.run_laws.specs.world_lines.Turns.{ActSo, AllNew, AllSo, EffectSo, Cle
 pub lines_begin : LinesBegin
 lines_begin l g m any = record {
   lined = record { flown = λ q some limit. absurd (omega arith); filed = λ q some limit. absurd (omega arith); seq = λ q some limit. absurd (omega arith) };
-  all = λ name is. absurd is;
+  all = λ name fact. absurd fact;
 }
 
 -- what stays of a log
@@ -62,8 +62,8 @@ lined_on l n o f flown filed k = record {
 pub lines_stay : LinesStay
 lines_stay l n o f h filed flown same k = record {
   lined = lined_as l o f h same
-      (lined_on l n o f (λ s is. subst (In s) (sym flown) is) (λ name is. subst (In name) (sym filed) is) k.lined);
-  all = λ name is. (let a = k.all name (subst (In name) filed is) in (a.0, let b = a.1 in let e = same.head in omega arith));
+      (lined_on l n o f (λ s fact. subst (In s) (sym flown) fact) (λ name fact. subst (In name) (sym filed) fact) k.lined);
+  all = λ name fact. (let a = k.all name (subst (In name) filed fact) in (a.0, let b = a.1 in let e = same.head in omega arith));
 }
 
 -- a segment that is filed leaves those of other numbers
@@ -71,9 +71,9 @@ pub older : (f : Filed) (l : ℕ) (s : Segment) (q : ℕ) → (q == suc (f.head 
 older f l s q other = by (l == l) (q == suc (f.head l)) other
   where
     by : (t u : Bool) → u ≡ false → cond t (cond u s (f.segment l q)) (f.segment l q) ≡ f.segment l q
-    by true true is = absurd cc
-    by true false is = refl
-    by false u is = refl
+    by true true fact = absurd cc
+    by true false fact = refl
+    by false u fact = refl
 
 -- ---- the text of a filed name
 
@@ -84,8 +84,8 @@ module _ (whole : LogsStayWhole) (texts : Texts) (l : ℕ) (g : Setting) (o : Ne
     pub named : (texts name).name ≡ name
 
   pub flew : (name : SegName) → In name o.filed → Flew name
-  flew name is =
-      let s = (whole g o k.moment).flown name is in
+  flew name fact =
+      let s = (whole g o k.moment).flown name fact in
       let same : texts name ≡ s.0 = ap texts (sym s.2) ∙ k.are_texts s.0 s.1 in
       record { flown = subst (λ (x : Segment). In x o.flown) (sym same) s.1; named = ap (λ (x : Segment). x.name) same ∙ s.2 }
 
@@ -94,8 +94,8 @@ module _ (whole : LogsStayWhole) (texts : Texts) (l : ℕ) (g : Setting) (o : Ne
   module _ (written : WhatFlewIsWritten) (New : Filed → Segment → Type 0) where
     owed_name : (f : Filed) (name : SegName) → In name o.filed → has_next name.seq ≡ true → SaysBlocks (texts name)
         → (name.seq ≡ suc (f.head l) → New f (texts name)) → OwedAct New texts l f (ActsFiled name)
-    owed_name f name is short says new at =
-        let t = flew name is in record {
+    owed_name f name fact short says new at =
+        let t = flew name fact in record {
           named = t.named;
           segment = flown_segment written texts l g o k (texts name) (suc (f.head l)) t.flown (ap (λ (x : SegName). x.seq) t.named ∙ at) says;
           new = new at;
@@ -104,25 +104,25 @@ module _ (whole : LogsStayWhole) (texts : Texts) (l : ℕ) (g : Setting) (o : Ne
         }
       where
         below : (q : ℕ) → has_next q ≡ true → q < u32_end
-        below q is = grind (arith, nat_tests, is)
+        below q fact = grind (arith, nat_tests, fact)
 
     owed_act : (f : Filed) (a : Act) → ActSo (λ name. In name o.filed) a → ActSo (λ name. has_next name.seq ≡ true) a
         → ActSo (λ name. SaysBlocks (texts name)) a → NewAct New texts l f a → OwedAct New texts l f a
-    owed_act f (ActsFiled name) is short says new = owed_name f name is short says new
-    owed_act f _ is short says new = tt
+    owed_act f (ActsFiled name) fact short says new = owed_name f name fact short says new
+    owed_act f _ fact short says new = tt
 
     owed_effect : (f : Filed) (e : Effect) → EffectSo (λ name. In name o.filed) e → EffectSo (λ name. has_next name.seq ≡ true) e
         → EffectSo (λ name. SaysBlocks (texts name)) e → NewEffect New texts l f e → OwedEffect New texts l f e
-    owed_effect f (Send to m) is short says new = tt
-    owed_effect f (Answer item answer) is short says new = tt
-    owed_effect f (Lose seg) is short says new = tt
-    owed_effect f (Does act) is short says new = owed_act f act is short says new
+    owed_effect f (Send to m) fact short says new = tt
+    owed_effect f (Answer item answer) fact short says new = tt
+    owed_effect f (Lose seg) fact short says new = tt
+    owed_effect f (Does act) fact short says new = owed_act f act fact short says new
 
     pub owed : (f : Filed) (outs : List Effect) → AllSo (λ name. In name o.filed) outs → AllSo (λ name. has_next name.seq ≡ true) outs
         → AllSo (λ name. SaysBlocks (texts name)) outs → AllNew New texts l f outs → FilesOwed New texts l f outs
-    owed f [] is short says new = tt
-    owed f (e ∷ es) is short says new =
-        (owed_effect f e is.0 short.0 says.0 new.0, owed (after_effect texts l f e) es is.1 short.1 says.1 new.1)
+    owed f [] fact short says new = tt
+    owed f (e ∷ es) fact short says new =
+        (owed_effect f e fact.0 short.0 says.0 new.0, owed (after_effect texts l f e) es fact.1 short.1 says.1 new.1)
 
   -- ---- what is filed then is lined
 
@@ -144,32 +144,32 @@ module _ (whole : LogsStayWhole) (texts : Texts) (l : ℕ) (g : Setting) (o : Ne
           within = (let e = head_is l f s in omega arith)
 
           by : (t : Bool) → (q == suc (f.head l)) ≡ t → P q (later.segment l q)
-          by true is =
-              let same : q ≡ suc (f.head l) = eqb-true q (suc (f.head l)) is in
+          by true fact =
+              let same : q ≡ suc (f.head l) = eqb-true q (suc (f.head l)) fact in
               subst (λ r. P r (later.segment l r)) (sym same) (subst (P (suc (f.head l))) (sym (segment_is l f s)) new)
           by false other = subst (P q) (sym (older f l s q other)) (was q some (let w = within in grind (arith, nat_tests, w, other)))
 
   lined_name : (f : Filed) (name : SegName) → In name o.filed → IsLined l o f → IsLined l o (with_name texts l f name)
-  lined_name f name is h =
-      let t = flew name is in
+  lined_name f name fact h =
+      let t = flew name fact in
       by_test (IsLined l o) (name.seq == suc (f.head l)) (with_segment f l (texts name)) f
-      (λ next. lined_next f (texts name) t.flown (subst (λ x. In x o.filed) (sym t.named) is)
+      (λ next. lined_next f (texts name) t.flown (subst (λ x. In x o.filed) (sym t.named) fact)
       (ap (λ (x : SegName). x.seq) t.named ∙ eqb-true name.seq (suc (f.head l)) next) h)
       (λ _. h)
 
   lined_act : (f : Filed) (a : Act) → ActSo (λ name. In name o.filed) a → IsLined l o f → IsLined l o (after_act texts l f a)
-  lined_act f (ActsFiled name) is h = lined_name f name is h
-  lined_act f _ is h = h
+  lined_act f (ActsFiled name) fact h = lined_name f name fact h
+  lined_act f _ fact h = h
 
   lined_effect : (f : Filed) (e : Effect) → EffectSo (λ name. In name o.filed) e → IsLined l o f → IsLined l o (after_effect texts l f e)
-  lined_effect f (Send to m) is h = h
-  lined_effect f (Answer item answer) is h = h
-  lined_effect f (Lose seg) is h = h
-  lined_effect f (Does act) is h = lined_act f act is h
+  lined_effect f (Send to m) fact h = h
+  lined_effect f (Answer item answer) fact h = h
+  lined_effect f (Lose seg) fact h = h
+  lined_effect f (Does act) fact h = lined_act f act fact h
 
   pub lined_after : (f : Filed) (outs : List Effect) → AllSo (λ name. In name o.filed) outs → IsLined l o f → IsLined l o (filed_after texts l f outs)
-  lined_after f [] is h = h
-  lined_after f (e ∷ es) is h = lined_after (after_effect texts l f e) es is.1 (lined_effect f e is.0 h)
+  lined_after f [] fact h = h
+  lined_after f (e ∷ es) fact h = lined_after (after_effect texts l f e) es fact.1 (lined_effect f e fact.0 h)
 
 pub clients_files_are_owed : WhatFlewIsWritten → LogsStayWhole → ClientsFilesAreOwed
 clients_files_are_owed written whole part texts c g o f outs k acts says new =
@@ -184,7 +184,7 @@ cleaners_files_are_owed written whole part texts n p g o f outs k acts says new 
 pub lines_go_on : LogsStayWhole → EndsAreLast → LinesGoOn
 lines_go_on whole last texts l g n o f outs h t = record {
   lined = lined_after whole texts l g o t.sure f outs t.acts (lined_on l n o f stays.flown stays.filed h.lined);
-  all = λ name is. by o.owner refl name is;
+  all = λ name fact. by o.owner refl name fact;
 }
   where
     stays : Grown n o
@@ -194,13 +194,13 @@ lines_go_on whole last texts l g n o f outs h t = record {
     more = more_after texts l f outs
 
     still : is_serving o.owner ≡ false → (name : SegName) → In name o.filed → (0 < name.seq) × (name.seq ≤ (filed_after texts l f outs).head l)
-    still none name is =
-        let a = h.all name (subst (In name) (t.still none) is) in (a.0, let b = a.1 in let c = more.head l in omega arith)
+    still none name fact =
+        let a = h.all name (subst (In name) (t.still none) fact) in (a.0, let b = a.1 in let c = more.head l in omega arith)
 
     by : (x : Owner) → o.owner ≡ x → (name : SegName) → In name o.filed → (0 < name.seq) × (name.seq ≤ (filed_after texts l f outs).head l)
     by Down e = still (ap is_serving e)
     by (Opening s) e = still (ap is_serving e)
     by (Writing chain s) e = still (ap is_serving e)
-    by (Serving s) e = λ name is.
+    by (Serving s) e = λ name fact.
         let k = last g o t.sure.trusted t.sure.moment t.sure.sure s e in
-        (k.some name is, let a = k.last name is in let b = t.end s e in omega arith)
+        (k.some name fact, let a = k.last name fact in let b = t.end s e in omega arith)

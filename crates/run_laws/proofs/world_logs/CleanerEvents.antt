@@ -45,8 +45,8 @@ use Rattle.xfs_base.specs.declared.node.NodeId.TheVariants.{Cleaner}
 use Rattle.xfs_base.specs.declared.setup.Setup.{Setup}
 
 its_own : (h : Setting) → h.log ≡ cleaner_log → (m : Body) → StoresItsOwn m → StoresOwn h m
-its_own h is (body.Store m) own = own ∙ sym is
-its_own h is _ own = tt
+its_own h fact (body.Store m) own = own ∙ sym fact
+its_own h fact _ own = tt
 
 module _ (laws : NodeLaws) (base : Setting) (end : World AnyNode) (setup : Setup)
     (few : (id : ℕ) (group : Group) → group_at end id ≡ Some group → id < 2 ^ 32) where
@@ -59,7 +59,7 @@ module _ (laws : NodeLaws) (base : Setting) (end : World AnyNode) (setup : Setup
   module _ (nodes : List AnyNode) (sent : List Packet) (told : List Act) (place clock : ℕ) (what : Do)
       (fits : (q : Packet) → In q sent → PacketFits q.to q.body)
       (gets : (q : Packet) → what ≡ Deliver q → In q sent × (q.to ≡ Cleaner)) (at : place_of k Cleaner ≡ Some place) (node : CleanerNode)
-      (is : slice_get nodes place ≡ Some (any.Cleaner node)) (l : (v : Scene) × Stands g OfCleaner v k nodes sent told) where
+      (fact : slice_get nodes place ≡ Some (any.Cleaner node)) (l : (v : Scene) × Stands g OfCleaner v k nodes sent told) where
     abbrev packets : List Packet
     packets = (cleaner_step node what).packets
 
@@ -67,7 +67,7 @@ module _ (laws : NodeLaws) (base : Setting) (end : World AnyNode) (setup : Setup
     acts = (cleaner_step node what).acts
 
     seen : CleanerOwns g l.0 node.phase
-    seen = l.1.seen Cleaner (any.Cleaner node) (ap (node_in nodes) at ∙ is)
+    seen = l.1.seen Cleaner (any.Cleaner node) (ap (node_in nodes) at ∙ fact)
 
     opens : OpeningOwed g l.0 node.phase
     opens = opening_owed g l.0 l.1.moment
@@ -85,7 +85,7 @@ module _ (laws : NodeLaws) (base : Setting) (end : World AnyNode) (setup : Setup
         (sent ++ map (sent_at clock) packets) (told ++ acts)
     cleaner_mine =
         turned g OfCleaner l.0 goes.next k nodes sent told l.1 Cleaner place clock at (any.Cleaner node)
-        (any.Cleaner (cleaner_step node what).node) is packets acts
+        (any.Cleaner (cleaner_step node what).node) fact packets acts
         (cleaner_owner_turn g l.0 (cleaner_step node what) goes
         (cleaner_leaves_room laws.flies g l.0 l.1.moment node what seen.agrees goes seen.room) acts (λ a h. h))
 

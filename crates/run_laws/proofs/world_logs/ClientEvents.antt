@@ -52,7 +52,7 @@ module _ (laws : NodeLaws) (base : Setting) (end : World AnyNode) (setup : Setup
   module _ (nodes : List AnyNode) (sent : List Packet) (told : List Act) (place clock : ℕ) (what : Do)
       (fits : (q : Packet) → In q sent → PacketFits q.to q.body)
       (gets : (q : Packet) → what ≡ Deliver q → In q sent × (q.to ≡ Client c)) (at : place_of k (Client c) ≡ Some place) (node : ClientNode)
-      (is : slice_get nodes place ≡ Some (any.Client node)) (l : (v : Scene) × Stands g (OfClient c) v k nodes sent told) where
+      (fact : slice_get nodes place ≡ Some (any.Client node)) (l : (v : Scene) × Stands g (OfClient c) v k nodes sent told) where
     abbrev packets : List Packet
     packets = (client_step node what).packets
 
@@ -60,7 +60,7 @@ module _ (laws : NodeLaws) (base : Setting) (end : World AnyNode) (setup : Setup
     acts = (client_step node what).acts
 
     seen : OwnerSeen g l.0 c node.phase
-    seen = l.1.seen (Client c) (any.Client node) (ap (node_in nodes) at ∙ is) refl
+    seen = l.1.seen (Client c) (any.Client node) (ap (node_in nodes) at ∙ fact) refl
 
     pub number : (lasting_of node.phase).number ≡ c
     number = number_is g c l.0 node.phase seen.agrees
@@ -86,7 +86,7 @@ module _ (laws : NodeLaws) (base : Setting) (end : World AnyNode) (setup : Setup
         (sent ++ map (sent_at clock) packets) (told ++ (if t then acts else []))
     client_mine t =
         turned g (OfClient c) l.0 goes.next k nodes sent told l.1 (Client c) place clock at (any.Client node)
-        (any.Client (client_step node what).node) is packets (if t then acts else [])
+        (any.Client (client_step node what).node) fact packets (if t then acts else [])
         (owner_turn g c l.0 (client_step node what) goes room (if t then acts else []) (in_those t acts))
 
     -- what it holds then, and tells

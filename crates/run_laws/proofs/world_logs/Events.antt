@@ -117,7 +117,7 @@ module _ (laws : NodeLaws) (base : Setting) (end : World AnyNode) (setup : Setup
     first = good.logs (OfClient 1) (omega arith, ok.clients.0)
 
     named : (name : NodeId) (x : AnyNode) → place_of k name ≡ Some place → slice_get nodes place ≡ Some x → node_in nodes (place_of k name) ≡ Some x
-    named name x at is = ap (node_in nodes) at ∙ is
+    named name x at fact = ap (node_in nodes) at ∙ fact
 
     -- what comes is in range
     comes : (name : NodeId) → Gets name → DoFits name what
@@ -161,7 +161,7 @@ module _ (laws : NodeLaws) (base : Setting) (end : World AnyNode) (setup : Setup
     -- ---- the log of another owner
 
     -- a node of this name, which stores and bars the log of this number alone, has no part in another
-    module _ (name : NodeId) (n : ℕ) (at : place_of k name ≡ Some place) (x : AnyNode) (is : slice_get nodes place ≡ Some x)
+    module _ (name : NodeId) (n : ℕ) (at : place_of k name ≡ Some place) (x : AnyNode) (fact : slice_get nodes place ≡ Some x)
         (from : All (λ (p : Packet). p.from ≡ name) (any_step x what).packets) (plain : All (λ (p : Packet). Plain p.body) (any_step x what).packets)
         (own : All (λ (p : Packet). OfLog n p.body) (any_step x what).packets)
         (reached : (r : Role) (w : Scene) (generation : ℕ) → ReachedBy (g r) (asker_by r w) w.net name generation) where
@@ -170,7 +170,7 @@ module _ (laws : NodeLaws) (base : Setting) (end : World AnyNode) (setup : Setup
       apart r other away counts there h =
           next_so (g r) r l.0 l.1.moment name k (nodes_at x) (sent_by x) (told (log_by r) ++ []) (told_by name x (log_by r))
           (ap (λ t. told (log_by r) ++ (if t then (any_step x what).acts else [])) (sym (counts ∙ unequal n (log_by r) other)))
-          (turned (g r) r l.0 l.0 k nodes sent (told (log_by r)) l.1 name place clock at x (any_step x what).node is (any_step x what).packets []
+          (turned (g r) r l.0 l.0 k nodes sent (told (log_by r)) l.1 name place clock at x (any_step x what).node fact (any_step x what).packets []
           (idle_turn (g r) r l.0 name (any_step x what).node (any_step x what).packets away (there l.0) sends))
         where
           l : (v : Scene) × Stands (g r) r v k nodes sent (told (log_by r))
@@ -185,11 +185,11 @@ module _ (laws : NodeLaws) (base : Setting) (end : World AnyNode) (setup : Setup
     -- ---- a server
 
     server_after : (v : ℕ) → Gets (Server v) → place_of k (Server v) ≡ Some place → (x : AnyNode) → slice_get nodes place ≡ Some x → After (Server v) x
-    server_after v gets at (any.Client node) is known = absurd (first.1.seen (Server v) (any.Client node) (named (Server v) _ at is))
-    server_after v gets at (any.Manager node) is known = absurd (first.1.seen (Server v) (any.Manager node) (named (Server v) _ at is))
-    server_after v gets at (any.Cleaner node) is known = absurd (first.1.seen (Server v) (any.Cleaner node) (named (Server v) _ at is))
-    server_after v gets at (any.Registry node) is known = absurd (first.1.seen (Server v) (any.Registry node) (named (Server v) _ at is))
-    server_after v gets at (any.Server node) is known = record {
+    server_after v gets at (any.Client node) fact known = absurd (first.1.seen (Server v) (any.Client node) (named (Server v) _ at fact))
+    server_after v gets at (any.Manager node) fact known = absurd (first.1.seen (Server v) (any.Manager node) (named (Server v) _ at fact))
+    server_after v gets at (any.Cleaner node) fact known = absurd (first.1.seen (Server v) (any.Cleaner node) (named (Server v) _ at fact))
+    server_after v gets at (any.Registry node) fact known = absurd (first.1.seen (Server v) (any.Registry node) (named (Server v) _ at fact))
+    server_after v gets at (any.Server node) fact known = record {
       fits = all_fit (server_step node what).packets (λ i d less. server_sends (get_or packets i d).to (get_or packets i d).body (may i d less)
           (All-from_recursion (λ (p : Packet). CarriesBytes p.body) packets tells.packets i d less));
       holds = all_set NodeHolds nodes place (any.Server (server_step node what).node) good.holds tells.node;
@@ -205,16 +205,16 @@ module _ (laws : NodeLaws) (base : Setting) (end : World AnyNode) (setup : Setup
         may = all_say (Server node.number) packets (sent_from (Server node.number) (servers.takes node what).outs) known.says
 
         tells : TellsBytes (server_step node what)
-        tells = laws.servers_tell node what (all_at NodeHolds nodes place (any.Server node) good.holds is) (do_carries v what (comes (Server v) gets))
+        tells = laws.servers_tell node what (all_at NodeHolds nodes place (any.Server node) good.holds fact) (do_carries v what (comes (Server v) gets))
 
         lists : Lists owned (server_step node what)
-        lists = laws.servers_list owned node what (all_at Keeps nodes place (any.Server node) good.keeps is)
+        lists = laws.servers_list owned node what (all_at Keeps nodes place (any.Server node) good.keeps fact)
             (goods.what_comes laws base end setup ok few nodes sent told good clock what (λ q same. (gets q same).0))
 
         one : (r : Role) → Now (Server v) (any.Server node) r
         one r h =
             turned (g r) r l.0 (record l.0 { net = go.next }) k nodes sent (told (log_by r)) l.1 (Server v) place clock at (any.Server node)
-            (any.Server (server_step node what).node) is packets [] (server_turn (g r) r (refl, refl) l.0 v node what go)
+            (any.Server (server_step node what).node) fact packets [] (server_turn (g r) r (refl, refl) l.0 v node what go)
           where
             l : (w : Scene) × Stands (g r) r w k nodes sent (told (log_by r))
             l = good.logs r h
@@ -227,11 +227,11 @@ module _ (laws : NodeLaws) (base : Setting) (end : World AnyNode) (setup : Setup
             go : ServerGoes (g r) (asker_by r l.0) l.0.net v node what
             go = laws.server (g r) (asker_by r l.0) l.0.net v node what (behind (k.clients + k.managers) k.servers v place at).some (no_server r v)
                 (laws.maps (g r) l.0.net l.1.moment)
-                (l.1.seen (Server v) (any.Server node) (named (Server v) _ at is)) (owed what refl)
+                (l.1.seen (Server v) (any.Server node) (named (Server v) _ at fact)) (owed what refl)
 
     -- ---- the cleaner
 
-    module _ (gets : Gets Cleaner) (at : place_of k Cleaner ≡ Some place) (node : CleanerNode) (is : slice_get nodes place ≡ Some (any.Cleaner node)) where
+    module _ (gets : Gets Cleaner) (at : place_of k Cleaner ≡ Some place) (node : CleanerNode) (fact : slice_get nodes place ≡ Some (any.Cleaner node)) where
       -- of another log than its own
       module _ (r : Role) (h : There r) (other : cleaner_log.0 ≡ log_by r → ⊥) (away : owner_by r ≡ Cleaner → ⊥)
           (sees : (w : Scene) (p : CleanerPhase) → CleanerAs (g r) w r p → CleanerSeen (g r) w.net p)
@@ -248,7 +248,7 @@ module _ (laws : NodeLaws) (base : Setting) (end : World AnyNode) (setup : Setup
         no_log e = other (ap (λ (x : LogId). x.0) (sym e))
 
         its : CleanerSeen (g r) l.0.net node.phase
-        its = sees l.0 node.phase (l.1.seen Cleaner (any.Cleaner node) (named Cleaner _ at is))
+        its = sees l.0 node.phase (l.1.seen Cleaner (any.Cleaner node) (named Cleaner _ at fact))
 
         go : CleanerGoes (g r) (asker_by r l.0) l.0.net node what
         go = laws.cleaner (g r) (asker_by r l.0) l.0.net node what no_log away its (heard what refl)
@@ -260,7 +260,7 @@ module _ (laws : NodeLaws) (base : Setting) (end : World AnyNode) (setup : Setup
             (told_by Cleaner (any.Cleaner node) (log_by r))
             (ap (λ t. told (log_by r) ++ (if t then (cleaner_step node what).acts else [])) (sym (unequal cleaner_log.0 (log_by r) other)))
             (turned (g r) r l.0 (record l.0 { net = go.next }) k nodes sent (told (log_by r)) l.1 Cleaner place clock at (any.Cleaner node)
-            (any.Cleaner (cleaner_step node what).node) is (cleaner_step node what).packets []
+            (any.Cleaner (cleaner_step node what).node) fact (cleaner_step node what).packets []
             (cleaner_turn (g r) r (refl, refl) l.0 away seen node what go))
 
       cleaner_logs : (r : Role) → Now Cleaner (any.Cleaner node) r
@@ -268,15 +268,15 @@ module _ (laws : NodeLaws) (base : Setting) (end : World AnyNode) (setup : Setup
           cleaner_apart (OfClient c) h (λ e. (let m = goods.eight laws base end setup ok few c h.1 in absurd (omega (arith, e)))) (λ e. absurd cc) (λ w p s. s)
           (λ w p s. s)
       cleaner_logs OfCleaner h =
-          cleaner_log_events.cleaner_mine laws base end setup few nodes sent (told cleaner_log.0) place clock what good.fits gets at node is
+          cleaner_log_events.cleaner_mine laws base end setup few nodes sent (told cleaner_log.0) place clock what good.fits gets at node fact
           (good.logs OfCleaner h)
       cleaner_logs (OfManager j) h =
           cleaner_apart (OfManager j) h (λ e. (let m = high_log j h.0 in absurd (omega (arith, e)))) (λ e. absurd cc) (λ w p s. s) (λ w p s. s)
 
       -- what it tells, and stores
       cleaner_told : TellsTold (CleanerHolds in_range) in_range (cleaner_step node what)
-      cleaner_told = cleaner_log_events.cleaner_told laws base end setup few nodes sent (told cleaner_log.0) place clock what good.fits gets at node is
-          (good.logs OfCleaner tt) (all_at NodeHolds nodes place (any.Cleaner node) good.holds is) (comes Cleaner gets)
+      cleaner_told = cleaner_log_events.cleaner_told laws base end setup few nodes sent (told cleaner_log.0) place clock what good.fits gets at node fact
+          (good.logs OfCleaner tt) (all_at NodeHolds nodes place (any.Cleaner node) good.holds fact) (comes Cleaner gets)
 
       client_one : There (OfClient 1)
       client_one = (omega arith, ok.clients.0)
@@ -287,7 +287,7 @@ module _ (laws : NodeLaws) (base : Setting) (end : World AnyNode) (setup : Setup
       cleaner_own : All (λ (p : Packet). StoresItsOwn p.body) (cleaner_step node what).packets
       cleaner_own =
           laws.cleaner_stores (g (OfClient 1)) (asker_by (OfClient 1) first.0) first.0.net node what (λ e. absurd (one_apart e)) (λ e. absurd cc)
-          (first.1.seen Cleaner (any.Cleaner node) (named Cleaner _ at is)) (heard_first what refl)
+          (first.1.seen Cleaner (any.Cleaner node) (named Cleaner _ at fact)) (heard_first what refl)
         where
           one_apart : (g (OfClient 1)).log ≡ cleaner_log → ⊥
           one_apart e = (let n = ap (λ (x : LogId). x.0) e in absurd (omega (arith, n)))
@@ -303,33 +303,33 @@ module _ (laws : NodeLaws) (base : Setting) (end : World AnyNode) (setup : Setup
           let p : Packet = get_or packets i d in
           cleaner_sends p.to p.body (cleaner_may says i d less)
           (All-from_recursion (PacketTold in_range) packets cleaner_told.packets i d less)
-          (cleaner_log_events.cleaner_stores laws base end setup few nodes sent (told cleaner_log.0) place clock what good.fits gets at node is
+          (cleaner_log_events.cleaner_stores laws base end setup few nodes sent (told cleaner_log.0) place clock what good.fits gets at node fact
           (good.logs OfCleaner tt)
           cleaner_own i d less)
 
     cleaner_after : Gets Cleaner → place_of k Cleaner ≡ Some place → (x : AnyNode) → slice_get nodes place ≡ Some x → After Cleaner x
-    cleaner_after gets at (any.Client node) is known = absurd (first.1.seen Cleaner (any.Client node) (named Cleaner _ at is))
-    cleaner_after gets at (any.Manager node) is known = absurd (first.1.seen Cleaner (any.Manager node) (named Cleaner _ at is))
-    cleaner_after gets at (any.Server node) is known = absurd (first.1.seen Cleaner (any.Server node) (named Cleaner _ at is))
-    cleaner_after gets at (any.Registry node) is known = absurd (first.1.seen Cleaner (any.Registry node) (named Cleaner _ at is))
-    cleaner_after gets at (any.Cleaner node) is known = record {
-      fits = all_fit (cleaner_step node what).packets (cleaner_fits gets at node is known.says);
-      holds = all_set NodeHolds nodes place (any.Cleaner (cleaner_step node what).node) good.holds (cleaner_told gets at node is).node;
+    cleaner_after gets at (any.Client node) fact known = absurd (first.1.seen Cleaner (any.Client node) (named Cleaner _ at fact))
+    cleaner_after gets at (any.Manager node) fact known = absurd (first.1.seen Cleaner (any.Manager node) (named Cleaner _ at fact))
+    cleaner_after gets at (any.Server node) fact known = absurd (first.1.seen Cleaner (any.Server node) (named Cleaner _ at fact))
+    cleaner_after gets at (any.Registry node) fact known = absurd (first.1.seen Cleaner (any.Registry node) (named Cleaner _ at fact))
+    cleaner_after gets at (any.Cleaner node) fact known = record {
+      fits = all_fit (cleaner_step node what).packets (cleaner_fits gets at node fact known.says);
+      holds = all_set NodeHolds nodes place (any.Cleaner (cleaner_step node what).node) good.holds (cleaner_told gets at node fact).node;
       ours = all_ours (cleaner_step node what).packets (λ i d less.
-          cleaner_lists setup.clients setup.managers (get_or (cleaner_step node what).packets i d).body (cleaner_may gets at node is known.says i d less)
-          (cleaner_own gets at node is i d less));
+          cleaner_lists setup.clients setup.managers (get_or (cleaner_step node what).packets i d).body (cleaner_may gets at node fact known.says i d less)
+          (cleaner_own gets at node fact i d less));
       keeps = all_set Keeps nodes place (any.Cleaner (cleaner_step node what).node) good.keeps tt;
-      logs = cleaner_logs gets at node is;
+      logs = cleaner_logs gets at node fact;
     }
 
     -- ---- the registry
 
     registry_after : Gets Registry → place_of k Registry ≡ Some place → (x : AnyNode) → slice_get nodes place ≡ Some x → After Registry x
-    registry_after gets at (any.Client node) is known = absurd (first.1.seen Registry (any.Client node) (named Registry _ at is))
-    registry_after gets at (any.Manager node) is known = absurd (first.1.seen Registry (any.Manager node) (named Registry _ at is))
-    registry_after gets at (any.Server node) is known = absurd (first.1.seen Registry (any.Server node) (named Registry _ at is))
-    registry_after gets at (any.Cleaner node) is known = absurd (first.1.seen Registry (any.Cleaner node) (named Registry _ at is))
-    registry_after gets at (any.Registry node) is known = record {
+    registry_after gets at (any.Client node) fact known = absurd (first.1.seen Registry (any.Client node) (named Registry _ at fact))
+    registry_after gets at (any.Manager node) fact known = absurd (first.1.seen Registry (any.Manager node) (named Registry _ at fact))
+    registry_after gets at (any.Server node) fact known = absurd (first.1.seen Registry (any.Server node) (named Registry _ at fact))
+    registry_after gets at (any.Cleaner node) fact known = absurd (first.1.seen Registry (any.Cleaner node) (named Registry _ at fact))
+    registry_after gets at (any.Registry node) fact known = record {
       fits = all_fit (registry_step node what).packets (λ i d less. registry_sends 0 what (registry_step node what).node.board
           (map_fits (registry_step node what).node.board.groups (goes (OfClient 1) (omega arith, ok.clients.0)).seen.map) _ _ (sends.sends i d less));
       holds = all_set NodeHolds nodes place y good.holds tt;
@@ -343,33 +343,33 @@ module _ (laws : NodeLaws) (base : Setting) (end : World AnyNode) (setup : Setup
         y = any.Registry (registry_step node what).node
 
         after : node_in (slice_set nodes place y) (place_of k Registry) ≡ Some y
-        after = places.here k nodes Registry place at y (any.Registry node) is
+        after = places.here k nodes Registry place at y (any.Registry node) fact
 
         sends : board.RegistryGoes 0 node what
-        sends = laws.tokens.registry 0 (omega arith) node (sound node (named Registry _ at is)) what
+        sends = laws.tokens.registry 0 (omega arith) node (sound node (named Registry _ at fact)) what
 
         goes : (r : Role) (h : There r) → RegistryGoes (g r) (asker_by r (good.logs r h).0) (good.logs r h).0.net node what
-        goes = registry_goes laws base end setup ok few nodes sent told good what (λ q same. (gets q same).0) node (named Registry _ at is)
+        goes = registry_goes laws base end setup ok few nodes sent told good what (λ q same. (gets q same).0) node (named Registry _ at fact)
             (known.named (registry_step node what).node.board (ap board_of after))
             (known.reached (registry_step node what).node.board (ap board_of after))
 
         one : (r : Role) → Now Registry (any.Registry node) r
         one r h =
             (let l = good.logs r h in
-            turned (g r) r l.0 (record l.0 { net = (goes r h).next }) k nodes sent (told (log_by r)) l.1 Registry place clock at (any.Registry node) y is
+            turned (g r) r l.0 (record l.0 { net = (goes r h).next }) k nodes sent (told (log_by r)) l.1 Registry place clock at (any.Registry node) y fact
             (registry_step node what).packets [] (registry_turn (g r) r (refl, refl) l.0 node what (goes r h)))
 
     -- ---- a manager
 
     manager_after : (j : ℕ) → Gets (Manager j) → place_of k (Manager j) ≡ Some place → (x : AnyNode) → slice_get nodes place ≡ Some x → After (Manager j) x
-    manager_after j gets at (any.Client node) is known = absurd (first.1.seen (Manager j) (any.Client node) (named (Manager j) _ at is))
-    manager_after j gets at (any.Server node) is known = absurd (first.1.seen (Manager j) (any.Server node) (named (Manager j) _ at is))
-    manager_after j gets at (any.Cleaner node) is known = absurd (first.1.seen (Manager j) (any.Cleaner node) (named (Manager j) _ at is))
-    manager_after j gets at (any.Registry node) is known = absurd (first.1.seen (Manager j) (any.Registry node) (named (Manager j) _ at is))
-    manager_after j gets at (any.Manager node) is known = record {
+    manager_after j gets at (any.Client node) fact known = absurd (first.1.seen (Manager j) (any.Client node) (named (Manager j) _ at fact))
+    manager_after j gets at (any.Server node) fact known = absurd (first.1.seen (Manager j) (any.Server node) (named (Manager j) _ at fact))
+    manager_after j gets at (any.Cleaner node) fact known = absurd (first.1.seen (Manager j) (any.Cleaner node) (named (Manager j) _ at fact))
+    manager_after j gets at (any.Registry node) fact known = absurd (first.1.seen (Manager j) (any.Registry node) (named (Manager j) _ at fact))
+    manager_after j gets at (any.Manager node) fact known = record {
       fits = all_fit packets
           (manager_log_events.all_fit laws base end setup few j b.some nodes sent (told (log_by (OfManager j))) place clock what good.fits gets
-          at node is own);
+          at node fact own);
       holds = all_set NodeHolds nodes place (any.Manager (manager_step node what).node) good.holds tt;
       ours = all_ours packets (stores (OfManager j) there packets may all_own);
       keeps = all_set Keeps nodes place (any.Manager (manager_step node what).node) good.keeps tt;
@@ -392,20 +392,21 @@ module _ (laws : NodeLaws) (base : Setting) (end : World AnyNode) (setup : Setup
         from i d less =
             sent_from (Manager (managers.lasting_of node.phase).number) (manager_happens node what).outs i d less
             ∙ ap Manager
-            (manager_log_events.number laws base end setup few j b.some nodes sent (told (log_by (OfManager j))) place clock what good.fits gets at node is own)
+            (manager_log_events.number laws base end setup few j b.some nodes sent
+            (told (log_by (OfManager j))) place clock what good.fits gets at node fact own)
 
         may : All (λ (p : Packet). MaySay (Manager j) p.body) packets
         may = all_say (Manager j) packets from known.says
 
         all_own : All (λ (p : Packet). OfLog (log_by (OfManager j)) p.body) packets
         all_own = manager_log_events.all_own laws base end setup few j b.some nodes sent
-            (told (log_by (OfManager j))) place clock what good.fits gets at node is
+            (told (log_by (OfManager j))) place clock what good.fits gets at node fact
             own
 
         away : (r : Role) → (log_by (OfManager j) ≡ log_by r → ⊥) → (owner_by r ≡ Manager j → ⊥)
             → owns (log_by r) (Manager j) ≡ (log_by (OfManager j) == log_by r)
             → ((w : Scene) → Seen (g r) r w (Manager j) (any.Manager (manager_step node what).node)) → Now (Manager j) (any.Manager node) r
-        away = apart (Manager j) (log_by (OfManager j)) at (any.Manager node) is from may all_own (λ r w generation. tt)
+        away = apart (Manager j) (log_by (OfManager j)) at (any.Manager node) fact from may all_own (λ r w generation. tt)
 
         by_owner : (r : Role) → Now (Manager j) (any.Manager node) r
         by_owner (OfClient c) h = away (OfClient c)
@@ -423,20 +424,20 @@ module _ (laws : NodeLaws) (base : Setting) (end : World AnyNode) (setup : Setup
 
             mine : Now (Manager j) (any.Manager node) (OfManager j)
             mine h_ = manager_log_events.manager_mine laws base end setup few j b.some nodes sent (told (log_by (OfManager j))) place clock what good.fits gets
-                at node is (good.logs (OfManager j) h_) (log_by (OfManager j) == log_by (OfManager j))
+                at node fact (good.logs (OfManager j) h_) (log_by (OfManager j) == log_by (OfManager j))
 
     -- ---- a client
 
     client_after : (d : ℕ) → Gets (Client d) → place_of k (Client d) ≡ Some place → (x : AnyNode) → slice_get nodes place ≡ Some x → After (Client d) x
-    client_after d gets at (any.Manager node) is known = absurd (first.1.seen (Client d) (any.Manager node) (named (Client d) _ at is))
-    client_after d gets at (any.Server node) is known = absurd (first.1.seen (Client d) (any.Server node) (named (Client d) _ at is))
-    client_after d gets at (any.Cleaner node) is known = absurd (first.1.seen (Client d) (any.Cleaner node) (named (Client d) _ at is))
-    client_after d gets at (any.Registry node) is known = absurd (first.1.seen (Client d) (any.Registry node) (named (Client d) _ at is))
-    client_after d gets at (any.Client node) is known = record {
+    client_after d gets at (any.Manager node) fact known = absurd (first.1.seen (Client d) (any.Manager node) (named (Client d) _ at fact))
+    client_after d gets at (any.Server node) fact known = absurd (first.1.seen (Client d) (any.Server node) (named (Client d) _ at fact))
+    client_after d gets at (any.Cleaner node) fact known = absurd (first.1.seen (Client d) (any.Cleaner node) (named (Client d) _ at fact))
+    client_after d gets at (any.Registry node) fact known = absurd (first.1.seen (Client d) (any.Registry node) (named (Client d) _ at fact))
+    client_after d gets at (any.Client node) fact known = record {
       fits = all_fit packets (λ i d_ less.
           let p : Packet = get_or packets i d_ in
           client_sends p.to p.body (may i d_ less).0 (may i d_ less).1 (All-from_recursion (PacketTold in_range) packets tells.packets i d_ less)
-          (client_log_events.all_stored laws base end setup few d b.some eight nodes sent (told d) place clock what good.fits gets at node is own i d_ less));
+          (client_log_events.all_stored laws base end setup few d b.some eight nodes sent (told d) place clock what good.fits gets at node fact own i d_ less));
       holds = all_set NodeHolds nodes place (any.Client (client_step node what).node) good.holds tells.node;
       ours = all_ours packets (stores (OfClient d) there packets (λ i d_ less. (may i d_ less).0) all_own);
       keeps = all_set Keeps nodes place (any.Client (client_step node what).node) good.keeps tt;
@@ -461,21 +462,21 @@ module _ (laws : NodeLaws) (base : Setting) (end : World AnyNode) (setup : Setup
         from : All (λ (p : Packet). p.from ≡ Client d) packets
         from i d_ less =
             sent_from (Client (lasting_of node.phase).number) (takes node what).outs i d_ less
-            ∙ ap Client (client_log_events.number laws base end setup few d b.some eight nodes sent (told d) place clock what good.fits gets at node is own)
+            ∙ ap Client (client_log_events.number laws base end setup few d b.some eight nodes sent (told d) place clock what good.fits gets at node fact own)
 
         may : All (λ (p : Packet). MaySay (Client d) p.body) packets
         may = all_say (Client d) packets from known.says
 
         all_own : All (λ (p : Packet). OfLog d p.body) packets
-        all_own = client_log_events.all_own laws base end setup few d b.some eight nodes sent (told d) place clock what good.fits gets at node is own
+        all_own = client_log_events.all_own laws base end setup few d b.some eight nodes sent (told d) place clock what good.fits gets at node fact own
 
         tells : TellsTold (ClientHolds in_range) in_range (client_step node what)
-        tells = client_log_events.client_told laws base end setup few d b.some eight nodes sent (told d) place clock what good.fits gets at node is own
-            (all_at NodeHolds nodes place (any.Client node) good.holds is) (comes (Client d) gets)
+        tells = client_log_events.client_told laws base end setup few d b.some eight nodes sent (told d) place clock what good.fits gets at node fact own
+            (all_at NodeHolds nodes place (any.Client node) good.holds fact) (comes (Client d) gets)
 
         away : (r : Role) → (d ≡ log_by r → ⊥) → (owner_by r ≡ Client d → ⊥) → owns (log_by r) (Client d) ≡ (d == log_by r)
             → ((w : Scene) → Seen (g r) r w (Client d) (any.Client (client_step node what).node)) → Now (Client d) (any.Client node) r
-        away = apart (Client d) d at (any.Client node) is from (λ i d_ less. (may i d_ less).0) all_own (λ r w generation. tt)
+        away = apart (Client d) d at (any.Client node) fact from (λ i d_ less. (may i d_ less).0) all_own (λ r w generation. tt)
 
         by_owner : (r : Role) → Now (Client d) (any.Client node) r
         by_owner (OfClient c) h = ⊎_elim (λ same. subst (λ n. Now (Client d) (any.Client node) (OfClient n)) same mine h)
@@ -485,15 +486,15 @@ module _ (laws : NodeLaws) (base : Setting) (end : World AnyNode) (setup : Setup
             same_client x y e = cc
 
             mine : Now (Client d) (any.Client node) (OfClient d)
-            mine h_ = client_log_events.client_mine laws base end setup few d b.some eight nodes sent (told d) place clock what good.fits gets at node is
+            mine h_ = client_log_events.client_mine laws base end setup few d b.some eight nodes sent (told d) place clock what good.fits gets at node fact
                 (good.logs (OfClient d) h_) (d == d)
         by_owner OfCleaner h = away OfCleaner (λ e. (let m = eight in absurd (omega (arith, e)))) (λ e. absurd cc) refl (λ w. tt) h
         by_owner (OfManager j) h =
             away (OfManager j) (λ e. (let m = eight in let high = high_log j h.0 in absurd (omega (arith, e)))) (λ e. absurd cc) refl (λ w. tt) h
 
     pub node_after : (name : NodeId) → Gets name → place_of k name ≡ Some place → (x : AnyNode) → slice_get nodes place ≡ Some x → After name x
-    node_after (Client d) gets at x is = client_after d gets at x is
-    node_after (Manager j) gets at x is = manager_after j gets at x is
-    node_after (Server v) gets at x is = server_after v gets at x is
-    node_after Cleaner gets at x is = cleaner_after gets at x is
-    node_after Registry gets at x is = registry_after gets at x is
+    node_after (Client d) gets at x fact = client_after d gets at x fact
+    node_after (Manager j) gets at x fact = manager_after j gets at x fact
+    node_after (Server v) gets at x fact = server_after v gets at x fact
+    node_after Cleaner gets at x fact = cleaner_after gets at x fact
+    node_after Registry gets at x fact = registry_after gets at x fact

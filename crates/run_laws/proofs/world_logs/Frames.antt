@@ -84,7 +84,7 @@ module _ (g : Setting) (c : ℕ) (n next : Net) (asked : ℕ → Question) (late
 
 -- ---- the cleaner as the owner of its log
 
-module _ (g : Setting) (is : g.log ≡ cleaner_log) (n next : Net) (asked : ℕ → Question) (later : Later n next) (inc : next.inc ≡ n.inc)
+module _ (g : Setting) (fact : g.log ≡ cleaner_log) (n next : Net) (asked : ℕ → Question) (later : Later n next) (inc : next.inc ≡ n.inc)
     (owner : next.owner ≡ n.owner) where
   abbrev mine : Scene
   mine = record { net = n; asked = asked }
@@ -100,7 +100,7 @@ module _ (g : Setting) (is : g.log ≡ cleaner_log) (n next : Net) (asked : ℕ 
     written = h.written;
     asks = h.asks;
   }
-  cleaner_owner_still (cleaners.Serving e) h = stands_later g is mine next later inc owner e h
+  cleaner_owner_still (cleaners.Serving e) h = stands_later g fact mine next later inc owner e h
 
 -- ---- a manager as the owner of its log
 

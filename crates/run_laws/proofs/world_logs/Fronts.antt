@@ -53,15 +53,15 @@ use Rattle.xfs_base.specs.declared.setup.Setup.{Setup}
 
 -- whose map is the board's
 groups_from_board : (o : Option AnyNode) (b : BoardState) → board_of o ≡ Some b → groups_of o ≡ Some b.groups
-groups_from_board None b is = absurd cc
-groups_from_board (Some (any.Client node)) b is = absurd cc
-groups_from_board (Some (any.Manager node)) b is = absurd cc
-groups_from_board (Some (any.Server node)) b is = absurd cc
-groups_from_board (Some (any.Cleaner node)) b is = absurd cc
-groups_from_board (Some (any.Registry node)) b is = ap (λ (x : BoardState). Some x.groups) (tokens.one_node node.board b is)
+groups_from_board None b fact = absurd cc
+groups_from_board (Some (any.Client node)) b fact = absurd cc
+groups_from_board (Some (any.Manager node)) b fact = absurd cc
+groups_from_board (Some (any.Server node)) b fact = absurd cc
+groups_from_board (Some (any.Cleaner node)) b fact = absurd cc
+groups_from_board (Some (any.Registry node)) b fact = ap (λ (x : BoardState). Some x.groups) (tokens.one_node node.board b fact)
 
 same_registry : (a b : RegistryNode) → Some (any.Registry a) ≡ Some (any.Registry b) → a ≡ b
-same_registry a b is = cc
+same_registry a b fact = cc
 
 no_acts : (t : Bool) (acts : List Act) → acts ≡ [] → (if t then acts else []) ≡ []
 no_acts true acts none = none
@@ -89,8 +89,8 @@ module _ (laws : NodeLaws) (stay : GroupsStay) (base : Setting) (end : World Any
   known_so nodes sent a b same h = record {
     says = h.says;
     named = h.named;
-    reached = λ board is r there keeps.
-        subst (λ acts. Reached acts (least_horizon (log_by r) (all_news board))) (same (log_by r)) (h.reached board is r there keeps);
+    reached = λ board fact r there keeps.
+        subst (λ acts. Reached acts (least_horizon (log_by r) (all_news board))) (same (log_by r)) (h.reached board fact r there keeps);
   }
 
   -- ---- one event
@@ -110,12 +110,12 @@ module _ (laws : NodeLaws) (stay : GroupsStay) (base : Setting) (end : World Any
     gets p same = by event refl
       where
         by : (x : Event) → event ≡ x → In p w.sent × (p.to ≡ node_of event)
-        by (events.Begin node) is = (let clash : what_of (events.Begin node) ≡ Deliver p = ap what_of (sym is) ∙ same in absurd cc)
-        by (events.Tick node) is = (let clash : what_of (events.Tick node) ≡ Deliver p = ap what_of (sym is) ∙ same in absurd cc)
-        by (events.Deliver packet) is =
-            let its : packet ≡ p = delivered packet p (ap what_of (sym is) ∙ same) in
-            let sent : In packet w.sent = was_sent w.sent packet (subst (λ x. MayHappen w x) is may) in
-            (subst (λ x. In x w.sent) its sent, ap (λ (x : Packet). x.to) (sym its) ∙ ap node_of (sym is))
+        by (events.Begin node) fact = (let clash : what_of (events.Begin node) ≡ Deliver p = ap what_of (sym fact) ∙ same in absurd cc)
+        by (events.Tick node) fact = (let clash : what_of (events.Tick node) ≡ Deliver p = ap what_of (sym fact) ∙ same in absurd cc)
+        by (events.Deliver packet) fact =
+            let its : packet ≡ p = delivered packet p (ap what_of (sym fact) ∙ same) in
+            let sent : In packet w.sent = was_sent w.sent packet (subst (λ x. MayHappen w x) fact may) in
+            (subst (λ x. In x w.sent) its sent, ap (λ (x : Packet). x.to) (sym its) ∙ ap node_of (sym fact))
 
     sound : (r : RegistryNode) → node_in w.nodes (place_of k Registry) ≡ Some (any.Registry r) → RegistrySound r
     sound r here = subst RegistrySound (same_registry tok.0.registry r (sym tok.1.placed.registry ∙ here)) tok.1.sound
@@ -128,14 +128,14 @@ module _ (laws : NodeLaws) (stay : GroupsStay) (base : Setting) (end : World Any
       turns : (place : ℕ) (x : AnyNode) (clock : ℕ) → place_of w.cluster (node_of event) ≡ Some place → slice_get w.nodes place ≡ Some x
           → Led (slice_set w.nodes place (any_step x (what_of event)).node) (w.sent ++ map (sent_at clock) (any_step x (what_of event)).packets)
           (w.acts ++ (any_step x (what_of event)).acts)
-      turns place x clock at is known =
+      turns place x clock at fact known =
           let nodes = slice_set w.nodes place (any_step x (what_of event)).node in
           let sent = w.sent ++ map (sent_at clock) (any_step x (what_of event)).packets in
           let acts = (any_step x (what_of event)).acts in
           logs.leads_so laws base end setup ok few w.nodes w.sent told good (node_of event) nodes sent
           (λ c. told c ++ (if owns c (node_of event) then acts else [])) (told_with (w.acts ++ acts)) (λ c. sym (added acts c))
           (node_after laws base end setup ok few w.nodes w.sent told good place clock (what_of event) sound
-          (node_of event) gets (subst (λ cl. place_of cl (node_of event) ≡ Some place) cluster at) x is
+          (node_of event) gets (subst (λ cl. place_of cl (node_of event) ≡ Some place) cluster at) x fact
           (known_so nodes sent (told_with (w.acts ++ acts)) (λ c. told c ++ (if owns c (node_of event) then acts else [])) (added acts) known))
 
       pub event_leads : Known laws base end setup ok few (next_world any_step w event).nodes (next_world any_step w event).sent
@@ -157,8 +157,8 @@ module _ (laws : NodeLaws) (stay : GroupsStay) (base : Setting) (end : World Any
 
   pub named_so : (w : World AnyNode) → w.cluster ≡ k → StayIn stay w end → (b : BoardState) → board_of (node_in w.nodes (place_of k Registry)) ≡ Some b
       → (r : Role) → NamesGroups (g r) b.groups
-  named_so w cluster stays b is r id group found =
-      let groups = groups_from_board (node_in w.nodes (place_of k Registry)) b is in
+  named_so w cluster stays b fact r id group found =
+      let groups = groups_from_board (node_in w.nodes (place_of k Registry)) b fact in
       let here = subst (λ cl. groups_of (node_in w.nodes (place_of cl Registry)) ≡ Some b.groups) (sym cluster) groups in
       names_at_end base end setup.servers _ _ (stays id group (ap (λ o. group_in o id) here ∙ found))
 
@@ -169,8 +169,8 @@ module _ (laws : NodeLaws) (stay : GroupsStay) (base : Setting) (end : World Any
   known_now w cluster tok stays told reached = record {
     says = λ p h. may_say k 0 tok.0 p (tok.1.facts p h);
     named = named_so w cluster stays;
-    reached = λ b is r there keeps.
-        reached r there keeps b (subst (λ cl. board_of (node_in w.nodes (place_of cl Registry)) ≡ Some b) (sym cluster) is);
+    reached = λ b fact r there keeps.
+        reached r there keeps b (subst (λ cl. board_of (node_in w.nodes (place_of cl Registry)) ≡ Some b) (sym cluster) fact);
   }
 
   -- what is known where a run goes on from a world with these events
@@ -194,18 +194,18 @@ module _ (laws : NodeLaws) (stay : GroupsStay) (base : Setting) (end : World Any
       cluster = next_cluster any_step w event ∙ from.cluster;
       leads = from.leads.1;
       tokens = tokens.event_keeps laws.tokens k 0 (omega arith) w from.cluster event from.leads.0 from.tokens;
-      low = λ n r there keeps b is.
+      low = λ n r there keeps b fact.
           (let c = log_by r in
           subst (λ acts. Reached acts (least_horizon c (all_news b))) (sym (append_assoc (told c) (acts_of c w event) (acts_by c next (take n more))))
-          (from.low (suc n) r there keeps b is));
+          (from.low (suc n) r there keeps b fact));
     }
 
     pub first_led : (good : GoodNow w told) → logs.Leads laws base end setup ok few w.nodes w.sent told good (node_of event) next.nodes next.sent now
     first_led good =
         event_leads w from.cluster told event from.leads.0 from.tokens good
         (known_now next from_next.cluster from_next.tokens (in_run stay more next end from.leads.1) now
-        (λ r there keeps b is. subst (λ acts. Reached acts (least_horizon (log_by r) (all_news b))) (append-nil (now (log_by r)))
-        (from_next.low 0 r there keeps b is)))
+        (λ r there keeps b fact. subst (λ acts. Reached acts (least_horizon (log_by r) (all_news b))) (append-nil (now (log_by r)))
+        (from_next.low 0 r there keeps b fact)))
 
     abbrev next_good : GoodNow w told → GoodNow next now
     next_good good = logs.led laws base end setup ok few w.nodes w.sent told good (node_of event) next.nodes next.sent now (first_led good)
@@ -248,15 +248,15 @@ module _ (laws : NodeLaws) (stay : GroupsStay) (base : Setting) (end : World Any
       record {
         runs = Begun;
         joined = refl;
-        own = λ event is. absurd cc;
-        straight = λ event is. absurd cc;
-        puts = λ event is. absurd cc;
-        left = λ event is. absurd cc;
-        ended = λ is. refl;
+        own = λ event fact. absurd cc;
+        straight = λ event fact. absurd cc;
+        puts = λ event fact. absurd cc;
+        left = λ event fact. absurd cc;
+        ended = λ fact. refl;
       }
 
   same_event : (x y : Event) → Some x ≡ Some y → x ≡ y
-  same_event x y is = cc
+  same_event x y fact = cc
 
   at_event : (r : Role) (x : Event) (w : Scene) (at : Moment (g r) w.net) (v : Scene) (later : Moment (g r) v.net)
       → LeadsOn (g r) r (node_of x) w at v later
@@ -264,11 +264,11 @@ module _ (laws : NodeLaws) (stay : GroupsStay) (base : Setting) (end : World Any
   at_event r x w at v later l = record {
     runs = l.runs;
     joined = l.joined;
-    own = λ event is e. l.own (e ∙ ap node_of (sym (same_event x event is)));
-    straight = λ event is e. l.straight (e ∙ ap node_of (sym (same_event x event is)));
-    puts = λ event is e. l.puts (e ∙ ap node_of (sym (same_event x event is)));
-    left = λ event is away. l.left (λ e. away (e ∙ ap node_of (same_event x event is)));
-    ended = λ is. absurd cc;
+    own = λ event fact e. l.own (e ∙ ap node_of (sym (same_event x event fact)));
+    straight = λ event fact e. l.straight (e ∙ ap node_of (sym (same_event x event fact)));
+    puts = λ event fact e. l.puts (e ∙ ap node_of (sym (same_event x event fact)));
+    left = λ event fact away. l.left (λ e. away (e ∙ ap node_of (same_event x event fact)));
+    ended = λ fact. absurd cc;
   }
 
   pub front_steps : (those : List Event) (count : ℕ) (w : World AnyNode) (told : ℕ → List Act) (from : From those w told) (good : GoodNow w told)

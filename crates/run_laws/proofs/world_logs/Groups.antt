@@ -63,26 +63,26 @@ abbrev pub Stay : GroupMapState → GroupMapState → Type 0
 Stay m n = (id : ℕ) (group : Group) → group_of m id ≡ Some group → Names (group_of n id) (stripe_of_group group)
 
 stay_still : (m : GroupMapState) → Stay m m
-stay_still m id group is = record { group = group; named = is; stripe_is = refl }
+stay_still m id group fact = record { group = group; named = fact; stripe_is = refl }
 
 -- the map of a registry is well formed
 abbrev pub HasMap : Option AnyNode → Type 0
 HasMap o = (m : GroupMapState) → groups_of o ≡ Some m → IsGroupMap m
 
 pub same_groups : (m n : GroupMapState) → Some m ≡ Some n → m ≡ n
-same_groups m n is = cc
+same_groups m n fact = cc
 
 pub board_has_map : (o : Option AnyNode) (b : BoardState) → board_of o ≡ Some b → IsGroupMap b.groups → HasMap o
-board_has_map None b is ok m at = absurd cc
-board_has_map (Some (any.Client node)) b is ok m at = absurd cc
-board_has_map (Some (any.Manager node)) b is ok m at = absurd cc
-board_has_map (Some (any.Server node)) b is ok m at = absurd cc
-board_has_map (Some (any.Cleaner node)) b is ok m at = absurd cc
-board_has_map (Some (any.Registry node)) b is ok m at =
-    subst IsGroupMap (ap (λ (x : BoardState). x.groups) (sym (same_board node.board b is)) ∙ same_groups node.board.groups m at) ok
+board_has_map None b fact ok m at = absurd cc
+board_has_map (Some (any.Client node)) b fact ok m at = absurd cc
+board_has_map (Some (any.Manager node)) b fact ok m at = absurd cc
+board_has_map (Some (any.Server node)) b fact ok m at = absurd cc
+board_has_map (Some (any.Cleaner node)) b fact ok m at = absurd cc
+board_has_map (Some (any.Registry node)) b fact ok m at =
+    subst IsGroupMap (ap (λ (x : BoardState). x.groups) (sym (same_board node.board b fact)) ∙ same_groups node.board.groups m at) ok
   where
     same_board : (a b : BoardState) → Some a ≡ Some b → a ≡ b
-    same_board a b is = cc
+    same_board a b fact = cc
 
 -- the one of the setup
 pub first_map : (setup : Setup) → IsSetup setup → (items : List Work) → IsGroupMap (registry_start setup items).board.groups
@@ -91,9 +91,9 @@ first_map setup ok items =
 
 module _ (law : GroupsStay) where
   lost_stay : (m : GroupMapState) (server generation : ℕ) → Stay m (after_losses m (record { server = server; generation = generation } ∷ []))
-  lost_stay m server generation id group is =
+  lost_stay m server generation id group fact =
       by (group_of (after_losses m (record { server = server; generation = generation } ∷ [])) id) refl
-      (law m (record { server = server; generation = generation } ∷ []) id group is)
+      (law m (record { server = server; generation = generation } ∷ []) id group fact)
     where
       by : (o : Option Group) → group_of (after_losses m (record { server = server; generation = generation } ∷ [])) id ≡ o → IsSomeAnd o (IsLater group)
           → Names (group_of (after_losses m (record { server = server; generation = generation } ∷ [])) id) (stripe_of_group group)
@@ -108,7 +108,7 @@ module _ (law : GroupsStay) where
     map : IsGroupMap m → IsGroupMap n
 
   same_map : (m : GroupMapState) → Kept m m
-  same_map m = record { stay = stay_still m; map = λ is. is }
+  same_map m = record { stay = stay_still m; map = λ fact. fact }
 
   abbrev KeptBy : BoardState → BoardState → Type 0
   KeptBy b c = Kept b.groups c.groups
@@ -168,18 +168,18 @@ module _ (law : GroupsStay) where
     map : HasMap before → HasMap now
 
   in_time_still : (o : Option AnyNode) → InTime o o
-  in_time_still o = record { stays = λ id group is. record { group = group; named = is; stripe_is = refl }; map = λ h. h }
+  in_time_still o = record { stays = λ id group fact. record { group = group; named = fact; stripe_is = refl }; map = λ h. h }
 
   by_turn : (x : AnyNode) (what : Do) → InTime (Some x) (Some (any_step x what).node)
-  by_turn (any.Client node) what = record { stays = λ id group is. absurd cc; map = λ h m is. absurd cc }
-  by_turn (any.Manager node) what = record { stays = λ id group is. absurd cc; map = λ h m is. absurd cc }
-  by_turn (any.Server node) what = record { stays = λ id group is. absurd cc; map = λ h m is. absurd cc }
-  by_turn (any.Cleaner node) what = record { stays = λ id group is. absurd cc; map = λ h m is. absurd cc }
+  by_turn (any.Client node) what = record { stays = λ id group fact. absurd cc; map = λ h m fact. absurd cc }
+  by_turn (any.Manager node) what = record { stays = λ id group fact. absurd cc; map = λ h m fact. absurd cc }
+  by_turn (any.Server node) what = record { stays = λ id group fact. absurd cc; map = λ h m fact. absurd cc }
+  by_turn (any.Cleaner node) what = record { stays = λ id group fact. absurd cc; map = λ h m fact. absurd cc }
   by_turn (any.Registry node) what =
       let k : Kept node.board.groups (registry_step node what).node.board.groups = groups_kept node what in
       record {
         stays = k.stay;
-        map = λ h m is. subst IsGroupMap (same_groups (registry_step node what).node.board.groups m is) (k.map (h node.board.groups refl));
+        map = λ h m fact. subst IsGroupMap (same_groups (registry_step node what).node.board.groups m fact) (k.map (h node.board.groups refl));
       }
 
   module _ (k : Cluster) where
@@ -188,7 +188,7 @@ module _ (law : GroupsStay) where
 
     by_place : (nodes : List AnyNode) (name : NodeId) (place : ℕ) (what : Do) (x : AnyNode) → place_of k name ≡ Some place → slice_get nodes place ≡ Some x
         → InTime (at_registry nodes) (at_registry (slice_set nodes place (any_step x what).node))
-    by_place nodes name place what x at is = by (same_or_other Registry name)
+    by_place nodes name place what x at fact = by (same_or_other Registry name)
       where
         y : AnyNode
         y = (any_step x what).node
@@ -196,8 +196,8 @@ module _ (law : GroupsStay) where
         by : (Registry ≡ name) ⊎ (Registry ≡ name → ⊥) → InTime (at_registry nodes) (at_registry (slice_set nodes place y))
         by (inl same) =
             let here : at_registry (slice_set nodes place y) ≡ Some y =
-            subst (λ n. node_in (slice_set nodes place y) (place_of k n) ≡ Some y) (sym same) (places.here k nodes name place at y x is) in
-            let was : at_registry nodes ≡ Some x = ap (node_in nodes) (subst (λ n. place_of k n ≡ Some place) (sym same) at) ∙ is in
+            subst (λ n. node_in (slice_set nodes place y) (place_of k n) ≡ Some y) (sym same) (places.here k nodes name place at y x fact) in
+            let was : at_registry nodes ≡ Some x = ap (node_in nodes) (subst (λ n. place_of k n ≡ Some place) (sym same) at) ∙ fact in
             subst (λ o. InTime o (at_registry (slice_set nodes place y))) (sym was) (subst (InTime (Some x)) (sym here) (by_turn x what))
         by (inr differs) = subst (InTime (at_registry nodes)) (sym (places.there k nodes name place at y Registry differs)) (in_time_still (at_registry nodes))
 
@@ -212,10 +212,10 @@ module _ (law : GroupsStay) where
       (λ place x clock at here. by_place w.cluster w.nodes (node_of event) place (what_of event) x at here)
 
   in_next : (w : World AnyNode) (event : Event) → StayIn w (next_world any_step w event)
-  in_next w event id group is =
+  in_next w event id group fact =
       subst (λ cl. Names (group_in (groups_of (node_in (next_world any_step w event).nodes (place_of cl Registry))) id) (stripe_of_group group))
       (sym (next_cluster any_step w event))
-      ((in_time w event).stays id group is)
+      ((in_time w event).stays id group fact)
 
   -- at the end of a run the map is well formed, if it was so before
   pub map_in_run : (events : List Event) (w end : World AnyNode) → Leads any_step w events end → HasMap (node_named w Registry)
@@ -227,9 +227,9 @@ module _ (law : GroupsStay) where
       ((in_time w event).map h))
 
   stay_on : (u v w : World AnyNode) → StayIn u v → StayIn v w → StayIn u w
-  stay_on u v w a b id group is =
-      (let x = a id group is in let y = b id x.group x.named in record { group = y.group; named = y.named; stripe_is = y.stripe_is ∙ x.stripe_is })
+  stay_on u v w a b id group fact =
+      (let x = a id group fact in let y = b id x.group x.named in record { group = y.group; named = y.named; stripe_is = y.stripe_is ∙ x.stripe_is })
 
   pub in_run : (events : List Event) (w end : World AnyNode) → Leads any_step w events end → StayIn w end
-  in_run [] w end leads = subst (StayIn w) leads (λ id group is. record { group = group; named = is; stripe_is = refl })
+  in_run [] w end leads = subst (StayIn w) leads (λ id group fact. record { group = group; named = fact; stripe_is = refl })
   in_run (event ∷ events) w end leads = stay_on w (next_world any_step w event) end (in_next w event) (in_run events (next_world any_step w event) end leads.1)

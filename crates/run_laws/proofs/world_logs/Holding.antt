@@ -31,17 +31,17 @@ use Rattle.xfs_base.specs.declared.segment.LogId.{LogId}
 
 module _ (n : Net) (flew : OwnerFlew n.flown n.owner) (told : IsToldInRange n) (acts : List Act) where
   flight_owed : (log : LogId) (s : LogState) → n.owner ≡ Serving s → FlightOwed in_range acts log s
-  flight_owed log s is flight flies filed =
+  flight_owed log s fact flight flies filed =
       segment_tells flight.segment
       (told.written flight.segment
-      (subst (λ (o : Option FlightState). IfSome o (λ (f : FlightState). tables.In f.segment n.flown)) flies (subst (OwnerFlew n.flown) is flew))).fits
+      (subst (λ (o : Option FlightState). IfSome o (λ (f : FlightState). tables.In f.segment n.flown)) flies (subst (OwnerFlew n.flown) fact flew))).fits
 
   each_owed : (chain : List Segment) → ((t : Segment) → tables.In t chain → tables.In t n.flown) → AllByRecursion (SegmentOwed in_range acts) chain
   each_owed [] read = tt
-  each_owed (t ∷ chain) read = (λ filed. segment_tells t (told.written t (read t (inl refl))).fits, each_owed chain (λ s is. read s (inr is)))
+  each_owed (t ∷ chain) read = (λ filed. segment_tells t (told.written t (read t (inl refl))).fits, each_owed chain (λ s fact. read s (inr fact)))
 
   chain_owed : (chain : List Segment) (s : LogState) → n.owner ≡ Writing chain s → AllByRecursion (SegmentOwed in_range acts) chain
-  chain_owed chain s is = (let f = subst (OwnerFlew n.flown) is flew in each_owed chain f.read)
+  chain_owed chain s fact = (let f = subst (OwnerFlew n.flown) fact flew in each_owed chain f.read)
 
 module _ (g : Setting) (c : ℕ) (w : Scene) (flew : OwnerFlew w.net.flown w.net.owner) (told : IsToldInRange w.net) (acts : List Act) where
   stage_owed : (k : Known) (last : ℕ) (at : stages.Stage) → SeesStage g c w k last at → StageOwed in_range acts at

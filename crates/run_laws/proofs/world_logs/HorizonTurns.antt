@@ -83,13 +83,13 @@ clocked : (reach : Reach) (clock : ℕ) (ps : List Packet) → AllByRecursion (P
 clocked reach clock [] all = tt
 clocked reach clock (p ∷ ps) all = (all.0, clocked reach clock ps all.1)
 
-module _ (high low : Reach) (log : ℕ) (less : high log ≤ low log) (node : NodeId) (is : fed_log node ≡ Some (record { 0 = log })) (clock : ℕ) where
+module _ (high low : Reach) (log : ℕ) (less : high log ≤ low log) (node : NodeId) (fact : fed_log node ≡ Some (record { 0 = log })) (clock : ℕ) where
   lowered : (ps : List Packet) → AllByRecursion (λ (p : Packet). p.from ≡ node) ps → AllByRecursion (PacketTells high) ps
       → ((q : Packet) → In q (map (sent_at clock) ps) → q.from ≡ node → NoHorizon q.body) → AllByRecursion (PacketTells low) (map (sent_at clock) ps)
   lowered [] from all quiet = tt
   lowered (p ∷ ps) from all quiet = (
     subst (λ f. BodyTells low f p.body) (sym from.0)
-        (body_lower high low log less node is p.body (quiet (sent_at clock p) (inl refl) from.0) (subst (λ f. BodyTells high f p.body) from.0 all.0)),
+        (body_lower high low log less node fact p.body (quiet (sent_at clock p) (inl refl) from.0) (subst (λ f. BodyTells high f p.body) from.0 all.0)),
     lowered ps from.1 all.1 (λ q h. quiet q (inr h)),
   )
 
@@ -108,10 +108,10 @@ module _ (laws : tokens.NodeLaws) (below : Filing) (k : Cluster) (c : ℕ) where
   -- a client bears the number of its name
   numbered : (nodes : List AnyNode) (sent : List Packet) (acts : List Act) → Tokens nodes sent acts → (d place : ℕ) → place_of k (Client d) ≡ Some place
       → (node : ClientNode) → slice_get nodes place ≡ Some (any.Client node) → (lasting_of node.phase).number ≡ d
-  numbered nodes sent acts tok d place at node is =
+  numbered nodes sent acts tok d place at node fact =
       let b = behind 0 k.clients d place at in
       let less : d < k.clients + 1 = (let limit = b.within in omega arith) in
-      let there : Some (any.Client (tok.0.client d)) ≡ Some (any.Client node) = sym (tok.1.placed.clients d b.some less) ∙ (ap (node_in nodes) at ∙ is) in
+      let there : Some (any.Client (tok.0.client d)) ≡ Some (any.Client node) = sym (tok.1.placed.clients d b.some less) ∙ (ap (node_in nodes) at ∙ fact) in
       subst (λ (x : ClientNode). (lasting_of x.phase).number ≡ d) (same_client (tok.0.client d) node there)
       (number_is 0 d tok.0.net (tok.0.client d).phase (tok.1.clients d b.some less).0)
     where
@@ -147,7 +147,7 @@ module _ (laws : tokens.NodeLaws) (below : Filing) (k : Cluster) (c : ℕ) where
     GoodAfter x = Tokens (slice_set nodes place (any_step x what).node) (sent ++ map (sent_at clock) (any_step x what).packets) (acts ++ (any_step x what).acts)
 
     held : (x : AnyNode) → slice_get nodes place ≡ Some x → AnyReaches before x
-    held x is = telling.all_got (AnyReaches before) nodes place x now.0 is
+    held x fact = telling.all_got (AnyReaches before) nodes place x now.0 fact
 
     heard : (x : AnyNode) → DoTells (later x) what
     heard x = do_rises before (later x) (rises x) what tells
@@ -155,9 +155,9 @@ module _ (laws : tokens.NodeLaws) (below : Filing) (k : Cluster) (c : ℕ) where
     -- ---- one that tells nothing of a log of its own
 
     -- another node than the one of this name isn't there
-    module _ (y : AnyNode) (is : slice_get nodes place ≡ Some y) where
+    module _ (y : AnyNode) (fact : slice_get nodes place ≡ Some y) where
       none : (z : AnyNode) → (z ≡ y → ⊥) → node_in nodes (place_of k name) ≡ Some z → ⊥
-      none z clash there = clash (tokens.one_node z y (sym there ∙ (ap (node_in nodes) at ∙ is)))
+      none z clash there = clash (tokens.one_node z y (sym there ∙ (ap (node_in nodes) at ∙ fact)))
 
       no_client_there : (d : ℕ) → name ≡ Client d → ((n : ClientNode) → any.Client n ≡ y → ⊥) → ⊥
       no_client_there d e clash =
@@ -189,50 +189,50 @@ module _ (laws : tokens.NodeLaws) (below : Filing) (k : Cluster) (c : ℕ) where
           (subst (λ n. node_in nodes (place_of k n) ≡ Some (any.Registry tok.0.registry)) (sym e) tok.1.placed.registry)
 
     manager_goes : (j : ℕ) → name ≡ Manager j → (x : AnyNode) → slice_get nodes place ≡ Some x → Goes x
-    manager_goes j e (any.Manager node) is =
+    manager_goes j e (any.Manager node) fact =
         let x : AnyNode = any.Manager node in
-        let t = below.manager (later x) node what (below.told.manager_rises before (later x) node (rises x) (held x is)) (heard x) in
+        let t = below.manager (later x) node what (below.told.manager_rises before (later x) node (rises x) (held x fact)) (heard x) in
         (t.node, clocked (later x) clock (any_step x what).packets t.packets)
-    manager_goes j e (any.Client node) is = absurd (no_manager_there (any.Client node) is j e (λ n s. absurd cc))
-    manager_goes j e (any.Server node) is = absurd (no_manager_there (any.Server node) is j e (λ n s. absurd cc))
-    manager_goes j e (any.Cleaner node) is = absurd (no_manager_there (any.Cleaner node) is j e (λ n s. absurd cc))
-    manager_goes j e (any.Registry node) is = absurd (no_manager_there (any.Registry node) is j e (λ n s. absurd cc))
+    manager_goes j e (any.Client node) fact = absurd (no_manager_there (any.Client node) fact j e (λ n s. absurd cc))
+    manager_goes j e (any.Server node) fact = absurd (no_manager_there (any.Server node) fact j e (λ n s. absurd cc))
+    manager_goes j e (any.Cleaner node) fact = absurd (no_manager_there (any.Cleaner node) fact j e (λ n s. absurd cc))
+    manager_goes j e (any.Registry node) fact = absurd (no_manager_there (any.Registry node) fact j e (λ n s. absurd cc))
 
     server_goes : (v : ℕ) → name ≡ Server v → (x : AnyNode) → slice_get nodes place ≡ Some x → Goes x
-    server_goes v e (any.Server node) is =
+    server_goes v e (any.Server node) fact =
         let x : AnyNode = any.Server node in
         let t = below.server (later x) node what tt (heard x) in
         (t.node, clocked (later x) clock (any_step x what).packets t.packets)
-    server_goes v e (any.Client node) is = absurd (no_server_there (any.Client node) is v e (λ n s. absurd cc))
-    server_goes v e (any.Manager node) is = absurd (no_server_there (any.Manager node) is v e (λ n s. absurd cc))
-    server_goes v e (any.Cleaner node) is = absurd (no_server_there (any.Cleaner node) is v e (λ n s. absurd cc))
-    server_goes v e (any.Registry node) is = absurd (no_server_there (any.Registry node) is v e (λ n s. absurd cc))
+    server_goes v e (any.Client node) fact = absurd (no_server_there (any.Client node) fact v e (λ n s. absurd cc))
+    server_goes v e (any.Manager node) fact = absurd (no_server_there (any.Manager node) fact v e (λ n s. absurd cc))
+    server_goes v e (any.Cleaner node) fact = absurd (no_server_there (any.Cleaner node) fact v e (λ n s. absurd cc))
+    server_goes v e (any.Registry node) fact = absurd (no_server_there (any.Registry node) fact v e (λ n s. absurd cc))
 
     registry_goes : name ≡ Registry → (x : AnyNode) → slice_get nodes place ≡ Some x → Goes x
-    registry_goes e (any.Registry node) is =
+    registry_goes e (any.Registry node) fact =
         let x : AnyNode = any.Registry node in
-        let t = below.registry (later x) node what (below.told.registry_rises before (later x) node (rises x) (held x is)) (heard x) in
+        let t = below.registry (later x) node what (below.told.registry_rises before (later x) node (rises x) (held x fact)) (heard x) in
         (t.node, clocked (later x) clock (any_step x what).packets t.packets)
-    registry_goes e (any.Client node) is = absurd (no_registry_there (any.Client node) is e (λ n s. absurd cc))
-    registry_goes e (any.Manager node) is = absurd (no_registry_there (any.Manager node) is e (λ n s. absurd cc))
-    registry_goes e (any.Server node) is = absurd (no_registry_there (any.Server node) is e (λ n s. absurd cc))
-    registry_goes e (any.Cleaner node) is = absurd (no_registry_there (any.Cleaner node) is e (λ n s. absurd cc))
+    registry_goes e (any.Client node) fact = absurd (no_registry_there (any.Client node) fact e (λ n s. absurd cc))
+    registry_goes e (any.Manager node) fact = absurd (no_registry_there (any.Manager node) fact e (λ n s. absurd cc))
+    registry_goes e (any.Server node) fact = absurd (no_registry_there (any.Server node) fact e (λ n s. absurd cc))
+    registry_goes e (any.Cleaner node) fact = absurd (no_registry_there (any.Cleaner node) fact e (λ n s. absurd cc))
 
     -- ---- the cleaner
 
-    module _ (named : name ≡ Cleaner) (node : CleanerNode) (is : slice_get nodes place ≡ Some (any.Cleaner node)) (good : GoodAfter (any.Cleaner node)) where
+    module _ (named : name ≡ Cleaner) (node : CleanerNode) (fact : slice_get nodes place ≡ Some (any.Cleaner node)) (good : GoodAfter (any.Cleaner node)) where
       cleaner_owns : cleaner_log.0 ≡ c → Goes (any.Cleaner node)
       cleaner_owns same =
           let mine : owns c name ≡ true = ap (λ n. owns c n) named ∙ (ap (λ n. n == c) same ∙ itself c) in
           let those : List Act = (cleaner_step node what).acts in
           let did = subst (λ t. ActsReach (owned c (told ++ (if t then those else [])) (acts ++ those)) those) (sym mine) (own_acts c told acts those) in
-          let t = below.told.cleaner before (later (any.Cleaner node)) node what (rises (any.Cleaner node)) (held (any.Cleaner node) is) tells did in
+          let t = below.told.cleaner before (later (any.Cleaner node)) node what (rises (any.Cleaner node)) (held (any.Cleaner node) fact) tells did in
           (t.node, clocked (later (any.Cleaner node)) clock (cleaner_step node what).packets t.packets)
 
       cleaner_other : (cleaner_log.0 ≡ c → ⊥) → Goes (any.Cleaner node)
       cleaner_other other =
           let x : AnyNode = any.Cleaner node in
-          let t = below.told.cleaner before (further x) node what (rises_wide x) (held x is) tells (wide_acts c (told_by x) acts (any_step x what).acts) in
+          let t = below.told.cleaner before (further x) node what (rises_wide x) (held x fact) tells (wide_acts c (told_by x) acts (any_step x what).acts) in
           let less = narrow c (told_by x) (acts ++ (any_step x what).acts) cleaner_log.0 other in (
             cleaner_lower (further x) (later x) cleaner_log.0 less (cleaner_step node what).node.phase refl t.node,
             lowered (further x) (later x) cleaner_log.0 less Cleaner refl clock (any_step x what).packets
@@ -243,15 +243,15 @@ module _ (laws : tokens.NodeLaws) (below : Filing) (k : Cluster) (c : ℕ) where
           )
 
     cleaner_goes : name ≡ Cleaner → (x : AnyNode) → slice_get nodes place ≡ Some x → GoodAfter x → Goes x
-    cleaner_goes e (any.Cleaner node) is good = ⊎_elim (cleaner_owns e node is good) (cleaner_other e node is good) (equal_or_not cleaner_log.0 c)
-    cleaner_goes e (any.Client node) is good = absurd (no_cleaner_there (any.Client node) is e (λ n s. absurd cc))
-    cleaner_goes e (any.Manager node) is good = absurd (no_cleaner_there (any.Manager node) is e (λ n s. absurd cc))
-    cleaner_goes e (any.Server node) is good = absurd (no_cleaner_there (any.Server node) is e (λ n s. absurd cc))
-    cleaner_goes e (any.Registry node) is good = absurd (no_cleaner_there (any.Registry node) is e (λ n s. absurd cc))
+    cleaner_goes e (any.Cleaner node) fact good = ⊎_elim (cleaner_owns e node fact good) (cleaner_other e node fact good) (equal_or_not cleaner_log.0 c)
+    cleaner_goes e (any.Client node) fact good = absurd (no_cleaner_there (any.Client node) fact e (λ n s. absurd cc))
+    cleaner_goes e (any.Manager node) fact good = absurd (no_cleaner_there (any.Manager node) fact e (λ n s. absurd cc))
+    cleaner_goes e (any.Server node) fact good = absurd (no_cleaner_there (any.Server node) fact e (λ n s. absurd cc))
+    cleaner_goes e (any.Registry node) fact good = absurd (no_cleaner_there (any.Registry node) fact e (λ n s. absurd cc))
 
     -- ---- a client
 
-    module _ (d : ℕ) (named : name ≡ Client d) (node : ClientNode) (is : slice_get nodes place ≡ Some (any.Client node))
+    module _ (d : ℕ) (named : name ≡ Client d) (node : ClientNode) (fact : slice_get nodes place ≡ Some (any.Client node))
         (good : GoodAfter (any.Client node)) where
       x : AnyNode
       x = any.Client node
@@ -265,7 +265,7 @@ module _ (laws : tokens.NodeLaws) (below : Filing) (k : Cluster) (c : ℕ) where
           let mine : owns c name ≡ true = ap (λ n. owns c n) named ∙ (ap (λ n. n == c) same ∙ itself c) in
           let those : List Act = (client_step node what).acts in
           let did = subst (λ t. ActsReach (owned c (told ++ (if t then those else [])) (acts ++ those)) those) (sym mine) (own_acts c told acts those) in
-          let t = below.told.client before (later (any.Client node)) node what (rises (any.Client node)) (held (any.Client node) is) tells did in
+          let t = below.told.client before (later (any.Client node)) node what (rises (any.Client node)) (held (any.Client node) fact) tells did in
           (t.node, clocked (later (any.Client node)) clock (client_step node what).packets t.packets)
 
       -- another
@@ -274,11 +274,11 @@ module _ (laws : tokens.NodeLaws) (below : Filing) (k : Cluster) (c : ℕ) where
           let high : Reach = further (any.Client node) in
           let low : Reach = later (any.Client node) in
           let those : List Act = (client_step node what).acts in
-          let t = below.told.client before high node what (rises_wide (any.Client node)) (held (any.Client node) is) tells
+          let t = below.told.client before high node what (rises_wide (any.Client node)) (held (any.Client node) fact) tells
           (wide_acts c (told_by (any.Client node)) acts those) in
           let less = narrow c (told_by (any.Client node)) (acts ++ those) d other in
-          let first : (lasting_of node.phase).number ≡ d = numbered nodes sent acts tok d place at_client node is in
-          let set = get_set_same nodes place (any.Client (client_step node what).node) (any.Client node) is in
+          let first : (lasting_of node.phase).number ≡ d = numbered nodes sent acts tok d place at_client node fact in
+          let set = get_set_same nodes place (any.Client (client_step node what).node) (any.Client node) fact in
           let last : (lasting_of (client_step node what).node.phase).number ≡ d =
           numbered (slice_set nodes place (any.Client (client_step node what).node)) (sent ++ map (sent_at clock) (client_step node what).packets)
           (acts ++ those)
@@ -297,27 +297,27 @@ module _ (laws : tokens.NodeLaws) (below : Filing) (k : Cluster) (c : ℕ) where
       client_goes = ⊎_elim (λ same. owner_goes same) (λ other. other_goes other) (equal_or_not d c)
 
     by_client : (d : ℕ) → name ≡ Client d → (x : AnyNode) → slice_get nodes place ≡ Some x → GoodAfter x → Goes x
-    by_client d e (any.Client node) is good = client_goes d e node is good
-    by_client d e (any.Manager node) is good = absurd (no_client_there (any.Manager node) is d e (λ n s. absurd cc))
-    by_client d e (any.Server node) is good = absurd (no_client_there (any.Server node) is d e (λ n s. absurd cc))
-    by_client d e (any.Cleaner node) is good = absurd (no_client_there (any.Cleaner node) is d e (λ n s. absurd cc))
-    by_client d e (any.Registry node) is good = absurd (no_client_there (any.Registry node) is d e (λ n s. absurd cc))
+    by_client d e (any.Client node) fact good = client_goes d e node fact good
+    by_client d e (any.Manager node) fact good = absurd (no_client_there (any.Manager node) fact d e (λ n s. absurd cc))
+    by_client d e (any.Server node) fact good = absurd (no_client_there (any.Server node) fact d e (λ n s. absurd cc))
+    by_client d e (any.Cleaner node) fact good = absurd (no_client_there (any.Cleaner node) fact d e (λ n s. absurd cc))
+    by_client d e (any.Registry node) fact good = absurd (no_client_there (any.Registry node) fact d e (λ n s. absurd cc))
 
     goes : (x : AnyNode) → slice_get nodes place ≡ Some x → GoodAfter x → Goes x
-    goes x is good = by_name name refl
+    goes x fact good = by_name name refl
       where
         by_name : (n : NodeId) → name ≡ n → Goes x
-        by_name (Client d) e = by_client d e x is good
-        by_name (Manager j) e = manager_goes j e x is
-        by_name (Server v) e = server_goes v e x is
-        by_name Cleaner e = cleaner_goes e x is good
-        by_name Registry e = registry_goes e x is
+        by_name (Client d) e = by_client d e x fact good
+        by_name (Manager j) e = manager_goes j e x fact
+        by_name (Server v) e = server_goes v e x fact
+        by_name Cleaner e = cleaner_goes e x fact good
+        by_name Registry e = registry_goes e x fact
 
     pub turn : (x : AnyNode) → slice_get nodes place ≡ Some x → GoodAfter x
         → Told (told_by x) (acts ++ (any_step x what).acts) (slice_set nodes place (any_step x what).node)
         (sent ++ map (sent_at clock) (any_step x what).packets)
-    turn x is good =
-        let g = goes x is good in (
+    turn x fact good =
+        let g = goes x fact good in (
           telling.all_set (AnyReaches (later x)) nodes place (any_step x what).node (telling.nodes_rise below.told before (later x) (rises x) nodes now.0) g.0,
           all_append (PacketTells (later x)) sent (map (sent_at clock) (any_step x what).packets)
               (telling.packets_rise below.told before (later x) (rises x) sent now.1) g.1,

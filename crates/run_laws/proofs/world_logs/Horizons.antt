@@ -77,12 +77,12 @@ module _ (laws : tokens.NodeLaws) (below : Filing) (k : Cluster) (c : ℕ) where
     all_turns : (place : ℕ) (x : AnyNode) (clock : ℕ) → place_of w.cluster (node_of event) ≡ Some place → slice_get w.nodes place ≡ Some x
         → Kept (slice_set w.nodes place (any_step x (what_of event)).node) (w.sent ++ map (sent_at clock) (any_step x (what_of event)).packets)
         (w.acts ++ (any_step x (what_of event)).acts)
-    all_turns place x clock at is good =
+    all_turns place x clock at fact good =
         let step = any_step x (what_of event) in
         subst (λ own. Told own (w.acts ++ step.acts) (slice_set w.nodes place step.node) (w.sent ++ map (sent_at clock) step.packets)) (sym (added step.acts))
         (turns.turn laws below k c w.nodes w.sent w.acts told now tok place clock (what_of event) (node_of event)
         (subst (λ cl. place_of cl (node_of event) ≡ Some place) cluster at)
-        (heard_by event may) x is good)
+        (heard_by event may) x fact good)
 
     event_keeps : Tokens (next_world any_step w event).nodes (next_world any_step w event).sent (next_world any_step w event).acts
         → Told (told ++ acts_of c w event) (next_world any_step w event).acts (next_world any_step w event).nodes (next_world any_step w event).sent
@@ -124,9 +124,9 @@ module _ (laws : tokens.NodeLaws) (below : Filing) (k : Cluster) (c : ℕ) where
 -- ---- the registry's horizons
 
 in_so : (acts : List Act) (x : Act) → tables.In x acts → In x acts
-in_so [] x is = absurd is
-in_so (act ∷ acts) x (inl is) = inl is
-in_so (act ∷ acts) x (inr is) = inr (in_so acts x is)
+in_so [] x fact = absurd fact
+in_so (act ∷ acts) x (inl fact) = inl fact
+in_so (act ∷ acts) x (inr fact) = inr (in_so acts x fact)
 
 reached : (acts : List Act) (c low : ℕ) → HorizonWasFiled acts c low → Reached acts low
 reached acts c low (inl first) = inl first
@@ -134,13 +134,13 @@ reached acts c low (inr f) = inr (f.name, in_so acts _ f.among, f.near)
 
 module _ (reach : Reach) (nodes : List AnyNode) (all : AllByRecursion (AnyReaches reach) nodes) where
   at_place : (o : Option ℕ) (x : AnyNode) → node_in nodes o ≡ Some x → AnyReaches reach x
-  at_place None x is = absurd cc
-  at_place (Some place) x is = telling.all_got (AnyReaches reach) nodes place x all is
+  at_place None x fact = absurd cc
+  at_place (Some place) x fact = telling.all_got (AnyReaches reach) nodes place x all fact
 
 pub horizons_reached : tokens.NodeLaws → Filing → (e : Estate AnyNode) → IsSetup e.script.setup → IsRun any_step any_start e.script e.events e.world
     → HorizonsReached e
 unfolding start_world
-horizons_reached laws below e ok run count c opened b is =
+horizons_reached laws below e ok run count c opened b fact =
     reached own c (least_horizon c (all_news b)) (telling.was_filed own c (least_horizon c (all_news b)) upto (is_filed own c))
   where
     k : Cluster
@@ -169,7 +169,7 @@ horizons_reached laws below e ok run count c opened b is =
     there = subst (λ cl. node_in w.nodes (place_of cl Registry) ≡ Some (any.Registry registry)) (sym tok.0) tok.1.1.placed.registry
 
     same : registry.board ≡ b
-    same = tokens.one_node registry.board b (sym (ap board_of there) ∙ is)
+    same = tokens.one_node registry.board b (sym (ap board_of there) ∙ fact)
 
     low : least_horizon c (all_news registry.board) ≤ suc (owned c own w.acts c)
     low = telling.low_reached (owned c own w.acts) registry

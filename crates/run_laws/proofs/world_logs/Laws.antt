@@ -91,11 +91,11 @@ module _ (laws : NodeLaws) (stay : GroupsStay) (base : Setting) (e : Estate AnyN
   first_board = ap board_of (first_stands e.script Registry (setup.clients + setup.managers + setup.servers + 1) refl)
 
   few : (id : ℕ) (group : Group) → group_at e.world id ≡ Some group → id < 2 ^ 32
-  few id group is =
+  few id group fact =
       ids_fit (node_named e.world Registry)
       (map_in_run stay e.events (start_world any_start e.script) e.world run
       (board_has_map (node_named (start_world any_start e.script) Registry) (registry_start setup (items_of e.script.lines Registry)).board first_board
-      (first_map setup ok (items_of e.script.lines Registry)))) id group is
+      (first_map setup ok (items_of e.script.lines Registry)))) id group fact
 
   first_named : (r : Role) → NamesGroups (g r) (groups.started setup.servers setup.groups)
   unfolding start_world
@@ -113,7 +113,7 @@ module _ (laws : NodeLaws) (stay : GroupsStay) (base : Setting) (e : Estate AnyN
     cluster = refl;
     leads = run;
     tokens = (tokens.front laws.tokens e ok run 0 0 (omega arith)).1;
-    low = λ n r there keeps b is. low n (log_by r) (opened r there keeps) b is;
+    low = λ n r there keeps b fact. low n (log_by r) (opened r there keeps) b fact;
   }
 
   first_good : Good laws base e.world setup ok few Start.nodes Start.sent (λ c. [])
@@ -143,9 +143,9 @@ module _ (laws : NodeLaws) (stay : GroupsStay) (base : Setting) (e : Estate AnyN
   -- what a server lists is of a log of the run
   pub lists : (count : ℕ) (p : Packet) (m : Listed) → In p (moment e count).sent → p.body ≡ body.Listed m → (meta : FragMeta) → In meta m.held
       → HasOwner setup.clients setup.managers meta.name.log
-  lists count p m among is meta held =
+  lists count p m among fact meta held =
       owner_of setup.clients setup.managers ok.managers.1 meta.name.log
-      (listed_of setup.clients setup.managers p.body m is ((good_at count).ours p (in_listed (moment e count).sent p among)) meta held)
+      (listed_of setup.clients setup.managers p.body m fact ((good_at count).ours p (in_listed (moment e count).sent p among)) meta held)
 
   steps : (count : ℕ) (r : Role) (h : There r)
       → Steps laws stay base e.world setup ok few r (slice_get e.events count) ((good_at count).logs r h).0 ((good_at count).logs r h).1.moment
@@ -195,14 +195,14 @@ module _ (below : Below) (e : Estate AnyNode) (ok : IsSetup e.script.setup) (run
   -- the members of a group of the registry's at the end are servers
   exist : (count : ℕ) → (id : ℕ) (group : Group) → group_at e.world id ≡ Some group → (place : ℕ) → place < length group.members
       → (shelf : ShelfState) × (shelf_at (moment e count) (server_of group.members place) ≡ Some shelf)
-  exist count id group is place below_ =
+  exist count id group fact place below_ =
       let end = length e.events in
       let same : moment e end ≡ e.world = at_end e.events (start_world any_start e.script) e.world run in
       let f = tokens.front below.nodes.tokens e ok run end 0 (omega arith) in
       let l : Line base_of e (OfClient 1) = all (OfClient 1) (omega arith, ok.clients.0) in
       let s = members_exist base_of e.world (moment e end) setup_of.servers (OfClient 1) k_of f.0 (l.at end) (did e 1 end) (l.stands end) f.1.0.registry
       f.1.1.placed.registry id group
-      (ap (λ w. group_at w id) same ∙ is) place below_ in
+      (ap (λ w. group_at w id) same ∙ fact) place below_ in
       shelf_there count (server_of group.members place) s.0 s.1
 
   log_stands : (count : ℕ) (r : Role) → IsThere setup_of.clients setup_of.managers r → LogStands e count (log_by r)
@@ -210,8 +210,8 @@ module _ (below : Below) (e : Estate AnyNode) (ok : IsSetup e.script.setup) (run
       let l : Line base_of e r = all r there in
       let f = tokens.front below.nodes.tokens e ok run count 0 (omega arith) in
       record {
-        whole = λ name is kept. is_whole base_of e.world (moment e count) setup_of.servers r k_of f.0 (l.at count) (did e (log_by r) count) (l.stands count)
-            below.whole below.text (exist count) name is kept;
+        whole = λ name fact kept. is_whole base_of e.world (moment e count) setup_of.servers r k_of f.0 (l.at count) (did e (log_by r) count) (l.stands count)
+            below.whole below.text (exist count) name fact kept;
         one_text = λ name of. has_text base_of e.world (moment e count) setup_of.servers r k_of f.0 (l.at count) (did e (log_by r) count) (l.stands count)
             below.text name of;
       }

@@ -33,8 +33,8 @@ pub last_or_before : (m n : ℕ) → m ≤ suc n → (m ≡ suc n) ⊎ (m ≤ n)
 last_or_before m n limit = by (nat_le m n) refl
   where
     by : (t : Bool) → nat_le m n ≡ t → (m ≡ suc n) ⊎ (m ≤ n)
-    by true is = inr (grind (arith, nat_tests))
-    by false is = inl (grind (arith, nat_tests))
+    by true fact = inr (grind (arith, nat_tests))
+    by false fact = inl (grind (arith, nat_tests))
 
 nothing_below : (m : ℕ) → m ≤ 0 → m ≡ 0
 nothing_below m none = omega arith
@@ -94,13 +94,13 @@ module _ (base : Setting) (e : Estate AnyNode) (r : Role) (line : Line base e r)
       by_event count (slice_get e.events count) refl s here (λ before. flown_by_end count s before)
     where
       inside : {X : Type 0} (xs : List X) (i : ℕ) (x : X) → slice_get xs i ≡ Some x → i < length xs
-      inside [] i x is = absurd cc
-      inside (y ∷ xs) zero x is = omega arith
-      inside (y ∷ xs) (suc i) x is = (let l = inside xs i x is in omega arith)
+      inside [] i x fact = absurd cc
+      inside (y ∷ xs) zero x fact = omega arith
+      inside (y ∷ xs) (suc i) x fact = (let l = inside xs i x fact in omega arith)
 
       by_event : (n : ℕ) (o : Option Event) → slice_get e.events n ≡ o → (s : Segment) → In s (net (suc n)).flown
           → (In s (net n).flown → In s (net (length e.events)).flown)
           → In s (net (length e.events)).flown
-      by_event n None is s here rest = rest (subst (λ w. In s w.net.flown) (line.ended n is) here)
-      by_event n (Some event) is s here rest =
-          (grows (suc n) (length e.events) (let l = inside e.events n event is in omega arith)).flown s here
+      by_event n None fact s here rest = rest (subst (λ w. In s w.net.flown) (line.ended n fact) here)
+      by_event n (Some event) fact s here rest =
+          (grows (suc n) (length e.events) (let l = inside e.events n event fact in omega arith)).flown s here

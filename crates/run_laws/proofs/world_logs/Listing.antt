@@ -44,15 +44,15 @@ module _ (clients managers : ℕ) where
   has_owner log = (log.0 == 9) || (is_clients log.0 || is_managers log.0)
 
   any_left : (a b c : Bool) → a ≡ true → (b || (a || c)) ≡ true
-  any_left true true c is = refl
-  any_left true false c is = refl
-  any_left false b c is = absurd cc
+  any_left true true c fact = refl
+  any_left true false c fact = refl
+  any_left false b c fact = absurd cc
 
   any_right : (a b c : Bool) → c ≡ true → (b || (a || c)) ≡ true
-  any_right a true true is = refl
-  any_right true false true is = refl
-  any_right false false true is = refl
-  any_right a b false is = absurd cc
+  any_right a true true fact = refl
+  any_right true false true fact = refl
+  any_right false false true fact = refl
+  any_right a b false fact = absurd cc
 
   pub its_owner : managers ≤ 4 → (r : Role) → IsThere clients managers r → has_owner (record { 0 = log_by r }) ≡ true
   its_owner few (OfClient c) there =
@@ -62,25 +62,25 @@ module _ (clients managers : ℕ) where
   its_owner few OfCleaner there = refl
   its_owner few (OfManager j) there =
       (let l = log_by (OfManager j) in
-      let is = managers_log clients managers j few there in let some = there.0 in let limit = there.1 in
-      let inside : is_managers l ≡ true = grind (arith, nat_tests, is, some, limit) in
+      let fact = managers_log clients managers j few there in let some = there.0 in let limit = there.1 in
+      let inside : is_managers l ≡ true = grind (arith, nat_tests, fact, some, limit) in
       any_right (is_clients l) (l == 9) (is_managers l) inside)
 
   pub owner_of : managers ≤ 4 → (log : LogId) → has_owner log ≡ true → HasOwner clients managers log
   owner_of few log has = by (log.0 == 9) refl (is_clients log.0) refl (is_managers log.0) refl
     where
       by : (a : Bool) → (log.0 == 9) ≡ a → (b : Bool) → is_clients log.0 ≡ b → (c : Bool) → is_managers log.0 ≡ c → HasOwner clients managers log
-      by true is b at c there =
-          record { role = OfCleaner; there = tt; own = ap (λ n. record { 0 = n }) (grind (arith, nat_tests, is)) }
-      by false is true at c there = record { role = OfClient log.0; there = (grind (arith, nat_tests, at), grind (arith, nat_tests, at)); own = refl }
-      by false is false at true there =
+      by true fact b at c there =
+          record { role = OfCleaner; there = tt; own = ap (λ n. record { 0 = n }) (grind (arith, nat_tests, fact)) }
+      by false fact true at c there = record { role = OfClient log.0; there = (grind (arith, nat_tests, at), grind (arith, nat_tests, at)); own = refl }
+      by false fact false at true there =
           (let some : 9 < log.0 = grind (arith, nat_tests, there) in
           let limit : log.0 ≤ 9 + managers = grind (arith, nat_tests, there) in
           let j = log.0 - 9 in
           let within : (0 < j) × (j ≤ managers) = (omega arith, omega arith) in
           let its = managers_log clients managers j few within in
           record { role = OfManager j; there = within; own = ap (λ n. record { 0 = n }) (omega arith) })
-      by false is false at false there = (let none = has in absurd cc)
+      by false fact false at false there = (let none = has in absurd cc)
 
   -- ---- what is sent
 
@@ -107,7 +107,7 @@ module _ (clients managers : ℕ) where
 
   pub listed_of : (x : Body) (m : Listed) → x ≡ body.Listed m → CarriesOf has_owner x → (meta : FragMeta) → tables.In meta m.held
       → NameOf has_owner meta.name
-  listed_of x m is carries meta held = in_metas m.held (subst (CarriesOf has_owner) is carries) meta held
+  listed_of x m fact carries meta held = in_metas m.held (subst (CarriesOf has_owner) fact carries) meta held
 
   -- ---- what nodes hold
 

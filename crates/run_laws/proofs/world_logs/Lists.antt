@@ -7,24 +7,24 @@ use Rattle.wire_msg.specs.declared.packet.Packet.{Packet}
 use Rattle.world_base.specs.Runs.{WasSent}
 
 pub in_after : {X : Type 0} (xs ys : List X) (x : X) → In x ys → In x (xs ++ ys)
-in_after [] ys x is = is
-in_after (y ∷ xs) ys x is = inr (in_after xs ys x is)
+in_after [] ys x fact = fact
+in_after (y ∷ xs) ys x fact = inr (in_after xs ys x fact)
 
 pub in_before : {X : Type 0} (xs ys : List X) (x : X) → In x xs → In x (xs ++ ys)
-in_before [] ys x is = absurd is
+in_before [] ys x fact = absurd fact
 in_before (y ∷ xs) ys x (inl e) = inl e
-in_before (y ∷ xs) ys x (inr is) = inr (in_before xs ys x is)
+in_before (y ∷ xs) ys x (inr fact) = inr (in_before xs ys x fact)
 
 pub in_map : {X Y : Type 0} (f : X → Y) (xs : List X) (x : X) → In x xs → In (f x) (map f xs)
-in_map f [] x is = absurd is
+in_map f [] x fact = absurd fact
 in_map f (y ∷ xs) x (inl e) = inl (ap f e)
-in_map f (y ∷ xs) x (inr is) = inr (in_map f xs x is)
+in_map f (y ∷ xs) x (inr fact) = inr (in_map f xs x fact)
 
 -- the two words for membership
 pub in_listed : {X : Type 0} (xs : List X) (x : X) → tables.In x xs → In x xs
-in_listed [] x is = absurd is
+in_listed [] x fact = absurd fact
 in_listed (y ∷ xs) x (inl e) = inl e
-in_listed (y ∷ xs) x (inr is) = inr (in_listed xs x is)
+in_listed (y ∷ xs) x (inr fact) = inr (in_listed xs x fact)
 
 pub in_was : (sent : List Packet) (p : Packet) → In p sent → WasSent sent p
 in_was [] p h = absurd h
@@ -37,9 +37,9 @@ module _ {X : Type 0} (P : X → Type 0) where
   same_item y x e = cc
 
   pub all_at : (xs : List X) (place : ℕ) (x : X) → AllByRecursion P xs → slice_get xs place ≡ Some x → P x
-  all_at [] place x all is = absurd cc
-  all_at (y ∷ xs) zero x all is = subst P (same_item y x is) all.0
-  all_at (y ∷ xs) (suc place) x all is = all_at xs place x all.1 is
+  all_at [] place x all fact = absurd cc
+  all_at (y ∷ xs) zero x all fact = subst P (same_item y x fact) all.0
+  all_at (y ∷ xs) (suc place) x all fact = all_at xs place x all.1 fact
 
   pub all_set : (xs : List X) (place : ℕ) (y : X) → AllByRecursion P xs → P y → AllByRecursion P (slice_set xs place y)
   all_set [] place y all new = tt

@@ -55,7 +55,7 @@ module _ (laws : NodeLaws) (base : Setting) (end : World AnyNode) (setup : Setup
   module _ (nodes : List AnyNode) (sent : List Packet) (told : List Act) (place clock : ℕ) (what : Do)
       (fits : (q : Packet) → In q sent → PacketFits q.to q.body)
       (gets : (q : Packet) → what ≡ Deliver q → In q sent × (q.to ≡ Manager j)) (at : place_of k (Manager j) ≡ Some place) (node : ManagerNode)
-      (is : slice_get nodes place ≡ Some (any.Manager node)) (l : (v : Scene) × Stands g (OfManager j) v k nodes sent told) where
+      (fact : slice_get nodes place ≡ Some (any.Manager node)) (l : (v : Scene) × Stands g (OfManager j) v k nodes sent told) where
     abbrev packets : List Packet
     packets = (manager_step node what).packets
 
@@ -63,7 +63,7 @@ module _ (laws : NodeLaws) (base : Setting) (end : World AnyNode) (setup : Setup
     acts = (manager_step node what).acts
 
     seen : ManagerAgrees g j l.0 node.phase
-    seen = l.1.seen (Manager j) (any.Manager node) (ap (node_in nodes) at ∙ is) refl
+    seen = l.1.seen (Manager j) (any.Manager node) (ap (node_in nodes) at ∙ fact) refl
 
     pub number : (lasting_of node.phase).number ≡ j
     number = its_number g j l.0 node.phase seen
@@ -80,7 +80,7 @@ module _ (laws : NodeLaws) (base : Setting) (end : World AnyNode) (setup : Setup
         (sent ++ map (sent_at clock) packets) (told ++ (if t then acts else []))
     manager_mine t =
         turned g (OfManager j) l.0 goes.next k nodes sent told l.1 (Manager j) place clock at (any.Manager node)
-        (any.Manager (manager_step node what).node) is packets (if t then acts else [])
+        (any.Manager (manager_step node what).node) fact packets (if t then acts else [])
         (manager_owner_turn g j l.0 (asks_for_maps g j l.0 node.phase seen) (manager_step node what) goes (if t then acts else []) (in_those t acts))
 
     pub all_fit : All (λ (p : Packet). PacketFits p.to p.body) packets

@@ -21,7 +21,7 @@ asks_for_maps g j w (Serves s) h = h.lasts.asks
 
 module _ (g : Setting) (j : ℕ) (w v : Scene) (grown : Grown g w v) (asks : (k : ℕ) → w.asked k ≡ OfMaps) where
   for_maps : (q : Question) → q ≡ OfMaps → q ≡ Unasked → ⊥
-  for_maps q is none = (let clash : OfMaps ≡ Unasked = sym is ∙ none in absurd cc)
+  for_maps q fact none = (let clash : OfMaps ≡ Unasked = sym fact ∙ none in absurd cc)
 
   same : v.asked ≡ w.asked
   same = λ i k. grown.asked k (for_maps (w.asked k) (asks k)) i

@@ -106,19 +106,19 @@ module _ (high low : Reach) (log : ℕ) (less : high log ≤ low log) where
   one_log = record { 0 = log }
 
   lower : (n m : ℕ) → m ≡ log → n ≤ high m → n ≤ low m
-  lower n m is h = subst (λ l. n ≤ low l) (sym is) (through n (high log) (low log) (subst (λ l. n ≤ high l) is h) less)
+  lower n m fact h = subst (λ l. n ≤ low l) (sym fact) (through n (high log) (low log) (subst (λ l. n ≤ high l) fact h) less)
 
   from_lower : (from : NodeId) → fed_log from ≡ Some one_log → (n : ℕ) → LogReaches high (fed_log from) n → LogReaches low (fed_log from) n
-  from_lower from is n h =
-      subst (λ l. LogReaches low l n) (sym is) (through n (high log) (low log) (subst (λ l. LogReaches high l n) is h) less)
+  from_lower from fact n h =
+      subst (λ l. LogReaches low l n) (sym fact) (through n (high log) (low log) (subst (λ l. LogReaches high l n) fact h) less)
 
   pub body_lower : (from : NodeId) → fed_log from ≡ Some one_log → (m : Body) → NoHorizon m → BodyTells high from m → BodyTells low from m
-  body_lower from is (body.Deltas m) none h = from_lower from is m.upto h
-  body_lower from is (body.Report m) none h = from_lower from is m.end.seq h
-  body_lower from is (body.CkptDone m) none h = absurd none
-  body_lower from is (body.MapNews m) none h = absurd none
-  body_lower from is (body.Welcome m) none h = absurd none
-  body_lower from is _ none h = tt
+  body_lower from fact (body.Deltas m) none h = from_lower from fact m.upto h
+  body_lower from fact (body.Report m) none h = from_lower from fact m.end.seq h
+  body_lower from fact (body.CkptDone m) none h = absurd none
+  body_lower from fact (body.MapNews m) none h = absurd none
+  body_lower from fact (body.Welcome m) none h = absurd none
+  body_lower from fact _ none h = tt
 
   stage_lower : (at : Stage) → StageReaches high log at → StageReaches low log at
   stage_lower (stage.Scanning s) h = record { own = h.own; low = λ some. (let a = h.low some in omega (arith, a, less)); chain = h.chain }
@@ -128,13 +128,13 @@ module _ (high low : Reach) (log : ℕ) (less : high log ≤ low log) where
   opening_lower o h = record { own = h.own; stage = stage_lower o.stage h.stage }
 
   pub client_lower : (p : Phase) → (lasting_of p).number ≡ log → client_reach.PhaseReaches high p → client_reach.PhaseReaches low p
-  client_lower (clients.Down l) is h = tt
-  client_lower (clients.Opening l o) is h = subst (λ n. OpeningReaches low n o) (sym is) (opening_lower o (subst (λ n. OpeningReaches high n o) is h))
-  client_lower (clients.Serving s) is h =
-      record { end = lower s.log.end.seq s.lasting.number is h.end; feed = lower s.feed.end s.lasting.number is h.feed }
+  client_lower (clients.Down l) fact h = tt
+  client_lower (clients.Opening l o) fact h = subst (λ n. OpeningReaches low n o) (sym fact) (opening_lower o (subst (λ n. OpeningReaches high n o) fact h))
+  client_lower (clients.Serving s) fact h =
+      record { end = lower s.log.end.seq s.lasting.number fact h.end; feed = lower s.feed.end s.lasting.number fact h.feed }
 
   pub cleaner_lower : (p : cleaner_phases.Phase) → cleaner_log.0 ≡ log → cleaner_reach.PhaseReaches high p → cleaner_reach.PhaseReaches low p
-  cleaner_lower (cleaning.Down l) is h = tt
-  cleaner_lower (cleaning.Opening l o) is h = subst (λ n. OpeningReaches low n o) (sym is) (opening_lower o (subst (λ n. OpeningReaches high n o) is h))
-  cleaner_lower (cleaning.Serving e) is h =
-      record { end = lower e.log.end.seq cleaner_log.0 is h.end; feed = lower e.feed.end cleaner_log.0 is h.feed }
+  cleaner_lower (cleaning.Down l) fact h = tt
+  cleaner_lower (cleaning.Opening l o) fact h = subst (λ n. OpeningReaches low n o) (sym fact) (opening_lower o (subst (λ n. OpeningReaches high n o) fact h))
+  cleaner_lower (cleaning.Serving e) fact h =
+      record { end = lower e.log.end.seq cleaner_log.0 fact h.end; feed = lower e.feed.end cleaner_log.0 fact h.feed }

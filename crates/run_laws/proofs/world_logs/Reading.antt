@@ -62,10 +62,10 @@ decide a b = ⊎_elim
 
 -- a segment of this name, or none
 pub look : (name : SegName) (xs : List Segment) → ((s : Segment) × tables.In s xs × (s.name ≡ name)) ⊎ ((s : Segment) → tables.In s xs → s.name ≡ name → ⊥)
-look name [] = inr (λ s is e. is)
+look name [] = inr (λ s fact e. fact)
 look name (x ∷ xs) = ⊎_elim (λ e. inl (x, inl refl, e))
     (λ no. ⊎_elim (λ (f : (s : Segment) × tables.In s xs × (s.name ≡ name)). inl (f.0, inr f.1, f.2))
-    (λ none. inr (λ s is e. ⊎_elim (λ same. no (ap (λ (z : Segment). z.name) (sym same) ∙ e)) (λ later. none s later e) is)) (look name xs))
+    (λ none. inr (λ s fact e. ⊎_elim (λ same. no (ap (λ (z : Segment). z.name) (sym same) ∙ e)) (λ later. none s later e) fact)) (look name xs))
     (decide x.name name)
 
 -- a server that has a shelf
@@ -75,12 +75,12 @@ record HasShelf (x : Option AnyNode) (shelf : ShelfState) : Type 0 where
   its : node.shelf ≡ shelf
 
 has_shelf : (x : Option AnyNode) (shelf : ShelfState) → shelf_of x ≡ Some shelf → HasShelf x shelf
-has_shelf None shelf is = absurd cc
-has_shelf (Some (any.Client node)) shelf is = absurd cc
-has_shelf (Some (any.Manager node)) shelf is = absurd cc
-has_shelf (Some (any.Server node)) shelf is = record { node = node; kind = refl; its = one_node node.shelf shelf is }
-has_shelf (Some (any.Cleaner node)) shelf is = absurd cc
-has_shelf (Some (any.Registry node)) shelf is = absurd cc
+has_shelf None shelf fact = absurd cc
+has_shelf (Some (any.Client node)) shelf fact = absurd cc
+has_shelf (Some (any.Manager node)) shelf fact = absurd cc
+has_shelf (Some (any.Server node)) shelf fact = record { node = node; kind = refl; its = one_node node.shelf shelf fact }
+has_shelf (Some (any.Cleaner node)) shelf fact = absurd cc
+has_shelf (Some (any.Registry node)) shelf fact = absurd cc
 
 -- ---- a moment
 
@@ -97,11 +97,11 @@ module _ (base : Setting) (end w : World AnyNode) (servers : ℕ) (r : Role) (k 
 
   -- the node of a name stands there as it is seen
   here : (name : NodeId) (x : AnyNode) → node_named w name ≡ Some x → node_in w.nodes (place_of k name) ≡ Some x
-  here name x is = subst (λ cl. node_in w.nodes (place_of cl name) ≡ Some x) cluster is
+  here name x fact = subst (λ cl. node_in w.nodes (place_of cl name) ≡ Some x) cluster fact
 
   shelf_is : (u : ℕ) (shelf : ShelfState) → shelf_at w u ≡ Some shelf → net.shelves u ≡ shelf
-  shelf_is u shelf is =
-      let h : HasShelf (node_named w (Server u)) shelf = has_shelf (node_named w (Server u)) shelf is in
+  shelf_is u shelf fact =
+      let h : HasShelf (node_named w (Server u)) shelf = has_shelf (node_named w (Server u)) shelf fact in
       let seen : ServerSeen g net u h.node = st.seen (Server u) (any.Server h.node) (here (Server u) (any.Server h.node) h.kind) in
       seen.shelf ∙ h.its
 
@@ -117,7 +117,7 @@ module _ (base : Setting) (end w : World AnyNode) (servers : ℕ) (r : Role) (k 
     -- a fragment of a segment of this name is one of this segment
     of_it : (f : Fragment) (t : Segment) → tables.In t net.flown → t.name ≡ name → f ≡ fragment_of g t f.meta.index
         → f ≡ piece its group f.meta.index
-    of_it f t is e cut = cut ∙ ap (λ (z : Segment). fragment_of g z f.meta.index) (only t is e) ∙ cut_so f.meta.index
+    of_it f t fact e cut = cut ∙ ap (λ (z : Segment). fragment_of g z f.meta.index) (only t fact e) ∙ cut_so f.meta.index
 
     named_so : (f : Fragment) (t : Segment) → f ≡ fragment_of g t f.meta.index → f.meta.name ≡ name → t.name ≡ name
     named_so f t cut e = ap (λ (z : Fragment). z.meta.name) (sym cut) ∙ e
@@ -127,18 +127,18 @@ module _ (base : Setting) (end w : World AnyNode) (servers : ℕ) (r : Role) (k 
 
     seen_as : (packet : Packet) (m : Body) (to : NodeId) → WasSent w.sent packet → packet.to ≡ to → packet.body ≡ m
         → BodySeen g (asker_by r v) net packet.from to m
-    seen_as packet m to was at is =
-        subst (BodySeen g (asker_by r v) net packet.from to) is
+    seen_as packet m to was at fact =
+        subst (BodySeen g (asker_by r v) net packet.from to) fact
         (subst (λ t. BodySeen g (asker_by r v) net packet.from t packet.body) at (st.facts packet (was_sent w.sent packet was)))
 
     text : IsText w name its group
     text = record {
-      held = λ u shelf f at is.
-          (let t = one.held u name f of (subst (λ (s : ShelfState). held_at s.held name ≡ Some f) (sym (shelf_is u shelf at)) is) in of_it f t.0 t.1 t.2 t.3);
-      stored = λ u packet m was to is e.
-          (let t = one.stored u m.generation m.fragment (seen_as packet (body.Store m) (Server u) was to is (ours m.fragment.meta.name e)) in
+      held = λ u shelf f at fact.
+          (let t = one.held u name f of (subst (λ (s : ShelfState). held_at s.held name ≡ Some f) (sym (shelf_is u shelf at)) fact) in of_it f t.0 t.1 t.2 t.3);
+      stored = λ u packet m was to fact e.
+          (let t = one.stored u m.generation m.fragment (seen_as packet (body.Store m) (Server u) was to fact (ours m.fragment.meta.name e)) in
           of_it m.fragment t.0 t.1 (named_so m.fragment t.0 t.2 e) t.2);
-      told = λ packet m was is e. (let t = one.told m.fragment (seen_as packet (body.Fragment m) packet.to was refl is (ours m.fragment.meta.name e)) in
+      told = λ packet m was fact e. (let t = one.told m.fragment (seen_as packet (body.Fragment m) packet.to was refl fact (ours m.fragment.meta.name e)) in
           of_it m.fragment t.0 t.1 (named_so m.fragment t.0 t.2 e) t.2);
     }
 
@@ -146,13 +146,13 @@ module _ (base : Setting) (end w : World AnyNode) (servers : ℕ) (r : Role) (k 
 
   module _ (law : LogsStayWhole) (texts : OneNameOneText)
       (exist : (id : ℕ) (group : Group) → group_at end id ≡ Some group → (place : ℕ) → place < length group.members
-      → (shelf : ShelfState) × (shelf_at w (server_of group.members place) ≡ Some shelf)) (name : SegName) (is : In (act.Filed name) told)
+      → (shelf : ShelfState) × (shelf_at w (server_of group.members place) ≡ Some shelf)) (name : SegName) (fact : In (act.Filed name) told)
       (kept : NotDeleted w name) where
     all : LogsWhole g net
     all = law g net st.moment
 
     filed : tables.In name net.filed
-    filed = st.filed name is
+    filed = st.filed name fact
 
     abbrev its : (s : Segment) × tables.In s net.flown × (s.name ≡ name)
     its = all.flown name filed
@@ -189,7 +189,7 @@ module _ (base : Setting) (end w : World AnyNode) (servers : ℕ) (r : Role) (k 
     -- it is the one segment of the name
     its_text : name.log ≡ log_of c → IsText w name segment group
     its_text of =
-        text texts name of segment (λ t is e. (texts g net st.moment).one t segment is its.1 (e ∙ sym its.2)) group
+        text texts name of segment (λ t fact e. (texts g net st.moment).one t segment fact its.1 (e ∙ sym its.2)) group
         (λ i. ap (λ (s : Stripe). fragment_over segment s i) (ap stripe_by grouped.1))
 
     pub is_whole : IsWhole end w c name
@@ -200,10 +200,10 @@ module _ (base : Setting) (end w : World AnyNode) (servers : ℕ) (r : Role) (k 
   module _ (law : OneNameOneText) (name : SegName) (of : name.log ≡ log_of c) where
     -- the segment of the name, where there is one
     abbrev picked : (s : Segment) × ((t : Segment) → tables.In t net.flown → t.name ≡ name → t ≡ s)
-    picked = ⊎_elim (λ (f : (s : Segment) × tables.In s net.flown × (s.name ≡ name)). (f.0, λ t is e. (law g net st.moment).one t f.0 is f.1 (e ∙ sym f.2)))
+    picked = ⊎_elim (λ (f : (s : Segment) × tables.In s net.flown × (s.name ≡ name)). (f.0, λ t fact e. (law g net st.moment).one t f.0 fact f.1 (e ∙ sym f.2)))
         (λ none. (
           record { name = name; prior = record { pass = record { inc = 0; att = 0 }; group = 0 }; group = 0; items = [] },
-          λ t is e. absurd (none t is e),
+          λ t fact e. absurd (none t fact e),
         )) (look name net.flown)
 
     abbrev segment_here : Segment
@@ -226,9 +226,9 @@ module _ (base : Setting) (end w : World AnyNode) (servers : ℕ) (r : Role) (k 
   pub members_exist : (b : RegistryNode) → node_in w.nodes (place_of k Registry) ≡ Some (any.Registry b) → (id : ℕ) (group : Group)
       → group_at w id ≡ Some group → (place : ℕ) → place < length group.members
       → IsServer servers (server_of group.members place)
-  members_exist b at id group is place below =
+  members_exist b at id group fact place below =
       let seen : RegistrySeen g net b.board = st.seen Registry (any.Registry b) at in
       let named : node_named w Registry ≡ Some (any.Registry b) =
       subst (λ cl. node_in w.nodes (place_of cl Registry) ≡ Some (any.Registry b)) (sym cluster) at in
-      let found = ap (λ o. group_in (groups_of o) id) (sym named) ∙ is in
+      let found = ap (λ o. group_in (groups_of o) id) (sym named) ∙ fact in
       subst (λ n. IsServer n (server_of group.members place)) seen.size ((its_stripe b.board.groups seen.map id group found).exist place no_member below)

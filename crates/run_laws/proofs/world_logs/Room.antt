@@ -18,7 +18,7 @@ use Rattle.client_node.specs.declared.client.Client.{Client as ClientNode}
 use Rattle.client_node.specs.declared.phase.Phase.TheVariants as clients
 use Rattle.client_node.specs.declared.phase.Phase.{Phase}
 use Rattle.client_node.specs.Phases.{client_room, client_step, happens, lasting_of, phase_room, takes}
-use Rattle.client_serving.specs.Packets.{tokens_room}
+use Rattle.client_node.specs.Room.{tokens_room}
 use Rattle.log_law.specs.Events.{Runs}
 use Rattle.log_law.specs.Laws.{Moment}
 use Rattle.log_law.specs.Net.{Net, Owner}
@@ -71,7 +71,7 @@ module _ (law : FliesNext) (g : Setting) (n o : Net) (at : Moment g n) (run : Ru
 
 -- an opening that scans has room
 pub scan_has_room : (n : Net) (s : ScanState) → n.owner ≡ Opening s → IsRoomy n → AllHaveNext n
-scan_has_room n s is room x among = ⊎_elim (λ has. has) (λ low. first_next x.name.seq (let e = ap next_number is in omega arith)) (room x among)
+scan_has_room n s fact room x among = ⊎_elim (λ has. has) (λ low. first_next x.name.seq (let e = ap next_number fact in omega arith)) (room x among)
 
 -- ---- whose owner is the one of its phase
 

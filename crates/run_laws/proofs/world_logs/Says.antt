@@ -129,10 +129,10 @@ OfLog d (body.Store m) = m.fragment.meta.name.log.0 ≡ d
 OfLog d (body.Fence m) = m.log.0 ≡ d
 OfLog d _ = Unit {0}
 
-module _ (g : Setting) (r : Role) (is : IsOf g r) (w : Scene) where
+module _ (g : Setting) (r : Role) (fact : IsOf g r) (w : Scene) where
   -- a number that is tested to be the log's is the owner's
   of_owner : (n : ℕ) → (n == g.log.0) ≡ true → n ≡ log_by r
-  of_owner n t = equal n g.log.0 t ∙ ap (λ (l : LogId). l.0) is.0
+  of_owner n t = equal n g.log.0 t ∙ ap (λ (l : LogId). l.0) fact.0
 
   -- what the owner of another log sends
   module _ (d : ℕ) (other : d ≡ log_by r → ⊥) (from : NodeId) (away : from ≡ owner_by r → ⊥)

@@ -32,18 +32,18 @@ module _ (base : Setting) (end : World AnyNode) (servers : ℕ) where
 
 numbered_below : (first id : ℕ) (gs : List Group) (group : Group) → IsNumbered first gs → find (λ (g : Group). g.id == id) gs ≡ Some group
     → group.id < first + length gs
-numbered_below first id [] group numbered is = absurd cc
-numbered_below first id (g ∷ gs) group numbered is =
+numbered_below first id [] group numbered fact = absurd cc
+numbered_below first id (g ∷ gs) group numbered fact =
     by_test (λ (o : Option Group). o ≡ Some group → group.id < first + length (g ∷ gs)) (g.id == id) (Some g) (find (λ (x : Group). x.id == id) gs)
     (λ t e. let same : g.id ≡ group.id = ap (λ (o : Option Group). (unwrap_or o g).id) e in let n = numbered.0 in omega arith)
-    (λ t e. let below = numbered_below (first + 1) id gs group numbered.1 e in omega arith) is
+    (λ t e. let below = numbered_below (first + 1) id gs group numbered.1 e in omega arith) fact
 
 -- a group is found by its id
 found_id : (id : ℕ) (gs : List Group) (group : Group) → find (λ (g : Group). g.id == id) gs ≡ Some group → group.id ≡ id
-found_id id [] group is = absurd cc
-found_id id (g ∷ gs) group is =
+found_id id [] group fact = absurd cc
+found_id id (g ∷ gs) group fact =
     by_test (λ (o : Option Group). o ≡ Some group → group.id ≡ id) (g.id == id) (Some g) (find (λ (x : Group). x.id == id) gs)
-    (λ t e. ap (λ (o : Option Group). (unwrap_or o g).id) (sym e) ∙ equal g.id id t) (λ t e. found_id id gs group e) is
+    (λ t e. ap (λ (o : Option Group). (unwrap_or o g).id) (sym e) ∙ equal g.id id t) (λ t e. found_id id gs group e) fact
 
 -- the ids of the groups of a map fit their range
 pub map_fits : (m : GroupMapState) → IsGroupMap m → MapFits m
@@ -58,14 +58,14 @@ map_fits m ok log seq =
 
 -- so are those that the registry has at the end of the run
 pub ids_fit : (o : Option AnyNode) → HasMap o → (id : ℕ) (group : Group) → group_in (groups_of o) id ≡ Some group → id < 2 ^ 32
-ids_fit o map id group is = by (groups_of o) refl is
+ids_fit o map id group fact = by (groups_of o) refl fact
   where
     by : (m : Option GroupMapState) → groups_of o ≡ m → group_in m id ≡ Some group → id < 2 ^ 32
-    by None at is = absurd cc
-    by (Some m) at is =
+    by None at fact = absurd cc
+    by (Some m) at fact =
         let ok : IsGroupMap m = map m at in
-        let below = numbered_below 1 id m.groups group ok.by_id is in
-        let same = found_id id m.groups group is in
+        let below = numbered_below 1 id m.groups group ok.by_id fact in
+        let same = found_id id m.groups group fact in
         let few = ok.few in omega arith
 
 -- the groups of a map that names stripes of the run are among those, and their ids fit too

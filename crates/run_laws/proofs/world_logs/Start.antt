@@ -59,7 +59,7 @@ first_asked (OfManager j) k = OfMaps
 
 module _ (clients : ClientStarts) (owner : OwnerStarts) (managers : ManagerStarts) (servers : ServerStarts) (cleaners : CleanerStarts)
     (registries : RegistryStarts) (script : Script) (ok : IsSetup script.setup)
-    (g : Setting) (r : Role) (is : IsOf g r) (size : script.setup.servers ≡ g.servers) (is_there : IsThere script.setup.clients script.setup.managers r)
+    (g : Setting) (r : Role) (fact : IsOf g r) (size : script.setup.servers ≡ g.servers) (is_there : IsThere script.setup.clients script.setup.managers r)
     (named : NamesGroups g (groups.started script.setup.servers script.setup.groups)) where
   abbrev setup : Setup
   setup = script.setup
@@ -108,10 +108,10 @@ module _ (clients : ClientStarts) (owner : OwnerStarts) (managers : ManagerStart
 
   starts : (name : NodeId) (p : ℕ) → place_of (cluster_of script.setup) name ≡ Some p → (items : List Work)
       → Seen g r first_scene name (any_start name setup items)
-  starts (Client d) p at items = client_so r is is_there d items
-  starts (Manager j) p at items = manager_so r is j items
+  starts (Client d) p at items = client_so r fact is_there d items
+  starts (Manager j) p at items = manager_so r fact j items
   starts (Server v) p at items = servers g (opening g map) v setup items refl (record { named = whole.named; cut = whole.cut })
-  starts Cleaner p at items = cleaner_so r is items
+  starts Cleaner p at items = cleaner_so r fact items
   starts Registry p at items = registry_so items
 
   abbrev k : Cluster

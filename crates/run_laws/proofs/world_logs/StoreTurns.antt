@@ -35,7 +35,7 @@ use Rattle.xfs_base.specs.declared.node.NodeId.{NodeId}
 use Rattle.xfs_base.specs.declared.node.NodeId.TheVariants.{Server, Cleaner, Registry}
 use Rattle.xfs_base.specs.declared.segment.SegName.{SegName}
 
-module _ (g : Setting) (r : Role) (is : IsOf g r) (w : Scene) (next : Net) (run : Runs g w.net next) where
+module _ (g : Setting) (r : Role) (fact : IsOf g r) (w : Scene) (next : Net) (run : Runs g w.net next) where
   abbrev pub after : Scene
   after = record w { net = next }
 
@@ -71,12 +71,12 @@ module _ (g : Setting) (r : Role) (is : IsOf g r) (w : Scene) (next : Net) (run 
   keeps name inc owner flown shelves known = record {
     client = λ d differs p h. client_as r d p inc owner flown h;
     server = λ u differs node h. server_still g w.net next later u node (shelves u differs) h;
-    cleaner = λ differs p h. cleaner_as r is p inc owner flown h;
+    cleaner = λ differs p h. cleaner_as r fact p inc owner flown h;
     manager = λ j differs p h. manager_as r j p inc owner h;
     registry = λ differs b h. registry_still g w.net next later b (known differs).0 (known differs).1 h;
   }
 
-module _ (g : Setting) (r : Role) (is : IsOf g r) (w : Scene) where
+module _ (g : Setting) (r : Role) (fact : IsOf g r) (w : Scene) where
   pub server_turn : (v : ℕ) (node : ServerNode) (what : Do) (go : ServerGoes g (asker_by r w) w.net v node what)
       → Turn g r w (record w { net = go.next }) (Server v) (any.Server (server_step node what).node) (server_step node what).packets []
   server_turn v node what go = record {
@@ -86,10 +86,10 @@ module _ (g : Setting) (r : Role) (is : IsOf g r) (w : Scene) where
     puts = λ e. absurd (no_server r v e);
     left = λ away. left_by w.net go.next (ap its_of go.rest);
     there = go.seen;
-    others = keeps g r is w go.next go.runs (Server v) (ap (λ (n : Net). n.inc) go.rest) (ap (λ (n : Net). n.owner) go.rest)
+    others = keeps g r fact w go.next go.runs (Server v) (ap (λ (n : Net). n.inc) go.rest) (ap (λ (n : Net). n.owner) go.rest)
         (ap (λ (n : Net). n.flown) go.rest) (λ u differs. go.shelves u (λ e. differs (ap Server e)))
         (λ differs. (ap (λ (n : Net). n.registry) go.rest, ap (λ (n : Net). n.low) go.rest));
-    facts = facts g r is w go.next go.runs;
+    facts = facts g r fact w go.next go.runs;
     sends = go.sends;
     filed = λ n h. subst (tables.In n) (ap (λ (x : Net). x.filed) (sym go.rest)) h;
     files = λ n h. absurd h;
@@ -105,10 +105,10 @@ module _ (g : Setting) (r : Role) (is : IsOf g r) (w : Scene) where
     puts = λ e. absurd (no_registry r e);
     left = λ away. left_by w.net go.next (ap its_of go.rest);
     there = go.seen;
-    others = keeps g r is w go.next go.runs Registry (ap (λ (n : Net). n.inc) go.rest) (ap (λ (n : Net). n.owner) go.rest)
+    others = keeps g r fact w go.next go.runs Registry (ap (λ (n : Net). n.inc) go.rest) (ap (λ (n : Net). n.owner) go.rest)
         (ap (λ (n : Net). n.flown) go.rest)
         (λ u differs. ap (λ (n : Net). n.shelves u) go.rest) (λ differs. absurd (differs refl));
-    facts = facts g r is w go.next go.runs;
+    facts = facts g r fact w go.next go.runs;
     sends = go.sends;
     filed = λ n h. subst (tables.In n) (ap (λ (x : Net). x.filed) (sym go.rest)) h;
     files = λ n h. absurd h;
@@ -126,10 +126,10 @@ module _ (g : Setting) (r : Role) (is : IsOf g r) (w : Scene) where
     puts = λ e. absurd (away e);
     left = λ no. left_by w.net go.next (ap its_of go.rest);
     there = seen (record w { net = go.next }) (cleaner_step node what).node.phase go.seen;
-    others = keeps g r is w go.next go.runs Cleaner (ap (λ (n : Net). n.inc) go.rest) (ap (λ (n : Net). n.owner) go.rest)
+    others = keeps g r fact w go.next go.runs Cleaner (ap (λ (n : Net). n.inc) go.rest) (ap (λ (n : Net). n.owner) go.rest)
         (ap (λ (n : Net). n.flown) go.rest)
         (λ u differs. ap (λ (n : Net). n.shelves u) go.rest) (λ differs. (ap (λ (n : Net). n.registry) go.rest, ap (λ (n : Net). n.low) go.rest));
-    facts = facts g r is w go.next go.runs;
+    facts = facts g r fact w go.next go.runs;
     sends = go.sends;
     filed = λ n h. subst (tables.In n) (ap (λ (x : Net). x.filed) (sym go.rest)) h;
     files = λ n h. absurd h;

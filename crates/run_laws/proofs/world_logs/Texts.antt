@@ -21,18 +21,18 @@ use Rattle.xfs_base.specs.declared.segment.SegName.{SegName}
 -- ---- lists
 
 in_left : {X : Type 0} (xs ys : List X) (x : X) → In x xs → In x (xs ++ ys)
-in_left [] ys x is = absurd is
+in_left [] ys x fact = absurd fact
 in_left (y ∷ xs) ys x (inl e) = inl e
-in_left (y ∷ xs) ys x (inr is) = inr (in_left xs ys x is)
+in_left (y ∷ xs) ys x (inr fact) = inr (in_left xs ys x fact)
 
 in_right : {X : Type 0} (xs ys : List X) (x : X) → In x ys → In x (xs ++ ys)
-in_right [] ys x is = is
-in_right (y ∷ xs) ys x is = inr (in_right xs ys x is)
+in_right [] ys x fact = fact
+in_right (y ∷ xs) ys x fact = inr (in_right xs ys x fact)
 
 in_either : {X : Type 0} (xs ys : List X) (x : X) → In x (xs ++ ys) → In x xs ⊎ In x ys
-in_either [] ys x is = inr is
+in_either [] ys x fact = inr fact
 in_either (y ∷ xs) ys x (inl e) = inl (inl e)
-in_either (y ∷ xs) ys x (inr is) = ⊎_elim (λ here. inl (inr here)) (λ there. inr there) (in_either xs ys x is)
+in_either (y ∷ xs) ys x (inr fact) = ⊎_elim (λ here. inl (inr here)) (λ there. inr there) (in_either xs ys x fact)
 
 -- ---- counts
 
@@ -80,26 +80,26 @@ module _ (law : OneNameOneText) (own : WhatFlewIsOfTheLog) (base : Setting) (e :
 
   from_clients : (c : ℕ) (limit : c ≤ clients) (s : Segment) → In s (of_clients c limit) → Flew s
   unfolding of_clients
-  from_clients zero limit s is = absurd is
-  from_clients (suc c) limit s is =
+  from_clients zero limit s fact = absurd fact
+  from_clients (suc c) limit s fact =
       ⊎_elim (λ here. record { role = OfClient (suc c); there = counted c clients limit; here = here })
       (λ more. from_clients c (one_less c clients limit) s more)
-      (in_either (flown_in (OfClient (suc c)) (counted c clients limit)) (of_clients c (one_less c clients limit)) s is)
+      (in_either (flown_in (OfClient (suc c)) (counted c clients limit)) (of_clients c (one_less c clients limit)) s fact)
 
   from_managers : (j : ℕ) (limit : j ≤ managers) (s : Segment) → In s (of_managers j limit) → Flew s
   unfolding of_managers
-  from_managers zero limit s is = absurd is
-  from_managers (suc j) limit s is =
+  from_managers zero limit s fact = absurd fact
+  from_managers (suc j) limit s fact =
       ⊎_elim (λ here. record { role = OfManager (suc j); there = counted j managers limit; here = here })
       (λ more. from_managers j (one_less j managers limit) s more)
-      (in_either (flown_in (OfManager (suc j)) (counted j managers limit)) (of_managers j (one_less j managers limit)) s is)
+      (in_either (flown_in (OfManager (suc j)) (counted j managers limit)) (of_managers j (one_less j managers limit)) s fact)
 
   flew : (s : Segment) → In s all_flown → Flew s
   unfolding all_flown
-  flew s is = ⊎_elim (λ here. from_clients clients (all_of clients) s here)
+  flew s fact = ⊎_elim (λ here. from_clients clients (all_of clients) s here)
       (λ rest. ⊎_elim (λ here. record { role = OfCleaner; there = tt; here = here }) (λ more. from_managers managers (all_of managers) s more)
       (in_either (flown_in OfCleaner tt) (of_managers managers (all_of managers)) s rest))
-      (in_either (of_clients clients (all_of clients)) (flown_in OfCleaner tt ++ of_managers managers (all_of managers)) s is)
+      (in_either (of_clients clients (all_of clients)) (flown_in OfCleaner tt ++ of_managers managers (all_of managers)) s fact)
 
   -- it is among them, whichever way its log is known to be there
   there_prop : (r : Role) (a b : There r) → a ≡ b
@@ -108,42 +108,42 @@ module _ (law : OneNameOneText) (own : WhatFlewIsOfTheLog) (base : Setting) (e :
   there_prop (OfManager j) a b = λ i. (le_prop a.0 b.0 i, le_prop a.1 b.1 i)
 
   moved : (s : Segment) (r q : Role) → r ≡ q → (h : There r) (m : There q) → In s (flown_in r h) → In s (flown_in q m)
-  moved s r q same h m is =
-      subst (λ x. (n : There x) → In s (flown_in x n)) same (λ n. subst (λ z. In s (flown_in r z)) (there_prop r h n) is) m
+  moved s r q same h m fact =
+      subst (λ x. (n : There x) → In s (flown_in x n)) same (λ n. subst (λ z. In s (flown_in r z)) (there_prop r h n) fact) m
 
   in_clients : (s : Segment) (c : ℕ) (limit : c ≤ clients) (d : ℕ) (h : There (OfClient d)) → d ≤ c → In s (flown_in (OfClient d) h)
       → In s (of_clients c limit)
   unfolding of_clients
-  in_clients s zero limit d h less is = absurd (let some = h.0 in omega arith)
-  in_clients s (suc c) limit d h less is = ⊎_elim
+  in_clients s zero limit d h less fact = absurd (let some = h.0 in omega arith)
+  in_clients s (suc c) limit d h less fact = ⊎_elim
       (λ same. in_left (flown_in (OfClient (suc c)) (counted c clients limit)) (of_clients c (one_less c clients limit)) s
-      (moved s (OfClient d) (OfClient (suc c)) (ap OfClient same) h (counted c clients limit) is))
+      (moved s (OfClient d) (OfClient (suc c)) (ap OfClient same) h (counted c clients limit) fact))
       (λ before. in_right (flown_in (OfClient (suc c)) (counted c clients limit)) (of_clients c (one_less c clients limit)) s
-      (in_clients s c (one_less c clients limit) d h before is))
+      (in_clients s c (one_less c clients limit) d h before fact))
       (last_or_before d c less)
 
   in_managers : (s : Segment) (j : ℕ) (limit : j ≤ managers) (d : ℕ) (h : There (OfManager d)) → d ≤ j → In s (flown_in (OfManager d) h)
       → In s (of_managers j limit)
   unfolding of_managers
-  in_managers s zero limit d h less is = absurd (let some = h.0 in omega arith)
-  in_managers s (suc j) limit d h less is = ⊎_elim
+  in_managers s zero limit d h less fact = absurd (let some = h.0 in omega arith)
+  in_managers s (suc j) limit d h less fact = ⊎_elim
       (λ same. in_left (flown_in (OfManager (suc j)) (counted j managers limit)) (of_managers j (one_less j managers limit)) s
-      (moved s (OfManager d) (OfManager (suc j)) (ap OfManager same) h (counted j managers limit) is))
+      (moved s (OfManager d) (OfManager (suc j)) (ap OfManager same) h (counted j managers limit) fact))
       (λ before. in_right (flown_in (OfManager (suc j)) (counted j managers limit)) (of_managers j (one_less j managers limit)) s
-      (in_managers s j (one_less j managers limit) d h before is))
+      (in_managers s j (one_less j managers limit) d h before fact))
       (last_or_before d j less)
 
   among_all : (s : Segment) (r : Role) (h : There r) → In s (flown_in r h) → In s all_flown
   unfolding all_flown
-  among_all s (OfClient c) h is =
+  among_all s (OfClient c) h fact =
       in_left (of_clients clients (all_of clients)) (flown_in OfCleaner tt ++ of_managers managers (all_of managers)) s
-      (in_clients s clients (all_of clients) c h h.1 is)
-  among_all s OfCleaner h is =
+      (in_clients s clients (all_of clients) c h h.1 fact)
+  among_all s OfCleaner h fact =
       in_right (of_clients clients (all_of clients)) (flown_in OfCleaner tt ++ of_managers managers (all_of managers)) s
-      (in_left (flown_in OfCleaner tt) (of_managers managers (all_of managers)) s is)
-  among_all s (OfManager j) h is =
+      (in_left (flown_in OfCleaner tt) (of_managers managers (all_of managers)) s fact)
+  among_all s (OfManager j) h fact =
       in_right (of_clients clients (all_of clients)) (flown_in OfCleaner tt ++ of_managers managers (all_of managers)) s
-      (in_right (flown_in OfCleaner tt) (of_managers managers (all_of managers)) s (in_managers s managers (all_of managers) j h h.1 is))
+      (in_right (flown_in OfCleaner tt) (of_managers managers (all_of managers)) s (in_managers s managers (all_of managers) j h h.1 fact))
 
   -- ---- no two logs have one number
 
@@ -168,16 +168,16 @@ module _ (law : OneNameOneText) (own : WhatFlewIsOfTheLog) (base : Setting) (e :
   any name = record { name = name; prior = record { pass = record { inc = 0; att = 0 }; group = 0 }; group = 0; items = [] }
 
   its_log : (r : Role) (h : There r) (s : Segment) → In s (flown_in r h) → s.name.log ≡ (setting base e r).log
-  its_log r h s is = own (setting base e r) ((lines r h).at (length e.events)).net ((lines r h).stands (length e.events)).moment s is
+  its_log r h s fact = own (setting base e r) ((lines r h).at (length e.events)).net ((lines r h).stands (length e.events)).moment s fact
 
   -- the one that is found is that of any log
   found_is : (r : Role) (h : There r) (s : Segment) → In s (flown_in r h) → (f : Found s.name) → f.0 ≡ s
-  found_is r h s is f =
+  found_is r h s fact f =
       let w : Flew f.0 = flew f.0 f.1 in
       let log : log_by w.role ≡ log_by r =
-      ap (λ (l : LogId). l.0) (sym (its_log w.role w.there f.0 w.here) ∙ (ap (λ (name : SegName). name.log) f.2 ∙ its_log r h s is)) in
+      ap (λ (l : LogId). l.0) (sym (its_log w.role w.there f.0 w.here) ∙ (ap (λ (name : SegName). name.log) f.2 ∙ its_log r h s fact)) in
       one_text base e r (lines r h) law (length e.events) (length e.events) f.0 s
-      (moved f.0 w.role r (one_role w.role r w.there h log) w.there h w.here) is f.2
+      (moved f.0 w.role r (one_role w.role r w.there h log) w.there h w.here) fact f.2
 
   abbrev chosen : (name : SegName) → Found name ⊎ ((s : Segment) → In s all_flown → s.name ≡ name → ⊥) → Segment
   chosen name (inl f) = f.0
@@ -185,8 +185,8 @@ module _ (law : OneNameOneText) (own : WhatFlewIsOfTheLog) (base : Setting) (e :
 
   chosen_is : (r : Role) (h : There r) (s : Segment) → In s (flown_in r h)
       → (o : Found s.name ⊎ ((t : Segment) → In t all_flown → t.name ≡ s.name → ⊥)) → chosen s.name o ≡ s
-  chosen_is r h s is (inl f) = found_is r h s is f
-  chosen_is r h s is (inr none) = absurd (none s (among_all s r h is) refl)
+  chosen_is r h s fact (inl f) = found_is r h s fact f
+  chosen_is r h s fact (inr none) = absurd (none s (among_all s r h fact) refl)
 
   pub texts_of : Texts base e lines
   texts_of = record {

@@ -110,7 +110,7 @@ next_so g r w at name k nodes sent a b same n =
 
 module _ (g : Setting) (r : Role) (w v : Scene) (k : Cluster) (nodes : List AnyNode) (sent : List Packet) (told : List Act)
     (st : Stands g r w k nodes sent told)
-    (name : NodeId) (place clock : ℕ) (at : place_of k name ≡ Some place) (x y : AnyNode) (is : slice_get nodes place ≡ Some x) (packets : List Packet)
+    (name : NodeId) (place clock : ℕ) (at : place_of k name ≡ Some place) (x y : AnyNode) (fact : slice_get nodes place ≡ Some x) (packets : List Packet)
     (acts : List Act)
     (t : Turn g r w v name y packets acts) where
   abbrev nodes_now : List AnyNode
@@ -123,7 +123,7 @@ module _ (g : Setting) (r : Role) (w v : Scene) (k : Cluster) (nodes : List AnyN
   seen other z here = ⊎_elim
       (λ same. subst (λ n. Seen g r v n z) (sym same)
       (subst (λ q. Seen g r v name q)
-      (one_node y z (sym (places.here k nodes name place at y x is) ∙ subst (λ n. node_in nodes_now (place_of k n) ≡ Some z) same here)) t.there))
+      (one_node y z (sym (places.here k nodes name place at y x fact) ∙ subst (λ n. node_in nodes_now (place_of k n) ≡ Some z) same here)) t.there))
       (λ differs. all_keep g r w v name t.others other z differs (st.seen other z (sym (places.there k nodes name place at y other differs) ∙ here)))
       (same_or_other other name)
 

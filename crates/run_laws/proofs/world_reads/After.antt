@@ -64,27 +64,27 @@ module _ (base : Setting) (e : Estate AnyNode) (lines : HasLines base e) (texts 
   whose l = by_cleaner (l == 9) refl
     where
       none : (l == 9) ≡ false → (nat_le 1 l) ≡ true → (nat_le l e.script.setup.clients) ≡ false → (r : Role) → Owns l r → ⊥
-      none a b d (OfClient c) (there, keeps, is) = (let m = there.1 in absurd (grind (arith, nat_tests, a, b, d, m, is)))
-      none a b d OfCleaner (there, keeps, is) = absurd (grind (arith, nat_tests, a, is))
-      none a b d (OfManager j) (there, keeps, is) = contrary (sym keeps)
+      none a b d (OfClient c) (there, keeps, fact) = (let m = there.1 in absurd (grind (arith, nat_tests, a, b, d, m, fact)))
+      none a b d OfCleaner (there, keeps, fact) = absurd (grind (arith, nat_tests, a, fact))
+      none a b d (OfManager j) (there, keeps, fact) = contrary (sym keeps)
 
       none_zero : (l == 9) ≡ false → (nat_le 1 l) ≡ false → (r : Role) → Owns l r → ⊥
-      none_zero a b (OfClient c) (there, keeps, is) = (let m = there.0 in absurd (grind (arith, nat_tests, a, b, m, is)))
-      none_zero a b OfCleaner (there, keeps, is) = absurd (grind (arith, nat_tests, a, is))
-      none_zero a b (OfManager j) (there, keeps, is) = contrary (sym keeps)
+      none_zero a b (OfClient c) (there, keeps, fact) = (let m = there.0 in absurd (grind (arith, nat_tests, a, b, m, fact)))
+      none_zero a b OfCleaner (there, keeps, fact) = absurd (grind (arith, nat_tests, a, fact))
+      none_zero a b (OfManager j) (there, keeps, fact) = contrary (sym keeps)
 
       by_most : (t : Bool) → nat_le l e.script.setup.clients ≡ t → (l == 9) ≡ false → nat_le 1 l ≡ true
           → ((r : Role) × Owns l r) ⊎ ((r : Role) → Owns l r → ⊥)
-      by_most true is other some = inl (OfClient l, ((grind (arith, nat_tests, some), grind (arith, nat_tests, is)), refl, refl))
-      by_most false is other some = inr (none other some is)
+      by_most true fact other some = inl (OfClient l, ((grind (arith, nat_tests, some), grind (arith, nat_tests, fact)), refl, refl))
+      by_most false fact other some = inr (none other some fact)
 
       by_some : (t : Bool) → nat_le 1 l ≡ t → (l == 9) ≡ false → ((r : Role) × Owns l r) ⊎ ((r : Role) → Owns l r → ⊥)
-      by_some true is other = by_most (nat_le l e.script.setup.clients) refl other is
-      by_some false is other = inr (none_zero other is)
+      by_some true fact other = by_most (nat_le l e.script.setup.clients) refl other fact
+      by_some false fact other = inr (none_zero other fact)
 
       by_cleaner : (t : Bool) → (l == 9) ≡ t → ((r : Role) × Owns l r) ⊎ ((r : Role) → Owns l r → ⊥)
-      by_cleaner true is = inl (OfCleaner, (tt, refl, sym (eqb-true l 9 is)))
-      by_cleaner false is = by_some (nat_le 1 l) refl is
+      by_cleaner true fact = inl (OfCleaner, (tt, refl, sym (eqb-true l 9 fact)))
+      by_cleaner false fact = by_some (nat_le 1 l) refl fact
 
   -- so it has all that it needs of logs, where each log is known
   pub of_logs : (count : ℕ) (k : Books) (f : Filed) → AllKnown count k f → NothingElse k f → OfLogs count k f
@@ -101,17 +101,17 @@ module _ (base : Setting) (e : Estate AnyNode) (lines : HasLines base e) (texts 
   }
     where
       end : (l : ℕ) → 0 < l → l ≤ 9 → ((r : Role) × Owns l r) ⊎ ((r : Role) → Owns l r → ⊥) → k.end l ≡ f.head l
-      end l some limit (inl (r, (there, keeps, is))) = subst (λ x. k.end x ≡ f.head x) is (all r there keeps).known.books.end
+      end l some limit (inl (r, (there, keeps, fact))) = subst (λ x. k.end x ≡ f.head x) fact (all r there keeps).known.books.end
       end l some limit (inr none) = else_.end l some limit none ∙ sym (else_.head l none)
 
       rows : (l q : ℕ) → 0 < q → q ≤ f.head l → ((r : Role) × Owns l r) ⊎ ((r : Role) → Owns l r → ⊥) → k.rows l q ≡ rows_told (f.segment l q).items
-      rows l q from to (inl (r, (there, keeps, is))) =
-          subst (λ x. q ≤ f.head x → k.rows x q ≡ rows_told (f.segment x q).items) is ((all r there keeps).known.books.rows q from) to
+      rows l q from to (inl (r, (there, keeps, fact))) =
+          subst (λ x. q ≤ f.head x → k.rows x q ≡ rows_told (f.segment x q).items) fact ((all r there keeps).known.books.rows q from) to
       rows l q from to (inr none) = (let z = else_.head l none in absurd (omega arith))
 
       tells : (l q : ℕ) → 0 < q → q ≤ f.head l → ((r : Role) × Owns l r) ⊎ ((r : Role) → Owns l r → ⊥) → TellsOnce (f.segment l q)
-      tells l q from to (inl (r, (there, keeps, is))) =
-          subst (λ x. q ≤ f.head x → TellsOnce (f.segment x q)) is ((all r there keeps).tells q from) to
+      tells l q from to (inl (r, (there, keeps, fact))) =
+          subst (λ x. q ≤ f.head x → TellsOnce (f.segment x q)) fact ((all r there keeps).tells q from) to
       tells l q from to (inr none) = (let z = else_.head l none in absurd (omega arith))
 
   -- ---- the log of one that is left as it was
@@ -126,10 +126,10 @@ module _ (base : Setting) (e : Estate AnyNode) (lines : HasLines base e) (texts 
       → IsLeft ((lines r there).at count).net ((lines r there).at (suc count)).net → SameLog k m (log_by r) → IsSameLog (log_by r) f h
       → KnownAt count k f r there
       → KnownAt (suc count) m h r there
-  left_after laws count k m f h r there left books filed is =
+  left_after laws count k m f h r there left books filed fact =
       subst (λ x. OwnAfter (WritesKind r) (log_by r) x m h) (sym ((lines r there).joined count)) (record {
-        known = stays_known (setting base e r) (log_by r) _ _ ((lines r there).stands count).moment ((lines r there).goes count) k m f h is.known
-            (laws.stay (log_by r) _ _ f h left.filed left.flown filed is.known.line) (left_flight laws count r there left) books filed;
-        tells = tells_same (log_by r) f h filed is.tells;
-        kind = subst (λ (y : Option FlightState). IfSome y (λ x. WritesKind r x.segment)) (sym (left_flight laws count r there left)) is.kind;
+        known = stays_known (setting base e r) (log_by r) _ _ ((lines r there).stands count).moment ((lines r there).goes count) k m f h fact.known
+            (laws.stay (log_by r) _ _ f h left.filed left.flown filed fact.known.line) (left_flight laws count r there left) books filed;
+        tells = tells_same (log_by r) f h filed fact.tells;
+        kind = subst (λ (y : Option FlightState). IfSome y (λ x. WritesKind r x.segment)) (sym (left_flight laws count r there left)) fact.kind;
       })

@@ -54,14 +54,14 @@ module _ (c : ℕ) (chain : List SegName) where
 
   -- not in what an opening does
   not_opening : (owner : Owner) (outs : List Effect) → AllByRecursion (MayDo owner) outs → In Back outs → ⊥
-  not_opening owner [] may is = is
-  not_opening owner (e ∷ outs) may (inl is) = subst (MayDo owner) (sym is) may.0
-  not_opening owner (e ∷ outs) may (inr is) = not_opening owner outs may.1 is
+  not_opening owner [] may fact = fact
+  not_opening owner (e ∷ outs) may (inl fact) = subst (MayDo owner) (sym fact) may.0
+  not_opening owner (e ∷ outs) may (inr fact) = not_opening owner outs may.1 fact
 
   in_both : (xs ys : List Effect) → In Back (xs ++ ys) → In Back xs ⊎ In Back ys
-  in_both [] ys is = inr is
-  in_both (x ∷ xs) ys (inl is) = inl (inl is)
-  in_both (x ∷ xs) ys (inr is) = ⊎_elim (λ a. inl (inr a)) (λ b. inr b) (in_both xs ys is)
+  in_both [] ys fact = inr fact
+  in_both (x ∷ xs) ys (inl fact) = inl (inl fact)
+  in_both (x ∷ xs) ys (inr fact) = ⊎_elim (λ a. inl (inr a)) (λ b. inr b) (in_both xs ys fact)
 
   abbrev IsOut : Effect → Type 0
   IsOut (Send to m) = Unit {0}
@@ -70,19 +70,19 @@ module _ (c : ℕ) (chain : List SegName) where
   IsOut (Does a) = ⊥
 
   not_out : (outs : List Effect) → AllByRecursion IsOut outs → In Back outs → ⊥
-  not_out [] out is = is
-  not_out (e ∷ outs) out (inl is) = subst IsOut (sym is) out.0
-  not_out (e ∷ outs) out (inr is) = not_out outs out.1 is
+  not_out [] out fact = fact
+  not_out (e ∷ outs) out (inl fact) = subst IsOut (sym fact) out.0
+  not_out (e ∷ outs) out (inr fact) = not_out outs out.1 fact
 
   not_pushes : (managers : Managers) (xs : List feed.Out) → In Back (map (range managers) xs) → ⊥
-  not_pushes managers [] is = is
-  not_pushes managers (Range slot first upto rows ∷ xs) (inl is) = subst IsOut (sym is) tt
-  not_pushes managers (Range slot first upto rows ∷ xs) (inr is) = not_pushes managers xs is
+  not_pushes managers [] fact = fact
+  not_pushes managers (Range slot first upto rows ∷ xs) (inl fact) = subst IsOut (sym fact) tt
+  not_pushes managers (Range slot first upto rows ∷ xs) (inr fact) = not_pushes managers xs fact
 
   not_answers : (item : Option ℕ) (a : Answer) → In Back (answers_unanswered item a) → ⊥
-  not_answers None a is = is
-  not_answers (Some number) a (inl is) = subst IsOut (sym is) tt
-  not_answers (Some number) a (inr is) = is
+  not_answers None a fact = fact
+  not_answers (Some number) a (inl fact) = subst IsOut (sym fact) tt
+  not_answers (Some number) a (inr fact) = fact
 
 -- ---- the event
 
@@ -91,25 +91,25 @@ module _ (l : Lasting) (o : openings.Opening) where
   Comes w = (t : Serving) → w.state ≡ Serves t → CameBack l o w t
 
   not_down : (k : Lasting) (outs : List Effect) → Comes (record { state = Down k; outs = outs })
-  not_down k outs t is = absurd cc
+  not_down k outs t fact = absurd cc
 
   not_open : (k : Lasting) (p : openings.Opening) (outs : List Effect) → Comes (record { state = Opening k p; outs = outs })
-  not_open k p outs t is = absurd cc
+  not_open k p outs t fact = absurd cc
 
   same_chain : (a b : ℕ) (x y : List SegName) → Does (act.Back a x) ≡ Does (act.Back b y) → x ≡ y
-  same_chain a b x y is = cc
+  same_chain a b x y fact = cc
 
   same_serving : (s t : Serving) → Serves s ≡ Serves t → s ≡ t
-  same_serving s t is = cc
+  same_serving s t fact = cc
 
   progress_comes : (k : Lasting) (capacity : ℕ) (effects : List Effect) → AllByRecursion (MayDo o.known.owner) effects
       → (p : Progress) → ((r : Opened) → p ≡ progress.Opened r → ComesTo l o r) → Comes (saying effects (after_opening k capacity p))
   progress_comes k capacity effects may (progress.Opening x) from = not_open k x (effects ++ [])
-  progress_comes k capacity effects may (progress.Lost seg) from = λ t is. absurd cc
-  progress_comes k capacity effects may (progress.Opened r) from = λ t is. record {
+  progress_comes k capacity effects may (progress.Lost seg) from = λ t fact. absurd cc
+  progress_comes k capacity effects may (progress.Opened r) from = λ t fact. record {
     opened = r;
     comes = from r refl;
-    log = ap (λ (s : Serving). s.log) (sym (same_serving _ t is));
+    log = ap (λ (s : Serving). s.log) (sym (same_serving _ t fact));
     says = λ c chain here. ⊎_elim (λ a. absurd (not_opening c chain o.known.owner effects may a))
         (λ b. ⊎_elim (λ same. same_chain c k.number chain r.chain same)
         (λ rest. ⊎_elim (λ a. absurd (not_pushes c chain r.promised.managers _ a)) (λ a. absurd (not_answers c chain k.items.unanswered answer.Done a))
@@ -118,10 +118,10 @@ module _ (l : Lasting) (o : openings.Opening) where
   }
 
   opening_comes : (number : ℕ) (wanted : Option Work) → Comes (opening_begins (record l { items = begun l.items }) o number (wish_of wanted))
-  opening_comes number (Some (work.Crash node)) t is = absurd cc
-  opening_comes number (Some (work.Restart node)) t is = absurd cc
-  opening_comes number (Some _) t is = absurd cc
-  opening_comes number None t is = absurd cc
+  opening_comes number (Some (work.Crash node)) t fact = absurd cc
+  opening_comes number (Some (work.Restart node)) t fact = absurd cc
+  opening_comes number (Some _) t fact = absurd cc
+  opening_comes number None t fact = absurd cc
 
   item_comes : (servers : ℕ) (item : Option ℕ) → Comes (begins_item servers (Opening l o) item)
   item_comes servers None = not_open l o []
@@ -136,25 +136,25 @@ module _ (l : Lasting) (o : openings.Opening) where
   deliver_comes capacity packet =
       let x = opening.on_packet o l.questions packet in
       progress_comes (record l { questions = x.questions }) capacity x.effects (behaving.packet_so o l.questions packet).does x.progress
-      (λ r is. inl (packet, is))
+      (λ r fact. inl (packet, fact))
 
   time_comes : (capacity : ℕ) → Comes (on_time capacity (Opening l o))
   unfolding on_time
   time_comes capacity =
       let x = opening.on_tick o l.questions in
-      progress_comes (record l { questions = x.questions }) capacity x.effects (behaving.tick_so o l.questions).does x.progress (λ r is. inr is)
+      progress_comes (record l { questions = x.questions }) capacity x.effects (behaving.tick_so o l.questions).does x.progress (λ r fact. inr fact)
 
   happens_comes : (client : AClient) (what : Do) → client.phase ≡ Opening l o → Comes (happens client what)
-  happens_comes client Begin is = subst (λ p. Comes (on_begin client.peers.servers p)) (sym is) (begin_comes client.peers.servers)
-  happens_comes client (Deliver packet) is =
+  happens_comes client Begin fact = subst (λ p. Comes (on_begin client.peers.servers p)) (sym fact) (begin_comes client.peers.servers)
+  happens_comes client (Deliver packet) fact =
       by_test Comes (is_well_formed client.peers packet) (on_deliver client.cache client.phase packet) (still client.phase)
-      (λ t. subst (λ p. Comes (on_deliver client.cache p packet)) (sym is) (deliver_comes client.cache packet))
-      (λ t. subst (λ p. Comes (still p)) (sym is) (not_open l o []))
-  happens_comes client Tick is = subst (λ p. Comes (on_time client.cache p)) (sym is) (time_comes client.cache)
+      (λ t. subst (λ p. Comes (on_deliver client.cache p packet)) (sym fact) (deliver_comes client.cache packet))
+      (λ t. subst (λ p. Comes (still p)) (sym fact) (not_open l o []))
+  happens_comes client Tick fact = subst (λ p. Comes (on_time client.cache p)) (sym fact) (time_comes client.cache)
 
 -- a client that opened its log, and serves after the event
 pub came_back : (client : AClient) (what : Do) (l : Lasting) (o : openings.Opening) (t : Serving) → client.phase ≡ Opening l o
     → (takes client what).state ≡ Serves t → CameBack l o (takes client what) t
-came_back client what l o t is =
-    by_test (Comes l o) (client_room client) (happens client what) (still client.phase) (λ _. happens_comes l o client what is)
-    (λ _. subst (λ p. Comes l o (still p)) (sym is) (not_open l o l o [])) t
+came_back client what l o t fact =
+    by_test (Comes l o) (client_room client) (happens client what) (still client.phase) (λ _. happens_comes l o client what fact)
+    (λ _. subst (λ p. Comes l o (still p)) (sym fact) (not_open l o l o [])) t

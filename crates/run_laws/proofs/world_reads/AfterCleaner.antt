@@ -83,24 +83,24 @@ module _ (l : Lasting) (o : openings.Opening) where
       ⊎ ((opening.on_tick o l.questions).progress ≡ progress.Opened r)
 
   same_emptying : (s t : Emptying) → Serves s ≡ Serves t → s ≡ t
-  same_emptying s t is = cc
+  same_emptying s t fact = cc
 
   progress_comes : (k : Lasting) (effects : List Effect) (p : Progress) → ((r : Opened) → p ≡ progress.Opened r → From r)
       → Comes (saying effects (after_opening k p))
   unfolding after_opening
-  progress_comes k effects (progress.Opening x) from = λ t is. absurd cc
-  progress_comes k effects (progress.Lost seg) from = λ t is. absurd cc
+  progress_comes k effects (progress.Opening x) from = λ t fact. absurd cc
+  progress_comes k effects (progress.Lost seg) from = λ t fact. absurd cc
   progress_comes k effects (progress.Opened r) from =
-      λ t is. record { opened = r; comes = from r refl; log = ap (λ (s : Emptying). s.log) (sym (same_emptying _ t is)) }
+      λ t fact. record { opened = r; comes = from r refl; log = ap (λ (s : Emptying). s.log) (sym (same_emptying _ t fact)) }
 
   wish_comes : (number : ℕ) (wish : _) → Comes (opening_wishes (begun_life l) o number wish)
   unfolding crashes
-  wish_comes number Crash t is = absurd cc
-  wish_comes number Restart t is = absurd cc
-  wish_comes number (Clean count) t is = absurd cc
+  wish_comes number Crash t fact = absurd cc
+  wish_comes number Restart t fact = absurd cc
+  wish_comes number (Clean count) t fact = absurd cc
 
   item_comes : (item : Option ℕ) → Comes (opening_at (begun_life l) o item)
-  item_comes None = λ t is. absurd cc
+  item_comes None = λ t fact. absurd cc
   item_comes (Some number) = wish_comes number (wish_at (begun_life l).items number)
 
   begin_comes : (servers : ℕ) → Comes (on_begin servers (Opening l o))
@@ -111,15 +111,15 @@ module _ (l : Lasting) (o : openings.Opening) where
   unfolding hears
   hears_comes packet =
       let x = opening.on_packet o l.questions packet in
-      progress_comes (record l { questions = x.questions }) x.effects x.progress (λ r is. inl (packet, is))
+      progress_comes (record l { questions = x.questions }) x.effects x.progress (λ r fact. inl (packet, fact))
 
   time_comes : Comes (on_time (Opening l o))
   unfolding on_time
   time_comes =
-      (let x = opening.on_tick o l.questions in progress_comes (record l { questions = x.questions }) x.effects x.progress (λ r is. inr is))
+      (let x = opening.on_tick o l.questions in progress_comes (record l { questions = x.questions }) x.effects x.progress (λ r fact. inr fact))
 
   stays_open : Comes (still (Opening l o))
-  stays_open t is = absurd cc
+  stays_open t fact = absurd cc
 
   deliver_comes : (node : CleanerNode) (packet : wire.Packet) → Comes (on_deliver node.peers (Opening l o) packet)
   unfolding on_deliver
@@ -137,8 +137,8 @@ module _ (l : Lasting) (o : openings.Opening) where
 
 pub cleaner_back : (node : CleanerNode) (what : Do) (l : Lasting) (o : openings.Opening) (t : Emptying) → node.phase ≡ Opening l o
     → (takes node.peers node.phase what).state ≡ Serves t → CleanerBack l o t
-cleaner_back node what l o t is then_is =
-    takes_comes l o node what t (ap (λ (p : Phase). (takes node.peers p what).state) (sym is) ∙ then_is)
+cleaner_back node what l o t fact then_is =
+    takes_comes l o node what t (ap (λ (p : Phase). (takes node.peers p what).state) (sym fact) ∙ then_is)
 
 -- ---- the end of the log
 
@@ -158,16 +158,16 @@ module _ (part : ℕ) (texts : Texts) (g : Setting) (v : Scene) (n : index.Net) 
   cleaner_away (Serves s) sees away = absurd away
 
   one_log : (s t : LogState) → Serving s ≡ Serving t → s ≡ t
-  one_log s t is = cc
+  one_log s t fact = cc
 
   none_serves : (s : LogState) → is_serving v.net.owner ≡ false → v.net.owner ≡ Serving s → ⊥
-  none_serves s none is = (let e : true ≡ false = sym (ap is_serving is) ∙ none in absurd cc)
+  none_serves s none fact = (let e : true ≡ false = sym (ap is_serving fact) ∙ none in absurd cc)
 
   pub cleaner_end : (p : Phase) → log_tie.CleanerAgrees g v p → owner.PhaseAgrees part n texts p → (s : LogState) → v.net.owner ≡ Serving s
       → s.end.seq ≡ n.filed.head its_log
-  cleaner_end (Down l) sees agrees s is = absurd (none_serves s (cleaner_away (Down l) sees tt) is)
-  cleaner_end (Opening l o) sees agrees s is = absurd (none_serves s (cleaner_away (Opening l o) sees tt) is)
-  cleaner_end (Serves t) sees agrees s is = ap (λ (x : LogState). x.end.seq) (one_log s t.log (sym is ∙ sees.log.owner)) ∙ agrees.0.owner.end.seq
+  cleaner_end (Down l) sees agrees s fact = absurd (none_serves s (cleaner_away (Down l) sees tt) fact)
+  cleaner_end (Opening l o) sees agrees s fact = absurd (none_serves s (cleaner_away (Opening l o) sees tt) fact)
+  cleaner_end (Serves t) sees agrees s fact = ap (λ (x : LogState). x.end.seq) (one_log s t.log (sym fact ∙ sees.log.owner)) ∙ agrees.0.owner.end.seq
 
 -- ---- the event
 
@@ -261,7 +261,7 @@ module _ (laws : AfterLaws) (part : ℕ) (texts : Texts) (g : Setting) (trusted 
   reopens l o s before after = record {
     known = reopens_known laws.owners laws.follow g its_log w.net v.net ends.settling.chain ends.settling.log r.log e later t.books u.books i.filed j.filed
         known line books.0 books.1 (subst (LogSeen u.books its_log) back.log (subst (CleanerCopies u.books) after then_held).seen);
-    tells = tells_reopened laws.text laws.tail IsCopies (λ s t same. (laws.alike s t same).copies) (λ s is. is.tells)
+    tells = tells_reopened laws.text laws.tail IsCopies (λ s t same. (laws.alike s t same).copies) (λ s fact. fact.tells)
         (λ s none. (laws.nothing s none).copies.tells)
         g its_log w.net v.net ends.settling.chain ends.settling.log r.log e i.filed j.filed more known.line line kind
         tells;
@@ -276,7 +276,7 @@ module _ (laws : AfterLaws) (part : ℕ) (texts : Texts) (g : Setting) (trusted 
 
       ends_so : EndsSo g its_log o (progress.Opened r)
       ends_so = ⊎_elim (λ k. subst (EndsSo g its_log o) k.1 ((laws.ends g its_log o l.questions).0 k.0))
-          (λ is. subst (EndsSo g its_log o) is (laws.ends g its_log o l.questions).1)
+          (λ fact. subst (EndsSo g its_log o) fact (laws.ends g its_log o l.questions).1)
           back.comes
 
       then_log : SeesLog g its_log v s.log

@@ -84,16 +84,16 @@ module _ (part : ℕ) (texts : Texts) (g : Setting) (c : ℕ) (v : Scene) (n : i
   client_away (Serves s) sees away = absurd away
 
   one_log : (s t : LogState) → Serving s ≡ Serving t → s ≡ t
-  one_log s t is = cc
+  one_log s t fact = cc
 
   none_serves : (s : LogState) → is_serving v.net.owner ≡ false → v.net.owner ≡ Serving s → ⊥
-  none_serves s none is = (let e : true ≡ false = sym (ap is_serving is) ∙ none in absurd cc)
+  none_serves s none fact = (let e : true ≡ false = sym (ap is_serving fact) ∙ none in absurd cc)
 
   pub client_end : (p : Phase) → log_tie.ClientAgrees g c v p → owner.ClientAgrees part texts n c p → (s : LogState) → v.net.owner ≡ Serving s
       → s.end.seq ≡ n.filed.head c
-  client_end (Down l) sees agrees s is = absurd (none_serves s (client_away (Down l) sees tt) is)
-  client_end (Opening l o) sees agrees s is = absurd (none_serves s (client_away (Opening l o) sees tt) is)
-  client_end (Serves t) sees agrees s is = ap (λ (x : LogState). x.end.seq) (one_log s t.log (sym is ∙ sees.1.owner)) ∙ agrees.0.end.seq
+  client_end (Down l) sees agrees s fact = absurd (none_serves s (client_away (Down l) sees tt) fact)
+  client_end (Opening l o) sees agrees s fact = absurd (none_serves s (client_away (Opening l o) sees tt) fact)
+  client_end (Serves t) sees agrees s fact = ap (λ (x : LogState). x.end.seq) (one_log s t.log (sym fact ∙ sees.1.owner)) ∙ agrees.0.end.seq
 
 -- ---- the event
 
@@ -174,7 +174,7 @@ module _ (laws : AfterLaws) (part : ℕ) (texts : Texts) (c : ℕ) (g : Setting)
     known = reopens_known laws.owners laws.follow g c w.net v.net ends.settling.chain ends.settling.log r.log e later t.books u.books i.filed j.filed known line
         books.1 (books.3 ∙ ap (λ b. with_empty books.1 (reopened t.books c b) c) adopted)
         (subst (LogSeen u.books c) back.log (subst (tokens.ClientAgrees true part c u) after then_held).logged.seen);
-    tells = tells_reopened laws.text laws.tail IsOriginal (λ s t same. (laws.alike s t same).original) (λ s is. is.tells)
+    tells = tells_reopened laws.text laws.tail IsOriginal (λ s t same. (laws.alike s t same).original) (λ s fact. fact.tells)
         (λ s none. (laws.nothing s none).original.tells)
         g c w.net v.net ends.settling.chain ends.settling.log r.log e i.filed j.filed more known.line line kind tells;
     kind = writes_kind s after then_log.owner;
@@ -187,7 +187,7 @@ module _ (laws : AfterLaws) (part : ℕ) (texts : Texts) (c : ℕ) (g : Setting)
       r = back.opened
 
       ends_so : EndsSo g c o (progress.Opened r)
-      ends_so = ⊎_elim (λ k. subst (EndsSo g c o) k.1 ((laws.ends g c o l.questions).0 k.0)) (λ is. subst (EndsSo g c o) is (laws.ends g c o l.questions).1)
+      ends_so = ⊎_elim (λ k. subst (EndsSo g c o) k.1 ((laws.ends g c o l.questions).0 k.0)) (λ fact. subst (EndsSo g c o) fact (laws.ends g c o l.questions).1)
           back.comes
 
       then_log : log_tie.SeesLog g c v s.log

@@ -37,7 +37,7 @@ all_back P [] ys all = all
 all_back P (x ∷ xs) ys all = all_back P xs ys all.1
 
 same_rest : {X : Type 0} (xs ys zs : List X) → xs ++ ys ≡ xs ++ zs → ys ≡ zs
-same_rest xs ys zs is = sym (drop-append_seam xs ys) ∙ (ap (drop (length xs)) is ∙ drop-append_seam xs zs)
+same_rest xs ys zs fact = sym (drop-append_seam xs ys) ∙ (ap (drop (length xs)) fact ∙ drop-append_seam xs zs)
 
 -- an act that changes no history is of no client's fall
 neutral_aside : (e : ℕ) (a : Act) → IsNeutral a → IsAside e a
@@ -99,22 +99,22 @@ module _ (e : ℕ) where
     happens_leave n m (Acts c end x serves own) = some_acts n m (acts_by c (n.tokens c) x) refl refl (wrote_aside c (n.tokens c) x)
     happens_leave n m (Elsewhere c end x serves other) = nothing n m refl refl
     happens_leave n m (Reports c end serves) = nothing n m refl refl
-    happens_leave n m (GetsCopy c end block stamp inc req entry serves is) = nothing n m refl refl
-    happens_leave n m (GetsOwn c end block stamp inc req entry value serves is accepts room) =
+    happens_leave n m (GetsCopy c end block stamp inc req entry serves fact) = nothing n m refl refl
+    happens_leave n m (GetsOwn c end block stamp inc req entry value serves fact accepts room) =
         some_acts n m (act.Wrote c block value ∷ []) refl refl (tt, tt)
-    happens_leave n m (Declines c end block stamp inc req entry serves is accepts) = nothing n m refl refl
-    happens_leave n m (GetsRecall c end block stamp keep serves is) = nothing n m refl refl
-    happens_leave n m (GetsForward c other block stamp inc req ver value pos less is up serves held) = nothing n m refl refl
-    happens_leave n m (GetsSupply c end block stamp inc req ver value serves is) = nothing n m refl refl
+    happens_leave n m (Declines c end block stamp inc req entry serves fact accepts) = nothing n m refl refl
+    happens_leave n m (GetsRecall c end block stamp keep serves fact) = nothing n m refl refl
+    happens_leave n m (GetsForward c other block stamp inc req ver value pos less fact up serves held) = nothing n m refl refl
+    happens_leave n m (GetsSupply c end block stamp inc req ver value serves fact) = nothing n m refl refl
     happens_leave n m (Fetches c end block value serves there) = nothing n m refl refl
-    happens_leave n m (Reads c block value pos less up held is) =
+    happens_leave n m (Reads c block value pos less up held fact) =
         some_acts n m (act.Read c block (held_of (n.tokens c).blocks block).ver value ∷ []) refl refl (tt, tt)
     happens_leave n m (Syncs c pos less up clean) = some_acts n m (act.Synced c ∷ []) refl refl (tt, tt)
     happens_leave n m (Seals c rows pos less up free newest) = nothing n m refl refl
     happens_leave n m (Files c pos less up flies) = nothing n m refl refl
     happens_leave n m (GetsDeltas d s log first upto rows at known some covers) = nothing n m refl refl
-    happens_leave n m (GetsWant d s c inc req again block mode end at is) = nothing n m refl refl
-    happens_leave n m (GetsGave d s c block stamp end at is) = nothing n m refl refl
+    happens_leave n m (GetsWant d s c inc req again block mode end at fact) = nothing n m refl refl
+    happens_leave n m (GetsGave d s c block stamp end at fact) = nothing n m refl refl
     happens_leave n m (Ticks d s at) = nothing n m refl refl
     happens_leave n m (Crashes c flight falls pos less up once so) = record {
       more = act.Fell c flight falls ∷ [];
@@ -165,7 +165,7 @@ module _ (e : ℕ) where
         same = same_rest n.acts (acts_of (Client c) outs) r.more (sym go.acts ∙ r.acts_are)
 
         each : (a : Act) → ClientActs part c n go.next.sent (lasting_of q).inc q a → IsNoFall a
-        each (act.Fell client flight falls) h = λ is. other (sym h.0 ∙ is)
+        each (act.Fell client flight falls) h = λ fact. other (sym h.0 ∙ fact)
         each _ h = tt
 
         none : AllByRecursion IsNoFall (acts_of (Client c) outs)

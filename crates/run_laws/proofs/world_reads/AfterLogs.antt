@@ -69,10 +69,10 @@ flight_left leave g first n o run goes left = by n.owner refl
     away none = flight_stays g first n o run goes (leave g n o goes left.inc left.owner none)
 
     by : (x : Owner) → n.owner ≡ x → last_flight (then_on run goes) ≡ last_flight run
-    by Down is = away (ap is_serving is)
-    by (Opening s) is = away (ap is_serving is)
-    by (Writing chain s) is = away (ap is_serving is)
-    by (Serving s) is = served_last g first o (then_on run goes) s (left.owner ∙ is) ∙ sym (served_last g first n run s is)
+    by Down fact = away (ap is_serving fact)
+    by (Opening s) fact = away (ap is_serving fact)
+    by (Writing chain s) fact = away (ap is_serving fact)
+    by (Serving s) fact = served_last g first o (then_on run goes) s (left.owner ∙ fact) ∙ sym (served_last g first n run s fact)
 
 -- where the books have it, so do those of which the same is known
 flew_same : (k m : Books) (l : ℕ) (flight : Option FlightState) → SameLog k m l → LastFlew k l flight → LastFlew m l flight
@@ -93,14 +93,14 @@ books_same k m l f h books same of = record {
       ap (λ r. r q) books.rows ∙ (of.rows q some upto ∙ ap (λ (s : Segment). rows_told s.items) (sym (same.segment q some upto)));
 }
 
-module _ (g : Setting) (l : ℕ) (n o : Net) (at : Moment g n) (goes : Runs g n o) (k m : Books) (f h : Filed) (is : KnownLog l at k f)
+module _ (g : Setting) (l : ℕ) (n o : Net) (at : Moment g n) (goes : Runs g n o) (k m : Books) (f h : Filed) (fact : KnownLog l at k f)
     (line : IsLine l o h) where
   -- the same is known and filed of it, and what was in flight is the same
   pub stays_known : last_flight (then_on at.run goes) ≡ last_flight at.run → SameLog k m l → IsSameLog l f h → KnownLog l (moment_then at goes) m h
   stays_known flight books same = record {
-    books = books_same k m l f h books same is.books;
+    books = books_same k m l f h books same fact.books;
     line = line;
-    flew = subst (LastFlew m l) (sym flight) (flew_same k m l (last_flight at.run) books is.flew);
+    flew = subst (LastFlew m l) (sym flight) (flew_same k m l (last_flight at.run) books fact.flew);
   }
 
   -- ---- where its owner serves
@@ -115,7 +115,7 @@ module _ (g : Setting) (l : ℕ) (n o : Net) (at : Moment g n) (goes : Runs g n 
     end_is = then_seen.end ∙ end
 
     old_row : (q : ℕ) → 0 < q → q ≤ f.head l → m.rows l q ≡ rows_told (f.segment l q).items
-    old_row q some upto = filed q (let e = is.books.end in omega arith) ∙ is.books.rows q some upto
+    old_row q some upto = filed q (let e = fact.books.end in omega arith) ∙ fact.books.rows q some upto
 
     still : (q : ℕ) → 0 < q → h ≡ f → q ≤ h.head l → m.rows l q ≡ rows_told (h.segment l q).items
     still q some same limit =
@@ -126,7 +126,7 @@ module _ (g : Setting) (l : ℕ) (n o : Net) (at : Moment g n) (goes : Runs g n 
     new_row : (x : FlightState) → s.flight ≡ Some x → h ≡ with_segment f l x.segment
         → m.rows l (suc (f.head l)) ≡ rows_told (h.segment l (suc (f.head l))).items
     new_row x flies next =
-        let e = is.books.end in
+        let e = fact.books.end in
         let z = subst
         (λ (y : Option FlightState). IfSome y (λ y. (y.segment.name.seq ≡ suc s.end.seq) × (k.rows l (suc (k.end l)) ≡ rows_told y.segment.items)))
         flies seen.flight in
@@ -163,8 +163,8 @@ pub reopens_known : FlightsOfOwners → BooksFollow → (g : Setting) (l : ℕ) 
     (e : Reopens g n o chain s r) (later : Moment g o) (k m : Books) (f h : Filed)
     → KnownLog l e.moment k f → IsLine l o h → (count : ℕ) → m ≡ with_empty count (reopened k l (has_flight e)) l → LogSeen m l r
     → KnownLog l later m h
-reopens_known owners follow g l n o chain s r e later k m f h is line count books seen =
-    let then_books : BooksThen e k l f = record { filed = filed_of l n f is.line; books = is.books; flew = is.flew } in
+reopens_known owners follow g l n o chain s r e later k m f h fact line count books seen =
+    let then_books : BooksThen e k l f = record { filed = filed_of l n f fact.line; books = fact.books; flew = fact.flew } in
     let after = follow g n o chain s r e k l f then_books h (filed_of l o h line) count (ap (λ (x : Books). x.end l) (sym books) ∙ seen.end) in
     record {
       books = subst (λ (x : Books). BooksOf x l h) (sym books) after.books;

@@ -36,7 +36,7 @@ module _ (unfiled : NothingFiledOpening) (g : Setting) where
   one_boot m o at happens boot none = unfiled g m o at (On Begun happens) boot none
 
   up_boot : (m : Net) (x : Owner) → m.owner ≡ x → is_down x ≡ false → boot_of m ≡ m.inc
-  up_boot m x is up = ap (λ y. if y then suc m.inc else m.inc) (ap is_down is ∙ up)
+  up_boot m x fact up = ap (λ y. if y then suc m.inc else m.inc) (ap is_down fact ∙ up)
 
   writes_nothing : (m : Net) → Moment g m → (chain : List Segment) (d : log.Done) → (x : Option FlightState) → boot_of m ≡ m.inc
       → Happens g m (after_flight g m chain d x) → is_serving (after_flight g m chain d x).owner ≡ false → (after_flight g m chain d x).filed ≡ m.filed
@@ -50,13 +50,13 @@ module _ (unfiled : NothingFiledOpening) (g : Setting) where
   scans_nothing m at s d (Some t) (Some map) boot happens none = one_boot m (after_told g m s d (Some t) (Some map)) at happens (sym boot) none
 
   happens_nothing : (m o : Net) → Moment g m → (happens : Happens g m o) → is_serving o.owner ≡ false → o.filed ≡ m.filed
-  happens_nothing m o at (Acts s i is came texts) none = contrary (sym none)
-  happens_nothing m o at (Writes chain s i is came texts) none =
-      writes_nothing m at chain (log.transition s i) (log.transition s i).state.flight (up_boot m (Writing chain s) is refl)
-      (Writes chain s i is came texts) none
-  happens_nothing m o at (Opens s i is came can) none =
+  happens_nothing m o at (Acts s i fact came texts) none = contrary (sym none)
+  happens_nothing m o at (Writes chain s i fact came texts) none =
+      writes_nothing m at chain (log.transition s i) (log.transition s i).state.flight (up_boot m (Writing chain s) fact refl)
+      (Writes chain s i fact came texts) none
+  happens_nothing m o at (Opens s i fact came can) none =
       scans_nothing m at s (scan.transition s i) (chain_in (scan.transition s i).outs) (scan.transition s i).state.opening.groups
-      (up_boot m (Opening s) is refl) (Opens s i is came can) none
+      (up_boot m (Opening s) fact refl) (Opens s i fact came can) none
   happens_nothing m o at Crashes none = refl
   happens_nothing m o at (Restarts down) none = refl
   happens_nothing m o at (Renews map high doubts down came) none = refl
@@ -64,7 +64,7 @@ module _ (unfiled : NothingFiledOpening) (g : Setting) where
   happens_nothing m o at (Bars v log pass) none = refl
   happens_nothing m o at (Lists v) none = refl
   happens_nothing m o at (Hears v generation up reached) none = refl
-  happens_nothing m o at (Raises low name up is below) none = refl
+  happens_nothing m o at (Raises low name up fact below) none = refl
   happens_nothing m o at (Publishes map whole) none = refl
   happens_nothing m o at (Welcomes inc ask news map hello low whole) none = refl
   happens_nothing m o at (Drops lists meta listed within below) none = refl
@@ -82,8 +82,8 @@ pub same_filed : (l : ℕ) (n o : Net) (f h : Filed) → o.filed ≡ n.filed →
 same_filed l n o f h same more line later = record { head = head (h.head l) refl; segment = λ q some limit. more.segment l q some limit }
   where
     head : (x : ℕ) → h.head l ≡ x → h.head l ≡ f.head l
-    head zero is = (let a = more.head l in omega arith)
-    head (suc x) is =
+    head zero fact = (let a = more.head l in omega arith)
+    head (suc x) fact =
         let some : 0 < h.head l = omega arith in
         let highest = later.lined.filed (h.head l) some (omega arith) in
         let low = (line.all (h.segment l (h.head l)).name (subst (In (h.segment l (h.head l)).name) same highest)).1 in
@@ -101,6 +101,6 @@ line_goes_on on unfiled texts l g n o f h outs at goes never sure acts filed end
       run = goes;
       sure = sure;
       acts = acts;
-      end = λ s is. end s is ∙ ap (λ (x : Filed). x.head l) filed;
+      end = λ s fact. end s fact ∙ ap (λ (x : Filed). x.head l) filed;
       still = λ none. never_files unfiled g n o at goes (never none);
     }))

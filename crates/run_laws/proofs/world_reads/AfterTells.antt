@@ -42,9 +42,9 @@ tells_serving l s f h more (inr (x, flies, next)) flight old q some limit = by (
         let p : f.head l < q = grind (arith, nat_tests, past) in
         let high : h.head l ≡ suc (f.head l) = ap (λ (y : Filed). y.head l) next ∙ head_is l f x.segment in
         let at_next : suc (f.head l) ≡ q = omega arith in
-        let is : h.segment l (suc (f.head l)) ≡ x.segment = ap (λ (y : Filed). y.segment l (suc (f.head l))) next ∙ segment_is l f x.segment in
+        let fact : h.segment l (suc (f.head l)) ≡ x.segment = ap (λ (y : Filed). y.segment l (suc (f.head l))) next ∙ segment_is l f x.segment in
         subst (λ (y : ℕ). TellsOnce (h.segment l y)) at_next
-        (subst TellsOnce (sym is) (subst (λ (o : Option FlightState). IfSome o (λ x. TellsOnce x.segment)) flies flight))
+        (subst TellsOnce (sym fact) (subst (λ (o : Option FlightState). IfSome o (λ x. TellsOnce x.segment)) flies flight))
 
 -- where a restart ends: of this kind what was in flight is, and any other attempt of it
 module _ (text : OneNameOneText) (only : ARestartFilesTheTail) (Kind : Segment → Type 0) (alike : (s t : Segment) → s.items ≡ t.items → Kind s → Kind t)

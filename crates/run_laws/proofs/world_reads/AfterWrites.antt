@@ -41,5 +41,5 @@ module _ (e : Estate AnyNode) (run : IsRun any_step any_start e.script e.events 
 -- no fall waits of a client that serves
 pub serving_told : (logs : Bool) (members part : ℕ) (n : Net) (acts : List Act) → Runs logs members part opening (with_promise 1 n) → n.acts ≡ acts → (c : ℕ)
     → n.up c ≡ true → (history_after acts nothing_yet).told c ≡ []
-serving_told logs members part n acts runs is c up =
-    subst (λ (a : List Act). (history_after a nothing_yet).told c ≡ []) is ((falls_kept logs members part (with_promise 1 n) runs).waits c up)
+serving_told logs members part n acts runs fact c up =
+    subst (λ (a : List Act). (history_after a nothing_yet).told c ≡ []) fact ((falls_kept logs members part (with_promise 1 n) runs).waits c up)

@@ -83,7 +83,7 @@ use Rattle.xfs_base.specs.Steps.{still}
 -- what is so of each where a test passes is so of each, where it passes
 each_where : {X : Type 0} (t : Bool) (P : X → Type 0) (xs : List X) → (t ≡ true → AllByRecursion P xs) → AllByRecursion (λ x. t ≡ true → P x) xs
 each_where t P [] all = tt
-each_where t P (x ∷ xs) all = (λ is. (all is).0, each_where t P xs (λ is. (all is).1))
+each_where t P (x ∷ xs) all = (λ premise. (all premise).0, each_where t P xs (λ premise. (all premise).1))
 
 -- of what has just been read each Block is asked for: where all were dead there would be none
 none_dead : (P : Check → Type 0) (number : ℕ) (items : List Item) → all_dead (checks_from number items) ≡ true → AllByRecursion P (checks_from number items)
@@ -163,9 +163,9 @@ module _ (law : AsksBelow) (base : Setting) (e : Estate AnyNode) (lines : HasLin
 
     -- it is referred to with the group of what is filed, where that bears its name
     grouped : is_filed_name n.filed seg.name ≡ true → seg.group ≡ (n.filed.segment seg.name.log.0 seg.name.seq).group
-    grouped is =
+    grouped premise =
         let there : Segment = n.filed.segment seg.name.log.0 seg.name.seq in
-        let name : seg.name ≡ there.name = tells_apart seg_cmp_exact seg.name there.name is in
+        let name : seg.name ≡ there.name = tells_apart seg_cmp_exact seg.name there.name premise in
         its_group base e lines texts part first count law.gets.flew ours seg f
         ∙ (ap (λ (x : SegName). (texts.text x).group) name
         ∙ ap (λ (s : Segment). s.group) (sym (joint.index_stands.texts_of seg.name.log.0 seg.name.seq its_within.some its_within.filed)))
@@ -184,15 +184,15 @@ module _ (law : AsksBelow) (base : Setting) (e : Estate AnyNode) (lines : HasLin
 
     -- what the job checks
     checked_may : (j : JobState) (checks : List Check) → n.job.phase ≡ Checking j seg checks → AllByRecursion (CheckMay may seg) checks
-    checked_may j checks is =
+    checked_may j checks premise =
         all_may checks
         (λ there. law.rows part (held_in part texts.text) first n j seg checks runs (λ l q low high some limit. (joint.tells l q some limit).plain)
-        (all_named n.filed joint.tells) is there (grouped there))
+        (all_named n.filed joint.tells) premise there (grouped there))
 
     -- and what it reads
     read_may : (j : JobState) (s : Segment) → n.job.phase ≡ Reading j seg → ReadFor n.filed (Some s) n.job.phase → s.name ≡ seg.name
         → AllByRecursion (CheckMay may seg) (checks_from 0 s.items)
-    read_may j s is owed same = by (all_dead (checks_from 0 s.items)) refl
+    read_may j s premise owed same = by (all_dead (checks_from 0 s.items)) refl
       where
         passes : same_name s.name seg.name ≡ true
         passes = subst (λ (x : SegName). same_name s.name x ≡ true) same (itself s.name)
@@ -206,7 +206,7 @@ module _ (law : AsksBelow) (base : Setting) (e : Estate AnyNode) (lines : HasLin
             all_may (checks_from 0 s.items)
             (λ there. law.rows part (held_in part texts.text) first (with_job n (transition n.job (input.Read (Some s)))) j seg (checks_from 0 s.items)
             (On runs (JobReads (Some s) owed)) (λ l q low high some limit. (joint.tells l q some limit).plain) (all_named n.filed joint.tells)
-            (then_checks n.job j seg s is passes alive) there (grouped there))
+            (then_checks n.job j seg s premise passes alive) there (grouped there))
 
   -- ---- the job of one that serves
 
@@ -220,74 +220,74 @@ module _ (law : AsksBelow) (base : Setting) (e : Estate AnyNode) (lines : HasLin
 
     drops : (p : Phase) → job.cleaning.phase ≡ p → (r : Role) (there : There base e lines texts part first r)
         → JobPhaseSeen (setting base e r) (log_at base e lines texts part first r there count) p
-    drops p is r there =
-        subst (JobPhaseSeen (setting base e r) (log_at base e lines texts part first r there count)) is
+    drops p premise r there =
+        subst (JobPhaseSeen (setting base e r) (log_at base e lines texts part first r there count)) premise
         (job_seen base e lines texts part first count law.gets.flew ours law.gets.written joint reached node here v serves job has r there)
 
     met : (p : Phase) → job.cleaning.phase ≡ p → PhaseMet (listed_in sent Cleaner) p
-    met p is = subst (PhaseMet (listed_in sent Cleaner)) is about.about
+    met p premise = subst (PhaseMet (listed_in sent Cleaner)) premise about.about
 
     -- what it checks
     phase_may : (p : Phase) → job.cleaning.phase ≡ p → phases.PhaseMay may p
-    phase_may (Checking j seg checks) is =
-        checked_may seg (flew_so base e lines texts part first count law.gets.flew ours seg (met (Checking j seg checks) is).here)
-        (λ r there. (drops (Checking j seg checks) is r there).1) j checks (same_phase ∙ is)
-    phase_may Greeting is = tt
-    phase_may (Listing l) is = tt
-    phase_may (Counting c) is = tt
-    phase_may (Reading j seg) is = tt
-    phase_may (Deleting j seg servers) is = tt
-    phase_may Over is = tt
+    phase_may (Checking j seg checks) premise =
+        checked_may seg (flew_so base e lines texts part first count law.gets.flew ours seg (met (Checking j seg checks) premise).here)
+        (λ r there. (drops (Checking j seg checks) premise r there).1) j checks (same_phase ∙ premise)
+    phase_may Greeting premise = tt
+    phase_may (Listing l) premise = tt
+    phase_may (Counting c) premise = tt
+    phase_may (Reading j seg) premise = tt
+    phase_may (Deleting j seg servers) premise = tt
+    phase_may Over premise = tt
 
     -- and what it reads
     found_may : (s : Segment) → ReadFor n.filed (Some s) n.job.phase → (p : Phase) → job.cleaning.phase ≡ p → FoundMay may s p
-    found_may s owed (Reading j seg) is =
-        read_may seg (flew_so base e lines texts part first count law.gets.flew ours seg (met (Reading j seg) is).here)
-        (λ r there. (drops (Reading j seg) is r there).1) j s (same_phase ∙ is) owed
-    found_may s owed Greeting is = tt
-    found_may s owed (Listing l) is = tt
-    found_may s owed (Counting c) is = tt
-    found_may s owed (Checking j seg checks) is = tt
-    found_may s owed (Deleting j seg servers) is = tt
-    found_may s owed Over is = tt
+    found_may s owed (Reading j seg) premise =
+        read_may seg (flew_so base e lines texts part first count law.gets.flew ours seg (met (Reading j seg) premise).here)
+        (λ r there. (drops (Reading j seg) premise r there).1) j s (same_phase ∙ premise) owed
+    found_may s owed Greeting premise = tt
+    found_may s owed (Listing l) premise = tt
+    found_may s owed (Counting c) premise = tt
+    found_may s owed (Checking j seg checks) premise = tt
+    found_may s owed (Deleting j seg servers) premise = tt
+    found_may s owed Over premise = tt
 
   module _ (v : Emptying) (serves : node.phase ≡ Serving v) where
     job_may : (o : Option Job) → v.job ≡ o → JobMay may o
-    job_may None is = tt
-    job_may (Some job) is = phase_may v serves job is job.cleaning.phase refl
+    job_may None premise = tt
+    job_may (Some job) premise = phase_may v serves job premise job.cleaning.phase refl
 
     input_may : (s : Segment) → ReadFor n.filed (Some s) n.job.phase → (o : Option Job) → v.job ≡ o → InputAt may o (input.Read (Some s))
-    input_may s owed None is = tt
-    input_may s owed (Some job) is = found_may v serves job is s owed job.cleaning.phase refl
+    input_may s owed None premise = tt
+    input_may s owed (Some job) premise = found_may v serves job premise s owed job.cleaning.phase refl
 
     told_may : (from : Option ℕ) (ask : ℕ) (t : Told) → ReadGets part n v from ask t → ToldMay may v from ask t
     told_may None ask t gets = tt
-    told_may (Some server) ask t gets = λ s is. input_may s (gets s is) v.job refl
+    told_may (Some server) ask t gets = λ s premise. input_may s (gets s premise) v.job refl
 
     body_may : (p : Packet) → In p sent → p.to ≡ Cleaner → (m : Body) → p.body ≡ m → BodyReadsMay may v p.from m
-    body_may p among own (body.Fragment m) is =
+    body_may p among own (body.Fragment m) premise =
         told_may (server_in p.from) m.ask (Held m.fragment)
-        (subst (AnswerReads part n v p.from) is
+        (subst (AnswerReads part n v p.from) premise
         (answer_reads law.gets base e lines texts part first count joint node here ours reached came named v serves p among own))
-    body_may p among own (body.Missing m) is =
+    body_may p among own (body.Missing m) premise =
         told_may (server_in p.from) m.ask (Missing m.generation)
-        (subst (AnswerReads part n v p.from) is
+        (subst (AnswerReads part n v p.from) premise
         (answer_reads law.gets base e lines texts part first count joint node here ours reached came named v serves p among own))
-    body_may p among own _ is = tt
+    body_may p among own _ premise = tt
 
   -- ---- the event
 
   node_may : (p : cleaning.Phase) → node.phase ≡ p → PhaseMay may p
-  node_may (Down l) is = tt
-  node_may (Opening l o) is = tt
-  node_may (Serving v) is = job_may v is v.job refl
+  node_may (Down l) premise = tt
+  node_may (Opening l o) premise = tt
+  node_may (Serving v) premise = job_may v premise v.job refl
 
   do_may : (what : Do) → ((q : Packet) → what ≡ Deliver q → In q sent × (q.to ≡ Cleaner)) → (p : cleaning.Phase) → node.phase ≡ p → DoReadsMay may p what
-  do_may Begin fact p is = tt
-  do_may Tick fact p is = tt
-  do_may (Deliver q) fact (Down l) is = tt
-  do_may (Deliver q) fact (Opening l o) is = tt
-  do_may (Deliver q) fact (Serving v) is = (let f = fact q refl in body_may v is q f.0 f.1 q.body refl)
+  do_may Begin fact p premise = tt
+  do_may Tick fact p premise = tt
+  do_may (Deliver q) fact (Down l) premise = tt
+  do_may (Deliver q) fact (Opening l o) premise = tt
+  do_may (Deliver q) fact (Serving v) premise = (let f = fact q refl in body_may v premise q f.0 f.1 q.body refl)
 
   body_owed : (m : Body) → BodyMay may m → SaysOwed part n m
   body_owed (body.Check m) asks =

@@ -58,8 +58,8 @@ delivered_was : (w : World AnyNode) (event : Event) → MayHappen w event → (q
 delivered_was w (events.Begin node) may q gets = absurd cc
 delivered_was w (events.Tick node) may q gets = absurd cc
 delivered_was w (events.Deliver packet) may q gets =
-    let is : packet ≡ q = delivered packet q gets in
-    (was_sent w.sent q (subst (λ x. MayHappen w (events.Deliver x)) is may), ap (λ (x : Packet). x.to) (sym is))
+    let fact : packet ≡ q = delivered packet q gets in
+    (was_sent w.sent q (subst (λ x. MayHappen w (events.Deliver x)) fact may), ap (λ (x : Packet). x.to) (sym fact))
 
 module _ (runs : RunLaws) (law : OwedBelow) (base : Setting) (e : Estate AnyNode) (ok : IsSetup e.script.setup)
     (run : IsRun any_step any_start e.script e.events e.world) (lines : HasLines base e) (texts : Texts base e lines) (part : ℕ) (first : ℕ → ℕ → Segment)
@@ -80,7 +80,7 @@ module _ (runs : RunLaws) (law : OwedBelow) (base : Setting) (e : Estate AnyNode
 
   -- each fragment that a server listed is of a log of the run
   ours : ListsOurs base e lines texts part first count
-  ours p m among is meta held = (let o = runs.lists e ok run count p m among is meta held in record { role = o.role; there = o.there; own = o.own })
+  ours p m among fact meta held = (let o = runs.lists e ok run count p m among fact meta held in record { role = o.role; there = o.there; own = o.own })
 
   module _ (x : CleanerEvent) where
     here : IsHere base e lines texts part first count node
@@ -117,16 +117,16 @@ module _ (runs : RunLaws) (law : OwedBelow) (base : Setting) (e : Estate AnyNode
         runs.reached e ok run count (log_by r) (opened r there keeps) joint.idx.registry.board (ap board_of registry_named)
 
     low : PollsAreLow law.asks.gets base e lines texts part first count joint node steps.before
-    low v p m serves among is of late =
+    low v p m serves among fact of late =
         runs.polls true (cluster base e) part texts.text first (moment e count).nodes (moment e count).sent (moment e count).acts joint.tok
         joint.idx v m x.few (record { tokens = joint.tokens_stand; index = joint.index_stands; same = joint.slots })
         (ap (λ (n : CleanerNode). n.phase) (in_tokens base e lines texts part first count joint node steps.before) ∙ serves)
-        (record { packet = p; among = among; bears = is; of = of })
+        (record { packet = p; among = among; bears = fact; of = of })
         (let same = unwrap_or-slice_get v.promised.epochs part 0 in let upto = late in omega arith) 9 (omega arith) (omega arith)
 
     moved_is : (f : FlightState) → flew_at base e lines texts part first OfCleaner tt count ≡ Some f
         → AllByRecursion (ItemMoves part joint.idx.net.sent) f.segment.items
-    moved_is f is = subst (λ o. IfSome o (λ (y : FlightState). AllByRecursion (ItemMoves part joint.idx.net.sent) y.segment.items)) is x.moved
+    moved_is f fact = subst (λ o. IfSome o (λ (y : FlightState). AllByRecursion (ItemMoves part joint.idx.net.sent) y.segment.items)) fact x.moved
 
     pub beside : Beside law base e lines texts part first count joint node what
     beside = record {

@@ -424,7 +424,7 @@ module _ (may : May) where
   told_so e (Some server) ask t owed h =
       let d = told_in e e.job e.maps.groups ask server t in
       after_told_so d.state d.next
-      (λ s is. let i = owed s is in told_input e e.job e.maps.groups ask server t (input.Read (Some s)) i i)
+      (λ s fact. let i = owed s fact in told_input e e.job e.maps.groups ask server t (input.Read (Some s)) i i)
       (told_at e e.job e.maps.groups ask server t h h)
 
   -- ---- answers to its questions

@@ -37,8 +37,8 @@ module _ (New : Filed → Segment → Type 0) (texts : Texts) (l : ℕ) where
   name_rises f name = by (name.seq == suc (f.head l)) refl
     where
       by : (t : Bool) → (name.seq == suc (f.head l)) ≡ t → f.head l ≤ (with_name texts l f name).head l
-      by true is = (let h = ap (λ (t : Bool). (if t then with_segment f l (texts name) else f).head l) is ∙ head_is l f (texts name) in omega arith)
-      by false is = (let h = ap (λ (t : Bool). (if t then with_segment f l (texts name) else f).head l) is in omega arith)
+      by true fact = (let h = ap (λ (t : Bool). (if t then with_segment f l (texts name) else f).head l) fact ∙ head_is l f (texts name) in omega arith)
+      by false fact = (let h = ap (λ (t : Bool). (if t then with_segment f l (texts name) else f).head l) fact in omega arith)
 
   act_rises : (f : Filed) (a : Act) → f.head l ≤ (after_act texts l f a).head l
   act_rises f (ActsFiled name) = name_rises f name

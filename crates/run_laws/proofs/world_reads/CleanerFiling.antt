@@ -52,8 +52,8 @@ use Rattle.xfs_base.specs.declared.node.NodeId.TheVariants.{Cleaner}
 use Rattle.xfs_base.specs.declared.segment.SegName.{SegName}
 
 in_right : {X : Type 0} (xs ys : List X) (x : X) → In x ys → In x (xs ++ ys)
-in_right [] ys x is = is
-in_right (y ∷ xs) ys x is = inr (in_right xs ys x is)
+in_right [] ys x fact = fact
+in_right (y ∷ xs) ys x fact = inr (in_right xs ys x fact)
 
 -- the laws of the crates below
 pub record FilesBelow : Type 0 where
@@ -86,8 +86,8 @@ module _ (below : FilesBelow) (base : Setting) (e : Estate AnyNode) (lines : Has
   -- it is filed after the event
   acts_filed : AllSo (λ name. In name x.net.filed) outs
   acts_filed = below.done x.net Cleaner outs
-      (λ name is. ((its_line base e lines texts part first).stands (suc count)).filed name
-      (subst (In (ActsFiled name)) (sym steps.did) (in_right _ _ (ActsFiled name) is)))
+      (λ name fact. ((its_line base e lines texts part first).stands (suc count)).filed name
+      (subst (In (ActsFiled name)) (sym steps.did) (in_right _ _ (ActsFiled name) fact)))
 
   short : AllSo (HasFlown w.net) outs → AllSo (λ name. has_next name.seq ≡ true) outs
   short = below.short g w node what (owns base e lines texts part first count node steps.before).agrees
@@ -103,8 +103,8 @@ module _ (below : FilesBelow) (base : Setting) (e : Estate AnyNode) (lines : Has
 
   -- and so does what it had in flight when it served last
   flew_says : (f : FlightState) → last_flight (its_moment base e lines texts part first count).run ≡ Some f → SaysBlocks f.segment
-  flew_says f is =
-      says_once f.segment (subst (λ o. IfSome o (λ (y : FlightState). IsCopies y.segment)) is (joint.kind OfCleaner tt refl)).tells
+  flew_says f fact =
+      says_once f.segment (subst (λ o. IfSome o (λ (y : FlightState). IsCopies y.segment)) fact (joint.kind OfCleaner tt refl)).tells
 
   -- where it flew, and its text says of blocks, and is new
   owed : AllSo (λ name. has_next name.seq ≡ true) outs → AllSo (λ name. SaysBlocks (texts.text name)) outs
@@ -126,13 +126,13 @@ module _ (below : FilesBelow) (base : Setting) (e : Estate AnyNode) (lines : Has
     flight_says = by v.log.flight (served_last g _ w.net (its_moment base e lines texts part first count).run v.log its_owner)
       where
         by : (o : Option FlightState) → last_flight (its_moment base e lines texts part first count).run ≡ o → IfSome o (λ f. SaysBlocks f.segment)
-        by None is = tt
-        by (Some f) is = flew_says f is
+        by None fact = tt
+        by (Some f) fact = flew_says f fact
 
     flight_text : (f : FlightState) → v.log.flight ≡ Some f → texts.text f.segment.name ≡ f.segment
-    flight_text f is =
+    flight_text f fact =
         texts.flown OfCleaner tt count f.segment
-        (subst (λ o. IfSome o (λ (y : FlightState). In y.segment w.net.flown)) is
+        (subst (λ o. IfSome o (λ (y : FlightState). In y.segment w.net.flown)) fact
         (subst (OwnerFlew w.net.flown) its_owner (below.held g w.net (its_moment base e lines texts part first count))))
 
     named_says : (name : SegName) → IsFlight v.log name → SaysBlocks (texts.text name)

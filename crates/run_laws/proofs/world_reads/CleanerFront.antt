@@ -34,27 +34,27 @@ use Rattle.run_laws.specs.world_logs.Doings.{acts_by, acts_in, acts_of, did, own
 -- ---- the next moment
 
 one_event : (a b : Event) → Some a ≡ Some b → a ≡ b
-one_event a b is = cc
+one_event a b fact = cc
 
 fold_next : (w : World AnyNode) (those : List Event) (count : ℕ) (event : Event) → slice_get those count ≡ Some event
     → fold (next_world any_step) w (take (suc count) those) ≡ next_world any_step (fold (next_world any_step) w (take count those)) event
-fold_next w [] count event is = absurd cc
-fold_next w (x ∷ more) zero event is = ap (λ y. next_world any_step w y) (one_event x event is)
-fold_next w (x ∷ more) (suc n) event is = fold_next (next_world any_step w x) more n event is
+fold_next w [] count event fact = absurd cc
+fold_next w (x ∷ more) zero event fact = ap (λ y. next_world any_step w y) (one_event x event fact)
+fold_next w (x ∷ more) (suc n) event fact = fold_next (next_world any_step w x) more n event fact
 
 acts_next : (c : ℕ) (w : World AnyNode) (those : List Event) (count : ℕ) (event : Event) → slice_get those count ≡ Some event
     → acts_by c w (take (suc count) those) ≡ acts_by c w (take count those) ++ acts_of c (fold (next_world any_step) w (take count those)) event
-acts_next c w [] count event is = absurd cc
-acts_next c w (x ∷ more) zero event is = append-nil (acts_of c w x) ∙ ap (λ y. acts_of c w y) (one_event x event is)
-acts_next c w (x ∷ more) (suc n) event is =
-    ap (λ xs. acts_of c w x ++ xs) (acts_next c (next_world any_step w x) more n event is)
+acts_next c w [] count event fact = absurd cc
+acts_next c w (x ∷ more) zero event fact = append-nil (acts_of c w x) ∙ ap (λ y. acts_of c w y) (one_event x event fact)
+acts_next c w (x ∷ more) (suc n) event fact =
+    ap (λ xs. acts_of c w x ++ xs) (acts_next c (next_world any_step w x) more n event fact)
     ∙ sym (append_assoc (acts_of c w x) (acts_by c (next_world any_step w x) (take n more)) _)
 
 may_next : (w end : World AnyNode) (those : List Event) (count : ℕ) (event : Event) → Leads any_step w those end → slice_get those count ≡ Some event
     → MayHappen (fold (next_world any_step) w (take count those)) event
-may_next w end [] count event leads is = absurd cc
-may_next w end (x ∷ more) zero event leads is = subst (MayHappen w) (one_event x event is) leads.0
-may_next w end (x ∷ more) (suc n) event leads is = may_next (next_world any_step w x) end more n event leads.1 is
+may_next w end [] count event leads fact = absurd cc
+may_next w end (x ∷ more) zero event leads fact = subst (MayHappen w) (one_event x event fact) leads.0
+may_next w end (x ∷ more) (suc n) event leads fact = may_next (next_world any_step w x) end more n event leads.1 fact
 
 cluster_next : (w : World AnyNode) (those : List Event) (count : ℕ) → (fold (next_world any_step) w (take count those)).cluster ≡ w.cluster
 cluster_next w [] zero = refl
@@ -98,7 +98,7 @@ module _ (w : World AnyNode) (event : Event) where
   takes_or_stays =
       next_keeps any_step (λ (nodes : List AnyNode) (sent : List Packet) (acts : List Act). Takes nodes acts ⊎ Stays nodes acts) w event
       (inr (record { nodes_stay = refl; acts_stay = refl }))
-      (λ place node clock at is. inl (record { place = place; node = node; placed = at; stands = is; nodes_are = refl; acts_are = refl }))
+      (λ place node clock at fact. inl (record { place = place; node = node; placed = at; stands = fact; nodes_are = refl; acts_are = refl }))
 
 -- ---- the cleaner
 

@@ -86,8 +86,8 @@ module _ (below : GetsBelow) (base : Setting) (e : Estate AnyNode) (lines : HasL
         (((its_line base e lines texts part first).stands count).seen Registry (any.Registry joint.idx.registry) joint.index_stands.placed.registry).low
 
     pub poll_gets : (v : Emptying) (p : Packet) (m : Poll) → node.phase ≡ Serving v → In p sent → p.body ≡ body.Poll m → PollGets part joint.idx.net v m
-    poll_gets v p m serves among is same late some =
-        let l = low v p m serves among is same late in let i = low_is in
+    poll_gets v p m serves among premise same late some =
+        let l = low v p m serves among premise same late in let i = low_is in
         gives.linked (of_log (joint.idx.net.horizon m.epoch) 9) (joint.idx.net.filed.head 9) some (omega arith) (omega arith)
 
   -- ---- what it reads
@@ -98,11 +98,11 @@ module _ (below : GetsBelow) (base : Setting) (e : Estate AnyNode) (lines : HasL
     seen = (subst (PhaseAgrees part joint.idx.net texts.text) serves (agrees base e lines texts part first count joint node here).phase).0
 
     job_is : (epoch : ℕ) (o : Option Job) (job : Job) → JobAgrees part joint.idx.net epoch o → o ≡ Some job → joint.idx.net.job ≡ job.cleaning
-    job_is epoch None job seen is = absurd cc
-    job_is epoch (Some x) job seen is = (let same : x ≡ job = cc in seen.same_job ∙ ap (λ (j : Job). j.cleaning) same)
+    job_is epoch None job seen premise = absurd cc
+    job_is epoch (Some x) job seen premise = (let same : x ≡ job = cc in seen.same_job ∙ ap (λ (j : Job). j.cleaning) same)
 
     pub has_job : HasJob joint.idx.net v
-    has_job job is = job_is (epoch_of v.promised part) v.job job seen.job is
+    has_job job premise = job_is (epoch_of v.promised part) v.job job seen.job premise
 
     its_meets : AnyJobMet (listed_in sent Cleaner) v.job
     its_meets = subst (NodeMet (listed_in sent Cleaner)) serves (came.nodes Cleaner (any.Cleaner node) named).meets
@@ -132,8 +132,8 @@ module _ (below : GetsBelow) (base : Setting) (e : Estate AnyNode) (lines : HasL
 
     -- without a job nothing is read
     waits : (o : Option Job) → o ≡ None → (ask server : ℕ) (t : Told) (s : Segment) → (told_in v o v.maps.groups ask server t).next ≡ next.Read s → ⊥
-    waits None is ask server t s done = absurd cc
-    waits (Some job) is ask server t s done = absurd cc
+    waits None premise ask server t s done = absurd cc
+    waits (Some job) premise ask server t s done = absurd cc
 
     reads_nothing : v.job ≡ None → (o : Option ℕ) (ask : ℕ) (t : Told) → ReadGets part joint.idx.net v o ask t
     unfolding told_by
@@ -149,8 +149,8 @@ module _ (below : GetsBelow) (base : Setting) (e : Estate AnyNode) (lines : HasL
     answer_reads p among own = by v.job refl
       where
         by : (o : Option Job) → v.job ≡ o → AnswerReads part joint.idx.net v p.from p.body
-        by None is = answer_nothing is p.from p.body
-        by (Some job) is = reads job is p among own
+        by None premise = answer_nothing premise p.from p.body
+        by (Some job) premise = reads job premise p among own
 
   -- ---- whatever happens to it
 
@@ -163,14 +163,14 @@ module _ (below : GetsBelow) (base : Setting) (e : Estate AnyNode) (lines : HasL
   cleaner_gets sure low ours reached came named (Deliver q) fact = by node.phase refl
     where
       at_body : (v : Emptying) → node.phase ≡ Serving v → (m : Body) → q.body ≡ m → CleanerBodyOwed part texts.text joint.idx.net v q.from m
-      at_body v serves (body.Poll m) is = poll_gets sure low v q m serves (fact q refl).0 is
-      at_body v serves (body.Fragment m) is =
-          subst (AnswerReads part joint.idx.net v q.from) is (answer_reads ours reached came named v serves q (fact q refl).0 (fact q refl).1)
-      at_body v serves (body.Missing m) is =
-          subst (AnswerReads part joint.idx.net v q.from) is (answer_reads ours reached came named v serves q (fact q refl).0 (fact q refl).1)
-      at_body v serves _ is = tt
+      at_body v serves (body.Poll m) premise = poll_gets sure low v q m serves (fact q refl).0 premise
+      at_body v serves (body.Fragment m) premise =
+          subst (AnswerReads part joint.idx.net v q.from) premise (answer_reads ours reached came named v serves q (fact q refl).0 (fact q refl).1)
+      at_body v serves (body.Missing m) premise =
+          subst (AnswerReads part joint.idx.net v q.from) premise (answer_reads ours reached came named v serves q (fact q refl).0 (fact q refl).1)
+      at_body v serves _ premise = tt
 
       by : (p : cleaning.Phase) → node.phase ≡ p → CleanerPacketOwed part texts.text joint.idx.net p q
-      by (Serving v) is = at_body v is q.body refl
-      by (Opening l o) is = tt
-      by (Down l) is = tt
+      by (Serving v) premise = at_body v premise q.body refl
+      by (Opening l o) premise = tt
+      by (Down l) premise = tt

@@ -81,13 +81,13 @@ book_of packets ask name = WasAsked packets ask name
 -- a Check among what is sent is among what is done
 asked_in : (node : NodeId) (clock : ℕ) (outs : List Effect) (q : Packet) (m : Check) (ask : ℕ) (name : SegName)
     → In q (map (sent_at clock) (packets_of node outs)) → q.body ≡ body.Check m → m.ask ≡ ask → m.place.seg.name ≡ name → AsksIn outs ask name
-asked_in node clock [] q m ask name among is same its = absurd among
-asked_in node clock (Send to said ∷ outs) q m ask name (inl first) is same its =
-    inl (subst (λ b. EffectAsks (Send to b) ask name) (sym is ∙ ap (λ (x : Packet). x.body) first) (same, its))
-asked_in node clock (Send to said ∷ outs) q m ask name (inr later) is same its = inr (asked_in node clock outs q m ask name later is same its)
-asked_in node clock (Answer item answer ∷ outs) q m ask name among is same its = inr (asked_in node clock outs q m ask name among is same its)
-asked_in node clock (Lose seg ∷ outs) q m ask name among is same its = inr (asked_in node clock outs q m ask name among is same its)
-asked_in node clock (Does act ∷ outs) q m ask name among is same its = inr (asked_in node clock outs q m ask name among is same its)
+asked_in node clock [] q m ask name among fact same its = absurd among
+asked_in node clock (Send to said ∷ outs) q m ask name (inl first) fact same its =
+    inl (subst (λ b. EffectAsks (Send to b) ask name) (sym fact ∙ ap (λ (x : Packet). x.body) first) (same, its))
+asked_in node clock (Send to said ∷ outs) q m ask name (inr later) fact same its = inr (asked_in node clock outs q m ask name later fact same its)
+asked_in node clock (Answer item answer ∷ outs) q m ask name among fact same its = inr (asked_in node clock outs q m ask name among fact same its)
+asked_in node clock (Lose seg ∷ outs) q m ask name among fact same its = inr (asked_in node clock outs q m ask name among fact same its)
+asked_in node clock (Does act ∷ outs) q m ask name among fact same its = inr (asked_in node clock outs q m ask name among fact same its)
 
 -- ---- a node
 
@@ -121,30 +121,30 @@ any_starts Registry setup items = tt
 its_name : (x : AnyNode) (what : Do) (clock : ℕ) (q : Packet) → In q (map (sent_at clock) (any_step x what).packets) → IsCleaner q.from → (name : NodeId)
     → KindOf x name
     → (node : CleanerNode) × (x ≡ any.Cleaner node)
-its_name (any.Client node) what clock q among is name kind =
+its_name (any.Client node) what clock q among fact name kind =
     absurd (subst IsCleaner
     (sends (Client (clients.lasting_of node.phase).number) clock (λ e. Unit {0})
-    (λ (p : Packet). p.from ≡ Client (clients.lasting_of node.phase).number) (λ to said d. refl) (clients.takes node what).outs (λ i d less. tt) q among) is)
-its_name (any.Manager node) what clock q among is name kind =
+    (λ (p : Packet). p.from ≡ Client (clients.lasting_of node.phase).number) (λ to said d. refl) (clients.takes node what).outs (λ i d less. tt) q among) fact)
+its_name (any.Manager node) what clock q among fact name kind =
     absurd (subst IsCleaner
     (sends (Manager (lasting_of node.phase).number) clock (λ e. Unit {0}) (λ (p : Packet). p.from ≡ Manager (lasting_of node.phase).number)
-    (λ to said d. refl) (managers.happens node what).outs (λ i d less. tt) q among) is)
-its_name (any.Server node) what clock q among is name kind =
+    (λ to said d. refl) (managers.happens node what).outs (λ i d less. tt) q among) fact)
+its_name (any.Server node) what clock q among fact name kind =
     absurd (subst IsCleaner
     (sends (Server node.number) clock (λ e. Unit {0}) (λ (p : Packet). p.from ≡ Server node.number) (λ to said d. refl) (servers.takes node what).outs
-    (λ i d less. tt) q among) is)
-its_name (any.Cleaner node) what clock q among is name kind = (node, refl)
-its_name (any.Registry node) what clock q among is name kind =
+    (λ i d less. tt) q among) fact)
+its_name (any.Cleaner node) what clock q among fact name kind = (node, refl)
+its_name (any.Registry node) what clock q among fact name kind =
     absurd (subst IsCleaner
     (sends Registry clock (λ e. Unit {0}) (λ (p : Packet). p.from ≡ Registry) (λ to said d. refl) (registries.takes node what).outs (λ i d less. tt) q among)
-    is)
+    fact)
 
 cleaner_named : (node : CleanerNode) (name : NodeId) → KindOf (any.Cleaner node) name → name ≡ Cleaner
-cleaner_named node (Client c) is = absurd is
-cleaner_named node (Manager j) is = absurd is
-cleaner_named node (Server v) is = absurd is
-cleaner_named node Cleaner is = refl
-cleaner_named node Registry is = absurd is
+cleaner_named node (Client c) fact = absurd fact
+cleaner_named node (Manager j) fact = absurd fact
+cleaner_named node (Server v) fact = absurd fact
+cleaner_named node Cleaner fact = refl
+cleaner_named node Registry fact = absurd fact
 
 -- ---- a moment
 
@@ -162,7 +162,7 @@ Known sent = (q : Packet) → In q sent → IsKind q
 -- ---- an event
 
 module _ (k : Cluster) (w : World AnyNode) (event : Event) (good : Good k w.nodes w.sent) (place : ℕ) (x : AnyNode) (clock : ℕ)
-    (at : place_of k (node_of event) ≡ Some place) (is : slice_get w.nodes place ≡ Some x) where
+    (at : place_of k (node_of event) ≡ Some place) (fact : slice_get w.nodes place ≡ Some x) where
   abbrev name : NodeId
   name = node_of event
 
@@ -182,10 +182,10 @@ module _ (k : Cluster) (w : World AnyNode) (event : Event) (good : Good k w.node
   sent = w.sent ++ new
 
   here : node_in later (place_of k name) ≡ Some y
-  here = places.here k w.nodes name place at y x is
+  here = places.here k w.nodes name place at y x fact
 
   its : NodeSo w.sent name x
-  its = good name x (ap (node_in w.nodes) at ∙ is)
+  its = good name x (ap (node_in w.nodes) at ∙ fact)
 
   -- what was asked then was asked before, or is asked by the cleaner in the event
   either : (ask : ℕ) (seg : SegName) (P : Type 0) → book_of sent ask seg → (book_of w.sent ask seg → P)
@@ -252,7 +252,7 @@ event_keeps : (k : Cluster) (w : World AnyNode) → w.cluster ≡ k → (event :
     → Good k (next_world any_step w event).nodes (next_world any_step w event).sent
 event_keeps k w cluster event good known =
     next_keeps any_step (λ all sent acts. Known sent → Good k all sent) w event (λ _. good)
-    (λ place x clock at is. turned k w event good place x clock (subst (λ c. place_of c (node_of event) ≡ Some place) cluster at) is) known
+    (λ place x clock at fact. turned k w event good place x clock (subst (λ c. place_of c (node_of event) ≡ Some place) cluster at) fact) known
 
 -- ---- a run
 
@@ -301,13 +301,13 @@ module _ (laws : tokens.NodeLaws) (e : Estate AnyNode) (ok : IsSetup e.script.se
   -- ---- what is awaited
 
   in_hand : (p : Phase) (held seen : SegName) → IsOfJob p held → held ≡ seen → IsInHand seen p
-  in_hand Greeting held seen of is = tt
-  in_hand (Listing l) held seen of is = tt
-  in_hand (Counting c) held seen of is = tt
-  in_hand (Reading j seg) held seen of is = tt
-  in_hand (Checking j seg checks) held seen of is = of ∙ is
-  in_hand (Deleting j seg servers) held seen of is = tt
-  in_hand Over held seen of is = tt
+  in_hand Greeting held seen of fact = tt
+  in_hand (Listing l) held seen of fact = tt
+  in_hand (Counting c) held seen of fact = tt
+  in_hand (Reading j seg) held seen of fact = tt
+  in_hand (Checking j seg checks) held seen of fact = of ∙ fact
+  in_hand (Deleting j seg servers) held seen of fact = tt
+  in_hand Over held seen of fact = tt
 
   module _ (book : Book) (q : Questions) (room : q.last < u32_end) (block : BlockId) (ask : ℕ) (name : SegName) (was : book ask name) where
     of_hand : (p : Phase) (o : Option Hand) → HandIn book q p o → check_of o block ≡ Some ask → IsInHand name p

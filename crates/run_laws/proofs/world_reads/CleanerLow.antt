@@ -94,10 +94,10 @@ module _ (stay : HorizonsStay) (part : ℕ) (holds : SegRef → Rows) (first : �
   nobody e above = by (n.slots e) refl
     where
       by : (o : Option SlotState) → n.slots e ≡ o → n.slots e ≡ None
-      by None is = is
-      by (Some s) is =
-          let low = bounds.active_promised s.epoch (seen.slots e s is).active in
-          let same = good.epochs e s is in
+      by None fact = fact
+      by (Some s) fact =
+          let low = bounds.active_promised s.epoch (seen.slots e s fact).active in
+          let same = good.epochs e s fact in
           let its = seen.promised in
           absurd (omega arith)
 
@@ -127,8 +127,8 @@ module _ (stay : HorizonsStay) (part : ℕ) (holds : SegRef → Rows) (first : �
       kept = least_kept part n r of_eight agreed l some limit
 
       by : (t : Bool) → nat_le n.promised n.epoch ≡ t → IsPromisedAbove l (least_horizon l (all_news r.board))
-      by true is =
-          let upto : n.promised ≤ n.epoch = grind (arith, nat_tests, is) in
+      by true fact =
+          let upto : n.promised ≤ n.epoch = grind (arith, nat_tests, fact) in
           let end : n.promised + (n.epoch - n.promised) ≡ n.epoch = omega arith in
           record {
             epoch = n.promised;
@@ -136,4 +136,4 @@ module _ (stay : HorizonsStay) (part : ℕ) (holds : SegRef → Rows) (first : �
             above = subst (λ (h : List ℕ). least_horizon l (all_news r.board) ≤ of_log h l)
                 (ap n.horizon (sym end) ∙ same_horizon (n.epoch - n.promised) (omega arith)) kept;
           }
-      by false is = record { epoch = n.epoch; promised = grind (arith, nat_tests, is); above = kept }
+      by false fact = record { epoch = n.epoch; promised = grind (arith, nat_tests, fact); above = kept }

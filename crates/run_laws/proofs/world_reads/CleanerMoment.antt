@@ -29,7 +29,7 @@ use Rattle.run_laws.specs.world_reads.Joint.{IsSureUpto, Joint}
 use Rattle.xfs_base.specs.declared.node.NodeId.TheVariants.{Cleaner}
 
 pub same_cleaner : (a b : CleanerNode) → Some (any.Cleaner a) ≡ Some (any.Cleaner b) → a ≡ b
-same_cleaner a b is = cc
+same_cleaner a b fact = cc
 
 module _ (base : Setting) (e : Estate AnyNode) (lines : HasLines base e) (texts : Texts base e lines) (part : ℕ) (first : ℕ → ℕ → Segment) where
   abbrev pub its_line : Line base e OfCleaner

@@ -77,7 +77,7 @@ module _ (base : Setting) (e : Estate AnyNode) (lines : HasLines base e) (texts 
         → ((f : FlightState) → s.flight ≡ Some f → AllByRecursion (ItemMoves part m.sent) f.segment.items)
         → Moved (suc count) m
     serving_moved s same flies =
-        subst (λ o. IfSome o (λ f. AllByRecursion (ItemMoves part m.sent) f.segment.items)) (sym same) (by s.flight (λ f is. flies f is))
+        subst (λ o. IfSome o (λ f. AllByRecursion (ItemMoves part m.sent) f.segment.items)) (sym same) (by s.flight (λ f fact. flies f fact))
       where
         by : (o : Option FlightState) → ((f : FlightState) → o ≡ Some f → AllByRecursion (ItemMoves part m.sent) f.segment.items)
             → IfSome o (λ f. AllByRecursion (ItemMoves part m.sent) f.segment.items)
@@ -123,16 +123,17 @@ module _ (base : Setting) (e : Estate AnyNode) (lines : HasLines base e) (texts 
       stage_away o last (stage.Settling s) sees = ap is_serving sees.owner
 
       by_phase : (p : cleaning.Phase) → node.phase ≡ p → Moved count n → Moved (suc count) m
-      by_phase (Down l) is h =
+      by_phase (Down l) fact h =
           still_moved (away (ap is_serving
-          (subst (cleaner_log.CleanerAgrees (its_setting base e lines texts part first) (its_scene base e lines texts part first (suc count))) is sees).1)) h
-      by_phase (Opening l o) is h =
+          (subst (cleaner_log.CleanerAgrees (its_setting base e lines texts part first) (its_scene base e lines texts part first (suc count))) fact sees).1)) h
+      by_phase (Opening l o) fact h =
           still_moved (away (stage_away o l.questions.last o.stage
-          (subst (cleaner_log.CleanerAgrees (its_setting base e lines texts part first) (its_scene base e lines texts part first (suc count))) is sees).sees)) h
-      by_phase (Serving v) is h =
-          let owner = (subst (cleaner_log.CleanerAgrees (its_setting base e lines texts part first) (its_scene base e lines texts part first (suc count))) is
+          (subst (cleaner_log.CleanerAgrees (its_setting base e lines texts part first)
+          (its_scene base e lines texts part first (suc count))) fact sees).sees)) h
+      by_phase (Serving v) fact h =
+          let owner = (subst (cleaner_log.CleanerAgrees (its_setting base e lines texts part first) (its_scene base e lines texts part first (suc count))) fact
           sees).log.owner in
-          let moves = subst (CleanerMoves part m.sent) is agrees.moves in
+          let moves = subst (CleanerMoves part m.sent) fact agrees.moves in
           serving_moved v.log
           (served_last (its_setting base e lines texts part first) _ (its_scene base e lines texts part first (suc count)).net
           (its_moment base e lines texts part first (suc count)).run v.log owner)

@@ -34,46 +34,46 @@ module _ (s : Segment) where
     has : Contains (entries items) (b, record { ver = ver; hop = hop; place = place_of s number })
 
   one_block : (a b : BlockId) (v w : Option (List ℕ)) → Some (Block a v) ≡ Some (Block b w) → a ≡ b
-  one_block a b v w is = cc
+  one_block a b v w fact = cc
 
   another : (items : List Item) (m n : ℕ) (b : BlockId) → m ≡ n → Behind items m b → Behind items n b
   another items m n b same h = subst (λ k. Behind items k b) same h
 
   behind : (items : List Item) (n i : ℕ) (b : BlockId) (value : Option (List ℕ)) → KeepsRule None n items → slice_get items i ≡ Some (Block b value)
       → Behind items (n + i) b
-  behind [] n i b value rule is = absurd cc
-  behind (Block a v ∷ []) n i b value rule is = absurd rule
-  behind (Block a v ∷ Block c w ∷ items) n i b value rule is = absurd rule
-  behind (Block a v ∷ Part slot rows ∷ items) n i b value rule is = absurd rule
-  behind (Block a v ∷ Delta d ver hop item ∷ items) n zero b value rule is = record {
+  behind [] n i b value rule fact = absurd cc
+  behind (Block a v ∷ []) n i b value rule fact = absurd rule
+  behind (Block a v ∷ Block c w ∷ items) n i b value rule fact = absurd rule
+  behind (Block a v ∷ Part slot rows ∷ items) n i b value rule fact = absurd rule
+  behind (Block a v ∷ Delta d ver hop item ∷ items) n zero b value rule fact = record {
     ver = ver;
     hop = hop;
     has = subst (λ (x : BlockId × Entry). Contains (entries (Delta d ver hop item ∷ items)) x)
-        (λ k. ((rule.0 ∙ one_block a b v value is) k, record { ver = ver; hop = hop; place = place_of s ((rule.1 ∙ plus n) k) }))
+        (λ k. ((rule.0 ∙ one_block a b v value fact) k, record { ver = ver; hop = hop; place = place_of s ((rule.1 ∙ plus n) k) }))
         (contains_first (d, record { ver = ver; hop = hop; place = place_of s item }) (entries items));
   }
     where
       plus : (n : ℕ) → n ≡ n + 0
       plus n = omega arith
-  behind (Block a v ∷ Delta d ver hop item ∷ items) n (suc zero) b value rule is = absurd cc
-  behind (Block a v ∷ Delta d ver hop item ∷ items) n (suc (suc i)) b value rule is =
-      let h = behind items (n + 1 + 1) i b value rule.2 is in
+  behind (Block a v ∷ Delta d ver hop item ∷ items) n (suc zero) b value rule fact = absurd cc
+  behind (Block a v ∷ Delta d ver hop item ∷ items) n (suc (suc i)) b value rule fact =
+      let h = behind items (n + 1 + 1) i b value rule.2 fact in
       another (Block a v ∷ Delta d ver hop item ∷ items) (n + 1 + 1 + i) (n + suc (suc i)) b (omega arith) (record {
         ver = h.ver;
         hop = h.hop;
         has = contains_rest (d, record { ver = ver; hop = hop; place = place_of s item }) _ (entries items) h.has;
       })
-  behind (Delta d ver hop item ∷ items) n zero b value rule is = absurd cc
-  behind (Delta d ver hop item ∷ items) n (suc i) b value rule is =
-      let h = behind items (n + 1) i b value rule.1 is in
+  behind (Delta d ver hop item ∷ items) n zero b value rule fact = absurd cc
+  behind (Delta d ver hop item ∷ items) n (suc i) b value rule fact =
+      let h = behind items (n + 1) i b value rule.1 fact in
       another (Delta d ver hop item ∷ items) (n + 1 + i) (n + suc i) b (omega arith) (record {
         ver = h.ver;
         hop = h.hop;
         has = contains_rest (d, record { ver = ver; hop = hop; place = place_of s item }) _ (entries items) h.has;
       })
-  behind (Part slot rows ∷ items) n zero b value rule is = absurd cc
-  behind (Part slot rows ∷ items) n (suc i) b value rule is =
-      let h = behind items (n + 1) i b value rule is in
+  behind (Part slot rows ∷ items) n zero b value rule fact = absurd cc
+  behind (Part slot rows ∷ items) n (suc i) b value rule fact =
+      let h = behind items (n + 1) i b value rule fact in
       another (Part slot rows ∷ items) (n + 1 + i) (n + suc i) b (omega arith) (record { ver = h.ver; hop = h.hop; has = h.has })
 
   -- ---- a segment that tells once
@@ -86,11 +86,11 @@ module _ (s : Segment) where
         other a b h = grind (arith, nat_tests)
 
     its_delta : (b : BlockId) (i : ℕ) (value : Option (List ℕ)) → slice_get s.items i ≡ Some (Block b value) → Behind s.items i b
-    its_delta b i value is = another s.items (0 + i) i b (omega arith) (behind s.items 0 i b value tells.places is)
+    its_delta b i value fact = another s.items (0 + i) i b (omega arith) (behind s.items 0 i b value tells.places fact)
 
     short : (b : BlockId) (i : ℕ) (value : Option (List ℕ)) → slice_get s.items i ≡ Some (Block b value) → i < no_item
-    short b i value is =
-        (let less = slice_get_within s.items i (Block b value) is in let few = tells.plain.few in omega arith)
+    short b i value fact =
+        (let less = slice_get_within s.items i (Block b value) fact in let few = tells.plain.few in omega arith)
 
     pub is_named : IsNamed s
     is_named b i at =
@@ -99,12 +99,12 @@ module _ (s : Segment) where
 
     -- where a Block stands
     where_it_is : (items : List Item) (x : Item) → In x items → (i : ℕ) × (slice_get items i ≡ Some x)
-    where_it_is [] x is = absurd is
+    where_it_is [] x fact = absurd fact
     where_it_is (y ∷ items) x (inl same) = (0, ap Some (sym same))
     where_it_is (y ∷ items) x (inr rest) = (let r = where_it_is items x rest in (suc r.0, r.1))
 
     one_place : (x y : Place) → Some x ≡ Some y → x ≡ y
-    one_place x y is = ap (λ (o : Option Place). unwrap_or o x) is
+    one_place x y fact = ap (λ (o : Option Place). unwrap_or o x) fact
 
     pub is_exact : IsExact s
     is_exact b value e place among has lies =

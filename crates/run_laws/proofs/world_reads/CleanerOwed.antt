@@ -141,7 +141,7 @@ module _ (law : OwedBelow) (base : Setting) (e : Estate AnyNode) (lines : HasLin
     -- ---- its log
 
     owner_serves : (n : Scene) (r : cleaning.Phase) → cleaner_log.CleanerAgrees g n r → (v : Emptying) → r ≡ Serving v → is_serving n.net.owner ≡ true
-    owner_serves n r sees v is = ap is_serving (subst (cleaner_log.CleanerAgrees g n) is sees).log.owner
+    owner_serves n r sees v fact = ap is_serving (subst (cleaner_log.CleanerAgrees g n) fact sees).log.owner
 
     stage_away : (n : Scene) (o : openings.Opening) (last : ℕ) (s : stages.Stage) → SeesStage g cleaner_log.its_number n o.known last s
         → is_serving n.net.owner ≡ false
@@ -150,21 +150,21 @@ module _ (law : OwedBelow) (base : Setting) (e : Estate AnyNode) (lines : HasLin
 
     -- where it serves no more nothing is filed
     away_then : (r : cleaning.Phase) → q ≡ r → is_serving x.net.owner ≡ false → x.net.filed ≡ w.net.filed
-    away_then r is away =
+    away_then r fact away =
         never_files law.unfiled g w.net x.net (its_moment base e lines texts part first count) ((its_line base e lines texts part first).goes count)
         (beside.straight.never away)
 
     still_down : (l : Lasting) → q ≡ Down l → x.net.filed ≡ w.net.filed
-    still_down l is = away_then (Down l) is (ap is_serving (subst (cleaner_log.CleanerAgrees g x) is sees_then).1)
+    still_down l fact = away_then (Down l) fact (ap is_serving (subst (cleaner_log.CleanerAgrees g x) fact sees_then).1)
 
     still_opening : (l : Lasting) (o : openings.Opening) → q ≡ Opening l o → x.net.filed ≡ w.net.filed
-    still_opening l o is =
-        away_then (Opening l o) is (stage_away x o l.questions.last o.stage (subst (cleaner_log.CleanerAgrees g x) is sees_then).sees)
+    still_opening l o fact =
+        away_then (Opening l o) fact (stage_away x o l.questions.last o.stage (subst (cleaner_log.CleanerAgrees g x) fact sees_then).sees)
 
     -- one that is down doesn't come to serve
     not_up : (l : Lasting) → p ≡ Down l → (v : Emptying) → q ≡ Serving v → ⊥
-    not_up l is v serves =
-        let down = (subst (cleaner_log.CleanerAgrees g w) is sees).1 in
+    not_up l fact v serves =
+        let down = (subst (cleaner_log.CleanerAgrees g w) fact sees).1 in
         let c = comes g refl w.net x.net ((its_line base e lines texts part first).goes count) beside.straight (ap is_serving down)
         (owner_serves x q sees_then v serves) in
         contrary (sym (ap is_writing down) ∙ c.writes)
@@ -181,8 +181,8 @@ module _ (law : OwedBelow) (base : Setting) (e : Estate AnyNode) (lines : HasLin
         beside.reached beside.came beside.named what beside.brought
 
     known : (k : Packet) → what ≡ Deliver k → SentBy part joint.idx.net joint.idx.asked k.from k.body × IsSentBy k.from k.body
-    known k is =
-        let b = beside.brought k is in
+    known k fact =
+        let b = beside.brought k fact in
         (joint.index_stands.facts k b.0, kinds_of_tokens (cluster base e) part joint.tok k (joint.tokens_stand.facts k b.0))
 
     event_gets : (lasting_of p).questions.last < u32_end → EventGets part joint.idx.net p what
@@ -195,15 +195,15 @@ module _ (law : OwedBelow) (base : Setting) (e : Estate AnyNode) (lines : HasLin
     -- where a counter is near its end nothing happens
     nothing : (t : Bool) → phase_room p ≡ t → (t ≡ true → FilesOwed (NewFor part texts.text joint.idx.net p) texts.text 9 joint.idx.net.filed outs)
         → FilesOwed (NewFor part texts.text joint.idx.net p) texts.text 9 joint.idx.net.filed outs
-    nothing true is owed = owed refl
-    nothing false is owed =
+    nothing true fact owed = owed refl
+    nothing false fact owed =
         subst (λ (t : Went_to). FilesOwed (NewFor part texts.text joint.idx.net p) texts.text 9 joint.idx.net.filed t.outs)
-        (sym (second_of (phase_room p) (happens node.peers p what) (still p) is)) tt
+        (sym (second_of (phase_room p) (happens node.peers p what) (still p) fact)) tt
 
     serving_so : (v : Emptying) → p ≡ Serving v → FilesOwed (NewFor part texts.text joint.idx.net p) texts.text 9 joint.idx.net.filed outs
-    serving_so v is =
+    serving_so v fact =
         nothing (phase_room p) refl
-        (λ room. serving_files law.files base e lines texts part first count joint node what beside.steps beside.sure v is beside.of_eight
+        (λ room. serving_files law.files base e lines texts part first count joint node what beside.steps beside.sure v fact beside.of_eight
         (event_gets (room_below p room)) asked)
 
     still_so : x.net.filed ≡ w.net.filed → FilesOwed (NewFor part texts.text joint.idx.net p) texts.text 9 joint.idx.net.filed outs
@@ -217,13 +217,13 @@ module _ (law : OwedBelow) (base : Setting) (e : Estate AnyNode) (lines : HasLin
 
     files_so : (r : cleaning.Phase) → p ≡ r → (s : cleaning.Phase) → q ≡ s
         → FilesOwed (NewFor part texts.text joint.idx.net p) texts.text 9 joint.idx.net.filed outs
-    files_so (Serving v) is s then_is = serving_so v is
-    files_so (Down l) is (Down m) then_is = still_so (still_down m then_is)
-    files_so (Down l) is (Opening m o) then_is = still_so (still_opening m o then_is)
-    files_so (Down l) is (Serving v) then_is = absurd (not_up l is v then_is)
-    files_so (Opening l o) is (Down m) then_is = still_so (still_down m then_is)
-    files_so (Opening l o) is (Opening m z) then_is = still_so (still_opening m z then_is)
-    files_so (Opening l o) is (Serving v) then_is = restart_so l o v is then_is
+    files_so (Serving v) fact s then_is = serving_so v fact
+    files_so (Down l) fact (Down m) then_is = still_so (still_down m then_is)
+    files_so (Down l) fact (Opening m o) then_is = still_so (still_opening m o then_is)
+    files_so (Down l) fact (Serving v) then_is = absurd (not_up l fact v then_is)
+    files_so (Opening l o) fact (Down m) then_is = still_so (still_down m then_is)
+    files_so (Opening l o) fact (Opening m z) then_is = still_so (still_opening m z then_is)
+    files_so (Opening l o) fact (Serving v) then_is = restart_so l o v fact then_is
 
     -- ---- what it reads back
 
@@ -239,24 +239,25 @@ module _ (law : OwedBelow) (base : Setting) (e : Estate AnyNode) (lines : HasLin
       where
         owed : (d : Do) → what ≡ d
             → token.CleanerOwed part joint.tok.net.promised (tokens.epoch_now (cluster base e) part joint.tok) joint.tok.cleaner.phase d
-        owed Begin is = tt
-        owed Tick is = tt
-        owed (Deliver k) is =
-            (let b = beside.brought k is in token_gets.cleaner_gets (cluster base e) part joint.tok k (joint.tokens_stand.facts k b.0) b.1)
+        owed Begin fact = tt
+        owed Tick fact = tt
+        owed (Deliver k) fact =
+            (let b = beside.brought k fact in token_gets.cleaner_gets (cluster base e) part joint.tok k (joint.tokens_stand.facts k b.0) b.1)
 
     at_both : (r s : cleaning.Phase) → p ≡ r → q ≡ s → ReopensOn part texts.text joint.idx.net r s → ReopensOn part texts.text joint.idx.net p q
-    at_both r s is then_is h =
-        subst (λ (y : cleaning.Phase). ReopensOn part texts.text joint.idx.net y q) (sym is) (subst (ReopensOn part texts.text joint.idx.net r) (sym then_is) h)
+    at_both r s fact then_is h =
+        subst (λ (y : cleaning.Phase). ReopensOn part texts.text joint.idx.net y q) (sym fact)
+        (subst (ReopensOn part texts.text joint.idx.net r) (sym then_is) h)
 
     reopens_so : (r : cleaning.Phase) → p ≡ r → (s : cleaning.Phase) → q ≡ s → ReopensOn part texts.text joint.idx.net p q
-    reopens_so (Opening l o) is (Serving v) then_is =
+    reopens_so (Opening l o) fact (Serving v) then_is =
         reopens_on law.files.reopens base e lines texts part first count joint node what beside.steps beside.straight beside.apart beside.sure
-        l o v is then_is (tokens.epoch_now (cluster base e) part joint.tok) token_goes
+        l o v fact then_is (tokens.epoch_now (cluster base e) part joint.tok) token_goes
         beside.promised
-    reopens_so (Opening l o) is (Down m) then_is = at_both (Opening l o) (Down m) is then_is tt
-    reopens_so (Opening l o) is (Opening m z) then_is = at_both (Opening l o) (Opening m z) is then_is tt
-    reopens_so (Down l) is s then_is = subst (λ (r : cleaning.Phase). ReopensOn part texts.text joint.idx.net r q) (sym is) tt
-    reopens_so (Serving v) is s then_is = subst (λ (r : cleaning.Phase). ReopensOn part texts.text joint.idx.net r q) (sym is) tt
+    reopens_so (Opening l o) fact (Down m) then_is = at_both (Opening l o) (Down m) fact then_is tt
+    reopens_so (Opening l o) fact (Opening m z) then_is = at_both (Opening l o) (Opening m z) fact then_is tt
+    reopens_so (Down l) fact s then_is = subst (λ (r : cleaning.Phase). ReopensOn part texts.text joint.idx.net r q) (sym fact) tt
+    reopens_so (Serving v) fact s then_is = subst (λ (r : cleaning.Phase). ReopensOn part texts.text joint.idx.net r q) (sym fact) tt
 
     -- ---- all of it
 

@@ -31,13 +31,13 @@ module _ (part : ℕ) (texts : Texts) (n m : Net) where
     by_phase rests low rises = by p refl
       where
         by : (q : Phase) → p ≡ q → m.promised ≤ later
-        by (Serving v) is =
-            let index_is = (subst (CleanerAgrees part m texts) is agrees).phase.0.promised in
-            let token_is = (subst (CleanerStands part later limit) is stands).promises in
+        by (Serving v) fact =
+            let index_is = (subst (CleanerAgrees part m texts) fact agrees).phase.0.promised in
+            let token_is = (subst (CleanerStands part later limit) fact stands).promises in
             let same = unwrap_or-slice_get v.promised.epochs part 0 in
             omega arith
-        by (Down l) is = (let same = rests (subst IsAway (sym is) tt) in omega arith)
-        by (Opening l o) is = (let same = rests (subst IsAway (sym is) tt) in omega arith)
+        by (Down l) fact = (let same = rests (subst IsAway (sym fact) tt) in omega arith)
+        by (Opening l o) fact = (let same = rests (subst IsAway (sym fact) tt) in omega arith)
 
     -- While the cleaner serves both know what it has promised; where it doesn't the index knows of it as before, and tokens of no earlier one.
     pub promised_then : (name : NodeId) (what : Do) (found : AnyNode → Type 0)
@@ -50,5 +50,5 @@ module _ (part : ℕ) (texts : Texts) (n m : Net) where
         rests away =
             ⊎_elim (λ same. ap (λ (x : Net). x.promised) same)
             (λ some. promised_rests name some.0 what some.2
-            (λ cleaner is. subst IsAway (sym (after cleaner (subst found is some.1))) away))
+            (λ cleaner fact. subst IsAway (sym (after cleaner (subst found fact some.1))) away))
             makes

@@ -101,11 +101,11 @@ module _ (base : Setting) (e : Estate AnyNode) (lines : HasLines base e) (texts 
 
         -- managers' logs aren't cleaned
         kept : (x : Role) → x ≡ r → There base e lines texts part first x → renews x ≡ false
-        kept (OfClient c) is there = refl
-        kept OfCleaner is there = refl
-        kept (OfManager j) is there =
+        kept (OfClient c) fact there = refl
+        kept OfCleaner fact there = refl
+        kept (OfManager j) fact there =
             (let high = high_log j there.0 in let low = drop.cleaned in
-            let same = ap log_by is in let number = its_number in absurd (omega arith))
+            let same = ap log_by fact in let number = its_number in absurd (omega arith))
 
         keeps : renews r ≡ false
         keeps = kept r refl f.of.there
@@ -167,7 +167,7 @@ module _ (base : Setting) (e : Estate AnyNode) (lines : HasLines base e) (texts 
             (((lines (OfManager j) there).stands count).seen Cleaner (any.Cleaner node) here)
 
         pub reads_within : (p : Phase) → p ≡ job.cleaning.phase → PhaseMet (listed_in sent Cleaner) p → ReadsWithin joint.idx.net.filed p
-        reads_within (Reading j seg) is met =
+        reads_within (Reading j seg) fact met =
             within seg (flew_so seg met.here)
-            (λ r there. (subst (JobPhaseSeen (setting base e r) (log_at base e lines texts part first r there count)) (sym is) (job_seen r there)).1)
-        reads_within _ is met = tt
+            (λ r there. (subst (JobPhaseSeen (setting base e r) (log_at base e lines texts part first r there count)) (sym fact) (job_seen r there)).1)
+        reads_within _ fact met = tt

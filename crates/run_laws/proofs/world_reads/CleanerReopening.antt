@@ -131,7 +131,7 @@ module _ (below : ReopensBelow) (base : Setting) (e : Estate AnyNode) (lines : H
   there : AreTextsThere texts.text w.net
   there = record {
     texts_are = texts.flown OfCleaner tt count;
-    fit = λ t is. rows_fit t (below.written g w.net at t is).written.fits;
+    fit = λ t fact. rows_fit t (below.written g w.net at t fact).written.fits;
   }
 
   read_back : ReadBack texts.text 9 joint.idx.net.filed one.settling.low one.settling.log.end.seq one.settling.chain
@@ -163,8 +163,8 @@ module _ (below : ReopensBelow) (base : Setting) (e : Estate AnyNode) (lines : H
   pub adopts : (chain : List Segment) (s : LogState) → w.net.owner ≡ Writing chain s
       → has_flight reopens ≡ holds_flight (names_in chain) (flight_of (last_flight at.run))
   unfolding reopens
-  adopts chain s is = ap (λ c. holds_flight (names_in c) (flight_of (last_flight at.run)))
-      (one_chain one.settling.chain chain one.settling.log s (sym one.writes ∙ is))
+  adopts chain s fact = ap (λ c. holds_flight (names_in c) (flight_of (last_flight at.run)))
+      (one_chain one.settling.chain chain one.settling.log s (sym one.writes ∙ fact))
     where
       one_chain : (a b : List Segment) (x y : LogState) → Writing a x ≡ Writing b y → a ≡ b
       one_chain a b x y same = cc
@@ -182,4 +182,4 @@ module _ (below : ReopensBelow) (base : Setting) (e : Estate AnyNode) (lines : H
       stands = subst (CleanerStands part goes.next limit) serves goes.stands
 
       promised : joint.idx.net.promised ≤ epoch_of v.promised part
-      promised = (let same = unwrap_or-slice_get v.promised.epochs part 0 in let is = stands.promises in let rises = goes.rises in omega arith)
+      promised = (let same = unwrap_or-slice_get v.promised.epochs part 0 in let fact = stands.promises in let rises = goes.rises in omega arith)

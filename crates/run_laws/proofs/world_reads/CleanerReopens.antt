@@ -33,47 +33,47 @@ pub record ComesBack (p : Progress) (v : Emptying) : Type 0 where
 
 module _ (v : Emptying) where
   served : (a : Emptying) → Serving a ≡ Serving v → a ≡ v
-  served a is = cc
+  served a fact = cc
 
   by_progress : (l : Lasting) (p : Progress) → (after_opening l p).state ≡ Serving v → ComesBack p v
   unfolding after_opening
-  by_progress l (progress.Opening o) is = absurd cc
-  by_progress l (progress.Opened o) is = record {
+  by_progress l (progress.Opening o) fact = absurd cc
+  by_progress l (progress.Opened o) fact = record {
     opened = o;
     comes = refl;
-    log = ap (λ (a : Emptying). a.log) (sym (served _ is));
-    promised = ap (λ (a : Emptying). a.promised) (sym (served _ is));
+    log = ap (λ (a : Emptying). a.log) (sym (served _ fact));
+    promised = ap (λ (a : Emptying). a.promised) (sym (served _ fact));
   }
-  by_progress l (progress.Lost seg) is = absurd cc
+  by_progress l (progress.Lost seg) fact = absurd cc
 
   module _ (l : Lasting) (o : openings.Opening) where
     wishes_not : (m : Lasting) (number : ℕ) (w : Wish) → (opening_wishes m o number w).state ≡ Serving v → ⊥
     unfolding events.crashes
-    wishes_not m number Crash is = absurd cc
-    wishes_not m number Restart is = absurd cc
-    wishes_not m number (Clean count) is = absurd cc
+    wishes_not m number Crash fact = absurd cc
+    wishes_not m number Restart fact = absurd cc
+    wishes_not m number (Clean count) fact = absurd cc
 
     begins_not : (m : Lasting) (item : Option ℕ) → (opening_at m o item).state ≡ Serving v → ⊥
-    begins_not m None is = absurd cc
-    begins_not m (Some number) is = wishes_not m number (events.wish_at m.items number) is
+    begins_not m None fact = absurd cc
+    begins_not m (Some number) fact = wishes_not m number (events.wish_at m.items number) fact
 
     by_form : (peers : Peers) (packet : Packet) (t : Bool) → (if t then hears (Opening l o) packet else still (Opening l o)).state ≡ Serving v
         → ComesBack (opening.on_packet o l.questions packet).progress v
     unfolding hears
-    by_form peers packet true is = by_progress _ (opening.on_packet o l.questions packet).progress is
-    by_form peers packet false is = absurd cc
+    by_form peers packet true fact = by_progress _ (opening.on_packet o l.questions packet).progress fact
+    by_form peers packet false fact = absurd cc
 
     by_do : (peers : Peers) (what : Do) → (happens peers (Opening l o) what).state ≡ Serving v → ComesBack (comes_to o l.questions what) v
     unfolding on_begin on_deliver on_time
-    by_do peers Begin is = absurd (begins_not (events.begun_life l) (next_item l.items) is)
-    by_do peers (Deliver packet) is = by_form peers packet (is_well_formed peers packet) is
-    by_do peers Tick is = by_progress _ (opening.on_tick o l.questions).progress is
+    by_do peers Begin fact = absurd (begins_not (events.begun_life l) (next_item l.items) fact)
+    by_do peers (Deliver packet) fact = by_form peers packet (is_well_formed peers packet) fact
+    by_do peers Tick fact = by_progress _ (opening.on_tick o l.questions).progress fact
 
     by_room : (peers : Peers) (what : Do) (t : Bool) → (if t then happens peers (Opening l o) what else still (Opening l o)).state ≡ Serving v
         → ComesBack (comes_to o l.questions what) v
-    by_room peers what true is = by_do peers what is
-    by_room peers what false is = absurd cc
+    by_room peers what true fact = by_do peers what fact
+    by_room peers what false fact = absurd cc
 
   pub comes_back : (l : Lasting) (o : openings.Opening) (peers : Peers) (what : Do) → (takes peers (Opening l o) what).state ≡ Serving v
       → ComesBack (comes_to o l.questions what) v
-  comes_back l o peers what is = by_room l o peers what (phase_room (Opening l o)) is
+  comes_back l o peers what fact = by_room l o peers what (phase_room (Opening l o)) fact

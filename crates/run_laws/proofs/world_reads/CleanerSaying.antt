@@ -54,10 +54,10 @@ nothing_says t none = record {
 -- of a line the text of each filed name is a segment that tells once
 pub filed_says : (texts : Texts) (l : ℕ) (n : Net) (f : Filed) → IsLine l n f → LineGives l n f → AreTexts texts f
     → ((q : ℕ) → 0 < q → q ≤ f.head l → TellsOnce (f.segment l q)) → (name : SegName) → In name n.filed → SaysBlocks (texts name)
-filed_says texts l n f line gives are tells name is =
-    let in_line = line.all name is in
+filed_says texts l n f line gives are tells name fact =
+    let in_line = line.all name fact in
     let s : Segment = f.segment l name.seq in
-    let same : texts name ≡ s = ap texts (gives.one name is) ∙ sym (are l name.seq in_line.0 in_line.1) in
+    let same : texts name ≡ s = ap texts (gives.one name fact) ∙ sym (are l name.seq in_line.0 in_line.1) in
     subst SaysBlocks (sym same) (says_once s (tells name.seq in_line.0 in_line.1))
 
 -- ---- what a reopening adopts

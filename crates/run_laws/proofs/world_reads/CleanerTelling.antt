@@ -55,23 +55,23 @@ ServesThen peers p what = (v : Emptying) × ((takes peers p what).state ≡ Serv
 
 by_progress : (l : Lasting) (p : Progress) (r : Opened) → p ≡ progress.Opened r → (after_opening l p).state ≡ Serving (says_back (served l r)).state
 unfolding after_opening
-by_progress l p r is = ap (λ (x : Progress). (after_opening l x).state) is
+by_progress l p r fact = ap (λ (x : Progress). (after_opening l x).state) fact
 
 module _ (l : Lasting) (o : openings.Opening) (peers : Peers) (r : Opened) where
   by_do : (what : Do) → ((q : Packet) → what ≡ Deliver q → is_well_formed peers q ≡ true) → comes_to o l.questions what ≡ progress.Opened r
       → (v : Emptying) × ((happens peers (Opening l o) what).state ≡ Serving v)
   unfolding on_deliver on_time hears
-  by_do Begin formed is = absurd cc
-  by_do (Deliver q) formed is = (
+  by_do Begin formed fact = absurd cc
+  by_do (Deliver q) formed fact = (
     _,
     ap (λ (t : Bool). (if t then hears (Opening l o) q else still (Opening l o)).state) (formed q refl)
-        ∙ by_progress _ (opening.on_packet o l.questions q).progress r is,
+        ∙ by_progress _ (opening.on_packet o l.questions q).progress r fact,
   )
-  by_do Tick formed is = (_, by_progress _ (opening.on_tick o l.questions).progress r is)
+  by_do Tick formed fact = (_, by_progress _ (opening.on_tick o l.questions).progress r fact)
 
   pub serves_then : (what : Do) → IsTaken peers (Opening l o) what → comes_to o l.questions what ≡ progress.Opened r → ServesThen peers (Opening l o) what
-  serves_then what taken is =
-      (let d = by_do what taken.formed is in
+  serves_then what taken fact =
+      (let d = by_do what taken.formed fact in
       (d.0, ap (λ (t : Bool). (if t then happens peers (Opening l o) what else still (Opening l o)).state) taken.room ∙ d.1))
 
 -- ---- beside one run
@@ -86,17 +86,17 @@ module _ (below : ReopensBelow) (copies : LivesTellCopies) (base : Setting) (e :
       (taken : IsTaken node.peers node.phase what) (l : Lasting) (o : openings.Opening)
       (opens : node.phase ≡ Opening l o) where
     one_opened : (a b : Opened) → progress.Opened a ≡ progress.Opened b → a ≡ b
-    one_opened a b is = cc
+    one_opened a b fact = cc
 
     -- the log is open then as the books are
     pub at_end : (r : Opened) → comes_to o l.questions what ≡ progress.Opened r → (adopted : Bool) × ReopensAt joint.tok.net.books adopted r
-    at_end r is =
-        let s = serves_then l o node.peers r what (subst (λ (p : cleaning.Phase). IsTaken node.peers p what) opens taken) is in
+    at_end r fact =
+        let s = serves_then l o node.peers r what (subst (λ (p : cleaning.Phase). IsTaken node.peers p what) opens taken) fact in
         let serves : (takes node.peers node.phase what).state ≡ Serving s.0 =
         subst (λ (p : cleaning.Phase). (takes node.peers p what).state ≡ Serving s.0) (sym opens) s.1 in
         let c = came below base e lines texts part first count joint node what steps straight apart sure l o s.0 opens serves in
         let at = reopens_at below base e lines texts part first count joint node what steps straight apart sure l o s.0 opens serves in
-        (_, subst (ReopensAt joint.tok.net.books _) (one_opened c.opened r (sym c.comes ∙ is)) at)
+        (_, subst (ReopensAt joint.tok.net.books _) (one_opened c.opened r (sym c.comes ∙ fact)) at)
 
   -- ---- a Live
 
@@ -115,6 +115,6 @@ module _ (below : ReopensBelow) (copies : LivesTellCopies) (base : Setting) (e :
     }
 
     pub live_told : (p : Packet) (m : Live) → In p sent → p.body ≡ body.Live m → LiveTold joint.tok.net.books v m
-    live_told p m among is =
+    live_told p m among fact =
         copies (owners.members (cluster base e) part) part (held_in part texts.text) (with_promise 1 joint.tok.net) joint.idx.net sent v p m tied exact has
-        answers asks among is (subst (entries.BodyTold (entries.told_by (rows_at joint.idx.net.filed))) is (joint.entries.packets p among))
+        answers asks among fact (subst (entries.BodyTold (entries.told_by (rows_at joint.idx.net.filed))) fact (joint.entries.packets p among))

@@ -70,13 +70,13 @@ module _ (law : ToldBelow) (base : Setting) (e : Estate AnyNode) (ok : IsSetup e
 
   -- whether it adopts what was in flight; where it doesn't end nothing is said
   adopted_by : (r : cleaning.Phase) → p ≡ r → (s : cleaning.Phase) → q ≡ s → Bool
-  adopted_by (Opening l o) is (Serving v) then_is =
+  adopted_by (Opening l o) fact (Serving v) then_is =
       has_flight (reopens law.owed.files.reopens base e lines texts part first count joint node what beside.steps beside.straight beside.apart beside.sure
-      l o v is then_is)
-  adopted_by (Opening l o) is (Down m) then_is = false
-  adopted_by (Opening l o) is (Opening m z) then_is = false
-  adopted_by (Down l) is s then_is = false
-  adopted_by (Serving v) is s then_is = false
+      l o v fact then_is)
+  adopted_by (Opening l o) fact (Down m) then_is = false
+  adopted_by (Opening l o) fact (Opening m z) then_is = false
+  adopted_by (Down l) fact s then_is = false
+  adopted_by (Serving v) fact s then_is = false
 
   pub adopted : Bool
   adopted = adopted_by p refl q refl
@@ -88,78 +88,79 @@ module _ (law : ToldBelow) (base : Setting) (e : Estate AnyNode) (ok : IsSetup e
   unfolding adopted adopted_by
   adopts_flight l o v opens serves chain s writes = by p refl q refl opens serves
     where
-      by : (r : cleaning.Phase) (is : p ≡ r) (t : cleaning.Phase) (then_is : q ≡ t) → r ≡ Opening l o → t ≡ Serving v
-          → adopted_by r is t then_is ≡ holds_flight (names_in chain) (flight_of (last_flight (its_moment base e lines texts part first count).run))
-      by (Opening a z) is (Serving u) then_is opens serves =
-          adopts law.owed.files.reopens base e lines texts part first count joint node what beside.steps beside.straight beside.apart beside.sure a z u is
+      by : (r : cleaning.Phase) (fact : p ≡ r) (t : cleaning.Phase) (then_is : q ≡ t) → r ≡ Opening l o → t ≡ Serving v
+          → adopted_by r fact t then_is ≡ holds_flight (names_in chain) (flight_of (last_flight (its_moment base e lines texts part first count).run))
+      by (Opening a z) fact (Serving u) then_is opens serves =
+          adopts law.owed.files.reopens base e lines texts part first count joint node what beside.steps beside.straight beside.apart beside.sure a z u fact
           then_is chain s writes
-      by (Opening a z) is (Down m) then_is opens serves = absurd (cc)
-      by (Opening a z) is (Opening m y) then_is opens serves = absurd (cc)
-      by (Down a) is t then_is opens serves = absurd (cc)
-      by (Serving u) is t then_is opens serves = absurd (cc)
+      by (Opening a z) fact (Down m) then_is opens serves = absurd (cc)
+      by (Opening a z) fact (Opening m y) then_is opens serves = absurd (cc)
+      by (Down a) fact t then_is opens serves = absurd (cc)
+      by (Serving u) fact t then_is opens serves = absurd (cc)
 
   module _ (taken : token.IsTaken node what) where
     one_opened : (a b : Opened) → progress.Opened a ≡ progress.Opened b → a ≡ b
-    one_opened a b is = cc
+    one_opened a b fact = cc
 
     its_taken : (r : cleaning.Phase) → p ≡ r → IsTaken node.peers r what
-    its_taken r is = subst (λ (y : cleaning.Phase). IsTaken node.peers y what) is (record { room = taken.room; formed = taken.formed })
+    its_taken r fact = subst (λ (y : cleaning.Phase). IsTaken node.peers y what) fact (record { room = taken.room; formed = taken.formed })
 
     -- one whose opening ends serves then
     up_then : (l : Lasting) (o : openings.Opening) (r : Opened) → p ≡ Opening l o → comes_to o l.questions what ≡ progress.Opened r
         → (v : Emptying) × (q ≡ Serving v)
-    up_then l o r is comes =
-        let s = serves_then l o node.peers r what (its_taken (Opening l o) is) comes in
-        (s.0, ap (λ (y : cleaning.Phase). (takes node.peers y what).state) is ∙ s.1)
+    up_then l o r fact comes =
+        let s = serves_then l o node.peers r what (its_taken (Opening l o) fact) comes in
+        (s.0, ap (λ (y : cleaning.Phase). (takes node.peers y what).state) fact ∙ s.1)
 
     down_is : (a : Lasting) (v : Emptying) → Down a ≡ Serving v → ⊥
-    down_is a v is = absurd cc
+    down_is a v fact = absurd cc
 
     opening_is : (a : Lasting) (z : openings.Opening) (v : Emptying) → Opening a z ≡ Serving v → ⊥
-    opening_is a z v is = absurd cc
+    opening_is a z v fact = absurd cc
 
-    ends_so : (l : Lasting) (o : openings.Opening) (is : p ≡ Opening l o) (s : cleaning.Phase) (then_is : q ≡ s) (x : Progress)
+    ends_so : (l : Lasting) (o : openings.Opening) (fact : p ≡ Opening l o) (s : cleaning.Phase) (then_is : q ≡ s) (x : Progress)
         → comes_to o l.questions what ≡ x
-        → EndsAt joint.tok.net.books (adopted_by (Opening l o) is s then_is) x
+        → EndsAt joint.tok.net.books (adopted_by (Opening l o) fact s then_is) x
     unfolding adopted_by
-    ends_so l o is s then_is (progress.Opening z) comes = tt
-    ends_so l o is s then_is (progress.Lost seg) comes = tt
-    ends_so l o is (Serving v) then_is (progress.Opened r) comes =
+    ends_so l o fact s then_is (progress.Opening z) comes = tt
+    ends_so l o fact s then_is (progress.Lost seg) comes = tt
+    ends_so l o fact (Serving v) then_is (progress.Opened r) comes =
         let c = came law.owed.files.reopens base e lines texts part first count joint node what beside.steps beside.straight beside.apart beside.sure
-        l o v is then_is in
-        subst (ReopensAt joint.tok.net.books (adopted_by (Opening l o) is (Serving v) then_is)) (one_opened c.opened r (sym c.comes ∙ comes))
+        l o v fact then_is in
+        subst (ReopensAt joint.tok.net.books (adopted_by (Opening l o) fact (Serving v) then_is)) (one_opened c.opened r (sym c.comes ∙ comes))
         (reopens_at law.owed.files.reopens base e lines texts part first count joint node what beside.steps beside.straight beside.apart beside.sure
-        l o v is then_is)
-    ends_so l o is (Down m) then_is (progress.Opened r) comes =
-        (let u = up_then l o r is comes in absurd (down_is m u.0 (sym then_is ∙ u.1)))
-    ends_so l o is (Opening m z) then_is (progress.Opened r) comes =
-        (let u = up_then l o r is comes in absurd (opening_is m z u.0 (sym then_is ∙ u.1)))
+        l o v fact then_is)
+    ends_so l o fact (Down m) then_is (progress.Opened r) comes =
+        (let u = up_then l o r fact comes in absurd (down_is m u.0 (sym then_is ∙ u.1)))
+    ends_so l o fact (Opening m z) then_is (progress.Opened r) comes =
+        (let u = up_then l o r fact comes in absurd (opening_is m z u.0 (sym then_is ∙ u.1)))
 
     -- ---- a Live
 
     serving_told : (v : Emptying) → p ≡ Serving v → (k : Packet) → what ≡ Deliver k → (m : Body) → k.body ≡ m → ServingTold joint.tok.net.books v m
-    serving_told v is k brings (body.Live m) bears =
+    serving_told v fact k brings (body.Live m) bears =
         live_told law.owed.files.reopens law.copies base e lines texts part first count joint node what beside.of_eight
         (all_exact joint.idx.net.filed joint.tells) (law.answers e count ok run) v
-        (has_job law.owed.asks.gets base e lines texts part first count joint node beside.steps.before beside.ours beside.reached beside.came beside.named v is)
-        (asks_of_hand law.tokens e ok run count node beside.steps.before v is taken.room) k m (beside.brought k brings).0 bears
-    serving_told v is k brings _ bears = tt
+        (has_job law.owed.asks.gets base e lines texts part first count joint node
+        beside.steps.before beside.ours beside.reached beside.came beside.named v fact)
+        (asks_of_hand law.tokens e ok run count node beside.steps.before v fact taken.room) k m (beside.brought k brings).0 bears
+    serving_told v fact k brings _ bears = tt
 
     -- ---- the event
 
-    packet_told : (k : Packet) → what ≡ Deliver k → (r : cleaning.Phase) (is : p ≡ r) (s : cleaning.Phase) (then_is : q ≡ s)
-        → PacketTold joint.tok.net.books (adopted_by r is s then_is) r k
-    packet_told k brings (Down l) is s then_is = tt
-    packet_told k brings (Opening l o) is s then_is = ends_so l o is s then_is (comes_to o l.questions (Deliver k)) (ap (comes_to o l.questions) brings)
-    packet_told k brings (Serving v) is s then_is = serving_told v is k brings k.body refl
+    packet_told : (k : Packet) → what ≡ Deliver k → (r : cleaning.Phase) (fact : p ≡ r) (s : cleaning.Phase) (then_is : q ≡ s)
+        → PacketTold joint.tok.net.books (adopted_by r fact s then_is) r k
+    packet_told k brings (Down l) fact s then_is = tt
+    packet_told k brings (Opening l o) fact s then_is = ends_so l o fact s then_is (comes_to o l.questions (Deliver k)) (ap (comes_to o l.questions) brings)
+    packet_told k brings (Serving v) fact s then_is = serving_told v fact k brings k.body refl
 
-    told_so : (d : Do) → what ≡ d → (r : cleaning.Phase) (is : p ≡ r) (s : cleaning.Phase) (then_is : q ≡ s)
-        → CleanerTold joint.tok.net.books (adopted_by r is s then_is) r d
-    told_so Begin brings r is s then_is = tt
-    told_so (Deliver k) brings r is s then_is = packet_told k brings r is s then_is
-    told_so Tick brings (Down l) is s then_is = tt
-    told_so Tick brings (Opening l o) is s then_is = ends_so l o is s then_is (comes_to o l.questions Tick) (ap (comes_to o l.questions) brings)
-    told_so Tick brings (Serving v) is s then_is = tt
+    told_so : (d : Do) → what ≡ d → (r : cleaning.Phase) (fact : p ≡ r) (s : cleaning.Phase) (then_is : q ≡ s)
+        → CleanerTold joint.tok.net.books (adopted_by r fact s then_is) r d
+    told_so Begin brings r fact s then_is = tt
+    told_so (Deliver k) brings r fact s then_is = packet_told k brings r fact s then_is
+    told_so Tick brings (Down l) fact s then_is = tt
+    told_so Tick brings (Opening l o) fact s then_is = ends_so l o fact s then_is (comes_to o l.questions Tick) (ap (comes_to o l.questions) brings)
+    told_so Tick brings (Serving v) fact s then_is = tt
 
   -- what its event is owed, where it is taken
   pub cleaner_told : (members limit : ℕ) → TurnOwes true adopted members part limit joint.tok.net Cleaner (any.Cleaner node) what

@@ -179,21 +179,21 @@ module _ (base : Setting) (e : Estate AnyNode) (lines : HasLines base e) (texts 
   -- it was behind the end of the log
   pub flight_next : (flight : FlightState) → last_flight at.run ≡ Some flight → (flight.segment.name.seq ≡ suc (filed.head c))
       × (x.joint.tok.net.books.rows c (suc (x.joint.tok.net.books.end c)) ≡ rows_told flight.segment.items)
-  flight_next flight is =
+  flight_next flight fact =
       let books = x.joint.tok.net.books in
       let z = subst
       (λ (o : Option FlightState). IfSome o (λ y. (y.segment.name.seq ≡ suc (books.end c)) × (books.rows c (suc (books.end c)) ≡ rows_told y.segment.items)))
-      is (x.joint.flew (OfClient c) there refl).next in
+      fact (x.joint.flew (OfClient c) there refl).next in
       (z.0 ∙ ap suc (x.joint.books.end c there.0 (let b = below in omega arith)), z.1)
 
   pub flight_news : (flight : FlightState) → last_flight at.run ≡ Some flight → (t : Segment) → In t v.net.flown → t.items ≡ flight.segment.items
       → IsNewerAtSlot part filed t
-  flight_news flight is t flown same =
+  flight_news flight fact t flown same =
       let z = log.original base e lines texts part first count c there laws event node x t flown in
       laws.news (index.members (k base e lines texts part first)) part (held_in part texts.text) (with_promise 1 x.joint.tok.net) i.net c t tied
       (record { some = there.0; within = member })
       (record {
-        rows = (flight_next flight is).1 ∙ ap rows_told (sym same);
+        rows = (flight_next flight fact).1 ∙ ap rows_told (sym same);
         plain = z.tells.plain;
         versioned = z.tells.versioned;
         first_hand = z.first_hand;
@@ -208,9 +208,9 @@ module _ (base : Setting) (e : Estate AnyNode) (lines : HasLines base e) (texts 
       record { versions = z.versioned; no_parts = z.no_parts }
 
   flight_says : (s : ServingClient) → node.phase ≡ clients.Serving s → FlightSays s.log
-  flight_says s is =
+  flight_says s fact =
       by s.log.flight
-      (subst (OwnerFlew w.net.flown) (subst (client_log.ClientAgrees g c w) is sees.agrees).1.owner (laws.held g w.net at))
+      (subst (OwnerFlew w.net.flown) (subst (client_log.ClientAgrees g c w) fact sees.agrees).1.owner (laws.held g w.net at))
     where
       by : (o : Option FlightState) → IfSome o (λ f. In f.segment w.net.flown) → IfSome o (λ f. SaysBlocks f.segment)
       by None flown = tt
@@ -230,14 +230,14 @@ module _ (base : Setting) (e : Estate AnyNode) (lines : HasLines base e) (texts 
   -- while it serves
   serving_known : (s : LogState) → w.net.owner ≡ Serving s → (name : SegName) → IsFlight s name → Known name
   serving_known s serves name f =
-      let is : last_flight at.run ≡ Some f.0 = served_last g _ w.net at.run s serves ∙ f.1 in
+      let fact : last_flight at.run ≡ Some f.0 = served_last g _ w.net at.run s serves ∙ f.1 in
       let held = subst (λ (o : Option FlightState). IfSome o (λ y. In y.segment w.net.flown)) f.1
       (subst (OwnerFlew w.net.flown) serves (laws.held g w.net at)) in
       let flown = log.flown_then base e lines texts part first count c there laws event node x f.0.segment held in
       let text : texts.text name ≡ f.0.segment = ap texts.text (sym f.2) ∙ text_is f.0.segment flown in
       inr (inr (
-        ap (λ (y : SegName). y.seq) (sym f.2) ∙ (flight_next f.0 is).0,
-        subst (IsNewerAtSlot part filed) (sym text) (flight_news f.0 is f.0.segment flown refl),
+        ap (λ (y : SegName). y.seq) (sym f.2) ∙ (flight_next f.0 fact).0,
+        subst (IsNewerAtSlot part filed) (sym text) (flight_news f.0 fact f.0.segment flown refl),
       ))
 
   -- where it comes to serve
@@ -255,18 +255,18 @@ module _ (base : Setting) (e : Estate AnyNode) (lines : HasLines base e) (texts 
       says_nothing s none = ap (filter_map (row_of s)) none
 
   resting_known : is_serving w.net.owner ≡ false → (name : SegName) → In name v.net.filed → Known name
-  resting_known away name is = by (is_serving v.net.owner) refl
+  resting_known away name fact = by (is_serving v.net.owner) refl
     where
       before : In name w.net.filed → Known name
       before was = inl (line.all name was).1
 
       by : (t : Bool) → is_serving v.net.owner ≡ t → Known name
-      by false none = before (subst (In name) (laws.still g w.net v.net at goes straight none) is)
+      by false none = before (subst (In name) (laws.still g w.net v.net at goes straight none) fact)
       by true serves =
           let z = comes g refl w.net v.net goes straight away serves in
           let calm = subst (λ (r : Runs g w.net v.net). IsSureRun (then_on at.run r)) z.one
           (log.goes_sure base e lines texts part first count c there laws event node x) in
-          ⊎_elim before (tail_known name) (laws.tail g w.net v.net refl at z.happens calm (z.writes, serves) name is)
+          ⊎_elim before (tail_known name) (laws.tail g w.net v.net refl at z.happens calm (z.writes, serves) name fact)
 
   module _ (gets : EventGets part texts.text i.net c node.phase (what_of event)) where
     pub acts_file : ActsFile v.net outs
@@ -282,18 +282,19 @@ module _ (base : Setting) (e : Estate AnyNode) (lines : HasLines base e) (texts 
             (log.acts_filed base e lines texts part first count c there laws event node x)
 
         seen : (p : Phase) → node.phase ≡ p → client_log.ClientAgrees g c w p
-        seen p is = subst (client_log.ClientAgrees g c w) is sees.agrees
+        seen p fact = subst (client_log.ClientAgrees g c w) fact sees.agrees
 
         stage_rests : (kn : KnownMaps) (last : ℕ) (s : Stage) → SeesStage g c w kn last s → is_serving w.net.owner ≡ false
         stage_rests kn last (stage.Scanning s) sees = ap is_serving sees.owner
         stage_rests kn last (stage.Settling s) sees = ap is_serving sees.owner
 
         by : (p : Phase) → node.phase ≡ p → AllSo Known outs
-        by (clients.Down l) is = resting (ap is_serving (seen (clients.Down l) is).1)
-        by (clients.Opening l o) is = resting (stage_rests o.known l.questions.last o.stage (seen (clients.Opening l o) is).1)
-        by (clients.Serving s) is =
-            all_then (IsFlight s.log) Known (serving_known s.log (seen (clients.Serving s) is).1.owner) outs
-            (laws.flights part texts.text g c w i.net node (what_of event) s there.0 below sure sees.room (flight_says s is) sees.agrees is agrees gets).flights
+        by (clients.Down l) fact = resting (ap is_serving (seen (clients.Down l) fact).1)
+        by (clients.Opening l o) fact = resting (stage_rests o.known l.questions.last o.stage (seen (clients.Opening l o) fact).1)
+        by (clients.Serving s) fact =
+            all_then (IsFlight s.log) Known (serving_known s.log (seen (clients.Serving s) fact).1.owner) outs
+            (laws.flights part texts.text g c w i.net node (what_of event) s there.0 below sure sees.room
+            (flight_says s fact) sees.agrees fact agrees gets).flights
 
     -- it is owed
     pub files_owed : FilesOwed (IsNewerAtSlot part) texts.text c filed outs

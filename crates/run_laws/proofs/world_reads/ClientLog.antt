@@ -137,10 +137,10 @@ module _ (base : Setting) (e : Estate AnyNode) (lines : HasLines base e) (texts 
 
     -- all that was in flight in it tells of blocks at first hand
     pub original : (s : Segment) → In s after.net.flown → IsOriginal s
-    original s is = (laws.originals base e c line (suc count)).flew s is
+    original s fact = (laws.originals base e c line (suc count)).flew s fact
 
     pub flown_then : (s : Segment) → In s before.net.flown → In s after.net.flown
-    flown_then s is = (grows base e (OfClient c) line count (suc count) (omega arith)).flown s is
+    flown_then s fact = (grows base e (OfClient c) line count (suc count) (omega arith)).flown s fact
 
     pub is_sure : IsSure texts.text c g before.net
     is_sure = record {
@@ -148,7 +148,7 @@ module _ (base : Setting) (e : Estate AnyNode) (lines : HasLines base e) (texts 
       trusted = refl;
       moment = at;
       sure = sure_before at.run (line.goes count) goes_sure;
-      are_texts = λ s is. texts.flown (OfClient c) there count s is;
+      are_texts = λ s fact. texts.flown (OfClient c) there count s fact;
     }
 
     pub is_sure_then : IsSure texts.text c g after.net
@@ -157,7 +157,7 @@ module _ (base : Setting) (e : Estate AnyNode) (lines : HasLines base e) (texts 
       trusted = refl;
       moment = then;
       sure = sure_run;
-      are_texts = λ s is. texts.flown (OfClient c) there (suc count) s is;
+      are_texts = λ s fact. texts.flown (OfClient c) there (suc count) s fact;
     }
 
     -- ---- what it acts to be filed is filed

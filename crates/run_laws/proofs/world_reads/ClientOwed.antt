@@ -118,8 +118,8 @@ module _ (base : Setting) (e : Estate AnyNode) (lines : HasLines base e) (texts 
   poll_gets : PollsAreLow → (packet : Packet) (m : Poll) (s : ServingClient) → what ≡ Deliver packet → packet.body ≡ body.Poll m
       → node.phase ≡ clients.Serving s
       → PollGets part texts.text i.net c s.tokens m
-  poll_gets low packet m s is bears serves of late some =
-      let least = low packet m s is bears of serves late in
+  poll_gets low packet m s fact bears serves of late some =
+      let least = low packet m s fact bears of serves late in
       (laws.give texts.text c g w.net filed (log.is_sure base e lines texts part first count c there laws event node x)
       (files.line base e lines texts part first count c there laws event node x)).linked (of_log (i.net.horizon m.epoch) c) (filed.head c) some
       (let r = registry.low in omega arith) (omega arith)
@@ -129,24 +129,24 @@ module _ (base : Setting) (e : Estate AnyNode) (lines : HasLines base e) (texts 
     where
       by_body : (packet : Packet) → what ≡ Deliver packet → (s : ServingClient) → node.phase ≡ clients.Serving s → (b : Body) → packet.body ≡ b
           → BodyGets part texts.text i.net c s.tokens b
-      by_body packet is s serves (body.Poll m) bears = poll_gets low packet m s is bears serves
-      by_body packet is s serves _ bears = tt
+      by_body packet fact s serves (body.Poll m) bears = poll_gets low packet m s fact bears serves
+      by_body packet fact s serves _ bears = tt
 
       by_phase : (packet : Packet) → what ≡ Deliver packet → (p : Phase) → node.phase ≡ p → PacketGets part texts.text i.net c p packet
-      by_phase packet is (clients.Down l) same = tt
-      by_phase packet is (clients.Opening l o) same = tt
-      by_phase packet is (clients.Serving s) same = by_body packet is s same packet.body refl
+      by_phase packet fact (clients.Down l) same = tt
+      by_phase packet fact (clients.Opening l o) same = tt
+      by_phase packet fact (clients.Serving s) same = by_body packet fact s same packet.body refl
 
       by_do : (d : Do) → what ≡ d → EventGets part texts.text i.net c node.phase d
-      by_do Begin is = tt
-      by_do Tick is = tt
-      by_do (Deliver packet) is = by_phase packet is node.phase refl
+      by_do Begin fact = tt
+      by_do Tick fact = tt
+      by_do (Deliver packet) fact = by_phase packet fact node.phase refl
 
   -- ---- what it has in flight
 
   pub writes : WritesTexts part texts.text i.net c went.state
   writes = laws.writes texts.text g c v went.state part i.net (log.then base e lines texts part first count c there laws event node x)
-      (λ s is. texts.flown (OfClient c) there (suc count) s is) sees_then.agrees
+      (λ s fact. texts.flown (OfClient c) there (suc count) s fact) sees_then.agrees
 
   -- ---- a reopening
 
@@ -171,8 +171,8 @@ module _ (base : Setting) (e : Estate AnyNode) (lines : HasLines base e) (texts 
     serves = (subst (client_log.ClientAgrees g c v) serving sees_then.agrees).1.owner
 
     pub ends : (st : Settling) → o.stage ≡ stage.Settling st → Ends st s.log
-    ends st is =
-        let here = subst (client_log.SeesStage g c w o.known l.questions.last) is stage_sees in
+    ends st fact =
+        let here = subst (client_log.SeesStage g c w o.known l.questions.last) fact stage_sees in
         let z = comes g refl w.net v.net goes (files.straight base e lines texts part first count c there laws event node x) (ap is_serving here.owner)
         (ap is_serving serves) in
         let calm = subst (λ (r : Runs g w.net v.net). IsSureRun (then_on at.run r)) z.one
@@ -196,24 +196,24 @@ module _ (base : Setting) (e : Estate AnyNode) (lines : HasLines base e) (texts 
         one_flight y p q a b = cc
 
     end_owed : (st : Stage) → o.stage ≡ st → EndOwed texts.text c filed st
-    end_owed (stage.Scanning a) is = tt
-    end_owed (stage.Settling a) is =
-        let here = subst (client_log.SeesStage g c w o.known l.questions.last) is stage_sees in
-        laws.read_back g w.net v.net a.chain a.log s.log (ends a is).reopens texts.text c filed a.low
+    end_owed (stage.Scanning a) fact = tt
+    end_owed (stage.Settling a) fact =
+        let here = subst (client_log.SeesStage g c w o.known l.questions.last) fact stage_sees in
+        laws.read_back g w.net v.net a.chain a.log s.log (ends a fact).reopens texts.text c filed a.low
         (record {
-          texts_are = λ t is. texts.flown (OfClient c) there count t is;
-          fit = λ t is. items_fit t t.items (laws.written g w.net at t is).written.fits.items;
+          texts_are = λ t fact. texts.flown (OfClient c) there count t fact;
+          fit = λ t fact. items_fit t t.items (laws.written g w.net at t fact).written.fits.items;
         }) filed_of here.reads
 
   pub reopens : ReopensOn part texts.text i.net c node.phase went.state
   reopens = by node.phase refl went.state refl
     where
       by : (p : Phase) → node.phase ≡ p → (q : Phase) → went.state ≡ q → ReopensOn part texts.text i.net c p q
-      by (clients.Down l) is q then = tt
-      by (clients.Serving s) is q then = tt
-      by (clients.Opening l o) is (clients.Down m) then = tt
-      by (clients.Opening l o) is (clients.Opening m y) then = tt
-      by (clients.Opening l o) is (clients.Serving s) then = end_owed l o s is then o.stage refl
+      by (clients.Down l) fact q then = tt
+      by (clients.Serving s) fact q then = tt
+      by (clients.Opening l o) fact (clients.Down m) then = tt
+      by (clients.Opening l o) fact (clients.Opening m y) then = tt
+      by (clients.Opening l o) fact (clients.Serving s) then = end_owed l o s fact then o.stage refl
 
   -- ---- all of it
 

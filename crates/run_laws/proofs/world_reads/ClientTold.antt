@@ -122,9 +122,9 @@ module _ (base : Setting) (e : Estate AnyNode) (lines : HasLines base e) (texts 
     back = more.back c node what l o s opening serving
 
     ends_by_do : (d : Do) (p : Progress) → comes_to o l.questions d ≡ p → (r : Opened) → p ≡ progress.Opened r → reopening.EndsSo g c o (progress.Opened r)
-    ends_by_do Begin p is r opened = (let clash : progress.Opening o ≡ progress.Opened r = is ∙ opened in absurd cc)
-    ends_by_do (Deliver packet) p is r opened = subst (reopening.EndsSo g c o) (is ∙ opened) ((more.ends g c o l.questions).0 packet)
-    ends_by_do Tick p is r opened = subst (reopening.EndsSo g c o) (is ∙ opened) (more.ends g c o l.questions).1
+    ends_by_do Begin p fact r opened = (let clash : progress.Opening o ≡ progress.Opened r = fact ∙ opened in absurd cc)
+    ends_by_do (Deliver packet) p fact r opened = subst (reopening.EndsSo g c o) (fact ∙ opened) ((more.ends g c o l.questions).0 packet)
+    ends_by_do Tick p fact r opened = subst (reopening.EndsSo g c o) (fact ∙ opened) (more.ends g c o l.questions).1
 
     by_one : EndsByOne g w v goes o back.opened
     by_one =
@@ -153,11 +153,11 @@ module _ (base : Setting) (e : Estate AnyNode) (lines : HasLines base e) (texts 
 
   ends_so : Heeds → (l : Lasting) (o : Opening) → node.phase ≡ clients.Opening l o → (p : Progress) → comes_to o l.questions what ≡ p
       → EndsSo t.net.books t.net.acts c p
-  ends_so heeds l o opening (progress.Opening z) is = tt
-  ends_so heeds l o opening (progress.Lost seg) is = tt
-  ends_so heeds l o opening (progress.Opened r) is =
-      let s = heeds l o r opening is in
-      let same : progress.Opened (back l o opening s.0 s.1).opened ≡ progress.Opened r = sym (back l o opening s.0 s.1).comes ∙ is in
+  ends_so heeds l o opening (progress.Opening z) fact = tt
+  ends_so heeds l o opening (progress.Lost seg) fact = tt
+  ends_so heeds l o opening (progress.Opened r) fact =
+      let s = heeds l o r opening fact in
+      let same : progress.Opened (back l o opening s.0 s.1).opened ≡ progress.Opened r = sym (back l o opening s.0 s.1).comes ∙ fact in
       subst (ReopensSo t.net.books t.net.acts c) (one_opened (back l o opening s.0 s.1).opened r same) (reopens_so l o opening s.0 s.1)
     where
       one_opened : (a b : Opened) → progress.Opened a ≡ progress.Opened b → a ≡ b
@@ -175,28 +175,28 @@ module _ (base : Setting) (e : Estate AnyNode) (lines : HasLines base e) (texts 
     pub brought : (p : Packet) → what ≡ Deliver p → In p (moment e count).sent × (p.to ≡ Client c)
 
   reads_so : Heeds → Reading → (limit : ℕ) (packet : Packet) → what ≡ Deliver packet → (p : Phase) → node.phase ≡ p → ReadsSo part limit c t.net p packet
-  reads_so heeds r limit packet is (clients.Down l) phase = tt
-  reads_so heeds r limit packet is (clients.Opening l o) phase =
-      ends_so heeds l o phase (comes_to o l.questions (Deliver packet)) (ap (comes_to o l.questions) is)
-  reads_so heeds r limit packet is (clients.Serving s) phase =
+  reads_so heeds r limit packet fact (clients.Down l) phase = tt
+  reads_so heeds r limit packet fact (clients.Opening l o) phase =
+      ends_so heeds l o phase (comes_to o l.questions (Deliver packet)) (ap (comes_to o l.questions) fact)
+  reads_so heeds r limit packet fact (clients.Serving s) phase =
       more.fetches texts.text (moment e count).sent (Client c) (cuts_at e.world) filed s packet part limit c t.net r.known x.joint.books
       (λ l q some upto from limit. (x.joint.tells l q from limit).plain)
       (record {
         told = subst (entries.PhaseHolds (told_by (rows_at filed))) phase r.told;
         came = subst (readers.PhaseHolds (answered_in (moment e count).sent (Client c)) (cut_by (cuts_at e.world))) phase r.came;
         its = subst PhaseReadsItsFetch phase r.its;
-      }) (r.brought packet is).0 (r.brought packet is).1
+      }) (r.brought packet fact).0 (r.brought packet fact).1
 
   in_time : Heeds → (limit : ℕ) → what ≡ Tick → (p : Phase) → node.phase ≡ p → EndsInTime part limit c t.net p
-  in_time heeds limit is (clients.Down l) phase = tt
-  in_time heeds limit is (clients.Opening l o) phase = ends_so heeds l o phase (comes_to o l.questions Tick) (ap (comes_to o l.questions) is)
-  in_time heeds limit is (clients.Serving s) phase = tt
+  in_time heeds limit fact (clients.Down l) phase = tt
+  in_time heeds limit fact (clients.Opening l o) phase = ends_so heeds l o phase (comes_to o l.questions Tick) (ap (comes_to o l.questions) fact)
+  in_time heeds limit fact (clients.Serving s) phase = tt
 
   -- what an event of the client is owed
   pub client_told : Heeds → Reading → (limit : ℕ) → ClientTold part limit t.net c node.phase what
   client_told heeds r limit = by what refl
     where
       by : (d : Do) → what ≡ d → ClientTold part limit t.net c node.phase d
-      by Begin is = tt
-      by (Deliver packet) is = reads_so heeds r limit packet is node.phase refl
-      by Tick is = in_time heeds limit is node.phase refl
+      by Begin fact = tt
+      by (Deliver packet) fact = reads_so heeds r limit packet fact node.phase refl
+      by Tick fact = in_time heeds limit fact node.phase refl

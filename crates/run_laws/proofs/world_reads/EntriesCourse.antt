@@ -65,9 +65,9 @@ module _ (So : Segment → Type 0) where
   CompletedAt s (Some p) ask server t = CompletedIn s p.reading ask server t
 
   before_one : (r : Read) (p : Present) (o : Option Segment) → AllRead So (and_of r p o) → Completed o × AllRead So r
-  before_one r p None all = ((λ s is. absurd (let clash : None ≡ Some s = is in cc)), all)
+  before_one r p None all = ((λ s fact. absurd (let clash : None ≡ Some s = fact in cc)), all)
   before_one r p (Some x) all =
-      (let one = before_read r p.source x all in ((λ s is. (let same : x ≡ s = cc in subst So same one.0)), one.1))
+      (let one = before_read r p.source x all in ((λ s fact. (let same : x ≡ s = cc in subst So same one.0)), one.1))
 
   before_at : (s : TakeState) (r : Read) (o : Option Present) (ask server : ℕ) (t : Told) → AllRead So (read_at s r o ask server t)
       → CompletedAt s o ask server t × AllRead So r
@@ -258,12 +258,12 @@ module _ (SourceSo : Source → Type 0) (So : Segment → Type 0) (Good : Report
 
       by : (left : Option Source) → back_from source segment ≡ left
           → Goes (goes_on_from (record s { chain = told_of s.news.slot segment ∷ s.chain }) left)
-      by None is =
+      by None fact =
           go_on-on (with_chain (record s { chain = told_of s.news.slot segment ∷ s.chain }))
           (record { of = ready.of; behind = ready.behind })
-      by (Some left) is =
+      by (Some left) fact =
           sought_on (record s { chain = told_of s.news.slot segment ∷ s.chain }) left
-          (record { of = ready.of; behind = ready.behind }) (before source segment left so named read is)
+          (record { of = ready.of; behind = ready.behind }) (before source segment left so named read fact)
 
   again_on : (s : TakeState) (source : Source) (r : ReadingState) → Ready s → SourceSo source → r.target ≡ target_of source → Goes (again s source r)
   unfolding again

@@ -69,18 +69,18 @@ use Rattle.xfs_base.specs.declared.segment.SegRef.{SegRef}
 
 module _ (told : EntryTold) (slot : ℕ) where
   part_told : (i : Item) → PartTold told i → RowsTold told (part_rows slot i)
-  part_told (Block block value) is = absurd is
-  part_told (Delta block ver hop item) is = absurd is
-  part_told (Part of rows) is = by_test (RowsTold told) (of == slot) rows [] (λ _. is) (λ _. tt)
+  part_told (Block block value) fact = absurd fact
+  part_told (Delta block ver hop item) fact = absurd fact
+  part_told (Part of rows) fact = by_test (RowsTold told) (of == slot) rows [] (λ _. fact) (λ _. tt)
 
   parts_told : (items : List Item) → AllByRecursion (PartTold told) items → RowsTold told (flat_map (part_rows slot) items)
   parts_told [] all = tt
-  parts_told (i ∷ is) all = all_append (RowTold told) (part_rows slot i) (flat_map (part_rows slot) is) (part_told i all.0) (parts_told is all.1)
+  parts_told (i ∷ fact) all = all_append (RowTold told) (part_rows slot i) (flat_map (part_rows slot) fact) (part_told i all.0) (parts_told fact all.1)
 
   no_row : (s : Segment) (i : Item) → PartTold told i → IfSome (row_of s i) (RowTold told)
-  no_row s (Block block value) is = absurd is
-  no_row s (Delta block ver hop item) is = absurd is
-  no_row s (Part of rows) is = tt
+  no_row s (Block block value) fact = absurd fact
+  no_row s (Delta block ver hop item) fact = absurd fact
+  no_row s (Part of rows) fact = tt
 
   -- one of Parts tells their rows
   pub pages_tell : (s : Segment) → AllByRecursion (PartTold told) s.items → RowsTold told (told_of slot s)
@@ -90,9 +90,9 @@ module _ (told : EntryTold) (slot : ℕ) where
 
   no_parts : (items : List Item) → AllByRecursion IsNoPart items → RowsTold told (flat_map (part_rows slot) items)
   no_parts [] none = tt
-  no_parts (Block block value ∷ is) none = no_parts is none.1
-  no_parts (Delta block ver hop item ∷ is) none = no_parts is none.1
-  no_parts (Part of rows ∷ is) none = absurd none.0
+  no_parts (Block block value ∷ fact) none = no_parts fact none.1
+  no_parts (Delta block ver hop item ∷ fact) none = no_parts fact none.1
+  no_parts (Part of rows ∷ fact) none = absurd none.0
 
   -- and one without Parts the rows of its Deltas
   pub deltas_tell : (s : Segment) → AllByRecursion IsNoPart s.items → RowsTold told (rows_of s) → RowsTold told (told_of slot s)
@@ -104,11 +104,11 @@ module _ (told : EntryTold) (slot : ℕ) where
 
 -- what completes a segment has the name that was looked for
 completed_named : (target : Target) (n : Next) (s : Segment) → IsNamed target n → segment_of n ≡ Some s → s.name ≡ target.seg.name
-completed_named target (next.Read x) s named is = (let same : x ≡ s = cc in subst (λ (y : Segment). y.name ≡ target.seg.name) same named)
-completed_named target next.Wait s named is = absurd (let clash : None ≡ Some s = is in cc)
-completed_named target next.Ask s named is = absurd (let clash : None ≡ Some s = is in cc)
-completed_named target next.Again s named is = absurd (let clash : None ≡ Some s = is in cc)
-completed_named target next.Lost s named is = absurd (let clash : None ≡ Some s = is in cc)
+completed_named target (next.Read x) s named fact = (let same : x ≡ s = cc in subst (λ (y : Segment). y.name ≡ target.seg.name) same named)
+completed_named target next.Wait s named fact = absurd (let clash : None ≡ Some s = fact in cc)
+completed_named target next.Ask s named fact = absurd (let clash : None ≡ Some s = fact in cc)
+completed_named target next.Again s named fact = absurd (let clash : None ≡ Some s = fact in cc)
+completed_named target next.Lost s named fact = absurd (let clash : None ≡ Some s = fact in cc)
 
 module _ (base : Setting) (e : Estate AnyNode) (lines : HasLines base e) (texts : lined.Texts base e lines) (count : ℕ) (later : FiledRows) where
   -- What is known of a slot at this count in the small world of its index, of a manager in this phase: all that is filed there is told, what was filed are the
@@ -146,11 +146,11 @@ module _ (base : Setting) (e : Estate AnyNode) (lines : HasLines base e) (texts 
     source_read : (epoch : ℕ) (take : TakeState) → TakingAgrees slot texts.text k.net epoch take
         → ((ref : SegRef) → In ref take.news.parts → PartKnown base e lines count later ref) → (x : Present) → take.present ≡ Some x → (s : Segment) (of : ℕ)
         → s.name ≡ x.source.seg.name → s ≡ texts.text s.name → RowsTold told (told_of of s)
-    source_read epoch take taking flew x is s of named text =
+    source_read epoch take taking flew x fact s of named text =
         ⊎_elim
         (λ part. part_read part.ref s of (flew part.ref part.among) (named ∙ ap (λ (y : Source). y.seg.name) part.of_part) text)
         (λ here. filed_read here.log here.seq s of here.some here.limit (named ∙ here.named) text)
-        (reads_there slot texts.text k.net k.filed k.are_texts epoch take taking x is).lies
+        (reads_there slot texts.text k.net k.filed k.are_texts epoch take taking x fact).lies
 
     -- ---- an answer
 
@@ -167,22 +167,22 @@ module _ (base : Setting) (e : Estate AnyNode) (lines : HasLines base e) (texts 
     slot_owed desk (phase.Active active) agrees flew ask server answer completes own fetched = tt
     slot_owed desk (phase.Broken epoch seg) agrees flew ask server answer completes own fetched = tt
     slot_owed desk (phase.Taking t) agrees flew ask server answer completes own fetched =
-        λ present reading segment at is done.
+        λ present reading segment at fact done.
         (let there = reads_there slot texts.text k.net k.filed k.are_texts t.epoch t.take agrees present at in
-        let looks : reading.target ≡ target_of present.source = subst (LooksFor present.source) is there.looks in
+        let looks : reading.target ≡ target_of present.source = subst (LooksFor present.source) fact there.looks in
         let after = (on_answer reading t.take.groups own server answer).next in
         source_read t.epoch t.take agrees flew present at segment t.take.news.slot
         (completed_named (target_of present.source) after segment
         (subst (λ target. IsNamed target after) looks (named-on_answer reading t.take.groups own server answer)) done)
         (completes t own segment refl fetched
         (subst (λ o. completes_at t.take o own server answer ≡ Some segment) (sym at)
-        (subst (λ o. completes_in t.take o own server answer ≡ Some segment) (sym is) done))).text)
+        (subst (λ o. completes_in t.take o own server answer ≡ Some segment) (sym fact) done))).text)
 
   -- ---- all slots
 
   all_at : {X : Type 0} (P : X → Type 0) (xs : List X) → ((q : ℕ) (x : X) → slice_get xs q ≡ Some x → P x) → AllByRecursion P xs
   all_at P [] each = tt
-  all_at P (x ∷ xs) each = (each 0 x refl, all_at P xs (λ q y is. each (suc q) y is))
+  all_at P (x ∷ xs) each = (each 0 x refl, all_at P xs (λ q y fact. each (suc q) y fact))
 
   module _ (j : ℕ) (s : Serving) (packet : Packet)
       (slots : (q : ℕ) → q < 8 → SlotKnown q j (managing.Serving s) (Deliver packet)) where
@@ -196,11 +196,11 @@ module _ (base : Setting) (e : Estate AnyNode) (lines : HasLines base e) (texts 
     slots_owed ask server answer completes = all_at (SlotOwed (told_by later) ask server answer) s.slots one
       where
         one : (q : ℕ) (x : SlotPhase) → slice_get s.slots q ≡ Some x → SlotOwed (told_by later) ask server answer x
-        one q x is =
-            let within = slice_get_within s.slots q x is in
+        one q x fact =
+            let within = slice_get_within s.slots q x fact in
             let size = eight in
             let less : q < 8 = omega arith in
-            let at : phase_at s.slots q ≡ x = ap (λ (o : Option SlotPhase). unwrap_or o (phase.Away 0)) is in
+            let at : phase_at s.slots q ≡ x = ap (λ (o : Option SlotPhase). unwrap_or o (phase.Away 0)) fact in
             let agrees = (slots q less).agrees.0 in
             subst (SlotOwed (told_by later) ask server answer) at
             (slot_owed q j (managing.Serving s) (Deliver packet) (slots q less) (desk_of s agrees.given) (phase_at s.slots q) agrees.here
@@ -209,7 +209,7 @@ module _ (base : Setting) (e : Estate AnyNode) (lines : HasLines base e) (texts 
     found_owed : (from : NodeId) (m : Found)
         → ((q : ℕ) (less : q < 8) → FoundGets q texts.text (slots q less).asked j (slots q less).net (phase_at s.slots q) from m)
         → AnswerOwed (told_by later) s (server_in from) m.ask (answered.Held m.fragment)
-    found_owed (Server v) m gets = slots_owed m.ask v (answered.Held m.fragment) (λ q less t own x is fetched done. gets q less t own x is fetched done)
+    found_owed (Server v) m gets = slots_owed m.ask v (answered.Held m.fragment) (λ q less t own x fact fetched done. gets q less t own x fact fetched done)
     found_owed (Client c) m gets = tt
     found_owed (Manager c) m gets = tt
     found_owed Cleaner m gets = tt
@@ -218,7 +218,8 @@ module _ (base : Setting) (e : Estate AnyNode) (lines : HasLines base e) (texts 
     absent_owed : (from : NodeId) (m : Absent)
         → ((q : ℕ) (less : q < 8) → AbsentGets q texts.text (slots q less).asked j (slots q less).net (phase_at s.slots q) from m)
         → AnswerOwed (told_by later) s (server_in from) m.ask (answered.Missing m.generation)
-    absent_owed (Server v) m gets = slots_owed m.ask v (answered.Missing m.generation) (λ q less t own x is fetched done. gets q less t own x is fetched done)
+    absent_owed (Server v) m gets =
+        slots_owed m.ask v (answered.Missing m.generation) (λ q less t own x fact fetched done. gets q less t own x fact fetched done)
     absent_owed (Client c) m gets = tt
     absent_owed (Manager c) m gets = tt
     absent_owed Cleaner m gets = tt
@@ -242,13 +243,13 @@ module _ (base : Setting) (e : Estate AnyNode) (lines : HasLines base e) (texts 
   manager_owed j manager what slots = by what refl
     where
       by_phase : (packet : Packet) → what ≡ Deliver packet → (p : Phase) → manager.phase ≡ p → PacketOwed (told_by later) p packet
-      by_phase packet is (managing.Serving s) serves =
+      by_phase packet fact (managing.Serving s) serves =
           packet_owed j s packet
-          (λ q less. subst (SlotKnown q j (managing.Serving s)) is (subst (λ (p : Phase). SlotKnown q j p what) serves (slots q less)))
-      by_phase packet is (managing.Down kept) serves = tt
-      by_phase packet is (managing.Waiting kept hello) serves = tt
+          (λ q less. subst (SlotKnown q j (managing.Serving s)) fact (subst (λ (p : Phase). SlotKnown q j p what) serves (slots q less)))
+      by_phase packet fact (managing.Down kept) serves = tt
+      by_phase packet fact (managing.Waiting kept hello) serves = tt
 
       by : (d : Do) → what ≡ d → DoOwed (told_by later) manager.phase d
-      by Begin is = tt
-      by (Deliver packet) is = by_phase packet is manager.phase refl
-      by Tick is = tt
+      by Begin fact = tt
+      by (Deliver packet) fact = by_phase packet fact manager.phase refl
+      by Tick fact = tt

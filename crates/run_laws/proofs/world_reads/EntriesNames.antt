@@ -72,20 +72,20 @@ NamesNone nodes.Registry = ⊥
 
 module _ (known : Known) where
   quiet_body : (node : NodeId) → NamesNone node → (m : Body) → IsSentBy node m → BodyNames known m
-  quiet_body (nodes.Client n) none (body.CkptDone m) is = absurd is
-  quiet_body (nodes.Client n) none (body.MapNews m) is = absurd is
-  quiet_body (nodes.Client n) none (body.Welcome m) is = absurd is
-  quiet_body (nodes.Client n) none _ is = tt
-  quiet_body (nodes.Server n) none (body.CkptDone m) is = absurd is
-  quiet_body (nodes.Server n) none (body.MapNews m) is = absurd is
-  quiet_body (nodes.Server n) none (body.Welcome m) is = absurd is
-  quiet_body (nodes.Server n) none _ is = tt
-  quiet_body nodes.Cleaner none (body.CkptDone m) is = absurd is
-  quiet_body nodes.Cleaner none (body.MapNews m) is = absurd is
-  quiet_body nodes.Cleaner none (body.Welcome m) is = absurd is
-  quiet_body nodes.Cleaner none _ is = tt
-  quiet_body (nodes.Manager n) none m is = absurd none
-  quiet_body nodes.Registry none m is = absurd none
+  quiet_body (nodes.Client n) none (body.CkptDone m) fact = absurd fact
+  quiet_body (nodes.Client n) none (body.MapNews m) fact = absurd fact
+  quiet_body (nodes.Client n) none (body.Welcome m) fact = absurd fact
+  quiet_body (nodes.Client n) none _ fact = tt
+  quiet_body (nodes.Server n) none (body.CkptDone m) fact = absurd fact
+  quiet_body (nodes.Server n) none (body.MapNews m) fact = absurd fact
+  quiet_body (nodes.Server n) none (body.Welcome m) fact = absurd fact
+  quiet_body (nodes.Server n) none _ fact = tt
+  quiet_body nodes.Cleaner none (body.CkptDone m) fact = absurd fact
+  quiet_body nodes.Cleaner none (body.MapNews m) fact = absurd fact
+  quiet_body nodes.Cleaner none (body.Welcome m) fact = absurd fact
+  quiet_body nodes.Cleaner none _ fact = tt
+  quiet_body (nodes.Manager n) none m fact = absurd none
+  quiet_body nodes.Registry none m fact = absurd none
 
   -- what such a node sends names none, where it may send it
   quiet : (node : NodeId) → NamesNone node → (packets : List Packet) → AllByRecursion (λ (p : Packet). p.from ≡ node) packets
@@ -134,12 +134,12 @@ module _ (known : Known) where
   sent_names : (clock : ℕ) (packets : List Packet) → AllByRecursion (PacketNames known) packets → (p : Packet) → In p (map (sent_at clock) packets)
       → PacketNames known p
   sent_names clock [] all p among = absurd among
-  sent_names clock (x ∷ packets) all p (inl is) = subst (PacketNames known) (sym is) all.0
+  sent_names clock (x ∷ packets) all p (inl fact) = subst (PacketNames known) (sym fact) all.0
   sent_names clock (x ∷ packets) all p (inr later) = sent_names clock packets all.1 p later
 
   in_sent : (clock : ℕ) (packets : List Packet) (p : Packet) → In p packets → In (sent_at clock p) (map (sent_at clock) packets)
   in_sent clock [] p among = absurd among
-  in_sent clock (x ∷ packets) p (inl is) = inl (ap (sent_at clock) is)
+  in_sent clock (x ∷ packets) p (inl fact) = inl (ap (sent_at clock) fact)
   in_sent clock (x ∷ packets) p (inr later) = inr (in_sent clock packets p later)
 
   in_behind : {X : Type 0} (xs ys : List X) (x : X) → In x ys → In x (xs ++ ys)
@@ -156,9 +156,9 @@ module _ (known : Known) where
     comes = by (what_of event) refl
       where
         by : (what : Do) → what_of event ≡ what → DoNames known what
-        by Begin is = tt
-        by (Deliver p) is = stand.packets p (came p is)
-        by Tick is = tt
+        by Begin fact = tt
+        by (Deliver p) fact = stand.packets p (came p fact)
+        by Tick fact = tt
 
     abbrev Named : List AnyNode → List Packet → List Act → Type 0
     Named nodes sent acts = next.nodes ≡ nodes → next.sent ≡ sent → next.acts ≡ acts → PartsNamed known nodes sent
@@ -169,12 +169,12 @@ module _ (known : Known) where
         turned : (place : ℕ) (node : AnyNode) (clock : ℕ) → place_of w.cluster (node_of event) ≡ Some place → slice_get w.nodes place ≡ Some node
             → Named (slice_set w.nodes place (any_step node (what_of event)).node) (w.sent ++ map (sent_at clock) (any_step node (what_of event)).packets)
             (w.acts ++ (any_step node (what_of event)).acts)
-        turned place node clock at is nodes sent acts =
+        turned place node clock at fact nodes sent acts =
             let packets = (any_step node (what_of event)).packets in
-            let here = at_place w.nodes place node is in
+            let here = at_place w.nodes place node fact in
             let t : NamesThen node (what_of event) =
             names_then node (what_of event) (stand.holds node here) comes
-            (flies node (record { place = place; placed = at; stands = is; nodes = nodes; acts = acts }))
+            (flies node (record { place = place; placed = at; stands = fact; nodes = nodes; acts = acts }))
             (λ p among. kinds (sent_at clock p)
             (subst (In (sent_at clock p)) (sym sent) (in_behind w.sent (map (sent_at clock) packets) (sent_at clock p) (in_sent clock packets p among))))
             in
@@ -193,27 +193,28 @@ module _ (known later : Known) (more : (ref : SegRef) → known ref → later re
   news_rise (x ∷ slots) all = (managers.all_rise known later more x.parts all.0, news_rise slots all.1)
 
   body_rises : (m : Body) → BodyNames known m → BodyNames later m
-  body_rises (body.CkptDone m) is = managers.all_rise known later more m.parts is
-  body_rises (body.MapNews m) is = news_rise m.slots is
-  body_rises (body.Welcome m) is = news_rise m.news.slots is
-  body_rises _ is = tt
+  body_rises (body.CkptDone m) fact = managers.all_rise known later more m.parts fact
+  body_rises (body.MapNews m) fact = news_rise m.slots fact
+  body_rises (body.Welcome m) fact = news_rise m.news.slots fact
+  body_rises _ fact = tt
 
   any_rises : (node : AnyNode) → AnyNames known node → AnyNames later node
-  any_rises (any.Client node) is = tt
-  any_rises (any.Manager node) is = managers.phase_rises known later more node.phase is
-  any_rises (any.Server node) is = tt
-  any_rises (any.Cleaner node) is = tt
-  any_rises (any.Registry node) is = registries.any_names_rise known later node more is
+  any_rises (any.Client node) fact = tt
+  any_rises (any.Manager node) fact = managers.phase_rises known later more node.phase fact
+  any_rises (any.Server node) fact = tt
+  any_rises (any.Cleaner node) fact = tt
+  any_rises (any.Registry node) fact = registries.any_names_rise known later node more fact
 
   pub names_rise : (nodes : List AnyNode) (sent : List Packet) → PartsNamed known nodes sent → PartsNamed later nodes sent
-  names_rise nodes sent is = record { holds = λ node among. any_rises node (is.holds node among); packets = λ p among. body_rises p.body (is.packets p among) }
+  names_rise nodes sent fact =
+      record { holds = λ node among. any_rises node (fact.holds node among); packets = λ p among. body_rises p.body (fact.packets p among) }
 
 -- ---- what is named is known
 
 module _ (known : Known) where
   each_known : (parts : List SegRef) → AllKnown known parts → (ref : SegRef) → In ref parts → known ref
   each_known [] all ref among = absurd among
-  each_known (x ∷ parts) all ref (inl is) = subst known (sym is) all.0
+  each_known (x ∷ parts) all ref (inl fact) = subst known (sym fact) all.0
   each_known (x ∷ parts) all ref (inr later) = each_known parts all.1 ref later
 
   -- what news named of a slot that is taken over
@@ -224,10 +225,10 @@ module _ (known : Known) where
   TakenKnown (phase.Broken epoch seg) = Unit {0}
 
   one_known : (p : SlotPhase) → SlotNames known p → TakenKnown p
-  one_known (phase.Taking t) is = λ ref among. each_known t.take.news.parts is ref among
-  one_known (phase.Active active) is = tt
-  one_known (phase.Away epoch) is = tt
-  one_known (phase.Broken epoch seg) is = tt
+  one_known (phase.Taking t) fact = λ ref among. each_known t.take.news.parts fact ref among
+  one_known (phase.Active active) fact = tt
+  one_known (phase.Away epoch) fact = tt
+  one_known (phase.Broken epoch seg) fact = tt
 
   at_slot : (slots : List SlotPhase) (slot : ℕ) → AllByRecursion (SlotNames known) slots → SlotNames known (phase_at slots slot)
   at_slot [] slot all = tt
@@ -235,10 +236,10 @@ module _ (known : Known) where
   at_slot (p ∷ slots) (suc slot) all = at_slot slots slot all.1
 
   pub taken_known : (p : Phase) (slot : ℕ) → (node : ManagerNode) → node.phase ≡ p → ManagerNames known node → TakenKnown (slot_in slot p)
-  taken_known (managing.Serving s) slot node is names =
-      one_known (phase_at s.slots slot) (at_slot s.slots slot (subst (PhaseNames known) is names).slots)
-  taken_known (managing.Down kept) slot node is names = tt
-  taken_known (managing.Waiting kept hello) slot node is names = tt
+  taken_known (managing.Serving s) slot node fact names =
+      one_known (phase_at s.slots slot) (at_slot s.slots slot (subst (PhaseNames known) fact names).slots)
+  taken_known (managing.Down kept) slot node fact names = tt
+  taken_known (managing.Waiting kept hello) slot node fact names = tt
 
 -- ---- the start
 
@@ -252,7 +253,7 @@ module _ (known : Known) where
 
   first_ones : (script : Script) (names : List NodeId) (node : AnyNode) → In node (map (first_node any_start script) names) → AnyNames known node
   first_ones script [] node among = absurd among
-  first_ones script (name ∷ names) node (inl is) = subst (AnyNames known) (sym is) (any_begins name script.setup (items_of script.lines name))
+  first_ones script (name ∷ names) node (inl fact) = subst (AnyNames known) (sym fact) (any_begins name script.setup (items_of script.lines name))
   first_ones script (name ∷ names) node (inr later) = first_ones script names node later
 
   -- before the first event nothing is named

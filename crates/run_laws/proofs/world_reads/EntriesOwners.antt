@@ -41,11 +41,11 @@ use Rattle.xfs_base.specs.declared.segment.LogId.{LogId}
 use Rattle.xfs_base.specs.declared.segment.SegName.{SegName}
 
 among_of : {X : Type 0} (xs : List X) (x : X) → Contains xs x → In x xs
-among_of [] x is = absurd (nothing x is)
+among_of [] x fact = absurd (nothing x fact)
   where
     nothing : {X : Type 0} (x : X) → Contains [] x → ⊥
-    nothing x (k, below, is) = absurd (omega arith)
-among_of (y ∷ xs) x is = elim (contains_cases y x xs is) [ inl same ↦ inl (sym same) | inr later ↦ inr (among_of xs x later) ]
+    nothing x (k, below, fact) = absurd (omega arith)
+among_of (y ∷ xs) x fact = elim (contains_cases y x xs fact) [ inl same ↦ inl (sym same) | inr later ↦ inr (among_of xs x later) ]
 
 -- what holds of each item that is among some holds of all of these
 each_among : {X : Type 0} (P : X → Type 0) (xs : List X) → ((x : X) → In x xs → P x) → AllByRecursion P xs
@@ -54,12 +54,12 @@ each_among P (x ∷ xs) each = (each x (inl refl), each_among P xs (λ y later. 
 
 -- a segment that was filed says what is told
 pub segment_told : (h : Filed) (l q : ℕ) (s : Segment) → 0 < q → q ≤ h.head l → h.segment l q ≡ s → RowsTold (told_by (rows_at h)) (rows_of s)
-segment_told h l q s some limit is =
+segment_told h l q s some limit fact =
     all_weaker (Contains (rows_of s)) (RowTold (told_by (rows_at h)))
     (λ row says. inl (record {
       log = l;
       seq = q;
-      says = subst (λ (rows : List (BlockId × Entry)). Contains rows row) (sym (rows_filed h l q some limit ∙ ap rows_of is)) says;
+      says = subst (λ (rows : List (BlockId × Entry)). Contains rows row) (sym (rows_filed h l q some limit ∙ ap rows_of fact)) says;
     })) (rows_of s) (contains_all (rows_of s))
 
 module _ (base : Setting) (e : Estate AnyNode) (lines : HasLines base e) (texts : Texts base e lines) (part : ℕ) (first : ℕ → ℕ → Segment) (count : ℕ)
@@ -93,9 +93,9 @@ module _ (base : Setting) (e : Estate AnyNode) (lines : HasLines base e) (texts 
     acts = (any_step node (what_of event)).acts
 
     filed_then : (name : SegName) → Contains acts (ActsFiled name) → tables.In name later.filed
-    filed_then name is =
+    filed_then name fact =
         (line.stands (suc count)).filed name
-        (did_then e l count event node x.happens x.own x.took (ActsFiled name) (among_of acts (ActsFiled name) is))
+        (did_then e l count event node x.happens x.own x.took (ActsFiled name) (among_of acts (ActsFiled name) fact))
 
     gives : LineGives l later h
     gives = give texts.text l g later h x.sure x.lined

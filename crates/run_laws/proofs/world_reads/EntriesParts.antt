@@ -26,13 +26,13 @@ use Rattle.xfs_base.specs.declared.segment.SegRef.{SegRef}
 
 -- a node of a name is one of the nodes
 pub among_nodes : (nodes : List AnyNode) (o : Option ℕ) (node : AnyNode) → node_in nodes o ≡ Some node → In node nodes
-among_nodes nodes None node is = absurd (let clash : None ≡ Some node = is in cc)
-among_nodes nodes (Some place) node is = at_place nodes place node is
+among_nodes nodes None node fact = absurd (let clash : None ≡ Some node = fact in cc)
+among_nodes nodes (Some place) node fact = at_place nodes place node fact
 
 -- what a list contains is in it
 pub in_contained : {X : Type 0} (xs : List X) (x : X) → Contains xs x → In x xs
-in_contained [] x is = absurd (contains_nothing x is)
-in_contained (y ∷ xs) x is = ⊎_elim (λ same. inl (sym same)) (λ later. inr (in_contained xs x later)) (contains_cases y x xs is)
+in_contained [] x fact = absurd (contains_nothing x fact)
+in_contained (y ∷ xs) x fact = ⊎_elim (λ same. inl (sym same)) (λ later. inr (in_contained xs x later)) (contains_cases y x xs fact)
 
 module _ (rows later : FiledRows) (more : AreMore rows later) where
   part_rises : (i : Item) → PartTold (told_by rows) i → PartTold (told_by later) i

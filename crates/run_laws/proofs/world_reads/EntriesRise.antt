@@ -60,35 +60,35 @@ module _ (f h : Filed) (more : IsMore f h) where
   says_more : (row : BlockId × Entry) (l q : ℕ) → Contains (rows_at f l q) row → Contains (rows_at h l q) row
   says_more row l q =
       by_filed (λ rows. Contains rows row → Contains (rows_at h l q) row) f l q
-      (λ some limit is. (let rises = more.head l in
+      (λ some limit fact. (let rises = more.head l in
       subst (λ rows. Contains rows row) (sym (rows_filed h l q some (omega arith)))
-      (subst (λ (s : Segment). Contains (rows_of s) row) (sym (more.segment l q some limit)) is)))
-      (λ is. absurd (contains_nothing row is))
+      (subst (λ (s : Segment). Contains (rows_of s) row) (sym (more.segment l q some limit)) fact)))
+      (λ fact. absurd (contains_nothing row fact))
 
   pub rows_more : AreMore (rows_at f) (rows_at h)
-  rows_more block entry is = record { log = is.log; seq = is.seq; says = says_more (block, entry) is.log is.seq is.says }
+  rows_more block entry fact = record { log = fact.log; seq = fact.seq; says = says_more (block, entry) fact.log fact.seq fact.says }
 
 -- what a packet tells it tells still
 module _ (rows later : FiledRows) (more : AreMore rows later) where
   body_rises : (m : Body) → BodyTold (told_by rows) m → BodyTold (told_by later) m
-  body_rises (body.Grant m) is = told_more rows later more m.block m.entry is
-  body_rises (body.Deltas m) is = rows_rise (told_by rows) (told_by later) (told_more rows later more) m.rows is
-  body_rises (body.Live m) is = told_more rows later more m.block m.entry is
-  body_rises _ is = tt
+  body_rises (body.Grant m) fact = told_more rows later more m.block m.entry fact
+  body_rises (body.Deltas m) fact = rows_rise (told_by rows) (told_by later) (told_more rows later more) m.rows fact
+  body_rises (body.Live m) fact = told_more rows later more m.block m.entry fact
+  body_rises _ fact = tt
 
   module _ (kinds : EntryKinds) where
     any_rises : (node : AnyNode) → AnyTold rows node → AnyTold later node
-    any_rises (any.Client node) is = kinds.client_rises rows later node more is
-    any_rises (any.Manager node) is = kinds.manager_rises rows later node more is
-    any_rises (any.Server node) is = tt
-    any_rises (any.Cleaner node) is = kinds.cleaner_rises rows later node more is
-    any_rises (any.Registry node) is = tt
+    any_rises (any.Client node) fact = kinds.client_rises rows later node more fact
+    any_rises (any.Manager node) fact = kinds.manager_rises rows later node more fact
+    any_rises (any.Server node) fact = tt
+    any_rises (any.Cleaner node) fact = kinds.cleaner_rises rows later node more fact
+    any_rises (any.Registry node) fact = tt
 
     -- so does all that is told at a moment
     pub entries_rise : (nodes : List AnyNode) (sent : List Packet) → EntriesStand rows nodes sent → EntriesStand later nodes sent
-    entries_rise nodes sent is = record {
-      holds = λ node among. any_rises node (is.holds node among);
-      packets = λ p among. body_rises p.body (is.packets p among);
+    entries_rise nodes sent fact = record {
+      holds = λ node among. any_rises node (fact.holds node among);
+      packets = λ p among. body_rises p.body (fact.packets p among);
     }
 
 -- ---- the start
@@ -103,7 +103,7 @@ module _ (kinds : EntryKinds) (rows : FiledRows) where
 
   first_ones : (script : Script) (names : List NodeId) (node : AnyNode) → In node (map (first_node any_start script) names) → AnyTold rows node
   first_ones script [] node among = absurd among
-  first_ones script (name ∷ names) node (inl is) = subst (AnyTold rows) (sym is) (any_begins name script.setup (items_of script.lines name))
+  first_ones script (name ∷ names) node (inl fact) = subst (AnyTold rows) (sym fact) (any_begins name script.setup (items_of script.lines name))
   first_ones script (name ∷ names) node (inr later) = first_ones script names node later
 
   -- before the first event nothing is told, whatever was filed

@@ -68,12 +68,12 @@ module _ (base : Setting) (e : Estate AnyNode) (lines : HasLines base e) (texts 
 
     says_same : (row : BlockId × Entry) (l q : ℕ) → Contains (rows_at f l q) row → Contains (rows_at h l q) row
     says_same row l q =
-        by_filed (λ rows. Contains rows row → Contains (rows_at h l q) row) f l q here (λ is. absurd (contains_nothing row is))
+        by_filed (λ rows. Contains rows row → Contains (rows_at h l q) row) f l q here (λ fact. absurd (contains_nothing row fact))
       where
         at_log : (k : ℕ) (r : Role) (there : There base e lines texts part first r) → renews r ≡ false → log_by r ≡ k → 0 < q → q ≤ f.head k
             → Contains (rows_of (f.segment k q)) row → Contains (rows_at h k q) row
-        at_log k r there keeps is some limit says =
-            subst (λ x. q ≤ f.head x → Contains (rows_of (f.segment x q)) row → Contains (rows_at h x q) row) is
+        at_log k r there keeps fact some limit says =
+            subst (λ x. q ≤ f.head x → Contains (rows_of (f.segment x q)) row → Contains (rows_at h x q) row) fact
             (λ m c.
             let t = is_there give texts.text (log_by r) (setting base e r) (log_at base e lines texts part first r there count) f h (sure_log r there keeps)
             (its.lined r there keeps) (joint.lined r there keeps) q some m
@@ -87,4 +87,4 @@ module _ (base : Setting) (e : Estate AnyNode) (lines : HasLines base e) (texts 
             at_log l has.role has.there has.keeps has.numbered some limit says
 
     pub same_rows : AreMore (rows_at f) (rows_at h)
-    same_rows block entry is = record { log = is.log; seq = is.seq; says = says_same (block, entry) is.log is.seq is.says }
+    same_rows block entry fact = record { log = fact.log; seq = fact.seq; says = says_same (block, entry) fact.log fact.seq fact.says }

@@ -66,7 +66,7 @@ left_goes : (source : Source) (s : Segment) (left : Source) → back_from source
 left_goes source s left =
     by_test (λ (o : Option Source). o ≡ Some left → (goes_back source s ≡ true) × (left ≡ record { seg = prior_of s; low = source.low })) (goes_back source s)
     (Some (record { seg = prior_of s; low = source.low })) None
-    (λ back is. (back, cc)) (λ _ is. absurd (let clash : None ≡ Some left = is in cc))
+    (λ back fact. (back, cc)) (λ _ fact. absurd (let clash : None ≡ Some left = fact in cc))
 
 module _ (f : Filed) (filed : IsFiled f) (texts : Texts) (are_texts : AreTexts texts f) (parts : List SegRef) where
   -- nothing is left of a part
@@ -84,9 +84,9 @@ module _ (f : Filed) (filed : IsFiled f) (texts : Texts) (are_texts : AreTexts t
       let some = here.some in
       let limit = here.limit in
       let low = here.low in
-      let is : s ≡ f.segment l q = read ∙ (ap texts (named ∙ here.named) ∙ sym (are_texts l q some limit)) in
+      let fact : s ≡ f.segment l q = read ∙ (ap texts (named ∙ here.named) ∙ sym (are_texts l q some limit)) in
       let its = filed.each l q some limit in
-      let seq : s.name.seq ≡ q = ap (λ (x : Segment). x.name.seq) is ∙ its.seq in
+      let seq : s.name.seq ≡ q = ap (λ (x : Segment). x.name.seq) fact ∙ its.seq in
       let down : source.low < s.name.seq = goes_down source.low s.name.seq (not (is_none s.prior)) back in
       let below = filed.each l (q - 1) (omega arith) (omega arith) in
       let one : suc (q - 1) ≡ q = omega arith in
@@ -95,9 +95,9 @@ module _ (f : Filed) (filed : IsFiled f) (texts : Texts) (are_texts : AreTexts t
         seq = q - 1;
         some = omega arith;
         limit = omega arith;
-        named = same_name (prior_of s).name (f.segment l (q - 1)).name (ap (λ (x : Segment). x.name.log.0) is ∙ (its.log ∙ sym below.log))
+        named = same_name (prior_of s).name (f.segment l (q - 1)).name (ap (λ (x : Segment). x.name.log.0) fact ∙ (its.log ∙ sym below.log))
             (ap (λ k. k - 1) seq ∙ sym below.seq)
-            (ap (λ (x : Segment). x.prior.pass) is
+            (ap (λ (x : Segment). x.prior.pass) fact
             ∙ (sym (ap (λ k. (f.segment l k).prior.pass) one) ∙ here.linked (q - 1) (omega arith) (omega arith)));
         low = low;
         linked = λ k from to. here.linked k from (omega arith);
@@ -105,8 +105,8 @@ module _ (f : Filed) (filed : IsFiled f) (texts : Texts) (are_texts : AreTexts t
 
   lies_down : (source : Source) (s : Segment) (left : Source) → SourceLies f parts source → s.name ≡ source.seg.name → s ≡ texts s.name
       → back_from source s ≡ Some left → SourceLies f parts left
-  lies_down source s left lies named read is =
-      let goes = left_goes source s left is in
+  lies_down source s left lies named read fact =
+      let goes = left_goes source s left fact in
       ⊎_elim (λ part. absurd (part_ends source s part named goes.0))
       (λ here. inr (subst (ReadsFiled f) (sym goes.1) (leads_down source s here named read goes.0))) lies
 
@@ -147,14 +147,14 @@ module _ (part : ℕ) (texts : Texts) (n : Net) (filed : IsFiled n.filed) (news 
     low_some = (let from = known.from_one l some limit in let same = of_log_in news.horizon l some limit in omega arith)
 
     known_lies : (end : End) → EndKnown part n news.epoch l end → EndLies l end
-    known_lies end is above =
+    known_lies end fact above =
         let low = low_is in
         let pos = low_some in
-        (is.filed (omega arith) (omega arith), subst (λ k. Linked n.filed l k end.seq) low (is.linked (omega arith)))
+        (fact.filed (omega arith) (omega arith), subst (λ k. Linked n.filed l k end.seq) low (fact.linked (omega arith)))
 
     by_writer : (t : Bool) → (l == 9) ≡ t → (end : End) → ReportKnown part n news.epoch (cond t Cleaner (Client l)) end → EndKnown part n news.epoch l end
-    by_writer true is end report = subst (λ k. EndKnown part n news.epoch k end) (sym (eqb-true l 9 is)) report.0
-    by_writer false is end report = report
+    by_writer true fact end report = subst (λ k. EndKnown part n news.epoch k end) (sym (eqb-true l 9 fact)) report.0
+    by_writer false fact end report = report
 
     end_lies : (reports : List Report) → ((r : Report) → In r reports → Good r) → EndLies l (end_of reports l)
     end_lies reports good =
@@ -193,7 +193,7 @@ module _ (part : ℕ) (texts : Texts) (n : Net) (filed : IsFiled n.filed) (news 
     where
       all_got : (xs : List Report) (r : Report) → AllByRecursion Good xs → In r xs → Good r
       all_got [] r all among = absurd among
-      all_got (x ∷ xs) r all (inl is) = subst Good (sym is) all.0
+      all_got (x ∷ xs) r all (inl fact) = subst Good (sym fact) all.0
       all_got (x ∷ xs) r all (inr later) = all_got xs r all.1 later
 
 -- ---- a takeover
@@ -215,13 +215,13 @@ module _ (part : ℕ) (texts : Texts) (n : Net) (filed : IsFiled n.filed) (are_t
       (taking.reports r (subst (λ (s : TakeState). In r s.reports) (sym taking.take_is) among)))
 
   so : SourcesSo (SourceLies n.filed taking.news.parts) IsText (λ (r : Report). ReportKnown part n taking.news.epoch r.from r.end) taking.news
-      (λ source s left lies named read is. lies_down n.filed filed texts are_texts taking.news.parts source s left lies named read is)
+      (λ source s left lies named read fact. lies_down n.filed filed texts are_texts taking.news.parts source s left lies named read fact)
       (sources_lie part texts n filed taking.news taking.known) take
   so = subst (SourcesSo (SourceLies n.filed taking.news.parts) IsText (λ (r : Report). ReportKnown part n taking.news.epoch r.from r.end) taking.news
-      (λ source s left lies named read is. lies_down n.filed filed texts are_texts taking.news.parts source s left lies named read is)
+      (λ source s left lies named read fact. lies_down n.filed filed texts are_texts taking.news.parts source s left lies named read fact)
       (sources_lie part texts n filed taking.news taking.known)) (sym taking.take_is)
       (its_sources (SourceLies n.filed taking.news.parts) IsText (λ (r : Report). ReportKnown part n taking.news.epoch r.from r.end) taking.news
-      (λ source s left lies named read is. lies_down n.filed filed texts are_texts taking.news.parts source s left lies named read is)
+      (λ source s left lies named read fact. lies_down n.filed filed texts are_texts taking.news.parts source s left lies named read fact)
       (sources_lie part texts n filed taking.news taking.known) taking.groups taking.clients taking.inputs
       (record {
         reports = heard;
@@ -237,10 +237,10 @@ module _ (part : ℕ) (texts : Texts) (n : Net) (filed : IsFiled n.filed) (are_t
     pub looks : LooksFor p.source p.reading
 
   pub reads_there : (p : Present) → take.present ≡ Some p → ReadsThere p
-  reads_there p is =
+  reads_there p fact =
       let there = subst (PresentSo (SourceLies n.filed taking.news.parts) IsText (λ (r : Report). ReportKnown part n taking.news.epoch r.from r.end) taking.news
-      (λ source s left lies named read is. lies_down n.filed filed texts are_texts taking.news.parts source s left lies named read is)
-      (sources_lie part texts n filed taking.news taking.known)) is so.present in
+      (λ source s left lies named read fact. lies_down n.filed filed texts are_texts taking.news.parts source s left lies named read fact)
+      (sources_lie part texts n filed taking.news taking.known)) fact so.present in
       record {
         lies = subst (λ (x : SlotNews). SourceLies n.filed x.parts p.source) (sym so.of) there.0;
         looks = there.1;

@@ -31,27 +31,27 @@ use Rattle.run_laws.specs.world_reads.Entries.{AnyTold, EntriesStand}
 
 pub in_set : {X : Type 0} (xs : List X) (place : ℕ) (y x : X) → In x (slice_set xs place y) → (x ≡ y) ⊎ In x xs
 in_set [] place y x among = absurd among
-in_set (z ∷ xs) zero y x (inl is) = inl is
+in_set (z ∷ xs) zero y x (inl fact) = inl fact
 in_set (z ∷ xs) zero y x (inr later) = inr (inr later)
-in_set (z ∷ xs) (suc place) y x (inl is) = inr (inl is)
-in_set (z ∷ xs) (suc place) y x (inr later) = ⊎_elim (λ is. inl is) (λ on. inr (inr on)) (in_set xs place y x later)
+in_set (z ∷ xs) (suc place) y x (inl fact) = inr (inl fact)
+in_set (z ∷ xs) (suc place) y x (inr later) = ⊎_elim (λ fact. inl fact) (λ on. inr (inr on)) (in_set xs place y x later)
 
 pub in_both : {X : Type 0} (xs ys : List X) (x : X) → In x (xs ++ ys) → In x xs ⊎ In x ys
 in_both [] ys x among = inr among
-in_both (z ∷ xs) ys x (inl is) = inl (inl is)
+in_both (z ∷ xs) ys x (inl fact) = inl (inl fact)
 in_both (z ∷ xs) ys x (inr later) = ⊎_elim (λ on. inl (inr on)) (λ behind. inr behind) (in_both xs ys x later)
 
 pub at_place : {X : Type 0} (xs : List X) (place : ℕ) (x : X) → slice_get xs place ≡ Some x → In x xs
-at_place [] place x is = absurd (let clash : None ≡ Some x = is in cc)
-at_place (z ∷ xs) zero x is = inl (sym (ap (λ (o : Option _). unwrap_or o z) is))
-at_place (z ∷ xs) (suc place) x is = inr (at_place xs place x is)
+at_place [] place x fact = absurd (let clash : None ≡ Some x = fact in cc)
+at_place (z ∷ xs) zero x fact = inl (sym (ap (λ (o : Option _). unwrap_or o z) fact))
+at_place (z ∷ xs) (suc place) x fact = inr (at_place xs place x fact)
 
 module _ (rows : FiledRows) where
   -- what a packet tells doesn't lie in its clock
   sent_told : (clock : ℕ) (packets : List Packet) → AllByRecursion (PacketTold (told_by rows)) packets → (p : Packet) → In p (map (sent_at clock) packets)
       → PacketTold (told_by rows) p
   sent_told clock [] all p among = absurd among
-  sent_told clock (x ∷ packets) all p (inl is) = subst (PacketTold (told_by rows)) (sym is) all.0
+  sent_told clock (x ∷ packets) all p (inl fact) = subst (PacketTold (told_by rows)) (sym fact) all.0
   sent_told clock (x ∷ packets) all p (inr later) = sent_told clock packets all.1 p later
 
   -- ---- one node
@@ -89,9 +89,9 @@ module _ (rows : FiledRows) where
     comes = by (what_of event) refl
       where
         by : (what : Do) → what_of event ≡ what → DoTold (told_by rows) what
-        by Begin is = tt
-        by (Deliver p) is = stand.packets p (came p is)
-        by Tick is = tt
+        by Begin fact = tt
+        by (Deliver p) fact = stand.packets p (came p fact)
+        by Tick fact = tt
 
     abbrev Told : List AnyNode → List Packet → List Act → Type 0
     Told nodes sent acts = next.nodes ≡ nodes → next.sent ≡ sent → next.acts ≡ acts → EntriesStand rows nodes sent
@@ -103,10 +103,10 @@ module _ (rows : FiledRows) where
         turned : (place : ℕ) (node : AnyNode) (clock : ℕ) → place_of w.cluster (node_of event) ≡ Some place → slice_get w.nodes place ≡ Some node
             → Told (slice_set w.nodes place (any_step node (what_of event)).node) (w.sent ++ map (sent_at clock) (any_step node (what_of event)).packets)
             (w.acts ++ (any_step node (what_of event)).acts)
-        turned place node clock at is nodes sent acts =
+        turned place node clock at fact nodes sent acts =
             let t : AnyTells node (what_of event) =
-            any_tells kinds node (what_of event) (stand.holds node (at_place w.nodes place node is)) comes
-            (owed node (record { place = place; placed = at; stands = is; nodes = nodes; acts = acts }))
+            any_tells kinds node (what_of event) (stand.holds node (at_place w.nodes place node fact)) comes
+            (owed node (record { place = place; placed = at; stands = fact; nodes = nodes; acts = acts }))
             in
             record {
               holds = λ x among. ⊎_elim (λ same. subst (AnyTold rows) (sym same) t.node) (λ before. stand.holds x before)

@@ -254,7 +254,7 @@ module _ (base : Setting) (e : Estate AnyNode) (lines : HasLines base e) (texts 
           same = here part x.of_map
 
           one_manager : (a c : ManagerNode) → any.Manager a ≡ any.Manager c → a ≡ c
-          one_manager a c is = cc
+          one_manager a c fact = cc
 
           slot_known : (slot : ℕ) → slot < 8 → SlotKnown base e lines texts count (rows_at h) slot j it.phase what
           slot_known slot less =
@@ -262,9 +262,9 @@ module _ (base : Setting) (e : Estate AnyNode) (lines : HasLines base e) (texts 
               record {
                 net = its.idx.net;
                 asked = its.idx.asked;
-                more = λ block entry is. rows_more joint.idx.net.filed h x.more block entry
+                more = λ block entry fact. rows_more joint.idx.net.filed h x.more block entry
                     (same_rows base e lines texts part first laws.give count (upto_before base e lines texts part first count x.sure) joint slot its block
-                    entry is);
+                    entry fact);
                 filed = (good_in slot (held_in slot texts.text) first its.idx.net its.index_stands.runs).filed;
                 are_texts = its.index_stands.texts_of;
                 agrees = subst (λ (y : ManagerNode). ManagerAgrees slot texts.text its.idx.net y.phase)
@@ -316,17 +316,17 @@ module _ (base : Setting) (e : Estate AnyNode) (lines : HasLines base e) (texts 
 
           -- what it acts it did up to the next count
           done : (name : SegName) → Contains acts (act.Filed name) → In (act.Filed name) (did e (log_by (OfManager j)) (suc count))
-          done name is =
+          done name fact =
               did_then e (log_by (OfManager j)) count event (any.Manager it) x.happens (ap (owns (log_by (OfManager j))) own ∙ itself (log_by (OfManager j)))
-              (subst (Took w event) (sym same) took) (act.Filed name) (in_contained acts (act.Filed name) is)
+              (subst (Took w event) (sym same) took) (act.Filed name) (in_contained acts (act.Filed name) fact)
 
           by : (p : managers.Phase) → it.phase ≡ p → PhaseFlies (PartKnown base e lines (suc count) (rows_at h)) acts p
-          by (managing.Down kept) is = tt
-          by (managing.Waiting kept hello) is = tt
-          by (managing.Serving s) is = λ flight flies acted. (
-              let its = subst (manager_log.ManagerAgrees (setting base e (OfManager j)) j (line.at count)) is
+          by (managing.Down kept) fact = tt
+          by (managing.Waiting kept hello) fact = tt
+          by (managing.Serving s) fact = λ flight flies acted. (
+              let its = subst (manager_log.ManagerAgrees (setting base e (OfManager j)) j (line.at count)) fact
               ((line.stands count).seen (Manager j) (any.Manager it) here refl) in
-              let writes = (subst (ManagerAgrees part texts.text joint.idx.net) is (joint.index_stands.managers j b.some b.within)).0.writer in
+              let writes = (subst (ManagerAgrees part texts.text joint.idx.net) fact (joint.index_stands.managers j b.some b.within)).0.writer in
               let flew : tables.In flight.segment (line.at count).net.flown =
               subst (λ (o : Option FlightState). IfSome o (λ (f : FlightState). tables.In f.segment (line.at count).net.flown)) flies
               (subst (OwnerFlew (line.at count).net.flown) its.log.owner
@@ -337,7 +337,8 @@ module _ (base : Setting) (e : Estate AnyNode) (lines : HasLines base e) (texts 
                 segment = flight.segment;
                 flew = (grows base e (OfManager j) line count (suc count) (omega arith)).flown flight.segment flew;
                 told = subst (λ (o : Option FlightState). IfSome o (FlightHolds told)) flies
-                    (subst (PhaseHolds told) is (stand.holds (any.Manager it) (among_nodes w.nodes (place_of k (Manager j)) (any.Manager it) here))).log.flight;
+                    (subst (PhaseHolds told) fact (stand.holds (any.Manager it)
+                    (among_nodes w.nodes (place_of k (Manager j)) (any.Manager it) here))).log.flight;
                 named = ap (λ (l : LogId). record { log = l; seq = flight.segment.name.seq; pass = flight.segment.name.pass })
                     (writes.named flight flies ∙ writes.same_log);
                 group = refl;

@@ -61,17 +61,17 @@ module _ (base : Setting) (e : Estate AnyNode) (lines : HasLines base e) (texts 
     where
       none : (r : Role) → (l == 9) ≡ false → (nat_lt 0 l && nat_le l clients) ≡ false → There base e lines texts part first r → renews r ≡ false
           → log_by r ≡ l → ⊥
-      none (OfClient c) other out there keeps is =
-          (let some = there.0 in let limit = there.1 in let same : c ≡ l = is in
+      none (OfClient c) other out there keeps fact =
+          (let some = there.0 in let limit = there.1 in let same : c ≡ l = fact in
           let inside : (nat_lt 0 l && nat_le l clients) ≡ true = grind (arith, nat_tests, some, limit, same) in absurd cc)
-      none OfCleaner other out there keeps is = (let same : (l == 9) ≡ true = grind (arith, nat_tests, is) in absurd cc)
-      none (OfManager j) other out there keeps is = absurd cc
+      none OfCleaner other out there keeps fact = (let same : (l == 9) ≡ true = grind (arith, nat_tests, fact) in absurd cc)
+      none (OfManager j) other out there keeps fact = absurd cc
 
       by : (t : Bool) → (l == 9) ≡ t → (u : Bool) → (nat_lt 0 l && nat_le l clients) ≡ u → HasLog l ⊎ Nobody l
-      by true is u at = inl (record { role = OfCleaner; there = tt; keeps = refl; numbered = sym (eqb-true l 9 is) })
-      by false is true at =
+      by true fact u at = inl (record { role = OfCleaner; there = tt; keeps = refl; numbered = sym (eqb-true l 9 fact) })
+      by false fact true at =
           inl (record { role = OfClient l; there = (grind (arith, nat_tests, at), grind (arith, nat_tests, at)); keeps = refl; numbered = refl })
-      by false is false at = inr (λ r there keeps same. none r is at there keeps same)
+      by false fact false at = inr (λ r there keeps same. none r fact at there keeps same)
 
   module _ (count : ℕ) where
     abbrev sent : List Packet
@@ -85,8 +85,8 @@ module _ (base : Setting) (e : Estate AnyNode) (lines : HasLines base e) (texts 
 
       body_seen : (p : Packet) (m : Body) → In p sent → p.body ≡ m
           → BodySeen g (asker_by r ((lines r there).at count)) (log_at base e lines texts part first r there count) p.from p.to m
-      body_seen p m among is =
-          subst (BodySeen g (asker_by r ((lines r there).at count)) (log_at base e lines texts part first r there count) p.from p.to) is
+      body_seen p m among fact =
+          subst (BodySeen g (asker_by r ((lines r there).at count)) (log_at base e lines texts part first r there count) p.from p.to) fact
           (((lines r there).stands count).facts p among)
 
       pub log_known : LogKnown texts.text sent (cuts_at e.world) (record { 0 = log_by r })
@@ -96,7 +96,7 @@ module _ (base : Setting) (e : Estate AnyNode) (lines : HasLines base e) (texts 
         own = refl;
         moment = ((lines r there).stands count).moment;
         texts_of = texts.flown r there count;
-        told = λ p m among is of. body_seen p (body.Fragment m) among is of;
+        told = λ p m among fact of. body_seen p (body.Fragment m) among fact of;
         members = λ id. members_alike (group_at e.world id);
         parity = λ id. parity_alike (group_at e.world id);
       }
@@ -111,9 +111,9 @@ module _ (base : Setting) (e : Estate AnyNode) (lines : HasLines base e) (texts 
       pub listed_flew : WhatIsListedFlew → (p : Packet) (m : Listed) → In p sent → p.body ≡ body.Listed m → (meta : FragMeta) → In meta m.held
           → meta.name.log ≡ record { 0 = log_by r }
           → (s : Segment) × In s (log_at base e lines texts part first r there count).flown × (meta.name ≡ s.name) × (meta.group ≡ s.group)
-      listed_flew flew p m among is meta held own =
+      listed_flew flew p m among fact meta held own =
           flew g (log_at base e lines texts part first r there count) ((lines r there).stands count).moment
-          (filter (λ (x : FragMeta). is_of_log g x.name) m.held) (body_seen p (body.Listed m) among is) meta
+          (filter (λ (x : FragMeta). is_of_log g x.name) m.held) (body_seen p (body.Listed m) among fact) meta
           (in_filter (λ (x : FragMeta). is_of_log g x.name) meta m.held held (of_its_log meta.name own))
 
     -- ---- all logs

@@ -42,17 +42,17 @@ use Rattle.xfs_base.specs.declared.segment.SegName.{SegName}
 use Rattle.xfs_base.specs.declared.segment.SegRef.{SegRef}
 
 one_of : {X : Type 0} (P : X → Type 0) (xs : List X) (x : X) → AllByRecursion P xs → In x xs → P x
-one_of P [] x all is = absurd is
-one_of P (y ∷ xs) x all (inl is) = subst P (sym is) all.0
+one_of P [] x all fact = absurd fact
+one_of P (y ∷ xs) x all (inl fact) = subst P (sym fact) all.0
 one_of P (y ∷ xs) x all (inr later) = one_of P xs x all.1 later
 
 -- where a segment leads: to the one before it
 leads_to : (at : Source) (s : Segment) (source : Source) → back_from at s ≡ Some source → source.seg ≡ prior_of s
-leads_to at s source is =
+leads_to at s source fact =
     elim (goes_back at s) as (λ t. cond t (Some (record { seg = prior_of s; low = at.low })) None ≡ Some source → source.seg ≡ prior_of s) [
       | true ↦ λ h. ap (λ (x : Source). x.seg) (sym (one_source (record { seg = prior_of s; low = at.low }) source h))
       | false ↦ λ h. absurd (cc)
-    ] is
+    ] fact
   where
     one_source : (a b : Source) → Some a ≡ Some b → a ≡ b
     one_source a b h = cc
@@ -96,8 +96,8 @@ module _ (base : Setting) (e : Estate AnyNode) (lines : HasLines base e) (texts 
   pub its_fragment : (r : Role) (there : There base e lines texts part first r) (p : Packet) (m : Found) → In p sent → p.body ≡ body.Fragment m
       → is_of_log (setting base e r) m.fragment.meta.name ≡ true
       → In (FragmentSent m.fragment) (log_at base e lines texts part first r there count).sent
-  its_fragment r there p m among is =
-      subst (BodySeen (setting base e r) (asker_by r ((lines r there).at count)) (log_at base e lines texts part first r there count) p.from p.to) is
+  its_fragment r there p m among fact =
+      subst (BodySeen (setting base e r) (asker_by r ((lines r there).at count)) (log_at base e lines texts part first r there count) p.from p.to) fact
       (((lines r there).stands count).facts p among)
 
   -- its log is known
@@ -158,7 +158,7 @@ module _ (base : Setting) (e : Estate AnyNode) (lines : HasLines base e) (texts 
   module _ (one : OneNameOneText) (place : APlaceNamesOneContent) (priors : PriorsNameGroups) where
     down : (from : Source) (segments : List Segment) (source : Source) → Refers from.seg → ReadsDown (answered_in sent to) striped from segments source
         → Refers source.seg
-    down from [] source r is = subst (λ (x : Source). Refers x.seg) (sym is) r
+    down from [] source r fact = subst (λ (x : Source). Refers x.seg) (sym fact) r
     down from (s ∷ above) source r (at, before, reads, back) =
         subst Refers (sym (leads_to at s source back)) (refers_below one place at.seg (down from above at r before) s reads priors)
 

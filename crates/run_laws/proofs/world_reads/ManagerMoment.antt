@@ -44,16 +44,16 @@ use Rattle.run_laws.specs.world_reads.Joint.{Joint, There}
 use Rattle.xfs_base.specs.declared.node.NodeId.TheVariants.{Manager}
 
 same_manager : (a b : ManagerNode) → Some (any.Manager a) ≡ Some (any.Manager b) → a ≡ b
-same_manager a b is = cc
+same_manager a b fact = cc
 
 -- ---- what comes
 
 -- a packet that an event delivers was sent, to the node of the event
 pub brought_by : (w : World AnyNode) (event : Event) → MayHappen w event → (q : Packet) → what_of event ≡ Deliver q → In q w.sent × (q.to ≡ node_of event)
-brought_by w (events.Begin node) may q is = absurd cc
-brought_by w (events.Tick node) may q is = absurd cc
-brought_by w (events.Deliver packet) may q is =
-    let same : packet ≡ q = delivered packet q is in
+brought_by w (events.Begin node) may q fact = absurd cc
+brought_by w (events.Tick node) may q fact = absurd cc
+brought_by w (events.Deliver packet) may q fact =
+    let same : packet ≡ q = delivered packet q fact in
     (was_sent w.sent q (subst (λ x. MayHappen w (events.Deliver x)) same may), ap (λ (x : Packet). x.to) (sym same))
 
 module _ (base : Setting) (e : Estate AnyNode) (lines : HasLines base e) (texts : Texts base e lines) (part : ℕ) (first : ℕ → ℕ → Segment) (count : ℕ) where
@@ -78,7 +78,7 @@ module _ (base : Setting) (e : Estate AnyNode) (lines : HasLines base e) (texts 
     tokens_given law node at =
         law true k part texts.text first (moment e count).nodes (moment e count).sent (moment e count).acts x.joint.tok x.joint.idx (node_of event) node
         (what_of event) both_stand at
-        (λ q is. (let b = brought_by (moment e count) event x.may q is in (x.joint.tokens_stand.facts q b.0, b.1)))
+        (λ q fact. (let b = brought_by (moment e count) event x.may q fact in (x.joint.tokens_stand.facts q b.0, b.1)))
 
   -- ---- the manager
 
@@ -144,7 +144,7 @@ module _ (base : Setting) (e : Estate AnyNode) (lines : HasLines base e) (texts 
 
       -- what comes was sent to it
       pub brought : (q : Packet) → what ≡ Deliver q → In q (moment e count).sent × (q.to ≡ Manager j)
-      brought q is = (let b = brought_by (moment e count) event x.coming.may q is in (b.0, b.1 ∙ x.own))
+      brought q fact = (let b = brought_by (moment e count) event x.coming.may q fact in (b.0, b.1 ∙ x.own))
 
       log_sees_then : manager_log.ManagerAgrees g j after (happens node what).state
       log_sees_then = (line.stands (suc count)).seen (Manager j) (any.Manager (manager_step node what).node) here_then refl
@@ -153,4 +153,4 @@ module _ (base : Setting) (e : Estate AnyNode) (lines : HasLines base e) (texts 
       pub writes : ManagersWriteTexts → WritesTexts part texts.text joint.idx.asked j joint.idx.net (happens node what).state
       writes law =
           law texts.text joint.idx.asked g j after (happens node what).state part joint.idx.net (line.stands (suc count)).moment
-          (λ s is. texts.flown (OfManager j) there (suc count) s is) log_sees_then
+          (λ s fact. texts.flown (OfManager j) there (suc count) s fact) log_sees_then

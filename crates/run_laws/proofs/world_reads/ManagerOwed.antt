@@ -51,12 +51,12 @@ use Rattle.xfs_base.specs.declared.segment.End.{End}
 use Rattle.xfs_base.specs.declared.segment.SegRef.{SegRef}
 
 one_contained : {X : Type 0} (P : X → Type 0) (xs : List X) (x : X) → AllByRecursion P xs → Contains xs x → P x
-one_contained P [] x all is = absurd (contains_nothing x is)
-one_contained P (y ∷ xs) x all is = ⊎_elim (λ same. subst P same all.0) (λ later. one_contained P xs x all.1 later) (contains_cases y x xs is)
+one_contained P [] x all fact = absurd (contains_nothing x fact)
+one_contained P (y ∷ xs) x all fact = ⊎_elim (λ same. subst P same all.0) (λ later. one_contained P xs x all.1 later) (contains_cases y x xs fact)
 
 one_among : {X : Type 0} (P : X → Type 0) (xs : List X) (x : X) → AllByRecursion P xs → In x xs → P x
-one_among P [] x all is = absurd is
-one_among P (y ∷ xs) x all (inl is) = subst P (sym is) all.0
+one_among P [] x all fact = absurd fact
+one_among P (y ∷ xs) x all (inl fact) = subst P (sym fact) all.0
 one_among P (y ∷ xs) x all (inr later) = one_among P xs x all.1 later
 
 module _ (base : Setting) (e : Estate AnyNode) (lines : HasLines base e) (texts : Texts base e lines) (part : ℕ) (first : ℕ → ℕ → Segment) (count : ℕ) where
@@ -69,12 +69,12 @@ module _ (base : Setting) (e : Estate AnyNode) (lines : HasLines base e) (texts 
     where
       by : (t : Bool) → (l == 9) ≡ t → ReportFlew base e lines texts part first count (cond t Cleaner (Client l)) end
           → EndFlew base e lines texts part first count l end
-      by true is k = subst (λ x. EndFlew base e lines texts part first count x end) (sym (eqb-true l 9 is)) k
-      by false is k = k
+      by true fact k = subst (λ x. EndFlew base e lines texts part first count x end) (sym (eqb-true l 9 fact)) k
+      by false fact k = k
 
   module _ (t : Taking) (refers : TakeRefers r t.take) where
     parts_flew : (ref : SegRef) → Contains t.take.news.parts ref → Flew base e lines texts part first count ref
-    parts_flew ref is = one_contained (Flew base e lines texts part first count) t.take.news.parts ref refers.parts_refer is
+    parts_flew ref fact = one_contained (Flew base e lines texts part first count) t.take.news.parts ref refers.parts_refer fact
 
     -- the text of the name of an end that flew is of the group that it bears
     its_group : (l : ℕ) (end : End) → 0 < end.seq → EndFlew base e lines texts part first count l end
@@ -102,17 +102,17 @@ module _ (base : Setting) (e : Estate AnyNode) (lines : HasLines base e) (texts 
         never epoch t h = absurd cc
 
         by : (p : Phase) → node.phase ≡ p → SourcesFlew base e lines texts part first count j there (slot_in part p)
-        by (Serves s) serves t is =
+        by (Serves s) serves t fact =
             let placed = (subst (places.ManagerAgrees part texts.text x.coming.joint.idx.net) serves
             (manager.index_sees base e lines texts part first count j there event node x)).0 in
             let agrees : places.PhaseAgrees part texts.text x.coming.joint.idx.net (desk_of s placed.given) (phase.Taking t) =
-            subst (places.PhaseAgrees part texts.text x.coming.joint.idx.net (desk_of s placed.given)) is placed.here in
+            subst (places.PhaseAgrees part texts.text x.coming.joint.idx.net (desk_of s placed.given)) fact placed.here in
             let held : TakeRefers r t.take =
-            subst (SlotRefers r) is (at_slot (SlotRefers r) s.slots part (subst (PhaseRefers r) serves refers).slots tt) in
+            subst (SlotRefers r) fact (at_slot (SlotRefers r) s.slots part (subst (PhaseRefers r) serves refers).slots tt) in
             sources_flew base e lines texts part first count x.coming.joint t agrees (parts_flew t held)
             (λ l some limit y among from more. ends_bear t held l y among from more)
-        by (Waiting kept hello) serves t is = absurd (never 0 t is)
-        by (Down kept) serves t is = absurd (never 0 t is)
+        by (Waiting kept hello) serves t fact = absurd (never 0 t fact)
+        by (Down kept) serves t fact = absurd (never 0 t fact)
 
     pub index_owed : ManagerLaws → IndexOwes part texts.text x.coming.joint.idx.asked x.coming.joint.idx.net (node_of event) (any.Manager node) (what_of event)
     index_owed laws = reading.manager_owed base e lines texts part first count j there laws event node x flew
@@ -124,7 +124,7 @@ module _ (base : Setting) (e : Estate AnyNode) (lines : HasLines base e) (texts 
 -- ---- all of it, of an event that a manager takes
 
 module _ (base : Setting) (e : Estate AnyNode) (lines : HasLines base e) (texts : Texts base e lines) (part : ℕ) (first : ℕ → ℕ → Segment) (count : ℕ)
-    (laws : ManagerLaws) (more : TellingLaws) (few : part < 8) (event : Event) (is : slice_get e.events count ≡ Some event)
+    (laws : ManagerLaws) (more : TellingLaws) (few : part < 8) (event : Event) (fact : slice_get e.events count ≡ Some event)
     (coming : Coming base e lines texts part first count event) (came : ReadingsCame e.world (moment e count))
     (stands : ReferencesStand base e lines texts part first count) where
   abbrev k : Cluster
@@ -150,7 +150,7 @@ module _ (base : Setting) (e : Estate AnyNode) (lines : HasLines base e) (texts 
   manager_owes j node own took =
       let there : There base e lines texts part first (OfManager j) = is_there j (any.Manager node) own took in
       let x : ManagerEvent base e lines texts part first count j there event node =
-      record { few = few; happens = is; coming = coming; own = own; took = took; came = came } in
+      record { few = few; happens = fact; coming = coming; own = own; took = took; came = came } in
       record {
         index = index_owed base e lines texts part first count j there event node x stands laws;
         turn = λ adopted limit. turn_owed base e lines texts part first count j there event node x stands laws more adopted limit;

@@ -97,10 +97,10 @@ module _ (base : Setting) (e : Estate AnyNode) (lines : HasLines base e) (texts 
               p.source stands.leads
 
           by : (o : Option ReadingState) → p.reading ≡ o → completes_in t.take o own server answer ≡ Some s → IsRead part texts.text s
-          by None is h = absurd cc
-          by (Some r) is h =
+          by None fact h = absurd cc
+          by (Some r) fact h =
               let reads : ReadsJoined (to_any (answered_in sent (Manager j))) (cut_by (cuts_at e.world)) p.source.seg s =
-              laws.came sent (Manager j) (cuts_at e.world) t.take p r ask own server answer s holds at is answered h in
+              laws.came sent (Manager j) (cuts_at e.world) t.take p r ask own server answer s holds at fact answered h in
               laws.reads part texts.text sent (Manager j) (cuts_at e.world) t.take p ask own server answer s holds at answered
               (known base e lines texts part first count (Manager j) p.source.seg.name refers.of)
               (names_its_group base e lines texts part first count (Manager j) laws.one laws.place p.source.seg refers s reads) done
@@ -142,49 +142,49 @@ module _ (base : Setting) (e : Estate AnyNode) (lines : HasLines base e) (texts 
         one_read : (ask v : ℕ) (told : Told) → q.from ≡ Server v → Tells ask told q.body → (t : Taking) (own : ℕ) (z : Segment) → p ≡ phase.Taking t
             → completes_at t.take t.take.present own v told ≡ Some z
             → IsRead part texts.text z
-        one_read ask v told from tells t own z is done =
-            is_read t (subst (SlotHolds (answered_in sent (Manager j)) (cut_by (cuts_at e.world))) is slot_holds) (flew_there t is) ask own v told
+        one_read ask v told from tells t own z fact done =
+            is_read t (subst (SlotHolds (answered_in sent (Manager j)) (cut_by (cuts_at e.world))) fact slot_holds) (flew_there t fact) ask own v told
             (record { packet = q; among = among; reader = mine; from = ap server_in from; tells = tells }) z done
 
         found : (from : NodeId) (m : Found) → q.from ≡ from → q.body ≡ body.Fragment m
             → FoundGets part texts.text x.coming.joint.idx.asked j x.coming.joint.idx.net p from m
-        found (Server v) m from is =
-            λ t own z at fetched done. one_read m.ask v (Held m.fragment) from (subst (Tells m.ask (Held m.fragment)) (sym is) (refl, refl)) t own z at done
-        found (Client c) m from is = tt
-        found (Manager c) m from is = tt
-        found Cleaner m from is = tt
-        found Registry m from is = tt
+        found (Server v) m from fact =
+            λ t own z at fetched done. one_read m.ask v (Held m.fragment) from (subst (Tells m.ask (Held m.fragment)) (sym fact) (refl, refl)) t own z at done
+        found (Client c) m from fact = tt
+        found (Manager c) m from fact = tt
+        found Cleaner m from fact = tt
+        found Registry m from fact = tt
 
         absent : (from : NodeId) (m : Absent) → q.from ≡ from → q.body ≡ body.Missing m
             → AbsentGets part texts.text x.coming.joint.idx.asked j x.coming.joint.idx.net p from m
-        absent (Server v) m from is =
+        absent (Server v) m from fact =
             λ t own z at fetched done. one_read m.ask v (Missing m.generation) from
-            (subst (Tells m.ask (Missing m.generation)) (sym is) (refl, refl)) t own z at done
-        absent (Client c) m from is = tt
-        absent (Manager c) m from is = tt
-        absent Cleaner m from is = tt
-        absent Registry m from is = tt
+            (subst (Tells m.ask (Missing m.generation)) (sym fact) (refl, refl)) t own z at done
+        absent (Client c) m from fact = tt
+        absent (Manager c) m from fact = tt
+        absent Cleaner m from fact = tt
+        absent Registry m from fact = tt
 
         pub body_reads : (b : Body) → q.body ≡ b → BodyReads part texts.text x.coming.joint.idx.asked j x.coming.joint.idx.net p q.from b
-        body_reads (body.Fragment m) is = found q.from m refl is
-        body_reads (body.Missing m) is = absent q.from m refl is
-        body_reads _ is = tt
+        body_reads (body.Fragment m) fact = found q.from m refl fact
+        body_reads (body.Missing m) fact = absent q.from m refl fact
+        body_reads _ fact = tt
 
       packet_reads : SourcesFlew (slot_in part node.phase) → (q : Packet) → what ≡ Deliver q → (p : Phase) → node.phase ≡ p
           → PacketReads part texts.text x.coming.joint.idx.asked j x.coming.joint.idx.net p q
-      packet_reads flew q is (Serves s) serves =
-          let b = manager.brought base e lines texts part first count j there event node x q is in
+      packet_reads flew q fact (Serves s) serves =
+          let b = manager.brought base e lines texts part first count j there event node x q fact in
           body_reads s serves flew q b.0 b.1 q.body refl
-      packet_reads flew q is (Waiting kept hello) serves = tt
-      packet_reads flew q is (Down kept) serves = tt
+      packet_reads flew q fact (Waiting kept hello) serves = tt
+      packet_reads flew q fact (Down kept) serves = tt
 
       pub reads : SourcesFlew (slot_in part node.phase) → DoReads part texts.text x.coming.joint.idx.asked j x.coming.joint.idx.net node.phase what
       reads flew = by what refl
         where
           by : (d : Do) → what ≡ d → DoReads part texts.text x.coming.joint.idx.asked j x.coming.joint.idx.net node.phase d
-          by Begin is = tt
-          by (Deliver q) is = packet_reads flew q is node.phase refl
-          by Tick is = tt
+          by Begin fact = tt
+          by (Deliver q) fact = packet_reads flew q fact node.phase refl
+          by Tick fact = tt
 
       -- ---- all of it
 

@@ -49,15 +49,15 @@ any_starts r Cleaner setup works = tt
 any_starts r Registry setup works = registry_starts r setup works
 
 in_map : {X Y : Type 0} (P : Y → Type 0) (f : X → Y) → ((x : X) → P (f x)) → (xs : List X) (y : Y) → In y (map f xs) → P y
-in_map P f each [] y is = absurd is
-in_map P f each (x ∷ xs) y (inl is) = subst P (sym is) (each x)
+in_map P f each [] y fact = absurd fact
+in_map P f each (x ∷ xs) y (inl fact) = subst P (sym fact) (each x)
 in_map P f each (x ∷ xs) y (inr later) = in_map P f each xs y later
 
 pub all_begin : (r : References) (e : Estate AnyNode) → AllRefer r (start_world any_start e.script).nodes (start_world any_start e.script).sent
 unfolding start_world
 all_begin r e = record {
   each_node = in_map (AnyRefers r) (first_node any_start e.script) (λ name. any_starts r name e.script.setup _) (nodes_of (cluster_of e.script.setup));
-  each_packet = λ p is. absurd is;
+  each_packet = λ p fact. absurd fact;
 }
 
 -- ---- beside one run

@@ -89,28 +89,28 @@ pub record ReferenceLaws : Type 0 where
 -- ---- lists
 
 in_set : {X : Type 0} (xs : List X) (place : ℕ) (x y : X) → In y (slice_set xs place x) → In y xs ⊎ (y ≡ x)
-in_set [] place x y is = absurd is
-in_set (z ∷ xs) zero x y (inl is) = inr is
+in_set [] place x y fact = absurd fact
+in_set (z ∷ xs) zero x y (inl fact) = inr fact
 in_set (z ∷ xs) zero x y (inr later) = inl (inr later)
-in_set (z ∷ xs) (suc place) x y (inl is) = inl (inl is)
+in_set (z ∷ xs) (suc place) x y (inl fact) = inl (inl fact)
 in_set (z ∷ xs) (suc place) x y (inr later) = ⊎_elim (λ h. inl (inr h)) (λ h. inr h) (in_set xs place x y later)
 
 -- packets refer so with whichever clock they are sent
 clocked : (r : References) (clock : ℕ) (packets : List Packet) → AllByRecursion (PacketRefers r) packets → (p : Packet) → In p (map (sent_at clock) packets)
     → PacketRefers r p
-clocked r clock [] all p is = absurd is
-clocked r clock (q ∷ packets) all p (inl is) = subst (PacketRefers r) (sym is) all.0
+clocked r clock [] all p fact = absurd fact
+clocked r clock (q ∷ packets) all p (inl fact) = subst (PacketRefers r) (sym fact) all.0
 clocked r clock (q ∷ packets) all p (inr later) = clocked r clock packets all.1 p later
 
 -- ---- what owners of logs report
 
 module _ (r : References) (node : NodeId) (end : End) (refers : r.end node end) where
   body_refers : (from : NodeId) (b : Body) → from ≡ node → ReportsEnd end b → BodyRefers r from b
-  body_refers from (body.Report m) own is = subst (λ x. r.end x m.end) (sym own) (subst (r.end node) (sym is) refers)
-  body_refers from (body.CkptDone m) own is = absurd is
-  body_refers from (body.MapNews m) own is = absurd is
-  body_refers from (body.Welcome m) own is = absurd is
-  body_refers from _ own is = tt
+  body_refers from (body.Report m) own fact = subst (λ x. r.end x m.end) (sym own) (subst (r.end node) (sym fact) refers)
+  body_refers from (body.CkptDone m) own fact = absurd fact
+  body_refers from (body.MapNews m) own fact = absurd fact
+  body_refers from (body.Welcome m) own fact = absurd fact
+  body_refers from _ own fact = tt
 
   pub reports_refer : (packets : List Packet) → AllByRecursion (ReportsOf node end) packets → AllByRecursion (PacketRefers r) packets
   reports_refer [] all = tt
@@ -153,8 +153,8 @@ module _ (base : Setting) (e : Estate AnyNode) (lines : HasLines base e) (texts 
       g = setting base e (OfClient c)
 
       by : (q : ℕ) → s.end.seq ≡ q → EndFlew base e lines texts part first count c s.end
-      by zero is = inl is
-      by (suc q) is =
+      by zero fact = inl fact
+      by (suc q) fact =
           let at = ((lines (OfClient c) there).stands count).moment in
           let net = ((lines (OfClient c) there).at count).net in
           let last = laws.last (setting base e (OfClient c)) net refl at (sure (OfClient c) there refl) s sees.owner in
@@ -174,8 +174,8 @@ module _ (base : Setting) (e : Estate AnyNode) (lines : HasLines base e) (texts 
   cleaner_end s sees = by s.end.seq refl
     where
       by : (q : ℕ) → s.end.seq ≡ q → EndFlew base e lines texts part first count 9 s.end
-      by zero is = inl is
-      by (suc q) is =
+      by zero fact = inl fact
+      by (suc q) fact =
           let at = ((lines OfCleaner tt).stands count).moment in
           let net = ((lines OfCleaner tt).at count).net in
           let last = laws.last (setting base e OfCleaner) net refl at (sure OfCleaner tt refl) s sees.owner in
@@ -230,15 +230,15 @@ module _ (base : Setting) (e : Estate AnyNode) (lines : HasLines base e) (texts 
         one a b h = cc
 
         none : (p : client_phase.Phase) → node.phase ≡ p → ((s : ServingClient) → p ≡ clients.Serving s → ⊥) → Reported
-        none p is never = record { end = no_end; is_end = λ s serves. absurd (never s (sym is ∙ serves)); flew = inl refl }
+        none p fact never = record { end = no_end; is_end = λ s serves. absurd (never s (sym fact ∙ serves)); flew = inl refl }
 
         by : (p : client_phase.Phase) → node.phase ≡ p → Reported
-        by (clients.Down l) is = none (clients.Down l) is (λ s h. absurd cc)
-        by (clients.Opening l o) is = none (clients.Opening l o) is (λ s h. absurd cc)
-        by (clients.Serving s) is = record {
+        by (clients.Down l) fact = none (clients.Down l) fact (λ s h. absurd cc)
+        by (clients.Opening l o) fact = none (clients.Opening l o) fact (λ s h. absurd cc)
+        by (clients.Serving s) fact = record {
           end = s.log.end;
-          is_end = λ t serves. ap (λ (x : ServingClient). x.log.end) (one t s (sym serves ∙ is));
-          flew = client_end c there s.log (subst (client_log.ClientAgrees g c w) is agrees).1;
+          is_end = λ t serves. ap (λ (x : ServingClient). x.log.end) (one t s (sym serves ∙ fact));
+          flew = client_end c there s.log (subst (client_log.ClientAgrees g c w) fact agrees).1;
         }
 
     pub client_step_refers : StepRefers (any.Client node) what
@@ -265,15 +265,15 @@ module _ (base : Setting) (e : Estate AnyNode) (lines : HasLines base e) (texts 
         one a b h = cc
 
         none : (p : cleaning_phase.Phase) → node.phase ≡ p → ((s : Emptying) → p ≡ cleaning.Serving s → ⊥) → CleanerReported
-        none p is never = record { end = no_end; is_end = λ s serves. absurd (never s (sym is ∙ serves)); flew = inl refl }
+        none p fact never = record { end = no_end; is_end = λ s serves. absurd (never s (sym fact ∙ serves)); flew = inl refl }
 
         by : (p : cleaning_phase.Phase) → node.phase ≡ p → CleanerReported
-        by (cleaning.Down l) is = none (cleaning.Down l) is (λ s h. absurd cc)
-        by (cleaning.Opening l o) is = none (cleaning.Opening l o) is (λ s h. absurd cc)
-        by (cleaning.Serving s) is = record {
+        by (cleaning.Down l) fact = none (cleaning.Down l) fact (λ s h. absurd cc)
+        by (cleaning.Opening l o) fact = none (cleaning.Opening l o) fact (λ s h. absurd cc)
+        by (cleaning.Serving s) fact = record {
           end = s.log.end;
-          is_end = λ t serves. ap (λ (x : Emptying). x.log.end) (one t s (sym serves ∙ is));
-          flew = cleaner_end s.log (subst (cleaner_log.CleanerAgrees (setting base e OfCleaner) ((lines OfCleaner tt).at count)) is cleaner_agrees).log;
+          is_end = λ t serves. ap (λ (x : Emptying). x.log.end) (one t s (sym serves ∙ fact));
+          flew = cleaner_end s.log (subst (cleaner_log.CleanerAgrees (setting base e OfCleaner) ((lines OfCleaner tt).at count)) fact cleaner_agrees).log;
         }
 
     pub cleaner_step_refers : StepRefers (any.Cleaner node) what
@@ -295,7 +295,7 @@ module _ (base : Setting) (e : Estate AnyNode) (lines : HasLines base e) (texts 
     manager_agrees = ((lines (OfManager j) there).stands count).seen (Manager j) (any.Manager node) here refl
 
     one_manager : (a b : ManagerNode) → Some (any.Manager a) ≡ Some (any.Manager b) → a ≡ b
-    one_manager a b is = cc
+    one_manager a b fact = cc
 
     placed : places.ManagerAgrees part texts.text joint.idx.net node.phase
     placed = subst (λ (m : ManagerNode). places.ManagerAgrees part texts.text joint.idx.net m.phase)
@@ -315,8 +315,8 @@ module _ (base : Setting) (e : Estate AnyNode) (lines : HasLines base e) (texts 
         by : (o : Option FlightState) → s.log.flight ≡ o → IfSome o (λ f. f.segment.name.log ≡ gm.log)
             → IfSome o (λ (f : FlightState). tables.In f.segment wm.net.flown)
             → IfSome o (λ (f : FlightState). Flew base e lines texts part first count (part_at s.writer.log (end_from f.segment)))
-        by None is own flew = tt
-        by (Some f) is own flew = record {
+        by None fact own flew = tt
+        by (Some f) fact own flew = record {
           of = record { role = OfManager j; there = there; own = same };
           segment = f.segment;
           among = flew;
@@ -337,11 +337,11 @@ module _ (base : Setting) (e : Estate AnyNode) (lines : HasLines base e) (texts 
 
   -- ---- whichever node it is
 
-  module _ (place : ℕ) (node : AnyNode) (is : slice_get (moment e count).nodes place ≡ Some node) (what : Do) (before : AnyRefers r node)
+  module _ (place : ℕ) (node : AnyNode) (fact : slice_get (moment e count).nodes place ≡ Some node) (what : Do) (before : AnyRefers r node)
       (told : DoRefers r what)
     where
       here : (name : NodeId) → place_of k name ≡ Some place → node_in (moment e count).nodes (place_of k name) ≡ Some node
-      here name at = ap (node_in (moment e count).nodes) at ∙ is
+      here name at = ap (node_in (moment e count).nodes) at ∙ fact
 
       is_that : (name : NodeId) → place_of k name ≡ Some place → (x : AnyNode) → node_in (moment e count).nodes (place_of k name) ≡ Some x → x ≡ node
       is_that name at x there = one_node x node (sym there ∙ here name at)
@@ -382,16 +382,16 @@ module _ (base : Setting) (e : Estate AnyNode) (lines : HasLines base e) (texts 
   told_so event x all = by (what_of event) refl
     where
       by : (d : Do) → what_of event ≡ d → DoRefers r d
-      by Begin is = tt
-      by (Deliver q) is = all.each_packet q (brought_by (moment e count) event x.may q is).0
-      by Tick is = tt
+      by Begin fact = tt
+      by (Deliver q) fact = all.each_packet q (brought_by (moment e count) event x.may q fact).0
+      by Tick fact = tt
 
   next_refers : (event : Event) → Coming base e lines texts part first count event → ReferencesStand base e lines texts part first count
       → AllRefer r (next_world any_step (moment e count) event).nodes (next_world any_step (moment e count) event).sent
   next_refers event x all =
       next_keeps any_step (λ nodes sent acts. AllRefer r nodes sent) (moment e count) event all
-      (λ place node clock at is.
-      let t = steps_refer place node is (what_of event) (all.each_node node (in_list (moment e count).nodes place node is)) (told_so event x all)
+      (λ place node clock at fact.
+      let t = steps_refer place node fact (what_of event) (all.each_node node (in_list (moment e count).nodes place node fact)) (told_so event x all)
       (node_of event)
       (subst (λ c. place_of c (node_of event) ≡ Some place) x.cluster at) in
       record {
@@ -406,10 +406,10 @@ module _ (base : Setting) (e : Estate AnyNode) (lines : HasLines base e) (texts 
   pub references_go_on : (event : Event) → slice_get e.events count ≡ Some event → Coming base e lines texts part first count event
       → ReferencesStand base e lines texts part first count
       → ReferencesStand base e lines texts part first (suc count)
-  references_go_on event is x all =
+  references_go_on event fact x all =
       all_rise r (its base e lines texts part first (suc count)) (weaker_then base e lines texts part first count) (moment e (suc count)).nodes
       (moment e (suc count)).sent
-      (subst (λ (w : World AnyNode). AllRefer r w.nodes w.sent) (sym (moment_next e count event is)) (next_refers event x all))
+      (subst (λ (w : World AnyNode). AllRefer r w.nodes w.sent) (sym (moment_next e count event fact)) (next_refers event x all))
 
   -- so it does where nothing happens any more
   pub references_stay : moment e (suc count) ≡ moment e count → ReferencesStand base e lines texts part first count

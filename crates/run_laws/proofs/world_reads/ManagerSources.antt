@@ -42,17 +42,17 @@ use Rattle.xfs_base.specs.declared.segment.SegRef.{SegRef}
 
 in_map : {X Y : Type 0} (f : X → Y) (xs : List X) (y : Y) → Contains (map f xs) y → (x : X) × Contains xs x × (f x ≡ y)
 in_map f [] y h = absurd (contains_nothing y h)
-in_map f (x ∷ xs) y h = ⊎_elim (λ is. (x, contains_first x xs, is))
+in_map f (x ∷ xs) y h = ⊎_elim (λ fact. (x, contains_first x xs, fact))
     (λ later. (let z = in_map f xs y later in (z.0, contains_rest x z.0 xs z.1, z.2))) (contains_cases (f x) y (map f xs) h)
 
 in_flat_map : {X Y : Type 0} (f : X → List Y) (xs : List X) (y : Y) → Contains (flat_map f xs) y → (x : X) × Contains xs x × Contains (f x) y
 in_flat_map f [] y h = absurd (contains_nothing y h)
-in_flat_map f (x ∷ xs) y h = ⊎_elim (λ is. (x, contains_first x xs, is))
+in_flat_map f (x ∷ xs) y h = ⊎_elim (λ fact. (x, contains_first x xs, fact))
     (λ later. (let z = in_flat_map f xs y later in (z.0, contains_rest x z.0 xs z.1, z.2))) (Contains-append_cases (f x) (flat_map f xs) y h)
 
 in_range : (from n l : ℕ) → Contains (range_with_len from n) l → (from ≤ l) × (l < from + n)
 in_range from zero l h = absurd (contains_nothing l h)
-in_range from (suc n) l h = ⊎_elim (λ is. (omega arith, omega arith))
+in_range from (suc n) l h = ⊎_elim (λ fact. (omega arith, omega arith))
     (λ later. (let z = in_range (from + 1) n l later in (omega arith, omega arith))) (contains_cases from l (range_with_len (from + 1) n) h)
 
 -- ---- the course of a takeover
@@ -65,7 +65,7 @@ news_stay c (i ∷ inputs) ready once =
 
 its_news : (part : ℕ) (n : Net) (texts : SegName → Segment) (t : Taking) (k : TakingAgrees part texts n t.epoch t.take) → t.take.news ≡ k.news
 its_news part n texts t k =
-    ap (λ s. s.news) k.take_is ∙ news_stay _ k.inputs (λ p is. absurd cc) (λ r q is. absurd is)
+    ap (λ s. s.news) k.take_is ∙ news_stay _ k.inputs (λ p fact. absurd cc) (λ r q fact. absurd fact)
 
 -- ---- ends
 
@@ -78,18 +78,18 @@ from_end_is : (l low : ℕ) (end : End) (source : Source) → Contains (from_end
 from_end_is l low end source h = by (nat_le low end.seq) refl h
   where
     by : (t : Bool) → nat_le low end.seq ≡ t → Contains (cond t (log_source l low end ∷ []) []) source → FromEnd l low end source
-    by true is h = record {
-      above = grind (arith, nat_tests, is);
+    by true fact h = record {
+      above = grind (arith, nat_tests, fact);
       from_log = ⊎_elim (λ same. same) (λ none. absurd (contains_nothing source none)) (contains_cases (log_source l low end) source [] h);
     }
-    by false is h = absurd (contains_nothing source h)
+    by false fact h = absurd (contains_nothing source h)
 
 known_of : (part : ℕ) (n : Net) (epoch l : ℕ) (end : End) → ReportKnown part n epoch (writer_of l) end → EndKnown part n epoch l end
 known_of part n epoch l end k = by (l == 9) refl k
   where
     by : (t : Bool) → (l == 9) ≡ t → ReportKnown part n epoch (cond t Cleaner (Client l)) end → EndKnown part n epoch l end
-    by true is k = subst (λ x. EndKnown part n epoch x end) (sym (eqb-true l 9 is)) k.0
-    by false is k = k
+    by true fact k = subst (λ x. EndKnown part n epoch x end) (sym (eqb-true l 9 fact)) k.0
+    by false fact k = k
 
 name_is : (n : SegName) (l q : ℕ) (p : Pass) → n.log.0 ≡ l → n.seq ≡ q → p ≡ n.pass → ◌≡◌ {A = SegName} (record { log = record { 0 = l }; seq = q; pass = p }) n
 name_is n l q p log seq pass =
@@ -118,14 +118,14 @@ module _ (base : Setting) (e : Estate AnyNode) (lines : HasLines base e) (texts 
     -- a filed end, over the group of its text, flew
     end_flew : (l : ℕ) (end : End) → 0 < end.seq → IsEnd filed l end → end.group ≡ (texts.text (named_by l end)).group
         → Flew base e lines texts part first count (record { name = named_by l end; group = end.group })
-    end_flew l end more is group =
-        let h = filed_log base e lines texts part first count joint l end.seq more is.filed in
+    end_flew l end more fact group =
+        let h = filed_log base e lines texts part first count joint l end.seq more fact.filed in
         let s : Segment = filed.segment l end.seq in
-        let each = (filed_known base e lines texts part first count joint).filed.each l end.seq more is.filed in
-        let named : named_by l end ≡ s.name = name_is s.name l end.seq end.pass each.log each.seq is.named in
+        let each = (filed_known base e lines texts part first count joint).filed.each l end.seq more fact.filed in
+        let named : named_by l end ≡ s.name = name_is s.name l end.seq end.pass each.log each.seq fact.named in
         let among : In s (log_at base e lines texts part first h.role h.there count).flown =
         subst (λ x. In (filed.segment x end.seq) (log_at base e lines texts part first h.role h.there count).flown) h.numbered
-        ((joint.lined h.role h.there h.keeps).lined.flown end.seq more (subst (λ x. end.seq ≤ filed.head x) (sym h.numbered) is.filed)) in
+        ((joint.lined h.role h.there h.keeps).lined.flown end.seq more (subst (λ x. end.seq ≤ filed.head x) (sym h.numbered) fact.filed)) in
         record {
           of = record { role = h.role; there = h.there; own = ap (λ x. record { 0 = x }) (sym h.numbered) };
           segment = s;
@@ -180,10 +180,10 @@ module _ (base : Setting) (e : Estate AnyNode) (lines : HasLines base e) (texts 
           (Contains-append_cases (map part_source t.take.news.parts) (flat_map (log_sources t.take.news.horizon t.take.reports) (range_with_len 1 9)) source h)
         where
           of_parts : Contains (map part_source t.take.news.parts) source → Flew base e lines texts part first count source.seg
-          of_parts is = (let z = in_map part_source t.take.news.parts source is in
+          of_parts fact = (let z = in_map part_source t.take.news.parts source fact in
               subst (λ (x : Source). Flew base e lines texts part first count x.seg) z.2 (parts z.0 z.1))
 
           of_logs : Contains (flat_map (log_sources t.take.news.horizon t.take.reports) (range_with_len 1 9)) source
               → Flew base e lines texts part first count source.seg
-          of_logs is = (let z = in_flat_map (log_sources t.take.news.horizon t.take.reports) (range_with_len 1 9) source is in
+          of_logs fact = (let z = in_flat_map (log_sources t.take.news.horizon t.take.reports) (range_with_len 1 9) source fact in
               let r = in_range 1 9 z.0 z.1 in log_flew groups z.0 (omega arith) (omega arith) source z.2)

@@ -184,18 +184,18 @@ module _ (base : Setting) (e : Estate AnyNode) (lines : HasLines base e) (texts 
 
     report_told : (from : NodeId) (m : Report) → places.ReportGets part texts.text i.asked j i.net from m
         → owners.LastReportGets true members part t p from m
-    report_told from m gets of same = takes_by desk p placed.here (report_input from m) (λ u is. record {
+    report_told from m gets of same = takes_by desk p placed.here (report_input from m) (λ u fact. record {
       brings = λ r told. subst (λ (h : Heard). ReportKnown part i.net u.epoch h.from h.end) (sym told)
-          (subst (λ epoch. ReportKnown part i.net epoch from m.end) (same ∙ ap epoch_of is) (gets of));
+          (subst (λ epoch. ReportKnown part i.net epoch from m.end) (same ∙ ap epoch_of fact) (gets of));
       reads = λ z done. absurd (none_some z done);
     })
 
     answer_told : (ask own : ℕ) (given : ℕ → Input) → ((own : ℕ) (r : Heard) → Brings (given own) r → ⊥)
         → places.AnswerGets part texts.text i.asked j i.net p ask given → fetch_of p ask ≡ Some own
         → owners.TakeoverGets true members part t p (given own)
-    answer_told ask own given none gets fetched = takes_by desk p placed.here (given own) (λ u is. record {
+    answer_told ask own given none gets fetched = takes_by desk p placed.here (given own) (λ u fact. record {
       brings = λ r b. absurd (none own r b);
-      reads = λ z done. gets u own z is fetched done;
+      reads = λ z done. gets u own z fact fetched done;
     })
 
     found_told : (from : NodeId) (m : Found) → places.FoundGets part texts.text i.asked j i.net p from m → owners.FoundGets true members part t p from m
@@ -239,7 +239,7 @@ module _ (base : Setting) (e : Estate AnyNode) (lines : HasLines base e) (texts 
 
     gets : places.EventGets part texts.text i.asked j i.net node.phase what
     gets = manager_gets part texts.text i.asked i.net j node.phase what
-        (λ q is. (let b = manager.brought base e lines texts part first count j there event node x q is in (
+        (λ q fact. (let b = manager.brought base e lines texts part first count j there event node x q fact in (
           x.coming.joint.index_stands.facts q b.0,
           kinds_of_tokens (manager.k base e lines texts part first count) part x.coming.joint.tok q (x.coming.joint.tokens_stand.facts q b.0),
         )))

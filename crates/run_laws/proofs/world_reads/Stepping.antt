@@ -33,21 +33,21 @@ module _ (g : Setting) where
 
   -- one that neither serves nor writes doesn't come to serve by one thing that happens, in a log that is trusted
   pub only_writers : g.doubts ≡ false → (n o : Net) → Happens g n o → is_serving n.owner ≡ false → is_writing n.owner ≡ false → is_serving o.owner ≡ true → ⊥
-  only_writers trusted n o (Acts s i is came texts) away reads serves = contrary (sym away ∙ ap is_serving is)
-  only_writers trusted n o (Writes chain s i is came texts) away reads serves = contrary (sym reads ∙ ap is_writing is)
-  only_writers trusted n o (Opens s i is came can) away reads serves =
+  only_writers trusted n o (Acts s i fact came texts) away reads serves = contrary (sym away ∙ ap is_serving fact)
+  only_writers trusted n o (Writes chain s i fact came texts) away reads serves = contrary (sym reads ∙ ap is_writing fact)
+  only_writers trusted n o (Opens s i fact came can) away reads serves =
       contrary (sym (told_not n s (scan.transition s i) (chain_in (scan.transition s i).outs) (scan.transition s i).state.opening.groups) ∙ serves)
   only_writers trusted n o Crashes away reads serves = contrary serves
-  only_writers trusted n o (Restarts is) away reads serves = contrary serves
-  only_writers trusted n o (Renews m high doubts is came) away reads serves = contrary (sym trusted ∙ doubts)
+  only_writers trusted n o (Restarts fact) away reads serves = contrary serves
+  only_writers trusted n o (Renews m high doubts fact came) away reads serves = contrary (sym trusted ∙ doubts)
   only_writers trusted n o (Serves v deed some came) away reads serves = contrary (sym away ∙ serves)
   only_writers trusted n o (Bars v l pass) away reads serves = contrary (sym away ∙ serves)
   only_writers trusted n o (Lists v) away reads serves = contrary (sym away ∙ serves)
   only_writers trusted n o (Hears v generation up reached) away reads serves = contrary (sym away ∙ serves)
-  only_writers trusted n o (Raises low name up is below) away reads serves = contrary (sym away ∙ serves)
+  only_writers trusted n o (Raises low name up fact below) away reads serves = contrary (sym away ∙ serves)
   only_writers trusted n o (Publishes m whole) away reads serves = contrary (sym away ∙ serves)
-  only_writers trusted n o (Welcomes inc ask news m is least whole) away reads serves = contrary (sym away ∙ serves)
-  only_writers trusted n o (Drops lists meta is listed below) away reads serves = contrary (sym away ∙ serves)
+  only_writers trusted n o (Welcomes inc ask news m fact least whole) away reads serves = contrary (sym away ∙ serves)
+  only_writers trusted n o (Drops lists meta fact listed below) away reads serves = contrary (sym away ∙ serves)
 
   -- one thing at most happens where the owner comes to serve: it is that one
   pub record ComesToServe (n o : Net) (runs : Runs g n o) : Type 0 where
@@ -64,9 +64,9 @@ module _ (g : Setting) where
   pub comes : g.doubts ≡ false → (n o : Net) (runs : Runs g n o) → ServesStraight runs → is_serving n.owner ≡ false → is_serving o.owner ≡ true
       → ComesToServe n o runs
   comes trusted n o runs straight away serves =
-      let is = once_is n o runs (straight.once away serves) away serves in
-      record { happens = is.0; one = is.1; writes = writing is.0 (is_writing n.owner) refl }
+      let fact = once_is n o runs (straight.once away serves) away serves in
+      record { happens = fact.0; one = fact.1; writes = writing fact.0 (is_writing n.owner) refl }
     where
       writing : (happens : Happens g n o) (t : Bool) → is_writing n.owner ≡ t → is_writing n.owner ≡ true
-      writing happens true is = is
-      writing happens false is = absurd (only_writers trusted n o happens away is serves)
+      writing happens true fact = fact
+      writing happens false fact = absurd (only_writers trusted n o happens away fact serves)

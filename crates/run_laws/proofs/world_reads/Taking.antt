@@ -49,7 +49,7 @@ takes_or_not w event = next_keeps any_step Which w event (λ nodes sent acts. in
     turned : (place : ℕ) (node : AnyNode) (clock : ℕ) → place_of w.cluster (node_of event) ≡ Some place → slice_get w.nodes place ≡ Some node
         → Which (slice_set w.nodes place (any_step node (what_of event)).node) (w.sent ++ map (sent_at clock) (any_step node (what_of event)).packets)
         (w.acts ++ (any_step node (what_of event)).acts)
-    turned place node clock at is nodes sent acts = inr (node, record { place = place; placed = at; stands = is; nodes = nodes; acts = acts })
+    turned place node clock at fact nodes sent acts = inr (node, record { place = place; placed = at; stands = fact; nodes = nodes; acts = acts })
 
 -- the node of this name is then the one that its step makes of it
 pub node_then : (k : Cluster) (w : World AnyNode) → w.cluster ≡ k → (event : Event) (node : AnyNode) → Took w event node
@@ -69,59 +69,59 @@ took_it k w cluster event node took =
 
 fold_next : (events : List Event) (count : ℕ) (event : Event) (w : World AnyNode) → slice_get events count ≡ Some event
     → fold (next_world any_step) w (take (suc count) events) ≡ next_world any_step (fold (next_world any_step) w (take count events)) event
-fold_next [] count event w is = absurd cc
-fold_next (x ∷ events) zero event w is = ap (next_world any_step w) (same x event is)
+fold_next [] count event w fact = absurd cc
+fold_next (x ∷ events) zero event w fact = ap (next_world any_step w) (same x event fact)
   where
     same : (a b : Event) → Some a ≡ Some b → a ≡ b
     same a b e = cc
-fold_next (x ∷ events) (suc count) event w is = fold_next events count event (next_world any_step w x) is
+fold_next (x ∷ events) (suc count) event w fact = fold_next events count event (next_world any_step w x) fact
 
 -- the moment after an event is the next world
 pub moment_next : (e : Estate AnyNode) (count : ℕ) (event : Event) → slice_get e.events count ≡ Some event
     → moment e (suc count) ≡ next_world any_step (moment e count) event
-moment_next e count event is = fold_next e.events count event (start_world any_start e.script) is
+moment_next e count event fact = fold_next e.events count event (start_world any_start e.script) fact
 
 acts_next : (l : ℕ) (events : List Event) (count : ℕ) (event : Event) (w : World AnyNode) → slice_get events count ≡ Some event
     → acts_by l w (take (suc count) events) ≡ acts_by l w (take count events) ++ acts_of l (fold (next_world any_step) w (take count events)) event
-acts_next l [] count event w is = absurd cc
-acts_next l (x ∷ events) zero event w is = append-nil (acts_of l w x) ∙ ap (acts_of l w) (same x event is)
+acts_next l [] count event w fact = absurd cc
+acts_next l (x ∷ events) zero event w fact = append-nil (acts_of l w x) ∙ ap (acts_of l w) (same x event fact)
   where
     same : (a b : Event) → Some a ≡ Some b → a ≡ b
     same a b e = cc
-acts_next l (x ∷ events) (suc count) event w is =
-    ap (λ more. acts_of l w x ++ more) (acts_next l events count event (next_world any_step w x) is)
+acts_next l (x ∷ events) (suc count) event w fact =
+    ap (λ more. acts_of l w x ++ more) (acts_next l events count event (next_world any_step w x) fact)
     ∙ sym (append_assoc (acts_of l w x) (acts_by l (next_world any_step w x) (take count events))
     (acts_of l (fold (next_world any_step) (next_world any_step w x) (take count events)) event))
 
 in_after : {X : Type 0} (xs ys : List X) (x : X) → In x ys → In x (xs ++ ys)
-in_after [] ys x is = is
-in_after (y ∷ xs) ys x is = inr (in_after xs ys x is)
+in_after [] ys x fact = fact
+in_after (y ∷ xs) ys x fact = inr (in_after xs ys x fact)
 
 -- What the owner of a log does in an event it did by then.
 pub did_then : (e : Estate AnyNode) (l count : ℕ) (event : Event) (node : AnyNode) → slice_get e.events count ≡ Some event → owns l (node_of event) ≡ true
     → Took (moment e count) event node → (act : Act) → In act (any_step node (what_of event)).acts → In act (did e l (suc count))
-did_then e l count event node is owner took act among =
+did_then e l count event node fact owner took act among =
     let w = moment e count in
     let acts = (any_step node (what_of event)).acts in
     let added : acts_in w event ≡ acts = ap (drop (length w.acts)) took.acts ∙ drop-append_seam w.acts acts in
     let its : acts_of l w event ≡ acts = ap (λ (t : Bool). if t then acts_in w event else []) owner ∙ added in
-    subst (In act) (sym (acts_next l e.events count event (start_world any_start e.script) is))
+    subst (In act) (sym (acts_next l e.events count event (start_world any_start e.script) fact))
     (in_after (did e l count) (acts_of l w event) act (subst (In act) (sym its) among))
 
 in_rest : {X : Type 0} (xs ys zs : List X) (x : X) → (In x ys → In x zs) → In x (xs ++ ys) → In x (xs ++ zs)
-in_rest [] ys zs x more is = more is
-in_rest (y ∷ xs) ys zs x more (inl is) = inl is
+in_rest [] ys zs x more fact = more fact
+in_rest (y ∷ xs) ys zs x more (inl fact) = inl fact
 in_rest (y ∷ xs) ys zs x more (inr later) = inr (in_rest xs ys zs x more later)
 
 acts_before : (l : ℕ) (act : Act) (events : List Event) (count : ℕ) (w : World AnyNode) → In act (acts_by l w (take count events))
     → In act (acts_by l w (take (suc count) events))
-acts_before l act [] zero w is = is
-acts_before l act [] (suc count) w is = is
-acts_before l act (x ∷ events) zero w is = absurd is
-acts_before l act (x ∷ events) (suc count) w is =
+acts_before l act [] zero w fact = fact
+acts_before l act [] (suc count) w fact = fact
+acts_before l act (x ∷ events) zero w fact = absurd fact
+acts_before l act (x ∷ events) (suc count) w fact =
     in_rest (acts_of l w x) (acts_by l (next_world any_step w x) (take count events)) (acts_by l (next_world any_step w x) (take (suc count) events)) act
-    (acts_before l act events count (next_world any_step w x)) is
+    (acts_before l act events count (next_world any_step w x)) fact
 
 -- and what it did before
 pub did_before : (e : Estate AnyNode) (l count : ℕ) (act : Act) → In act (did e l count) → In act (did e l (suc count))
-did_before e l count act is = acts_before l act e.events count (start_world any_start e.script) is
+did_before e l count act fact = acts_before l act e.events count (start_world any_start e.script) fact

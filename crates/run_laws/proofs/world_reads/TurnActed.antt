@@ -48,9 +48,9 @@ older : (f : Filed) (l : ℕ) (s : Segment) (q : ℕ) → (q == suc (f.head l)) 
 older f l s q other = by (l == l) (q == suc (f.head l)) other
   where
     by : (t u : Bool) → u ≡ false → cond t (cond u s (f.segment l q)) (f.segment l q) ≡ f.segment l q
-    by true true is = absurd cc
-    by true false is = refl
-    by false u is = refl
+    by true true fact = absurd cc
+    by true false fact = refl
+    by false u fact = refl
 
 module _ (So : SegName → Type 0) (New : Filed → Segment → Type 0) (texts : TextsOf) (l : ℕ) where
   -- each name that is filed of the log is so
@@ -67,8 +67,8 @@ module _ (So : SegName → Type 0) (New : Filed → Segment → Type 0) (texts :
       within = (let e = head_is l f s in omega arith)
 
       by : (t : Bool) → (q == suc (f.head l)) ≡ t → So (later.segment l q).name
-      by true is =
-          let same : q ≡ suc (f.head l) = eqb-true q (suc (f.head l)) is in
+      by true fact =
+          let same : q ≡ suc (f.head l) = eqb-true q (suc (f.head l)) fact in
           subst (λ r. So (later.segment l r).name) (sym same) (subst (λ (x : Segment). So x.name) (sym (segment_is l f s)) new)
       by false other =
           subst (λ (x : Segment). So x.name) (sym (older f l s q other)) (was q some (let w = within in grind (arith, nat_tests, w, other)))
@@ -104,9 +104,9 @@ module _ (So : SegName → Type 0) (node : NodeId) where
   acts_so : (outs : List Effect) → ((name : SegName) → In (ActsFiled name) (acts_of node outs) → So name) → AllSo So outs
   acts_so [] each = tt
   acts_so (Send to m ∷ outs) each = (tt, acts_so outs each)
-  acts_so (Answer item answer ∷ outs) each = (tt, acts_so outs (λ name is. each name (inr is)))
-  acts_so (Lose seg ∷ outs) each = (tt, acts_so outs (λ name is. each name (inr is)))
-  acts_so (Does act ∷ outs) each = (act_so act (acts_of node outs) each, acts_so outs (λ name is. each name (inr is)))
+  acts_so (Answer item answer ∷ outs) each = (tt, acts_so outs (λ name fact. each name (inr fact)))
+  acts_so (Lose seg ∷ outs) each = (tt, acts_so outs (λ name fact. each name (inr fact)))
+  acts_so (Does act ∷ outs) each = (act_so act (acts_of node outs) each, acts_so outs (λ name fact. each name (inr fact)))
 
 -- before the first event nothing is filed
 pub nothing_filed : (first : ℕ → ℕ → Segment) (l q : ℕ) → 0 < q → q ≤ (index.opening first).filed.head l → ⊥
@@ -127,7 +127,7 @@ module _ (base : Setting) (e : Estate AnyNode) (lines : HasLines base e) (texts 
 
   same_line : (l : ℕ) (f h : Filed) → IsSameLog l f h → ActedOf count l f → ActedOf (suc count) l h
   same_line l f h same was q some limit =
-      let within : q ≤ f.head l = (let is = same.head in omega arith) in
+      let within : q ≤ f.head l = (let fact = same.head in omega arith) in
       subst (λ (s : Segment). In (ActsFiled s.name) (did e l (suc count))) (sym (same.segment q some within)) (before l f was q some within)
 
   -- where nothing more is filed
@@ -146,17 +146,17 @@ module _ (base : Setting) (e : Estate AnyNode) (lines : HasLines base e) (texts 
       its_line : ActedOf count d f → ActedOf (suc count) d h
       its_line was =
           goes_on (λ n. In (ActsFiled n) (did e d (suc count))) New texts.text d f outs owed
-          (acts_so (λ n. In (ActsFiled n) (did e d (suc count))) name outs (λ n is. did_them (ActsFiled n) is)) (before d f was)
+          (acts_so (λ n. In (ActsFiled n) (did e d (suc count))) name outs (λ n fact. did_them (ActsFiled n) fact)) (before d f was)
 
       own_acted : Acted count f → Acted (suc count) h
       own_acted was r there keeps = by (log_by r == d) refl
         where
           by : (t : Bool) → (log_by r == d) ≡ t → ActedOf (suc count) (log_by r) h
-          by true is =
-              let same : log_by r ≡ d = eqb-true (log_by r) d is in
+          by true fact =
+              let same : log_by r ≡ d = eqb-true (log_by r) d fact in
               subst (λ l. ActedOf (suc count) l h) (sym same) (its_line (subst (λ l. ActedOf count l f) same (was r there keeps)))
-          by false is =
-              let differs : log_by r ≡ d → ⊥ = λ same. contrary (sym is ∙ subst (λ l. (l == d) ≡ true) (sym same) (itself d)) in
+          by false fact =
+              let differs : log_by r ≡ d → ⊥ = λ same. contrary (sym fact ∙ subst (λ l. (l == d) ≡ true) (sym same) (itself d)) in
               same_line (log_by r) f h (others_after texts.text d (log_by r) differs f outs) (was r there keeps)
 
     module _ (asked : Questions) (n next : index.Net) where
@@ -171,12 +171,12 @@ module _ (base : Setting) (e : Estate AnyNode) (lines : HasLines base e) (texts 
           let its : owns d (node_of event) ≡ true = ap (owns d) own ∙ itself d in
           subst (Acted (suc count)) (sym (ap (λ (x : index.Net). x.filed) makes))
           (own_acted d its (IsNewerAtSlot part) n.filed (Client (lasting_of node.phase).number) (client_takes node what).outs owed.files
-          (λ a is. did_then e d count event (any.Client node) at_event its took a is) was)
+          (λ a fact. did_then e d count event (any.Client node) at_event its took a fact) was)
       acted_then Cleaner own (any.Cleaner node) took owed makes was =
           let its : owns 9 (node_of event) ≡ true = ap (owns 9) own in
           subst (Acted (suc count)) (sym makes.filed)
           (own_acted 9 its (NewFor part texts.text n node.phase) n.filed Cleaner (cleaner_takes node.peers node.phase what).outs owed.files
-          (λ a is. did_then e 9 count event (any.Cleaner node) at_event its took a is) was)
+          (λ a fact. did_then e 9 count event (any.Cleaner node) at_event its took a fact) was)
       acted_then (Manager j) own (any.Manager node) took owed makes was = as_it_was (ap (λ (x : index.Net). x.filed) makes.rest) was
       acted_then Registry own (any.Registry node) took owed makes was = as_it_was makes.filed was
       acted_then name own node took owed makes was = as_it_was (ap (λ (x : index.Net). x.filed) makes) was

@@ -50,13 +50,13 @@ module _ (laws : StepsBelow) (base : Setting) (e : Estate AnyNode) (lines : HasL
     live_tells part b m inside Registry kind told = absurd kind
 
     body_tells : (p : Packet) → In p (moment e count).sent → (m : Body) → p.body ≡ m → TellsVersion m
-    body_tells p among (body.Live m) is =
+    body_tells p among (body.Live m) fact =
         let part = slot_of m.block.ino.0 in
         let b = both part (slot_below m.block.ino.0) in
         live_tells part b m refl p.from
-        (subst (IsSentBy p.from) is (kinds_of_tokens (k base e lines texts part first) part b.tok p (b.tokens_stand.facts p among)))
-        (subst (SentBy part b.idx.net b.idx.asked p.from) is (b.index_stands.facts p among))
-    body_tells p among _ is = tt
+        (subst (IsSentBy p.from) fact (kinds_of_tokens (k base e lines texts part first) part b.tok p (b.tokens_stand.facts p among)))
+        (subst (SentBy part b.idx.net b.idx.asked p.from) fact (b.index_stands.facts p among))
+    body_tells p among _ fact = tt
 
     lives_tell : AllByRecursion PacketTellsVersion (moment e count).sent
     lives_tell = all_from PacketTellsVersion (moment e count).sent (λ p among. body_tells p among p.body refl)

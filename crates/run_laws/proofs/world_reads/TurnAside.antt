@@ -76,7 +76,7 @@ module _ (laws : TurnLaws) (base : Setting) (e : Estate AnyNode) (lines : HasLin
   Owed name x = TurnOwes true adopted (members cl part) part (epoch_now cl part s) s.net name x what
 
   fact : (q : Packet) → what ≡ Deliver q → Fact cl part s q × (q.to ≡ node_of event)
-  fact q is = (b.tokens_stand.facts q (sent_before (moment e count) event may q is), delivered_to event q is)
+  fact q premise = (b.tokens_stand.facts q (sent_before (moment e count) event may q premise), delivered_to event q premise)
 
   module _ (name : NodeId) (own : node_of event ≡ name) where
     at : place_of cl name ≡ Some took.place
@@ -87,8 +87,8 @@ module _ (laws : TurnLaws) (base : Setting) (e : Estate AnyNode) (lines : HasLin
 
     -- it is the node that stands there
     of_node : (x : AnyNode) → node_in (moment e count).nodes (place_of cl name) ≡ Some x → (Owed name x → IsQuiet x) → IsQuiet node
-    of_node x is quiet =
-        let same : x ≡ node = one_node x node (sym is ∙ here) in
+    of_node x premise quiet =
+        let same : x ≡ node = one_node x node (sym premise ∙ here) in
         subst IsQuiet same (quiet (subst (Owed name) (sym same) (subst (λ n. Owed n node) own owed)))
 
   -- ---- a client
@@ -153,7 +153,7 @@ module _ (laws : TurnLaws) (base : Setting) (e : Estate AnyNode) (lines : HasLin
           let name = Manager (managers.lasting_of (s.manager j).phase).number in
           all_aside c (acts_of name after.outs)
           (recursion_from_All IsNeutral (acts_of name after.outs)
-          (all_neutral (ManagerDoes part go.next.sent (epoch_now cl part s) (managers.lasting_of after.state).inc) name (λ a is. is) after.outs
+          (all_neutral (ManagerDoes part go.next.sent (epoch_now cl part s) (managers.lasting_of after.state).inc) name (λ a premise. premise) after.outs
           (recursion_from_All (ManagerDoes part go.next.sent (epoch_now cl part s) (managers.lasting_of after.state).inc) after.outs go.does)))
 
   -- ---- the others
@@ -186,7 +186,7 @@ module _ (laws : TurnLaws) (base : Setting) (e : Estate AnyNode) (lines : HasLin
           b.tokens_stand.few adopted s.cleaner what b.tokens_stand.cleaner.1 (gets what refl) b.tokens_stand.copies told in
           all_aside c (acts_of Cleaner went.outs)
           (recursion_from_All IsNeutral (acts_of Cleaner went.outs)
-          (all_neutral (CleanerDoes part go.0.next (cleaners.lasting_of went.state).inc) Cleaner (λ a is. is) went.outs
+          (all_neutral (CleanerDoes part go.0.next (cleaners.lasting_of went.state).inc) Cleaner (λ a premise. premise) went.outs
           (recursion_from_All (CleanerDoes part go.0.next (cleaners.lasting_of went.state).inc) went.outs go.0.does)))
 
   registry_quiet : node_of event ≡ Registry → IsQuiet node

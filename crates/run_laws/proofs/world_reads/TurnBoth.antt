@@ -57,20 +57,20 @@ pub record TurnLaws : Type 0 where
 
 -- what is delivered was sent
 pub sent_before : (w : World AnyNode) (event : Event) → MayHappen w event → (q : Packet) → what_of event ≡ Deliver q → In q w.sent
-sent_before w (events.Begin node) may q is = absurd (cc)
-sent_before w (events.Tick node) may q is = absurd (cc)
-sent_before w (events.Deliver packet) may q is =
-    was_sent w.sent q (subst (λ x. MayHappen w (events.Deliver x)) (delivered packet q is) may)
+sent_before w (events.Begin node) may q premise = absurd (cc)
+sent_before w (events.Tick node) may q premise = absurd (cc)
+sent_before w (events.Deliver packet) may q premise =
+    was_sent w.sent q (subst (λ x. MayHappen w (events.Deliver x)) (delivered packet q premise) may)
 
 pub delivered_to : (event : Event) (q : Packet) → what_of event ≡ Deliver q → q.to ≡ node_of event
-delivered_to (events.Begin node) q is = absurd (cc)
-delivered_to (events.Tick node) q is = absurd (cc)
-delivered_to (events.Deliver packet) q is = ap (λ (x : Packet). x.to) (sym (delivered packet q is))
+delivered_to (events.Begin node) q premise = absurd (cc)
+delivered_to (events.Tick node) q premise = absurd (cc)
+delivered_to (events.Deliver packet) q premise = ap (λ (x : Packet). x.to) (sym (delivered packet q premise))
 
 -- of the same nodes, packets and acts the same holds
 pub same_moment : (P : List AnyNode → List Packet → List Act → Type 0) (a b : List AnyNode) (x y : List Packet) (u v : List Act) → a ≡ b → x ≡ y → u ≡ v
     → P a x u → P b y v
-same_moment P a b x y u v nodes sent acts is = subst (λ n. P n y v) nodes (subst (λ s. P a s v) sent (subst (λ d. P a x d) acts is))
+same_moment P a b x y u v nodes sent acts premise = subst (λ n. P n y v) nodes (subst (λ s. P a s v) sent (subst (λ d. P a x d) acts premise))
 
 module _ (base : Setting) (e : Estate AnyNode) (lines : HasLines base e) (texts : Texts base e lines) (part : ℕ) (first : ℕ → ℕ → Segment) where
   abbrev c : Cluster
@@ -152,15 +152,15 @@ module _ (base : Setting) (e : Estate AnyNode) (lines : HasLines base e) (texts 
         is_later = moment_next e count event at
 
         fact : (q : Packet) → what ≡ Deliver q → tokens.Fact c part b.tok q × (q.to ≡ name)
-        fact q is = (b.tokens_stand.facts q (sent_before now event may q is), delivered_to event q is)
+        fact q premise = (b.tokens_stand.facts q (sent_before now event may q premise), delivered_to event q premise)
 
         known : (q : Packet) → what ≡ Deliver q → index.SentBy part b.idx.net b.idx.asked q.from q.body × IsSentBy q.from q.body
-        known q is = (b.index_stands.facts q (sent_before now event may q is), kinds_of_tokens c part b.tok q (fact q is).0)
+        known q premise = (b.index_stands.facts q (sent_before now event may q premise), kinds_of_tokens c part b.tok q (fact q premise).0)
 
         turned : (place : ℕ) (node : AnyNode) (clock : ℕ) → place_of now.cluster name ≡ Some place → slice_get now.nodes place ≡ Some node
             → Which (slice_set now.nodes place (any_step node what).node) (now.sent ++ map (sent_at clock) (any_step node what).packets)
             (now.acts ++ (any_step node what).acts)
-        turned place node clock where_is is nodes sent acts = inr (
+        turned place node clock where_is premise nodes sent acts = inr (
           node,
           took,
           record {
@@ -172,8 +172,10 @@ module _ (base : Setting) (e : Estate AnyNode) (lines : HasLines base e) (texts 
               index_stands = same_moment (λ n s a. index.Stands c part texts.text first n s RegistrySound i.next) _ later.nodes _ later.sent _ later.acts
                   to_nodes to_sent to_acts i.stands;
               slots = laws.slots true c part texts.text now.nodes place what _ _ name node b.tok t.next b.idx.net i.next.net b.slots
-                  (record { placed = at_c; stands = is; tokens = t.stands; leaves = t.stay; index = i.makes });
-              entered = entered_stays true c part now.nodes _ now.sent _ now.acts _ b.tok t.next b.tokens_stand t.stands t.since what (λ q is. (fact q is).0)
+                  (record { placed = at_c; stands = premise; tokens = t.stands; leaves = t.stay; index = i.makes });
+              entered =
+                  entered_stays true c part now.nodes _ now.sent _ now.acts _ b.tok t.next b.tokens_stand t.stands t.since
+                  what (λ q premise. (fact q premise).0)
                   b.idx i.next b.index_stands.placed i.stands.placed name i.came b.entered;
             };
             since = t.since;
@@ -184,13 +186,13 @@ module _ (base : Setting) (e : Estate AnyNode) (lines : HasLines base e) (texts 
         )
           where
             took : Took now event node
-            took = record { place = place; placed = where_is; stands = is; nodes = nodes; acts = acts }
+            took = record { place = place; placed = where_is; stands = premise; nodes = nodes; acts = acts }
 
             at_c : place_of c name ≡ Some place
             at_c = subst (λ x. place_of x name ≡ Some place) cluster where_is
 
             there : node_in now.nodes (place_of c name) ≡ Some node
-            there = ap (node_in now.nodes) at_c ∙ is
+            there = ap (node_in now.nodes) at_c ∙ premise
 
             both : BothStand true c part texts.text first now.nodes now.sent now.acts b.tok b.idx
             both = record { tokens = b.tokens_stand; index = b.index_stands; same = b.slots }
@@ -198,10 +200,12 @@ module _ (base : Setting) (e : Estate AnyNode) (lines : HasLines base e) (texts 
             t : token_turns.Turned laws.tokens true c part of_eight now.nodes now.sent now.acts b.tok b.tokens_stand place clock what (owed node took).adopted
                 name node
             t = token_turns.turns laws.tokens true c part of_eight now.nodes now.sent now.acts b.tok b.tokens_stand place clock what (owed node took).adopted
-                name fact at_c node is (owed node took).tokens
+                name fact at_c node premise (owed node took).tokens
 
             i : index_turns.Turned laws.index c part of_eight texts.text first now.nodes now.sent b.idx b.index_stands place clock what name node
-            i = index_turns.turns laws.index c part of_eight texts.text first now.nodes now.sent b.idx b.index_stands place clock what name known at_c node is
+            i =
+                index_turns.turns laws.index c part of_eight texts.text first
+                now.nodes now.sent b.idx b.index_stands place clock what name known at_c node premise
                 (owed node took).index
                 (laws.given true c part texts.text first now.nodes now.sent now.acts b.tok b.idx name node what both there fact)
 

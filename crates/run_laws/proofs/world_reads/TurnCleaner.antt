@@ -202,8 +202,8 @@ module _ (laws : StepsBelow) (base : Setting) (e : Estate AnyNode) (lines : HasL
   index_owed = subst (λ name. IndexOwes part texts.text b.idx.asked b.idx.net name (any.Cleaner x) what) own owed.index
 
   known : (q : Packet) → what ≡ Deliver q → SentBy part b.idx.net b.idx.asked q.from q.body × IsSentBy q.from q.body
-  known q is =
-      let among : basics.In q (moment e count).sent = sent_before (moment e count) event may q is in
+  known q fact =
+      let among : basics.In q (moment e count).sent = sent_before (moment e count) event may q fact in
       (b.index_stands.facts q among, kinds_of_tokens cl part b.tok q (b.tokens_stand.facts q among))
 
   says : (o : Option FlightState) → IfSome o (λ f. IsCopies f.segment) → IfSome o (λ f. SaysBlocks f.segment)
@@ -212,15 +212,15 @@ module _ (laws : StepsBelow) (base : Setting) (e : Estate AnyNode) (lines : HasL
 
   -- what it acts to be filed is what it has in flight
   flights : IfSome (last_flight at.run) (λ f. IsCopies f.segment) → (v : Emptying) → x.phase ≡ Serves v → AllSo (IsFlight v.log) outs
-  flights kind v is = by (phase_room x.phase) refl
+  flights kind v fact = by (phase_room x.phase) refl
     where
       flies : last_flight at.run ≡ v.log.flight
-      flies = served_last g _ w.net at.run v.log (subst (log_tie.CleanerAgrees g w) is sees).log.owner
+      flies = served_last g _ w.net at.run v.log (subst (log_tie.CleanerAgrees g w) fact sees).log.owner
 
       by : (t : Bool) → phase_room x.phase ≡ t → AllSo (IsFlight v.log) outs
       by true room = (laws.cleaner_flights part texts.text g w b.idx.net x what v of_eight sure_before
           (now.cleaner_owns base e lines texts part first count b).room
-          (subst (λ (o : Option FlightState). IfSome o (λ f. SaysBlocks f.segment)) flies (says (last_flight at.run) kind)) sees is indexed
+          (subst (λ (o : Option FlightState). IfSome o (λ f. SaysBlocks f.segment)) flies (says (last_flight at.run) kind)) sees fact indexed
           (cleaner_gets part texts.text b.idx.asked b.idx.net x.phase what indexed.phase asks (room_below x.phase room) known index_owed.gets)
           index_owed.asks).flights
       by false full = subst (λ (t : Bool). AllSo (IsFlight v.log) (if t then happens x.peers x.phase what else still x.phase).outs) (sym full) tt

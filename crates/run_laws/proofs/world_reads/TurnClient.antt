@@ -170,11 +170,12 @@ module _ (laws : StepsBelow) (base : Setting) (e : Estate AnyNode) (lines : HasL
 
   -- what it acts to be filed is what it has in flight
   flights : IfSome (last_flight at.run) (λ f. IsOriginal f.segment) → (s : serving.Serving) → x.phase ≡ Serves s → AllSo (IsFlight s.log) outs
-  flights kind s is =
-      let flies = served_last g _ w.net at.run s.log (subst (log_tie.ClientAgrees g c w) is sees).1.owner in
+  flights kind s fact =
+      let flies = served_last g _ w.net at.run s.log (subst (log_tie.ClientAgrees g c w) fact sees).1.owner in
       (laws.client_flights part texts.text g c w b.idx.net x what s there.0 (now.below base e lines texts part first count b c there) sure_before
       (now.client_sees base e lines texts part first count b c there).room
-      (subst (λ (o : Option FlightState). IfSome o (λ f. SaysBlocks f.segment)) flies (says (last_flight at.run) kind)) sees is indexed index_owed.gets).flights
+      (subst (λ (o : Option FlightState). IfSome o (λ f. SaysBlocks f.segment)) flies
+      (says (last_flight at.run) kind)) sees fact indexed index_owed.gets).flights
 
   makes : Makes part texts.text b.idx.net d.idx.net (Client c) (any.Client x) what
   makes = subst (λ name. Makes part texts.text b.idx.net d.idx.net name (any.Client x) what) own turned.makes

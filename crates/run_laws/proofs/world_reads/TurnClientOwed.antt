@@ -68,35 +68,35 @@ ServesThen node what = (s : Serving) × ((takes node what).state ≡ clients.Ser
 
 by_progress : (l : Lasting) (capacity : ℕ) (p : Progress) (r : Opened) → p ≡ progress.Opened r
     → (s : Serving) × ((after_opening l capacity p).state ≡ clients.Serving s)
-by_progress l capacity p r is = (_, ap (λ (x : Progress). (after_opening l capacity x).state) is)
+by_progress l capacity p r fact = (_, ap (λ (x : Progress). (after_opening l capacity x).state) fact)
 
 module _ (node : ClientNode) (l : Lasting) (o : Opening) (opens : node.phase ≡ clients.Opening l o) (r : Opened) where
   delivered : (q : Packet) → comes_to o l.questions (Deliver q) ≡ progress.Opened r
       → (s : Serving) × ((on_deliver node.cache node.phase q).state ≡ clients.Serving s)
   unfolding on_deliver
-  delivered q is =
+  delivered q fact =
       let x = opening.on_packet o l.questions q in
-      let s = by_progress (record l { questions = x.questions }) node.cache x.progress r is in
+      let s = by_progress (record l { questions = x.questions }) node.cache x.progress r fact in
       (s.0, ap (λ (p : Phase). (on_deliver node.cache p q).state) opens ∙ s.1)
 
   timed : comes_to o l.questions Tick ≡ progress.Opened r → (s : Serving) × ((on_time node.cache node.phase).state ≡ clients.Serving s)
   unfolding on_time
-  timed is =
+  timed fact =
       let x = opening.on_tick o l.questions in
-      let s = by_progress (record l { questions = x.questions }) node.cache x.progress r is in
+      let s = by_progress (record l { questions = x.questions }) node.cache x.progress r fact in
       (s.0, ap (λ (p : Phase). (on_time node.cache p).state) opens ∙ s.1)
 
   by_do : (what : Do) → IsTaken node what → comes_to o l.questions what ≡ progress.Opened r
       → (s : Serving) × ((happens node what).state ≡ clients.Serving s)
-  by_do Begin taken is = absurd (cc)
-  by_do (Deliver q) taken is =
-      let s = delivered q is in
+  by_do Begin taken fact = absurd (cc)
+  by_do (Deliver q) taken fact =
+      let s = delivered q fact in
       (s.0, ap (λ (t : Bool). (if t then on_deliver node.cache node.phase q else still node.phase).state) (taken.formed q refl) ∙ s.1)
-  by_do Tick taken is = timed is
+  by_do Tick taken fact = timed fact
 
   pub serves_then : (what : Do) → IsTaken node what → comes_to o l.questions what ≡ progress.Opened r → ServesThen node what
-  serves_then what taken is =
-      let s = by_do what taken is in
+  serves_then what taken fact =
+      let s = by_do what taken fact in
       (s.0, ap (λ (t : Bool). (if t then happens node what else still node.phase).state) taken.room ∙ s.1)
 
 -- ---- beside one run
@@ -143,12 +143,12 @@ module _ (below : ClientsBelow) (base : Setting) (e : Estate AnyNode) (lines : H
   -- ---- Polls
 
   low : owed.PollsAreLow base e lines texts part first count c there below.log event node x
-  low packet m s is bears inside serves late =
+  low packet m s fact bears inside serves late =
       below.polls true cl part texts.text first (moment e count).nodes (moment e count).sent (moment e count).acts joint.tok joint.idx c s m of_eight
       (record { tokens = joint.tokens_stand; index = joint.index_stands; same = joint.slots }) there.0
       (now.member base e lines texts part first count (both_of base e lines texts part first count joint) c there)
       (ap (λ (a : ClientNode). a.phase) is_node ∙ serves)
-      (record { packet = packet; among = sent_before (moment e count) event may packet is; bears = bears; of = inside }) late c there.0
+      (record { packet = packet; among = sent_before (moment e count) event may packet fact; bears = bears; of = inside }) late c there.0
       (let less = now.below base e lines texts part first count (both_of base e lines texts part first count joint) c there in omega arith)
 
   -- what the small world of the index is owed
@@ -163,7 +163,7 @@ module _ (below : ClientsBelow) (base : Setting) (e : Estate AnyNode) (lines : H
     told = joint.entries.holds (any.Client node) (in_list (moment e count).nodes took.place (any.Client node) took.stands);
     came = (below.came e setup run count).nodes (Client c) (any.Client node) named;
     its = below.fetches e count c node named;
-    brought = λ p is. (sent_before (moment e count) event may p is, delivered_to event p is ∙ own);
+    brought = λ p fact. (sent_before (moment e count) event may p fact, delivered_to event p fact ∙ own);
   }
 
   -- and what that of tokens is

@@ -59,11 +59,11 @@ module _ (base : Setting) (e : Estate AnyNode) (lines : HasLines base e) (texts 
       → (b.tok.client c).phase ≡ Serves s
       → ((history_after (moment e count).acts nothing_yet).told c ≡ [])
       × (flew_at base e lines texts part first (OfClient c) there count ≡ s.log.flight)
-  fell_serving count b c there s is = (
+  fell_serving count b c there s fact = (
     serving_told true (members cl part) part b.tok.net (moment e count).acts b.tokens_stand.runs b.tokens_stand.acts c
-        (subst (held.ClientAgrees true part c b.tok.net) is (now.client_held base e lines texts part first count b c there)).up,
+        (subst (held.ClientAgrees true part c b.tok.net) fact (now.client_held base e lines texts part first count b c there)).up,
     served_last (setting base e (OfClient c)) _ ((lines (OfClient c) there).at count).net ((lines (OfClient c) there).stands count).moment.run s.log
-        (subst (log_tie.ClientAgrees (setting base e (OfClient c)) c ((lines (OfClient c) there).at count)) is
+        (subst (log_tie.ClientAgrees (setting base e (OfClient c)) c ((lines (OfClient c) there).at count)) fact
         (now.client_sees base e lines texts part first count b c there).agrees).1.owner,
   )
 
@@ -82,7 +82,7 @@ module _ (base : Setting) (e : Estate AnyNode) (lines : HasLines base e) (texts 
       After p = FallKnown (moment e (suc count)).acts c (flew_at base e lines texts part first (OfClient c) there (suc count)) p
 
       serving : (s : Serving) → (d.tok.client c).phase ≡ Serves s → After (Serves s)
-      serving s is = fell_serving (suc count) d c there s is
+      serving s fact = fell_serving (suc count) d c there s fact
 
       -- ---- its own event
 
@@ -103,11 +103,11 @@ module _ (base : Setting) (e : Estate AnyNode) (lines : HasLines base e) (texts 
       own its (any.Registry x) took owed turned writes gone = absurd (let clash = at its (any.Registry x) took in cc)
 
       by_own : (p : Phase) → (d.tok.client c).phase ≡ p → node_of event ≡ Client c → After p
-      by_own (Serves s) is its = serving s is
-      by_own (Down l) is its = subst After is
-          (own its node took owed turned (writes c there.0 there.1) (subst held.IsAway (sym is) tt))
-      by_own (Opening l o) is its = subst After is
-          (own its node took owed turned (writes c there.0 there.1) (subst held.IsAway (sym is) tt))
+      by_own (Serves s) fact its = serving s fact
+      by_own (Down l) fact its = subst After fact
+          (own its node took owed turned (writes c there.0 there.1) (subst held.IsAway (sym fact) tt))
+      by_own (Opening l o) fact its = subst After fact
+          (own its node took owed turned (writes c there.0 there.1) (subst held.IsAway (sym fact) tt))
 
       -- ---- an event of another
 
@@ -144,13 +144,13 @@ module _ (base : Setting) (e : Estate AnyNode) (lines : HasLines base e) (texts 
             (others_quiet laws.turns base e lines texts part first of_eight count event cluster may b c down away node took owed.adopted owed.tokens) was))
 
         by_other : (p : Phase) → (b.tok.client c).phase ≡ p → After p
-        by_other (Serves s) is = serving s (ap (λ (x : ClientNode). x.phase) same ∙ is)
-        by_other (Down l) is =
-            stays (subst (held.ClientAgrees true part c b.tok.net) is (now.client_held base e lines texts part first count b c there)).up
-            (subst (FallKnown (moment e count).acts c (flew_at base e lines texts part first (OfClient c) there count)) is (fell c there))
-        by_other (Opening l o) is =
-            stays (subst (held.ClientAgrees true part c b.tok.net) is (now.client_held base e lines texts part first count b c there)).up
-            (subst (FallKnown (moment e count).acts c (flew_at base e lines texts part first (OfClient c) there count)) is (fell c there))
+        by_other (Serves s) fact = serving s (ap (λ (x : ClientNode). x.phase) same ∙ fact)
+        by_other (Down l) fact =
+            stays (subst (held.ClientAgrees true part c b.tok.net) fact (now.client_held base e lines texts part first count b c there)).up
+            (subst (FallKnown (moment e count).acts c (flew_at base e lines texts part first (OfClient c) there count)) fact (fell c there))
+        by_other (Opening l o) fact =
+            stays (subst (held.ClientAgrees true part c b.tok.net) fact (now.client_held base e lines texts part first count b c there)).up
+            (subst (FallKnown (moment e count).acts c (flew_at base e lines texts part first (OfClient c) there count)) fact (fell c there))
 
         other : After (d.tok.client c).phase
         other = subst (λ (x : ClientNode). After x.phase) (sym same) (by_other (b.tok.client c).phase refl)

@@ -54,7 +54,7 @@ follows_itself c part texts first nodes sent t s st = record {
 }
 
 same_manager : (a b : ManagerNode) → Some (any.Manager a) ≡ Some (any.Manager b) → a ≡ b
-same_manager a b is = cc
+same_manager a b fact = cc
 
 module _ (base : Setting) (e : Estate AnyNode) (lines : HasLines base e) (texts : Texts base e lines) (part : ℕ) (first : ℕ → ℕ → Segment) (count : ℕ)
     (event : Event) (at : slice_get e.events count ≡ Some event) (clusters : (moment e count).cluster ≡ k base e lines texts part first)
@@ -82,7 +82,7 @@ module _ (base : Setting) (e : Estate AnyNode) (lines : HasLines base e) (texts 
 
   managed : (j : ℕ) (x : ManagerNode) → node_in (moment e (suc count)).nodes (place_of cl (Manager j)) ≡ Some (any.Manager (manager_step x what).node)
       → (epoch : ℕ) → ManagedAt (slot_in part (happens x what).state) epoch → IsManaged cl part turned.then.tok epoch
-  managed j x here epoch is = by (place_of cl (Manager j)) refl
+  managed j x here epoch fact = by (place_of cl (Manager j)) refl
     where
       by : (o : Option ℕ) → place_of cl (Manager j) ≡ o → IsManaged cl part turned.then.tok epoch
       by None none =
@@ -96,7 +96,7 @@ module _ (base : Setting) (e : Estate AnyNode) (lines : HasLines base e) (texts 
             manager = j;
             some = f.some;
             limit = f.within;
-            managed = subst (λ (y : ManagerNode). ManagedAt (slot_in part y.phase) epoch) (sym same) is;
+            managed = subst (λ (y : ManagerNode). ManagedAt (slot_in part y.phase) epoch) (sym same) fact;
           }
 
   came_as : (name : NodeId) (x : AnyNode) → node_in (moment e (suc count)).nodes (place_of cl name) ≡ Some (any_step x what).node

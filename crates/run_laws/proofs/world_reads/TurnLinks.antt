@@ -39,10 +39,10 @@ use Rattle.run_laws.specs.world_reads.Joint.{IsSureUpto, There, k}
 use Rattle.xfs_base.specs.declared.block.BlockId.{BlockId}
 
 most_of : (a b : ℕ) → nat_le a b ≡ true → a ≤ b
-most_of a b is = grind (arith, nat_tests, is)
+most_of a b fact = grind (arith, nat_tests, fact)
 
 less_of : (a b : ℕ) → nat_le a b ≡ false → b < a
-less_of a b is = grind (arith, nat_tests, is)
+less_of a b fact = grind (arith, nat_tests, fact)
 
 difference : (a b : ℕ) → a < b → a + (b - a) ≡ b
 difference a b less = omega arith
@@ -62,8 +62,8 @@ module _ (laws : StepsBelow) (base : Setting) (e : Estate AnyNode) (lines : HasL
     nobody x above = b.slots x (by (b.tok.net.slots x) refl)
       where
         by : (o : Option SlotState) → b.tok.net.slots x ≡ o → b.tok.net.slots x ≡ None
-        by None is = is
-        by (Some z) is = let low = bound x z is in absurd (omega arith)
+        by None fact = fact
+        by (Some z) fact = let low = bound x z fact in absurd (omega arith)
 
     same_horizon : (x more : ℕ) → from ≤ x → x + more ≤ n.epoch → n.horizon (x + more) ≡ n.horizon x
     same_horizon x zero above within = ap n.horizon (plus x)
@@ -86,9 +86,9 @@ module _ (laws : StepsBelow) (base : Setting) (e : Estate AnyNode) (lines : HasL
         present = laws.present part texts.text l g m n b.idx.registry of_eight pos limit sure line seen b.index_stands.registry
 
         by : (t : Bool) → nat_le n.epoch x ≡ t → Linked n.filed l (of_log (n.horizon x) l) (n.filed.head l)
-        by true is = present x (most_of n.epoch x is) some
-        by false is =
-            let end : x + (n.epoch - x) ≡ n.epoch = difference x n.epoch (less_of n.epoch x is) in
+        by true fact = present x (most_of n.epoch x fact) some
+        by false fact =
+            let end : x + (n.epoch - x) ≡ n.epoch = difference x n.epoch (less_of n.epoch x fact) in
             let same : n.horizon n.epoch ≡ n.horizon x = ap n.horizon (sym end)
             ∙ same_horizon x (n.epoch - x) above (let upto = end in omega arith) in
             subst (λ (h : List ℕ). Linked n.filed l (of_log h l) (n.filed.head l)) same
@@ -108,16 +108,16 @@ module _ (laws : StepsBelow) (base : Setting) (e : Estate AnyNode) (lines : HasL
   of_client : (c : ℕ) (there : There base e lines texts part first (OfClient c)) (s : Serving) → (b.tok.client c).phase ≡ clients.Serving s → (x : ℕ)
       (z : SlotState) → b.tok.net.slots x ≡ Some z
       → x ≤ epoch_of s.tokens.epochs part
-  of_client c there s is x z at =
-      let agreed = subst (ClientAgrees true part c b.tok.net) is (now.client_held base e lines texts part first count b c there) in
+  of_client c there s fact x z at =
+      let agreed = subst (ClientAgrees true part c b.tok.net) fact (now.client_held base e lines texts part first count b c there) in
       subst (λ (y : TokensState). x ≤ epoch_of y.epochs part) agreed.tokens
       (laws.promised true (members cl part) part (with_promise 1 b.tok.net) some_block (record { run = b.tokens_stand.runs; inside = of_slot }) x z at c
       (record { some = there.0; within = now.member base e lines texts part first count b c there }))
 
   of_cleaner : (v : Emptying) → b.tok.cleaner.phase ≡ cleaners.Serving v → (x : ℕ) (z : SlotState) → b.tok.net.slots x ≡ Some z
       → x ≤ owner.epoch_of v.promised part
-  of_cleaner v is x z at =
-      let stands = subst (CleanerStands part b.tok.net.promised (epoch_now cl part b.tok)) is b.tokens_stand.cleaner.1 in
+  of_cleaner v fact x z at =
+      let stands = subst (CleanerStands part b.tok.net.promised (epoch_now cl part b.tok)) fact b.tokens_stand.cleaner.1 in
       let promised = stands.promises in
       let low = (b.tokens_stand.entered x z at).4 in
       let same = unwrap_or-slice_get v.promised.epochs part 0 in
@@ -131,21 +131,21 @@ module _ (laws : StepsBelow) (base : Setting) (e : Estate AnyNode) (lines : HasL
     clients_linked c there = by (b.tok.client c).phase refl
       where
         by : (p : Phase) → (b.tok.client c).phase ≡ p → ClientLinked part n c p
-        by (clients.Serving s) is =
-            linked_from (epoch_of s.tokens.epochs part) (of_client c there s is) c (setting base e (OfClient c)) ((lines (OfClient c) there).at count).net
+        by (clients.Serving s) fact =
+            linked_from (epoch_of s.tokens.epochs part) (of_client c there s fact) c (setting base e (OfClient c)) ((lines (OfClient c) there).at count).net
             there.0 (let less = now.below base e lines texts part first count b c there in omega arith)
             (now.client_sure base e lines texts part first count b c there sure) (known.all (OfClient c) there refl).known.line
             (now.registry_seen base e lines texts part first count b (OfClient c) there)
-        by (clients.Opening l o) is = tt
-        by (clients.Down l) is = tt
+        by (clients.Opening l o) fact = tt
+        by (clients.Down l) fact = tt
 
     pub cleaner_linked : CleanerLinked part n b.tok.cleaner.phase
     cleaner_linked = by b.tok.cleaner.phase refl
       where
         by : (p : cleaning.Phase) → b.tok.cleaner.phase ≡ p → CleanerLinked part n p
-        by (cleaners.Serving v) is =
-            linked_from (owner.epoch_of v.promised part) (of_cleaner v is) 9 (setting base e OfCleaner) ((lines OfCleaner tt).at count).net (omega arith)
+        by (cleaners.Serving v) fact =
+            linked_from (owner.epoch_of v.promised part) (of_cleaner v fact) 9 (setting base e OfCleaner) ((lines OfCleaner tt).at count).net (omega arith)
             (omega arith) (sure_at base e lines texts part first count sure) (known.all OfCleaner tt refl).known.line
             (now.registry_seen base e lines texts part first count b OfCleaner tt)
-        by (cleaners.Opening l o) is = tt
-        by (cleaners.Down l) is = tt
+        by (cleaners.Opening l o) fact = tt
+        by (cleaners.Down l) fact = tt

@@ -37,21 +37,21 @@ use Rattle.xfs_base.specs.declared.node.NodeId.TheVariants.{Client, Manager, Ser
 -- ---- names
 
 same_number : (c d : ℕ) → Client c ≡ Client d → c ≡ d
-same_number c d is = cc
+same_number c d fact = cc
 
 pub client_or_not : (c : ℕ) (name : NodeId) → (name ≡ Client c) ⊎ (Client c ≡ name → ⊥)
-client_or_not c (Client d) = ⊎_elim (λ same. inl (ap Client same)) (λ other. inr (λ is. other (sym (same_number c d is)))) (equal_or_not d c)
-client_or_not c (Manager j) = inr (λ is. absurd cc)
-client_or_not c (Server v) = inr (λ is. absurd cc)
-client_or_not c Cleaner = inr (λ is. absurd cc)
-client_or_not c Registry = inr (λ is. absurd cc)
+client_or_not c (Client d) = ⊎_elim (λ same. inl (ap Client same)) (λ other. inr (λ fact. other (sym (same_number c d fact)))) (equal_or_not d c)
+client_or_not c (Manager j) = inr (λ fact. absurd cc)
+client_or_not c (Server v) = inr (λ fact. absurd cc)
+client_or_not c Cleaner = inr (λ fact. absurd cc)
+client_or_not c Registry = inr (λ fact. absurd cc)
 
 pub cleaner_or_not : (name : NodeId) → (name ≡ Cleaner) ⊎ (Cleaner ≡ name → ⊥)
-cleaner_or_not (Client d) = inr (λ is. absurd cc)
-cleaner_or_not (Manager j) = inr (λ is. absurd cc)
-cleaner_or_not (Server v) = inr (λ is. absurd cc)
+cleaner_or_not (Client d) = inr (λ fact. absurd cc)
+cleaner_or_not (Manager j) = inr (λ fact. absurd cc)
+cleaner_or_not (Server v) = inr (λ fact. absurd cc)
 cleaner_or_not Cleaner = inl refl
-cleaner_or_not Registry = inr (λ is. absurd cc)
+cleaner_or_not Registry = inr (λ fact. absurd cc)
 
 other_client : (c : ℕ) → c < 9 → (name : NodeId) → (Client c ≡ name → ⊥) → IsOther name c
 other_client c below (Client d) away = λ same. away (ap Client same)
@@ -112,8 +112,8 @@ module _ (base : Setting) (e : Estate AnyNode) (lines : HasLines base e) (texts 
 
       none : NothingElse base e lines texts part first joint.tok.net.books joint.idx.net.filed
       none = record {
-        head = λ l free. joint.alone l (λ r there keeps is. free r (there, keeps, is));
-        end = λ l some limit free. joint.books.end l some limit ∙ joint.alone l (λ r there keeps is. free r (there, keeps, is));
+        head = λ l free. joint.alone l (λ r there keeps fact. free r (there, keeps, fact));
+        end = λ l some limit free. joint.books.end l some limit ∙ joint.alone l (λ r there keeps fact. free r (there, keeps, fact));
       }
 
   -- ---- a node takes the event

@@ -26,10 +26,10 @@ use Rattle.run_laws.specs.world_reads.Joint.{IsSureUpto, There, k}
 use Rattle.xfs_base.specs.declared.node.NodeId.TheVariants.{Client, Cleaner, Registry}
 
 pub same_client : (a b : ClientNode) → Some (any.Client a) ≡ Some (any.Client b) → a ≡ b
-same_client a b is = cc
+same_client a b fact = cc
 
 pub same_cleaner : (a b : CleanerNode) → Some (any.Cleaner a) ≡ Some (any.Cleaner b) → a ≡ b
-same_cleaner a b is = cc
+same_cleaner a b fact = cc
 
 module _ (base : Setting) (e : Estate AnyNode) (lines : HasLines base e) (texts : Texts base e lines) (part : ℕ) (first : ℕ → ℕ → Segment) (count : ℕ)
     (b : Both base e lines texts part first count) where
@@ -70,7 +70,7 @@ module _ (base : Setting) (e : Estate AnyNode) (lines : HasLines base e) (texts 
       trusted = refl;
       moment = ((lines (OfClient c) there).stands count).moment;
       sure = sure (OfClient c) there refl;
-      are_texts = λ s is. texts.flown (OfClient c) there count s is;
+      are_texts = λ s fact. texts.flown (OfClient c) there count s fact;
     }
 
   -- ---- the cleaner

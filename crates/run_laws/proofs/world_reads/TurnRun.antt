@@ -43,12 +43,12 @@ moment_cluster e count = cluster_after (take count e.events) (start_world any_st
 
 pub may_at : (events : List Event) (count : ℕ) (event : Event) (w end : World AnyNode) → Leads any_step w events end → slice_get events count ≡ Some event
     → MayHappen (fold (next_world any_step) w (take count events)) event
-may_at [] count event w end leads is = absurd cc
-may_at (x ∷ events) zero event w end leads is = subst (MayHappen w) (same x event is) leads.0
+may_at [] count event w end leads fact = absurd cc
+may_at (x ∷ events) zero event w end leads fact = subst (MayHappen w) (same x event fact) leads.0
   where
     same : (a b : Event) → Some a ≡ Some b → a ≡ b
     same a b e = cc
-may_at (x ∷ events) (suc count) event w end leads is = may_at events count event (next_world any_step w x) end leads.1 is
+may_at (x ∷ events) (suc count) event w end leads fact = may_at events count event (next_world any_step w x) end leads.1 fact
 
 pub past_end : (events : List Event) (count : ℕ) → slice_get events count ≡ None → take (suc count) events ≡ take count events
 past_end [] zero none = refl
@@ -117,12 +117,12 @@ module _ (laws : StepsBelow) (base : Setting) (e : Estate AnyNode) (lines : HasL
       still (OfManager j) there keeps = contrary (sym keeps)
 
       nothing : NothingHappens (moment e count) event → Rests base e lines texts part first count
-      nothing is =
+      nothing fact =
           let next = moment_next e count event at in
           record {
-            nodes = ap (λ (w : World AnyNode). w.nodes) next ∙ is.nodes;
-            sent = ap (λ (w : World AnyNode). w.sent) next ∙ is.sent;
-            acts = ap (λ (w : World AnyNode). w.acts) next ∙ is.acts;
+            nodes = ap (λ (w : World AnyNode). w.nodes) next ∙ fact.nodes;
+            sent = ap (λ (w : World AnyNode). w.sent) next ∙ fact.sent;
+            acts = ap (λ (w : World AnyNode). w.acts) next ∙ fact.acts;
           }
 
       module _ (step : StepIsOwed event at (may_be event at)) where
@@ -136,12 +136,12 @@ module _ (laws : StepsBelow) (base : Setting) (e : Estate AnyNode) (lines : HasL
             (is_owed base e lines texts part first count event b step.owed)
 
         both_by : Which → Both base e lines texts part first (suc count)
-        both_by (inl is) = rested base e lines texts part first count (nothing is) b
+        both_by (inl fact) = rested base e lines texts part first count (nothing fact) b
         both_by (inr (node, took, turned)) = turned.then
 
         joint_by : LivesTell laws base e lines texts part first of_eight apart run clusters (suc count) → Which
             → Grows base e lines texts part first count joint
-        joint_by lives (inl is) = stays laws base e lines texts part first of_eight apart run clusters count joint sure lives (nothing is) still
+        joint_by lives (inl fact) = stays laws base e lines texts part first of_eight apart run clusters count joint sure lives (nothing fact) still
         joint_by lives (inr (node, took, turned)) =
             taken laws base e lines texts part first of_eight apart run clusters count joint sure event at (may_be event at) node took
             (is_owed base e lines texts part first count event b step.owed node took) turned lives (step.tells node took turned)

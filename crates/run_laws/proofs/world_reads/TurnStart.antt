@@ -49,24 +49,24 @@ use Rattle.run_laws.specs.world_reads.Joint.{IsSureUpto, Joint, WritesKind, flew
 -- of a log that has just begun nothing is known to be filed, and nothing was in flight
 module _ (begin : LinesBegin) (first : ℕ → ℕ → Segment) (l : ℕ) (Kind : Segment → Type 0) where
   begun_flight : (g : Setting) (n m : log.Net) (run : Runs g n m) → IsBegun run → last_flight run ≡ flight_in n.owner None
-  begun_flight g n m Begun is = refl
-  begun_flight g n m (On run happens) is = absurd is
+  begun_flight g n m Begun fact = refl
+  begun_flight g n m (On run happens) fact = absurd fact
 
   begun_net : (g : Setting) (n m : log.Net) (run : Runs g n m) → IsBegun run → n ≡ m
-  begun_net g n m Begun is = refl
-  begun_net g n m (On run happens) is = absurd is
+  begun_net g n m Begun fact = refl
+  begun_net g n m (On run happens) fact = absurd fact
 
   begun_sure : (g : Setting) (n m : log.Net) (run : Runs g n m) → IsBegun run → IsSureRun run
-  begun_sure g n m Begun is = tt
-  begun_sure g n m (On run happens) is = absurd is
+  begun_sure g n m Begun fact = tt
+  begun_sure g n m (On run happens) fact = absurd fact
 
   pub begun_known : (g : Setting) (n : log.Net) (at : Moment g n) → IsBegun at.run → OwnAfter Kind l at no_books (index.opening first).filed
-  begun_known g n at is =
-      let none : last_flight at.run ≡ None = begun_flight g (log.opening g at.map) n at.run is in
+  begun_known g n at fact =
+      let none : last_flight at.run ≡ None = begun_flight g (log.opening g at.map) n at.run fact in
       record {
         known = record {
           books = record { end = refl; rows = λ q some limit. absurd (omega arith) };
-          line = subst (λ (m : log.Net). IsLine l m (index.opening first).filed) (begun_net g (log.opening g at.map) n at.run is) (begin l g at.map first);
+          line = subst (λ (m : log.Net). IsLine l m (index.opening first).filed) (begun_net g (log.opening g at.map) n at.run fact) (begin l g at.map first);
           flew = subst (LastFlew no_books l) (sym none) (record { flying = refl; next = tt });
         };
         tells = λ q some limit. absurd (omega arith);

@@ -134,8 +134,8 @@ module _ (base : Setting) (e : Estate AnyNode) (lines : HasLines base e) (texts 
         left : (r : Role) (there : There base e lines texts part first r) → renews r ≡ false
             → IsLeft ((lines r there).at count).net ((lines r there).at (suc count)).net
             → KnownAt base e lines texts part first (suc count) b.tok.net.books b.idx.net.filed r there
-        left r there keeps is =
-            left_after base e lines texts part first laws.after count b.tok.net.books b.tok.net.books b.idx.net.filed b.idx.net.filed r there is
+        left r there keeps fact =
+            left_after base e lines texts part first laws.after count b.tok.net.books b.tok.net.books b.idx.net.filed b.idx.net.filed r there fact
             (same_log b.tok.net.books (log_by r)) (same_filing b.idx.net.filed (log_by r)) (known.all r there keeps)
 
         own : (r : Role) (there : There base e lines texts part first r) → renews r ≡ false → ServesStraight (goes r there)
@@ -153,14 +153,14 @@ module _ (base : Setting) (e : Estate AnyNode) (lines : HasLines base e) (texts 
             })
 
         all_still : AllKnown base e lines texts part first (suc count) b.tok.net.books b.idx.net.filed
-        all_still (OfClient c) there keeps = ⊎_elim (λ is. left (OfClient c) there keeps is)
+        all_still (OfClient c) there keeps = ⊎_elim (λ fact. left (OfClient c) there keeps fact)
             (λ straight. own (OfClient c) there keeps straight
             (now.client_sure base e lines texts part first (suc count) rested c there sure)
             (client_end part texts.text (setting base e (OfClient c)) c ((lines (OfClient c) there).at (suc count)) b.idx.net (b.tok.client c).phase
             (now.client_sees base e lines texts part first (suc count) rested c there).agrees
             (now.client_indexed base e lines texts part first (suc count) rested c there)))
             (stays (OfClient c) there keeps)
-        all_still OfCleaner there keeps = ⊎_elim (λ is. left OfCleaner tt keeps is)
+        all_still OfCleaner there keeps = ⊎_elim (λ fact. left OfCleaner tt keeps fact)
             (λ straight. own OfCleaner tt keeps straight (sure_at base e lines texts part first (suc count) sure)
             (cleaner_end part texts.text (setting base e OfCleaner) ((lines OfCleaner tt).at (suc count)) b.idx.net b.tok.cleaner.phase
             (now.cleaner_owns base e lines texts part first (suc count) rested).agrees

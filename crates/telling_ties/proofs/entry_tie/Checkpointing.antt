@@ -101,10 +101,10 @@ module _ (told : Told) (nothing : AllowsNothing told) where
           (λ _. record { state = before; outs = tt }) (λ _. record { state = before; outs = answer_on own })
 
   writer_goes : (s : WriterState) (given : WriterIn) → WriterHolds s → WriterInTold told nothing given → Writes (writer.transition s given)
-  writer_goes s (writer_in.Begin slot epoch pages parts horizon) before is =
-      begun_on s (record { slot = slot; epoch = epoch; left = pages; parts = parts; horizon = horizon }) before is
-  writer_goes s (writer_in.Settled end) before is = settled_on s end before
-  writer_goes s (writer_in.Ack epoch number) before is = acked_on s epoch number before
+  writer_goes s (writer_in.Begin slot epoch pages parts horizon) before fact =
+      begun_on s (record { slot = slot; epoch = epoch; left = pages; parts = parts; horizon = horizon }) before fact
+  writer_goes s (writer_in.Settled end) before fact = settled_on s end before
+  writer_goes s (writer_in.Ack epoch number) before fact = acked_on s epoch number before
 
   -- ---- what the writer says
 
@@ -112,7 +112,7 @@ module _ (told : Told) (nothing : AllowsNothing told) where
   Goes d = Leaves (ServingHolds told) GivesSo d
 
   pub saying : (s : Serving) (outs : List Effect) → ServingHolds told s → AllSay told nothing outs → Goes (gives s outs)
-  saying s outs h is = record { state = h; outs = is }
+  saying s outs h fact = record { state = h; outs = fact }
 
   one_stored : (o : LogOut) → AllSay told nothing (stored o)
   unfolding stored
@@ -121,8 +121,8 @@ module _ (told : Told) (nothing : AllowsNothing told) where
 
   parts_on : (s : Serving) (items : List Item) → ServingHolds told s → AllByRecursion (PartTold told) items → Goes (gives_parts s items)
   unfolding gives_parts
-  parts_on s items h is = record {
-    state = record { slots = h.slots; pages = h.pages; log = parts_hold told s.log items is h.log };
+  parts_on s items h fact = record {
+    state = record { slots = h.slots; pages = h.pages; log = parts_hold told s.log items fact h.log };
     outs = all_flat_map GivesSo stored one_stored (log.transition s.log (log_input.Parts items)).outs;
   }
 
@@ -135,15 +135,15 @@ module _ (told : Told) (nothing : AllowsNothing told) where
 
   says_on : (s : Serving) (o : Out) → ServingHolds told s → OutTold o → Goes (says s o)
   unfolding says
-  says_on s (out.Parts items) h is = parts_on s items h is
-  says_on s (out.Done slot epoch parts horizon) h is = registers_on (asked s) _ (record { slots = h.slots; pages = h.pages; log = h.log })
-  says_on s out.Kept h is = record { state = h; outs = tt }
-  says_on s (out.Stale epoch) h is = record { state = h; outs = tt }
+  says_on s (out.Parts items) h fact = parts_on s items h fact
+  says_on s (out.Done slot epoch parts horizon) h fact = registers_on (asked s) _ (record { slots = h.slots; pages = h.pages; log = h.log })
+  says_on s out.Kept h fact = record { state = h; outs = tt }
+  says_on s (out.Stale epoch) h fact = record { state = h; outs = tt }
 
   writer_on : (s : Serving) (given : WriterIn) → ServingHolds told s → WriterInTold told nothing given → Goes (writer_takes s given)
   unfolding writer_takes says_each
-  writer_on s given h is =
-      let d = writer_goes s.writer given h.pages is in
+  writer_on s given h fact =
+      let d = writer_goes s.writer given h.pages fact in
       leaves_each (ServingHolds told) GivesSo OutTold says says_on (record s { writer = (writer.transition s.writer given).state })
       (writer.transition s.writer given).outs (record { slots = h.slots; pages = d.state; log = h.log }) d.outs
 
@@ -190,8 +190,8 @@ module _ (told : Told) (nothing : AllowsNothing told) where
   }
 
   writes_slot-on : (s : Serving) (o : Option WriterIn) → ServingHolds told s → IfSome o (WriterInTold told nothing) → Goes (writes_slot s o)
-  writes_slot-on s None h is = record { state = h; outs = tt }
-  writes_slot-on s (Some given) h is = writer_on s given h is
+  writes_slot-on s None h fact = record { state = h; outs = tt }
+  writes_slot-on s (Some given) h fact = writer_on s given h fact
 
   begins_on : (s : Serving) (slot : ℕ) → ServingHolds told s → Goes (begins_slot s slot)
   unfolding begins_slot

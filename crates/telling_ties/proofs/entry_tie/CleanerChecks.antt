@@ -44,10 +44,10 @@ module _ (told : Told) where
   -- ---- one block
 
   fate_live : (block : BlockId) (entry : Entry) (fate : Fate) → told block entry → FateTold told block fate → FateTold told block (after_live entry fate)
-  fate_live block entry (Asked value) is h = record { before = entry; before_told = is; moved = refl }
-  fate_live block entry (Live e value) is h = h
-  fate_live block entry Moved is h = tt
-  fate_live block entry Dead is h = tt
+  fate_live block entry (Asked value) fact h = record { before = entry; before_told = fact; moved = refl }
+  fate_live block entry (Live e value) fact h = h
+  fate_live block entry Moved fact h = tt
+  fate_live block entry Dead fact h = tt
 
   fate_dead : (block : BlockId) (fate : Fate) → FateTold told block fate → FateTold told block (after_dead fate)
   fate_dead block (Asked value) h = tt
@@ -62,9 +62,9 @@ module _ (told : Told) where
   fate_moved block Dead = tt
 
   pub live_told : (block : BlockId) (entry : Entry) (c : Check) → told block entry → CheckTold told c → CheckTold told (live_at block entry c)
-  live_told block entry c is h =
+  live_told block entry c fact h =
       by_test (CheckTold told) (same_block c.block block) (record c { fate = after_live entry c.fate }) c
-      (λ t. fate_live c.block entry c.fate (subst (λ b. told b entry) (same_block_exact c.block block t) is) h) (λ t. h)
+      (λ t. fate_live c.block entry c.fate (subst (λ b. told b entry) (same_block_exact c.block block t) fact) h) (λ t. h)
 
   pub dead_told : (block : BlockId) (c : Check) → CheckTold told c → CheckTold told (dead_at block c)
   dead_told block c h =
@@ -85,8 +85,8 @@ module _ (told : Told) where
 
   all_begun : (number : ℕ) (items : List Item) → Checks (checks_from number items)
   all_begun number [] = tt
-  all_begun number (i ∷ is) =
-      all_append (CheckTold told) (check_of number i) (checks_from (number + 1) is) (one_begun number i) (all_begun (number + 1) is)
+  all_begun number (i ∷ fact) =
+      all_append (CheckTold told) (check_of number i) (checks_from (number + 1) fact) (one_begun number i) (all_begun (number + 1) fact)
 
   -- ---- the segment in hand
 
@@ -202,20 +202,20 @@ module _ (told : Told) where
 
   pub cleaning_so : (s : CleaningState) (i : In) → InputTold i → CheckingTold told s.phase → CheckingTold told (transition s i).state.phase
   unfolding on_welcome on_promise on_usage on_live on_dead
-  cleaning_so s (input.Welcome slots groups) is h =
+  cleaning_so s (input.Welcome slots groups) fact h =
       by_test KeepsOn (is_greeting s.phase && (length slots == 8)) (welcomed s slots groups) (still s) (λ t. tt) (λ t. h)
-  cleaning_so s (input.Promise slot epoch) is h =
+  cleaning_so s (input.Promise slot epoch) fact h =
       by_test KeepsOn (is_above s.promised slot epoch) _ (still s) (λ t. forgetting_keeps slot s.phase h) (λ t. h)
-  cleaning_so s (input.Maps groups) is h = mapped_keeps groups s.phase h
-  cleaning_so s (input.Listed server held) is h = listed_keeps server held s.phase h
-  cleaning_so s (input.Usage slot epoch counts) is h =
+  cleaning_so s (input.Maps groups) fact h = mapped_keeps groups s.phase h
+  cleaning_so s (input.Listed server held) fact h = listed_keeps server held s.phase h
+  cleaning_so s (input.Usage slot epoch counts) fact h =
       by_test KeepsOn (is_promised s.promised slot epoch) _ (still s) (λ t. counted_keeps s.count slot counts s.phase h) (λ t. h)
-  cleaning_so s (input.Read read) is h = read_keeps read s.phase h
-  cleaning_so s (input.Live block epoch entry) is h =
+  cleaning_so s (input.Read read) fact h = read_keeps read s.phase h
+  cleaning_so s (input.Live block epoch entry) fact h =
       by_test KeepsOn (is_heard s.promised block epoch && may_move entry) _ (still s)
-      (λ t. answered_keeps (live_at block entry) (λ c here. live_told block entry c is here) s.phase h) (λ t. h)
-  cleaning_so s (input.Dead block epoch) is h =
+      (λ t. answered_keeps (live_at block entry) (λ c here. live_told block entry c fact here) s.phase h) (λ t. h)
+  cleaning_so s (input.Dead block epoch) fact h =
       by_test KeepsOn (is_heard s.promised block epoch) _ (still s) (λ t. answered_keeps (dead_at block) (λ c here. dead_told block c here) s.phase h) (λ t. h)
-  cleaning_so s input.Moved is h = moved_keeps s.phase h
-  cleaning_so s (input.Deleted server name) is h = deleted_keeps server name s.phase h
-  cleaning_so s input.Tick is h = h
+  cleaning_so s input.Moved fact h = moved_keeps s.phase h
+  cleaning_so s (input.Deleted server name) fact h = deleted_keeps server name s.phase h
+  cleaning_so s input.Tick fact h = h

@@ -143,8 +143,8 @@ module _ (told : Told) (done : List Act) where
 
   block_put : (e : Emptying) (one : BlockId × Entry × Option (List ℕ)) → BlockMoved told one → At e → Goes (puts_block e one)
   unfolding puts_block
-  block_put e one is h =
-      put_so e (log_in.Put one.0 one.1 one.2) h (put_moves told e.log one.0 (record { entry = one.1; value = one.2 }) is h.log)
+  block_put e one fact h =
+      put_so e (log_in.Put one.0 one.1 one.2) h (put_moves told e.log one.0 (record { entry = one.1; value = one.2 }) fact h.log)
 
   blocks_moved : (e : Emptying) (blocks : List (BlockId × Entry × Option (List ℕ))) → AllByRecursion (BlockMoved told) blocks → At e → Goes (moves e blocks)
   unfolding moves
@@ -171,31 +171,31 @@ module _ (told : Told) (done : List Act) where
 
   job_says : (e : Emptying) (o : Out) → OutMoved told o → At e → Goes (says e o)
   unfolding says
-  job_says e out.Hello is h = maps_asked e e.job h.job h
-  job_says e (out.List server) is h = list_asked e e.job server h.job h
-  job_says e (out.UsageAsk slot) is h = usage_asked e e.job slot h.job h
-  job_says e (out.Fetch seg) is h = read_begun e seg h
-  job_says e (out.Check block place) is h = check_asked e block place h
-  job_says e (out.Move blocks) is h = blocks_moved e blocks is h
-  job_says e (out.Delete server name) is h = segment_deleted e e.job server name h.job h
-  job_says e (out.Finished count) is h = job_over e count h
+  job_says e out.Hello fact h = maps_asked e e.job h.job h
+  job_says e (out.List server) fact h = list_asked e e.job server h.job h
+  job_says e (out.UsageAsk slot) fact h = usage_asked e e.job slot h.job h
+  job_says e (out.Fetch seg) fact h = read_begun e seg h
+  job_says e (out.Check block place) fact h = check_asked e block place h
+  job_says e (out.Move blocks) fact h = blocks_moved e blocks fact h
+  job_says e (out.Delete server name) fact h = segment_deleted e e.job server name h.job h
+  job_says e (out.Finished count) fact h = job_over e count h
 
   -- ---- the job takes an input
 
   took : (e : Emptying) (job : Option Job) (given : Input) → InputTold told given → JobTold told job → At e → At (takes_in e job given).state
-  took e None given is held h = h
-  took e (Some job) given is held h = record { job = cleaning_so told job.cleaning given is held; feed = h.feed; log = h.log }
+  took e None given fact held h = h
+  took e (Some job) given fact held h = record { job = cleaning_so told job.cleaning given fact held; feed = h.feed; log = h.log }
 
   gave : (e : Emptying) (job : Option Job) (given : Input) → InputTold told given → JobTold told job
       → AllByRecursion (OutMoved told) (takes_in e job given).outs
-  gave e None given is held = tt
-  gave e (Some job) given is held = cleaning_gives told job.cleaning given is held
+  gave e None given fact held = tt
+  gave e (Some job) given fact held = cleaning_gives told job.cleaning given fact held
 
   pub job_goes_on : (e : Emptying) (given : Input) → InputTold told given → At e → Goes (cleans e given)
   unfolding cleans job_takes
-  job_goes_on e given is h =
-      frames.goes_each told done At (OutMoved told) says job_says (takes_in e e.job given).state (takes_in e e.job given).outs (gave e e.job given is h.job)
-      (took e e.job given is h.job h)
+  job_goes_on e given fact h =
+      frames.goes_each told done At (OutMoved told) says job_says (takes_in e e.job given).state (takes_in e e.job given).outs (gave e e.job given fact h.job)
+      (took e e.job given fact h.job h)
 
   -- ---- what comes for it
 
@@ -214,9 +214,9 @@ module _ (told : Told) (done : List Act) where
 
   pub live_came : (e : Emptying) (m : Live) → told m.block m.entry → At e → Goes (on_live e m)
   unfolding on_live
-  live_came e m is h =
+  live_came e m fact h =
       by_test (λ (d : Done). Goes d) (is_out (check_of (hand_of e.job) m.block) m.ask) (cleans e (input.Live m.block m.epoch m.entry)) (still e)
-      (λ t. job_goes_on e (input.Live m.block m.epoch m.entry) is h) (λ t. stays e h)
+      (λ t. job_goes_on e (input.Live m.block m.epoch m.entry) fact h) (λ t. stays e h)
 
   pub dead_came : (e : Emptying) (m : Dead) → At e → Goes (on_dead e m)
   unfolding on_dead

@@ -194,21 +194,21 @@ module _ (told : Told) where
 
   pub cleaning_gives : (s : CleaningState) (i : In) → InputTold told i → CheckingTold told s.phase → AllByRecursion (OutMoved told) (transition s i).outs
   unfolding on_welcome on_promise on_usage on_live on_dead
-  cleaning_gives s (input.Welcome slots groups) is h =
+  cleaning_gives s (input.Welcome slots groups) fact h =
       by_test GivesOn (is_greeting s.phase && (length slots == 8)) (welcomed s slots groups) (still s) (λ t. lists_out (begun slots groups).awaited) (λ t. tt)
-  cleaning_gives s (input.Promise slot epoch) is h =
+  cleaning_gives s (input.Promise slot epoch) fact h =
       by_test GivesOn (is_above s.promised slot epoch) _ (still s) (λ t. forgetting_gives slot s.phase) (λ t. tt)
-  cleaning_gives s (input.Maps groups) is h = tt
-  cleaning_gives s (input.Listed server held) is h = listed_gives server held s.phase
-  cleaning_gives s (input.Usage slot epoch counts) is h =
+  cleaning_gives s (input.Maps groups) fact h = tt
+  cleaning_gives s (input.Listed server held) fact h = listed_gives server held s.phase
+  cleaning_gives s (input.Usage slot epoch counts) fact h =
       by_test GivesOn (is_promised s.promised slot epoch) _ (still s) (λ t. counted_gives s.count slot counts s.phase) (λ t. tt)
-  cleaning_gives s (input.Read read) is h = read_gives read s.phase
-  cleaning_gives s (input.Live block epoch entry) is h =
+  cleaning_gives s (input.Read read) fact h = read_gives read s.phase
+  cleaning_gives s (input.Live block epoch entry) fact h =
       by_test GivesOn (is_heard s.promised block epoch && may_move entry) _ (still s)
-      (λ t. answered_gives (live_at block entry) (λ c here. live_told told block entry c is here) s.phase h) (λ t. tt)
-  cleaning_gives s (input.Dead block epoch) is h =
+      (λ t. answered_gives (live_at block entry) (λ c here. live_told told block entry c fact here) s.phase h) (λ t. tt)
+  cleaning_gives s (input.Dead block epoch) fact h =
       by_test GivesOn (is_heard s.promised block epoch) _ (still s) (λ t. answered_gives (dead_at block) (λ c here. dead_told told block c here) s.phase h)
       (λ t. tt)
-  cleaning_gives s input.Moved is h = moved_gives s.phase
-  cleaning_gives s (input.Deleted server name) is h = deleted_gives server name s.phase
-  cleaning_gives s input.Tick is h = awaits_out s.phase
+  cleaning_gives s input.Moved fact h = moved_gives s.phase
+  cleaning_gives s (input.Deleted server name) fact h = deleted_gives server name s.phase
+  cleaning_gives s input.Tick fact h = awaits_out s.phase

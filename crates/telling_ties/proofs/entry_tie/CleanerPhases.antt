@@ -168,15 +168,15 @@ module _ (told : Told) (done : List Act) where
 
   heard : (p : Phase) (packet : Packet) → BodyTold told packet.body → PhaseSo p → PhaseOwed told done p → Goes (hears p packet)
   unfolding hears
-  heard (Down l) packet is h owed = stays (Down l) tt
-  heard (Opening l o) packet is h owed =
+  heard (Down l) packet fact h owed = stays (Down l) tt
+  heard (Opening l o) packet fact h owed =
       opened l (opening.on_packet o l.questions packet) (events.packet_goes told done (LogMoves told) opening_log o l.questions packet owed (kept o.stage h))
-  heard (Serving e) packet is h owed = serves (on_packet e packet) (packet_heard told done e packet is h owed)
+  heard (Serving e) packet fact h owed = serves (on_packet e packet) (packet_heard told done e packet fact h owed)
 
   delivered : (peers : Peers) (p : Phase) (packet : Packet) → BodyTold told packet.body → PhaseSo p → PhaseOwed told done p → Goes (on_deliver peers p packet)
   unfolding on_deliver
-  delivered peers p packet is h owed =
-      by_test (λ (x : Went_to). Goes x) (is_well_formed peers packet) (hears p packet) (still p) (λ t. heard p packet is h owed) (λ t. stays p h)
+  delivered peers p packet fact h owed =
+      by_test (λ (x : Went_to). Goes x) (is_well_formed peers packet) (hears p packet) (still p) (λ t. heard p packet fact h owed) (λ t. stays p h)
 
   passed : (p : Phase) → PhaseSo p → PhaseOwed told done p → Goes (on_time p)
   unfolding on_time
@@ -186,13 +186,13 @@ module _ (told : Told) (done : List Act) where
   passed (Serving e) h owed = serves (on_tick e) (time_passes told done e h)
 
   all_events : (peers : Peers) (p : Phase) (what : Do) → DoTold told what → PhaseSo p → PhaseOwed told done p → Goes (happens peers p what)
-  all_events peers p Begin is h owed = item_begun peers.servers p h
-  all_events peers p (Deliver packet) is h owed = delivered peers p packet is h owed
-  all_events peers p Tick is h owed = passed p h owed
+  all_events peers p Begin fact h owed = item_begun peers.servers p h
+  all_events peers p (Deliver packet) fact h owed = delivered peers p packet fact h owed
+  all_events peers p Tick fact h owed = passed p h owed
 
   taken_so : (peers : Peers) (p : Phase) (what : Do) → DoTold told what → PhaseSo p → PhaseOwed told done p → Goes (takes peers p what)
-  taken_so peers p what is h owed =
-      by_test (λ (x : Went_to). Goes x) (phase_room p) (happens peers p what) (still p) (λ t. all_events peers p what is h owed) (λ t. stays p h)
+  taken_so peers p what fact h owed =
+      by_test (λ (x : Went_to). Goes x) (phase_room p) (happens peers p what) (still p) (λ t. all_events peers p what fact h owed) (λ t. stays p h)
 
   stands : (p : Phase) → PhaseHolds told p → PhaseSo p
   stands (Down l) h = tt
@@ -209,15 +209,15 @@ module _ (told : Told) (done : List Act) where
 -- of any entries that are told
 pub any_cleaner_tells : (told : Told) (cleaner : Cleaner) (what : Do) → CleanerHolds told cleaner → DoTold told what
     → CleanerOwed told cleaner what (cleaner_step cleaner what).acts → TellsTold (CleanerHolds told) told (cleaner_step cleaner what)
-any_cleaner_tells told cleaner what h is owed =
+any_cleaner_tells told cleaner what h fact owed =
     let w : Went_to = takes cleaner.peers cleaner.phase what in
     let done : List Act = (cleaner_step cleaner what).acts in
-    let went = taken_so told done cleaner.peers cleaner.phase what is (stands told done cleaner.phase h) owed
+    let went = taken_so told done cleaner.peers cleaner.phase what fact (stands told done cleaner.phase h) owed
     (frames.acts_acted told done TheCleaner w.outs (contains_all done)) in
     record { node = holds told done w.state went.0; packets = frames.packets_tell told done TheCleaner w.outs went.1 }
 
 pub cleaner_tells : CleanerTellsTold
-cleaner_tells rows cleaner what h is owed = any_cleaner_tells (told_by rows) cleaner what h is owed
+cleaner_tells rows cleaner what h fact owed = any_cleaner_tells (told_by rows) cleaner what h fact owed
 
 pub cleaner_starts : CleanerStartsTold
 cleaner_starts rows setup works = record { job = tt; feed = tt; log = record { waits = tt; flight = tt } }

@@ -253,26 +253,26 @@ module _ (told : Told) (done : List Act) where
   -- ---- packets and time
 
   body_heard : (e : Emptying) (from : NodeId) (said : Body) → BodyTold told said → At e → Owed e → Goes (on_body e from said)
-  body_heard e from (body.MapNews m) is h owed = news_heard e m h owed
-  body_heard e from (body.Welcome m) is h owed = welcome_heard e m h owed
-  body_heard e from (body.Poll m) is h owed = poll_heard e from m h
-  body_heard e from (body.DeltaAck m) is h owed = acknowledged e m h
-  body_heard e from (body.Stored m) is h owed =
+  body_heard e from (body.MapNews m) fact h owed = news_heard e m h owed
+  body_heard e from (body.Welcome m) fact h owed = welcome_heard e m h owed
+  body_heard e from (body.Poll m) fact h owed = poll_heard e from m h
+  body_heard e from (body.DeltaAck m) fact h owed = acknowledged e m h
+  body_heard e from (body.Stored m) fact h owed =
       log_takes e (log_in.Acked m.name m.index m.generation) h (acked_moves told e.log m.name m.index m.generation h.log) owed
-  body_heard e from (body.Listed m) is h owed = jobs.list_came told done e (server_in from) m h
-  body_heard e from (body.Usage m) is h owed = jobs.usage_came told done e m h
-  body_heard e from (body.Fragment m) is h owed = jobs.told_came told done e (server_in from) m.ask (answered.Held m.fragment) h
-  body_heard e from (body.Missing m) is h owed = jobs.told_came told done e (server_in from) m.ask (answered.Missing m.generation) h
-  body_heard e from (body.Live m) is h owed = jobs.live_came told done e m is h
-  body_heard e from (body.Dead m) is h owed = jobs.dead_came told done e m h
-  body_heard e from (body.Deleted m) is h owed = jobs.deleted_came told done e (server_in from) m h
-  body_heard e from _ is h owed = stays e h
+  body_heard e from (body.Listed m) fact h owed = jobs.list_came told done e (server_in from) m h
+  body_heard e from (body.Usage m) fact h owed = jobs.usage_came told done e m h
+  body_heard e from (body.Fragment m) fact h owed = jobs.told_came told done e (server_in from) m.ask (answered.Held m.fragment) h
+  body_heard e from (body.Missing m) fact h owed = jobs.told_came told done e (server_in from) m.ask (answered.Missing m.generation) h
+  body_heard e from (body.Live m) fact h owed = jobs.live_came told done e m fact h
+  body_heard e from (body.Dead m) fact h owed = jobs.dead_came told done e m h
+  body_heard e from (body.Deleted m) fact h owed = jobs.deleted_came told done e (server_in from) m h
+  body_heard e from _ fact h owed = stays e h
 
   pub packet_heard : (e : Emptying) (packet : Packet) → BodyTold told packet.body → At e → FlightOwed told done cleaner_log e.log → Goes (on_packet e packet)
   unfolding on_packet
-  packet_heard e packet is h owed =
+  packet_heard e packet fact h owed =
       by_test (λ (d : Done). Goes d) (names_known e.maps packet.body) (on_body e packet.from packet.body) (asks_for_maps e)
-      (λ t. body_heard e packet.from packet.body is h owed)
+      (λ t. body_heard e packet.from packet.body fact h owed)
       (λ t. jobs.at_once told done (asks_for_maps e).state (asks_for_maps e).outs h (tt, tt))
 
   pub time_passes : (e : Emptying) → At e → Goes (on_tick e)

@@ -9,12 +9,12 @@ use Rattle.client_parts.specs.declared.call.Going.{Going}
 use Rattle.client_parts.specs.declared.lasting.Lasting.{Lasting}
 use Rattle.client_parts.specs.Lasting.{next_life}
 use Rattle.client_parts.specs.Reads.{reading_in}
-use Rattle.client_serving.specs.Crash.{falls}
+use Rattle.client_node.specs.Crash.{falls}
 use Rattle.client_serving.specs.declared.serving.Serving.{Serving}
 use Rattle.client_serving.specs.Flights.{held_at}
-use Rattle.client_serving.specs.Opens.{begins_call, call_at, opens}
+use Rattle.client_calls.specs.Opens.{begins_call, call_at, opens}
 use Rattle.client_serving.specs.Packets as packets
-use Rattle.client_serving.specs.Running.{goes_on}
+use Rattle.client_calls.specs.Running.{goes_on}
 use Rattle.client_serving.specs.Sends.{Done, gives}
 use Rattle.log_owner.specs.declared.opened.Opened.{Opened}
 use Rattle.log_owner.specs.declared.opened.Progress.{Progress}
@@ -134,10 +134,10 @@ module _ (told : Told) (done : List Act) where
 
   begins_so : (s : Serving) (number : ℕ) (going : Option Going) → CallTold told going → tokens.At told done s
       → tokens.Goes told done (begins_call s number going)
-  begins_so s number None is h = tokens.plain_so told done s (Answers number answer.Done ∷ []) h (tt, tt)
-  begins_so s number (Some x) is h =
+  begins_so s number None fact h = tokens.plain_so told done s (Answers number answer.Done ∷ []) h (tt, tt)
+  begins_so s number (Some x) fact h =
       let t : Serving = record s { lasting = record s.lasting { items = waiting s.lasting.items number } } in
-      serving.runs_after told done (goes_on t x) (calls.goes_on_so told done t x is h)
+      serving.runs_after told done (goes_on t x) (calls.goes_on_so told done t x fact h)
 
   call_begun : (s : Serving) (number : ℕ) (wanted : Option Work) → CallTold told (call_at s number wanted)
   call_begun s number None = tt
@@ -186,18 +186,18 @@ module _ (told : Told) (done : List Act) where
   on_deliver_so : (capacity : ℕ) (p : Phase) (packet : Packet) → BodyTold told packet.body → PhaseSo p → PhaseOwed told done p
       → Goes (on_deliver capacity p packet)
   unfolding on_deliver
-  on_deliver_so capacity (Down l) packet is h owed = still_so (Down l) h
-  on_deliver_so capacity (Opening l o) packet is h owed =
+  on_deliver_so capacity (Down l) packet fact h owed = still_so (Down l) h
+  on_deliver_so capacity (Opening l o) packet fact h owed =
       opened_on_so l capacity (opening.on_packet o l.questions packet)
       (events.packet_goes told done AnyLog any_log o l.questions packet owed (any_stage o.stage))
-  on_deliver_so capacity (Serves s) packet is h owed =
-      serves_so (serving.and_runs told done (packets.on_packet s packet)) (serving.packet_so told done s packet is h owed)
+  on_deliver_so capacity (Serves s) packet fact h owed =
+      serves_so (serving.and_runs told done (packets.on_packet s packet)) (serving.packet_so told done s packet fact h owed)
 
   delivers_so : (peers : Peers) (capacity : ℕ) (p : Phase) (packet : Packet) → BodyTold told packet.body → PhaseSo p → PhaseOwed told done p
       → Goes (delivers peers capacity p packet)
-  delivers_so peers capacity p packet is h owed =
+  delivers_so peers capacity p packet fact h owed =
       by_test (λ (x : Went_to). Goes x) (is_well_formed peers packet) (on_deliver capacity p packet) (still p)
-      (λ t. on_deliver_so capacity p packet is h owed) (λ t. still_so p h)
+      (λ t. on_deliver_so capacity p packet fact h owed) (λ t. still_so p h)
 
   on_time_so : (capacity : ℕ) (p : Phase) → PhaseSo p → PhaseOwed told done p → Goes (on_time capacity p)
   unfolding on_time
@@ -207,13 +207,13 @@ module _ (told : Told) (done : List Act) where
   on_time_so capacity (Serves s) h owed = serves_so (serving.and_runs told done (packets.on_tick s)) (serving.time_so told done s h)
 
   happens_so : (client : Client) (what : Do) → DoTold told what → PhaseSo client.phase → PhaseOwed told done client.phase → Goes (happens client what)
-  happens_so client Begin is h owed = on_begin_so client.peers.servers client.phase h
-  happens_so client (Deliver packet) is h owed = delivers_so client.peers client.cache client.phase packet is h owed
-  happens_so client Tick is h owed = on_time_so client.cache client.phase h owed
+  happens_so client Begin fact h owed = on_begin_so client.peers.servers client.phase h
+  happens_so client (Deliver packet) fact h owed = delivers_so client.peers client.cache client.phase packet fact h owed
+  happens_so client Tick fact h owed = on_time_so client.cache client.phase h owed
 
   takes_so : (client : Client) (what : Do) → DoTold told what → PhaseSo client.phase → PhaseOwed told done client.phase → Goes (takes client what)
-  takes_so client what is h owed =
-      by_test (λ (x : Went_to). Goes x) (client_room client) (happens client what) (still client.phase) (λ t. happens_so client what is h owed)
+  takes_so client what fact h owed =
+      by_test (λ (x : Went_to). Goes x) (client_room client) (happens client what) (still client.phase) (λ t. happens_so client what fact h owed)
       (λ t. still_so client.phase h)
 
   stands : (p : Phase) → PhaseHolds told p → PhaseSo p
@@ -231,15 +231,15 @@ module _ (told : Told) (done : List Act) where
 -- of any entries that are told
 pub any_client_tells : (told : Told) (client : Client) (what : Do) → ClientHolds told client → DoTold told what
     → ClientOwed told client what (client_step client what).acts → TellsTold (ClientHolds told) told (client_step client what)
-any_client_tells told client what h is owed =
+any_client_tells told client what h fact owed =
     let w : Went_to = takes client what in
     let done : List Act = (client_step client what).acts in
-    let went = takes_so told done client what is (stands told done client.phase h) owed
+    let went = takes_so told done client what fact (stands told done client.phase h) owed
     (frames.acts_acted told done (AClient (lasting_of client.phase).number) w.outs (contains_all done)) in
     record { node = holds told done w.state went.0; packets = frames.packets_tell told done (AClient (lasting_of client.phase).number) w.outs went.1 }
 
 pub clients_tell : ClientsTellTold
-clients_tell rows client what h is owed = any_client_tells (told_by rows) client what h is owed
+clients_tell rows client what h fact owed = any_client_tells (told_by rows) client what h fact owed
 
 pub client_starts : ClientStartsTold
 client_starts rows number setup works = record { fetches = λ block. tt; feed = tt; reading = tt }

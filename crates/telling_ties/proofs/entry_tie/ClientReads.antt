@@ -64,12 +64,12 @@ module _ (told : Told) where
   AllOut d = AllByRecursion OutTold d.outs
 
   a_want : (o : Out) → IsWant o → OutTold o
-  a_want (output.Want block req again mode) is = tt
-  a_want (output.Gave block stamp) is = tt
-  a_want (output.Flush block) is = tt
-  a_want (output.Read block place) is = absurd is
-  a_want (output.Ready block) is = tt
-  a_want (output.Supply block ver value) is = tt
+  a_want (output.Want block req again mode) fact = tt
+  a_want (output.Gave block stamp) fact = tt
+  a_want (output.Flush block) fact = tt
+  a_want (output.Read block place) fact = absurd fact
+  a_want (output.Ready block) fact = tt
+  a_want (output.Supply block ver value) fact = tt
 
   pub wants_told : (outs : List Out) → AllByRecursion IsWant outs → AllByRecursion OutTold outs
   wants_told outs all = all_weaker IsWant OutTold a_want outs all
@@ -88,17 +88,17 @@ module _ (told : Told) where
     hop = hop;
     place = place;
   }) → OutTold (copy_next block place)
-  copy_out block ver hop None is = tt
-  copy_out block ver hop (Some place) is = record { ver = ver; there = record { hop = hop; place_told = is } }
+  copy_out block ver hop None fact = tt
+  copy_out block ver hop (Some place) fact = record { ver = ver; there = record { hop = hop; place_told = fact } }
 
   granted_out : (s : TokensState) (block : BlockId) (stamp : Stamp) (inc req : ℕ) (mode : Mode) (entry : Entry) → told block entry
       → AllOut (on_granted s block stamp inc req mode entry)
   unfolding on_granted
-  granted_out s block stamp inc req mode entry is =
+  granted_out s block stamp inc req mode entry fact =
       by_test AllOut (accepts s block stamp inc req mode) _ (still s)
       (λ _. (
         by_test OutTold (is_own mode) (output.Ready block) (copy_next block entry.place) (λ _. tt)
-            (λ _. copy_out block entry.ver entry.hop entry.place is),
+            (λ _. copy_out block entry.ver entry.hop entry.place fact),
         tt,
       ))
       (λ _. tt)
@@ -166,20 +166,20 @@ module _ (told : Told) where
 
   pub tokens_say : (s : TokensState) (i : In) → InputTold told i → AllByRecursion OutTold (transition s i).outs
   unfolding on_wrote on_settled on_fetched on_evict on_reask on_quit on_tick
-  tokens_say s (input.Need block mode) is = need_out s block mode
-  tokens_say s (input.Granted block stamp inc req mode entry) is = granted_out s block stamp inc req mode entry is
-  tokens_say s (input.Supplied block stamp inc req ver value) is = supplied_out s block stamp inc req ver value
-  tokens_say s (input.Forwarded block stamp ver) is = forwarded_out s block stamp ver
-  tokens_say s (input.Recalled block stamp keep) is = on_recalled_out s block stamp keep
-  tokens_say s (input.Wrote block value) is = by_test AllOut (may_write (held_of s.blocks block)) _ (still s) (λ _. tt) (λ _. tt)
-  tokens_say s (input.Settled block ver) is = by_test AllOut (is_settled_by (held_of s.blocks block) ver) _ (still s) (λ _. tt) (λ _. tt)
-  tokens_say s (input.Fetched block value) is = by_test AllOut (may_end_fetch (held_of s.blocks block)) _ (still s) (λ _. (tt, tt)) (λ _. tt)
-  tokens_say s (input.Evict block) is = by_test AllOut (may_evict (held_of s.blocks block)) _ (still s) (λ _. tt) (λ _. tt)
-  tokens_say s (input.Reask block) is =
+  tokens_say s (input.Need block mode) fact = need_out s block mode
+  tokens_say s (input.Granted block stamp inc req mode entry) fact = granted_out s block stamp inc req mode entry fact
+  tokens_say s (input.Supplied block stamp inc req ver value) fact = supplied_out s block stamp inc req ver value
+  tokens_say s (input.Forwarded block stamp ver) fact = forwarded_out s block stamp ver
+  tokens_say s (input.Recalled block stamp keep) fact = on_recalled_out s block stamp keep
+  tokens_say s (input.Wrote block value) fact = by_test AllOut (may_write (held_of s.blocks block)) _ (still s) (λ _. tt) (λ _. tt)
+  tokens_say s (input.Settled block ver) fact = by_test AllOut (is_settled_by (held_of s.blocks block) ver) _ (still s) (λ _. tt) (λ _. tt)
+  tokens_say s (input.Fetched block value) fact = by_test AllOut (may_end_fetch (held_of s.blocks block)) _ (still s) (λ _. (tt, tt)) (λ _. tt)
+  tokens_say s (input.Evict block) fact = by_test AllOut (may_evict (held_of s.blocks block)) _ (still s) (λ _. tt) (λ _. tt)
+  tokens_say s (input.Reask block) fact =
       by_test AllOut (is_some (held_of s.blocks block).fetch) (new_want s block Copy) (still s) (λ _. new_want_out s block Copy) (λ _. tt)
-  tokens_say s (input.Quit block) is = by_test AllOut (is_asking (held_of s.blocks block)) _ (still s) (λ _. tt) (λ _. tt)
-  tokens_say s (input.Promise slot epoch) is = wants_told (transition s (input.Promise slot epoch)).outs (promise_wants s slot epoch)
-  tokens_say s input.Tick is =
+  tokens_say s (input.Quit block) fact = by_test AllOut (is_asking (held_of s.blocks block)) _ (still s) (λ _. tt) (λ _. tt)
+  tokens_say s (input.Promise slot epoch) fact = wants_told (transition s (input.Promise slot epoch)).outs (promise_wants s slot epoch)
+  tokens_say s input.Tick fact =
       by_test AllOut (list_any (λ h. is_spent h.want) (values_of s.blocks)) (still s) (steps ask_again s (wanted_in s.blocks)) (λ _. tt)
       (λ _. all_asked_again s (wanted_in s.blocks))
 
@@ -190,46 +190,46 @@ module _ (told : Told) where
   ReadTold r = BlockTold told r.target.seg r.target.block
 
   read_as_told : (r : ReadingState) (found : Option Segment) → ReadTold r → ReadTold (read_as r found).state
-  read_as_told r None is = is
-  read_as_told r (Some s) is = is
+  read_as_told r None fact = fact
+  read_as_told r (Some s) fact = fact
 
   judged_told : (r : ReadingState) (groups : GroupMapState) (now : RoundState) → ReadTold r → ReadTold (judged r groups now).state
-  judged_told r groups (rounds.Read bytes) is = read_as_told r _ is
-  judged_told r groups (rounds.Short pairs) is = is
-  judged_told r groups rounds.Waiting is = is
+  judged_told r groups (rounds.Read bytes) fact = read_as_told r _ fact
+  judged_told r groups (rounds.Short pairs) fact = fact
+  judged_told r groups rounds.Waiting fact = fact
 
   answered_told : (r : ReadingState) (groups : GroupMapState) (ask server : ℕ) (t : Answered) → ReadTold r → ReadTold (on_answer r groups ask server t).state
   unfolding on_answer
-  answered_told r groups ask server t is =
+  answered_told r groups ask server t fact =
       by_test (λ (x : Step). ReadTold x.state) (counts r ask server t)
       (judged (record r { round = taken r.round server t }) groups (state_of (taken r.round server t))) (record { state = r; next = next.Wait })
-      (λ _. judged_told (record r { round = taken r.round server t }) groups (state_of (taken r.round server t)) is) (λ _. is)
+      (λ _. judged_told (record r { round = taken r.round server t }) groups (state_of (taken r.round server t)) fact) (λ _. fact)
 
   goes_on_told : (r : ReadingState) (ask : ℕ) (stage : Stage) → ReadTold r → ReadTold (goes_on r ask stage).state
-  goes_on_told r ask Asking is = is
-  goes_on_told r ask Between is = is
-  goes_on_told r ask Doubted is = is
-  goes_on_told r ask Over is = is
+  goes_on_told r ask Asking fact = fact
+  goes_on_told r ask Between fact = fact
+  goes_on_told r ask Doubted fact = fact
+  goes_on_told r ask Over fact = fact
 
   pub confirmed_told : (r : ReadingState) (ask : ℕ) → ReadTold r → ReadTold (on_confirmed r ask).state
   unfolding on_confirmed
-  confirmed_told r ask is = goes_on_told r ask r.stage is
+  confirmed_told r ask fact = goes_on_told r ask r.stage fact
 
   -- ---- the reading of the open call
 
   pub call_told : (call : Option Call) (r : Option ReadingState) → ReadingTold told r → ReadingTold told (reading_in (call_with call r))
-  call_told None r is = tt
-  call_told (Some call) r is = is
+  call_told None r fact = tt
+  call_told (Some call) r fact = fact
 
   pub kept_told : (tokens : TokensState) (r : Option ReadingState) → ReadingTold told r → ReadingTold told (kept_while tokens r)
-  kept_told tokens None is = tt
-  kept_told tokens (Some r) is = by_test (ReadingTold told) (is_fetched tokens r.target.block) (Some r) None (λ _. is) (λ _. tt)
+  kept_told tokens None fact = tt
+  kept_told tokens (Some r) fact = by_test (ReadingTold told) (is_fetched tokens r.target.block) (Some r) None (λ _. fact) (λ _. tt)
 
   pub heard_told : (r : Option ReadingState) (groups : Option GroupMapState) (ask server : ℕ) (t : Answered) → ReadingTold told r
       → ReadingTold told (heard r groups ask server t).reading
-  heard_told None groups ask server t is = tt
-  heard_told (Some r) None ask server t is = is
-  heard_told (Some r) (Some groups) ask server t is = answered_told r groups ask server t is
+  heard_told None groups ask server t fact = tt
+  heard_told (Some r) None ask server t fact = fact
+  heard_told (Some r) (Some groups) ask server t fact = answered_told r groups ask server t fact
 
   -- a call that goes on reads where it is told
   abbrev pub GoingTold : Going → Type 0

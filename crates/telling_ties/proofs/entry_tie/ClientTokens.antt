@@ -48,29 +48,29 @@ module _ (told : Told) where
 
   granted_so : (h : Held) (block : BlockId) (stamp : Stamp) (ver hop : ℕ) (place : Option Place) → told block (record { ver = ver; hop = hop; place = place })
       → FetchTold told block (copy_granted h stamp ver place).fetch
-  granted_so h block stamp ver hop None is = tt
-  granted_so h block stamp ver hop (Some place) is = record { hop = hop; place_told = is }
+  granted_so h block stamp ver hop None fact = tt
+  granted_so h block stamp ver hop (Some place) fact = record { hop = hop; place_told = fact }
 
   taken_so : (h : Held) (block : BlockId) (stamp : Stamp) (mode : Mode) (entry : Entry) → told block entry
       → FetchTold told block (grant_taken h stamp mode entry).fetch
-  taken_so h block stamp mode entry is =
+  taken_so h block stamp mode entry fact =
       by_test (λ (g : Held). FetchTold told block g.fetch) (is_own mode) (owned h stamp entry.ver) (copy_granted h stamp entry.ver entry.place)
-      (λ t. tt) (λ t. granted_so h block stamp entry.ver entry.hop entry.place is)
+      (λ t. tt) (λ t. granted_so h block stamp entry.ver entry.hop entry.place fact)
 
   ended_so : (h : Held) (block : BlockId) (fetch : Option Fetch) (value : Option (List ℕ)) → FetchTold told block h.fetch
       → FetchTold told block (fetch_ended h fetch value).fetch
-  ended_so h block None value is = is
-  ended_so h block (Some fetch) value is = tt
+  ended_so h block None value fact = fact
+  ended_so h block (Some fetch) value fact = tt
 
   put_off_so : (h : Held) (block : BlockId) (stamp : Stamp) (keep : Bool) → FetchTold told block h.fetch → FetchTold told block (put_off h stamp keep).fetch
-  put_off_so h block stamp keep is =
+  put_off_so h block stamp keep fact =
       by_test (λ (g : Held). FetchTold told block g.fetch) (gives_after h.giving stamp) h (record h { giving = Some (record { stamp = stamp; keep = keep }) })
-      (λ t. is) (λ t. is)
+      (λ t. fact) (λ t. fact)
 
   given_up_so : (h : Held) (block : BlockId) (stamp : Stamp) (keep : Bool) → FetchTold told block h.fetch → FetchTold told block (given_up h stamp keep).fetch
-  given_up_so h block stamp keep is =
+  given_up_so h block stamp keep fact =
       by_test (λ (g : Held). FetchTold told block g.fetch) (keep && is_held h.mode) (record h { mode = Copy; stamp = stamp; giving = None }) _
-      (λ t. is) (λ t. is)
+      (λ t. fact) (λ t. fact)
 
   -- ---- wants
 
@@ -87,10 +87,11 @@ module _ (told : Told) where
   on_granted_so : (s : TokensState) (block : BlockId) (stamp : Stamp) (inc req : ℕ) (mode : Mode) (entry : Entry) → told block entry → FetchesTold s
       → Keeps (on_granted s block stamp inc req mode entry)
   unfolding on_granted
-  on_granted_so s block stamp inc req mode entry is all =
+  on_granted_so s block stamp inc req mode entry fact all =
       by_test Keeps (accepts s block stamp inc req mode)
       (record { state = with_held s block (grant_taken (held_of s.blocks block) stamp mode entry); outs = grant_next block mode entry.place ∷ [] }) (still s)
-      (λ t. put_so s block (grant_taken (held_of s.blocks block) stamp mode entry) (taken_so (held_of s.blocks block) block stamp mode entry is) all) (λ t. all)
+      (λ t. put_so s block (grant_taken (held_of s.blocks block) stamp mode entry) (taken_so (held_of s.blocks block) block stamp mode entry fact) all)
+      (λ t. all)
 
   supplied_so : (s : TokensState) (block : BlockId) (stamp : Stamp) (inc req ver : ℕ) (value : Option (List ℕ)) → FetchesTold s
       → Keeps (on_supplied s block stamp inc req ver value)
@@ -184,7 +185,7 @@ module _ (told : Told) where
   steps_so f each s (b ∷ bs) all = steps_so f each (f s b).state bs (each s b all)
 
   dropped_so : (slot : ℕ) (block : BlockId) (h : Held) → FetchTold told block h.fetch → FetchTold told block (dropped_in slot block h).fetch
-  dropped_so slot block h is = by_test (λ (g : Held). FetchTold told block g.fetch) (is_in_slot slot block) (promise_dropped h) h (λ t. tt) (λ t. is)
+  dropped_so slot block h fact = by_test (λ (g : Held). FetchTold told block g.fetch) (is_in_slot slot block) (promise_dropped h) h (λ t. tt) (λ t. fact)
 
   same_dropped : (slot : ℕ) (block : BlockId) → dropped_in slot block (held_of [] block) ≡ held_of [] block
   same_dropped slot block = by_test (λ (g : Held). g ≡ held_of [] block) (is_in_slot slot block) _ _ (λ t. refl) (λ t. refl)
@@ -222,19 +223,19 @@ module _ (told : Told) where
   -- ---- any input
 
   pub tokens_so : (s : TokensState) (i : In) → InputTold i → FetchesTold s → FetchesTold (transition s i).state
-  tokens_so s (input.Need block mode) is all = need_so s block mode all
-  tokens_so s (input.Granted block stamp inc req mode entry) is all = on_granted_so s block stamp inc req mode entry is all
-  tokens_so s (input.Supplied block stamp inc req ver value) is all = supplied_so s block stamp inc req ver value all
-  tokens_so s (input.Forwarded block stamp ver) is all = forwarded_so s block stamp ver all
-  tokens_so s (input.Recalled block stamp keep) is all = on_recalled_so s block stamp keep all
-  tokens_so s (input.Wrote block value) is all = wrote_so s block value all
-  tokens_so s (input.Settled block ver) is all = settled_so s block ver all
-  tokens_so s (input.Fetched block value) is all = fetched_so s block value all
-  tokens_so s (input.Evict block) is all = evict_so s block all
-  tokens_so s (input.Reask block) is all = reask_so s block all
-  tokens_so s (input.Quit block) is all = quit_so s block all
-  tokens_so s (input.Promise slot epoch) is all = promise_so s slot epoch all
-  tokens_so s input.Tick is all = tick_so s all
+  tokens_so s (input.Need block mode) fact all = need_so s block mode all
+  tokens_so s (input.Granted block stamp inc req mode entry) fact all = on_granted_so s block stamp inc req mode entry fact all
+  tokens_so s (input.Supplied block stamp inc req ver value) fact all = supplied_so s block stamp inc req ver value all
+  tokens_so s (input.Forwarded block stamp ver) fact all = forwarded_so s block stamp ver all
+  tokens_so s (input.Recalled block stamp keep) fact all = on_recalled_so s block stamp keep all
+  tokens_so s (input.Wrote block value) fact all = wrote_so s block value all
+  tokens_so s (input.Settled block ver) fact all = settled_so s block ver all
+  tokens_so s (input.Fetched block value) fact all = fetched_so s block value all
+  tokens_so s (input.Evict block) fact all = evict_so s block all
+  tokens_so s (input.Reask block) fact all = reask_so s block all
+  tokens_so s (input.Quit block) fact all = quit_so s block all
+  tokens_so s (input.Promise slot epoch) fact all = promise_so s slot epoch all
+  tokens_so s input.Tick fact all = tick_so s all
 
 -- ---- a promise only has blocks wanted again
 

@@ -32,8 +32,8 @@ all_filter P p (x ∷ xs) all =
     by_test (AllByRecursion P) (p x) (x ∷ filter p xs) (filter p xs) (λ _. (all.0, all_filter P p xs all.1)) (λ _. all_filter P p xs all.1)
 
 all_cons : {Y : Type 0} (P : Y → Type 0) (o : Option Y) (ys : List Y) → IfSome o P → AllByRecursion P ys → AllByRecursion P (cons_option o ys)
-all_cons P None ys is all = all
-all_cons P (Some y) ys is all = (is, all)
+all_cons P None ys fact all = all
+all_cons P (Some y) ys fact all = (fact, all)
 
 pub all_filter_map : {X Y : Type 0} (P : Y → Type 0) (Q : X → Type 0) (f : X → Option Y) → ((x : X) → Q x → IfSome (f x) P) → (xs : List X)
     → AllByRecursion Q xs → AllByRecursion P (filter_map f xs)

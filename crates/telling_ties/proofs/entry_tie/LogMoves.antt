@@ -62,12 +62,12 @@ module _ (told : Told) where
 
   change_told : (before : ℕ) (block : BlockId) (change : Change) → MovedTold told block change.entry
       → AllByRecursion (ItemTold told) (change_items before block change)
-  change_told before block change is =
+  change_told before block change fact =
       let version : VersionTold told block change.entry.ver change.entry.hop = record {
-        before = is.before;
-        before_told = is.before_told;
-        ver = ap (λ (e : Entry). e.ver) is.moved;
-        hop = ap (λ (e : Entry). e.hop) is.moved;
+        before = fact.before;
+        before_told = fact.before_told;
+        ver = ap (λ (e : Entry). e.ver) fact.moved;
+        hop = ap (λ (e : Entry). e.hop) fact.moved;
       } in
       elim change.value as (λ o. AllByRecursion (ItemTold told) (elim o [
         | None ↦ Delta block change.entry.ver change.entry.hop no_item ∷ []
@@ -88,7 +88,7 @@ module _ (told : Told) where
   launched_keeps : (s : LogState) (name : SegName) (prior : Prior) (items : List Item) → Waits s.dirty → AllByRecursion (ItemTold told) items
       → Keeps (launched s name prior items)
   unfolding launched
-  launched_keeps s name prior items all is = record { waits = all; flight = is }
+  launched_keeps s name prior items all fact = record { waits = all; flight = fact }
 
   sealed_keeps : (s : LogState) → Waits s.dirty → Keeps (sealed s)
   unfolding sealed
@@ -123,14 +123,14 @@ module _ (told : Told) where
 
   follows_on : (s : LogState) (f : FlightState) (fate : Fate) → Waits s.dirty → FlightMoves told f → Keeps (followed s f fate)
   unfolding restriped settled
-  follows_on s f Restripe all is = launched_keeps s (next_attempt f.segment.name) f.segment.prior f.segment.items all is
-  follows_on s f Settle all is = if_full_keeps (landed s f) (record { waits = all; flight = tt })
-  follows_on s f Wait all is = record { waits = all; flight = is }
+  follows_on s f Restripe all fact = launched_keeps s (next_attempt f.segment.name) f.segment.prior f.segment.items all fact
+  follows_on s f Settle all fact = if_full_keeps (landed s f) (record { waits = all; flight = tt })
+  follows_on s f Wait all fact = record { waits = all; flight = fact }
 
   looks_on : (before s : LogState) (f : FlightState) → LogMoves told before → Waits s.dirty → FlightMoves told f → Keeps (looked_at before s f)
   unfolding looked_at
-  looks_on before s f h all is =
-      by_test Keeps (can_follow s f (fate_of s.groups f)) (followed s f (fate_of s.groups f)) (still before) (λ t. follows_on s f (fate_of s.groups f) all is)
+  looks_on before s f h all fact =
+      by_test Keeps (can_follow s f (fate_of s.groups f)) (followed s f (fate_of s.groups f)) (still before) (λ t. follows_on s f (fate_of s.groups f) all fact)
       (λ t. h)
 
   pub acked_moves : (s : LogState) (name : SegName) (index generation : ℕ) → LogMoves told s → LogMoves told (on_acked s name index generation).state
@@ -139,9 +139,9 @@ module _ (told : Told) where
     where
       by : (o : Option FlightState) → IfSome o (FlightMoves told)
           → Keeps (elim o [ None ↦ still s | Some f ↦ cond (is_of f name index generation) (looked_at s s (noting f index)) (still s) ])
-      by None is = h
-      by (Some f) is =
-          by_test Keeps (is_of f name index generation) (looked_at s s (noting f index)) (still s) (λ t. looks_on s s (noting f index) h h.waits is) (λ t. h)
+      by None fact = h
+      by (Some f) fact =
+          by_test Keeps (is_of f name index generation) (looked_at s s (noting f index)) (still s) (λ t. looks_on s s (noting f index) h h.waits fact) (λ t. h)
 
   pub maps_move : (s : LogState) (groups : GroupMapState) → LogMoves told s → LogMoves told (on_maps s groups).state
   unfolding on_maps
@@ -149,8 +149,8 @@ module _ (told : Told) where
     where
       by : (o : Option FlightState) → IfSome o (FlightMoves told)
           → Keeps (elim o [ None ↦ still (record s { groups = groups }) | Some f ↦ looked_at s (record s { groups = groups }) f ])
-      by None is = h
-      by (Some f) is = looks_on s (record s { groups = groups }) f h h.waits is
+      by None fact = h
+      by (Some f) fact = looks_on s (record s { groups = groups }) f h h.waits fact
 
   pub tick_moves : (s : LogState) → LogMoves told s → LogMoves told (on_tick s).state
   unfolding on_tick
@@ -166,6 +166,6 @@ module _ (told : Told) where
   pub rows_move : (s : Segment) (items : List Item) → AllByRecursion (ItemTold told) items
       → AllByRecursion (λ row. VersionTold told row.0 row.1.ver row.1.hop) (filter_map (row_of s) items)
   rows_move s [] all = tt
-  rows_move s (Block block value ∷ is) all = rows_move s is all.1
-  rows_move s (Delta block ver hop item ∷ is) all = (all.0, rows_move s is all.1)
-  rows_move s (Part slot rows ∷ is) all = rows_move s is all.1
+  rows_move s (Block block value ∷ fact) all = rows_move s fact all.1
+  rows_move s (Delta block ver hop item ∷ fact) all = (all.0, rows_move s fact all.1)
+  rows_move s (Part slot rows ∷ fact) all = rows_move s fact all.1

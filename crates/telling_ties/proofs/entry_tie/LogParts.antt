@@ -56,15 +56,15 @@ module _ (told : Told) where
 
   follows_on : (s : LogState) (f : FlightState) (fate : Fate) → s.dirty ≡ [] → FlightHolds told f → Keeps (followed s f fate)
   unfolding restriped settled
-  follows_on s f Restripe clear is = launched_holds s (next_attempt f.segment.name) f.segment.prior f.segment.items clear is
-  follows_on s f Settle clear is = if_full_holds (landed s f) (record { clear = clear; flight = tt })
-  follows_on s f Wait clear is = record { clear = clear; flight = is }
+  follows_on s f Restripe clear fact = launched_holds s (next_attempt f.segment.name) f.segment.prior f.segment.items clear fact
+  follows_on s f Settle clear fact = if_full_holds (landed s f) (record { clear = clear; flight = tt })
+  follows_on s f Wait clear fact = record { clear = clear; flight = fact }
 
   looks_on : (before s : LogState) (f : FlightState) → LogHolds told before → s.dirty ≡ [] → FlightHolds told f → Keeps (looked_at before s f)
   unfolding looked_at
-  looks_on before s f h clear is =
+  looks_on before s f h clear fact =
       by_test Keeps (can_follow s f (fate_of s.groups f)) (followed s f (fate_of s.groups f)) (still before)
-      (λ t. follows_on s f (fate_of s.groups f) clear is) (λ t. h)
+      (λ t. follows_on s f (fate_of s.groups f) clear fact) (λ t. h)
 
   pub acked_holds : (s : LogState) (name : SegName) (index generation : ℕ) → LogHolds told s → LogHolds told (on_acked s name index generation).state
   unfolding on_acked
@@ -72,9 +72,9 @@ module _ (told : Told) where
     where
       by : (o : Option FlightState) → IfSome o (FlightHolds told)
           → Keeps (elim o [ None ↦ still s | Some f ↦ cond (is_of f name index generation) (looked_at s s (noting f index)) (still s) ])
-      by None is = h
-      by (Some f) is =
-          by_test Keeps (is_of f name index generation) (looked_at s s (noting f index)) (still s) (λ t. looks_on s s (noting f index) h h.clear is) (λ t. h)
+      by None fact = h
+      by (Some f) fact =
+          by_test Keeps (is_of f name index generation) (looked_at s s (noting f index)) (still s) (λ t. looks_on s s (noting f index) h h.clear fact) (λ t. h)
 
   pub maps_hold : (s : LogState) (groups : GroupMapState) → LogHolds told s → LogHolds told (on_maps s groups).state
   unfolding on_maps
@@ -82,8 +82,8 @@ module _ (told : Told) where
     where
       by : (o : Option FlightState) → IfSome o (FlightHolds told)
           → Keeps (elim o [ None ↦ still (record s { groups = groups }) | Some f ↦ looked_at s (record s { groups = groups }) f ])
-      by None is = h
-      by (Some f) is = looks_on s (record s { groups = groups }) f h h.clear is
+      by None fact = h
+      by (Some f) fact = looks_on s (record s { groups = groups }) f h h.clear fact
 
   pub tick_holds : (s : LogState) → LogHolds told s → LogHolds told (on_tick s).state
   unfolding on_tick

@@ -71,8 +71,8 @@ module _ (told : Told) (nothing : AllowsNothing told) where
 
   deltas_on : (s : Serving) (log : Option LogId) (deltas : Deltas) → ServingHolds told s → RowsTold told deltas.rows → Does (on_deltas s log deltas)
   unfolding on_deltas
-  deltas_on s None deltas h is = unmoved s h
-  deltas_on s (Some log) deltas h is = by_table s (table.on_deltas s.slots log deltas) h (table_deltas told nothing s.slots log deltas is h.slots)
+  deltas_on s None deltas h fact = unmoved s h
+  deltas_on s (Some log) deltas h fact = by_table s (table.on_deltas s.slots log deltas) h (table_deltas told nothing s.slots log deltas fact h.slots)
 
   check_on : (s : Serving) (check : Check) → ServingHolds told s → Does (on_check s check)
   unfolding on_check
@@ -95,12 +95,12 @@ module _ (told : Told) (nothing : AllowsNothing told) where
 
   -- the slot at a place is among the slots
   at_place : (P : SlotPhase → Type 0) (t : List SlotPhase) (place : ℕ) (p : SlotPhase) → AllByRecursion P t → slice_get t place ≡ Some p → P p
-  at_place P [] place p all is = cc
-  at_place P (q ∷ t) zero p all is = subst (λ (o : Option SlotPhase). IfSome o P) is all.0
-  at_place P (q ∷ t) (suc place) p all is = at_place P t place p all.1 is
+  at_place P [] place p all fact = cc
+  at_place P (q ∷ t) zero p all fact = subst (λ (o : Option SlotPhase). IfSome o P) fact all.0
+  at_place P (q ∷ t) (suc place) p all fact = at_place P t place p all.1 fact
 
   asked_in : (ask own : ℕ) (o : Option SlotPhase) (p : SlotPhase) → table.fetch_one ask o ≡ Some own → o ≡ Some p → fetch_in p ask ≡ Some own
-  asked_in ask own o p asked is = subst (λ (x : Option SlotPhase). table.fetch_one ask x ≡ Some own) is asked
+  asked_in ask own o p asked fact = subst (λ (x : Option SlotPhase). table.fetch_one ask x ≡ Some own) fact asked
 
   module _ (s : Serving) (h : ServingHolds told s) (ask : ℕ) (given : ℕ → TakeIn) where
     -- what the answer completes for who asked it says what is told
@@ -170,28 +170,28 @@ module _ (told : Told) (nothing : AllowsNothing told) where
 
   body_on : (s : Serving) (clients : ℕ) (from : NodeId) (said : Body) → ServingHolds told s → BodyTold told said → BodyOwed told s from said
       → Does (on_body s clients from said)
-  body_on s clients from (body.MapNews news) h is owed = fitting_on s clients news h
-  body_on s clients from (body.Welcome welcome) h is owed =
+  body_on s clients from (body.MapNews news) h fact owed = fitting_on s clients news h
+  body_on s clients from (body.Welcome welcome) h fact owed =
       by_test Does (welcome.inc == s.lasting.inc) (on_fitting_news s clients welcome.news) (still s) (λ _. fitting_on s clients welcome.news h)
       (λ _. unmoved s h)
-  body_on s clients from (body.Want want) h is owed = want_on s (client_in from) want h
-  body_on s clients from (body.Gave gave) h is owed = gave_on s (client_in from) gave h
-  body_on s clients from (body.Deltas deltas) h is owed = deltas_on s (fed_log from) deltas h is
-  body_on s clients from (body.Check check) h is owed = check_on s check h
-  body_on s clients from (body.UsageAsk asked) h is owed = usage_on s asked h
-  body_on s clients from (body.Report report) h is owed = report_on s from report h
-  body_on s clients from (body.Fragment found) h is owed = found_on s (server_in from) found h owed
-  body_on s clients from (body.Missing missing) h is owed = missing_on s (server_in from) missing h owed
-  body_on s clients from (body.Stored stored) h is owed = stored_on told nothing s stored h
-  body_on s clients from (body.CkptAck ack) h is owed = acks_on told nothing s ack h
-  body_on s clients from _ h is owed = unmoved s h
+  body_on s clients from (body.Want want) h fact owed = want_on s (client_in from) want h
+  body_on s clients from (body.Gave gave) h fact owed = gave_on s (client_in from) gave h
+  body_on s clients from (body.Deltas deltas) h fact owed = deltas_on s (fed_log from) deltas h fact
+  body_on s clients from (body.Check check) h fact owed = check_on s check h
+  body_on s clients from (body.UsageAsk asked) h fact owed = usage_on s asked h
+  body_on s clients from (body.Report report) h fact owed = report_on s from report h
+  body_on s clients from (body.Fragment found) h fact owed = found_on s (server_in from) found h owed
+  body_on s clients from (body.Missing missing) h fact owed = missing_on s (server_in from) missing h owed
+  body_on s clients from (body.Stored stored) h fact owed = stored_on told nothing s stored h
+  body_on s clients from (body.CkptAck ack) h fact owed = acks_on told nothing s ack h
+  body_on s clients from _ h fact owed = unmoved s h
 
   pub packet_on : (s : Serving) (clients : ℕ) (packet : Packet) → ServingHolds told s → PacketTold told packet → BodyOwed told s packet.from packet.body
       → Goes told nothing (hears s clients packet)
   unfolding hears asks_for_maps
-  packet_on s clients packet h is owed =
+  packet_on s clients packet h fact owed =
       by_test Does (names_known s.maps packet.body) (on_body s clients packet.from packet.body) (asks_for_maps s)
-      (λ _. body_on s clients packet.from packet.body h is owed)
+      (λ _. body_on s clients packet.from packet.body h fact owed)
       (λ _. record { state = record { slots = h.slots; pages = h.pages; log = h.log }; outs = (tt, tt) })
 
   -- ---- time

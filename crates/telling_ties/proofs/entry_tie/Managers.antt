@@ -169,15 +169,16 @@ module _ (told : Told) (nothing : AllowsNothing told) where
 
   packet_goes : (peers : Peers) (p : Phase) (packet : Packet) → PhaseHolds told p → PacketTold told packet → PacketOwed told p packet
       → Goes (on_packet peers p packet)
-  packet_goes peers (Down life) packet h is owed = record { state = tt; outs = tt }
-  packet_goes peers (Waiting life hello) packet h is owed = awaited_on peers life hello packet.body
-  packet_goes peers (Serves s) packet h is owed = let d = packet_on told nothing s peers.clients packet h is owed in record { state = d.state; outs = d.outs }
+  packet_goes peers (Down life) packet h fact owed = record { state = tt; outs = tt }
+  packet_goes peers (Waiting life hello) packet h fact owed = awaited_on peers life hello packet.body
+  packet_goes peers (Serves s) packet h fact owed =
+      let d = packet_on told nothing s peers.clients packet h fact owed in record { state = d.state; outs = d.outs }
 
   deliver_goes : (peers : Peers) (p : Phase) (packet : Packet) → PhaseHolds told p → PacketTold told packet → PacketOwed told p packet
       → Goes (on_deliver peers p packet)
   unfolding on_deliver
-  deliver_goes peers p packet h is owed =
-      by_test Goes (is_well_formed peers packet) (on_packet peers p packet) (still p) (λ _. packet_goes peers p packet h is owed) (λ _. unmoved p h)
+  deliver_goes peers p packet h fact owed =
+      by_test Goes (is_well_formed peers packet) (on_packet peers p packet) (still p) (λ _. packet_goes peers p packet h fact owed) (λ _. unmoved p h)
 
   time_goes : (p : Phase) → PhaseHolds told p → Goes (on_time p)
   unfolding on_time
@@ -188,14 +189,14 @@ module _ (told : Told) (nothing : AllowsNothing told) where
   -- ---- all events
 
   event_goes : (peers : Peers) (p : Phase) (what : Do) → PhaseHolds told p → DoTold told what → DoOwed told p what → Goes (on_event peers p what)
-  event_goes peers p Begin h is owed = begins_on p h
-  event_goes peers p (Deliver packet) h is owed = deliver_goes peers p packet h is owed
-  event_goes peers p Tick h is owed = time_goes p h
+  event_goes peers p Begin h fact owed = begins_on p h
+  event_goes peers p (Deliver packet) h fact owed = deliver_goes peers p packet h fact owed
+  event_goes peers p Tick h fact owed = time_goes p h
 
   manager_goes : (m : Manager) (what : Do) → ManagerHolds told m → DoTold told what → DoOwed told m.phase what → Goes (happens m what)
   unfolding happens
-  manager_goes m what h is owed =
-      by_test Goes (phase_has_room m.phase) (on_event m.peers m.phase what) (still m.phase) (λ _. event_goes m.peers m.phase what h is owed)
+  manager_goes m what h fact owed =
+      by_test Goes (phase_has_room m.phase) (on_event m.peers m.phase what) (still m.phase) (λ _. event_goes m.peers m.phase what h fact owed)
       (λ _. unmoved m.phase h)
 
 -- ---- the law
@@ -203,12 +204,12 @@ module _ (told : Told) (nothing : AllowsNothing told) where
 -- of any entries that are told
 pub any_manager_tells : (told : Told) → AllowsNothing told → (m : Manager) (what : Do) → ManagerHolds told m → DoTold told what → DoOwed told m.phase what
     → TellsTold (ManagerHolds told) told (manager_step m what)
-any_manager_tells told nothing m what h is owed =
-    let d = manager_goes told nothing m what h is owed in
+any_manager_tells told nothing m what h fact owed =
+    let d = manager_goes told nothing m what h fact owed in
     record { node = d.state; packets = frames.packets_tell told [] (AManager (lasting_of m.phase).number) (happens m what).outs d.outs }
 
 pub managers_tell : ManagersTellTold
-managers_tell rows m what h is owed = any_manager_tells (told_by rows) (λ block. inr refl) m what h is owed
+managers_tell rows m what h fact owed = any_manager_tells (told_by rows) (λ block. inr refl) m what h fact owed
 
 pub manager_starts : ManagerStartsTold
 manager_starts rows number setup works = first_holds (told_by rows) number setup works
@@ -224,9 +225,9 @@ module _ (told later : Told) (more : (block : BlockId) (entry : Entry) → told 
   slot_rises (phase.Broken epoch seg) h = tt
 
   part_rises : (item : Item) → PartTold told item → PartTold later item
-  part_rises (Block block value) is = absurd is
-  part_rises (Delta block ver hop item) is = absurd is
-  part_rises (Part slot rows) is = rows_rise told later more rows is
+  part_rises (Block block value) fact = absurd fact
+  part_rises (Delta block ver hop item) fact = absurd fact
+  part_rises (Part slot rows) fact = rows_rise told later more rows fact
 
   flight_rises : (o : Option FlightState) → IfSome o (FlightHolds told) → IfSome o (FlightHolds later)
   flight_rises None h = tt

@@ -8,11 +8,11 @@ use Rattle.telling_ties.proofs.entry_tie.Frames.{all_weaker}
 
 module _ (rows later : FiledRows) (more : AreMore rows later) where
   by_case : (block : BlockId) (entry : Entry) → IsFiled rows block entry ⊎ (entry ≡ no_entry) → IsFiled later block entry ⊎ (entry ≡ no_entry)
-  by_case block entry (inl is) = inl (more block entry is)
+  by_case block entry (inl fact) = inl (more block entry fact)
   by_case block entry (inr nothing) = inr nothing
 
   pub told_more : (block : BlockId) (entry : Entry) → told_by rows block entry → told_by later block entry
-  told_more block entry is = by_case block entry is
+  told_more block entry fact = by_case block entry fact
 
 module _ (told later : Told) (more : (block : BlockId) (entry : Entry) → told block entry → later block entry) where
   pub rows_rise : (rows : List (BlockId × Entry)) → RowsTold told rows → RowsTold later rows

@@ -36,7 +36,7 @@ module _ (told : Told) where
   -- ---- what is found
 
   found_here : (block : BlockId) (row : BlockId × Entry) → is_at (block_cmp block) row.0 ≡ true → RowTold told row → told block row.1
-  found_here block row same is = subst (λ b. told b row.1) (sym (tells_apart block_cmp_exact block row.0 same)) is
+  found_here block row same fact = subst (λ b. told b row.1) (sym (tells_apart block_cmp_exact block row.0 same)) fact
 
   pub entry_told : AllowsNothing told → (rows : Rows) (block : BlockId) → RowsTold told rows → told block (entry_of rows block)
   entry_told nothing [] block all = nothing block
@@ -64,9 +64,9 @@ module _ (told : Told) where
   put_in : (o : Ordering) (block : BlockId) (entry : Entry) (row : BlockId × Entry) (rows rest : Rows) → block_cmp block row.0 ≡ o → told block entry
       → RowTold told row → RowsTold told rows → RowsTold told rest
       → RowsTold told (match_ordering o ((block, entry) ∷ row ∷ rows) ((row.0, entry) ∷ rows) (row ∷ rest))
-  put_in Less block entry row rows rest is new here all more = (new, (here, all))
-  put_in Equal block entry row rows rest is new here all more = (subst (λ b. told b entry) (block_cmp_exact block row.0 is) new, all)
-  put_in Greater block entry row rows rest is new here all more = (here, more)
+  put_in Less block entry row rows rest fact new here all more = (new, (here, all))
+  put_in Equal block entry row rows rest fact new here all more = (subst (λ b. told b entry) (block_cmp_exact block row.0 fact) new, all)
+  put_in Greater block entry row rows rest fact new here all more = (here, more)
 
   inserted_told : (rows : Rows) (block : BlockId) (entry : Entry) → RowsTold told rows → told block entry
       → RowsTold told (insert_entry block_cmp rows block entry)
@@ -100,20 +100,20 @@ module _ (told : Told) where
   -- ---- segments of Parts alone
 
   part_told : (slot : ℕ) (item : Item) → PartTold told item → RowsTold told (part_rows slot item)
-  part_told slot (Block block value) is = absurd is
-  part_told slot (Delta block ver hop item) is = absurd is
-  part_told slot (Part of rows) is = by_test (RowsTold told) (of == slot) rows [] (λ t. is) (λ t. tt)
+  part_told slot (Block block value) fact = absurd fact
+  part_told slot (Delta block ver hop item) fact = absurd fact
+  part_told slot (Part of rows) fact = by_test (RowsTold told) (of == slot) rows [] (λ t. fact) (λ t. tt)
 
   parts_told : (slot : ℕ) (items : List Item) → AllByRecursion (PartTold told) items → RowsTold told (flat_map (part_rows slot) items)
   parts_told slot [] all = tt
-  parts_told slot (i ∷ is) all =
-      all_append (RowTold told) (part_rows slot i) (flat_map (part_rows slot) is) (part_told slot i all.0) (parts_told slot is all.1)
+  parts_told slot (i ∷ fact) all =
+      all_append (RowTold told) (part_rows slot i) (flat_map (part_rows slot) fact) (part_told slot i all.0) (parts_told slot fact all.1)
 
   no_deltas : (s : Segment) (items : List Item) → AllByRecursion (PartTold told) items → RowsTold told (filter_map (segments.row_of s) items)
   no_deltas s [] all = tt
-  no_deltas s (Block block value ∷ is) all = absurd all.0
-  no_deltas s (Delta block ver hop item ∷ is) all = absurd all.0
-  no_deltas s (Part of rows ∷ is) all = no_deltas s is all.1
+  no_deltas s (Block block value ∷ fact) all = absurd all.0
+  no_deltas s (Delta block ver hop item ∷ fact) all = absurd all.0
+  no_deltas s (Part of rows ∷ fact) all = no_deltas s fact all.1
 
   -- a segment of Parts alone, whose rows are told, says of each slot what is told
   pub segment_told : (slot : ℕ) (s : Segment) → AllByRecursion (PartTold told) s.items → RowsTold told (told_of slot s)

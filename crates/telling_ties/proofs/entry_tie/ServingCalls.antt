@@ -7,11 +7,11 @@ use Rattle.client_parts.specs.declared.call.Going.TheVariants.{On, Ends}
 use Rattle.client_parts.specs.declared.call.Going.{Going}
 use Rattle.client_parts.specs.Fitting.{put_fits}
 use Rattle.client_parts.specs.Reads.{reading_in}
-use Rattle.client_serving.specs.Blocks.{Made, needs, got, gets, wrote, put_of, changes, held_back, changes_if_fits, puts, lets_go, changed, puts_again, puts_at, is_settled, synced_acts, syncs, makes}
+use Rattle.client_calls.specs.Blocks.{Made, needs, got, gets, wrote, put_of, changes, held_back, changes_if_fits, puts, lets_go, changed, puts_again, puts_at, is_settled, synced_acts, syncs, makes}
 use Rattle.client_serving.specs.declared.serving.Serving.{Serving}
 use Rattle.client_serving.specs.Flights.{held_at}
 use Rattle.client_serving.specs.Follow.{notes_gone, seals}
-use Rattle.client_serving.specs.Running.{goes_on, Ran, answers_call, ran, runs_call, runs_once, runs_upto, runs, most_steps}
+use Rattle.client_calls.specs.Running.{goes_on, Ran, answers_call, ran, runs_call, runs_once, runs_upto, runs, most_steps}
 use Rattle.client_serving.specs.Sends.{Done}
 use Rattle.file_plan.specs.declared.block_call.BlockAnswer.{BlockAnswer}
 use Rattle.file_plan.specs.declared.block_call.BlockCall.{BlockCall}
@@ -124,27 +124,27 @@ module _ (told : Told) (done : List Act) where
 
   pub goes_on_so : (s : Serving) (going : Going) → reads_told.GoingTold told going → At s → Goes (goes_on s going)
   unfolding goes_on
-  goes_on_so s (On call) is h = serving.still_so told done (record s { call = Some call }) (record { fetches = h.fetches; feed = h.feed; reading = is })
-  goes_on_so s (Ends answer) is h =
+  goes_on_so s (On call) fact h = serving.still_so told done (record s { call = Some call }) (record { fetches = h.fetches; feed = h.feed; reading = fact })
+  goes_on_so s (Ends answer) fact h =
       serving.plain_so told done (record s { lasting = record s.lasting { items = answered s.lasting.items } })
       (answers_unanswered s.lasting.items.unanswered answer) h
       (frames.answers_say told done s.lasting.items.unanswered answer)
 
   answers_call_so : (s : Serving) (call : Call) (answer : Option BlockAnswer) → ReadingTold told call.reading → At s → Goes (answers_call s call answer).done
-  answers_call_so s call None is h =
-      serving.still_so told done (record s { call = Some call }) (record { fetches = h.fetches; feed = h.feed; reading = is })
-  answers_call_so s call (Some a) is h = goes_on_so s (after_answer call.plan a) (reads_told.next_told told call.plan a) h
+  answers_call_so s call None fact h =
+      serving.still_so told done (record s { call = Some call }) (record { fetches = h.fetches; feed = h.feed; reading = fact })
+  answers_call_so s call (Some a) fact h = goes_on_so s (after_answer call.plan a) (reads_told.next_told told call.plan a) h
 
   -- what was made is told to the call
   ran_so : (call : Call) (made : Made) → ReadingTold told call.reading → Goes made.done → Goes (ran call made).done
-  ran_so call made is p =
+  ran_so call made fact p =
       frames.goes_on told done At made.done (answers_call made.done.state call made.answer).done p
-      (λ k. answers_call_so made.done.state call made.answer is k)
+      (λ k. answers_call_so made.done.state call made.answer fact k)
 
   runs_call_so : (s : Serving) (call : Option Call) → ReadingTold told (reading_in call) → At s → Goes (runs_call s call).done
-  runs_call_so s None is h = serving.still_so told done s h
-  runs_call_so s (Some call) is h =
-      ran_so call (makes (record s { call = None }) call.step) is
+  runs_call_so s None fact h = serving.still_so told done s h
+  runs_call_so s (Some call) fact h =
+      ran_so call (makes (record s { call = None }) call.step) fact
       (makes_so (record s { call = None }) call.step (record { fetches = h.fetches; feed = h.feed; reading = tt }))
 
   runs_once_so : (s : Serving) → At s → Goes (runs_once s).done

@@ -10,7 +10,7 @@ use Rattle.client_serving.specs.Flights.{held_at, writes}
 use Rattle.client_serving.specs.Follow.{hands, takes_back, follows_one, follows}
 use Rattle.client_serving.specs.Packets.{on_grant, on_supply, on_forward, again, says_again, on_recall, is_gone, on_gone, is_acked, on_ack, ends_fetch, told_at, told_by, on_told, asks_for_maps, renews, promises, reports, may_report, polled, on_poll, promised_in, is_news, hears, regroups, takes_news, on_news, on_welcome, on_body, on_packet, on_tick}
 use Rattle.client_serving.specs.Reads.{loses, with_reading}
-use Rattle.client_serving.specs.Running.{runs}
+use Rattle.client_calls.specs.Running.{runs}
 use Rattle.client_serving.specs.Sends.{Done, gives, report}
 use Rattle.delta_feed.specs.Transition.{acknowledged, new_epoch}
 use Rattle.group_map.specs.GroupMapState.{GroupMapState}
@@ -75,10 +75,10 @@ module _ (told : Told) (done : List Act) where
 
   on_grant_so : (s : Serving) (m : Grant) → told m.block m.entry → At s → Goes (on_grant s m)
   unfolding on_grant
-  on_grant_so s m is h =
+  on_grant_so s m fact h =
       by_test (λ (d : Done). Goes d) (is_own m.mode && not (has_long_room m.entry.ver)) (still s)
       (hands s (input.Granted m.block m.stamp m.inc m.req m.mode m.entry))
-      (λ t. still_so s h) (λ t. serving.hands_so told done s (input.Granted m.block m.stamp m.inc m.req m.mode m.entry) is h)
+      (λ t. still_so s h) (λ t. serving.hands_so told done s (input.Granted m.block m.stamp m.inc m.req m.mode m.entry) fact h)
 
   on_supply_so : (s : Serving) (m : Supply) → At s → Goes (on_supply s m)
   unfolding on_supply
@@ -136,8 +136,8 @@ module _ (told : Told) (done : List Act) where
   ends_fetch_so s at next.Lost h = still_so s h
 
   told_at_so : (s : Serving) (at : Option BlockAt) (x : Heard) → ReadingTold told x.reading → At s → Goes (told_at s at x)
-  told_at_so s None x is h = still_so s h
-  told_at_so s (Some at) x is h = ends_fetch_so (with_reading s x.reading) at x.next (serving.read_so told done s x.reading is h)
+  told_at_so s None x fact h = still_so s h
+  told_at_so s (Some at) x fact h = ends_fetch_so (with_reading s x.reading) at x.next (serving.read_so told done s x.reading fact h)
 
   told_by_so : (s : Serving) (server ask : ℕ) (t : Answered) → At s → Goes (told_by s server ask t)
   unfolding told_by
@@ -263,24 +263,24 @@ module _ (told : Told) (done : List Act) where
   -- ---- a packet
 
   body_so : (s : Serving) (from : NodeId) (b : Body) → BodyTold told b → At s → Owed s → Goes (on_body s from b)
-  body_so s from (body.Grant m) is h owed = on_grant_so s m is h
-  body_so s from (body.Supply m) is h owed = on_supply_so s m h
-  body_so s from (body.Forward m) is h owed = on_forward_so s m h
-  body_so s from (body.Recall m) is h owed = on_recall_so s m h
-  body_so s from (body.Gone m) is h owed = on_gone_so s m h
-  body_so s from (body.DeltaAck m) is h owed = on_ack_so s m h
-  body_so s from (body.Poll m) is h owed = on_poll_so s from m h
-  body_so s from (body.Stored m) is h owed = flights.writes_so told done s (log_in.Acked m.name m.index m.generation) h owed
-  body_so s from (body.Fragment m) is h owed = on_told_so s from m.ask (answered.Held m.fragment) h
-  body_so s from (body.Missing m) is h owed = on_told_so s from m.ask (answered.Missing m.generation) h
-  body_so s from (body.MapNews m) is h owed = on_news_so s m h owed
-  body_so s from (body.Welcome m) is h owed = on_welcome_so s m h owed
-  body_so s from _ is h owed = still_so s h
+  body_so s from (body.Grant m) fact h owed = on_grant_so s m fact h
+  body_so s from (body.Supply m) fact h owed = on_supply_so s m h
+  body_so s from (body.Forward m) fact h owed = on_forward_so s m h
+  body_so s from (body.Recall m) fact h owed = on_recall_so s m h
+  body_so s from (body.Gone m) fact h owed = on_gone_so s m h
+  body_so s from (body.DeltaAck m) fact h owed = on_ack_so s m h
+  body_so s from (body.Poll m) fact h owed = on_poll_so s from m h
+  body_so s from (body.Stored m) fact h owed = flights.writes_so told done s (log_in.Acked m.name m.index m.generation) h owed
+  body_so s from (body.Fragment m) fact h owed = on_told_so s from m.ask (answered.Held m.fragment) h
+  body_so s from (body.Missing m) fact h owed = on_told_so s from m.ask (answered.Missing m.generation) h
+  body_so s from (body.MapNews m) fact h owed = on_news_so s m h owed
+  body_so s from (body.Welcome m) fact h owed = on_welcome_so s m h owed
+  body_so s from _ fact h owed = still_so s h
 
   packet_goes : (s : Serving) (p : Packet) → BodyTold told p.body → At s → Owed s → Goes (on_packet s p)
   unfolding on_packet
-  packet_goes s p is h owed =
-      by_test (λ (d : Done). Goes d) (names_known s.maps p.body) (on_body s p.from p.body) (asks_for_maps s) (λ t. body_so s p.from p.body is h owed)
+  packet_goes s p fact h owed =
+      by_test (λ (d : Done). Goes d) (names_known s.maps p.body) (on_body s p.from p.body) (asks_for_maps s) (λ t. body_so s p.from p.body fact h owed)
       (λ t. asks_for_maps_so s h)
 
   -- what is done, and then the open call runs
@@ -291,7 +291,7 @@ module _ (told : Told) (done : List Act) where
   runs_after d p = frames.goes_on told done At d (runs d.state) p (λ h. calls.runs_so told done d.state h)
 
   pub packet_so : (s : Serving) (p : Packet) → BodyTold told p.body → At s → Owed s → Goes (and_runs (on_packet s p))
-  packet_so s p is h owed = runs_after (on_packet s p) (packet_goes s p is h owed)
+  packet_so s p fact h owed = runs_after (on_packet s p) (packet_goes s p fact h owed)
 
   -- ---- time
 

@@ -126,7 +126,7 @@ module _ (told : Told) (done : List Act) where
 
   -- the open call reads this
   pub read_so : (s : Serving) (r : Option ReadingState) → ReadingTold told r → At s → At (with_reading s r)
-  read_so s r is h = record { fetches = h.fetches; feed = h.feed; reading = reads_told.call_told told s.call r is }
+  read_so s r fact h = record { fetches = h.fetches; feed = h.feed; reading = reads_told.call_told told s.call r fact }
 
   pub ends_so : (s : Serving) → At s → At (ends_reading s)
   ends_so s h = read_so s (kept_while s.tokens (reading_in s.call)) (reads_told.kept_told told s.tokens (reading_in s.call) h.reading) h
@@ -135,46 +135,47 @@ module _ (told : Told) (done : List Act) where
   TargetTold target = BlockTold told target.seg target.block
 
   begins_over_so : (s : Serving) (target : Target) (group : Option Group) → TargetTold target → At s → Goes (begins_over s target group)
-  begins_over_so s target None is h = still_so s h
-  begins_over_so s target (Some group) is h =
+  begins_over_so s target None fact h = still_so s h
+  begins_over_so s target (Some group) fact h =
       let r : ReadingState = begun target group (next_ask s.lasting.questions) in
-      plain_so (with_reading (draws s) (Some r)) (fetches r) (read_so (draws s) (Some r) is h) (fetches_say r)
+      plain_so (with_reading (draws s) (Some r)) (fetches r) (read_so (draws s) (Some r) fact h) (fetches_say r)
 
   begins_so : (s : Serving) (target : Target) → TargetTold target → At s → Goes (begins s target)
   unfolding begins
-  begins_so s target is h = begins_over_so s target (group_in s.maps.groups target.seg.group) is h
+  begins_so s target fact h = begins_over_so s target (group_in s.maps.groups target.seg.group) fact h
 
   confirmed_next_so : (s : Serving) (r : ReadingState) (x : Next) → TargetTold r.target → At s → Goes (confirmed_next s r x)
-  confirmed_next_so s r next.Lost is h = loses_at_so s r.target.block r.target.seg.name h
-  confirmed_next_so s r next.Ask is h = plain_so (with_reading s (Some r)) (fetches r) (read_so s (Some r) is h) (fetches_say r)
-  confirmed_next_so s r next.Wait is h = still_so (with_reading s (Some r)) (read_so s (Some r) is h)
-  confirmed_next_so s r next.Again is h = still_so (with_reading s (Some r)) (read_so s (Some r) is h)
-  confirmed_next_so s r (next.Read segment) is h = still_so (with_reading s (Some r)) (read_so s (Some r) is h)
+  confirmed_next_so s r next.Lost fact h = loses_at_so s r.target.block r.target.seg.name h
+  confirmed_next_so s r next.Ask fact h = plain_so (with_reading s (Some r)) (fetches r) (read_so s (Some r) fact h) (fetches_say r)
+  confirmed_next_so s r next.Wait fact h = still_so (with_reading s (Some r)) (read_so s (Some r) fact h)
+  confirmed_next_so s r next.Again fact h = still_so (with_reading s (Some r)) (read_so s (Some r) fact h)
+  confirmed_next_so s r (next.Read segment) fact h = still_so (with_reading s (Some r)) (read_so s (Some r) fact h)
 
   drawn_after_so : (s : Serving) (r : ReadingState) (x : Next) (stage : Stage) → TargetTold r.target → At s → Goes (confirmed_next (drawn_after s stage) r x)
-  drawn_after_so s r x Between is h = confirmed_next_so (draws s) r x is h
-  drawn_after_so s r x Asking is h = confirmed_next_so s r x is h
-  drawn_after_so s r x Doubted is h = confirmed_next_so s r x is h
-  drawn_after_so s r x Over is h = confirmed_next_so s r x is h
+  drawn_after_so s r x Between fact h = confirmed_next_so (draws s) r x fact h
+  drawn_after_so s r x Asking fact h = confirmed_next_so s r x fact h
+  drawn_after_so s r x Doubted fact h = confirmed_next_so s r x fact h
+  drawn_after_so s r x Over fact h = confirmed_next_so s r x fact h
 
   confirms_so : (s : Serving) (r : ReadingState) → TargetTold r.target → At s → Goes (confirms s r)
   unfolding confirms
-  confirms_so s r is h =
+  confirms_so s r fact h =
       let step : Step = on_confirmed r (ask_after s r.ask r.stage) in
-      drawn_after_so s step.state step.next r.stage (reads_told.confirmed_told told r (ask_after s r.ask r.stage) is) h
+      drawn_after_so s step.state step.next r.stage (reads_told.confirmed_told told r (ask_after s r.ask r.stage) fact) h
 
   reads_over_so : (s : Serving) (target : Target) (reading : Option ReadingState) → TargetTold target → ReadingTold told reading → At s
       → Goes (reads_over s target reading)
-  reads_over_so s target None is was h = begins_so s target is h
-  reads_over_so s target (Some r) is was h =
-      by_test (λ (d : Done). Goes d) (same_target r.target target) (confirms s r) (begins s target) (λ t. confirms_so s r was h) (λ t. begins_so s target is h)
+  reads_over_so s target None fact was h = begins_so s target fact h
+  reads_over_so s target (Some r) fact was h =
+      by_test (λ (d : Done). Goes d) (same_target r.target target) (confirms s r) (begins s target) (λ t. confirms_so s r was h)
+      (λ t. begins_so s target fact h)
 
   reads_so : (s : Serving) (block : BlockId) (place : Place) → LiesTold told block place → At s → Goes (reads s block place)
   unfolding reads
-  reads_so s block place is h =
+  reads_so s block place fact h =
       by_test (λ (d : Done). Goes d) (is_none s.call) (still s) (reads_over (with_reading s None) (target_of block place) (reading_in s.call))
       (λ t. still_so s h)
-      (λ t. reads_over_so (with_reading s None) (target_of block place) (reading_in s.call) is h.reading (read_so s None tt h))
+      (λ t. reads_over_so (with_reading s None) (target_of block place) (reading_in s.call) fact h.reading (read_so s None tt h))
 
   -- ---- what the tokens say
 
@@ -184,16 +185,16 @@ module _ (told : Told) (done : List Act) where
 
   follows_one_so : (s : Serving) (o : outputs.Out) → reads_told.OutTold told o → At s → Goes (follows_one s o)
   unfolding follows_one
-  follows_one_so s (output.Want block req again mode) is h =
+  follows_one_so s (output.Want block req again mode) fact h =
       frames.goes_after told done At (before_want s block again) (gives s (want s block req again mode ∷ [])) (before_says s block again h)
       (plain_so s (want s block req again mode ∷ []) h (tt, tt))
-  follows_one_so s (output.Gave block stamp) is h =
+  follows_one_so s (output.Gave block stamp) fact h =
       frames.goes_after told done At (deltas s block) (gives s (gave s block stamp ∷ [])) (feeds.pushes_say told done s.managers s.feed h.feed _)
       (plain_so s (gave s block stamp ∷ []) h (tt, tt))
-  follows_one_so s (output.Flush block) is h = seals_so s h
-  follows_one_so s (output.Read block place) is h = reads_so s block place is h
-  follows_one_so s (output.Ready block) is h = still_so (notes_copy s block) (notes_copy_so s block h)
-  follows_one_so s (output.Supply block ver value) is h = still_so s h
+  follows_one_so s (output.Flush block) fact h = seals_so s h
+  follows_one_so s (output.Read block place) fact h = reads_so s block place fact h
+  follows_one_so s (output.Ready block) fact h = still_so (notes_copy s block) (notes_copy_so s block h)
+  follows_one_so s (output.Supply block ver value) fact h = still_so s h
 
   pub follows_so : (s : Serving) (outs : List outputs.Out) → AllByRecursion (reads_told.OutTold told) outs → At s → Goes (follows s outs)
   unfolding follows
@@ -201,10 +202,10 @@ module _ (told : Told) (done : List Act) where
 
   pub hands_so : (s : Serving) (i : inputs.In) → tokens.InputTold told i → At s → Goes (hands s i)
   unfolding hands
-  hands_so s i is h =
+  hands_so s i fact h =
       let r : client.Done = client.transition s.tokens i in
-      follows_so (ends_reading (record s { tokens = r.state })) r.outs (reads_told.tokens_say told s.tokens i is)
-      (ends_so (record s { tokens = r.state }) (record { fetches = tokens.tokens_so told s.tokens i is h.fetches; feed = h.feed; reading = h.reading }))
+      follows_so (ends_reading (record s { tokens = r.state })) r.outs (reads_told.tokens_say told s.tokens i fact)
+      (ends_so (record s { tokens = r.state }) (record { fetches = tokens.tokens_so told s.tokens i fact h.fetches; feed = h.feed; reading = h.reading }))
 
   pub takes_back_so : (s : Serving) (block : BlockId) (stamp : Stamp) (keep : Bool) → At s → Goes (takes_back s block stamp keep)
   unfolding takes_back

@@ -62,26 +62,26 @@ module _ (told : Told) (nothing : AllowsNothing told) where
 
   one_said : (number epoch : ℕ) (o : SlotOut) → SlotOutTold told nothing o → AllSay (said number epoch o)
   unfolding said
-  one_said number epoch (slot_out.Grant client block stamp inc req mode entry) is = (is, tt)
-  one_said number epoch (slot_out.Forward client block stamp to inc req ver) is = (tt, tt)
-  one_said number epoch (slot_out.Recall client block stamp keep) is = (tt, tt)
-  one_said number epoch (slot_out.Applied log applied) is = (tt, tt)
-  one_said number epoch (slot_out.Live entry) is = tt
-  one_said number epoch slot_out.Dead is = tt
+  one_said number epoch (slot_out.Grant client block stamp inc req mode entry) fact = (fact, tt)
+  one_said number epoch (slot_out.Forward client block stamp to inc req ver) fact = (tt, tt)
+  one_said number epoch (slot_out.Recall client block stamp keep) fact = (tt, tt)
+  one_said number epoch (slot_out.Applied log applied) fact = (tt, tt)
+  one_said number epoch (slot_out.Live entry) fact = tt
+  one_said number epoch slot_out.Dead fact = tt
 
   pub phase_takes : (p : SlotPhase) (number : ℕ) (given : SlotIn) → SlotInTold told nothing given → SlotHolds told p → Goes (takes p number given)
   unfolding takes
-  phase_takes (phase.Active a) number given is h =
-      let d = slot_goes told nothing a.slot given is h in
+  phase_takes (phase.Active a) number given fact h =
+      let d = slot_goes told nothing a.slot given fact h in
       record {
         state = d.state;
         outs =
             all_flat_map_of Says (SlotOutTold told nothing) (said number a.slot.epoch) (one_said number a.slot.epoch)
             (slot.transition a.slot given).outs d.outs;
       }
-  phase_takes (phase.Away epoch) number given is h = record { state = tt; outs = tt }
-  phase_takes (phase.Taking t) number given is h = record { state = h; outs = tt }
-  phase_takes (phase.Broken epoch seg) number given is h = record { state = tt; outs = tt }
+  phase_takes (phase.Away epoch) number given fact h = record { state = tt; outs = tt }
+  phase_takes (phase.Taking t) number given fact h = record { state = h; outs = tt }
+  phase_takes (phase.Broken epoch seg) number given fact h = record { state = tt; outs = tt }
 
   pub phase_wants : (p : SlotPhase) (client : ℕ) (want : Want) → SlotHolds told p → Goes (on_want p client want)
   unfolding on_want
@@ -93,9 +93,9 @@ module _ (told : Told) (nothing : AllowsNothing told) where
   -- that a block lives tells what the index holds of it
   checked_says : (check : Check) (epoch : ℕ) (entry : Entry) → told check.block entry → AllSay (check_said check epoch (found entry check.place))
   unfolding check_said
-  checked_says check epoch entry is =
+  checked_says check epoch entry fact =
       by_test (λ (o : SlotOut). AllSay (Send Cleaner (checked check epoch o) ∷ [])) (is_place entry.place check.place) (slot_out.Live entry) slot_out.Dead
-      (λ _. (is, tt)) (λ _. (tt, tt))
+      (λ _. (fact, tt)) (λ _. (tt, tt))
 
   pub phase_checks : (p : SlotPhase) (check : Check) → SlotHolds told p → Goes (on_check p check)
   unfolding on_check
@@ -131,10 +131,11 @@ module _ (told : Told) (nothing : AllowsNothing told) where
 
   says_on : (number : ℕ) (a : Asker) (o : TakeOut) → AskerHolds a → OutTold told o → Asks (says number a o)
   unfolding says
-  says_on number a (take_out.Poll to) h is = record { state = h; outs = (tt, tt) }
-  says_on number a (take_out.Fetch server name own) h is = fetches_on a.phase a.questions server name own h
-  says_on number a (take_out.Active epoch index beliefs applied) h is = record { state = started_holds told nothing epoch index beliefs applied is; outs = tt }
-  says_on number a (take_out.Lost seg) h is = record { state = tt; outs = (tt, tt) }
+  says_on number a (take_out.Poll to) h fact = record { state = h; outs = (tt, tt) }
+  says_on number a (take_out.Fetch server name own) h fact = fetches_on a.phase a.questions server name own h
+  says_on number a (take_out.Active epoch index beliefs applied) h fact =
+      record { state = started_holds told nothing epoch index beliefs applied fact; outs = tt }
+  says_on number a (take_out.Lost seg) h fact = record { state = tt; outs = (tt, tt) }
 
   each_said : (number : ℕ) (a : Asker) (outs : List TakeOut) → AskerHolds a → AllByRecursion (OutTold told) outs → Asks (says_each number a outs)
   unfolding says_each

@@ -144,11 +144,11 @@ module _ (told : Told) (nothing : AllowsNothing told) where
   found_on s block place = by_test OutTold (is_place (entry_at s block).place place) (Live (entry_at s block)) Dead (λ _. tt) (λ _. tt)
 
   pub slot_goes : (s : SlotState) (i : Input) → InputTold i → StateHolds s → Leaves StateHolds OutTold (transition s i)
-  slot_goes s (input.Want client block inc req again mode end) is h = want_on s (want_of client block inc req again mode) end h
-  slot_goes s (input.Gave client block stamp end) is h = gave_on s client block stamp end h
-  slot_goes s (input.Deltas log first upto rows) is h = deltas_on s log first upto rows is h
-  slot_goes s (input.Check block place) is h = record { state = h; outs = (found_on s block place, tt) }
-  slot_goes s input.Tick is h = record { state = h; outs = all_sent_told s.jobs }
+  slot_goes s (input.Want client block inc req again mode end) fact h = want_on s (want_of client block inc req again mode) end h
+  slot_goes s (input.Gave client block stamp end) fact h = gave_on s client block stamp end h
+  slot_goes s (input.Deltas log first upto rows) fact h = deltas_on s log first upto rows fact h
+  slot_goes s (input.Check block place) fact h = record { state = h; outs = (found_on s block place, tt) }
+  slot_goes s input.Tick fact h = record { state = h; outs = all_sent_told s.jobs }
 
   -- one that starts with an index
   pub started_holds : (epoch : ℕ) (index : List (BlockId × Entry)) (beliefs : List (BlockId × ℕ × Mode)) (applied : List ℕ) → RowsTold told index

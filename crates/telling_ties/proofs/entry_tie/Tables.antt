@@ -86,9 +86,9 @@ module _ (told : Told) (nothing : AllowsNothing told) where
 
   pub table_deltas : (t : Table) (log : LogId) (deltas : Deltas) → RowsTold told deltas.rows → TableHolds t → TableGoes (on_deltas t log deltas)
   unfolding on_deltas
-  table_deltas t log deltas is h =
+  table_deltas t log deltas fact h =
       at_slot-goes t deltas.slot (λ p. tokens.on_deltas p log deltas)
-      (λ p here. phase_takes told nothing p deltas.slot (tokens.deltas_input log deltas) is here) h
+      (λ p here. phase_takes told nothing p deltas.slot (tokens.deltas_input log deltas) fact here) h
 
   pub table_checks : (t : Table) (check : Check) → TableHolds t → TableGoes (on_check t check)
   unfolding on_check

@@ -124,10 +124,10 @@ module _ (told : Told) where
     where
       by_reading : (p : Present) (r : Option ReadingState) → s.present ≡ Some p → p.reading ≡ r
           → Goes (told_in (record s { present = None }) p.source r ask server t)
-      by_reading p None here is = quiet (reads (record s { present = None }) p.source None) known
-      by_reading p (Some r) here is =
+      by_reading p None here fact = quiet (reads (record s { present = None }) p.source None) known
+      by_reading p (Some r) here fact =
           judged_on (record s { present = None }) p.source (on_answer r s.groups ask server t).state (on_answer r s.groups ask server t).next
-          (λ segment completes. owed p r segment here is completes) known
+          (λ segment completes. owed p r segment here fact completes) known
 
       by : (present : Option Present) → s.present ≡ present → Goes (told_at (record s { present = None }) present ask server t)
       by None here = quiet (record s { present = None }) known

@@ -32,16 +32,16 @@ pub record Bounding (b : Bounds) : Type 0 where
 module _ (b : Bounds) where
   -- the slot at a place
   pub slot_read : (from : ℕ) (t : List SlotPhase) (place at : ℕ) → from + place ≡ at → SlotsBounded b from t → IfSome (slice_get t place) (SlotBounded b at)
-  slot_read from [] place at is all = tt
-  slot_read from (p ∷ t) zero at is all = subst (λ k. SlotBounded b k p) (let e : from ≡ at = omega arith in e) all.0
-  slot_read from (p ∷ t) (suc place) at is all = slot_read (suc from) t place at (omega arith) all.1
+  slot_read from [] place at fact all = tt
+  slot_read from (p ∷ t) zero at fact all = subst (λ k. SlotBounded b k p) (let e : from ≡ at = omega arith in e) all.0
+  slot_read from (p ∷ t) (suc place) at fact all = slot_read (suc from) t place at (omega arith) all.1
 
   -- it is another
   pub slot_put : (from : ℕ) (t : List SlotPhase) (place at : ℕ) (q : SlotPhase) → from + place ≡ at → SlotBounded b at q → SlotsBounded b from t
       → SlotsBounded b from (slice_set t place q)
-  slot_put from [] place at q is new all = tt
-  slot_put from (p ∷ t) zero at q is new all = (subst (λ k. SlotBounded b k q) (let e : at ≡ from = omega arith in e) new, all.1)
-  slot_put from (p ∷ t) (suc place) at q is new all = (all.0, slot_put (suc from) t place at q (omega arith) new all.1)
+  slot_put from [] place at q fact new all = tt
+  slot_put from (p ∷ t) zero at q fact new all = (subst (λ k. SlotBounded b k q) (let e : at ≡ from = omega arith in e) new, all.1)
+  slot_put from (p ∷ t) (suc place) at q fact new all = (all.0, slot_put (suc from) t place at q (omega arith) new all.1)
 
 -- ---- what a node does
 

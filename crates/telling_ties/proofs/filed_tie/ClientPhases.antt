@@ -7,11 +7,11 @@ use Rattle.client_node.specs.Phases.{Went_to, crashed, owner_of, restarted, back
 use Rattle.client_parts.specs.declared.call.Going.{Going}
 use Rattle.client_parts.specs.declared.lasting.Lasting.{Lasting}
 use Rattle.client_parts.specs.Lasting.{next_life}
-use Rattle.client_serving.specs.Crash.{falls}
+use Rattle.client_node.specs.Crash.{falls}
 use Rattle.client_serving.specs.declared.serving.Serving.{Serving}
-use Rattle.client_serving.specs.Opens.{begins_call, call_at, opens}
+use Rattle.client_calls.specs.Opens.{begins_call, call_at, opens}
 use Rattle.client_serving.specs.Packets as packets
-use Rattle.client_serving.specs.Running.{goes_on}
+use Rattle.client_calls.specs.Running.{goes_on}
 use Rattle.client_serving.specs.Sends.{Done, gives}
 use Rattle.log_owner.specs.declared.opened.Opened.{Opened}
 use Rattle.log_owner.specs.declared.opened.Progress.{Progress}

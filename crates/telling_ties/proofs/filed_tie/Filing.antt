@@ -77,7 +77,7 @@ module _ (reach : Reach) where
   end_of-reaches : (reports : List Report) (log : ℕ) → AllByRecursion (ReportBounded (filed reach)) reports → (end_of reports log).seq ≤ reach log
   end_of-reaches reports log all =
       by_test (λ (node : NodeId). (end_from node reports).seq ≤ reach log) (log == 9) Cleaner (Client log)
-      (λ is. subst (λ l. (end_from Cleaner reports).seq ≤ reach l) (sym (eqb-true log 9 is)) (end_from-reaches Cleaner reports all))
+      (λ fact. subst (λ l. (end_from Cleaner reports).seq ≤ reach l) (sym (eqb-true log 9 fact)) (end_from-reaches Cleaner reports all))
       (λ _. end_from-reaches (Client log) reports all)
 
   -- up to the reported end, or what the checkpoint covers
@@ -98,7 +98,7 @@ module _ (reach : Reach) where
       omega arith)
 
   from_one : (log : LogId) → is_followed log ≡ true → 1 ≤ log.0
-  from_one log is = let first : nat_le 1 log.0 ≡ true = and_first (nat_le 1 log.0) (nat_le log.0 9) is in grind (arith, nat_tests)
+  from_one log fact = let first : nat_le 1 log.0 ≡ true = and_first (nat_le 1 log.0) (nat_le log.0 9) fact in grind (arith, nat_tests)
 
   pub filing : Bounding (filed reach)
   filing = record {

@@ -33,13 +33,13 @@ module _ (floor : Floor) where
       → (above floor).applied slot epoch (applied_from horizon reports)
   unfolding applied_from
   begun_above slot epoch horizon reports known log from_one to_nine =
-      let is = number_is (applied_at horizon reports) log from_one to_nine in
+      let fact = number_is (applied_at horizon reports) log from_one to_nine in
       let covered = known.covered log from_one to_nine in
       omega arith
 
   covered_above : (slot epoch : ℕ) (s : SlotState) → (above floor).applied slot epoch s.applied → (above floor).horizon slot epoch (horizon_of s)
   covered_above slot epoch s h log from_one to_nine =
-      let is = number_is (next_of s) log from_one to_nine in
+      let fact = number_is (next_of s) log from_one to_nine in
       let told = h log from_one to_nine in
       omega arith
 
@@ -77,7 +77,7 @@ registry_starts_above floor setup works low = first_registry (above floor) setup
   where
     one : (slot log : ℕ) → 1 ≤ log → log ≤ 9 → least floor slot 1 log ≤ horizon_at (replicate 9 1) log
     one slot log from_one to_nine =
-        let is : horizon_at (replicate 9 1) log ≡ 1 = number_is (λ k. 1) log from_one to_nine in
+        let fact : horizon_at (replicate 9 1) log ≡ 1 = number_is (λ k. 1) log from_one to_nine in
         let l = low slot log in
         omega arith
 

@@ -7,16 +7,16 @@ use Rattle.telling_ties.specs.filed_tie.Reach.{Reach, NumbersUpto}
 -- the number of the log at a place
 pub number_at : (limit : Reach) (log : ℕ) (numbers : List ℕ) (place at : ℕ) → log + place ≡ at → NumbersUpto limit log numbers
     → slice_index numbers place ≤ limit at
-number_at limit log [] place at is all = omega arith
-number_at limit log (n ∷ ns) zero at is all = subst (λ l. n ≤ limit l) (let e : log ≡ at = omega arith in e) all.0
-number_at limit log (n ∷ ns) (suc place) at is all = number_at limit (suc log) ns place at (omega arith) all.1
+number_at limit log [] place at fact all = omega arith
+number_at limit log (n ∷ ns) zero at fact all = subst (λ l. n ≤ limit l) (let e : log ≡ at = omega arith in e) all.0
+number_at limit log (n ∷ ns) (suc place) at fact all = number_at limit (suc log) ns place at (omega arith) all.1
 
 -- it is another
 pub number_put : (limit : Reach) (log : ℕ) (numbers : List ℕ) (place at new : ℕ) → log + place ≡ at → new ≤ limit at → NumbersUpto limit log numbers
     → NumbersUpto limit log (slice_set numbers place new)
-number_put limit log [] place at new is here all = tt
-number_put limit log (n ∷ ns) zero at new is here all = (subst (λ l. new ≤ limit l) (let e : at ≡ log = omega arith in e) here, all.1)
-number_put limit log (n ∷ ns) (suc place) at new is here all = (all.0, number_put limit (suc log) ns place at new (omega arith) here all.1)
+number_put limit log [] place at new fact here all = tt
+number_put limit log (n ∷ ns) zero at new fact here all = (subst (λ l. new ≤ limit l) (let e : at ≡ log = omega arith in e) here, all.1)
+number_put limit log (n ∷ ns) (suc place) at new fact here all = (all.0, number_put limit (suc log) ns place at new (omega arith) here all.1)
 
 -- each of the logs 1 to 9 has its own
 pub numbers_of : (limit : Reach) (number : ℕ → ℕ) → ((log : ℕ) → 1 ≤ log → number log ≤ limit log) → NumbersUpto limit 1 (map number (range_with_len 1 9))

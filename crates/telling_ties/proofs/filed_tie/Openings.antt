@@ -61,8 +61,8 @@ use Rattle.telling_ties.proofs.filed_tie.Scans.{ChainTells, NewsReach, InputTell
 
 -- maps in a packet of the right shape are of some slots
 some_slots : (news : News) → is_news news ≡ true → 1 ≤ length news.slots
-some_slots news is =
-    let eight : (length news.slots == 8) ≡ true = and_first (length news.slots == 8) _ is in
+some_slots news fact =
+    let eight : (length news.slots == 8) ≡ true = and_first (length news.slots == 8) _ fact in
     grind (arith, nat_tests)
 
 module _ (reach : Reach) (node : NodeId) (log : ℕ) where
@@ -151,11 +151,11 @@ module _ (reach : Reach) (node : NodeId) (log : ℕ) where
 
     starts_so : (s : Scanning) (segments : List Segment) (end : End) (low : ℕ) (groups : GroupMapState) → ScanReaches reach log s.scan → AreOfLog log segments
         → s.scan.opening.low ≡ low → Goes (starts_log k s (record { segments = segments; end = end; low = low }) groups)
-    starts_so s segments end low groups h of_log is =
+    starts_so s segments end low groups h of_log fact =
         by_test (λ (m : Moved). Goes m) (is_log k.owner.log.0)
         (writes k (behind k (record { segments = segments; end = end; low = low }) groups) (log_in.Parts [])) (still (at_scan k s))
         (λ t. writes_so (behind k (record { segments = segments; end = end; low = low }) groups) (log_in.Parts [])
-        (record { low = (let a = h.low (some t) in omega (arith, a, is)); chain = of_log }))
+        (record { low = (let a = h.low (some t) in omega (arith, a, fact)); chain = of_log }))
         (λ t. frames.goes_still reach node ProgressReaches (at_scan k s) (at_scan_so s h))
       where
         some : is_log k.owner.log.0 ≡ true → 1 ≤ log
@@ -164,8 +164,8 @@ module _ (reach : Reach) (node : NodeId) (log : ℕ) where
     settles_so : (s : Scanning) (segments : List Segment) (end : End) (low : ℕ) (groups : Option GroupMapState) → ScanReaches reach log s.scan
         → AreOfLog log segments
         → s.scan.opening.low ≡ low → Goes (settles_over k s (record { segments = segments; end = end; low = low }) groups)
-    settles_so s segments end low None h of_log is = frames.goes_still reach node ProgressReaches (at_scan k s) (at_scan_so s h)
-    settles_so s segments end low (Some groups) h of_log is = starts_so s segments end low groups h of_log is
+    settles_so s segments end low None h of_log fact = frames.goes_still reach node ProgressReaches (at_scan k s) (at_scan_so s h)
+    settles_so s segments end low (Some groups) h of_log fact = starts_so s segments end low groups h of_log fact
 
     module _ (low : ℕ) where
       -- whatever the scan tells, what is next behind it goes so
@@ -179,13 +179,13 @@ module _ (reach : Reach) (node : NodeId) (log : ℕ) where
       scanned_ends a q e (out.Fence server ∷ outs) all ends = scanned_ends a q e outs all.1 ends
       scanned_ends a q e (out.Fetch server name own ∷ outs) all ends = scanned_ends (asked_as a q own) (drawn_for a q own) e outs all.1 ends
       scanned_ends a q e (out.Chain segments end prior ∷ outs) all ends =
-          scanned_ends a q _ outs all.1 (λ s h is. settles_so s segments end low k.maps.groups h all.0 is)
+          scanned_ends a q _ outs all.1 (λ s h fact. settles_so s segments end low k.maps.groups h all.0 fact)
       scanned_ends a q e (out.Lost name ∷ outs) all ends =
-          scanned_ends a q _ outs all.1 (λ s h is. frames.goes_plain reach node ProgressReaches (progress.Lost name) (Lose name ∷ []) tt (tt, tt))
+          scanned_ends a q _ outs all.1 (λ s h fact. frames.goes_plain reach node ProgressReaches (progress.Lost name) (Lose name ∷ []) tt (tt, tt))
 
       none_ends : (s : Scanning) → ScanReaches reach log s.scan → s.scan.opening.low ≡ low → Goes (follows k s None)
       unfolding follows
-      none_ends s h is = frames.goes_still reach node ProgressReaches (at_scan k s) (at_scan_so s h)
+      none_ends s h fact = frames.goes_still reach node ProgressReaches (at_scan k s) (at_scan_so s h)
 
       one_said : (st : _) (o : Out) → AllSay (said k.owner low st o).outs
       unfolding said

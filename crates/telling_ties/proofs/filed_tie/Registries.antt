@@ -72,15 +72,15 @@ module _ (b : Bounds) where
         (at ((entry_of t.entries slot).epoch == (entry_of s.entries slot).epoch) refl)
       where
         apart : ((entry_of t.entries slot).epoch == (entry_of s.entries slot).epoch) ≡ false → (entry_of t.entries slot).epoch ≢ (entry_of s.entries slot).epoch
-        apart is = grind (arith, nat_tests)
+        apart fact = grind (arith, nat_tests)
 
         at : (e : Bool) → ((entry_of t.entries slot).epoch == (entry_of s.entries slot).epoch) ≡ e
             → b.horizon slot (entry_of t.entries slot).epoch (horizon_at s.checkpoints slot)
-        at true is =
+        at true fact =
             subst (λ epoch. b.horizon slot epoch (horizon_at s.checkpoints slot))
-            (sym (eqb-true (entry_of t.entries slot).epoch (entry_of s.entries slot).epoch is))
+            (sym (eqb-true (entry_of t.entries slot).epoch (entry_of s.entries slot).epoch fact))
             (h slot within)
-        at false is = new slot within (apart is)
+        at false fact = new slot within (apart fact)
 
     manager_keeps : (manager inc : ℕ) → Leads (manager_hello s manager inc)
     unfolding manager_hello
@@ -111,7 +111,7 @@ module _ (b : Bounds) where
     keeps : (slot epoch : ℕ) (parts : List SegRef) (horizon : List ℕ) → is_kept s slot epoch horizon ≡ true → b.horizon slot epoch horizon
         → BoardBounded (keep s slot epoch parts horizon).state
     unfolding keep
-    keeps slot epoch parts horizon is told =
+    keeps slot epoch parts horizon fact told =
         by_test (λ (m : Made). BoardBounded m.state) (s.version == u32_end) (still s)
         (record { state = checkpointed s slot parts horizon; outs = Kept epoch ∷ [] }) (λ _. h)
         (λ _. one_put (λ k x. k < 8 → b.horizon k (entry_of s.entries k).epoch x) s.checkpoints slot (record { parts = parts; horizon = horizon })
@@ -120,7 +120,7 @@ module _ (b : Bounds) where
         present : (entry_of s.entries slot).epoch ≡ epoch
         present =
             eqb-true (entry_of s.entries slot).epoch epoch
-            (and_first ((entry_of s.entries slot).epoch == epoch) (covers_kept s.checkpoints slot horizon) is)
+            (and_first ((entry_of s.entries slot).epoch == epoch) (covers_kept s.checkpoints slot horizon) fact)
 
     done_keeps : (slot epoch : ℕ) (parts : List SegRef) (horizon : List ℕ) → b.horizon slot epoch horizon → BoardBounded (done s slot epoch parts horizon).state
     unfolding done
@@ -128,16 +128,16 @@ module _ (b : Bounds) where
         by_test (λ (m : Made). BoardBounded m.state) (nat_lt 7 slot) (still s)
         (cond (is_kept s slot epoch horizon) (keep s slot epoch parts horizon) (record { state = s; outs = _ })) (λ _. h)
         (λ _. by_test (λ (m : Made). BoardBounded m.state) (is_kept s slot epoch horizon) (keep s slot epoch parts horizon) (record { state = s; outs = _ })
-        (λ is. keeps slot epoch parts horizon is told) (λ _. h))
+        (λ fact. keeps slot epoch parts horizon fact told) (λ _. h))
 
   -- ---- what is sent
 
   below : (slot : ℕ) → nat_lt slot 8 ≡ true → slot < 8
-  below slot is = grind (arith, nat_tests)
+  below slot fact = grind (arith, nat_tests)
 
   news_bounded : (s : BoardState) → BoardBounded s → AllByRecursion (NewsBounded b) (all_news s)
   news_bounded s h =
-      let at = λ (slot : ℕ) (is : nat_lt slot 8 ≡ true). h slot (below slot is) in
+      let at = λ (slot : ℕ) (fact : nat_lt slot 8 ≡ true). h slot (below slot fact) in
       (at 0 refl, (at 1 refl, (at 2 refl, (at 3 refl, (at 4 refl, (at 5 refl, (at 6 refl, (at 7 refl, tt))))))))
 
   abbrev Tells : Effect → Type 0

@@ -52,9 +52,9 @@ module _ (reach later : Reach) (rises : Rises reach later) where
 module _ (reach : Reach) where
   at_place : (first place log : ℕ) (horizon : List ℕ) → log ≡ first + place → NumbersUpto (λ l. suc (reach l)) first horizon
       → unwrap_or (slice_get horizon place) 1 ≤ suc (reach log)
-  at_place first place log [] is all = omega arith
-  at_place first zero log (number ∷ numbers) is all = subst (λ l. number ≤ suc (reach l)) (omega (arith, is)) all.0
-  at_place first (suc place) log (number ∷ numbers) is all = at_place (suc first) place log numbers (omega (arith, is)) all.1
+  at_place first place log [] fact all = omega arith
+  at_place first zero log (number ∷ numbers) fact all = subst (λ l. number ≤ suc (reach l)) (omega (arith, fact)) all.0
+  at_place first (suc place) log (number ∷ numbers) fact all = at_place (suc first) place log numbers (omega (arith, fact)) all.1
 
   -- of a log, a slot's horizon is above nothing but what was filed
   pub horizon_low : (log : ℕ) (slot : SlotNews) → 1 ≤ log → SlotReaches reach slot → horizon_of log slot ≤ suc (reach log)

@@ -68,21 +68,21 @@ module _ (reach : Reach) (log : ℕ) where
   fences_tell [] = tt
   fences_tell (s ∷ ss) = (tt, fences_tell ss)
 
-  module _ (o : Opening) (is : IsOpening o) where
+  module _ (o : Opening) (fact : IsOpening o) where
     keeps_stay : (stage : Stage) → ReadsLog log stage → Keeps (stays o stage)
-    keeps_stay stage st = record { opening = is; stage = st; outs = tt }
+    keeps_stay stage st = record { opening = fact; stage = st; outs = tt }
 
     keeps_anew : (stage : Stage) → ReadsLog log stage → Keeps (asks_anew o stage)
-    keeps_anew stage st = record { opening = record { own = is.own; low = is.low }; stage = st; outs = (tt, tt) }
+    keeps_anew stage st = record { opening = record { own = fact.own; low = fact.low }; stage = st; outs = (tt, tt) }
 
     keeps_chain : (b : Backward) → AreOfLog log b.chain → Keeps (goes o Over (chain_of b ∷ []))
-    keeps_chain b so = record { opening = is; stage = tt; outs = (all_reverse (λ s. s.name.log.0 ≡ log) b.chain so, tt) }
+    keeps_chain b so = record { opening = fact; stage = tt; outs = (all_reverse (λ s. s.name.log.0 ≡ log) b.chain so, tt) }
 
     keeps_begins_in : (b : Backward) (g : Option Group) → AreOfLog log b.chain → Keeps (begins_in o b g)
     keeps_begins_in b None so = keeps_anew (Reads b None) (so, tt)
     keeps_begins_in b (Some g) so =
         let r = reading.begun (target_at o.log b.next) g (o.ask + 1) in
-        record { opening = record { own = is.own; low = is.low }; stage = (so, is.own); outs = fetches_tell r.target.seg.name r.ask (to_ask r) }
+        record { opening = record { own = fact.own; low = fact.low }; stage = (so, fact.own); outs = fetches_tell r.target.seg.name r.ask (to_ask r) }
 
     keeps_begins : (b : Backward) → AreOfLog log b.chain → Keeps (begins_round o b)
     unfolding begins_round
@@ -99,11 +99,11 @@ module _ (reach : Reach) (log : ℕ) where
     unfolding goes_on
     keeps_goes_on b r next.Wait so looks name = keeps_stay (Reads b (Some r)) (so, looks)
     keeps_goes_on b r next.Ask so looks name =
-        record { opening = record { own = is.own; low = is.low }; stage = (so, looks); outs = fetches_tell r.target.seg.name r.ask (to_ask r) }
+        record { opening = record { own = fact.own; low = fact.low }; stage = (so, looks); outs = fetches_tell r.target.seg.name r.ask (to_ask r) }
     keeps_goes_on b r next.Again so looks name = keeps_anew (Reads b (Some r)) (so, looks)
     keeps_goes_on b r (next.Read s) so looks name =
         keeps_follows (with_segment b s) (all_append (λ x. x.name.log.0 ≡ log) b.chain (s ∷ []) so (ap (λ (n : SegName). n.log.0) name ∙ looks, tt))
-    keeps_goes_on b r next.Lost so looks name = record { opening = is; stage = tt; outs = (tt, tt) }
+    keeps_goes_on b r next.Lost so looks name = record { opening = fact; stage = tt; outs = (tt, tt) }
 
     keeps_step : (b : Backward) (r : ReadingState) (step : reading.Step) → AreOfLog log b.chain → LooksFor (Some r) → KeepsTarget r step
         → Keeps (goes_on o b step.state step.next)
@@ -135,14 +135,14 @@ module _ (reach : Reach) (log : ℕ) where
 
   risen : (o : Opening) (least : ℕ) → IsOpening o → IsLow least → IsOpening (rises o least)
   unfolding IsLow
-  risen o least is low = record { own = is.own; low = λ some. (let a = is.low some in let b = low some in omega (arith, a, b)) }
+  risen o least fact low = record { own = fact.own; low = λ some. (let a = fact.low some in let b = low some in omega (arith, a, b)) }
 
   keeps_welcomed : (o : Opening) (stage : Stage) (least : ℕ) → IsOpening o → IsLow least → ReadsLog log stage → Keeps (welcomed o stage least)
-  keeps_welcomed o Hails least is low st = record { opening = is; stage = tt; outs = fences_tell (awaited o.groups []) }
-  keeps_welcomed o (Gathers lists) least is low st = keeps_stay o is (Gathers lists) tt
-  keeps_welcomed o (Asks lists) least is low st = keeps_picks (rises o least) (risen o least is low) lists
-  keeps_welcomed o (Reads b r) least is low st = keeps_confirms (rises o least) (risen o least is low) b r st.0 st.1
-  keeps_welcomed o Over least is low st = keeps_stay o is Over tt
+  keeps_welcomed o Hails least fact low st = record { opening = fact; stage = tt; outs = fences_tell (awaited o.groups []) }
+  keeps_welcomed o (Gathers lists) least fact low st = keeps_stay o fact (Gathers lists) tt
+  keeps_welcomed o (Asks lists) least fact low st = keeps_picks (rises o least) (risen o least fact low) lists
+  keeps_welcomed o (Reads b r) least fact low st = keeps_confirms (rises o least) (risen o least fact low) b r st.0 st.1
+  keeps_welcomed o Over least fact low st = keeps_stay o fact Over tt
 
   -- maps of some slots that tell so
   abbrev pub NewsReach : List SlotNews → Type 0
@@ -150,57 +150,57 @@ module _ (reach : Reach) (log : ℕ) where
 
   least_is_low : (o : Opening) (slots : List SlotNews) → IsOpening o → NewsReach slots → IsLow (least_horizon o.log.0 slots)
   unfolding IsLow
-  least_is_low o slots is news some =
-      subst (λ (l : ℕ). least_horizon l slots ≤ suc (reach log)) (sym is.own) (least_low reach log slots some news.0 news.1)
+  least_is_low o slots fact news some =
+      subst (λ (l : ℕ). least_horizon l slots ≤ suc (reach log)) (sym fact.own) (least_low reach log slots some news.0 news.1)
 
   keeps_on_welcome : (o : Opening) (stage : Stage) (ask : ℕ) (slots : List SlotNews) (groups : GroupMapState) → IsOpening o → NewsReach slots
       → ReadsLog log stage → Keeps (on_welcome o stage ask slots groups)
   unfolding on_welcome
-  keeps_on_welcome o stage ask slots groups is news st =
+  keeps_on_welcome o stage ask slots groups fact news st =
       let p : Opening = record o { groups = Some groups } in
       let least : ℕ = least_horizon o.log.0 slots in
       by_test (λ (d : Done). Keeps d) ((ask == o.ask) && (can_ask o && awaits_welcome stage)) (welcomed p stage least) (stays o stage)
-      (λ t. keeps_welcomed p stage least (record { own = is.own; low = is.low }) (least_is_low o slots is news) st) (λ t. keeps_stay o is stage st)
+      (λ t. keeps_welcomed p stage least (record { own = fact.own; low = fact.low }) (least_is_low o slots fact news) st) (λ t. keeps_stay o fact stage st)
 
   -- ---- the other inputs
 
   keeps_with_list : (o : Opening) (lists : List Listing) → IsOpening o → Keeps (with_list o lists)
   unfolding with_list
-  keeps_with_list o lists is =
+  keeps_with_list o lists fact =
       by_test (λ (d : Done). Keeps d) (length (awaited o.groups lists) == 0) (asks_anew o (Asks lists)) (stays o (Gathers lists))
-      (λ t. keeps_anew o is (Asks lists) tt) (λ t. keeps_stay o is (Gathers lists) tt)
+      (λ t. keeps_anew o fact (Asks lists) tt) (λ t. keeps_stay o fact (Gathers lists) tt)
 
   keeps_on_fenced : (o : Opening) (stage : Stage) (l : Listing) → IsOpening o → ReadsLog log stage → Keeps (on_fenced o stage l)
   unfolding on_fenced
-  keeps_on_fenced o Hails l is st = keeps_stay o is Hails tt
-  keeps_on_fenced o (Gathers lists) l is st =
+  keeps_on_fenced o Hails l fact st = keeps_stay o fact Hails tt
+  keeps_on_fenced o (Gathers lists) l fact st =
       by_test (λ (d : Done). Keeps d) (can_ask o && awaits o.groups lists l.server) (with_list o (lists ++ l ∷ [])) (stays o (Gathers lists))
-      (λ t. keeps_with_list o (lists ++ l ∷ []) is) (λ t. keeps_stay o is (Gathers lists) tt)
-  keeps_on_fenced o (Asks lists) l is st = keeps_stay o is (Asks lists) tt
-  keeps_on_fenced o (Reads b r) l is st = keeps_stay o is (Reads b r) st
-  keeps_on_fenced o Over l is st = keeps_stay o is Over tt
+      (λ t. keeps_with_list o (lists ++ l ∷ []) fact) (λ t. keeps_stay o fact (Gathers lists) tt)
+  keeps_on_fenced o (Asks lists) l fact st = keeps_stay o fact (Asks lists) tt
+  keeps_on_fenced o (Reads b r) l fact st = keeps_stay o fact (Reads b r) st
+  keeps_on_fenced o Over l fact st = keeps_stay o fact Over tt
 
   keeps_heard_with : (o : Opening) (b : Backward) (r : ReadingState) (groups : Option GroupMapState) (ask server : ℕ) (t : Told) → IsOpening o
       → AreOfLog log b.chain
       → LooksFor (Some r) → Keeps (heard_with o b r groups ask server t)
-  keeps_heard_with o b r None ask server t is so looks = keeps_stay o is (Reads b (Some r)) (so, looks)
-  keeps_heard_with o b r (Some groups) ask server t is so looks =
-      keeps_step o is b r (on_answer r groups ask server t) so looks (answered_keeps r groups ask server t)
+  keeps_heard_with o b r None ask server t fact so looks = keeps_stay o fact (Reads b (Some r)) (so, looks)
+  keeps_heard_with o b r (Some groups) ask server t fact so looks =
+      keeps_step o fact b r (on_answer r groups ask server t) so looks (answered_keeps r groups ask server t)
 
   keeps_heard : (o : Opening) (b : Backward) (r : Option ReadingState) (ask server : ℕ) (t : Told) → IsOpening o → AreOfLog log b.chain → LooksFor r
       → Keeps (heard o b r ask server t)
-  keeps_heard o b None ask server t is so looks = keeps_stay o is (Reads b None) (so, looks)
-  keeps_heard o b (Some r) ask server t is so looks =
+  keeps_heard o b None ask server t fact so looks = keeps_stay o fact (Reads b None) (so, looks)
+  keeps_heard o b (Some r) ask server t fact so looks =
       by_test (λ (d : Done). Keeps d) (can_ask o) (heard_with o b r o.groups ask server t) (stays o (Reads b (Some r)))
-      (λ e. keeps_heard_with o b r o.groups ask server t is so looks) (λ e. keeps_stay o is (Reads b (Some r)) (so, looks))
+      (λ e. keeps_heard_with o b r o.groups ask server t fact so looks) (λ e. keeps_stay o fact (Reads b (Some r)) (so, looks))
 
   keeps_on_told : (o : Opening) (stage : Stage) (ask server : ℕ) (t : Told) → IsOpening o → ReadsLog log stage → Keeps (on_told o stage ask server t)
   unfolding on_told
-  keeps_on_told o Hails ask server t is st = keeps_stay o is Hails tt
-  keeps_on_told o (Gathers lists) ask server t is st = keeps_stay o is (Gathers lists) tt
-  keeps_on_told o (Asks lists) ask server t is st = keeps_stay o is (Asks lists) tt
-  keeps_on_told o (Reads b r) ask server t is st = keeps_heard o b r ask server t is st.0 st.1
-  keeps_on_told o Over ask server t is st = keeps_stay o is Over tt
+  keeps_on_told o Hails ask server t fact st = keeps_stay o fact Hails tt
+  keeps_on_told o (Gathers lists) ask server t fact st = keeps_stay o fact (Gathers lists) tt
+  keeps_on_told o (Asks lists) ask server t fact st = keeps_stay o fact (Asks lists) tt
+  keeps_on_told o (Reads b r) ask server t fact st = keeps_heard o b r ask server t fact st.0 st.1
+  keeps_on_told o Over ask server t fact st = keeps_stay o fact Over tt
 
   again_tells : (o : Opening) (r : Option ReadingState) → AllByRecursion (ChainTells log) (asked_again o r)
   again_tells o None = (tt, tt)
@@ -226,13 +226,13 @@ module _ (reach : Reach) (log : ℕ) where
   InputTells Tick = Unit {0}
 
   keeps_takes : (o : Opening) (stage : Stage) (input : In) → IsOpening o → ReadsLog log stage → InputTells input → Keeps (takes o stage input)
-  keeps_takes o stage (Welcome ask news groups) is st tells = keeps_on_welcome o stage ask news groups is tells st
-  keeps_takes o stage (Fenced server generation held) is st tells =
-      keeps_on_fenced o stage (record { server = server; generation = generation; held = held }) is st
-  keeps_takes o stage (Got ask server generation fragment) is st tells = keeps_on_told o stage ask server _ is st
-  keeps_takes o stage (Missing ask server generation) is st tells = keeps_on_told o stage ask server _ is st
-  keeps_takes o stage (Maps groups) is st tells = record { opening = record { own = is.own; low = is.low }; stage = st; outs = tt }
-  keeps_takes o stage Tick is st tells = record { opening = is; stage = st; outs = tick_tells o stage }
+  keeps_takes o stage (Welcome ask news groups) fact st tells = keeps_on_welcome o stage ask news groups fact tells st
+  keeps_takes o stage (Fenced server generation held) fact st tells =
+      keeps_on_fenced o stage (record { server = server; generation = generation; held = held }) fact st
+  keeps_takes o stage (Got ask server generation fragment) fact st tells = keeps_on_told o stage ask server _ fact st
+  keeps_takes o stage (Missing ask server generation) fact st tells = keeps_on_told o stage ask server _ fact st
+  keeps_takes o stage (Maps groups) fact st tells = record { opening = record { own = fact.own; low = fact.low }; stage = st; outs = tt }
+  keeps_takes o stage Tick fact st tells = record { opening = fact; stage = st; outs = tick_tells o stage }
 
   pub record ScanKeeps (d : Done) : Type 0 where
     pub state : ScanReaches reach log d.state

@@ -77,13 +77,13 @@ module _ (known : Known) (acts : List Act) (its_number : ℕ) (log_id : LogId) w
       (λ _. record { state = before; outs = tt })
 
   settled_on : (s : WriterState) (end : End) → WriterSo s → known (writer.part_at log_id end) → Writes (writer.on_settled s end)
-  settled_on s end before is = by s.work before.work
+  settled_on s end before fact = by s.work before.work
     where
       by : (work : Option WorkState) → IfSome work (WorkNames known) → Writes (writer.settled s work end)
       by None h = record { state = before; outs = tt }
       by (Some w) h =
           goes_on s (record w { parts = w.parts ++ writer.part_at s.log end ∷ [] }) before.own
-          (all_append known w.parts (writer.part_at s.log end ∷ []) h (subst (λ l. known (writer.part_at l end)) (sym before.own) is, tt))
+          (all_append known w.parts (writer.part_at s.log end ∷ []) h (subst (λ l. known (writer.part_at l end)) (sym before.own) fact, tt))
 
   acked_on : (s : WriterState) (epoch number : ℕ) → WriterSo s → Writes (writer.on_ack s epoch number)
   acked_on s epoch number before = by s.asked
@@ -99,10 +99,10 @@ module _ (known : Known) (acts : List Act) (its_number : ℕ) (log_id : LogId) w
           (λ _. record { state = before; outs = tt }) (λ _. record { state = record { work = before.work; own = before.own }; outs = answer_on own })
 
   writer_goes : (s : WriterState) (given : WriterIn) → WriterSo s → InSo given → Writes (writer.transition s given)
-  writer_goes s (writer_in.Begin slot epoch pages parts horizon) before is =
-      begun_on s (record { slot = slot; epoch = epoch; left = pages; parts = parts; horizon = horizon }) before is
-  writer_goes s (writer_in.Settled end) before is = settled_on s end before is
-  writer_goes s (writer_in.Ack epoch number) before is = acked_on s epoch number before
+  writer_goes s (writer_in.Begin slot epoch pages parts horizon) before fact =
+      begun_on s (record { slot = slot; epoch = epoch; left = pages; parts = parts; horizon = horizon }) before fact
+  writer_goes s (writer_in.Settled end) before fact = settled_on s end before fact
+  writer_goes s (writer_in.Ack epoch number) before fact = acked_on s epoch number before
 
   -- ---- what the writer says
 
@@ -148,35 +148,35 @@ module _ (known : Known) (acts : List Act) (its_number : ℕ) (log_id : LogId) w
   }
 
   awaits_done : (m : CkptDone) → DoneNames known m → (job : Option Checkpointing) → IfSome (awaiting m job) (JobNames known)
-  awaits_done m is None = tt
-  awaits_done m is (Some job) = is
+  awaits_done m fact None = tt
+  awaits_done m fact (Some job) = fact
 
   registers_on : (s : Serving) (m : CkptDone) → DoneNames known m → Plain s → Goes (registers s m)
   unfolding registers
-  registers_on s m is h = record {
+  registers_on s m fact h = record {
     state = record {
-      slots = table_named known s.slots m.slot m.epoch m.parts is h.slots;
+      slots = table_named known s.slots m.slot m.epoch m.parts fact h.slots;
       work = h.work;
       own = h.own;
       its = h.its;
-      done = awaits_done m is s.checkpoint;
+      done = awaits_done m fact s.checkpoint;
       more = tt;
     };
-    outs = (is, tt);
+    outs = (fact, tt);
   }
 
   says_on : (s : Serving) (o : Out) → Plain s → OutSo o → Goes (says s o)
   unfolding says
-  says_on s (out.Parts items) h is = parts_on s items h
-  says_on s (out.Done slot epoch parts horizon) h is =
-      registers_on (asked s) _ is (record { slots = h.slots; work = h.work; own = h.own; its = h.its; done = h.done; more = tt })
-  says_on s out.Kept h is = record { state = h; outs = tt }
-  says_on s (out.Stale epoch) h is = record { state = h; outs = tt }
+  says_on s (out.Parts items) h fact = parts_on s items h
+  says_on s (out.Done slot epoch parts horizon) h fact =
+      registers_on (asked s) _ fact (record { slots = h.slots; work = h.work; own = h.own; its = h.its; done = h.done; more = tt })
+  says_on s out.Kept h fact = record { state = h; outs = tt }
+  says_on s (out.Stale epoch) h fact = record { state = h; outs = tt }
 
   writer_on : (s : Serving) (given : WriterIn) → Plain s → InSo given → Goes (writer_takes s given)
   unfolding writer_takes says_each
-  writer_on s given h is =
-      let d = writer_goes s.writer given (record { work = h.work; own = h.own }) is in
+  writer_on s given h fact =
+      let d = writer_goes s.writer given (record { work = h.work; own = h.own }) fact in
       let after = d.state in
       leaves_each Plain (Says known) OutSo says says_on (record s { writer = (writer.transition s.writer given).state })
       (writer.transition s.writer given).outs (record { slots = h.slots; work = after.work; own = after.own; its = h.its; done = h.done; more = tt }) d.outs
@@ -185,16 +185,16 @@ module _ (known : Known) (acts : List Act) (its_number : ℕ) (log_id : LogId) w
 
   settles_on : (s : Serving) (end : End) → Plain s → FiledKnown known acts its_number log_id end → Tells (on_settled s end)
   unfolding on_settled
-  settles_on s end h is acted =
+  settles_on s end h fact acted =
       let filed_so : Contains acts (Filed (name_of (log_of its_number) end)) =
       subst (λ n. Contains acts (Filed (name_of (log_of n) end))) h.its acted.0 in
       goes_after Plain (Says known) (filed s end) (writer_takes s (writer_in.Settled end)) (tt, tt)
-      (writer_on s (writer_in.Settled end) h (is filed_so))
+      (writer_on s (writer_in.Settled end) h (fact filed_so))
 
   log_says_on : (s : Serving) (o : LogOut) → Plain s → LogOutNames known acts its_number log_id o → Tells (log_says s o)
   unfolding log_says
-  log_says_on s (log_out.Send fragment member) h is acted = record { state = h; outs = (tt, tt) }
-  log_says_on s (log_out.Settled end rows) h is acted = settles_on s end h is acted
+  log_says_on s (log_out.Send fragment member) h fact acted = record { state = h; outs = (tt, tt) }
+  log_says_on s (log_out.Settled end rows) h fact acted = settles_on s end h fact acted
 
   writes_on : (s : Serving) (given : LogIn) → Plain s → AllByRecursion (LogOutNames known acts its_number log_id) (log.transition s.log given).outs
       → Tells (writes s given)
@@ -224,10 +224,10 @@ module _ (known : Known) (acts : List Act) (its_number : ℕ) (log_id : LogId) w
   }
 
   writes_slot-on : (s : Serving) (o : Option WriterIn) → Plain s → IfSome o (BeginNames known) → Goes (writes_slot s o)
-  writes_slot-on s None h is = record { state = h; outs = tt }
-  writes_slot-on s (Some (writer_in.Begin slot epoch pages parts horizon)) h is = writer_on s (writer_in.Begin slot epoch pages parts horizon) h is
-  writes_slot-on s (Some (writer_in.Settled end)) h is = absurd is
-  writes_slot-on s (Some (writer_in.Ack epoch number)) h is = absurd is
+  writes_slot-on s None h fact = record { state = h; outs = tt }
+  writes_slot-on s (Some (writer_in.Begin slot epoch pages parts horizon)) h fact = writer_on s (writer_in.Begin slot epoch pages parts horizon) h fact
+  writes_slot-on s (Some (writer_in.Settled end)) h fact = absurd fact
+  writes_slot-on s (Some (writer_in.Ack epoch number)) h fact = absurd fact
 
   begins_on : (s : Serving) (slot : ℕ) → Plain s → Goes (begins_slot s slot)
   unfolding begins_slot
@@ -241,14 +241,14 @@ module _ (known : Known) (acts : List Act) (its_number : ℕ) (log_id : LogId) w
   next_on s h = by s.checkpoint h.done
     where
       by_slot : (job : Checkpointing) → JobNames known job → (o : Option ℕ) → Goes (next_from s job o)
-      by_slot job is None = no_more-on s job h
-      by_slot job is (Some slot) =
+      by_slot job fact None = no_more-on s job h
+      by_slot job fact (Some slot) =
           begins_on (record s { checkpoint = Some (record job { next = slot_after slot }) }) slot
-          (record { slots = h.slots; work = h.work; own = h.own; its = h.its; done = is; more = tt })
+          (record { slots = h.slots; work = h.work; own = h.own; its = h.its; done = fact; more = tt })
 
       by : (checkpoint : Option Checkpointing) → IfSome checkpoint (JobNames known) → Goes (next_for s checkpoint)
-      by None is = record { state = h; outs = tt }
-      by (Some job) is = by_slot job is (next_active s.slots job.next)
+      by None fact = record { state = h; outs = tt }
+      by (Some job) fact = by_slot job fact (next_active s.slots job.next)
 
   -- ---- the events
 
@@ -261,16 +261,16 @@ module _ (known : Known) (acts : List Act) (its_number : ℕ) (log_id : LogId) w
 
   one_counted : (job : Option Checkpointing) (o : Out) → IfSome job (JobNames known) → IfSome (counted job o) (JobNames known)
   unfolding counted
-  one_counted None out.Kept is = tt
-  one_counted (Some job) out.Kept is = tt
-  one_counted None (out.Stale epoch) is = tt
-  one_counted (Some job) (out.Stale epoch) is = tt
-  one_counted job (out.Parts items) is = is
-  one_counted job (out.Done slot epoch parts horizon) is = is
+  one_counted None out.Kept fact = tt
+  one_counted (Some job) out.Kept fact = tt
+  one_counted None (out.Stale epoch) fact = tt
+  one_counted (Some job) (out.Stale epoch) fact = tt
+  one_counted job (out.Parts items) fact = fact
+  one_counted job (out.Done slot epoch parts horizon) fact = fact
 
   all_counted : (job : Option Checkpointing) (outs : List Out) → IfSome job (JobNames known) → IfSome (fold counted job outs) (JobNames known)
-  all_counted job [] is = is
-  all_counted job (o ∷ outs) is = all_counted (counted job o) outs (one_counted job o is)
+  all_counted job [] fact = fact
+  all_counted job (o ∷ outs) fact = all_counted (counted job o) outs (one_counted job o fact)
 
   answered_on : (s : Serving) (r : Stepped WriterState Out) → Plain s → WriterSo r.state → Goes (answered_by s r)
   answered_on s r h left =
@@ -293,9 +293,9 @@ module _ (known : Known) (acts : List Act) (its_number : ℕ) (log_id : LogId) w
   tells_on s h = record { state = h; outs = by s.checkpoint h.done }
     where
       by_done : (done : Option CkptDone) → IfSome done (DoneNames known) → AllSay known (done_again done)
-      by_done None is = tt
-      by_done (Some done) is = (is, tt)
+      by_done None fact = tt
+      by_done (Some done) fact = (fact, tt)
 
       by : (checkpoint : Option Checkpointing) → IfSome checkpoint (JobNames known) → AllSay known (told_again checkpoint)
-      by None is = tt
-      by (Some job) is = by_done job.done is
+      by None fact = tt
+      by (Some job) fact = by_done job.done fact

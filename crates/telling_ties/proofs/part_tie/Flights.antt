@@ -71,19 +71,19 @@ module _ (known : Known) (acts : List Act) (its_number : ℕ) (log : LogId) wher
 
   settles : (s : LogState) (f : FlightState) → Flown f → GivesSo (settled s f)
   unfolding settled
-  settles s f is = all_append OutNames (Settled (end_from f.segment) (rows_of f.segment) ∷ []) (if_full (landed s f)).outs (is, tt) (fills (landed s f))
+  settles s f fact = all_append OutNames (Settled (end_from f.segment) (rows_of f.segment) ∷ []) (if_full (landed s f)).outs (fact, tt) (fills (landed s f))
 
   follows : (s : LogState) (f : FlightState) (fate : Fate) → Flown f → GivesSo (followed s f fate)
   unfolding restriped
-  follows s f Restripe is = launches s _ _ _
-  follows s f Settle is = settles s f is
-  follows s f Wait is = tt
+  follows s f Restripe fact = launches s _ _ _
+  follows s f Settle fact = settles s f fact
+  follows s f Wait fact = tt
 
   looks : (before s : LogState) (f : FlightState) → Flown f → GivesSo (looked_at before s f)
   unfolding looked_at
-  looks before s f is =
+  looks before s f fact =
       by_test GivesSo (can_follow s f (fate_of s.groups f)) (followed s f (fate_of s.groups f)) (still before)
-      (λ _. follows s f (fate_of s.groups f) is) (λ _. tt)
+      (λ _. follows s f (fate_of s.groups f) fact) (λ _. tt)
 
   pub acked_names : (s : LogState) (name : SegName) (index generation : ℕ) → FlightNames known acts its_number log s
       → GivesSo (on_acked s name index generation)
@@ -92,9 +92,9 @@ module _ (known : Known) (acts : List Act) (its_number : ℕ) (log : LogId) wher
     where
       by : (o : Option FlightState) → s.flight ≡ o
           → GivesSo (elim o [ None ↦ still s | Some f ↦ cond (is_of f name index generation) (looked_at s s (noting f index)) (still s) ])
-      by None is = tt
-      by (Some f) is =
-          by_test GivesSo (is_of f name index generation) (looked_at s s (noting f index)) (still s) (λ _. looks s s (noting f index) (flies f is)) (λ _. tt)
+      by None fact = tt
+      by (Some f) fact =
+          by_test GivesSo (is_of f name index generation) (looked_at s s (noting f index)) (still s) (λ _. looks s s (noting f index) (flies f fact)) (λ _. tt)
 
   pub maps_names : (s : LogState) (groups : GroupMapState) → FlightNames known acts its_number log s → GivesSo (on_maps s groups)
   unfolding on_maps
@@ -102,8 +102,8 @@ module _ (known : Known) (acts : List Act) (its_number : ℕ) (log : LogId) wher
     where
       by : (o : Option FlightState) → s.flight ≡ o
           → GivesSo (elim o [ None ↦ still (record s { groups = groups }) | Some f ↦ looked_at s (record s { groups = groups }) f ])
-      by None is = tt
-      by (Some f) is = looks s (record s { groups = groups }) f (flies f is)
+      by None fact = tt
+      by (Some f) fact = looks s (record s { groups = groups }) f (flies f fact)
 
   pub tick_names : (s : LogState) → GivesSo (on_tick s)
   unfolding on_tick

@@ -174,32 +174,32 @@ module _ (known : Known) (acts : List Act) where
   welcome_on : (peers : Peers) (life : Life) (hello : ℕ) (welcome : Welcome) → BodyNames known (body.Welcome welcome)
       → Tells (on_welcome peers life hello welcome)
   unfolding on_welcome
-  welcome_on peers life hello welcome is =
+  welcome_on peers life hello welcome fact =
       by_test Tells (takes_welcome peers life hello welcome)
       (serves (on_news (again life (forgotten peers.servers) welcome.news.groups) peers.clients welcome.news))
       (still (Waiting life hello))
       (λ _. serving-if (on_news (again life (forgotten peers.servers) welcome.news.groups) peers.clients welcome.news) life.number (log_of life.number)
-      (news_on known acts life.number (log_of life.number) (again life (forgotten peers.servers) welcome.news.groups) peers.clients welcome.news is
+      (news_on known acts life.number (log_of life.number) (again life (forgotten peers.servers) welcome.news.groups) peers.clients welcome.news fact
       (again_names life peers welcome)))
       (λ _ acted. record { state = tt; outs = tt })
 
   awaited_on : (peers : Peers) (life : Life) (hello : ℕ) (said : Body) → BodyNames known said → Tells (on_waiting peers life hello said)
-  awaited_on peers life hello (body.Welcome welcome) is = welcome_on peers life hello welcome is
-  awaited_on peers life hello _ is = λ acted. record { state = tt; outs = tt }
+  awaited_on peers life hello (body.Welcome welcome) fact = welcome_on peers life hello welcome fact
+  awaited_on peers life hello _ fact = λ acted. record { state = tt; outs = tt }
 
   packet_goes : (peers : Peers) (p : Phase) (packet : Packet) → PhaseNames known p → PacketNames known packet → PhaseFlies known acts p
       → Tells (on_packet peers p packet)
-  packet_goes peers (Down life) packet h is flies = λ acted. record { state = tt; outs = tt }
-  packet_goes peers (Waiting life hello) packet h is flies = awaited_on peers life hello packet.body is
-  packet_goes peers (Serves s) packet h is flies =
+  packet_goes peers (Down life) packet h fact flies = λ acted. record { state = tt; outs = tt }
+  packet_goes peers (Waiting life hello) packet h fact flies = awaited_on peers life hello packet.body fact
+  packet_goes peers (Serves s) packet h fact flies =
       serving-if (hears s peers.clients packet) s.lasting.number s.writer.log
-      (packet_on known acts s.lasting.number s.writer.log s peers.clients packet (held s h flies) is)
+      (packet_on known acts s.lasting.number s.writer.log s peers.clients packet (held s h flies) fact)
 
   deliver_goes : (peers : Peers) (p : Phase) (packet : Packet) → PhaseNames known p → PacketNames known packet → PhaseFlies known acts p
       → Tells (on_deliver peers p packet)
   unfolding on_deliver
-  deliver_goes peers p packet h is flies =
-      by_test Tells (is_well_formed peers packet) (on_packet peers p packet) (still p) (λ _. packet_goes peers p packet h is flies) (λ _ acted. unmoved p h)
+  deliver_goes peers p packet h fact flies =
+      by_test Tells (is_well_formed peers packet) (on_packet peers p packet) (still p) (λ _. packet_goes peers p packet h fact flies) (λ _ acted. unmoved p h)
 
   time_goes : (p : Phase) → PhaseNames known p → PhaseFlies known acts p → Tells (on_time p)
   unfolding on_time
@@ -211,14 +211,14 @@ module _ (known : Known) (acts : List Act) where
   -- ---- all events
 
   event_goes : (peers : Peers) (p : Phase) (what : Do) → PhaseNames known p → DoNames known what → PhaseFlies known acts p → Tells (on_event peers p what)
-  event_goes peers p Begin h is flies = λ acted. begins_on p h
-  event_goes peers p (Deliver packet) h is flies = deliver_goes peers p packet h is flies
-  event_goes peers p Tick h is flies = time_goes p h flies
+  event_goes peers p Begin h fact flies = λ acted. begins_on p h
+  event_goes peers p (Deliver packet) h fact flies = deliver_goes peers p packet h fact flies
+  event_goes peers p Tick h fact flies = time_goes p h flies
 
   manager_goes : (m : Manager) (what : Do) → ManagerNames known m → DoNames known what → PhaseFlies known acts m.phase → Tells (happens m what)
   unfolding happens
-  manager_goes m what h is flies =
-      by_test Tells (phase_has_room m.phase) (on_event m.peers m.phase what) (still m.phase) (λ _. event_goes m.peers m.phase what h is flies)
+  manager_goes m what h fact flies =
+      by_test Tells (phase_has_room m.phase) (on_event m.peers m.phase what) (still m.phase) (λ _. event_goes m.peers m.phase what h fact flies)
       (λ _ acted. unmoved m.phase h)
 
 -- ---- the laws
@@ -226,10 +226,10 @@ module _ (known : Known) (acts : List Act) where
 -- of any segments that are known
 pub any_manager_names : (known : Known) (m : Manager) (what : Do) → ManagerNames known m → DoNames known what
     → PhaseFlies known (manager_step m what).acts m.phase → NamesKnown (ManagerNames known) known (manager_step m what)
-any_manager_names known m what h is flies =
+any_manager_names known m what h fact flies =
     let name : NodeId = AManager (lasting_of m.phase).number in
     let acts : List Act = (manager_step m what).acts in
-    let d = manager_goes known acts m what h is flies (acts_acted acts name (happens m what).outs (contains_all acts)) in
+    let d = manager_goes known acts m what h fact flies (acts_acted acts name (happens m what).outs (contains_all acts)) in
     record { node = d.state; packets = packets_name known name (happens m what).outs d.outs }
 
 module _ (known later : Known) (more : (ref : SegRef) → known ref → later ref) where
@@ -271,4 +271,4 @@ pub manager_names_rise : ManagerNamesRise
 manager_names_rise refs later m more h = phase_rises (named_by refs) (named_by later) more m.phase h
 
 pub managers_name : ManagersNameKnown
-managers_name refs m what h is flies = any_manager_names (named_by refs) m what h is flies
+managers_name refs m what h fact flies = any_manager_names (named_by refs) m what h fact flies

@@ -68,16 +68,16 @@ module _ (known : Known) where
   keep_keeps : (s : BoardState) (slot epoch : ℕ) (parts : List SegRef) (horizon : List ℕ) → AllKnown known parts → BoardNames known s
       → Keeps (keep s slot epoch parts horizon)
   unfolding keep
-  keep_keeps s slot epoch parts horizon is h =
+  keep_keeps s slot epoch parts horizon fact h =
       by_test Keeps (s.version == u32_end) (still s) (record { state = checkpointed s slot parts horizon; outs = Kept epoch ∷ [] })
-      (λ _. h) (λ _. put_one s.checkpoints slot (record { parts = parts; horizon = horizon }) h is)
+      (λ _. h) (λ _. put_one s.checkpoints slot (record { parts = parts; horizon = horizon }) h fact)
 
   done_keeps : (s : BoardState) (slot epoch : ℕ) (parts : List SegRef) (horizon : List ℕ) → AllKnown known parts → BoardNames known s
       → Keeps (done s slot epoch parts horizon)
   unfolding done
-  done_keeps s slot epoch parts horizon is h =
+  done_keeps s slot epoch parts horizon fact h =
       by_test Keeps (nat_lt 7 slot) (still s) _ (λ _. h)
-      (λ _. by_test Keeps (is_kept s slot epoch horizon) (keep s slot epoch parts horizon) _ (λ _. keep_keeps s slot epoch parts horizon is h) (λ _. h))
+      (λ _. by_test Keeps (is_kept s slot epoch horizon) (keep s slot epoch parts horizon) _ (λ _. keep_keeps s slot epoch parts horizon fact h) (λ _. h))
 
   -- ---- what it tells
 
@@ -134,8 +134,8 @@ module _ (known : Known) where
 
   done_on : (node : RegistryNode) (from : NodeId) (m : CkptDone) → AllKnown known m.parts → RegistryNames known node → Goes (on_done node from m)
   unfolding on_done
-  done_on node from m is h = record {
-    state = done_keeps node.board m.slot m.epoch m.parts m.horizon is h;
+  done_on node from m fact h = record {
+    state = done_keeps node.board m.slot m.epoch m.parts m.horizon fact h;
     outs = all_flat_map (Says known) (kept from m) (kept_says from m) (transition node.board (input.Done m.slot m.epoch m.parts m.horizon)).outs;
   }
 
@@ -155,23 +155,24 @@ module _ (known : Known) where
   begin_on node h = begun_on (record node { items = begun node.items }) (next_item node.items) h
 
   body_on : (node : RegistryNode) (from : NodeId) (said : Body) → BodyNames known said → RegistryNames known node → Goes (hears node from said)
-  body_on node from (body.Hello m) is h = hello_on node from m h
-  body_on node from (body.CkptDone m) is h = done_on node from m is h
-  body_on node from _ is h = unmoved node h
+  body_on node from (body.Hello m) fact h = hello_on node from m h
+  body_on node from (body.CkptDone m) fact h = done_on node from m fact h
+  body_on node from _ fact h = unmoved node h
 
   packet_on : (node : RegistryNode) (packet : Packet) → PacketNames known packet → RegistryNames known node → Goes (on_packet node packet)
   unfolding on_packet
-  packet_on node packet is h =
-      by_test Goes (is_well_formed node.peers packet) (hears node packet.from packet.body) (still node) (λ _. body_on node packet.from packet.body is h)
+  packet_on node packet fact h =
+      by_test Goes (is_well_formed node.peers packet) (hears node packet.from packet.body) (still node) (λ _. body_on node packet.from packet.body fact h)
       (λ _. unmoved node h)
 
   event_on : (node : RegistryNode) (what : Do) → DoNames known what → RegistryNames known node → Goes (on_event node what)
-  event_on node Begin is h = begin_on node h
-  event_on node (Deliver packet) is h = packet_on node packet is h
-  event_on node Tick is h = record { state = h; outs = all_told node h }
+  event_on node Begin fact h = begin_on node h
+  event_on node (Deliver packet) fact h = packet_on node packet fact h
+  event_on node Tick fact h = record { state = h; outs = all_told node h }
 
   takes_on : (node : RegistryNode) (what : Do) → DoNames known what → RegistryNames known node → Goes (takes node what)
-  takes_on node what is h = by_test Goes (has_room node.board.version) (on_event node what) (still node) (λ _. event_on node what is h) (λ _. unmoved node h)
+  takes_on node what fact h =
+      by_test Goes (has_room node.board.version) (on_event node what) (still node) (λ _. event_on node what fact h) (λ _. unmoved node h)
 
 -- ---- the laws
 
@@ -181,8 +182,8 @@ first_names known setup works = (tt, (tt, (tt, (tt, (tt, (tt, (tt, (tt, tt))))))
 
 pub any_registry_names : (known : Known) (node : RegistryNode) (what : Do) → RegistryNames known node → DoNames known what
     → NamesKnown (RegistryNames known) known (registry_step node what)
-any_registry_names known node what h is =
-    let d = takes_on known node what is h in record { node = d.state; packets = packets_name known Registry (takes node what).outs d.outs }
+any_registry_names known node what h fact =
+    let d = takes_on known node what fact h in record { node = d.state; packets = packets_name known Registry (takes node what).outs d.outs }
 
 pub any_names_rise : (known later : Known) (node : RegistryNode) → ((ref : SegRef) → known ref → later ref) → RegistryNames known node
     → RegistryNames later node
@@ -194,7 +195,7 @@ pub registry_starts : RegistryStartsNaming
 registry_starts refs setup works = first_names (named_by refs) setup works
 
 pub registry_names : RegistryNamesKnown
-registry_names refs node what h is = any_registry_names (named_by refs) node what h is
+registry_names refs node what h fact = any_registry_names (named_by refs) node what h fact
 
 pub registry_names_rise : RegistryNamesRise
 registry_names_rise refs later node more h = any_names_rise (named_by refs) (named_by later) node more h

@@ -192,27 +192,27 @@ module _ (known : Known) (acts : List Act) (its_number : ℕ) (log_id : LogId) w
   -- ---- all packets
 
   body_on : (s : Serving) (clients : ℕ) (from : NodeId) (said : Body) → Before s → BodyNames known said → After (on_body s clients from said)
-  body_on s clients from (body.MapNews news) h is = fitting_on s clients news is h
-  body_on s clients from (body.Welcome welcome) h is =
+  body_on s clients from (body.MapNews news) h fact = fitting_on s clients news fact h
+  body_on s clients from (body.Welcome welcome) h fact =
       by_test After (welcome.inc == s.lasting.inc) (on_fitting_news s clients welcome.news) (still s)
-      (λ _. fitting_on s clients welcome.news is h) (λ _. still_on s h)
-  body_on s clients from (body.Want want) h is = calmly (on_want s (client_in from) want) (want_on Flown s (client_in from) want h)
-  body_on s clients from (body.Gave gave) h is = calmly (on_gave s (client_in from) gave) (gave_on Flown s (client_in from) gave h)
-  body_on s clients from (body.Deltas deltas) h is = calmly (on_deltas s (fed_log from) deltas) (deltas_on Flown s (fed_log from) deltas h)
-  body_on s clients from (body.Check check) h is = calmly (on_check s check) (check_on Flown s check h)
-  body_on s clients from (body.UsageAsk asked) h is = calmly (on_usage_ask s asked) (usage_on Flown s asked h)
-  body_on s clients from (body.Report report) h is = calmly (on_report s from report) (report_on Flown s from report h)
-  body_on s clients from (body.Fragment found) h is = calmly (on_found s (server_in from) found) (found_on Flown s (server_in from) found h)
-  body_on s clients from (body.Missing missing) h is = calmly (on_missing s (server_in from) missing) (missing_on Flown s (server_in from) missing h)
-  body_on s clients from (body.Stored stored) h is = stored_on known acts its_number log_id s stored h
-  body_on s clients from (body.CkptAck ack) h is = λ acted. acks_on known acts its_number log_id s ack (plainly known acts its_number log_id s h)
-  body_on s clients from _ h is = still_on s h
+      (λ _. fitting_on s clients welcome.news fact h) (λ _. still_on s h)
+  body_on s clients from (body.Want want) h fact = calmly (on_want s (client_in from) want) (want_on Flown s (client_in from) want h)
+  body_on s clients from (body.Gave gave) h fact = calmly (on_gave s (client_in from) gave) (gave_on Flown s (client_in from) gave h)
+  body_on s clients from (body.Deltas deltas) h fact = calmly (on_deltas s (fed_log from) deltas) (deltas_on Flown s (fed_log from) deltas h)
+  body_on s clients from (body.Check check) h fact = calmly (on_check s check) (check_on Flown s check h)
+  body_on s clients from (body.UsageAsk asked) h fact = calmly (on_usage_ask s asked) (usage_on Flown s asked h)
+  body_on s clients from (body.Report report) h fact = calmly (on_report s from report) (report_on Flown s from report h)
+  body_on s clients from (body.Fragment found) h fact = calmly (on_found s (server_in from) found) (found_on Flown s (server_in from) found h)
+  body_on s clients from (body.Missing missing) h fact = calmly (on_missing s (server_in from) missing) (missing_on Flown s (server_in from) missing h)
+  body_on s clients from (body.Stored stored) h fact = stored_on known acts its_number log_id s stored h
+  body_on s clients from (body.CkptAck ack) h fact = λ acted. acks_on known acts its_number log_id s ack (plainly known acts its_number log_id s h)
+  body_on s clients from _ h fact = still_on s h
 
   pub packet_on : (s : Serving) (clients : ℕ) (packet : Packet) → Before s → BodyNames known packet.body → After (hears s clients packet)
   unfolding hears asks_for_maps
-  packet_on s clients packet h is =
+  packet_on s clients packet h fact =
       by_test After (names_known s.maps packet.body) (on_body s clients packet.from packet.body) (asks_for_maps s)
-      (λ _. body_on s clients packet.from packet.body h is)
+      (λ _. body_on s clients packet.from packet.body h fact)
       (λ _ acted. record { state = record { slots = h.slots; work = h.work; own = h.own; its = h.its; done = h.done; more = tt }; outs = (tt, tt) })
 
   -- ---- time

@@ -20,25 +20,26 @@ use Rattle.telling_ties.specs.reading_tie.Came.{Striped, CameMore, MapStriped, M
 -- maps that are taken, where they are newer
 pub taken_so : (striped : Striped) (maps : Maps) (news : News) → MapsStriped striped maps.groups → MapStriped striped news.groups
     → MapsStriped striped (taken maps news).groups
-taken_so striped maps news h is =
-    by_test (λ (m : Maps). MapsStriped striped m.groups) (is_older maps news) (record maps { version = news.version; groups = Some news.groups }) maps (λ _. is)
+taken_so striped maps news h fact =
+    by_test (λ (m : Maps). MapsStriped striped m.groups) (is_older maps news) (record maps { version = news.version; groups = Some news.groups }) maps
+    (λ _. fact)
     (λ _. h)
 
 module _ (packets : List Packet) (to : NodeId) (cuts : Cuts) where
   module _ (packet : Packet) (among : In packet packets) (reader : packet.to ≡ to) where
     answer_brought : (ask : ℕ) (told : Answered) (server : Option ℕ) → server_in packet.from ≡ server → Tells ask told packet.body
         → AnswerBrought (answered_in packets to) server ask told
-    answer_brought ask told None is tells = tt
-    answer_brought ask told (Some server) is tells = record { packet = packet; among = among; reader = reader; from = is; tells = tells }
+    answer_brought ask told None fact tells = tt
+    answer_brought ask told (Some server) fact tells = record { packet = packet; among = among; reader = reader; from = fact; tells = tells }
 
     body_brought : (b : Body) → packet.body ≡ b → BodyMaps cuts b → BodyBrought (answered_in packets to) (cut_by cuts) packet.from b
-    body_brought (body.Fragment m) is maps =
-        answer_brought m.ask (Held m.fragment) (server_in packet.from) refl (subst (Tells m.ask (Held m.fragment)) (sym is) (refl, refl))
-    body_brought (body.Missing m) is maps =
-        answer_brought m.ask (Missing m.generation) (server_in packet.from) refl (subst (Tells m.ask (Missing m.generation)) (sym is) (refl, refl))
-    body_brought (body.MapNews m) is maps = maps
-    body_brought (body.Welcome m) is maps = maps
-    body_brought _ is maps = tt
+    body_brought (body.Fragment m) fact maps =
+        answer_brought m.ask (Held m.fragment) (server_in packet.from) refl (subst (Tells m.ask (Held m.fragment)) (sym fact) (refl, refl))
+    body_brought (body.Missing m) fact maps =
+        answer_brought m.ask (Missing m.generation) (server_in packet.from) refl (subst (Tells m.ask (Missing m.generation)) (sym fact) (refl, refl))
+    body_brought (body.MapNews m) fact maps = maps
+    body_brought (body.Welcome m) fact maps = maps
+    body_brought _ fact maps = tt
 
   pub do_brought : (what : Do) → DoSent packets to cuts what → DoBrought (answered_in packets to) (cut_by cuts) what
   do_brought Begin h = tt

@@ -12,9 +12,9 @@ use Rattle.segment_format.specs.declared.segment.Segment.{Segment}
 use Rattle.stripe_cleaner.specs.Candidates.{is_candidate, candidates_with_one, candidates_with}
 use Rattle.stripe_cleaner.specs.Checks.{all_dead, any_asked, checks_from, is_awaited, live_at, dead_at, moved_at, moves, place_in, questions}
 use Rattle.stripe_cleaner.specs.CleaningState.{CleaningState}
-use Rattle.stripe_cleaner.specs.Counting.{CountingState, all_slots, has_usage, is_counted, awaited_slots, rank_cmp, rank_of, ranked_with_one, ranked, segment_at, chosen}
+use Rattle.stripe_cleaner.specs.Counting.{CountingState, all_slots, has_usage, is_counted, awaited_slots, fullness_cmp, fullness_of, by_fullness_with_one, by_fullness, segment_at, chosen}
 use Rattle.stripe_cleaner.specs.declared.checks.Check.{Check}
-use Rattle.stripe_cleaner.specs.declared.counting.Rank.{Rank}
+use Rattle.stripe_cleaner.specs.declared.counting.Fullness.{Fullness}
 use Rattle.stripe_cleaner.specs.declared.input.In.{In as Input}
 use Rattle.stripe_cleaner.specs.declared.input.In.TheVariants as input
 use Rattle.stripe_cleaner.specs.declared.output.Out.{Out}
@@ -48,9 +48,9 @@ module _ {K V : Type 0} (P : K × V → Type 0) where
     where
       by : (o : Ordering) → cmp k e.0 ≡ o → AllByRecursion P (insert_entry cmp es k v)
           → AllByRecursion P (match_ordering o ((k, v) ∷ e ∷ es) ((e.0, v) ∷ es) (e ∷ insert_entry cmp es k v))
-      by Less is rest = (here, all)
-      by Equal is rest = (same e.0 is, all.1)
-      by Greater is rest = (all.0, rest)
+      by Less fact rest = (here, all)
+      by Equal fact rest = (same e.0 fact, all.1)
+      by Greater fact rest = (all.0, rest)
 
 all_take : {X : Type 0} (P : X → Type 0) (count : ℕ) (xs : List X) → AllByRecursion P xs → AllByRecursion P (take count xs)
 all_take P zero xs all = tt
@@ -61,9 +61,9 @@ all_map : {X Y : Type 0} (P : Y → Type 0) (f : X → Y) → ((x : X) → P (f 
 all_map P f each [] = tt
 all_map P f each (x ∷ xs) = (each x, all_map P f each xs)
 
--- ranks that are as one are of one name
-rank_exact : (a b : Rank) → rank_cmp a b ≡ Equal → b.name ≡ a.name
-rank_exact a b h = sym (ap (λ (p : ℕ × SegName). p.1) (exact_pairs nat_cmp seg_cmp exact_unsigned seg_cmp_exact (a.live, a.name) (b.live, b.name) h))
+-- of two that stand alike in it the names are one
+fullness_exact : (a b : Fullness) → fullness_cmp a b ≡ Equal → b.name ≡ a.name
+fullness_exact a b h = sym (ap (λ (p : ℕ × SegName). p.1) (exact_pairs nat_cmp seg_cmp exact_unsigned seg_cmp_exact (a.live, a.name) (b.live, b.name) h))
 
 module _ (met : Met) where
   -- a segment that the node is to read was met
@@ -138,34 +138,35 @@ module _ (met : Met) where
 
   one_met : (slots : List SlotNews) (entries : List (SegName × ℕ)) (meta : FragMeta) → met meta.name meta.group → Candidates entries
       → Candidates (candidates_with_one slots entries meta)
-  one_met slots entries meta is all =
+  one_met slots entries meta fact all =
       by_test Candidates (is_candidate slots meta.name) (insert_entry seg_cmp entries meta.name meta.group) entries
-      (λ _. all_put (CandidateMet met) seg_cmp entries meta.name meta.group is
-      (λ q same. subst (λ (name : SegName). met name meta.group) (seg_cmp_exact meta.name q same) is) all)
+      (λ _. all_put (CandidateMet met) seg_cmp entries meta.name meta.group fact
+      (λ q same. subst (λ (name : SegName). met name meta.group) (seg_cmp_exact meta.name q same) fact) all)
       (λ _. all)
 
   with_met : (slots : List SlotNews) (held : List FragMeta) (entries : List (SegName × ℕ)) → AllByRecursion (λ m. met m.name m.group) held → Candidates entries
       → Candidates (candidates_with slots held entries)
-  with_met slots [] entries is all = all
-  with_met slots (m ∷ ms) entries is all = with_met slots ms (candidates_with_one slots entries m) is.1 (one_met slots entries m is.0 all)
+  with_met slots [] entries fact all = all
+  with_met slots (m ∷ ms) entries fact all = with_met slots ms (candidates_with_one slots entries m) fact.1 (one_met slots entries m fact.0 all)
 
-  abbrev RankMet : Rank × ℕ → Type 0
-  RankMet e = met e.0.name e.1
+  abbrev FullnessMet : Fullness × ℕ → Type 0
+  FullnessMet e = met e.0.name e.1
 
-  all_ranked : (usages : List (ℕ × List (SegName × ℕ))) (entries : List (SegName × ℕ)) (before : List (Rank × ℕ)) → Candidates entries
-      → AllByRecursion RankMet before → AllByRecursion RankMet (fold (ranked_with_one usages) before entries)
-  all_ranked usages [] before all have = have
-  all_ranked usages (e ∷ entries) before all have =
-      all_ranked usages entries (ranked_with_one usages before e) all.1
-      (all_put RankMet rank_cmp before (rank_of usages e.0) e.1 all.0
-      (λ q same. subst (λ (name : SegName). met name e.1) (sym (rank_exact (rank_of usages e.0) q same)) all.0) have)
+  all_by_fullness : (usages : List (ℕ × List (SegName × ℕ))) (entries : List (SegName × ℕ)) (before : List (Fullness × ℕ)) → Candidates entries
+      → AllByRecursion FullnessMet before → AllByRecursion FullnessMet (fold (by_fullness_with_one usages) before entries)
+  all_by_fullness usages [] before all have = have
+  all_by_fullness usages (e ∷ entries) before all have =
+      all_by_fullness usages entries (by_fullness_with_one usages before e) all.1
+      (all_put FullnessMet fullness_cmp before (fullness_of usages e.0) e.1 all.0
+      (λ q same. subst (λ (name : SegName). met name e.1) (sym (fullness_exact (fullness_of usages e.0) q same)) all.0) have)
 
-  all_segments : (ranks : List (Rank × ℕ)) → AllByRecursion RankMet ranks → Refs (map segment_at ranks)
+  all_segments : (ordered : List (Fullness × ℕ)) → AllByRecursion FullnessMet ordered → Refs (map segment_at ordered)
   all_segments [] all = tt
-  all_segments (r ∷ ranks) all = (all.0, all_segments ranks all.1)
+  all_segments (r ∷ ordered) all = (all.0, all_segments ordered all.1)
 
   all_chosen : (count : ℕ) (c : CountingState) → Candidates c.candidates → Refs (chosen count c)
-  all_chosen count c all = all_segments (take count (ranked c)) (all_take RankMet count (ranked c) (all_ranked c.usages c.candidates [] all tt))
+  all_chosen count c all =
+      all_segments (take count (by_fullness c)) (all_take FullnessMet count (by_fullness c) (all_by_fullness c.usages c.candidates [] all tt))
 
   counted_met : (count : ℕ) (c : CountingState) → Candidates c.candidates → Goes (cleaning.counted count c)
   counted_met count c all =
@@ -187,21 +188,21 @@ module _ (met : Met) where
 
   list_turn : (server : ℕ) (held : List FragMeta) (l : ListingState) → AllByRecursion (λ m. met m.name m.group) held → Candidates l.candidates
       → Goes (on_list server held l)
-  list_turn server held l is all =
+  list_turn server held l fact all =
       by_test Goes (is_among l.awaited server) (listed (heard l server held)) (still (Listing l))
-      (λ _. listed_turn (heard l server held) (with_met l.slots held l.candidates is all)) (λ _. record { phase = all; outs = tt })
+      (λ _. listed_turn (heard l server held) (with_met l.slots held l.candidates fact all)) (λ _. record { phase = all; outs = tt })
 
   -- ---- each input, by the phase
 
   listed_phase : (server : ℕ) (held : List FragMeta) (p : Phase) → AllByRecursion (λ m. met m.name m.group) held → PhaseMet met p
       → Goes (listed_in server held p)
-  listed_phase server held (Listing l) is h = list_turn server held l is h
-  listed_phase server held Greeting is h = stands Greeting h
-  listed_phase server held (Counting c) is h = stands (Counting c) h
-  listed_phase server held (Reading j seg) is h = stands (Reading j seg) h
-  listed_phase server held (Checking j seg checks) is h = stands (Checking j seg checks) h
-  listed_phase server held (Deleting j seg servers) is h = stands (Deleting j seg servers) h
-  listed_phase server held Over is h = stands Over h
+  listed_phase server held (Listing l) fact h = list_turn server held l fact h
+  listed_phase server held Greeting fact h = stands Greeting h
+  listed_phase server held (Counting c) fact h = stands (Counting c) h
+  listed_phase server held (Reading j seg) fact h = stands (Reading j seg) h
+  listed_phase server held (Checking j seg checks) fact h = stands (Checking j seg checks) h
+  listed_phase server held (Deleting j seg servers) fact h = stands (Deleting j seg servers) h
+  listed_phase server held Over fact h = stands Over h
 
   counted_phase : (count slot : ℕ) (counts : List (SegName × ℕ)) (p : Phase) → PhaseMet met p → Goes (counted_in count slot counts p)
   counted_phase count slot counts (Counting c) h =
@@ -298,25 +299,25 @@ module _ (met : Met) where
 
   pub cleaning_met : (s : CleaningState) (i : Input) → InputMet i → PhaseMet met s.phase → Leaves (transition s i)
   unfolding on_welcome on_promise on_usage on_live on_dead
-  cleaning_met s (input.Welcome slots groups) is h =
+  cleaning_met s (input.Welcome slots groups) fact h =
       by_test Leaves (is_greeting s.phase && (length slots == 8)) (welcomed s slots groups) (still s)
       (λ _. record { phase = tt; outs = asked_lists (begun slots groups).awaited }) (λ _. as_was s h)
-  cleaning_met s (input.Promise slot epoch) is h =
+  cleaning_met s (input.Promise slot epoch) fact h =
       by_test Leaves (is_above s.promised slot epoch) (turned (record s { promised = promised_with s.promised slot epoch }) (forgetting slot s.phase)) (still s)
       (λ _. on_turn (record s { promised = promised_with s.promised slot epoch }) (forgetting slot s.phase) (forgotten_phase slot s.phase h))
       (λ _. as_was s h)
-  cleaning_met s (input.Maps groups) is h = record { phase = mapped_phase groups s.phase h; outs = tt }
-  cleaning_met s (input.Listed server held) is h = on_turn s (listed_in server held s.phase) (listed_phase server held s.phase is h)
-  cleaning_met s (input.Usage slot epoch counts) is h =
+  cleaning_met s (input.Maps groups) fact h = record { phase = mapped_phase groups s.phase h; outs = tt }
+  cleaning_met s (input.Listed server held) fact h = on_turn s (listed_in server held s.phase) (listed_phase server held s.phase fact h)
+  cleaning_met s (input.Usage slot epoch counts) fact h =
       by_test Leaves (is_promised s.promised slot epoch) (turned s (counted_in s.count slot counts s.phase)) (still s)
       (λ _. on_turn s (counted_in s.count slot counts s.phase) (counted_phase s.count slot counts s.phase h)) (λ _. as_was s h)
-  cleaning_met s (input.Read read) is h = on_turn s (read_in read s.phase) (read_phase read s.phase h)
-  cleaning_met s (input.Live block epoch entry) is h =
+  cleaning_met s (input.Read read) fact h = on_turn s (read_in read s.phase) (read_phase read s.phase h)
+  cleaning_met s (input.Live block epoch entry) fact h =
       by_test Leaves (is_heard s.promised block epoch && may_move entry) (turned s (answered_in (live_at block entry) s.phase)) (still s)
       (λ _. on_turn s (answered_in (live_at block entry) s.phase) (answered_phase (live_at block entry) s.phase h)) (λ _. as_was s h)
-  cleaning_met s (input.Dead block epoch) is h =
+  cleaning_met s (input.Dead block epoch) fact h =
       by_test Leaves (is_heard s.promised block epoch) (turned s (answered_in (dead_at block) s.phase)) (still s)
       (λ _. on_turn s (answered_in (dead_at block) s.phase) (answered_phase (dead_at block) s.phase h)) (λ _. as_was s h)
-  cleaning_met s input.Moved is h = on_turn s (moved_in s.phase) (moved_phase s.phase h)
-  cleaning_met s (input.Deleted server name) is h = on_turn s (deleted_in server name s.phase) (deleted_phase server name s.phase h)
-  cleaning_met s input.Tick is h = record { phase = h; outs = awaited_outs s.phase h }
+  cleaning_met s input.Moved fact h = on_turn s (moved_in s.phase) (moved_phase s.phase h)
+  cleaning_met s (input.Deleted server name) fact h = on_turn s (deleted_in server name s.phase) (deleted_phase server name s.phase h)
+  cleaning_met s input.Tick fact h = record { phase = h; outs = awaited_outs s.phase h }

@@ -140,16 +140,16 @@ module _ (came : Came) (striped : Striped) where
 
   news_taken : (e : Emptying) (news : News) → MapStriped striped news.groups → At e → Goes (takes_news e news)
   unfolding takes_news
-  news_taken e news is h =
+  news_taken e news fact h =
       let newer : Bool = is_older e.maps news in
       let t : Emptying = record e { maps = taken e.maps news } in
       let a : Done = job_regrouped t newer news.groups in
       let b : Done = hears_slots a.state news.slots in
       log_hears_groups b.state newer news.groups
-      (slots_heard a.state news.slots (job_hears_groups t newer news.groups (record { maps = taken_so striped e.maps news h.maps is; hand = h.hand })))
+      (slots_heard a.state news.slots (job_hears_groups t newer news.groups (record { maps = taken_so striped e.maps news h.maps fact; hand = h.hand })))
 
   news_heard : (e : Emptying) (news : News) → MapStriped striped news.groups → At e → Goes (on_news e news)
-  news_heard e news is h = by_test Goes (fits e.maps news) (takes_news e news) (still e) (λ _. news_taken e news is h) (λ _. h)
+  news_heard e news fact h = by_test Goes (fits e.maps news) (takes_news e news) (still e) (λ _. news_taken e news fact h) (λ _. h)
 
   welcomed_over : (e : Emptying) (slots : List SlotNews) (groups : Option GroupMapState) → At e → Goes (welcomes_over e slots groups)
   welcomed_over e slots None h = h
@@ -167,33 +167,33 @@ module _ (came : Came) (striped : Striped) where
 
   welcome_heard : (e : Emptying) (m : Welcome) → MapStriped striped m.news.groups → At e → Goes (on_welcome e m)
   unfolding on_welcome
-  welcome_heard e m is h =
+  welcome_heard e m fact h =
       let d : Done = takes_news e m.news in
       by_test Goes ((m.inc == e.lasting.inc) && fits e.maps m.news) (saying d.outs (welcomes d.state m)) (still e)
-      (λ _. job_welcomed d.state m (news_taken e m.news is h)) (λ _. h)
+      (λ _. job_welcomed d.state m (news_taken e m.news fact h)) (λ _. h)
 
   -- ---- packets and time
 
   body_heard : (e : Emptying) (from : NodeId) (said : Body) → BodyBrought came striped from said → At e → Goes (on_body e from said)
-  body_heard e from (body.MapNews m) is h = news_heard e m is h
-  body_heard e from (body.Welcome m) is h = welcome_heard e m is h
-  body_heard e from (body.Poll m) is h = poll_heard e from m h
-  body_heard e from (body.DeltaAck m) is h = acknowledged e m h
-  body_heard e from (body.Stored m) is h = log_takes e (log_in.Acked m.name m.index m.generation) h
-  body_heard e from (body.Listed m) is h = jobs.list_came came striped e (server_in from) m h
-  body_heard e from (body.Usage m) is h = jobs.usage_came came striped e m h
-  body_heard e from (body.Fragment m) is h = jobs.told_came came striped e (server_in from) m.ask (answered.Held m.fragment) is h
-  body_heard e from (body.Missing m) is h = jobs.told_came came striped e (server_in from) m.ask (answered.Missing m.generation) is h
-  body_heard e from (body.Live m) is h = jobs.live_came came striped e m h
-  body_heard e from (body.Dead m) is h = jobs.dead_came came striped e m h
-  body_heard e from (body.Deleted m) is h = jobs.deleted_came came striped e (server_in from) m h
-  body_heard e from _ is h = h
+  body_heard e from (body.MapNews m) fact h = news_heard e m fact h
+  body_heard e from (body.Welcome m) fact h = welcome_heard e m fact h
+  body_heard e from (body.Poll m) fact h = poll_heard e from m h
+  body_heard e from (body.DeltaAck m) fact h = acknowledged e m h
+  body_heard e from (body.Stored m) fact h = log_takes e (log_in.Acked m.name m.index m.generation) h
+  body_heard e from (body.Listed m) fact h = jobs.list_came came striped e (server_in from) m h
+  body_heard e from (body.Usage m) fact h = jobs.usage_came came striped e m h
+  body_heard e from (body.Fragment m) fact h = jobs.told_came came striped e (server_in from) m.ask (answered.Held m.fragment) fact h
+  body_heard e from (body.Missing m) fact h = jobs.told_came came striped e (server_in from) m.ask (answered.Missing m.generation) fact h
+  body_heard e from (body.Live m) fact h = jobs.live_came came striped e m h
+  body_heard e from (body.Dead m) fact h = jobs.dead_came came striped e m h
+  body_heard e from (body.Deleted m) fact h = jobs.deleted_came came striped e (server_in from) m h
+  body_heard e from _ fact h = h
 
   pub packet_heard : (e : Emptying) (packet : Packet) → BodyBrought came striped packet.from packet.body → ServesSo came striped e
       → ServesSo came striped (on_packet e packet).state
   unfolding on_packet
-  packet_heard e packet is h =
-      by_test Goes (names_known e.maps packet.body) (on_body e packet.from packet.body) (asks_for_maps e) (λ _. body_heard e packet.from packet.body is h)
+  packet_heard e packet fact h =
+      by_test Goes (names_known e.maps packet.body) (on_body e packet.from packet.body) (asks_for_maps e) (λ _. body_heard e packet.from packet.body fact h)
       (λ _. h)
 
   pub time_passes : (e : Emptying) → ServesSo came striped e → ServesSo came striped (on_tick e).state

@@ -55,67 +55,67 @@ module _ (came : Came) (striped : Striped) where
 
   grouped : (groups : Option GroupMapState) (id : ℕ) (group : Group) → known_group groups id ≡ Some group → MapsStriped striped groups
       → GroupStriped striped id group
-  grouped None id group is h = absurd cc
-  grouped (Some groups) id group is h = h id group is
+  grouped None id group fact h = absurd cc
+  grouped (Some groups) id group fact h = h id group fact
 
   over_so : (q : Questions) (seg : SegRef) (groups : Option GroupMapState) (group : Option Group) → known_group groups seg.group ≡ group
       → MapsStriped striped groups → Holds (taken_over q seg group).hand
-  over_so q seg groups None is h = tt
-  over_so q seg groups (Some group) is h = record {
+  over_so q seg groups None fact h = tt
+  over_so q seg groups (Some group) fact h = record {
     looks = refl;
-    reading = begun_came came striped (record { seg = seg; block = None }) group (next_ask q) (grouped groups seg.group group is h);
+    reading = begun_came came striped (record { seg = seg; block = None }) group (next_ask q) (grouped groups seg.group group fact h);
   }
 
   in_hand_so : (groups : Option GroupMapState) (q : Questions) (hand : Option Hand) (seg : SegRef) → MapsStriped striped groups → Holds hand
       → Holds (takes_in_hand groups q hand seg).hand
   unfolding takes_in_hand
-  in_hand_so groups q hand seg h is =
+  in_hand_so groups q hand seg h fact =
       by_test (λ (t : Taken). Holds t.hand) (is_in_hand hand seg) (record { hand = hand; questions = q }) (taken_over q seg (known_group groups seg.group))
-      (λ _. is) (λ _. over_so q seg groups (known_group groups seg.group) refl h)
+      (λ _. fact) (λ _. over_so q seg groups (known_group groups seg.group) refl h)
 
   hears_so : (hand : Hand) (r : Option ReadingState) (groups : GroupMapState) (ask server : ℕ) (t : Answered) → HandHolds came striped hand.seg hand.reading
       → LooksFor hand.seg r → AnyReadingCame came striped r → came ask server t → Holds (Some (hears_by hand r groups ask server t).state)
-  hears_so hand None groups ask server t h looks reading is = h
-  hears_so hand (Some r) groups ask server t h looks reading is =
-      record { looks = target-on_answer r groups ask server t ∙ looks; reading = answered_came came striped r groups ask server t reading is }
+  hears_so hand None groups ask server t h looks reading fact = h
+  hears_so hand (Some r) groups ask server t h looks reading fact =
+      record { looks = target-on_answer r groups ask server t ∙ looks; reading = answered_came came striped r groups ask server t reading fact }
 
   hand_heard : (job : Job) (hand : Option Hand) (groups : GroupMapState) (ask server : ℕ) (t : Answered) → Holds job.hand → Holds hand → came ask server t
       → Holds (hand_hears_in job hand groups ask server t).state.hand
   unfolding hand_hears
-  hand_heard job None groups ask server t kept h is = kept
-  hand_heard job (Some hand) groups ask server t kept h is = hears_so hand hand.reading groups ask server t h h.looks h.reading is
+  hand_heard job None groups ask server t kept h fact = kept
+  hand_heard job (Some hand) groups ask server t kept h fact = hears_so hand hand.reading groups ask server t h h.looks h.reading fact
 
   told_so : (e : Emptying) (job : Option Job) (groups : Option GroupMapState) (ask server : ℕ) (t : Answered) → Holds (hand_of job) → At e → came ask server t
       → At (told_in e job groups ask server t).state
   unfolding job_hears
-  told_so e None groups ask server t held h is = h
-  told_so e (Some job) None ask server t held h is = h
-  told_so e (Some job) (Some groups) ask server t held h is =
-      record { maps = h.maps; hand = hand_heard job job.hand groups ask server t held held is }
+  told_so e None groups ask server t held h fact = h
+  told_so e (Some job) None ask server t held h fact = h
+  told_so e (Some job) (Some groups) ask server t held h fact =
+      record { maps = h.maps; hand = hand_heard job job.hand groups ask server t held held fact }
 
   hand_reads : (job : Job) (hand : Option Hand) (groups : GroupMapState) (ask server : ℕ) (t : Answered) (segment : Segment) → Holds hand
       → came ask server t → (hand_hears_in job hand groups ask server t).next ≡ next.Read segment → ReadsHand came striped hand segment
   unfolding hand_hears
-  hand_reads job None groups ask server t segment h is e = absurd cc
-  hand_reads job (Some hand) groups ask server t segment h is e = by hand.reading h.looks h.reading e
+  hand_reads job None groups ask server t segment h fact e = absurd cc
+  hand_reads job (Some hand) groups ask server t segment h fact e = by hand.reading h.looks h.reading e
     where
       by : (r : Option ReadingState) → LooksFor hand.seg r → AnyReadingCame came striped r
           → (hears_by hand r groups ask server t).next ≡ next.Read segment → ReadsJoined came striped hand.seg segment
       by None looks reading read = absurd cc
       by (Some r) looks reading read =
-          let found = answered_reads came striped r groups ask server t segment reading is read in
+          let found = answered_reads came striped r groups ask server t segment reading fact read in
           subst (λ (target : Target). ReadsJoined came striped target.seg segment) looks found.joined
 
   pub told_reads : (e : Emptying) (ask server : ℕ) (t : Answered) (segment : Segment) → ServesSo came striped e → came ask server t
       → (told_by e ask server t).next ≡ next.Read segment → ReadsHand came striped (hand_of e.job) segment
   unfolding told_by job_hears
-  told_reads e ask server t segment h is read_so = by e.job e.maps.groups h.hand read_so
+  told_reads e ask server t segment h fact read_so = by e.job e.maps.groups h.hand read_so
     where
       by : (job : Option Job) (groups : Option GroupMapState) → Holds (hand_of job) → (told_in e job groups ask server t).next ≡ next.Read segment
           → ReadsHand came striped (hand_of job) segment
       by None groups hand read = absurd cc
       by (Some job) None hand read = absurd cc
-      by (Some job) (Some groups) hand read = hand_reads job job.hand groups ask server t segment hand is read
+      by (Some job) (Some groups) hand read = hand_reads job job.hand groups ask server t segment hand fact read
 
   confirms_hand : (hand : Hand) (r : Option ReadingState) (ask : ℕ) → HandHolds came striped hand.seg hand.reading → LooksFor hand.seg r
       → AnyReadingCame came striped r → Holds (Some (confirmed_by hand r ask).state)
@@ -290,7 +290,7 @@ module _ (came : Came) (striped : Striped) where
 
   pub told_came : (e : Emptying) (server : Option ℕ) (ask : ℕ) (t : Answered) → AnswerBrought came server ask t → At e → Goes (on_told e server ask t)
   unfolding on_told told_by
-  told_came e None ask t is h = h
-  told_came e (Some server) ask t is h =
+  told_came e None ask t fact h = h
+  told_came e (Some server) ask t fact h =
       let x : Heard Emptying = told_by e ask server t in
-      after_told_so x.state x.next (told_so e e.job e.maps.groups ask server t h.hand h is)
+      after_told_so x.state x.next (told_so e e.job e.maps.groups ask server t h.hand h fact)

@@ -95,13 +95,13 @@ module _ (came : Came) (striped : Striped) where
 
   heard : (p : Phase) (packet : Packet) → BodyBrought came striped packet.from packet.body → PhaseSo p → Goes (hears p packet)
   unfolding hears
-  heard (Down l) packet is h = tt
-  heard (Opening l o) packet is h = opened l (opening.on_packet o l.questions packet) (maps.packet_so came striped o l.questions packet is h)
-  heard (Serving e) packet is h = packet_heard came striped e packet is h
+  heard (Down l) packet fact h = tt
+  heard (Opening l o) packet fact h = opened l (opening.on_packet o l.questions packet) (maps.packet_so came striped o l.questions packet fact h)
+  heard (Serving e) packet fact h = packet_heard came striped e packet fact h
 
   delivered : (peers : Peers) (p : Phase) (packet : Packet) → BodyBrought came striped packet.from packet.body → PhaseSo p → Goes (on_deliver peers p packet)
   unfolding on_deliver
-  delivered peers p packet is h = by_test Goes (is_well_formed peers packet) (hears p packet) (still p) (λ _. heard p packet is h) (λ _. h)
+  delivered peers p packet fact h = by_test Goes (is_well_formed peers packet) (hears p packet) (still p) (λ _. heard p packet fact h) (λ _. h)
 
   passed : (p : Phase) → PhaseSo p → Goes (on_time p)
   unfolding on_time
@@ -110,17 +110,17 @@ module _ (came : Came) (striped : Striped) where
   passed (Serving e) h = time_passes came striped e h
 
   all_events : (peers : Peers) (p : Phase) (what : Do) → DoBrought came striped what → PhaseSo p → Goes (happens peers p what)
-  all_events peers p Begin is h = item_begun peers.servers p h
-  all_events peers p (Deliver packet) is h = delivered peers p packet is h
-  all_events peers p Tick is h = passed p h
+  all_events peers p Begin fact h = item_begun peers.servers p h
+  all_events peers p (Deliver packet) fact h = delivered peers p packet fact h
+  all_events peers p Tick fact h = passed p h
 
   -- ---- of whatever came
 
   pub any_cleaner_keeps : (cleaner : Cleaner) (what : Do) → CleanerHolds came striped cleaner → DoBrought came striped what
       → CleanerHolds came striped (cleaner_step cleaner what).node
-  any_cleaner_keeps cleaner what h is =
+  any_cleaner_keeps cleaner what h fact =
       by_test Goes (phase_room cleaner.phase) (happens cleaner.peers cleaner.phase what) (still cleaner.phase)
-      (λ _. all_events cleaner.peers cleaner.phase what is h) (λ _. h)
+      (λ _. all_events cleaner.peers cleaner.phase what fact h) (λ _. h)
 
 module _ (came later : Came) (striped more : Striped) (grows : CameMore came later) (widens : StripedMore striped more) where
   hand_rises : (hand : Option Hand) → AnyHandHolds came striped hand → AnyHandHolds later more hand
@@ -141,10 +141,11 @@ cleaner_starts packets to cuts setup works known = record { maps = known; hand =
 pub cleaner_rises : CleanerHoldsRise
 cleaner_rises packets more to cuts cleaner grows h =
     phase_rises (answered_in packets to) (answered_in more to) (cut_by cuts) (cut_by cuts) (answered_more packets more to grows)
-    (λ id members parity is. is) cleaner.phase h
+    (λ id members parity fact. fact) cleaner.phase h
 
 pub cleaner_keeps : CleanerEventsKeep
-cleaner_keeps packets to cuts cleaner what h is = any_cleaner_keeps (answered_in packets to) (cut_by cuts) cleaner what h (do_brought packets to cuts what is)
+cleaner_keeps packets to cuts cleaner what h fact =
+    any_cleaner_keeps (answered_in packets to) (cut_by cuts) cleaner what h (do_brought packets to cuts what fact)
 
 pub cleaner_reads : CleanerReadsWhatCame
-cleaner_reads packets to cuts e ask server told segment h is read = told_reads (answered_in packets to) (cut_by cuts) e ask server told segment h is read
+cleaner_reads packets to cuts e ask server told segment h fact read = told_reads (answered_in packets to) (cut_by cuts) e ask server told segment h fact read

@@ -66,24 +66,24 @@ module _ (came : Came) (striped : Striped) where
   Known r = AnyReadingCame came striped r
 
   call_so : (call : Option Call) (r : Option ReadingState) → Known r → Known (reading_in (call_with call r))
-  call_so None r is = tt
-  call_so (Some call) r is = is
+  call_so None r fact = tt
+  call_so (Some call) r fact = fact
 
   kept_so : (tokens : TokensState) (r : Option ReadingState) → Known r → Known (kept_while tokens r)
-  kept_so tokens None is = tt
-  kept_so tokens (Some r) is = by_test Known (is_fetched tokens r.target.block) (Some r) None (λ _. is) (λ _. tt)
+  kept_so tokens None fact = tt
+  kept_so tokens (Some r) fact = by_test Known (is_fetched tokens r.target.block) (Some r) None (λ _. fact) (λ _. tt)
 
   pub heard_so : (r : Option ReadingState) (groups : Option GroupMapState) (ask server : ℕ) (t : Answered) → AnyReadingCame came striped r → came ask server t
       → AnyReadingCame came striped (heard r groups ask server t).reading
-  heard_so None groups ask server t is it = tt
-  heard_so (Some r) None ask server t is it = is
-  heard_so (Some r) (Some groups) ask server t is it = answered_came came striped r groups ask server t is it
+  heard_so None groups ask server t fact it = tt
+  heard_so (Some r) None ask server t fact it = fact
+  heard_so (Some r) (Some groups) ask server t fact it = answered_came came striped r groups ask server t fact it
 
   pub heard_reads : (r : Option ReadingState) (groups : Option GroupMapState) (ask server : ℕ) (t : Answered) (segment : Segment)
       → AnyReadingCame came striped r → came ask server t → (heard r groups ask server t).next ≡ next.Read segment → ReadsPlace came striped r segment
-  heard_reads None groups ask server t segment is it e = absurd cc
-  heard_reads (Some r) None ask server t segment is it e = absurd cc
-  heard_reads (Some r) (Some groups) ask server t segment is it e = answered_reads came striped r groups ask server t segment is it e
+  heard_reads None groups ask server t segment fact it e = absurd cc
+  heard_reads (Some r) None ask server t segment fact it e = absurd cc
+  heard_reads (Some r) (Some groups) ask server t segment fact it e = answered_reads came striped r groups ask server t segment fact it e
 
   -- a call that goes on
   abbrev pub GoingSo : Going → Type 0
@@ -124,7 +124,7 @@ module _ (came : Came) (striped : Striped) where
 
   -- the open call reads this
   pub read_so : (s : Serving) (r : Option ReadingState) → AnyReadingCame came striped r → ServesSo came striped s → ServesSo came striped (with_reading s r)
-  read_so s r is h = record { maps = h.maps; reading = call_so s.call r is }
+  read_so s r fact h = record { maps = h.maps; reading = call_so s.call r fact }
 
   pub ends_so : (s : Serving) → ServesSo came striped s → ServesSo came striped (ends_reading s)
   ends_so s h = read_so s (kept_while s.tokens (reading_in s.call)) (kept_so s.tokens (reading_in s.call) h.reading) h
@@ -171,39 +171,39 @@ module _ (came : Came) (striped : Striped) where
 
   grouped : (groups : Option GroupMapState) (id : ℕ) (group : Group) → group_in groups id ≡ Some group → MapsStriped striped groups
       → GroupStriped striped id group
-  grouped None id group is h = absurd cc
-  grouped (Some groups) id group is h = h id group is
+  grouped None id group fact h = absurd cc
+  grouped (Some groups) id group fact h = h id group fact
 
   begins_over_so : (s : Serving) (target : Target) (group : Option Group) → group_in s.maps.groups target.seg.group ≡ group → At s
       → Goes (begins_over s target group)
-  begins_over_so s target None is h = h
-  begins_over_so s target (Some group) is h =
+  begins_over_so s target None fact h = h
+  begins_over_so s target (Some group) fact h =
       read_so (draws s) (Some (begun target group (next_ask s.lasting.questions)))
-      (begun_came came striped target group (next_ask s.lasting.questions) (grouped s.maps.groups target.seg.group group is h.maps)) h
+      (begun_came came striped target group (next_ask s.lasting.questions) (grouped s.maps.groups target.seg.group group fact h.maps)) h
 
   begins_so : (s : Serving) (target : Target) → At s → Goes (begins s target)
   unfolding begins
   begins_so s target h = begins_over_so s target (group_in s.maps.groups target.seg.group) refl h
 
   confirmed_next_so : (s : Serving) (r : ReadingState) (x : Next) → ReadingCame came striped r → At s → Goes (confirmed_next s r x)
-  confirmed_next_so s r next.Lost is h = loses_at_so s r.target.block r.target.seg.name h
-  confirmed_next_so s r next.Ask is h = read_so s (Some r) is h
-  confirmed_next_so s r next.Wait is h = read_so s (Some r) is h
-  confirmed_next_so s r next.Again is h = read_so s (Some r) is h
-  confirmed_next_so s r (next.Read segment) is h = read_so s (Some r) is h
+  confirmed_next_so s r next.Lost fact h = loses_at_so s r.target.block r.target.seg.name h
+  confirmed_next_so s r next.Ask fact h = read_so s (Some r) fact h
+  confirmed_next_so s r next.Wait fact h = read_so s (Some r) fact h
+  confirmed_next_so s r next.Again fact h = read_so s (Some r) fact h
+  confirmed_next_so s r (next.Read segment) fact h = read_so s (Some r) fact h
 
   drawn_after_so : (s : Serving) (r : ReadingState) (x : Next) (stage : Stage) → ReadingCame came striped r → At s
       → Goes (confirmed_next (drawn_after s stage) r x)
-  drawn_after_so s r x Between is h = confirmed_next_so (draws s) r x is h
-  drawn_after_so s r x Asking is h = confirmed_next_so s r x is h
-  drawn_after_so s r x Doubted is h = confirmed_next_so s r x is h
-  drawn_after_so s r x Over is h = confirmed_next_so s r x is h
+  drawn_after_so s r x Between fact h = confirmed_next_so (draws s) r x fact h
+  drawn_after_so s r x Asking fact h = confirmed_next_so s r x fact h
+  drawn_after_so s r x Doubted fact h = confirmed_next_so s r x fact h
+  drawn_after_so s r x Over fact h = confirmed_next_so s r x fact h
 
   confirms_so : (s : Serving) (r : ReadingState) → ReadingCame came striped r → At s → Goes (confirms s r)
   unfolding confirms
-  confirms_so s r is h =
+  confirms_so s r fact h =
       let step : Step = on_confirmed r (ask_after s r.ask r.stage) in
-      drawn_after_so s step.state step.next r.stage (confirmed_came came striped r (ask_after s r.ask r.stage) is) h
+      drawn_after_so s step.state step.next r.stage (confirmed_came came striped r (ask_after s r.ask r.stage) fact) h
 
   reads_over_so : (s : Serving) (target : Target) (reading : Option ReadingState) → Known reading → At s → Goes (reads_over s target reading)
   reads_over_so s target None was h = begins_so s target h

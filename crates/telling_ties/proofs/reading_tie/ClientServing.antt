@@ -15,13 +15,13 @@ use Rattle.client_parts.specs.Fitting.{put_fits}
 use Rattle.client_parts.specs.Flights.{is_settling, is_giving}
 use Rattle.client_parts.specs.Grants.{is_stamp}
 use Rattle.client_parts.specs.Reads.{block_read, Heard, heard, reading_in, value_at}
-use Rattle.client_serving.specs.Blocks.{Made, needs, got, gets, wrote, changes, held_back, changes_if_fits, puts, lets_go, changed, puts_again, puts_at, syncs, makes}
+use Rattle.client_calls.specs.Blocks.{Made, needs, got, gets, wrote, changes, held_back, changes_if_fits, puts, lets_go, changed, puts_again, puts_at, syncs, makes}
 use Rattle.client_serving.specs.declared.serving.Serving.{Serving}
 use Rattle.client_serving.specs.Flights.{held_at, notes_settled, keeps_clean, gives_up, gives_if_clean, feeds, settled_rows, settles, writes_one, seals_again, writes}
 use Rattle.client_serving.specs.Follow.{notes_clean, notes_gone, seals, hands, takes_back}
 use Rattle.client_serving.specs.Packets.{on_grant, on_supply, on_forward, says_again, on_recall, is_gone, on_gone, is_acked, on_ack, ends_fetch, told_at, told_by, on_told, renews, promises, reports, may_report, polled, on_poll, promised_in, is_news, hears, regroups, takes_news, on_news, on_welcome, on_tick, on_body, asks_for_maps, on_packet}
 use Rattle.client_serving.specs.Reads.{with_reading, loses}
-use Rattle.client_serving.specs.Running.{goes_on, Ran, answers_call, ran, runs_call, runs_once, runs_upto, runs, most_steps}
+use Rattle.client_calls.specs.Running.{goes_on, Ran, answers_call, ran, runs_call, runs_once, runs_upto, runs, most_steps}
 use Rattle.client_serving.specs.Sends.{Done}
 use Rattle.delta_feed.specs.Transition.{acknowledged, new_epoch}
 use Rattle.file_plan.specs.declared.block_call.BlockAnswer.{BlockAnswer}
@@ -177,21 +177,21 @@ module _ (came : Came) (striped : Striped) where
 
   pub goes_on_so : (s : Serving) (going : Going) → GoingSo came striped going → ServesSo came striped s → ServesSo came striped (goes_on s going).state
   unfolding goes_on
-  goes_on_so s (On call) is h = record { maps = h.maps; reading = is }
-  goes_on_so s (Ends answer) is h = h
+  goes_on_so s (On call) fact h = record { maps = h.maps; reading = fact }
+  goes_on_so s (Ends answer) fact h = h
 
   answers_call_so : (s : Serving) (call : Call) (answer : Option BlockAnswer) → AnyReadingCame came striped call.reading → At s
       → Goes (answers_call s call answer).done
-  answers_call_so s call None is h = record { maps = h.maps; reading = is }
-  answers_call_so s call (Some a) is h = goes_on_so s (after_answer call.plan a) (next_so came striped call.plan a) h
+  answers_call_so s call None fact h = record { maps = h.maps; reading = fact }
+  answers_call_so s call (Some a) fact h = goes_on_so s (after_answer call.plan a) (next_so came striped call.plan a) h
 
   ran_so : (call : Call) (made : Made) → AnyReadingCame came striped call.reading → Goes made.done → Goes (ran call made).done
-  ran_so call made is h = answers_call_so made.done.state call made.answer is h
+  ran_so call made fact h = answers_call_so made.done.state call made.answer fact h
 
   runs_call_so : (s : Serving) (call : Option Call) → AnyReadingCame came striped (reading_in call) → At s → Goes (runs_call s call).done
-  runs_call_so s None is h = h
-  runs_call_so s (Some call) is h =
-      ran_so call (makes (record s { call = None }) call.step) is (makes_so (record s { call = None }) call.step (record { maps = h.maps; reading = tt }))
+  runs_call_so s None fact h = h
+  runs_call_so s (Some call) fact h =
+      ran_so call (makes (record s { call = None }) call.step) fact (makes_so (record s { call = None }) call.step (record { maps = h.maps; reading = tt }))
 
   runs_once_so : (s : Serving) → At s → Goes (runs_once s).done
   unfolding runs_once
@@ -252,21 +252,21 @@ module _ (came : Came) (striped : Striped) where
   ends_fetch_so s at next.Lost h = h
 
   told_at_so : (s : Serving) (at : Option BlockAt) (x : Heard) → AnyReadingCame came striped x.reading → At s → Goes (told_at s at x)
-  told_at_so s None x is h = h
-  told_at_so s (Some at) x is h = ends_fetch_so (with_reading s x.reading) at x.next (read_so came striped s x.reading is h)
+  told_at_so s None x fact h = h
+  told_at_so s (Some at) x fact h = ends_fetch_so (with_reading s x.reading) at x.next (read_so came striped s x.reading fact h)
 
   told_by_so : (s : Serving) (server ask : ℕ) (t : Answered) → came ask server t → At s → Goes (told_by s server ask t)
   unfolding told_by
-  told_by_so s server ask t is h =
+  told_by_so s server ask t fact h =
       told_at_so s (block_read (reading_in s.call)) (heard (reading_in s.call) s.maps.groups ask server t)
-      (heard_so came striped (reading_in s.call) s.maps.groups ask server t h.reading is) h
+      (heard_so came striped (reading_in s.call) s.maps.groups ask server t h.reading fact) h
 
   on_told_so : (s : Serving) (from : NodeId) (ask : ℕ) (t : Answered) → AnswerBrought came (server_in from) ask t → At s → Goes (on_told s from ask t)
-  on_told_so s (node.Server server) ask t is h = told_by_so s server ask t is h
-  on_told_so s (node.Client k) ask t is h = h
-  on_told_so s (node.Manager k) ask t is h = h
-  on_told_so s node.Cleaner ask t is h = h
-  on_told_so s node.Registry ask t is h = h
+  on_told_so s (node.Server server) ask t fact h = told_by_so s server ask t fact h
+  on_told_so s (node.Client k) ask t fact h = h
+  on_told_so s (node.Manager k) ask t fact h = h
+  on_told_so s node.Cleaner ask t fact h = h
+  on_told_so s node.Registry ask t fact h = h
 
   -- ---- promises
 
@@ -309,45 +309,45 @@ module _ (came : Came) (striped : Striped) where
 
   takes_news_so : (s : Serving) (news : News) → MapStriped striped news.groups → At s → Goes (takes_news s news)
   unfolding takes_news
-  takes_news_so s news is h =
+  takes_news_so s news fact h =
       let t : Serving = record s { maps = taken s.maps news } in
       let known : MapsStriped striped (taken s.maps news).groups =
       by_test (λ (m : Maps). MapsStriped striped m.groups) (is_older s.maps news) (record s.maps { version = news.version; groups = Some news.groups }) s.maps
-      (λ _. is) (λ _. h.maps)
+      (λ _. fact) (λ _. h.maps)
       in
       regroups_so (steps hears t news.slots).state (is_older s.maps news) news.groups
       (steps_keep hears At hears_so t news.slots (record { maps = known; reading = h.reading }))
 
   on_news_so : (s : Serving) (news : News) → MapStriped striped news.groups → At s → Goes (on_news s news)
-  on_news_so s news is h = by_test Goes (fits s.maps news) (takes_news s news) (still s) (λ _. takes_news_so s news is h) (λ _. h)
+  on_news_so s news fact h = by_test Goes (fits s.maps news) (takes_news s news) (still s) (λ _. takes_news_so s news fact h) (λ _. h)
 
   on_welcome_so : (s : Serving) (m : Welcome) → MapStriped striped m.news.groups → At s → Goes (on_welcome s m)
   unfolding on_welcome
-  on_welcome_so s m is h = by_test Goes (m.inc == s.lasting.inc) (on_news s m.news) (still s) (λ _. on_news_so s m.news is h) (λ _. h)
+  on_welcome_so s m fact h = by_test Goes (m.inc == s.lasting.inc) (on_news s m.news) (still s) (λ _. on_news_so s m.news fact h) (λ _. h)
 
   -- ---- a packet, and time
 
   body_so : (s : Serving) (from : NodeId) (b : Body) → BodyBrought came striped from b → At s → Goes (on_body s from b)
-  body_so s from (body.Grant m) is h = on_grant_so s m h
-  body_so s from (body.Supply m) is h = on_supply_so s m h
-  body_so s from (body.Forward m) is h = on_forward_so s m h
-  body_so s from (body.Recall m) is h = on_recall_so s m h
-  body_so s from (body.Gone m) is h = on_gone_so s m h
-  body_so s from (body.DeltaAck m) is h = on_ack_so s m h
-  body_so s from (body.Poll m) is h = on_poll_so s from m h
-  body_so s from (body.Stored m) is h = writes_so s (log_in.Acked m.name m.index m.generation) h
-  body_so s from (body.Fragment m) is h = on_told_so s from m.ask (answered.Held m.fragment) is h
-  body_so s from (body.Missing m) is h = on_told_so s from m.ask (answered.Missing m.generation) is h
-  body_so s from (body.MapNews m) is h = on_news_so s m is h
-  body_so s from (body.Welcome m) is h = on_welcome_so s m is h
-  body_so s from _ is h = h
+  body_so s from (body.Grant m) fact h = on_grant_so s m h
+  body_so s from (body.Supply m) fact h = on_supply_so s m h
+  body_so s from (body.Forward m) fact h = on_forward_so s m h
+  body_so s from (body.Recall m) fact h = on_recall_so s m h
+  body_so s from (body.Gone m) fact h = on_gone_so s m h
+  body_so s from (body.DeltaAck m) fact h = on_ack_so s m h
+  body_so s from (body.Poll m) fact h = on_poll_so s from m h
+  body_so s from (body.Stored m) fact h = writes_so s (log_in.Acked m.name m.index m.generation) h
+  body_so s from (body.Fragment m) fact h = on_told_so s from m.ask (answered.Held m.fragment) fact h
+  body_so s from (body.Missing m) fact h = on_told_so s from m.ask (answered.Missing m.generation) fact h
+  body_so s from (body.MapNews m) fact h = on_news_so s m fact h
+  body_so s from (body.Welcome m) fact h = on_welcome_so s m fact h
+  body_so s from _ fact h = h
 
   pub packet_so : (s : Serving) (p : Packet) → BodyBrought came striped p.from p.body → ServesSo came striped s
       → ServesSo came striped (runs (on_packet s p).state).state
   unfolding on_packet asks_for_maps
-  packet_so s p is h =
+  packet_so s p fact h =
       runs_so (on_packet s p).state
-      (by_test Goes (names_known s.maps p.body) (on_body s p.from p.body) (asks_for_maps s) (λ _. body_so s p.from p.body is h) (λ _. h))
+      (by_test Goes (names_known s.maps p.body) (on_body s p.from p.body) (asks_for_maps s) (λ _. body_so s p.from p.body fact h) (λ _. h))
 
   pub time_so : (s : Serving) → ServesSo came striped s → ServesSo came striped (runs (on_tick s).state).state
   unfolding on_tick

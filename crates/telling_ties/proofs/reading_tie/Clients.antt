@@ -8,8 +8,8 @@ use Rattle.client_parts.specs.declared.call.Going.{Going}
 use Rattle.client_parts.specs.declared.lasting.Lasting.{Lasting}
 use Rattle.client_parts.specs.Reads.{reading_in}
 use Rattle.client_serving.specs.declared.serving.Serving.{Serving}
-use Rattle.client_serving.specs.Opens.{begins_call, call_at, opens}
-use Rattle.client_serving.specs.Running.{goes_on}
+use Rattle.client_calls.specs.Opens.{begins_call, call_at, opens}
+use Rattle.client_calls.specs.Running.{goes_on}
 use Rattle.client_serving.specs.Sends.{Done, gives}
 use Rattle.log_owner.specs.declared.opened.Progress.{Progress}
 use Rattle.log_owner.specs.declared.opened.Progress.TheVariants as progress
@@ -58,10 +58,10 @@ module _ (came : Came) (striped : Striped) where
 
   begins_so : (s : Serving) (number : ℕ) (going : Option Going) → AnyGoingSo came striped going → ServesSo came striped s
       → ServesSo came striped (begins_call s number going).state
-  begins_so s number None is h = h
-  begins_so s number (Some x) is h =
+  begins_so s number None fact h = h
+  begins_so s number (Some x) fact h =
       let t : Serving = record s { lasting = record s.lasting { items = waiting s.lasting.items number } } in
-      serving.runs_so came striped (goes_on t x).state (serving.goes_on_so came striped t x is h)
+      serving.runs_so came striped (goes_on t x).state (serving.goes_on_so came striped t x fact h)
 
   call_begun : (s : Serving) (number : ℕ) (wanted : Option Work) → AnyGoingSo came striped (call_at s number wanted)
   call_begun s number None = tt
@@ -108,15 +108,15 @@ module _ (came : Came) (striped : Striped) where
   on_deliver_so : (capacity : ℕ) (p : Phase) (packet : Packet) → BodyBrought came striped packet.from packet.body → PhaseSo p
       → Goes (on_deliver capacity p packet)
   unfolding on_deliver
-  on_deliver_so capacity (Down l) packet is h = tt
-  on_deliver_so capacity (Opening l o) packet is h =
-      opened_on_so l capacity (opening.on_packet o l.questions packet) (maps.packet_so came striped o l.questions packet is h)
-  on_deliver_so capacity (Serves s) packet is h = serving.packet_so came striped s packet is h
+  on_deliver_so capacity (Down l) packet fact h = tt
+  on_deliver_so capacity (Opening l o) packet fact h =
+      opened_on_so l capacity (opening.on_packet o l.questions packet) (maps.packet_so came striped o l.questions packet fact h)
+  on_deliver_so capacity (Serves s) packet fact h = serving.packet_so came striped s packet fact h
 
   delivers_so : (peers : Peers) (capacity : ℕ) (p : Phase) (packet : Packet) → BodyBrought came striped packet.from packet.body → PhaseSo p
       → Goes (delivers peers capacity p packet)
-  delivers_so peers capacity p packet is h =
-      by_test Goes (is_well_formed peers packet) (on_deliver capacity p packet) (still p) (λ _. on_deliver_so capacity p packet is h) (λ _. h)
+  delivers_so peers capacity p packet fact h =
+      by_test Goes (is_well_formed peers packet) (on_deliver capacity p packet) (still p) (λ _. on_deliver_so capacity p packet fact h) (λ _. h)
 
   on_time_so : (capacity : ℕ) (p : Phase) → PhaseSo p → Goes (on_time capacity p)
   unfolding on_time
@@ -125,19 +125,19 @@ module _ (came : Came) (striped : Striped) where
   on_time_so capacity (Serves s) h = serving.time_so came striped s h
 
   happens_so : (client : Client) (what : Do) → DoBrought came striped what → PhaseSo client.phase → Goes (happens client what)
-  happens_so client Begin is h = on_begin_so client.peers.servers client.phase h
-  happens_so client (Deliver packet) is h = delivers_so client.peers client.cache client.phase packet is h
-  happens_so client Tick is h = on_time_so client.cache client.phase h
+  happens_so client Begin fact h = on_begin_so client.peers.servers client.phase h
+  happens_so client (Deliver packet) fact h = delivers_so client.peers client.cache client.phase packet fact h
+  happens_so client Tick fact h = on_time_so client.cache client.phase h
 
   takes_so : (client : Client) (what : Do) → DoBrought came striped what → PhaseSo client.phase → Goes (takes client what)
-  takes_so client what is h =
-      by_test Goes (client_room client) (happens client what) (still client.phase) (λ _. happens_so client what is h) (λ _. h)
+  takes_so client what fact h =
+      by_test Goes (client_room client) (happens client what) (still client.phase) (λ _. happens_so client what fact h) (λ _. h)
 
   -- ---- of whatever came
 
   pub any_client_keeps : (client : Client) (what : Do) → ClientHolds came striped client → DoBrought came striped what
       → ClientHolds came striped (client_step client what).node
-  any_client_keeps client what h is = takes_so client what is h
+  any_client_keeps client what h fact = takes_so client what fact h
 
 module _ (came later : Came) (striped more : Striped) (grows : CameMore came later) (widens : StripedMore striped more) where
   pub phase_rises : (p : Phase) → PhaseHolds came striped p → PhaseHolds later more p
@@ -156,11 +156,11 @@ client_starts packets to cuts number setup works known = record { maps = known; 
 pub client_rises : ClientHoldsRise
 client_rises packets more to cuts client grows h =
     phase_rises (answered_in packets to) (answered_in more to) (cut_by cuts) (cut_by cuts) (answered_more packets more to grows)
-    (λ id members parity is. is) client.phase h
+    (λ id members parity fact. fact) client.phase h
 
 pub client_keeps : ClientEventsKeep
-client_keeps packets to cuts client what h is = any_client_keeps (answered_in packets to) (cut_by cuts) client what h (do_brought packets to cuts what is)
+client_keeps packets to cuts client what h fact = any_client_keeps (answered_in packets to) (cut_by cuts) client what h (do_brought packets to cuts what fact)
 
 pub clients_read : ClientsReadWhatCame
-clients_read packets to cuts s ask server told segment h is e =
-    heard_reads (answered_in packets to) (cut_by cuts) (reading_in s.call) s.maps.groups ask server told segment h.reading is e
+clients_read packets to cuts s ask server told segment h fact e =
+    heard_reads (answered_in packets to) (cut_by cuts) (reading_in s.call) s.maps.groups ask server told segment h.reading fact e

@@ -162,7 +162,7 @@ module _ (came : Came) (striped : Striped) where
 
   take_on : (s : Serving) (k : ℕ) (given : TakeIn) → InputBrought came striped given → At s → Goes (takes s k given)
   unfolding takes
-  take_on s k given is h = record { maps = h.maps; slots = table_takes came striped (asker_of s) k given is h.slots }
+  take_on s k given fact h = record { maps = h.maps; slots = table_takes came striped (asker_of s) k given fact h.slots }
 
   report_on : (s : Serving) (from : NodeId) (report : Report) → At s → Goes (on_report s from report)
   unfolding on_report
@@ -171,24 +171,24 @@ module _ (came : Came) (striped : Striped) where
   -- the answer goes to the takeover that asked
   answer_on : (s : Serving) (given : ℕ → TakeIn) (to : Option (ℕ × ℕ)) → ((own : ℕ) → InputBrought came striped (given own)) → At s
       → Goes (answers_by s to given)
-  answer_on s given None is h = h
-  answer_on s given (Some to) is h = take_on s to.0 (given to.1) (is to.1) h
+  answer_on s given None fact h = h
+  answer_on s given (Some to) fact h = take_on s to.0 (given to.1) (fact to.1) h
 
   found_on : (s : Serving) (server : Option ℕ) (found : Found) → AnswerBrought came server found.ask (answered.Held found.fragment) → At s
       → Goes (on_found s server found)
   unfolding on_found
-  found_on s None found is h = h
-  found_on s (Some server) found is h =
+  found_on s None found fact h = h
+  found_on s (Some server) found fact h =
       answer_on s (λ own. take_in.Got own server found.generation found.fragment) (table.fetch_among s.slots found.ask table.all_slots)
-      (λ own. record { ask = found.ask; came_so = is }) h
+      (λ own. record { ask = found.ask; came_so = fact }) h
 
   missing_on : (s : Serving) (server : Option ℕ) (missing : Missing) → AnswerBrought came server missing.ask (answered.Missing missing.generation) → At s
       → Goes (on_missing s server missing)
   unfolding on_missing
-  missing_on s None missing is h = h
-  missing_on s (Some server) missing is h =
+  missing_on s None missing fact h = h
+  missing_on s (Some server) missing fact h =
       answer_on s (λ own. take_in.Missing own server missing.generation) (table.fetch_among s.slots missing.ask table.all_slots)
-      (λ own. record { ask = missing.ask; came_so = is }) h
+      (λ own. record { ask = missing.ask; came_so = fact }) h
 
   -- ---- the maps
 
@@ -203,9 +203,9 @@ module _ (came : Came) (striped : Striped) where
 
   newer_on : (s : Serving) (clients : ℕ) (news : News) → MapStriped striped news.groups → At s → Goes (on_newer s clients news)
   unfolding on_newer regroups
-  newer_on s clients news is h =
+  newer_on s clients news fact h =
       let grouped : At (regroups s news.groups).state =
-      record { maps = h.maps; slots = table_regroups came striped news.groups (asker_of s) is h.slots }
+      record { maps = h.maps; slots = table_regroups came striped news.groups (asker_of s) fact h.slots }
       in
       writes_on (hears_slots (regroups s news.groups).state clients news.slots).state (log_input.Maps news.groups)
       (slots_on (regroups s news.groups).state clients news.slots grouped)
@@ -213,39 +213,39 @@ module _ (came : Came) (striped : Striped) where
   pub news_on : (s : Serving) (clients : ℕ) (news : News) → MapStriped striped news.groups → ServesSo came striped s
       → ServesSo came striped (on_news s clients news).state
   unfolding on_news
-  news_on s clients news is h =
+  news_on s clients news fact h =
       by_test Goes (is_older s.maps news) (on_newer (record s { maps = taken s.maps news }) clients news) (hears_slots s clients news.slots)
-      (λ _. newer_on (record s { maps = taken s.maps news }) clients news is
-      (record { maps = taken_so striped s.maps news h.maps is; slots = h.slots }))
+      (λ _. newer_on (record s { maps = taken s.maps news }) clients news fact
+      (record { maps = taken_so striped s.maps news h.maps fact; slots = h.slots }))
       (λ _. slots_on s clients news.slots h)
 
   fitting_on : (s : Serving) (clients : ℕ) (news : News) → MapStriped striped news.groups → At s → Goes (on_fitting_news s clients news)
-  fitting_on s clients news is h = by_test Goes (fits s.maps news) (on_news s clients news) (still s) (λ _. news_on s clients news is h) (λ _. h)
+  fitting_on s clients news fact h = by_test Goes (fits s.maps news) (on_news s clients news) (still s) (λ _. news_on s clients news fact h) (λ _. h)
 
   -- ---- all packets
 
   body_on : (s : Serving) (clients : ℕ) (from : NodeId) (said : Body) → BodyBrought came striped from said → At s → Goes (on_body s clients from said)
-  body_on s clients from (body.MapNews news) is h = fitting_on s clients news is h
-  body_on s clients from (body.Welcome welcome) is h =
-      by_test Goes (welcome.inc == s.lasting.inc) (on_fitting_news s clients welcome.news) (still s) (λ _. fitting_on s clients welcome.news is h) (λ _. h)
-  body_on s clients from (body.Want want) is h = want_on s (client_in from) want h
-  body_on s clients from (body.Gave gave) is h = gave_on s (client_in from) gave h
-  body_on s clients from (body.Deltas deltas) is h = deltas_on s (fed_log from) deltas h
-  body_on s clients from (body.Check check) is h = check_on s check h
-  body_on s clients from (body.UsageAsk asked_) is h = usage_on s asked_ h
-  body_on s clients from (body.Report report) is h = report_on s from report h
-  body_on s clients from (body.Fragment found) is h = found_on s (server_in from) found is h
-  body_on s clients from (body.Missing missing) is h = missing_on s (server_in from) missing is h
-  body_on s clients from (body.Stored stored) is h = writes_on s (log_input.Acked stored.name stored.index stored.generation) h
-  body_on s clients from (body.CkptAck ack) is h = ack_on s ack h
-  body_on s clients from _ is h = h
+  body_on s clients from (body.MapNews news) fact h = fitting_on s clients news fact h
+  body_on s clients from (body.Welcome welcome) fact h =
+      by_test Goes (welcome.inc == s.lasting.inc) (on_fitting_news s clients welcome.news) (still s) (λ _. fitting_on s clients welcome.news fact h) (λ _. h)
+  body_on s clients from (body.Want want) fact h = want_on s (client_in from) want h
+  body_on s clients from (body.Gave gave) fact h = gave_on s (client_in from) gave h
+  body_on s clients from (body.Deltas deltas) fact h = deltas_on s (fed_log from) deltas h
+  body_on s clients from (body.Check check) fact h = check_on s check h
+  body_on s clients from (body.UsageAsk asked_) fact h = usage_on s asked_ h
+  body_on s clients from (body.Report report) fact h = report_on s from report h
+  body_on s clients from (body.Fragment found) fact h = found_on s (server_in from) found fact h
+  body_on s clients from (body.Missing missing) fact h = missing_on s (server_in from) missing fact h
+  body_on s clients from (body.Stored stored) fact h = writes_on s (log_input.Acked stored.name stored.index stored.generation) h
+  body_on s clients from (body.CkptAck ack) fact h = ack_on s ack h
+  body_on s clients from _ fact h = h
 
   pub packet_on : (s : Serving) (clients : ℕ) (packet : Packet) → BodyBrought came striped packet.from packet.body → ServesSo came striped s
       → ServesSo came striped (hears s clients packet).state
   unfolding hears asks_for_maps
-  packet_on s clients packet is h =
+  packet_on s clients packet fact h =
       by_test Goes (names_known s.maps packet.body) (on_body s clients packet.from packet.body) (asks_for_maps s)
-      (λ _. body_on s clients packet.from packet.body is h) (λ _. h)
+      (λ _. body_on s clients packet.from packet.body fact h) (λ _. h)
 
   -- ---- time
 

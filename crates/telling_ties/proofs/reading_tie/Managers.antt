@@ -107,30 +107,30 @@ module _ (came : Came) (striped : Striped) where
   welcome_on : (peers : Peers) (life : Life) (hello : ℕ) (welcome : Welcome) → MapStriped striped welcome.news.groups
       → Goes (on_welcome peers life hello welcome)
   unfolding on_welcome
-  welcome_on peers life hello welcome is =
+  welcome_on peers life hello welcome fact =
       let fresh : ServesSo came striped (again life (forgotten peers.servers) welcome.news.groups) =
       record { maps = tt; slots = (tt, (tt, (tt, (tt, (tt, (tt, (tt, (tt, tt)))))))) }
       in
       by_test Goes (takes_welcome peers life hello welcome)
       (serves (on_news (again life (forgotten peers.servers) welcome.news.groups) peers.clients welcome.news))
       (still (Waiting life hello))
-      (λ _. news_on came striped (again life (forgotten peers.servers) welcome.news.groups) peers.clients welcome.news is fresh)
+      (λ _. news_on came striped (again life (forgotten peers.servers) welcome.news.groups) peers.clients welcome.news fact fresh)
       (λ _. tt)
 
   awaited_on : (peers : Peers) (life : Life) (hello : ℕ) (from : NodeId) (said : Body) → BodyBrought came striped from said
       → Goes (on_waiting peers life hello said)
-  awaited_on peers life hello from (body.Welcome welcome) is = welcome_on peers life hello welcome is
-  awaited_on peers life hello from _ is = tt
+  awaited_on peers life hello from (body.Welcome welcome) fact = welcome_on peers life hello welcome fact
+  awaited_on peers life hello from _ fact = tt
 
   packet_goes : (peers : Peers) (p : Phase) (packet : Packet) → BodyBrought came striped packet.from packet.body → PhaseSo p → Goes (on_packet peers p packet)
-  packet_goes peers (Down life) packet is h = tt
-  packet_goes peers (Waiting life hello) packet is h = awaited_on peers life hello packet.from packet.body is
-  packet_goes peers (Serves s) packet is h = packet_on came striped s peers.clients packet is h
+  packet_goes peers (Down life) packet fact h = tt
+  packet_goes peers (Waiting life hello) packet fact h = awaited_on peers life hello packet.from packet.body fact
+  packet_goes peers (Serves s) packet fact h = packet_on came striped s peers.clients packet fact h
 
   deliver_goes : (peers : Peers) (p : Phase) (packet : Packet) → BodyBrought came striped packet.from packet.body → PhaseSo p → Goes (on_deliver peers p packet)
   unfolding on_deliver
-  deliver_goes peers p packet is h =
-      by_test Goes (is_well_formed peers packet) (on_packet peers p packet) (still p) (λ _. packet_goes peers p packet is h) (λ _. h)
+  deliver_goes peers p packet fact h =
+      by_test Goes (is_well_formed peers packet) (on_packet peers p packet) (still p) (λ _. packet_goes peers p packet fact h) (λ _. h)
 
   time_goes : (p : Phase) → PhaseSo p → Goes (on_time p)
   unfolding on_time
@@ -139,17 +139,17 @@ module _ (came : Came) (striped : Striped) where
   time_goes (Serves s) h = tick_on came striped s h
 
   event_goes : (peers : Peers) (p : Phase) (what : Do) → DoBrought came striped what → PhaseSo p → Goes (on_event peers p what)
-  event_goes peers p Begin is h = begins_on p h
-  event_goes peers p (Deliver packet) is h = deliver_goes peers p packet is h
-  event_goes peers p Tick is h = time_goes p h
+  event_goes peers p Begin fact h = begins_on p h
+  event_goes peers p (Deliver packet) fact h = deliver_goes peers p packet fact h
+  event_goes peers p Tick fact h = time_goes p h
 
   -- ---- of whatever came
 
   pub any_manager_keeps : (m : Manager) (what : Do) → ManagerHolds came striped m → DoBrought came striped what
       → ManagerHolds came striped (manager_step m what).node
   unfolding happens
-  any_manager_keeps m what h is =
-      by_test Goes (phase_has_room m.phase) (on_event m.peers m.phase what) (still m.phase) (λ _. event_goes m.peers m.phase what is h) (λ _. h)
+  any_manager_keeps m what h fact =
+      by_test Goes (phase_has_room m.phase) (on_event m.peers m.phase what) (still m.phase) (λ _. event_goes m.peers m.phase what fact h) (λ _. h)
 
 module _ (came later : Came) (striped more : Striped) (grows : CameMore came later) (widens : StripedMore striped more) where
   slot_rises : (p : SlotPhase) → SlotHolds came striped p → SlotHolds later more p
@@ -180,11 +180,12 @@ manager_starts packets to cuts number setup works known =
 pub manager_rises : ManagerHoldsRise
 manager_rises packets more to cuts manager grows h =
     phase_rises (answered_in packets to) (answered_in more to) (cut_by cuts) (cut_by cuts) (answered_more packets more to grows)
-    (λ id members parity is. is) manager.phase h
+    (λ id members parity fact. fact) manager.phase h
 
 pub manager_keeps : ManagerEventsKeep
-manager_keeps packets to cuts manager what h is = any_manager_keeps (answered_in packets to) (cut_by cuts) manager what h (do_brought packets to cuts what is)
+manager_keeps packets to cuts manager what h fact =
+    any_manager_keeps (answered_in packets to) (cut_by cuts) manager what h (do_brought packets to cuts what fact)
 
 pub takeovers_read : TakeoversReadWhatCame
-takeovers_read packets to cuts s p r ask own server told segment h at reads is e =
-    take_reads (answered_in packets to) (cut_by cuts) s p r ask own server told segment h at reads is e
+takeovers_read packets to cuts s p r ask own server told segment h at reads fact e =
+    take_reads (answered_in packets to) (cut_by cuts) s p r ask own server told segment h at reads fact e

@@ -57,16 +57,16 @@ module _ (met : Met) where
   -- ---- the segment in hand
 
   over_met : (q : Questions) (seg : SegRef) (group : Option Group) → RefMet met seg → HandMet met (taken_over q seg group).hand
-  over_met q seg None is = tt
-  over_met q seg (Some group) is = is
+  over_met q seg None fact = tt
+  over_met q seg (Some group) fact = fact
 
   in_hand_met : (groups : Option GroupMapState) (q : Questions) (hand : Option Hand) (seg : SegRef) → RefMet met seg → HandMet met hand
       → HandMet met (takes_in_hand groups q hand seg).hand
   unfolding takes_in_hand
-  in_hand_met groups q hand seg is h =
+  in_hand_met groups q hand seg fact h =
       by_test (λ (t : Taken). HandMet met t.hand) (is_in_hand hand seg) (record { hand = hand; questions = q })
       (taken_over q seg (known_group groups seg.group))
-      (λ _. h) (λ _. over_met q seg (known_group groups seg.group) is)
+      (λ _. h) (λ _. over_met q seg (known_group groups seg.group) fact)
 
   hears_met : (hand : Hand) (r : Option ReadingState) (groups : GroupMapState) (ask server : ℕ) (t : Answered) → RefMet met hand.seg
       → RefMet met (hears_by hand r groups ask server t).state.seg
@@ -137,13 +137,13 @@ module _ (met : Met) where
   check_asked e block place h = check_said (checks_block e block).state block place (checks_block e block).ask (checked_kept e e.job block h h)
 
   holds_met : (e : Emptying) (job : Option Job) (seg : SegRef) → RefMet met seg → AnyJobMet met job → At e → At (holds_in e job seg)
-  holds_met e None seg is held h = h
-  holds_met e (Some job) seg is held h =
-      record { about = held.about; hand = in_hand_met e.maps.groups e.lasting.questions job.hand seg is held.hand }
+  holds_met e None seg fact held h = h
+  holds_met e (Some job) seg fact held h =
+      record { about = held.about; hand = in_hand_met e.maps.groups e.lasting.questions job.hand seg fact held.hand }
 
   read_begun : (e : Emptying) (seg : SegRef) → RefMet met seg → At e → Goes (reads e seg)
   unfolding reads holds
-  read_begun e seg is h = holds_met e e.job seg is h h
+  read_begun e seg fact h = holds_met e e.job seg fact h h
 
   put_so : (e : Emptying) (i : LogIn) → At e → Goes (puts e i)
   unfolding puts
@@ -167,30 +167,30 @@ module _ (met : Met) where
 
   job_says : (e : Emptying) (o : Out) → OutMet met o → At e → Goes (says e o)
   unfolding says
-  job_says e out.Hello is h = maps_asked e e.job h h
-  job_says e (out.List server) is h = list_asked e e.job server h h
-  job_says e (out.UsageAsk slot) is h = usage_asked e e.job slot h h
-  job_says e (out.Fetch seg) is h = read_begun e seg is h
-  job_says e (out.Check block place) is h = check_asked e block place h
-  job_says e (out.Move blocks) is h = blocks_moved e blocks h
-  job_says e (out.Delete server name) is h = segment_deleted e e.job server name h h
-  job_says e (out.Finished count) is h = tt
+  job_says e out.Hello fact h = maps_asked e e.job h h
+  job_says e (out.List server) fact h = list_asked e e.job server h h
+  job_says e (out.UsageAsk slot) fact h = usage_asked e e.job slot h h
+  job_says e (out.Fetch seg) fact h = read_begun e seg fact h
+  job_says e (out.Check block place) fact h = check_asked e block place h
+  job_says e (out.Move blocks) fact h = blocks_moved e blocks h
+  job_says e (out.Delete server name) fact h = segment_deleted e e.job server name h h
+  job_says e (out.Finished count) fact h = tt
 
   -- ---- the job takes an input
 
   took : (e : Emptying) (job : Option Job) (given : Input) → InputMet met given → AnyJobMet met job → At e → At (takes_in e job given).state
-  took e None given is held h = h
-  took e (Some job) given is held h = record { about = (let l = cleaning_met met job.cleaning given is held.about in l.phase); hand = held.hand }
+  took e None given fact held h = h
+  took e (Some job) given fact held h = record { about = (let l = cleaning_met met job.cleaning given fact held.about in l.phase); hand = held.hand }
 
   gave : (e : Emptying) (job : Option Job) (given : Input) → InputMet met given → AnyJobMet met job → AllByRecursion (OutMet met) (takes_in e job given).outs
-  gave e None given is held = tt
-  gave e (Some job) given is held = (let l = cleaning_met met job.cleaning given is held.about in l.outs)
+  gave e None given fact held = tt
+  gave e (Some job) given fact held = (let l = cleaning_met met job.cleaning given fact held.about in l.outs)
 
   pub job_goes_on : (e : Emptying) (given : Input) → InputMet met given → AnyJobMet met e.job → AnyJobMet met (cleans e given).state.job
   unfolding cleans job_takes
-  job_goes_on e given is h =
-      each_keeps says At (OutMet met) job_says (takes_in e e.job given).state (takes_in e e.job given).outs (gave e e.job given is h)
-      (took e e.job given is h h)
+  job_goes_on e given fact h =
+      each_keeps says At (OutMet met) job_says (takes_in e e.job given).state (takes_in e e.job given).outs (gave e e.job given fact h)
+      (took e e.job given fact h h)
 
   -- ---- what comes for it
 
@@ -201,9 +201,9 @@ module _ (met : Met) where
 
   pub list_came : (e : Emptying) (server : Option ℕ) (m : Listed) → AllListed server m → AnyJobMet met e.job → AnyJobMet met (on_listed e server m).state.job
   unfolding on_listed
-  list_came e None m is h = h
-  list_came e (Some server) m is h =
-      by_test Goes (is_out (lists_of e.job) m.ask) (cleans e (input.Listed server m.held)) (still e) (λ _. job_goes_on e (input.Listed server m.held) is h)
+  list_came e None m fact h = h
+  list_came e (Some server) m fact h =
+      by_test Goes (is_out (lists_of e.job) m.ask) (cleans e (input.Listed server m.held)) (still e) (λ _. job_goes_on e (input.Listed server m.held) fact h)
       (λ _. h)
 
   pub usage_came : (e : Emptying) (m : Usage) → AnyJobMet met e.job → AnyJobMet met (on_usage e m).state.job

@@ -200,24 +200,24 @@ module _ (met : Met) where
   BodyMet from _ = Unit {0}
 
   body_heard : (e : Emptying) (from : NodeId) (said : Body) → BodyMet from said → At e → Goes (on_body e from said)
-  body_heard e from (body.MapNews m) is h = news_heard e m h
-  body_heard e from (body.Welcome m) is h = welcome_heard e m h
-  body_heard e from (body.Poll m) is h = poll_heard e from m h
-  body_heard e from (body.DeltaAck m) is h = acknowledged e m h
-  body_heard e from (body.Stored m) is h = log_takes e (log_in.Acked m.name m.index m.generation) h
-  body_heard e from (body.Listed m) is h = jobs.list_came met e (server_in from) m is h
-  body_heard e from (body.Usage m) is h = jobs.usage_came met e m h
-  body_heard e from (body.Fragment m) is h = jobs.told_came met e (server_in from) m.ask (answered.Held m.fragment) h
-  body_heard e from (body.Missing m) is h = jobs.told_came met e (server_in from) m.ask (answered.Missing m.generation) h
-  body_heard e from (body.Live m) is h = jobs.live_came met e m h
-  body_heard e from (body.Dead m) is h = jobs.dead_came met e m h
-  body_heard e from (body.Deleted m) is h = jobs.deleted_came met e (server_in from) m h
-  body_heard e from _ is h = h
+  body_heard e from (body.MapNews m) fact h = news_heard e m h
+  body_heard e from (body.Welcome m) fact h = welcome_heard e m h
+  body_heard e from (body.Poll m) fact h = poll_heard e from m h
+  body_heard e from (body.DeltaAck m) fact h = acknowledged e m h
+  body_heard e from (body.Stored m) fact h = log_takes e (log_in.Acked m.name m.index m.generation) h
+  body_heard e from (body.Listed m) fact h = jobs.list_came met e (server_in from) m fact h
+  body_heard e from (body.Usage m) fact h = jobs.usage_came met e m h
+  body_heard e from (body.Fragment m) fact h = jobs.told_came met e (server_in from) m.ask (answered.Held m.fragment) h
+  body_heard e from (body.Missing m) fact h = jobs.told_came met e (server_in from) m.ask (answered.Missing m.generation) h
+  body_heard e from (body.Live m) fact h = jobs.live_came met e m h
+  body_heard e from (body.Dead m) fact h = jobs.dead_came met e m h
+  body_heard e from (body.Deleted m) fact h = jobs.deleted_came met e (server_in from) m h
+  body_heard e from _ fact h = h
 
   packet_heard : (e : Emptying) (packet : Packet) → BodyMet packet.from packet.body → At e → Goes (on_packet e packet)
   unfolding on_packet
-  packet_heard e packet is h =
-      by_test Goes (names_known e.maps packet.body) (on_body e packet.from packet.body) (asks_for_maps e) (λ _. body_heard e packet.from packet.body is h)
+  packet_heard e packet fact h =
+      by_test Goes (names_known e.maps packet.body) (on_body e packet.from packet.body) (asks_for_maps e) (λ _. body_heard e packet.from packet.body fact h)
       (λ _. h)
 
   time_passes : (e : Emptying) → At e → Goes (on_tick e)
@@ -281,13 +281,13 @@ module _ (met : Met) where
 
   heard : (p : Phase) (packet : Packet) → BodyMet packet.from packet.body → NodeMet met p → Moves (hears p packet)
   unfolding hears
-  heard (Down l) packet is h = tt
-  heard (Opening l o) packet is h = opened l (opening.on_packet o l.questions packet)
-  heard (Serving e) packet is h = packet_heard e packet is h
+  heard (Down l) packet fact h = tt
+  heard (Opening l o) packet fact h = opened l (opening.on_packet o l.questions packet)
+  heard (Serving e) packet fact h = packet_heard e packet fact h
 
   delivered : (peers : Peers) (p : Phase) (packet : Packet) → BodyMet packet.from packet.body → NodeMet met p → Moves (on_deliver peers p packet)
   unfolding on_deliver
-  delivered peers p packet is h = by_test Moves (is_well_formed peers packet) (hears p packet) (still p) (λ _. heard p packet is h) (λ _. h)
+  delivered peers p packet fact h = by_test Moves (is_well_formed peers packet) (hears p packet) (still p) (λ _. heard p packet fact h) (λ _. h)
 
   passed : (p : Phase) → NodeMet met p → Moves (on_time p)
   unfolding on_time
@@ -301,14 +301,14 @@ module _ (met : Met) where
   DoMet Tick = Unit {0}
 
   all_events : (peers : Peers) (p : Phase) (what : Do) → DoMet what → NodeMet met p → Moves (happens peers p what)
-  all_events peers p Begin is h = item_begun peers.servers p h
-  all_events peers p (Deliver packet) is h = delivered peers p packet is h
-  all_events peers p Tick is h = passed p h
+  all_events peers p Begin fact h = item_begun peers.servers p h
+  all_events peers p (Deliver packet) fact h = delivered peers p packet fact h
+  all_events peers p Tick fact h = passed p h
 
   any_cleaner_meets : (cleaner : Cleaner) (what : Do) → CleanerMeets met cleaner → DoMet what → CleanerMeets met (cleaner_step cleaner what).node
-  any_cleaner_meets cleaner what h is =
+  any_cleaner_meets cleaner what h fact =
       by_test Moves (phase_room cleaner.phase) (happens cleaner.peers cleaner.phase what) (still cleaner.phase)
-      (λ _. all_events cleaner.peers cleaner.phase what is h) (λ _. h)
+      (λ _. all_events cleaner.peers cleaner.phase what fact h) (λ _. h)
 
 -- ---- more was listed
 
@@ -353,8 +353,8 @@ all_in P (x ∷ xs) each = (each x (inl refl), all_in P xs (λ y h. each y (inr 
 module _ (packets : List Packet) (to : NodeId) (packet : Packet) (among : In packet packets) (reader : packet.to ≡ to) where
   all_listed : (m : Listed) → packet.body ≡ body.Listed m → (server : Option ℕ) → server_in packet.from ≡ server
       → jobs.AllListed (listed_in packets to) server m
-  all_listed m is None from = tt
-  all_listed m is (Some server) from =
+  all_listed m fact None from = tt
+  all_listed m fact (Some server) from =
       all_in (λ (x : FragMeta). ListedIn packets to x.name x.group) m.held
       (λ x held. record {
         packet = packet;
@@ -363,7 +363,7 @@ module _ (packets : List Packet) (to : NodeId) (packet : Packet) (among : In pac
         server = server;
         from = from;
         said = m;
-        bears = is;
+        bears = fact;
         meta = x;
         held = held;
         named = refl;
@@ -371,8 +371,8 @@ module _ (packets : List Packet) (to : NodeId) (packet : Packet) (among : In pac
       })
 
   body_met : (b : Body) → packet.body ≡ b → BodyMet (listed_in packets to) packet.from b
-  body_met (body.Listed m) is = all_listed m is (server_in packet.from) refl
-  body_met _ is = tt
+  body_met (body.Listed m) fact = all_listed m fact (server_in packet.from) refl
+  body_met _ fact = tt
 
 do_met : (packets : List Packet) (to : NodeId) (what : Do) → IsSent packets to what → DoMet (listed_in packets to) what
 do_met packets to Begin h = tt
@@ -399,4 +399,4 @@ cleaner_meets_rise packets more to cleaner grows h =
     }) cleaner.phase h
 
 pub cleaner_events_meet : CleanerEventsMeet
-cleaner_events_meet packets to cleaner what h is = any_cleaner_meets (listed_in packets to) cleaner what h (do_met packets to what is)
+cleaner_events_meet packets to cleaner what h fact = any_cleaner_meets (listed_in packets to) cleaner what h (do_met packets to what fact)

@@ -83,13 +83,13 @@ module _ (came : Came) (striped : Striped) where
     pub one_more : (r : RoundSoFar) (server : ℕ) (told : Answered) → Is r → came ask server told → IsOfName seg.name told → told_fits r told ≡ true
         → Is (taken r server told)
     unfolding taken
-    one_more r server told h is name fits =
+    one_more r server told h fact name fits =
         by_test Is (has_answered r.answers server) r (record r { answers = r.answers ++ record { server = server; told = told } ∷ [] }) (λ _. h)
         (λ _. record {
           is_round = pushed_is_round r server told h.is_round fits;
           cut_so = h.cut_so;
           answers = all_append (AnswerCame came ask seg.name) r.answers (record { server = server; told = told } ∷ []) h.answers
-              (record { came_so = is; of_name = name }, tt);
+              (record { came_so = fact; of_name = name }, tt);
         })
 
   -- a round without answers, under any question
@@ -125,17 +125,17 @@ module _ (came : Came) (striped : Striped) where
   -- the round with an answer that counts
   with_answer : (r : ReadingState) (ask server : ℕ) (told : Answered) → ReadingCame came striped r → came ask server told → counts r ask server told ≡ true
       → ReadingCame came striped (record r { round = taken r.round server told })
-  with_answer r ask server told h is counts_so =
+  with_answer r ask server told h fact counts_so =
       let c = counted r ask server told counts_so in
-      one_more r.target.seg r.ask r.round server told h (subst (λ q. came q server told) (sym c.its_own) is) c.of_name c.fits
+      one_more r.target.seg r.ask r.round server told h (subst (λ q. came q server told) (sym c.its_own) fact) c.of_name c.fits
 
   pub answered_came : (r : ReadingState) (groups : GroupMapState) (ask server : ℕ) (told : Answered) → ReadingCame came striped r → came ask server told
       → ReadingCame came striped (on_answer r groups ask server told).state
   unfolding on_answer
-  answered_came r groups ask server told h is =
+  answered_came r groups ask server told h fact =
       by_test StepCame (counts r ask server told)
       (judged (record r { round = taken r.round server told }) groups (state_of (taken r.round server told))) (record { state = r; next = Wait })
-      (λ c. judged_came (record r { round = taken r.round server told }) groups (state_of (taken r.round server told)) (with_answer r ask server told h is c))
+      (λ c. judged_came (record r { round = taken r.round server told }) groups (state_of (taken r.round server told)) (with_answer r ask server told h fact c))
       (λ _. h)
 
   -- ---- what it reads
@@ -146,7 +146,7 @@ module _ (came : Came) (striped : Striped) where
   module _ (r : ReadingState) (groups : GroupMapState) (h : ReadingCame came striped r) (text : List ℕ) (joins : state_of r.round ≡ round.Read text)
       (segment : Segment) where
     found_reads : (s : Segment) → answer_of text ≡ Ok s → is_target r.target groups s ≡ true → Reads (read_as r (Some s)) r.target segment
-    found_reads s decoded is e =
+    found_reads s decoded fact e =
         let same : s ≡ segment = cc in
         subst (ReadsTarget came striped r.target) same (record {
           joined = record {
@@ -157,10 +157,10 @@ module _ (came : Came) (striped : Striped) where
             joins = joins;
             decoded = decoded;
             named = sym (one_name r.target.seg.name s.name
-                (and_first (same_name r.target.seg.name s.name) (is_known groups s.prior && has_block r.target.block s) is));
+                (and_first (same_name r.target.seg.name s.name) (is_known groups s.prior && has_block r.target.block s) fact));
           };
           block = and_second (is_known groups s.prior) (has_block r.target.block s)
-              (and_second (same_name r.target.seg.name s.name) (is_known groups s.prior && has_block r.target.block s) is);
+              (and_second (same_name r.target.seg.name s.name) (is_known groups s.prior && has_block r.target.block s) fact);
         })
 
     none_reads : Reads (ends r []) r.target segment
@@ -169,23 +169,23 @@ module _ (came : Came) (striped : Striped) where
     text_reads : (answer : Result Segment SegError) → answer_of text ≡ answer → Reads (read_as r (segment_found r.target groups answer)) r.target segment
     text_reads (Ok s) decoded =
         by_test (λ (o : Option Segment). Reads (read_as r o) r.target segment) (is_target r.target groups s) (Some s) None
-        (λ is. found_reads s decoded is) (λ _. none_reads)
+        (λ fact. found_reads s decoded fact) (λ _. none_reads)
     text_reads (Err e) decoded = none_reads
 
   judged_reads : (r : ReadingState) (groups : GroupMapState) (segment : Segment) (now : RoundState) → state_of r.round ≡ now → ReadingCame came striped r
       → Reads (judged r groups now) r.target segment
-  judged_reads r groups segment (round.Read bytes) is h = text_reads r groups h bytes is segment (answer_of bytes) refl
-  judged_reads r groups segment (round.Short pairs) is h = λ e. absurd cc
-  judged_reads r groups segment round.Waiting is h = λ e. absurd cc
+  judged_reads r groups segment (round.Read bytes) fact h = text_reads r groups h bytes fact segment (answer_of bytes) refl
+  judged_reads r groups segment (round.Short pairs) fact h = λ e. absurd cc
+  judged_reads r groups segment round.Waiting fact h = λ e. absurd cc
 
   pub answered_reads : (r : ReadingState) (groups : GroupMapState) (ask server : ℕ) (told : Answered) (segment : Segment) → ReadingCame came striped r
       → came ask server told → (on_answer r groups ask server told).next ≡ Read segment → ReadsTarget came striped r.target segment
   unfolding on_answer
-  answered_reads r groups ask server told segment h is =
+  answered_reads r groups ask server told segment h fact =
       by_test (λ (s : Step). Reads s r.target segment) (counts r ask server told)
       (judged (record r { round = taken r.round server told }) groups (state_of (taken r.round server told))) (record { state = r; next = Wait })
       (λ c. judged_reads (record r { round = taken r.round server told }) groups segment (state_of (taken r.round server told)) refl
-      (with_answer r ask server told h is c))
+      (with_answer r ask server told h fact c))
       (λ _ e. absurd cc)
 
   -- ---- the reader's own question was answered alike
@@ -208,7 +208,7 @@ module _ (came later : Came) (striped more : Striped) (grows : CameMore came lat
     is_round = h.is_round;
     cut_so = widens seg.group r.n r.parity h.cut_so;
     answers = all_weaker (AnswerCame came ask seg.name) (AnswerCame later ask seg.name)
-        (λ a is. record { came_so = grows ask a.server a.told is.came_so; of_name = is.of_name }) r.answers h.answers;
+        (λ a fact. record { came_so = grows ask a.server a.told fact.came_so; of_name = fact.of_name }) r.answers h.answers;
   }
 
   pub any_rises : (r : Option ReadingState) → AnyReadingCame came striped r → AnyReadingCame later more r
@@ -227,8 +227,8 @@ module _ (came later : Came) (striped more : Striped) (grows : CameMore came lat
   }
 
   pub map_rises : (groups : GroupMapState) → MapStriped striped groups → MapStriped more groups
-  map_rises groups h id group is =
-      let g = h id group is in record { cut = g.cut; said = widens id (length group.members) group.parity g.said }
+  map_rises groups h id group fact =
+      let g = h id group fact in record { cut = g.cut; said = widens id (length group.members) group.parity g.said }
 
   pub maps_rise : (groups : Option GroupMapState) → MapsStriped striped groups → MapsStriped more groups
   maps_rise None h = tt

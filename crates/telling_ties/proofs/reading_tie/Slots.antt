@@ -91,15 +91,15 @@ module _ (came : Came) (striped : Striped) where
 
   heard_on : (p : SlotPhase) (given : TakeIn) → InputBrought came striped given → Holds p → Holds (heard p given).state
   unfolding heard
-  heard_on (phase.Taking t) given is h = take_goes came striped t.take given is h
-  heard_on (phase.Away epoch) given is h = tt
-  heard_on (phase.Active a) given is h = tt
-  heard_on (phase.Broken epoch seg) given is h = tt
+  heard_on (phase.Taking t) given fact h = take_goes came striped t.take given fact h
+  heard_on (phase.Away epoch) given fact h = tt
+  heard_on (phase.Active a) given fact h = tt
+  heard_on (phase.Broken epoch seg) given fact h = tt
 
   asker_takes : (a : Asker) (number : ℕ) (given : TakeIn) → InputBrought came striped given → AskerHolds a → AskerHolds (takeovers.takes a number given).state
   unfolding takeovers.takes
-  asker_takes a number given is h =
-      each_said number (record a { phase = (heard a.phase given).state }) (heard a.phase given).outs (heard_on a.phase given is h)
+  asker_takes a number given fact h =
+      each_said number (record a { phase = (heard a.phase given).state }) (heard a.phase given).outs (heard_on a.phase given fact h)
 
   asker_asks : (a : Asker) (number : ℕ) (polls : Bool) → AskerHolds a → AskerHolds (asks_again a number polls).state
   unfolding asks_again
@@ -194,7 +194,7 @@ module _ (came : Came) (striped : Striped) where
 
   pub table_takes : (a : TableAsker) (k : ℕ) (given : TakeIn) → InputBrought came striped given → TableAskerHolds a → TableAskerHolds (takes a k given).state
   unfolding takes
-  table_takes a k given is h = at_taken-goes a k (λ one. takeovers.takes one k given) (λ one here. asker_takes one k given is here) h
+  table_takes a k given fact h = at_taken-goes a k (λ one. takeovers.takes one k given) (λ one here. asker_takes one k given fact here) h
 
   pub table_reports : (a : TableAsker) (from : NodeId) (report : Report) → TableAskerHolds a → TableAskerHolds (on_report a from report).state
   unfolding on_report

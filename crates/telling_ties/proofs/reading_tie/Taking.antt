@@ -41,16 +41,16 @@ contains_each [] = tt
 contains_each (x ∷ xs) = (contains_first x xs, all_weaker (Contains xs) (Contains (x ∷ xs)) (λ y. contains_rest x y xs) xs (contains_each xs))
 
 none_left : (nodes : List NodeId) → (length nodes == 0) ≡ true → nodes ≡ []
-none_left [] is = refl
-none_left (x ∷ nodes) is = (let e = eqb-true (length (x ∷ nodes)) 0 is in absurd (omega arith))
+none_left [] fact = refl
+none_left (x ∷ nodes) fact = (let e = eqb-true (length (x ∷ nodes)) 0 fact in absurd (omega arith))
 
 -- what completes a segment reads it
 completed : (n : Next) (segment : Segment) → segment_of n ≡ Some segment → n ≡ next.Read segment
-completed (next.Read s) segment is = cc
-completed next.Wait segment is = absurd cc
-completed next.Ask segment is = absurd cc
-completed next.Again segment is = absurd cc
-completed next.Lost segment is = absurd cc
+completed (next.Read s) segment fact = cc
+completed next.Wait segment fact = absurd cc
+completed next.Ask segment fact = absurd cc
+completed next.Again segment fact = absurd cc
+completed next.Lost segment fact = absurd cc
 
 module _ (came : Came) (striped : Striped) where
   -- all have reported, and each source behind is one of those that are to be read
@@ -85,20 +85,20 @@ module _ (came : Came) (striped : Striped) where
   sought_on s source ready leads = by (group_of s.groups source.seg.group) refl
     where
       by : (group : Option Group) → group_of s.groups source.seg.group ≡ group → Goes (sought_over s source group)
-      by None is = reads_so s source None ready leads tt tt
-      by (Some group) is =
+      by None fact = reads_so s source None ready leads tt tt
+      by (Some group) fact =
           reads_so (record s { ask = s.ask + 1 }) source (Some (begun (target_of source) group (s.ask + 1))) ready leads refl
-          (begun_came (to_any came) striped (target_of source) group (s.ask + 1) (ready.known source.seg.group group is))
+          (begun_came (to_any came) striped (target_of source) group (s.ask + 1) (ready.known source.seg.group group fact))
 
   go_on-on : (s : TakeState) → Ready s → Goes (go_on s)
   unfolding go_on
   go_on-on s ready = by s.sources refl
     where
       by : (sources : List Source) → s.sources ≡ sources → Goes (next_of sources s)
-      by [] is = record { groups = ready.known; stands = refl }
-      by (source ∷ rest) is =
+      by [] fact = record { groups = ready.known; stands = refl }
+      by (source ∷ rest) fact =
           let all : AllByRecursion (Contains (sources_of s.news s.reports)) (source ∷ rest) =
-          subst (AllByRecursion (Contains (sources_of s.news s.reports))) is ready.among
+          subst (AllByRecursion (Contains (sources_of s.news s.reports))) fact ready.among
           in
           sought_on (record s { sources = rest }) source (record { known = ready.known; reported = ready.reported; among = all.1 })
           (record { first = source; among = all.0; segments = []; down = refl })
@@ -113,10 +113,10 @@ module _ (came : Came) (striped : Striped) where
 
       by : (before : Option Source) → back_from source segment ≡ before
           → Goes (goes_on_from (record s { chain = told_of s.news.slot segment ∷ s.chain }) before)
-      by None is = go_on-on (with_chain (record s { chain = told_of s.news.slot segment ∷ s.chain })) ready
-      by (Some before) is =
+      by None fact = go_on-on (with_chain (record s { chain = told_of s.news.slot segment ∷ s.chain })) ready
+      by (Some before) fact =
           sought_on (record s { chain = told_of s.news.slot segment ∷ s.chain }) before ready
-          (record { first = leads.first; among = leads.among; segments = segment ∷ leads.segments; down = (source, leads.down, joined, is) })
+          (record { first = leads.first; among = leads.among; segments = segment ∷ leads.segments; down = (source, leads.down, joined, fact) })
 
   again_on : (s : TakeState) (source : Source) (r : ReadingState) → Ready s → Leads s source → r.target ≡ target_of source
       → ReadingCame (to_any came) striped r → Goes (again s source r)
@@ -126,11 +126,11 @@ module _ (came : Came) (striped : Striped) where
       (confirmed_came (to_any came) striped r (s.ask + 1) reading)
     where
       by : (q : ReadingState) (n : Next) → q.target ≡ target_of source → ReadingCame (to_any came) striped q → Goes (confirmed_as s source q n)
-      by q next.Ask its is = reads_so (record s { ask = s.ask + 1 }) source (Some q) ready leads its is
-      by q next.Lost its is = record { groups = ready.known; stands = refl }
-      by q next.Wait its is = reads_so s source (Some q) ready leads its is
-      by q next.Again its is = reads_so s source (Some q) ready leads its is
-      by q (next.Read segment) its is = reads_so s source (Some q) ready leads its is
+      by q next.Ask its fact = reads_so (record s { ask = s.ask + 1 }) source (Some q) ready leads its fact
+      by q next.Lost its fact = record { groups = ready.known; stands = refl }
+      by q next.Wait its fact = reads_so s source (Some q) ready leads its fact
+      by q next.Again its fact = reads_so s source (Some q) ready leads its fact
+      by q (next.Read segment) its fact = reads_so s source (Some q) ready leads its fact
 
   judged_on : (s : TakeState) (source : Source) (q : ReadingState) (n : Next) → Ready s → Leads s source → q.target ≡ target_of source
       → ReadingCame (to_any came) striped q
@@ -147,13 +147,13 @@ module _ (came : Came) (striped : Striped) where
   completes_so : (r : ReadingState) (source : Source) (groups : GroupMapState) (own server : ℕ) (t : Answered) (segment : Segment)
       → r.target ≡ target_of source → ReadingCame (to_any came) striped r → to_any came own server t
       → segment_of (on_answer r groups own server t).next ≡ Some segment → ReadsJoined (to_any came) striped source.seg segment
-  completes_so r source groups own server t segment looks reading is e =
-      let read = answered_reads (to_any came) striped r groups own server t segment reading is (completed (on_answer r groups own server t).next segment e) in
+  completes_so r source groups own server t segment looks reading fact e =
+      let read = answered_reads (to_any came) striped r groups own server t segment reading fact (completed (on_answer r groups own server t).next segment e) in
       subst (λ (target : Target). ReadsJoined (to_any came) striped target.seg segment) looks read.joined
 
   told_on : (s : TakeState) (own server : ℕ) (t : Answered) → to_any came own server t → Holds s → Goes (on_told s own server t)
   unfolding on_told
-  told_on s own server t is h =
+  told_on s own server t fact h =
       by_test Goes (can_ask s) (told_at (record s { present = None }) s.present own server t) (still s) (λ _. by s.present h.stands) (λ _. h)
     where
       by_reading : (p : Present) (r : Option ReadingState) → PresentHolds came striped s p → LooksFor p.source r → AnyReadingCame (to_any came) striped r
@@ -164,8 +164,8 @@ module _ (came : Came) (striped : Striped) where
       by_reading p (Some r) stands looks reading =
           judged_on (record s { present = None }) p.source (on_answer r s.groups own server t).state (on_answer r s.groups own server t).next
           (record { known = h.groups; reported = stands.reported; among = stands.behind }) stands.leads (target-on_answer r s.groups own server t ∙ looks)
-          (answered_came (to_any came) striped r s.groups own server t reading is)
-          (λ segment e. completes_so r p.source s.groups own server t segment looks reading is e)
+          (answered_came (to_any came) striped r s.groups own server t reading fact)
+          (λ segment e. completes_so r p.source s.groups own server t segment looks reading fact e)
 
       by : (o : Option Present) → StandsBy came striped s o → Goes (told_at (record s { present = None }) o own server t)
       by None stands = record { groups = h.groups; stands = stands }
@@ -227,11 +227,11 @@ module _ (came : Came) (striped : Striped) where
   InputBrought input.Tick = Unit {0}
 
   pub take_goes : (s : TakeState) (given : Input) → InputBrought given → TakeHolds came striped s → TakeHolds came striped (transition s given).state
-  take_goes s (input.Report from held end) is h = reported_on s (record { from = from; held = held; end = end }) h
-  take_goes s (input.Got own server generation fragment) is h = told_on s own server (Held fragment) is h
-  take_goes s (input.Missing own server generation) is h = told_on s own server (answered.Missing generation) is h
-  take_goes s (input.Maps groups) is h = maps_on s groups is h
-  take_goes s input.Tick is h = h
+  take_goes s (input.Report from held end) fact h = reported_on s (record { from = from; held = held; end = end }) h
+  take_goes s (input.Got own server generation fragment) fact h = told_on s own server (Held fragment) fact h
+  take_goes s (input.Missing own server generation) fact h = told_on s own server (answered.Missing generation) fact h
+  take_goes s (input.Maps groups) fact h = maps_on s groups fact h
+  take_goes s input.Tick fact h = h
 
   -- one that begins
   pub take_starts : (news : SlotNews) (groups : GroupMapState) (clients : ℕ) → MapStriped striped groups → TakeHolds came striped (started news groups clients)
@@ -242,22 +242,22 @@ module _ (came : Came) (striped : Striped) where
   pub take_reads : (s : TakeState) (p : Present) (r : ReadingState) (ask own server : ℕ) (t : Answered) (segment : Segment) → TakeHolds came striped s
       → s.present ≡ Some p → p.reading ≡ Some r → came ask server t → segment_of (on_answer r s.groups own server t).next ≡ Some segment
       → ReadsJoined (to_any came) striped p.source.seg segment
-  take_reads s p r ask own server t segment h at is it e =
+  take_reads s p r ask own server t segment h at fact it e =
       let stands : PresentHolds came striped s p = subst (StandsBy came striped s) at h.stands in
-      completes_so r p.source s.groups own server t segment (subst (LooksFor p.source) is stands.looks)
-      (subst (AnyReadingCame (to_any came) striped) is stands.reading) (record { ask = ask; came_so = it }) e
+      completes_so r p.source s.groups own server t segment (subst (LooksFor p.source) fact stands.looks)
+      (subst (AnyReadingCame (to_any came) striped) fact stands.reading) (record { ask = ask; came_so = it }) e
 
 -- ---- more came
 
 module _ (came later : Came) (striped more : Striped) (grows : CameMore came later) (widens : StripedMore striped more) where
   any_grows : CameMore (to_any came) (to_any later)
-  any_grows own server t is = record { ask = is.ask; came_so = grows is.ask server t is.came_so }
+  any_grows own server t fact = record { ask = fact.ask; came_so = grows fact.ask server t fact.came_so }
 
   down_rises : (first : Source) (segments : List Segment) (source : Source) → ReadsDown came striped first segments source
       → ReadsDown later more first segments source
-  down_rises first [] source is = is
-  down_rises first (s ∷ above) source is =
-      (is.0, down_rises first above is.0 is.1, joined_rises (to_any came) (to_any later) striped more any_grows widens is.0.seg s is.2, is.3)
+  down_rises first [] source fact = fact
+  down_rises first (s ∷ above) source fact =
+      (fact.0, down_rises first above fact.0 fact.1, joined_rises (to_any came) (to_any later) striped more any_grows widens fact.0.seg s fact.2, fact.3)
 
   present_rises : (s : TakeState) (o : Option Present) → StandsBy came striped s o → StandsBy later more s o
   present_rises s None stands = stands

@@ -120,21 +120,21 @@ module _ (told : End) where
       (λ t. refl)
 
   reported : (e : Emptying) (manager : ℕ) (m : Poll) → e.log.end ≡ told → At e → Goes (reports e manager m)
-  reported e manager m is h =
+  reported e manager m fact h =
       let kept : Emptying = promises e m.slot m.epoch manager in
       frames.goes_after told At (answer manager m kept.log.end ∷ []) (cleans kept (input.Promise m.slot m.epoch))
-      (ap (λ (l : LogState). l.end) (same_log e m.slot m.epoch manager) ∙ is, tt)
+      (ap (λ (l : LogState). l.end) (same_log e m.slot m.epoch manager) ∙ fact, tt)
       (jobs.job_goes_on told kept (input.Promise m.slot m.epoch) tt)
 
   poll_heard : (e : Emptying) (from : NodeId) (m : Poll) → e.log.end ≡ told → At e → Goes (on_poll e from m)
   unfolding on_poll
-  poll_heard e (node.Manager manager) m is h =
+  poll_heard e (node.Manager manager) m fact h =
       by_test (λ (d : Done). Goes d) (nat_lt m.epoch (epoch_of e.promised m.slot)) (still e) (reports e manager m) (λ t. stays e h)
-      (λ t. reported e manager m is h)
-  poll_heard e (node.Client c) m is h = stays e h
-  poll_heard e (node.Server v) m is h = stays e h
-  poll_heard e node.Cleaner m is h = stays e h
-  poll_heard e node.Registry m is h = stays e h
+      (λ t. reported e manager m fact h)
+  poll_heard e (node.Client c) m fact h = stays e h
+  poll_heard e (node.Server v) m fact h = stays e h
+  poll_heard e node.Cleaner m fact h = stays e h
+  poll_heard e node.Registry m fact h = stays e h
 
   -- ---- the maps
 
@@ -191,25 +191,25 @@ module _ (told : End) where
   -- ---- packets and time
 
   body_heard : (e : Emptying) (from : NodeId) (said : Body) → e.log.end ≡ told → At e → Goes (on_body e from said)
-  body_heard e from (body.MapNews m) is h = news_heard e m h
-  body_heard e from (body.Welcome m) is h = welcome_heard e m h
-  body_heard e from (body.Poll m) is h = poll_heard e from m is h
-  body_heard e from (body.DeltaAck m) is h = acknowledged e m h
-  body_heard e from (body.Stored m) is h = log_takes e (log_in.Acked m.name m.index m.generation) h
-  body_heard e from (body.Listed m) is h = jobs.list_came told e (server_in from) m h
-  body_heard e from (body.Usage m) is h = jobs.usage_came told e m h
-  body_heard e from (body.Fragment m) is h = jobs.told_came told e (server_in from) m.ask (answered.Held m.fragment) h
-  body_heard e from (body.Missing m) is h = jobs.told_came told e (server_in from) m.ask (answered.Missing m.generation) h
-  body_heard e from (body.Live m) is h = jobs.live_came told e m h
-  body_heard e from (body.Dead m) is h = jobs.dead_came told e m h
-  body_heard e from (body.Deleted m) is h = jobs.deleted_came told e (server_in from) m h
-  body_heard e from _ is h = stays e h
+  body_heard e from (body.MapNews m) fact h = news_heard e m h
+  body_heard e from (body.Welcome m) fact h = welcome_heard e m h
+  body_heard e from (body.Poll m) fact h = poll_heard e from m fact h
+  body_heard e from (body.DeltaAck m) fact h = acknowledged e m h
+  body_heard e from (body.Stored m) fact h = log_takes e (log_in.Acked m.name m.index m.generation) h
+  body_heard e from (body.Listed m) fact h = jobs.list_came told e (server_in from) m h
+  body_heard e from (body.Usage m) fact h = jobs.usage_came told e m h
+  body_heard e from (body.Fragment m) fact h = jobs.told_came told e (server_in from) m.ask (answered.Held m.fragment) h
+  body_heard e from (body.Missing m) fact h = jobs.told_came told e (server_in from) m.ask (answered.Missing m.generation) h
+  body_heard e from (body.Live m) fact h = jobs.live_came told e m h
+  body_heard e from (body.Dead m) fact h = jobs.dead_came told e m h
+  body_heard e from (body.Deleted m) fact h = jobs.deleted_came told e (server_in from) m h
+  body_heard e from _ fact h = stays e h
 
   pub packet_heard : (e : Emptying) (packet : Packet) → e.log.end ≡ told → At e → Goes (on_packet e packet)
   unfolding on_packet
-  packet_heard e packet is h =
+  packet_heard e packet fact h =
       by_test (λ (d : Done). Goes d) (names_known e.maps packet.body) (on_body e packet.from packet.body) (asks_for_maps e)
-      (λ t. body_heard e packet.from packet.body is h)
+      (λ t. body_heard e packet.from packet.body fact h)
       (λ t. jobs.at_once told (asks_for_maps e).state (asks_for_maps e).outs h (tt, tt))
 
   pub time_passes : (e : Emptying) → At e → Goes (on_tick e)

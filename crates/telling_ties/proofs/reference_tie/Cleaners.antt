@@ -151,14 +151,14 @@ module _ (told : End) where
 
   heard : (p : Phase) (packet : Packet) → Ends p → Goes (hears p packet)
   unfolding hears
-  heard (Down l) packet is = stays (Down l) tt
-  heard (Opening l o) packet is = opened l o.known.owner (opening.on_packet o l.questions packet) (behaving.packet_so o l.questions packet)
-  heard (Serving e) packet is = serves (on_packet e packet) (packet_heard told e packet (is e refl) tt)
+  heard (Down l) packet fact = stays (Down l) tt
+  heard (Opening l o) packet fact = opened l o.known.owner (opening.on_packet o l.questions packet) (behaving.packet_so o l.questions packet)
+  heard (Serving e) packet fact = serves (on_packet e packet) (packet_heard told e packet (fact e refl) tt)
 
   delivered : (peers : Peers) (p : Phase) (packet : Packet) → Ends p → Goes (on_deliver peers p packet)
   unfolding on_deliver
-  delivered peers p packet is =
-      by_test (λ (x : Went_to). Goes x) (is_well_formed peers packet) (hears p packet) (still p) (λ t. heard p packet is) (λ t. stays p tt)
+  delivered peers p packet fact =
+      by_test (λ (x : Went_to). Goes x) (is_well_formed peers packet) (hears p packet) (still p) (λ t. heard p packet fact) (λ t. stays p tt)
 
   passed : (p : Phase) → Goes (on_time p)
   unfolding on_time
@@ -167,16 +167,16 @@ module _ (told : End) where
   passed (Serving e) = serves (on_tick e) (time_passes told e tt)
 
   all_events : (peers : Peers) (p : Phase) (what : Do) → Ends p → Goes (happens peers p what)
-  all_events peers p Begin is = item_begun peers.servers p tt
-  all_events peers p (Deliver packet) is = delivered peers p packet is
-  all_events peers p Tick is = passed p
+  all_events peers p Begin fact = item_begun peers.servers p tt
+  all_events peers p (Deliver packet) fact = delivered peers p packet fact
+  all_events peers p Tick fact = passed p
 
   taken_so : (peers : Peers) (p : Phase) (what : Do) → Ends p → Goes (takes peers p what)
-  taken_so peers p what is =
-      by_test (λ (x : Went_to). Goes x) (phase_room p) (happens peers p what) (still p) (λ t. all_events peers p what is) (λ t. stays p tt)
+  taken_so peers p what fact =
+      by_test (λ (x : Went_to). Goes x) (phase_room p) (happens peers p what) (still p) (λ t. all_events peers p what fact) (λ t. stays p tt)
 
 -- ---- the law
 
 pub cleaner_reports : CleanerReportsItsEnd
-cleaner_reports end cleaner what is =
-    frames.packets_say end TheCleaner (takes cleaner.peers cleaner.phase what).outs (taken_so end cleaner.peers cleaner.phase what is).1
+cleaner_reports end cleaner what fact =
+    frames.packets_say end TheCleaner (takes cleaner.peers cleaner.phase what).outs (taken_so end cleaner.peers cleaner.phase what fact).1

@@ -10,7 +10,7 @@ use Rattle.client_serving.specs.Flights.{held_at, writes}
 use Rattle.client_serving.specs.Follow.{hands, takes_back, follows}
 use Rattle.client_serving.specs.Packets.{on_grant, on_supply, on_forward, again, says_again, on_recall, is_gone, on_gone, is_acked, on_ack, ends_fetch, told_at, told_by, on_told, asks_for_maps, renews, promises, reports, may_report, polled, on_poll, promised_in, is_news, hears, regroups, takes_news, on_news, on_welcome, on_body, on_packet, on_tick}
 use Rattle.client_serving.specs.Reads.{loses, with_reading}
-use Rattle.client_serving.specs.Running.{runs}
+use Rattle.client_calls.specs.Running.{runs}
 use Rattle.client_serving.specs.Sends.{Done, gives, report}
 use Rattle.delta_feed.specs.Transition.{acknowledged, new_epoch}
 use Rattle.group_map.specs.GroupMapState.{GroupMapState}
@@ -156,22 +156,22 @@ module _ (told : End) where
       (λ t. refl)
 
   reports_so : (slot epoch : ℕ) (p : Stepped Serving outputs.Out) → p.state.log.end ≡ told → At p.state → Goes (reports slot epoch p)
-  reports_so slot epoch p is h =
-      frames.goes_after told At (report p.state slot epoch ∷ []) (follows p.state p.outs) (is, tt) (tokens.follows_so told p.state p.outs h)
+  reports_so slot epoch p fact h =
+      frames.goes_after told At (report p.state slot epoch ∷ []) (follows p.state p.outs) (fact, tt) (tokens.follows_so told p.state p.outs h)
 
   polled_so : (s : Serving) (manager : ℕ) (p : Poll) → s.log.end ≡ told → At s → Goes (polled s manager p)
   unfolding polled
-  polled_so s manager p is h =
+  polled_so s manager p fact h =
       by_test (λ (d : Done). Goes d) (may_report s p) (reports p.slot p.epoch (promises s p.slot p.epoch manager)) (still s)
-      (λ t. reports_so p.slot p.epoch (promises s p.slot p.epoch manager) (ap (λ (l : LogState). l.end) (same_log s p.slot p.epoch manager) ∙ is)
+      (λ t. reports_so p.slot p.epoch (promises s p.slot p.epoch manager) (ap (λ (l : LogState). l.end) (same_log s p.slot p.epoch manager) ∙ fact)
       h) (λ t. still_so s h)
 
   on_poll_so : (s : Serving) (from : NodeId) (p : Poll) → s.log.end ≡ told → At s → Goes (on_poll s from p)
-  on_poll_so s (node.Manager manager) p is h = polled_so s manager p is h
-  on_poll_so s (node.Client k) p is h = still_so s h
-  on_poll_so s (node.Server k) p is h = still_so s h
-  on_poll_so s node.Cleaner p is h = still_so s h
-  on_poll_so s node.Registry p is h = still_so s h
+  on_poll_so s (node.Manager manager) p fact h = polled_so s manager p fact h
+  on_poll_so s (node.Client k) p fact h = still_so s h
+  on_poll_so s (node.Server k) p fact h = still_so s h
+  on_poll_so s node.Cleaner p fact h = still_so s h
+  on_poll_so s node.Registry p fact h = still_so s h
 
   -- ---- maps
 
@@ -206,24 +206,24 @@ module _ (told : End) where
   -- ---- a packet
 
   body_so : (s : Serving) (from : NodeId) (b : Body) → s.log.end ≡ told → At s → Goes (on_body s from b)
-  body_so s from (body.Grant m) is h = on_grant_so s m h
-  body_so s from (body.Supply m) is h = on_supply_so s m h
-  body_so s from (body.Forward m) is h = on_forward_so s m h
-  body_so s from (body.Recall m) is h = on_recall_so s m h
-  body_so s from (body.Gone m) is h = on_gone_so s m h
-  body_so s from (body.DeltaAck m) is h = on_ack_so s m h
-  body_so s from (body.Poll m) is h = on_poll_so s from m is h
-  body_so s from (body.Stored m) is h = flights.writes_so told s (log_in.Acked m.name m.index m.generation) h
-  body_so s from (body.Fragment m) is h = on_told_so s from m.ask (answered.Held m.fragment) h
-  body_so s from (body.Missing m) is h = on_told_so s from m.ask (answered.Missing m.generation) h
-  body_so s from (body.MapNews m) is h = on_news_so s m h
-  body_so s from (body.Welcome m) is h = on_welcome_so s m h
-  body_so s from _ is h = still_so s h
+  body_so s from (body.Grant m) fact h = on_grant_so s m h
+  body_so s from (body.Supply m) fact h = on_supply_so s m h
+  body_so s from (body.Forward m) fact h = on_forward_so s m h
+  body_so s from (body.Recall m) fact h = on_recall_so s m h
+  body_so s from (body.Gone m) fact h = on_gone_so s m h
+  body_so s from (body.DeltaAck m) fact h = on_ack_so s m h
+  body_so s from (body.Poll m) fact h = on_poll_so s from m fact h
+  body_so s from (body.Stored m) fact h = flights.writes_so told s (log_in.Acked m.name m.index m.generation) h
+  body_so s from (body.Fragment m) fact h = on_told_so s from m.ask (answered.Held m.fragment) h
+  body_so s from (body.Missing m) fact h = on_told_so s from m.ask (answered.Missing m.generation) h
+  body_so s from (body.MapNews m) fact h = on_news_so s m h
+  body_so s from (body.Welcome m) fact h = on_welcome_so s m h
+  body_so s from _ fact h = still_so s h
 
   packet_goes : (s : Serving) (p : Packet) → s.log.end ≡ told → At s → Goes (on_packet s p)
   unfolding on_packet
-  packet_goes s p is h =
-      by_test (λ (d : Done). Goes d) (names_known s.maps p.body) (on_body s p.from p.body) (asks_for_maps s) (λ t. body_so s p.from p.body is h)
+  packet_goes s p fact h =
+      by_test (λ (d : Done). Goes d) (names_known s.maps p.body) (on_body s p.from p.body) (asks_for_maps s) (λ t. body_so s p.from p.body fact h)
       (λ t. asks_for_maps_so s h)
 
   -- what is done, and then the open call runs
@@ -234,7 +234,7 @@ module _ (told : End) where
   runs_after d p = frames.goes_on told At d (runs d.state) p (λ h. calls.runs_so told d.state h)
 
   pub packet_so : (s : Serving) (p : Packet) → s.log.end ≡ told → At s → Goes (and_runs (on_packet s p))
-  packet_so s p is h = runs_after (on_packet s p) (packet_goes s p is h)
+  packet_so s p fact h = runs_after (on_packet s p) (packet_goes s p fact h)
 
   -- ---- time
 

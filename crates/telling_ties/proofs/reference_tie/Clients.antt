@@ -2,8 +2,8 @@
 use Rattle.std.specs.List.{AllByRecursion}
 use Rattle.client_node.specs.Phases.{Went_to, crashed, owner_of, restarted, after_opening, opened_on, answers, serves_on, wish_of, down_begins, opening_begins, serving_begins, lasting_of, begins_item, on_begin, on_deliver, on_time, delivers, happens, client_room, takes}
 use Rattle.client_parts.specs.Lasting.{next_life}
-use Rattle.client_serving.specs.Crash.{falls}
-use Rattle.client_serving.specs.Opens.{begins_call, call_at, opens}
+use Rattle.client_node.specs.Crash.{falls}
+use Rattle.client_calls.specs.Opens.{begins_call, call_at, opens}
 use Rattle.log_owner.proofs.Behaving as behaving
 use Rattle.log_owner.specs.Behaves.{Behaves, MayDo, MaySay}
 use Rattle.log_owner.specs.declared.ended.Owner.{Owner}
@@ -30,7 +30,7 @@ use Rattle.client_parts.specs.declared.call.Going.{Going}
 use Rattle.client_parts.specs.declared.lasting.Lasting.{Lasting}
 use Rattle.client_serving.specs.declared.serving.Serving.{Serving}
 use Rattle.client_serving.specs.Packets as packets
-use Rattle.client_serving.specs.Running.{goes_on}
+use Rattle.client_calls.specs.Running.{goes_on}
 use Rattle.client_serving.specs.Sends.{Done, gives}
 use Rattle.node_base.specs.declared.peers.Peers.{Peers}
 use Rattle.node_base.specs.Shape.{is_well_formed}
@@ -165,15 +165,16 @@ module _ (told : End) where
 
   on_deliver_so : (capacity : ℕ) (p : Phase) (packet : Packet) → Ends p → Goes (on_deliver capacity p packet)
   unfolding on_deliver
-  on_deliver_so capacity (Down l) packet is = still_so (Down l)
-  on_deliver_so capacity (Opening l o) packet is =
+  on_deliver_so capacity (Down l) packet fact = still_so (Down l)
+  on_deliver_so capacity (Opening l o) packet fact =
       opened_on_so l capacity o.known.owner (opening.on_packet o l.questions packet) (behaving.packet_so o l.questions packet)
-  on_deliver_so capacity (Serves s) packet is = serves_so (serving.and_runs told (packets.on_packet s packet)) (serving.packet_so told s packet (is s refl) tt)
+  on_deliver_so capacity (Serves s) packet fact =
+      serves_so (serving.and_runs told (packets.on_packet s packet)) (serving.packet_so told s packet (fact s refl) tt)
 
   delivers_so : (peers : Peers) (capacity : ℕ) (p : Phase) (packet : Packet) → Ends p → Goes (delivers peers capacity p packet)
-  delivers_so peers capacity p packet is =
+  delivers_so peers capacity p packet fact =
       by_test (λ (x : Went_to). Goes x) (is_well_formed peers packet) (on_deliver capacity p packet) (still p)
-      (λ t. on_deliver_so capacity p packet is) (λ t. still_so p)
+      (λ t. on_deliver_so capacity p packet fact) (λ t. still_so p)
 
   on_time_so : (capacity : ℕ) (p : Phase) → Goes (on_time capacity p)
   unfolding on_time
@@ -183,17 +184,17 @@ module _ (told : End) where
   on_time_so capacity (Serves s) = serves_so (serving.and_runs told (packets.on_tick s)) (serving.time_so told s tt)
 
   happens_so : (client : Client) (what : Do) → Ends client.phase → Goes (happens client what)
-  happens_so client Begin is = on_begin_so client.peers.servers client.phase
-  happens_so client (Deliver packet) is = delivers_so client.peers client.cache client.phase packet is
-  happens_so client Tick is = on_time_so client.cache client.phase
+  happens_so client Begin fact = on_begin_so client.peers.servers client.phase
+  happens_so client (Deliver packet) fact = delivers_so client.peers client.cache client.phase packet fact
+  happens_so client Tick fact = on_time_so client.cache client.phase
 
   takes_so : (client : Client) (what : Do) → Ends client.phase → Goes (takes client what)
-  takes_so client what is =
-      by_test (λ (x : Went_to). Goes x) (client_room client) (happens client what) (still client.phase) (λ t. happens_so client what is)
+  takes_so client what fact =
+      by_test (λ (x : Went_to). Goes x) (client_room client) (happens client what) (still client.phase) (λ t. happens_so client what fact)
       (λ t. still_so client.phase)
 
 -- ---- the law
 
 pub clients_report : ClientsReportTheirEnd
-clients_report end client what is =
-    frames.packets_say end (AClient (lasting_of client.phase).number) (takes client what).outs (takes_so end client what is).1
+clients_report end client what fact =
+    frames.packets_say end (AClient (lasting_of client.phase).number) (takes client what).outs (takes_so end client what fact).1

@@ -7,9 +7,9 @@ use Rattle.client_parts.specs.Fitting.{value_fits}
 
 pub returns-in-Some : goal.returns-in-Some
 returns-in-Some c =
-    let is : c.args.value.now ≡ Some c.in-Some.bytes.now = c.in-Some.ensures.some in
-    subst (λ v. value_fits v ≡ true) (sym is)
-    (value_fits_so c.in-Some.bytes.now (subst IsValue is c.in-Some.ensures.fits) c.are_bytes.ensures)
+    let fact : c.args.value.now ≡ Some c.in-Some.bytes.now = c.in-Some.ensures.some in
+    subst (λ v. value_fits v ≡ true) (sym fact)
+    (value_fits_so c.in-Some.bytes.now (subst IsValue fact c.in-Some.ensures.fits) c.are_bytes.ensures)
 
 pub returns-in_default : goal.returns-in_default
 returns-in_default c = ap value_fits (c.bytes.ensures.none.0 c.in_default.is)

@@ -22,4 +22,4 @@ returns-clause-gives_back c =
     let parts = c.args.parts.now in
     let exact : IfOk c.recover.result (λ found. found ≡ recovered parts c.args.count) = first_of (search rules, grind (arith, common_steps)) in
     IfOk-weaker c.recover.result (λ found. found ≡ recovered parts c.args.count) (λ found. GivesBack c.args.part parts c.args.count found)
-    (λ found is. subst (λ fs. GivesBack c.args.part parts c.args.count fs) (sym is) (gives_back c.args.part c.args.count parts c.requires.few)) exact
+    (λ found fact. subst (λ fs. GivesBack c.args.part parts c.args.count fs) (sym fact) (gives_back c.args.part c.args.count parts c.requires.few)) exact

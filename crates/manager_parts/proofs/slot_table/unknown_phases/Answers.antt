@@ -6,7 +6,7 @@ use Rattle.manager_parts.proofs.slot_table.unknown_phases.Goals as goal
 
 -- the slots so far and those to come, once one more is made
 one_more : (done now rest all : List SlotPhase) (x : SlotPhase) → now ≡ done ++ x ∷ [] → done ++ (x ∷ rest) ≡ all → now ++ rest ≡ all
-one_more done now rest all x is before = ap (λ n. n ++ rest) is ∙ append_assoc done (x ∷ []) rest ∙ before
+one_more done now rest all x fact before = ap (λ n. n ++ rest) fact ∙ append_assoc done (x ∷ []) rest ∙ before
 
 pub loop-slot-preserved : goal.loop-slot-preserved
 loop-slot-preserved c =

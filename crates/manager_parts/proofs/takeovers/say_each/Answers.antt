@@ -11,11 +11,11 @@ loop-out-preserved c =
     let b : Asker = asker c.say.new.phase c.say.new.questions in
     let x = c.in-Some.out in
     let xs = into_iter_items c.next.new.self in
-    let is = c.in-Some.ensures.steps.0 in
+    let fact = c.in-Some.ensures.steps.0 in
     let e = c.in_ok-say.ensures in
     let now = asker_is (says c.args.slot a x).state c.say.new.phase c.say.new.questions e.state e.questions in
     record {
-      state = state_on (says c.args.slot) a b x xs _ is now _ c.loop-out.invariant.state;
-      outs = outs_on (says c.args.slot) a b x xs _ is now _ _ _ e.effects c.loop-out.invariant.outs;
-      starts = All-rest StartsSlot x xs _ is c.loop-out.invariant.starts;
+      state = state_on (says c.args.slot) a b x xs _ fact now _ c.loop-out.invariant.state;
+      outs = outs_on (says c.args.slot) a b x xs _ fact now _ _ _ e.effects c.loop-out.invariant.outs;
+      starts = All-rest StartsSlot x xs _ fact c.loop-out.invariant.starts;
     }

@@ -6,8 +6,8 @@ use Rattle.registry.proofs.checkpoint.first_checkpoints.Goals as goal
 
 -- the checkpoints so far and those to come, once one more is made
 one_more : (done now rest all : List Checkpoint) (x y : Checkpoint) → now ≡ done ++ x ∷ [] → x ≡ y → done ++ (y ∷ rest) ≡ all → now ++ rest ≡ all
-one_more done now rest all x y is same before =
-    ap (λ n. n ++ rest) is ∙ append_assoc done (x ∷ []) rest ∙ ap (λ z. done ++ (z ∷ rest)) same ∙ before
+one_more done now rest all x y fact same before =
+    ap (λ n. n ++ rest) fact ∙ append_assoc done (x ∷ []) rest ∙ ap (λ z. done ++ (z ∷ rest)) same ∙ before
 
 pub loop-slot-preserved : goal.loop-slot-preserved
 loop-slot-preserved c =

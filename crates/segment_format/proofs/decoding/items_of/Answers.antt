@@ -15,10 +15,10 @@ returns-in_err-item c =
 
 pub loop-preserved : goal.loop-preserved
 loop-preserved c = record {
-  whole = rw (c.in_ok-push.ensures.ok, c.after-seen.ensures)
+  whole = rw (c.in_ok-push.ensures.ok, c.with_item-seen.ensures)
       (items_go_on c.args.version c.loop.items c.loop.seen c.args.count c.loop.counter c.loop.reader c.item_of.new.reader c.in_ok-item.item
       (items_at c.args.version nothing_seen c.args.count c.args.reader.now) c.loop-test.true c.in_ok-item.ensures c.loop.invariant.whole);
-  counted = rw c.after-seen.ensures (after_counts c.in_ok-item.item c.loop.seen ∙ ap (λ n. n + 1) c.loop.invariant.counted);
+  counted = rw c.with_item-seen.ensures (after_counts c.in_ok-item.item c.loop.seen ∙ ap (λ n. n + 1) c.loop.invariant.counted);
 }
 
 pub returns-then-is_some : goal.returns-then-is_some

@@ -12,12 +12,12 @@ pub returns-else-eq-clause-none : goal.returns-else-eq-clause-none
 returns-else-eq-clause-none c =
     let es = c.args.beliefs.now.entries in
     let from : Holder → List (Holder × Bool) = λ h. filter (λ e. range_contains holder_cmp (Included h) Unbounded e.0) es in
-    let is = sym c.in-Some.ensures.steps ∙ c.range.ensures.between tt ∙ ap from c.first_holder.ensures in
-    without_none c.args.block es (none_of c.args.block es c.range.ensures.ordered (subst (StartsPast c.args.block) is (sym c.eq.ensures ∙ c.if-eq.false)))
+    let fact = sym c.in-Some.ensures.steps ∙ c.range.ensures.between tt ∙ ap from c.first_holder.ensures in
+    without_none c.args.block es (none_of c.args.block es c.range.ensures.ordered (subst (StartsPast c.args.block) fact (sym c.eq.ensures ∙ c.if-eq.false)))
 
 pub returns-in-None-clause-none : goal.returns-in-None-clause-none
 returns-in-None-clause-none c =
     let es = c.args.beliefs.now.entries in
     let from : Holder → List (Holder × Bool) = λ h. filter (λ e. range_contains holder_cmp (Included h) Unbounded e.0) es in
-    let is = sym c.in-None.ensures.steps.0 ∙ c.range.ensures.between tt ∙ ap from c.first_holder.ensures in
-    without_none c.args.block es (none_of c.args.block es c.range.ensures.ordered (subst (StartsPast c.args.block) is tt))
+    let fact = sym c.in-None.ensures.steps.0 ∙ c.range.ensures.between tt ∙ ap from c.first_holder.ensures in
+    without_none c.args.block es (none_of c.args.block es c.range.ensures.ordered (subst (StartsPast c.args.block) fact tt))

@@ -8,7 +8,7 @@ pub returns-in-Ok-clause-shelf : goal.returns-in-Ok-clause-shelf
 returns-in-Ok-clause-shelf c =
     let refused = store_refused c.args.shelf.now c.args.fragment.meta.name c.args.generation in
     let none : refused ≡ None =
-    none_refused refused (λ e ne is. no_error c.in-Ok.field-0 e ((c.in-Ok.ensures.refused e ne).1 is))
+    none_refused refused (λ e ne fact. no_error c.in-Ok.field-0 e ((c.in-Ok.ensures.refused e ne).1 fact))
     (not_memory c.args.shelf.now c.args.fragment.meta.name c.args.generation) in
     unrefused refused c.store.new.self c.args.shelf.now (kept c.args.shelf.now c.args.fragment) none c.in-Ok.ensures.ok
 
@@ -16,7 +16,7 @@ pub returns-in-Ok-clause-kept : goal.returns-in-Ok-clause-kept
 returns-in-Ok-clause-kept c =
     let refused = store_refused c.args.shelf.now c.args.fragment.meta.name c.args.generation in
     let none : refused ≡ None =
-    none_refused refused (λ e ne is. no_error c.in-Ok.field-0 e ((c.in-Ok.ensures.refused e ne).1 is))
+    none_refused refused (λ e ne fact. no_error c.in-Ok.field-0 e ((c.in-Ok.ensures.refused e ne).1 fact))
     (not_memory c.args.shelf.now c.args.fragment.meta.name c.args.generation) in
     sym (ap (λ r. not (is_some r)) none)
 

@@ -25,13 +25,13 @@ pub record Giving (w : World) : Type 0 where
 
 -- What the awaited Recall lets keep is what the manager awaits.
 kept : (w : World) (r : Recall) → In r w.recalls → w.awaited r.client ≡ r.stamp → Bookkeeping w → r.keep ≡ w.keep r.client
-kept w r sent is book =
+kept w r sent fact book =
     let pos = book.stamps.recall_positive r sent in
     book.stamps.recall_one r (record {
       client = r.client;
       stamp = w.awaited r.client;
       keep = w.keep r.client;
-    }) sent (book.awaiting.awaited_sent r.client (omega arith)) refl (sym is)
+    }) sent (book.awaiting.awaited_sent r.client (omega arith)) refl (sym fact)
 
 offer_keeps_giving : (w : World) (asked : Want) → MayOffer w asked → Bookkeeping w → Giving w → Giving (offers w asked)
 offer_keeps_giving w asked h book giving = record {

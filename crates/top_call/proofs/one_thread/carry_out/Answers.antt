@@ -14,8 +14,8 @@ returns-in-Gen-clause-claim g c =
     let r = reading g.S.Source.left g.S.Source.faults c.args.source.now c.args.source.now in
     let s = writing g.K.Sink.written g.K.Sink.faults c.args.sink.now c.print_drawn.new.sink in
     let answer = answers step first (Some (Gen drawn)) [] s o (line (printed (script_of drawn)) 0) refl c.print_drawn.ensures.told in
-    let is : Gen drawn ≡ c.args.command = sym c.in-Gen.is in
-    subst (λ command. Claim step first (Some command) r s o) is
+    let fact : Gen drawn ≡ c.args.command = sym c.in-Gen.is in
+    subst (λ command. Claim step first (Some command) r s o) fact
     (claims_unread step first g.S.Source.left g.S.Source.faults c.args.source.now (Some (Gen drawn)) s o refl (λ e. cc) answer
     (none_played step first o.estate c.print_drawn.ensures.no_run) c.print_drawn.ensures.later)
 
@@ -28,8 +28,8 @@ returns-in-Big-clause-claim g c =
     let r = reading g.S.Source.left g.S.Source.faults c.args.source.now c.args.source.now in
     let s = writing g.K.Sink.written g.K.Sink.faults c.args.sink.now c.play_drawn.new.sink in
     let answer = answers step first (Some (Big drawn)) [] s o (brief_wanted step first (script_of drawn)) refl c.play_drawn.ensures.told in
-    let is : Big drawn ≡ c.args.command = sym c.in-Big.is in
-    subst (λ command. Claim step first (Some command) r s o) is
+    let fact : Big drawn ≡ c.args.command = sym c.in-Big.is in
+    subst (λ command. Claim step first (Some command) r s o) fact
     (claims_unread step first g.S.Source.left g.S.Source.faults c.args.source.now (Some (Big drawn)) s o refl
     (λ e. cc) answer c.play_drawn.ensures.one_run c.play_drawn.ensures.later)
 
@@ -40,8 +40,8 @@ returns-in-Run-clause-claim g c =
     let r = reading g.S.Source.left g.S.Source.faults c.args.source.now c.answer_run.new.source in
     let s = writing g.K.Sink.written g.K.Sink.faults c.args.sink.now c.answer_run.new.sink in
     let e = c.answer_run.ensures in
-    let is : Run ≡ c.args.command = sym c.in-Run.is in
-    subst (λ command. Claim step first (Some command) r s c.answer_run.result) is
+    let fact : Run ≡ c.args.command = sym c.in-Run.is in
+    subst (λ command. Claim step first (Some command) r s c.answer_run.result) fact
     (record { usage = λ h. cc; ends = e.ends; run = e.one_run; bounded = e.bounded; later = (e.read_later, e.later) })
 
 pub returns-in-Audit-clause-claim : goal.returns-in-Audit-clause-claim
@@ -51,6 +51,6 @@ returns-in-Audit-clause-claim g c =
     let r = reading g.S.Source.left g.S.Source.faults c.args.source.now c.answer_audit.new.source in
     let s = writing g.K.Sink.written g.K.Sink.faults c.args.sink.now c.answer_audit.new.sink in
     let e = c.answer_audit.ensures in
-    let is : Audit ≡ c.args.command = sym c.in-Audit.is in
-    subst (λ command. Claim step first (Some command) r s c.answer_audit.result) is
+    let fact : Audit ≡ c.args.command = sym c.in-Audit.is in
+    subst (λ command. Claim step first (Some command) r s c.answer_audit.result) fact
     (record { usage = λ h. cc; ends = e.ends; run = e.one_run; bounded = e.bounded; later = (e.read_later, e.later) })

@@ -10,14 +10,14 @@ pub loop-place-preserved : goal.loop-place-preserved
 loop-place-preserved c =
     let act = c.index-acts-place.result in
     let now = take_more c.args.acts.now c.loop-place.place act c.loop-place-test.true in
-    let is = c.index-acts-place.is in
+    let fact = c.index-acts-place.is in
     let here = get_or c.args.acts.now c.loop-place.place act in
     record {
       shows = c.in_ok-take.ensures ∙ ap (after_act act) c.loop-place.invariant.shows
-          ∙ ap (λ a. after_act a (history_after (take c.loop-place.place c.args.acts.now) nothing_yet)) is
+          ∙ ap (λ a. after_act a (history_after (take c.loop-place.place c.args.acts.now) nothing_yet)) fact
           ∙ sym (history_more nothing_yet (take c.loop-place.place c.args.acts.now) here) ∙ ap (λ acts. history_after acts nothing_yet) (sym now);
       legal = subst AreLegal (sym now)
           (legal_more nothing_yet _ here c.loop-place.invariant.legal
-          (subst (λ a. IsLegalIn a (history_after (take c.loop-place.place c.args.acts.now) nothing_yet)) is
+          (subst (λ a. IsLegalIn a (history_after (take c.loop-place.place c.args.acts.now) nothing_yet)) fact
           (subst (IsLegalIn act) c.loop-place.invariant.shows (c.is_legal.ensures.0 c.if-not-is_legal.false))));
     }

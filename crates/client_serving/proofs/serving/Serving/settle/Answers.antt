@@ -18,8 +18,8 @@ told s blocks = pushes_all s.managers s.feed ++ (steps gives_if_clean s blocks).
 -- what is filed, and then what is told of the client as it is then, is done together
 joined : (made filed all : List Effect) (seg name : SegName) (s t : Serving) (blocks dirty : List BlockId) → filed ≡ made ++ Does (Filed seg) ∷ [] → seg ≡ name
     → s ≡ t → blocks ≡ dirty → all ≡ filed ++ told s blocks → all ≡ made ++ Does (Filed name) ∷ told t dirty
-joined made filed all seg name s t blocks dirty is named now same e =
-    e ∙ ap (λ u. u ++ told s blocks) is ∙ append_assoc made (Does (Filed seg) ∷ []) (told s blocks)
+joined made filed all seg name s t blocks dirty fact named now same e =
+    e ∙ ap (λ u. u ++ told s blocks) fact ∙ append_assoc made (Does (Filed seg) ∷ []) (told s blocks)
     ∙ ap (λ u. made ++ Does (Filed u) ∷ told s blocks) named ∙ ap (λ u. made ++ Does (Filed name) ∷ told u blocks) now
     ∙ ap (λ u. made ++ Does (Filed name) ∷ told t u) same
 

@@ -11,6 +11,6 @@ returns-clause-just_these c =
     let now = c.args.self.now in
     let exact : IfOk c.listed.result (λ names. names ≡ barred now) = first_of (search rules, grind (arith, common_steps)) in
     IfOk-weaker c.listed.result _ _
-    (λ names is name. subst (λ ns. Contains ns name ↔ (Contains now.marks name ⊎ Contains (map (λ f. f.meta.name) now.held) name)) (sym is)
+    (λ names fact name. subst (λ ns. Contains ns name ↔ (Contains now.marks name ⊎ Contains (map (λ f. f.meta.name) now.held) name)) (sym fact)
     (in_order_has now.marks (map (λ f. f.meta.name) now.held) name))
     exact

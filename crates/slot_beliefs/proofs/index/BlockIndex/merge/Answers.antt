@@ -23,13 +23,13 @@ pub returns-then-not-branch-clause-counted : goal.returns-then-not-branch-clause
 returns-then-not-branch-clause-counted c = (subst IsCounted c.self.view_is c.self.invariant, invariant_of-self-then-not-branch c)
 
 pub shift-shifted-requires-clause-held : goal.shift-shifted-requires-clause-held
-shift-shifted-requires-clause-held c = λ x is.
+shift-shifted-requires-clause-held c = λ x fact.
     held_counted (shown c.self.inside.pages c.self.inside.usage) c.self.invariant c.args.row.0 x
-    (sym (ap segment_of c.get-held.ensures) ∙ sym c.segment_of.ensures ∙ is)
+    (sym (ap segment_of c.get-held.ensures) ∙ sym c.segment_of.ensures ∙ fact)
 
 pub shift-shifted-requires-clause-room : goal.shift-shifted-requires-clause-room
-shift-shifted-requires-clause-room c = λ x is apart.
-    subst (λ (i : Indexed). count_of i.usage x < 4294967295) (sym c.self.view_is) (c.requires x (sym c.segment_of-2.ensures ∙ is))
+shift-shifted-requires-clause-room c = λ x fact apart.
+    subst (λ (i : Indexed). count_of i.usage x < 4294967295) (sym c.self.view_is) (c.requires x (sym c.segment_of-2.ensures ∙ fact))
 
 pub invariant_of-self-in_default : goal.invariant_of-self-in_default
 invariant_of-self-in_default c =

@@ -10,6 +10,6 @@ returns-clause-listed c =
     let now = c.args.self.now in
     let table : IsTable now = subst IsTable c.self.view_is c.self.invariant in
     IfOk-weaker c.listed.result _ _
-    (λ counts is. subst (λ counts. (seg : SegName) (count : ℕ) → Contains counts (seg, count) ↔ ((0 < count) × (count ≡ count_of now seg)))
-    (sym (is ∙ c.self.view_is)) (table_lists now table))
+    (λ counts fact. subst (λ counts. (seg : SegName) (count : ℕ) → Contains counts (seg, count) ↔ ((0 < count) × (count ≡ count_of now seg)))
+    (sym (fact ∙ c.self.view_is)) (table_lists now table))
     c.listed.ensures

@@ -1,0 +1,44 @@
+//! The ends of counters: whether each is at least 65,536 below its end.
+ghost use Rattle.std.specs.Prelude.{◌≡◌};
+ghost use Rattle.client_node.specs.Phases.{phase_room};
+ghost use Rattle.client_node.specs.Room.{asked_again, open_block, serving_room};
+
+use crate::Phase;
+use client_parts::promises::epochs_have_room;
+use client_serving::Serving;
+use log_owner::log_has_room;
+use node_base::has_room;
+
+/// Whether each counter of a phase is.
+pub(crate) fn phase_has_room(phase: &Phase) -> bool
+    ensures { result ≡ phase_room phase.now }
+{
+    match phase {
+        Phase::Down(_) => true,
+        Phase::Opening(_, opening) => opening.has_room(),
+        Phase::Serving(serving) => serving_has_room(serving),
+    }
+}
+
+fn serving_has_room(serving: &Serving) -> bool
+    ensures { result ≡ serving_room serving.now }
+{
+    has_room(serving.maps.version)
+        && has_room(serving.tokens.asked())
+        && log_has_room(&serving.log)
+        && epochs_have_room(&serving.tokens)
+        && has_room(asked_again(serving))
+}
+
+// How often the open call asked again for its block.
+fn asked_again(serving: &Serving) -> u32
+    ensures { result ≡ asked_again serving.now.tokens (open_block serving.now.call) }
+{
+    let Some(call) = &serving.call else {
+        return 0;
+    };
+    match call.block() {
+        Some(block) => serving.tokens.repetition(block),
+        None => 0,
+    }
+}
