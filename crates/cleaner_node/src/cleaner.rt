@@ -1,7 +1,7 @@
 //! The cleaner as a node.
 ghost use Rattle.std.specs.Prelude.{◌≡◌, ◌++◌, IfOk, OnOk};
 ghost use Rattle.node_base.specs.Setups.{IsSetup};
-ghost use Rattle.cleaner_node.specs.CleanerEvents.{first_life, cleaner_start, crashes, next_life, says_back, back, after_opening, restarts_in, restarts, wish_at, answers, down_begins, opening_begins, serving_begins, down_wishes, opening_wishes, serving_wishes, lasting_of, on_begin, hears, on_deliver, on_time, happens, phase_room, takes};
+ghost use Rattle.cleaner_node.specs.CleanerEvents.{first_life, cleaner_start, crashes, next_life, says_back, back, after_opening, restarts_in, restarts, wish_at, answers, down_begins, opening_begins, serving_begins, down_wishes, opening_wishes, serving_wishes, on_begin, hears, on_deliver, on_time, happens, phase_room, takes};
 
 use cleaner_emptying::Emptying;
 use cleaner_parts::Lasting;
@@ -87,17 +87,6 @@ impl Cleaner {
                 drop(items);
                 Err(error)
             }
-        }
-    }
-
-    /// The items of the node.
-    pub fn items(&self) -> &Items
-        ensures { result.now ≡ (lasting_of self.now.phase).items }
-    {
-        match &self.phase {
-            Phase::Down(lasting) => &lasting.items,
-            Phase::Opening(lasting, _) => &lasting.items,
-            Phase::Serving(emptying) => &emptying.lasting.items,
         }
     }
 }

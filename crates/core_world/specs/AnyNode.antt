@@ -4,7 +4,7 @@ use Rattle.client_node.specs.Phases.{client_step}
 use Rattle.client_node.specs.Starting.{first_client}
 use Rattle.manager_node.specs.Events.{first_manager, manager_step}
 use Rattle.cleaner_node.specs.CleanerEvents.{cleaner_step, cleaner_start}
-use Rattle.store_nodes.specs.RegistryEvents.{registry_step, registry_start}
+use Rattle.registry_node.specs.Events.{registry_step, registry_start}
 use Rattle.store_nodes.specs.ServerEvents.{server_step, server_start}
 use Rattle.version_model.specs.declared.work.Work.{Work}
 use Rattle.wire_msg.specs.declared.packet.Do.{Do}

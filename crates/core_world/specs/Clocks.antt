@@ -4,7 +4,8 @@ use Rattle.wire_msg.specs.NodeStep.{HaveNoClock}
 use Rattle.client_node.specs.Clocks.{client_sends_clock_0}
 use Rattle.manager_node.specs.Clocks.{manager_sends_clock_0}
 use Rattle.cleaner_node.specs.CleanerClocks.{cleaner_sends_clock_0}
-use Rattle.store_nodes.specs.Clocks.{registry_sends_clock_0, server_sends_clock_0}
+use Rattle.registry_node.specs.Clocks.{registry_sends_clock_0}
+use Rattle.store_nodes.specs.Clocks.{server_sends_clock_0}
 use Rattle.core_world.specs.declared.any_node.AnyNode.{AnyNode}
 use Rattle.core_world.specs.declared.any_node.AnyNode.TheVariants.{Client, Manager, Server, Cleaner, Registry}
 use Rattle.core_world.specs.AnyNode.{any_step}

@@ -2,8 +2,9 @@
 use cleaner_node::Cleaner;
 use client_node::Client;
 use manager_node::Manager;
+use registry_node::RegistryNode;
 use std::alloc::Global;
-use store_nodes::{RegistryNode, Server};
+use store_nodes::Server;
 use version_model::{Act, Work};
 use wire_msg::{Actor, Do, Packet};
 use world_base::Member;

@@ -88,60 +88,60 @@ later s inputs = (steps transition s inputs).state
 
 base_after : (s : FeedState) (inputs : List In) → (later s inputs).base ≡ s.base
 base_after s [] = refl
-base_after s (i ∷ fact) = base_after (transition s i).state fact ∙ kept_base s i
+base_after s (i ∷ rest) = base_after (transition s i).state rest ∙ kept_base s i
 
 eight_after : (s : FeedState) (inputs : List In) → length s.acked ≡ 8 → length (later s inputs).acked ≡ 8
 eight_after s [] eight = eight
-eight_after s (i ∷ fact) eight = eight_after (transition s i).state fact (kept_eight s i eight)
+eight_after s (i ∷ rest) eight = eight_after (transition s i).state rest (kept_eight s i eight)
 
 filed_after : (s : FeedState) (inputs : List In) → (later s inputs).filed ≡ s.filed ++ filed_by s.end inputs
 filed_after s [] = sym (append-nil s.filed)
-filed_after s (Settled seq rows ∷ fact) =
+filed_after s (Settled seq rows ∷ rest) =
     let f : FiledDeltas = record { seq = seq; rows = rows } in
     elim (nat_lt s.end seq) as
-    (λ t. (later (cond t (record s { filed = s.filed ++ f ∷ []; end = seq }) s) fact).filed ≡ s.filed ++ cond t (f ∷ filed_by seq fact) (filed_by s.end fact)) [
-      | true ↦ filed_after (record s { filed = s.filed ++ f ∷ []; end = seq }) fact ∙ append_assoc s.filed (f ∷ []) (filed_by seq fact)
-      | false ↦ filed_after s fact
+    (λ t. (later (cond t (record s { filed = s.filed ++ f ∷ []; end = seq }) s) rest).filed ≡ s.filed ++ cond t (f ∷ filed_by seq rest) (filed_by s.end rest)) [
+      | true ↦ filed_after (record s { filed = s.filed ++ f ∷ []; end = seq }) rest ∙ append_assoc s.filed (f ∷ []) (filed_by seq rest)
+      | false ↦ filed_after s rest
     ]
-filed_after s (Ack slot applied ∷ fact) =
-    filed_after (acknowledged s slot applied) fact
-    ∙ by_test (λ (t : FeedState). t.filed ++ filed_by t.end fact ≡ s.filed ++ filed_by s.end fact) (nat_lt slot 8 && nat_lt (acked_of s slot) applied)
+filed_after s (Ack slot applied ∷ rest) =
+    filed_after (acknowledged s slot applied) rest
+    ∙ by_test (λ (t : FeedState). t.filed ++ filed_by t.end rest ≡ s.filed ++ filed_by s.end rest) (nat_lt slot 8 && nat_lt (acked_of s slot) applied)
     (record s { acked = set s.acked slot applied }) s (λ _. refl) (λ _. refl)
-filed_after s (NewEpoch slot ∷ fact) =
-    filed_after (new_epoch s slot) fact
-    ∙ by_test (λ (t : FeedState). t.filed ++ filed_by t.end fact ≡ s.filed ++ filed_by s.end fact) (nat_lt slot 8)
+filed_after s (NewEpoch slot ∷ rest) =
+    filed_after (new_epoch s slot) rest
+    ∙ by_test (λ (t : FeedState). t.filed ++ filed_by t.end rest ≡ s.filed ++ filed_by s.end rest) (nat_lt slot 8)
     (record s { acked = set s.acked slot s.base }) s
     (λ _. refl) (λ _. refl)
-filed_after s (Push slot ∷ fact) = filed_after s fact
-filed_after s (Tick ∷ fact) = filed_after s fact
+filed_after s (Push slot ∷ rest) = filed_after s rest
+filed_after s (Tick ∷ rest) = filed_after s rest
 
 end_after : (s : FeedState) (inputs : List In) → (later s inputs).end ≡ greatest s.end (settled_numbers inputs)
 end_after s [] = refl
-end_after s (Settled seq rows ∷ fact) =
-    let numbers : List ℕ = settled_numbers fact in
+end_after s (Settled seq rows ∷ rest) =
+    let numbers : List ℕ = settled_numbers rest in
     let f : FiledDeltas = record { seq = seq; rows = rows } in
     elim (nat_lt s.end seq) as
-    (λ t. nat_lt s.end seq ≡ t → (later (cond t (record s { filed = s.filed ++ f ∷ []; end = seq }) s) fact).end ≡ max seq (greatest s.end numbers)) [
+    (λ t. nat_lt s.end seq ≡ t → (later (cond t (record s { filed = s.filed ++ f ∷ []; end = seq }) s) rest).end ≡ max seq (greatest s.end numbers)) [
       | true ↦ λ p.
           let less : s.end < seq = grind (arith, nat_tests) in
           let is_max : seq ≡ max seq s.end = omega (arith, less) in
-          end_after (record s { filed = s.filed ++ f ∷ []; end = seq }) fact ∙ ap (λ m. greatest m numbers) is_max ∙ greatest-max seq s.end numbers
+          end_after (record s { filed = s.filed ++ f ∷ []; end = seq }) rest ∙ ap (λ m. greatest m numbers) is_max ∙ greatest-max seq s.end numbers
       | false ↦ λ p.
           let limit : seq ≤ s.end = grind (arith, nat_tests) in
           let is_max : s.end ≡ max seq s.end = omega (arith, limit) in
-          end_after s fact ∙ ap (λ m. greatest m numbers) is_max ∙ greatest-max seq s.end numbers
+          end_after s rest ∙ ap (λ m. greatest m numbers) is_max ∙ greatest-max seq s.end numbers
     ] refl
-end_after s (Ack slot applied ∷ fact) =
-    end_after (acknowledged s slot applied) fact
-    ∙ by_test (λ (t : FeedState). greatest t.end (settled_numbers fact) ≡ greatest s.end (settled_numbers fact))
+end_after s (Ack slot applied ∷ rest) =
+    end_after (acknowledged s slot applied) rest
+    ∙ by_test (λ (t : FeedState). greatest t.end (settled_numbers rest) ≡ greatest s.end (settled_numbers rest))
     (nat_lt slot 8 && nat_lt (acked_of s slot) applied)
     (record s { acked = set s.acked slot applied }) s (λ _. refl) (λ _. refl)
-end_after s (NewEpoch slot ∷ fact) =
-    end_after (new_epoch s slot) fact
-    ∙ by_test (λ (t : FeedState). greatest t.end (settled_numbers fact) ≡ greatest s.end (settled_numbers fact)) (nat_lt slot 8)
+end_after s (NewEpoch slot ∷ rest) =
+    end_after (new_epoch s slot) rest
+    ∙ by_test (λ (t : FeedState). greatest t.end (settled_numbers rest) ≡ greatest s.end (settled_numbers rest)) (nat_lt slot 8)
     (record s { acked = set s.acked slot s.base }) s (λ _. refl) (λ _. refl)
-end_after s (Push slot ∷ fact) = end_after s fact
-end_after s (Tick ∷ fact) = end_after s fact
+end_after s (Push slot ∷ rest) = end_after s rest
+end_after s (Tick ∷ rest) = end_after s rest
 
 -- an acknowledgement counts where the slot gets no new epoch later
 ack_counts : (one renewed : Bool) (base was told n : ℕ) (acks : List ℕ) → (one ≡ true → told ≡ max n was) → (one ≡ false → told ≡ was)
@@ -162,27 +162,27 @@ renewal_counts false false base was told acks own other = ap (λ m. greatest m a
 acks_after : (slot : ℕ) → slot < 8 → (s : FeedState) → length s.acked ≡ 8 → (inputs : List In)
     → get_or (later s inputs).acked slot 0 ≡ greatest (cond (list_any (renews slot) inputs) s.base (get_or s.acked slot 0)) (acks_since slot inputs)
 acks_after slot l s eight [] = refl
-acks_after slot l s eight (Settled seq rows ∷ fact) =
+acks_after slot l s eight (Settled seq rows ∷ rest) =
     let more : FeedState = record s { filed = s.filed ++ record { seq = seq; rows = rows } ∷ []; end = seq } in
-    by_test (λ (t : FeedState). get_or (later t fact).acked slot 0 ≡ greatest (cond (list_any (renews slot) fact) s.base (get_or s.acked slot 0))
-    (acks_since slot fact)) (nat_lt s.end seq) more s
-    (λ _. acks_after slot l more eight fact) (λ _. acks_after slot l s eight fact)
-acks_after slot l s eight (Ack acker n ∷ fact) =
+    by_test (λ (t : FeedState). get_or (later t rest).acked slot 0 ≡ greatest (cond (list_any (renews slot) rest) s.base (get_or s.acked slot 0))
+    (acks_since slot rest)) (nat_lt s.end seq) more s
+    (λ _. acks_after slot l more eight rest) (λ _. acks_after slot l s eight rest)
+acks_after slot l s eight (Ack acker n ∷ rest) =
     let t : FeedState = acknowledged s acker n in
-    let renewed : Bool = list_any (renews slot) fact in
-    acks_after slot l t (kept_eight s (Ack acker n) eight) fact
-    ∙ ap (λ b. greatest (cond renewed b (get_or t.acked slot 0)) (acks_since slot fact)) (kept_base s (Ack acker n))
-    ∙ ack_counts (acker == slot) renewed s.base (get_or s.acked slot 0) (get_or t.acked slot 0) n (acks_since slot fact) (ack_own slot l s eight acker n)
+    let renewed : Bool = list_any (renews slot) rest in
+    acks_after slot l t (kept_eight s (Ack acker n) eight) rest
+    ∙ ap (λ b. greatest (cond renewed b (get_or t.acked slot 0)) (acks_since slot rest)) (kept_base s (Ack acker n))
+    ∙ ack_counts (acker == slot) renewed s.base (get_or s.acked slot 0) (get_or t.acked slot 0) n (acks_since slot rest) (ack_own slot l s eight acker n)
     (ack_other slot l s eight acker n)
-acks_after slot l s eight (NewEpoch other ∷ fact) =
+acks_after slot l s eight (NewEpoch other ∷ rest) =
     let t : FeedState = new_epoch s other in
-    let renewed : Bool = list_any (renews slot) fact in
-    acks_after slot l t (kept_eight s (NewEpoch other) eight) fact
-    ∙ ap (λ b. greatest (cond renewed b (get_or t.acked slot 0)) (acks_since slot fact)) (kept_base s (NewEpoch other))
-    ∙ renewal_counts (other == slot) renewed s.base (get_or s.acked slot 0) (get_or t.acked slot 0) (acks_since slot fact) (renew_own slot l s eight other)
+    let renewed : Bool = list_any (renews slot) rest in
+    acks_after slot l t (kept_eight s (NewEpoch other) eight) rest
+    ∙ ap (λ b. greatest (cond renewed b (get_or t.acked slot 0)) (acks_since slot rest)) (kept_base s (NewEpoch other))
+    ∙ renewal_counts (other == slot) renewed s.base (get_or s.acked slot 0) (get_or t.acked slot 0) (acks_since slot rest) (renew_own slot l s eight other)
     (renew_other slot l s eight other)
-acks_after slot l s eight (Push asked ∷ fact) = acks_after slot l s eight fact
-acks_after slot l s eight (Tick ∷ fact) = acks_after slot l s eight fact
+acks_after slot l s eight (Push asked ∷ rest) = acks_after slot l s eight rest
+acks_after slot l s eight (Tick ∷ rest) = acks_after slot l s eight rest
 
 -- ---- many inputs, from the start
 

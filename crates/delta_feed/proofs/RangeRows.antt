@@ -34,24 +34,24 @@ rising_upto low (f ∷ fs) high r = All-cons (λ g. g.seq ≤ high) f fs (rising
 -- the filed segments rise from the base to the end
 pub filed_rising : (base : ℕ) (inputs : List In) → IsRising base (filed_by base inputs) (end_of base inputs)
 filed_rising base [] = omega arith
-filed_rising base (Settled seq rows ∷ fact) =
-    let numbers : List ℕ = settled_numbers fact in
+filed_rising base (Settled seq rows ∷ rest) =
+    let numbers : List ℕ = settled_numbers rest in
     elim (nat_lt base seq) as
     (λ t. nat_lt base seq ≡ t
-    → IsRising base (cond t (record { seq = seq; rows = rows } ∷ filed_by seq fact) (filed_by base fact)) (max seq (greatest base numbers))) [
+    → IsRising base (cond t (record { seq = seq; rows = rows } ∷ filed_by seq rest) (filed_by base rest)) (max seq (greatest base numbers))) [
       | true ↦ λ p.
           let above : base < seq = grind (arith, nat_tests) in
           let is_max : seq ≡ max seq base = omega (arith, above) in
-          (above, subst (IsRising seq (filed_by seq fact)) (ap (λ m. greatest m numbers) is_max ∙ greatest-max seq base numbers) (filed_rising seq fact))
+          (above, subst (IsRising seq (filed_by seq rest)) (ap (λ m. greatest m numbers) is_max ∙ greatest-max seq base numbers) (filed_rising seq rest))
       | false ↦ λ p.
           let below : seq ≤ base = grind (arith, nat_tests) in
           let is_max : base ≡ max seq base = omega (arith, below) in
-          subst (IsRising base (filed_by base fact)) (ap (λ m. greatest m numbers) is_max ∙ greatest-max seq base numbers) (filed_rising base fact)
+          subst (IsRising base (filed_by base rest)) (ap (λ m. greatest m numbers) is_max ∙ greatest-max seq base numbers) (filed_rising base rest)
     ] refl
-filed_rising base (Ack slot applied ∷ fact) = filed_rising base fact
-filed_rising base (NewEpoch slot ∷ fact) = filed_rising base fact
-filed_rising base (Push slot ∷ fact) = filed_rising base fact
-filed_rising base (Tick ∷ fact) = filed_rising base fact
+filed_rising base (Ack slot applied ∷ rest) = filed_rising base rest
+filed_rising base (NewEpoch slot ∷ rest) = filed_rising base rest
+filed_rising base (Push slot ∷ rest) = filed_rising base rest
+filed_rising base (Tick ∷ rest) = filed_rising base rest
 
 -- a block's rows are all among those of its slot
 kept : (slot : ℕ) (q : BlockId) → slot_of q.ino.0 ≡ slot → (rows : List (BlockId × Entry))

@@ -29,9 +29,9 @@ use Rattle.index_tie.proofs.Tables.{first_of}
 
 no_part_rows : (slot : ℕ) (items : List Item) → AllByRecursion IsNoPart items → flat_map (part_rows slot) items ≡ []
 no_part_rows slot [] none = refl
-no_part_rows slot (Block block value ∷ fact) none = no_part_rows slot fact none.1
-no_part_rows slot (Delta block ver hop item ∷ fact) none = no_part_rows slot fact none.1
-no_part_rows slot (Part of rows ∷ fact) none = absurd none.0
+no_part_rows slot (Block block value ∷ rest) none = no_part_rows slot rest none.1
+no_part_rows slot (Delta block ver hop item ∷ rest) none = no_part_rows slot rest none.1
+no_part_rows slot (Part of rows ∷ rest) none = absurd none.0
 
 -- rows of other slots say nothing of the block
 pub join_of_slot : (b : BlockId) (slot : ℕ) (rows : List (BlockId × Entry)) → slot_of b.ino.0 ≡ slot → join (filter (is_of slot) rows) b ≡ join rows b

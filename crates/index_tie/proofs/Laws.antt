@@ -101,9 +101,9 @@ place_lies s item place = by (item == no_item)
 
 all_lie : (s : Segment) (items : List Item) → AllByRecursion (λ row. LiesIn s row.1) (filter_map (row_of s) items)
 all_lie s [] = tt
-all_lie s (Block block value ∷ fact) = all_lie s fact
-all_lie s (Delta block ver hop item ∷ fact) = (place_lies s item, all_lie s fact)
-all_lie s (Part slot rows ∷ fact) = all_lie s fact
+all_lie s (Block block value ∷ rest) = all_lie s rest
+all_lie s (Delta block ver hop item ∷ rest) = (place_lies s item, all_lie s rest)
+all_lie s (Part slot rows ∷ rest) = all_lie s rest
 
 pub places_are_exact : PlacesAreExact
 places_are_exact b f entry named place filed n lies = by entry.ver refl

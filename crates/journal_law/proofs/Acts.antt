@@ -34,10 +34,10 @@ each_read P text read h (x ∷ xs) p =
     then_read (read (text x)) x (λ a. read_each read (map text xs) >>= λ more. Ok (a ∷ more)) (h x p.0)
     ∙ then_read (read_each read (map text xs)) xs (λ more. Ok (x ∷ more)) (each_read P text read h xs p.1)
 
-pub each_shape : {A : Type 0} (P : A → Type 0) (text : A → List ℕ) (fact : List ℕ → Bool) → ((a : A) → P a → fact (text a) ≡ true) → (xs : List A)
-    → AllByRecursion P xs → list_all fact (map text xs) ≡ true
-each_shape P text fact h [] p = refl
-each_shape P text fact h (x ∷ xs) p = and_true (h x p.0) (each_shape P text fact h xs p.1)
+pub each_shape : {A : Type 0} (P : A → Type 0) (text : A → List ℕ) (test : List ℕ → Bool) → ((a : A) → P a → test (text a) ≡ true) → (xs : List A)
+    → AllByRecursion P xs → list_all test (map text xs) ≡ true
+each_shape P text test h [] p = refl
+each_shape P text test h (x ∷ xs) p = and_true (h x p.0) (each_shape P text test h xs p.1)
 
 -- ---- by words
 

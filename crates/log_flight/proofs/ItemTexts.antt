@@ -143,42 +143,42 @@ item_of_test (Part slot rows) h =
       all_placed rows (both_right (is_row_count (length rows)) (list_all (λ r. is_placed r.1.place) rows) rest),
     )
 
-all_items : (fact : List Item) → list_all is_item fact ≡ true → AllByRecursion (IsItem second_version) fact
+all_items : (items : List Item) → list_all is_item items ≡ true → AllByRecursion (IsItem second_version) items
 all_items [] h = tt
-all_items (i ∷ fact) h = (item_of_test i (both_left (is_item i) (list_all is_item fact) h), all_items fact (both_right (is_item i) (list_all is_item fact) h))
+all_items (i ∷ rest) h = (item_of_test i (both_left (is_item i) (list_all is_item rest) h), all_items rest (both_right (is_item i) (list_all is_item rest) h))
 
 -- of the items from a number on, where no Delta is awaited, and where that of the item before is
-rules : (fact : List Item)
-    → ((n : ℕ) → keeps_rule None n fact ≡ true → KeepsRule None n fact)
-    × ((block : BlockId) (n : ℕ) → keeps_rule (Some block) (n + 1) fact ≡ true → KeepsRule (Some (record { block = block; item = n })) (n + 1) fact)
+rules : (items : List Item)
+    → ((n : ℕ) → keeps_rule None n items ≡ true → KeepsRule None n items)
+    × ((block : BlockId) (n : ℕ) → keeps_rule (Some block) (n + 1) items ≡ true → KeepsRule (Some (record { block = block; item = n })) (n + 1) items)
 rules [] = (λ n h. tt, λ block n h. false_is_not h)
-rules (Block b value ∷ fact) = (λ n h. (rules fact).1 b n h, λ block n h. false_is_not h)
-rules (Delta b ver hop item ∷ fact) = (
+rules (Block b value ∷ rest) = (λ n h. (rules rest).1 b n h, λ block n h. false_is_not h)
+rules (Delta b ver hop item ∷ rest) = (
   λ n h. (
-    eq_of item no_item (both_left (item == no_item) (keeps_rule None (n + 1) fact) h),
-    (rules fact).0 (n + 1) (both_right (item == no_item) (keeps_rule None (n + 1) fact) h),
+    eq_of item no_item (both_left (item == no_item) (keeps_rule None (n + 1) rest) h),
+    (rules rest).0 (n + 1) (both_right (item == no_item) (keeps_rule None (n + 1) rest) h),
   ),
   λ block n h.
       let here : (same_block b block && ((item + 1) == (n + 1))) ≡ true =
-      both_left (same_block b block && ((item + 1) == (n + 1))) (keeps_rule None ((n + 1) + 1) fact) h in (
+      both_left (same_block b block && ((item + 1) == (n + 1))) (keeps_rule None ((n + 1) + 1) rest) h in (
         sym (same_block_exact b block (both_left (same_block b block) ((item + 1) == (n + 1)) here)),
         before_of item n (both_right (same_block b block) ((item + 1) == (n + 1)) here),
-        (rules fact).0 ((n + 1) + 1) (both_right (same_block b block && ((item + 1) == (n + 1))) (keeps_rule None ((n + 1) + 1) fact) h),
+        (rules rest).0 ((n + 1) + 1) (both_right (same_block b block && ((item + 1) == (n + 1))) (keeps_rule None ((n + 1) + 1) rest) h),
       ),
 )
-rules (Part slot rows ∷ fact) = (λ n h. (rules fact).0 (n + 1) h, λ block n h. false_is_not h)
+rules (Part slot rows ∷ rest) = (λ n h. (rules rest).0 (n + 1) h, λ block n h. false_is_not h)
 
-pub tested_have_text : (fact : List Item) → has_text fact ≡ true → HasText fact
-tested_have_text fact h =
-    let all : Bool = list_all is_item fact in
-    let others : Bool = nat_le (others_in fact) most_items in
-    let deltas : Bool = nat_le (deltas_in fact) most_items in
-    let rule : Bool = keeps_rule None 0 fact in
+pub tested_have_text : (items : List Item) → has_text items ≡ true → HasText items
+tested_have_text items h =
+    let all : Bool = list_all is_item items in
+    let others : Bool = nat_le (others_in items) most_items in
+    let deltas : Bool = nat_le (deltas_in items) most_items in
+    let rule : Bool = keeps_rule None 0 items in
     let rest : (others && (deltas && rule)) ≡ true = both_right all (others && (deltas && rule)) h in
     let few : (deltas && rule) ≡ true = both_right others (deltas && rule) rest in
     record {
-      each = all_items fact (both_left all (others && (deltas && rule)) h);
-      others = le_of (others_in fact) most_items (both_left others (deltas && rule) rest);
-      deltas = le_of (deltas_in fact) most_items (both_left deltas rule few);
-      rule = (rules fact).0 0 (both_right deltas rule few);
+      each = all_items items (both_left all (others && (deltas && rule)) h);
+      others = le_of (others_in items) most_items (both_left others (deltas && rule) rest);
+      deltas = le_of (deltas_in items) most_items (both_left deltas rule few);
+      rule = (rules items).0 0 (both_right deltas rule few);
     }

@@ -82,16 +82,16 @@ item_fits (Block block (Some bytes)) h = omega (arith, h.1)
 item_fits (Delta block ver hop item) h = omega arith
 item_fits (Part slot rows) h = omega (arith, rows_fit rows, h.1.1)
 
-items_fit : (fact : List Item) → AllByRecursion (IsItem second_version) fact → length (flat_map item_text fact) ≤ 8300 * length fact
+items_fit : (items : List Item) → AllByRecursion (IsItem second_version) items → length (flat_map item_text items) ≤ 8300 * length items
 items_fit [] h = omega arith
-items_fit (i ∷ fact) h = omega (arith, length-append (item_text i) (flat_map item_text fact), item_fits i h.0, items_fit fact h.1)
+items_fit (i ∷ rest) h = omega (arith, length-append (item_text i) (flat_map item_text rest), item_fits i h.0, items_fit rest h.1)
 
 -- each item is a Delta or not
-count_kinds : (fact : List Item) → length fact ≡ others_in fact + deltas_in fact
+count_kinds : (items : List Item) → length items ≡ others_in items + deltas_in items
 count_kinds [] = refl
-count_kinds (Block block value ∷ fact) = omega (arith, count_kinds fact)
-count_kinds (Delta block ver hop item ∷ fact) = omega (arith, count_kinds fact)
-count_kinds (Part slot rows ∷ fact) = omega (arith, count_kinds fact)
+count_kinds (Block block value ∷ rest) = omega (arith, count_kinds rest)
+count_kinds (Delta block ver hop item ∷ rest) = omega (arith, count_kinds rest)
+count_kinds (Part slot rows ∷ rest) = omega (arith, count_kinds rest)
 
 -- the length of a text fits a u32
 pub text_fits : (s : Segment) → KeepsLimits s → length (text_of s) < 2 ^ 32

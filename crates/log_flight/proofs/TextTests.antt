@@ -46,32 +46,32 @@ item_tests (Part slot rows) h =
     and_from (nat_lt slot 8) (is_row_count (length rows) && list_all (λ r. is_placed r.1.place) rows) (lt_tests slot 8 h.0)
     (and_from (is_row_count (length rows)) (list_all (λ r. is_placed r.1.place) rows) (within_tests 1 128 (length rows) h.1) (rows_test rows h.2))
 
-items_test : (fact : List Item) → AllByRecursion (IsItem second_version) fact → list_all is_item fact ≡ true
+items_test : (items : List Item) → AllByRecursion (IsItem second_version) items → list_all is_item items ≡ true
 items_test [] h = refl
-items_test (i ∷ fact) h = and_from (is_item i) (list_all is_item fact) (item_tests i h.0) (items_test fact h.1)
+items_test (i ∷ rest) h = and_from (is_item i) (list_all is_item rest) (item_tests i h.0) (items_test rest h.1)
 
 -- of the items from a number on, where no Delta is awaited, and where that of the item before is
-rule_tests : (fact : List Item)
-    → ((n : ℕ) → KeepsRule None n fact → keeps_rule None n fact ≡ true)
-    × ((block : BlockId) (n : ℕ) → KeepsRule (Some (record { block = block; item = n })) (n + 1) fact → keeps_rule (Some block) (n + 1) fact ≡ true)
+rule_tests : (items : List Item)
+    → ((n : ℕ) → KeepsRule None n items → keeps_rule None n items ≡ true)
+    × ((block : BlockId) (n : ℕ) → KeepsRule (Some (record { block = block; item = n })) (n + 1) items → keeps_rule (Some block) (n + 1) items ≡ true)
 rule_tests [] = (λ n h. refl, λ block n h. absurd h)
-rule_tests (Block b value ∷ fact) = (λ n h. (rule_tests fact).1 b n h, λ block n h. absurd h)
-rule_tests (Delta b ver hop item ∷ fact) = (
-  λ n h. and_from (item == no_item) (keeps_rule None (n + 1) fact) (eq_tests item no_item h.0) ((rule_tests fact).0 (n + 1) h.1),
+rule_tests (Block b value ∷ rest) = (λ n h. (rule_tests rest).1 b n h, λ block n h. absurd h)
+rule_tests (Delta b ver hop item ∷ rest) = (
+  λ n h. and_from (item == no_item) (keeps_rule None (n + 1) rest) (eq_tests item no_item h.0) ((rule_tests rest).0 (n + 1) h.1),
   λ block n h.
       let next : item + 1 ≡ n + 1 = ap (λ k. k + 1) h.1 in
       let is_block : same_block b block ≡ true = ap (same_block b) (sym h.0) ∙ same_block_itself b in
-      and_from (same_block b block && ((item + 1) == (n + 1))) (keeps_rule None ((n + 1) + 1) fact)
-      (and_from (same_block b block) ((item + 1) == (n + 1)) is_block (eq_tests (item + 1) (n + 1) next)) ((rule_tests fact).0 ((n + 1) + 1) h.2),
+      and_from (same_block b block && ((item + 1) == (n + 1))) (keeps_rule None ((n + 1) + 1) rest)
+      (and_from (same_block b block) ((item + 1) == (n + 1)) is_block (eq_tests (item + 1) (n + 1) next)) ((rule_tests rest).0 ((n + 1) + 1) h.2),
 )
-rule_tests (Part slot rows ∷ fact) = (λ n h. (rule_tests fact).0 (n + 1) h, λ block n h. absurd h)
+rule_tests (Part slot rows ∷ rest) = (λ n h. (rule_tests rest).0 (n + 1) h, λ block n h. absurd h)
 
-passes : (fact : List Item) → HasText fact → has_text fact ≡ true
-passes fact h =
-    let few : Bool = nat_le (deltas_in fact) most_items && keeps_rule None 0 fact in
-    and_from (list_all is_item fact) (nat_le (others_in fact) most_items && few) (items_test fact h.each)
-    (and_from (nat_le (others_in fact) most_items) few (le_tests (others_in fact) most_items h.others)
-    (and_from (nat_le (deltas_in fact) most_items) (keeps_rule None 0 fact) (le_tests (deltas_in fact) most_items h.deltas) ((rule_tests fact).0 0 h.rule)))
+passes : (items : List Item) → HasText items → has_text items ≡ true
+passes items h =
+    let few : Bool = nat_le (deltas_in items) most_items && keeps_rule None 0 items in
+    and_from (list_all is_item items) (nat_le (others_in items) most_items && few) (items_test items h.each)
+    (and_from (nat_le (others_in items) most_items) few (le_tests (others_in items) most_items h.others)
+    (and_from (nat_le (deltas_in items) most_items) (keeps_rule None 0 items) (le_tests (deltas_in items) most_items h.deltas) ((rule_tests items).0 0 h.rule)))
 
-pub tests_text : (fact : List Item) (b : Bool) → b ≡ has_text fact → (IsTrue b ↔ HasText fact)
-tests_text fact b e = (λ t. tested_have_text fact (sym e ∙ t), λ h. e ∙ passes fact h)
+pub tests_text : (items : List Item) (b : Bool) → b ≡ has_text items → (IsTrue b ↔ HasText items)
+tests_text items b e = (λ t. tested_have_text items (sym e ∙ t), λ h. e ∙ passes items h)

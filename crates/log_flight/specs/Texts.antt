@@ -51,7 +51,7 @@ may_come (Some awaited) number (Part slot rows) = false
 -- whether the items from a number on keep the rule on Deltas, where this Delta is awaited
 abbrev pub keeps_rule : Option BlockId → ℕ → List Item → Bool
 keeps_rule awaited number [] = is_none awaited
-keeps_rule awaited number (i ∷ fact) = may_come awaited number i && keeps_rule (awaited_after i) (number + 1) fact
+keeps_rule awaited number (i ∷ rest) = may_come awaited number i && keeps_rule (awaited_after i) (number + 1) rest
 
 abbrev pub has_text : List Item → Bool
 has_text items = list_all is_item items && (nat_le (others_in items) most_items && (nat_le (deltas_in items) most_items && keeps_rule None 0 items))

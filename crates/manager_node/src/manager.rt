@@ -1,7 +1,7 @@
 //! The manager.
 ghost use Rattle.std.specs.Prelude.{◌≡◌, ◌++◌, IfOk, OnOk};
 ghost use Rattle.node_base.specs.Setups.{IsSetup};
-ghost use Rattle.manager_node.specs.Phases.{lasting_of, on_begin};
+ghost use Rattle.manager_node.specs.Phases.{on_begin};
 ghost use Rattle.node_base.specs.Maps.{forgotten};
 ghost use Rattle.manager_node.specs.declared.phase.Phase.TheVariants.{Waiting};
 ghost use Rattle.manager_node.specs.Phases.{serves};
@@ -44,13 +44,6 @@ impl Manager {
             peers: Peers::of(setup),
             phase: Phase::Serving(Serving::start(alloc, lasting, setup.managers, groups)?),
         })
-    }
-
-    /// The items of the node.
-    pub fn items(&self) -> &Items
-        ensures { result.now ≡ (lasting_of self.now.phase).items }
-    {
-        &self.phase.lasting().items
     }
 
     // Where a counter isn't at least 65,536 below its end, the event changes nothing.

@@ -44,7 +44,8 @@ pub fn puts_off_what_is_dirty()
 ///   and before each block of a segment that is settled.
 /// - `through`: after any events the cache is exact within the next one, too, between any two of its parts: once a
 ///   packet was taken, but for a block that was just granted to be written; once time passed, and once a call began;
-///   then after each call on blocks; and after each thing that the log says.
+///   then after each call on blocks. And of a client as it stands between events it is exact after each thing that
+///   its log might say.
 pub fn caches_what_is_clean()
     ensures clean { CachesJustWhatIsClean }
     ensures evicts { EvictsOnlyClean }

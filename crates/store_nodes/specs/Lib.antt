@@ -1,4 +1,3 @@
 pub mod Clocks
-pub mod RegistryEvents
 pub mod Rebuilds
 pub mod ServerEvents

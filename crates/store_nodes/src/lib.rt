@@ -1,11 +1,9 @@
-//! The nodes that store: the storage servers, and the registry that gives out the maps. This crate knows
-//! nothing of scripts or of how packets travel.
+//! The storage server as a node: it keeps fragments, and rebuilds those of a lost disk from the other members of
+//! each stripe. This crate knows nothing of scripts or of how packets travel.
 #![tactic(auto)]
 
 mod refilling;
-pub mod registry_node;
 pub mod server;
 mod shelf_events;
 
-pub use registry_node::RegistryNode;
 pub use server::Server;

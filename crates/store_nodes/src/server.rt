@@ -102,13 +102,6 @@ impl Server {
         &self.shelf
     }
 
-    /// The items of the node.
-    pub fn items(&self) -> &Items
-        ensures { result.now ≡ self.now.items }
-    {
-        &self.items
-    }
-
     // An event, with what the world sees of it.
     fn turn(&mut self, alloc: Global, what: &Do) -> Mem<(List<Packet>, List<Act>)>
         ensures state { OnOk result (self.new ≡ (server_step self.old what.now).node) }

@@ -32,11 +32,11 @@ same_item n (Part slot rows) = refl
 
 pub checks_past : (n : ℕ) (items : List Item) → checks_from (min n no_item) items ≡ checks_from n items
 checks_past n [] = refl
-checks_past n (i ∷ fact) =
+checks_past n (i ∷ rest) =
     let e : min (min n no_item + 1) no_item ≡ min (n + 1) no_item = omega arith in
-    let rest : checks_from (min n no_item + 1) fact ≡ checks_from (n + 1) fact =
-    sym (checks_past (min n no_item + 1) fact) ∙ ap (λ m. checks_from m fact) e ∙ checks_past (n + 1) fact in
-    λ k. same_item n i k ++ rest k
+    let later : checks_from (min n no_item + 1) rest ≡ checks_from (n + 1) rest =
+    sym (checks_past (min n no_item + 1) rest) ∙ ap (λ m. checks_from m rest) e ∙ checks_past (n + 1) rest in
+    λ k. same_item n i k ++ later k
 
 -- the segment that comes is the next of those that are chosen
 pub first_step : (left : List SegRef) (count : ℕ) (e : Fullness × ℕ) (rest : List (Fullness × ℕ)) → length left < count

@@ -23,7 +23,7 @@ check_of number item = []
 -- each Block among the items from a number on is asked for
 abbrev pub checks_from : ℕ → List Item → List Check
 checks_from number [] = []
-checks_from number (i ∷ fact) = check_of number i ++ checks_from (number + 1) fact
+checks_from number (i ∷ rest) = check_of number i ++ checks_from (number + 1) rest
 
 -- ---- what an answer makes of a block
 

@@ -42,13 +42,13 @@ IsNeeded inputs b = list_any (needs b) inputs ≡ true
 
 pub inputs-follow : (s : TokensState) → IsSound s → (inputs : List In) → Follows (IsNeeded inputs) s (state_after s inputs)
 inputs-follow s p [] = follows_still (IsNeeded []) s p
-inputs-follow s p (i ∷ fact) =
-    let all : BlockId → Type 0 = IsNeeded (i ∷ fact) in
+inputs-follow s p (i ∷ rest) =
+    let all : BlockId → Type 0 = IsNeeded (i ∷ rest) in
     let t : TokensState = (transition s i).state in
-    let one : Follows all s t = transition-follows all s p i (λ b n. or_first (needs b i) (list_any (needs b) fact) n) in
-    let two : Follows all t (state_after t fact) =
-    follows_weaker (IsNeeded fact) all t (state_after t fact) (λ b n. or_second (needs b i) (list_any (needs b) fact) n) (inputs-follow t one.sound fact) in
-    follows_through all s t (state_after t fact) one two
+    let one : Follows all s t = transition-follows all s p i (λ b n. or_first (needs b i) (list_any (needs b) rest) n) in
+    let two : Follows all t (state_after t rest) =
+    follows_weaker (IsNeeded rest) all t (state_after t rest) (λ b n. or_second (needs b i) (list_any (needs b) rest) n) (inputs-follow t one.sound rest) in
+    follows_through all s t (state_after t rest) one two
 
 pub stays_sound : StaysSound
 stays_sound inc epochs inputs = (inputs-follow (started inc epochs) (started-sound inc epochs) inputs).sound

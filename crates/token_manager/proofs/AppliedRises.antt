@@ -53,10 +53,10 @@ rises-transition s Tick = λ log. omega arith
 
 pub rises-all : (s : SlotState) (inputs : List In) → Rises s (steps transition s inputs)
 rises-all s [] = λ log. omega arith
-rises-all s (i ∷ fact) = λ log.
+rises-all s (i ∷ rest) = λ log.
     let first : applied_of s.applied log ≤ applied_of (transition s i).state.applied log = rises-transition s i log in
-    let rest : applied_of (transition s i).state.applied log ≤ applied_of (state_after (transition s i).state fact).applied log =
-    rises-all (transition s i).state fact log in
+    let later : applied_of (transition s i).state.applied log ≤ applied_of (state_after (transition s i).state rest).applied log =
+    rises-all (transition s i).state rest log in
     omega arith
 
 -- ---- the counts

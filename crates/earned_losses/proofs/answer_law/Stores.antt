@@ -20,15 +20,15 @@ use Rattle.registry.specs.Board.{transition}
 use Rattle.registry.specs.declared.input.In.TheVariants as board
 use Rattle.registry.specs.declared.output.Out.{Out}
 use Rattle.registry.specs.declared.output.Out.TheVariants.{Changed, Epoch, Kept}
-use Rattle.store_nodes.specs.declared.registry_node.RegistryNode.{RegistryNode}
+use Rattle.registry_node.specs.declared.node.RegistryNode.{RegistryNode}
 use Rattle.store_nodes.specs.declared.server.Rebuilding.{Rebuilding}
 use Rattle.store_nodes.specs.declared.server.Server.{Server}
 use Rattle.store_nodes.specs.declared.server.Wish.{Wish}
 use Rattle.store_nodes.specs.declared.server.Wish.TheVariants.{Lose, Rebuild, Other}
 use Rattle.store_nodes.specs.Rebuilds as rebuilds
 use Rattle.store_nodes.specs.Rebuilds.{Done}
-use Rattle.store_nodes.specs.RegistryEvents as registry
-use Rattle.store_nodes.specs.RegistryEvents.{registry_step}
+use Rattle.registry_node.specs.Events as registry
+use Rattle.registry_node.specs.Events.{registry_step}
 use Rattle.store_nodes.specs.ServerEvents as server
 use Rattle.store_nodes.specs.ServerEvents.{server_step}
 use Rattle.version_model.specs.declared.answer.Answer.TheVariants as answer

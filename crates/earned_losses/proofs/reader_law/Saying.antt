@@ -39,7 +39,7 @@ use Rattle.run_laws.specs.world_logs.Doings.{acts_in}
 use Rattle.run_laws.specs.world_logs.Roles.{IsThere}
 use Rattle.run_laws.specs.world_logs.Roles.Role.{OfClient, OfCleaner, OfManager}
 use Rattle.std.specs.Prelude.{option_map}
-use Rattle.store_nodes.specs.RegistryEvents as registry_events
+use Rattle.registry_node.specs.Events as registry_events
 use Rattle.store_nodes.specs.ServerEvents as server_events
 use Rattle.token_client.specs.declared.held.Wanted.{Wanted}
 use Rattle.token_client.specs.State.{epoch_of}

@@ -23,7 +23,7 @@ use Rattle.node_base.specs.Effects.{acts_of}
 use Rattle.log_ties.proofs.node_log_tie.Others.{same_or_other}
 use Rattle.log_ties.specs.node_log_tie.Sight.{BodySeen}
 use Rattle.node_ties.proofs.node_tie.StoreFrames.{packets_do}
-use Rattle.store_nodes.specs.RegistryEvents.{registry_start}
+use Rattle.registry_node.specs.Events.{registry_start}
 use Rattle.stripe_code.specs.declared.round.Told.{Told}
 use Rattle.stripe_code.specs.declared.round.Told.TheVariants as told
 use Rattle.token_protocol.specs.Basics.{In}

@@ -18,7 +18,7 @@ use Rattle.manager_node.specs.Events as managers
 use Rattle.manager_node.specs.Phases.{lasting_of as manager_lasting}
 use Rattle.node_ties.proofs.node_tie.StoreFrames.{packets_from}
 use Rattle.node_ties.proofs.node_tie.StoreServer.{server_from}
-use Rattle.store_nodes.specs.RegistryEvents as registry
+use Rattle.registry_node.specs.Events as registry
 use Rattle.wire_msg.specs.declared.packet.Do.{Do}
 use Rattle.wire_msg.specs.declared.packet.Packet.{Packet}
 use Rattle.world_base.specs.Cluster.{cluster_of, place_of}

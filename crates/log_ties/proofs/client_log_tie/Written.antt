@@ -98,9 +98,9 @@ item_bytes (Delta block ver hop item) h =
     (both (block_text block) (to_be_bytes w64 ver ++ (to_be_bytes w32 hop ++ to_be_bytes w16 item)) (block_bytes block) (delta_bytes ver hop item))
 item_bytes (Part slot rows) h = absurd h
 
-items_bytes : (fact : List Item) → AllByRecursion ItemBytes fact → IsBytes (flat_map item_text fact)
+items_bytes : (items : List Item) → AllByRecursion ItemBytes items → IsBytes (flat_map item_text items)
 items_bytes [] all = All-nil IsByte
-items_bytes (i ∷ fact) all = both (item_text i) (flat_map item_text fact) (item_bytes i all.0) (items_bytes fact all.1)
+items_bytes (i ∷ rest) all = both (item_text i) (flat_map item_text rest) (item_bytes i all.0) (items_bytes rest all.1)
 
 version_small : (items : List Item) → version_of items < 256
 version_small items = by_test (λ (v : ℕ). v < 256) _ second_version first_version (λ t. omega arith) (λ t. omega arith)

@@ -32,8 +32,8 @@ use Rattle.node_base.specs.Nodes.{others}
 use Rattle.node_base.specs.Room.{has_room}
 use Rattle.node_base.specs.Setups.{IsSetup}
 use Rattle.node_base.specs.Shape.{is_well_formed}
-use Rattle.store_nodes.specs.declared.registry_node.RegistryNode.{RegistryNode}
-use Rattle.store_nodes.specs.RegistryEvents.{Done, registry_start, registry_step, news_of, tells_all, moved, on_move, changed, welcome_of, on_hello, kept, on_done, move_of, on_item, at_item, on_begin, hears, on_packet, on_event, takes}
+use Rattle.registry_node.specs.declared.node.RegistryNode.{RegistryNode}
+use Rattle.registry_node.specs.Events.{Done, registry_start, registry_step, news_of, tells_all, moved, on_move, changed, welcome_of, on_hello, kept, on_done, move_of, on_item, at_item, on_begin, hears, on_packet, on_event, takes}
 use Rattle.log_protocol.specs.Tables.{In}
 use Rattle.log_tie.specs.Setting.{Setting}
 use Rattle.log_law.specs.Net.{Net, Packet as Sent}

@@ -32,8 +32,8 @@ use Rattle.registry.specs.Slots.{all_slots, entry_of}
 use Rattle.registry.specs.declared.checkpoint.Checkpoint.{Checkpoint}
 use Rattle.registry.specs.declared.input.In.TheVariants as board
 use Rattle.registry.specs.declared.output.Out.TheVariants.{Changed, Epoch, Kept}
-use Rattle.store_nodes.specs.RegistryEvents.{Done, registry_step, on_move, on_hello, on_done, move_of, on_item, at_item, on_begin, hears, on_packet, on_event}
-use Rattle.store_nodes.specs.declared.registry_node.RegistryNode.{RegistryNode}
+use Rattle.registry_node.specs.Events.{Done, registry_step, on_move, on_hello, on_done, move_of, on_item, at_item, on_begin, hears, on_packet, on_event}
+use Rattle.registry_node.specs.declared.node.RegistryNode.{RegistryNode}
 use Rattle.token_protocol.specs.Basics.{In as Among}
 use Rattle.wire_msg.specs.declared.body.Body.{Body}
 use Rattle.wire_msg.specs.declared.body.Body.TheVariants as body

@@ -47,9 +47,9 @@ module _ (part : ℕ) (Told : ℕ → ℕ → Type 0) (s : BoardState) (sound : 
       epochs = λ slot below. omega (arith, sound.epochs slot below, ap (λ (es : List SlotEntry). (entry_at es slot).epoch) entries);
     };
     slot = inl (ap (λ (es : List SlotEntry). (entry_of es part).epoch) entries, ap (λ (es : List SlotEntry). (entry_of es part).manager) entries);
-    rises = λ manager. omega (arith, ap (λ (fact : List (ℕ × ℕ)). inc_of fact manager) incs);
-    keeps = λ manager same its. ap (λ (fact : List (ℕ × ℕ)). inc_of fact manager) incs;
-    heard = λ manager. inl (omega (arith, ap (λ (fact : List (ℕ × ℕ)). inc_of fact manager) incs));
+    rises = λ manager. omega (arith, ap (λ (all : List (ℕ × ℕ)). inc_of all manager) incs);
+    keeps = λ manager same its. ap (λ (all : List (ℕ × ℕ)). inc_of all manager) incs;
+    heard = λ manager. inl (omega (arith, ap (λ (all : List (ℕ × ℕ)). inc_of all manager) incs));
     version = version;
   }
 

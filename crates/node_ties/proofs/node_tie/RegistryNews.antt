@@ -6,7 +6,7 @@ use Rattle.std.proofs.lemmas.Option.{slice_get-get_or}
 use Rattle.registry.specs.Board.{slot_news, all_news}
 use Rattle.registry.specs.BoardState.{BoardState}
 use Rattle.registry.specs.Slots.{all_slots, entry_of}
-use Rattle.store_nodes.specs.RegistryEvents.{news_of}
+use Rattle.registry_node.specs.Events.{news_of}
 use Rattle.xfs_base.specs.declared.news.SlotNews.{SlotNews}
 use Rattle.node_ties.specs.node_tie.RegistryEvents.{epoch_in, manager_in, SlotTells, NewsTell, NewsAre}
 use Rattle.node_ties.proofs.node_tie.StoreFrames.{all_map}

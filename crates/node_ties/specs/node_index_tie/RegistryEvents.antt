@@ -8,8 +8,8 @@ use Rattle.node_ties.specs.node_tie.RegistryEvents.{epoch_in, RegistrySound}
 use Rattle.registry.specs.Board.{all_news}
 use Rattle.registry.specs.Checkpoints.{parts_at, horizon_at}
 use Rattle.segment_format.specs.declared.segment.Segment.{Segment}
-use Rattle.store_nodes.specs.RegistryEvents.{registry_start, registry_step}
-use Rattle.store_nodes.specs.declared.registry_node.RegistryNode.{RegistryNode}
+use Rattle.registry_node.specs.Events.{registry_start, registry_step}
+use Rattle.registry_node.specs.declared.node.RegistryNode.{RegistryNode}
 use Rattle.token_protocol.specs.Basics.{In as Among}
 use Rattle.version_model.specs.declared.work.Work.{Work}
 use Rattle.wire_msg.specs.declared.body.Body.{Body}

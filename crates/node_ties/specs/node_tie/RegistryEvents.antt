@@ -7,8 +7,8 @@ use Rattle.registry.specs.Board.{inc_of}
 use Rattle.registry.specs.BoardState.{BoardState}
 use Rattle.registry.specs.Slots.{all_slots, entry_of}
 use Rattle.token_law.specs.Owed.{IsNeutral}
-use Rattle.store_nodes.specs.declared.registry_node.RegistryNode.{RegistryNode}
-use Rattle.store_nodes.specs.RegistryEvents.{registry_start, registry_step, news_of}
+use Rattle.registry_node.specs.declared.node.RegistryNode.{RegistryNode}
+use Rattle.registry_node.specs.Events.{registry_start, registry_step, news_of}
 use Rattle.version_model.specs.declared.work.Work.{Work}
 use Rattle.wire_msg.specs.declared.body.Body.{Body}
 use Rattle.wire_msg.specs.declared.body.Body.TheVariants as body

@@ -3,7 +3,7 @@ use Rattle.std.proofs.Common.{◌≡◌, ℕ, ◌≤◌, ◌<◌, List, Option, 
 use Rattle.core_world.specs.declared.any_node.AnyNode.{AnyNode}
 use Rattle.core_world.specs.declared.any_node.AnyNode.TheVariants as any
 use Rattle.manager_node.specs.declared.manager.Manager.{Manager as ManagerNode}
-use Rattle.store_nodes.specs.declared.registry_node.RegistryNode.{RegistryNode}
+use Rattle.registry_node.specs.declared.node.RegistryNode.{RegistryNode}
 use Rattle.world_base.specs.Cluster.{place_of}
 use Rattle.world_base.specs.declared.cluster.Cluster.{Cluster}
 use Rattle.run_laws.proofs.world_law.Places.{behind}

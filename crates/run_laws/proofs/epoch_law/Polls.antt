@@ -21,7 +21,7 @@ use Rattle.node_ties.specs.node_tie.Sight.{PollSeen}
 use Rattle.registry.specs.Board.{all_news, slot_news}
 use Rattle.registry.specs.BoardState.{BoardState}
 use Rattle.segment_format.specs.declared.segment.Segment.{Segment}
-use Rattle.store_nodes.specs.declared.registry_node.RegistryNode.{RegistryNode}
+use Rattle.registry_node.specs.declared.node.RegistryNode.{RegistryNode}
 use Rattle.token_client.specs.State.{TokensState, epoch_of, is_in_slot}
 use Rattle.token_law.specs.Laws.{ActiveEpochsPromised}
 use Rattle.token_manager.specs.SlotState.{SlotState}

@@ -8,7 +8,7 @@ use Rattle.log_protocol.specs.Tables.{In}
 use Rattle.log_scan.specs.Transition.{least_horizon}
 use Rattle.registry.specs.Board.{slot_news, all_news}
 use Rattle.script_text.specs.declared.script.Script.{Script}
-use Rattle.store_nodes.specs.declared.registry_node.RegistryNode.{RegistryNode}
+use Rattle.registry_node.specs.declared.node.RegistryNode.{RegistryNode}
 use Rattle.version_model.specs.declared.act.Act.{Act}
 use Rattle.version_model.specs.declared.work.Work.{Work}
 use Rattle.wire_msg.specs.declared.packet.Do.{Do}

@@ -8,7 +8,7 @@ use Rattle.core_world.specs.declared.any_node.AnyNode.{AnyNode}
 use Rattle.core_world.specs.declared.any_node.AnyNode.TheVariants as any
 use Rattle.node_base.specs.declared.effects.Effect.{Effect}
 use Rattle.node_base.specs.Effects.{packets_of}
-use Rattle.store_nodes.specs.RegistryEvents as registries
+use Rattle.registry_node.specs.Events as registries
 use Rattle.store_nodes.specs.ServerEvents as servers
 use Rattle.token_protocol.specs.Basics.{In}
 use Rattle.version_model.specs.declared.act.Act.{Act}

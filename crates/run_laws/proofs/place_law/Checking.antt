@@ -114,10 +114,10 @@ module _ (s : Segment) where
   all_begun : (number : ℕ) (items : List Item) → ((i : Item) → In i items → In i s.items) → AreFrom number items
       → AllByRecursion (CheckLies s) (checks_from number items)
   all_begun number [] sub from = tt
-  all_begun number (i ∷ fact) sub from =
-      all_append (CheckLies s) (check_of number i) (checks_from (number + 1) fact)
+  all_begun number (i ∷ rest) sub from =
+      all_append (CheckLies s) (check_of number i) (checks_from (number + 1) rest)
       (one_begun number i (sub i (inl refl)) (ap (slice_get s.items) (none_more number) ∙ from 0 i refl))
-      (all_begun (number + 1) fact (λ j h. sub j (inr h)) (λ k j at. ap (slice_get s.items) (one_more number k) ∙ from (suc k) j at))
+      (all_begun (number + 1) rest (λ j h. sub j (inr h)) (λ k j at. ap (slice_get s.items) (one_more number k) ∙ from (suc k) j at))
     where
       none_more : (n : ℕ) → n ≡ n + 0
       none_more n = omega arith

@@ -68,9 +68,9 @@ module _ (part : ℕ) (s : Segment) where
   item_fits (Delta block ver hop item) h = tt
   item_fits (Part slot rows) h = by_test RowsFit (slot == part) rows [] (λ _. blocks_fit rows h) (λ _. tt)
 
-  parts_fit : (fact : List Item) → AllByRecursion FitsItem fact → RowsFit (flat_map (part_rows part) fact)
+  parts_fit : (items : List Item) → AllByRecursion FitsItem items → RowsFit (flat_map (part_rows part) items)
   parts_fit [] all = tt
-  parts_fit (i ∷ fact) all = all_append _ (part_rows part i) (flat_map (part_rows part) fact) (item_fits i all.0) (parts_fit fact all.1)
+  parts_fit (i ∷ rest) all = all_append _ (part_rows part i) (flat_map (part_rows part) rest) (item_fits i all.0) (parts_fit rest all.1)
 
   deltas_fit : AllByRecursion FitsItem s.items → RowsFit (rows_of s)
   deltas_fit all = all_filter_map _ FitsItem (row_of s) one s.items all

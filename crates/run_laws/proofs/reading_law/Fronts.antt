@@ -7,7 +7,7 @@ use Rattle.group_map.specs.Groups as groups
 use Rattle.group_map.specs.Groups.{group_of}
 use Rattle.group_map.specs.GroupMapState.{GroupMapState}
 use Rattle.node_base.specs.Setups.{IsSetup}
-use Rattle.store_nodes.specs.RegistryEvents.{registry_start}
+use Rattle.registry_node.specs.Events.{registry_start}
 use Rattle.world_base.specs.Cluster.{cluster_of, place_of}
 use Rattle.world_base.specs.declared.cluster.Cluster.{Cluster}
 use Rattle.world_base.specs.declared.estate.Estate.{Estate}

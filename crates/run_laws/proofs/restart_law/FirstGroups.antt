@@ -12,9 +12,9 @@ use Rattle.registry.proofs.Losses.{loss_exists, loss_newer}
 use Rattle.registry.specs.Board as board
 use Rattle.registry.specs.Board.{can_move, hears_manager, hears_server, is_kept, may_lose, transition}
 use Rattle.registry.specs.BoardState.{BoardState}
-use Rattle.store_nodes.specs.declared.registry_node.RegistryNode.{RegistryNode}
-use Rattle.store_nodes.specs.RegistryEvents as registry
-use Rattle.store_nodes.specs.RegistryEvents.{registry_step}
+use Rattle.registry_node.specs.declared.node.RegistryNode.{RegistryNode}
+use Rattle.registry_node.specs.Events as registry
+use Rattle.registry_node.specs.Events.{registry_step}
 use Rattle.wire_msg.specs.declared.body.Body.{Body}
 use Rattle.wire_msg.specs.declared.body.Body.TheVariants as body
 use Rattle.wire_msg.specs.declared.packet.Do.{Do}

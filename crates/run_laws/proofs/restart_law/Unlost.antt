@@ -20,7 +20,7 @@ use Rattle.log_tie.specs.Setting.{Setting, Stripe, fragment_over, generation_of,
 use Rattle.log_ties.proofs.node_log_tie.WholeMaps.{its_stripe}
 use Rattle.log_ties.specs.node_log_tie.RegistryEvents.{RegistrySeen}
 use Rattle.segment_format.specs.declared.segment.Segment.{Segment}
-use Rattle.store_nodes.specs.declared.registry_node.RegistryNode.{RegistryNode}
+use Rattle.registry_node.specs.declared.node.RegistryNode.{RegistryNode}
 use Rattle.world_base.specs.Cluster.{cluster_of, place_of}
 use Rattle.world_base.specs.declared.estate.Estate.{Estate}
 use Rattle.world_base.specs.declared.event.Event.{Event}

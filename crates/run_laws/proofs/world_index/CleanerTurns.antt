@@ -17,7 +17,7 @@ use Rattle.node_ties.specs.node_index_tie.Sight.{Questions, Texts}
 use Rattle.node_ties.specs.owner_index_tie.CleanerEvents.{CleanerDoes, CleanerGoes, CleanerSays}
 use Rattle.node_ties.specs.owner_index_tie.ClientEvents.{ClientsStay}
 use Rattle.segment_format.specs.declared.segment.Segment.{Segment}
-use Rattle.store_nodes.specs.declared.registry_node.RegistryNode.{RegistryNode}
+use Rattle.registry_node.specs.declared.node.RegistryNode.{RegistryNode}
 use Rattle.token_protocol.specs.Basics.{In}
 use Rattle.wire_msg.specs.declared.body.Body.{Body}
 use Rattle.wire_msg.specs.declared.body.Body.TheVariants as body

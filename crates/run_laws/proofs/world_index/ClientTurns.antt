@@ -14,7 +14,7 @@ use Rattle.node_ties.specs.owner_index_tie.CleanerEvents.{CleanerStays}
 use Rattle.node_ties.specs.owner_index_tie.ClientEvents.{ClientAgrees, ClientGoes, ClientsStay}
 use Rattle.node_ties.specs.owner_index_tie.Owners.{OwnerDoes, OwnerSays}
 use Rattle.segment_format.specs.declared.segment.Segment.{Segment}
-use Rattle.store_nodes.specs.declared.registry_node.RegistryNode.{RegistryNode}
+use Rattle.registry_node.specs.declared.node.RegistryNode.{RegistryNode}
 use Rattle.token_protocol.proofs.Refining.{put_each}
 use Rattle.token_protocol.specs.Basics.{put, In}
 use Rattle.wire_msg.specs.declared.body.Body.{Body}

@@ -15,7 +15,7 @@ use Rattle.node_ties.specs.owner_index_tie.CleanerEvents.{PhaseAgrees}
 use Rattle.node_ties.specs.owner_index_tie.ClientEvents.{ClientAgrees}
 use Rattle.node_ties.specs.owner_index_tie.Filing.{IsSameLog}
 use Rattle.segment_format.specs.declared.segment.Segment.{Segment}
-use Rattle.store_nodes.specs.declared.registry_node.RegistryNode.{RegistryNode}
+use Rattle.registry_node.specs.declared.node.RegistryNode.{RegistryNode}
 use Rattle.wire_msg.specs.declared.packet.Packet.{Packet}
 use Rattle.world_base.specs.declared.cluster.Cluster.{Cluster}
 use Rattle.run_laws.proofs.world_index.Facts.{Grown}

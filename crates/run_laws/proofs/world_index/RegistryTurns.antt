@@ -24,9 +24,9 @@ use Rattle.node_ties.specs.owner_index_tie.CleanerEvents.{CleanerStays}
 use Rattle.node_ties.specs.owner_index_tie.ClientEvents.{ClientsStay}
 use Rattle.node_ties.specs.owner_index_tie.ServerEvents.{DoesNothing}
 use Rattle.segment_format.specs.declared.segment.Segment.{Segment}
-use Rattle.store_nodes.specs.declared.registry_node.RegistryNode.{RegistryNode}
+use Rattle.registry_node.specs.declared.node.RegistryNode.{RegistryNode}
 use Rattle.store_nodes.specs.declared.server.Server.{Server as ServerNode}
-use Rattle.store_nodes.specs.RegistryEvents.{registry_step}
+use Rattle.registry_node.specs.Events.{registry_step}
 use Rattle.store_nodes.specs.ServerEvents.{server_step, takes}
 use Rattle.token_protocol.specs.Basics.{In}
 use Rattle.wire_msg.specs.declared.body.Body.{Body}

@@ -14,7 +14,7 @@ use Rattle.node_ties.specs.owner_index_tie.CleanerEvents.{CleanerStartAgrees}
 use Rattle.node_ties.specs.owner_index_tie.ClientEvents.{FirstClientAgrees}
 use Rattle.script_text.specs.declared.script.Script.{Script}
 use Rattle.segment_format.specs.declared.segment.Segment.{Segment}
-use Rattle.store_nodes.specs.RegistryEvents.{registry_start}
+use Rattle.registry_node.specs.Events.{registry_start}
 use Rattle.version_model.specs.declared.work.Work.{Work}
 use Rattle.world_base.specs.Cluster.{cluster_of}
 use Rattle.world_base.specs.declared.cluster.Cluster.{Cluster}

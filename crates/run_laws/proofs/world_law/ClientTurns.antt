@@ -17,7 +17,7 @@ use Rattle.node_ties.specs.node_tie.CleanerEvents.{CleanerStands, CleanerWelcome
 use Rattle.node_ties.specs.node_tie.CleanerLogs.{its_log}
 use Rattle.node_ties.specs.node_tie.ClientEvents.{ClientAgrees, ClientDid, ClientGoes, ClientStands, WelcomeRises}
 use Rattle.node_ties.specs.node_tie.Sight.{ClientSends}
-use Rattle.store_nodes.specs.declared.registry_node.RegistryNode.{RegistryNode}
+use Rattle.registry_node.specs.declared.node.RegistryNode.{RegistryNode}
 use Rattle.token_client.specs.State.{TokensState, epoch_of}
 use Rattle.token_law.specs.Net.{Net}
 use Rattle.token_protocol.specs.Basics.{put, In}

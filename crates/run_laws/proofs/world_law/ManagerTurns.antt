@@ -16,7 +16,7 @@ use Rattle.node_ties.specs.node_tie.CleanerEvents.{CleanerStands, CleanerWelcome
 use Rattle.node_ties.specs.node_tie.CleanerLogs.{CleanerCopies}
 use Rattle.node_ties.specs.node_tie.ManagerEvents.{HeldAt, ManagerAgrees, ManagerGoes, NamedBy, NamedIn, Names, TakingAt, epoch_in, is_serving, is_waiting, slot_in}
 use Rattle.node_ties.specs.node_tie.Sight.{ManagerDoes, ManagerSends}
-use Rattle.store_nodes.specs.declared.registry_node.RegistryNode.{RegistryNode}
+use Rattle.registry_node.specs.declared.node.RegistryNode.{RegistryNode}
 use Rattle.token_client.specs.State.{TokensState}
 use Rattle.token_law.specs.Net.{Net}
 use Rattle.token_manager.specs.SlotState.{SlotState}

@@ -15,8 +15,8 @@ use Rattle.node_ties.specs.node_tie.ManagerEvents.{HeldAt, slot_in}
 use Rattle.node_ties.specs.node_tie.RegistryEvents.{HearsHello, NewsAre, RegistryGoes, RegistrySends, RegistrySound, Welcomes, epoch_in, inc_in, manager_in}
 use Rattle.cleaner_node.specs.declared.cleaner.Phase.{Phase as CleanerPhase}
 use Rattle.cleaner_node.specs.declared.cleaner.Phase.TheVariants as cleaners
-use Rattle.store_nodes.specs.declared.registry_node.RegistryNode.{RegistryNode}
-use Rattle.store_nodes.specs.RegistryEvents.{registry_step}
+use Rattle.registry_node.specs.declared.node.RegistryNode.{RegistryNode}
+use Rattle.registry_node.specs.Events.{registry_step}
 use Rattle.token_client.specs.State.{epoch_of}
 use Rattle.token_protocol.specs.Basics.{put, In}
 use Rattle.token_protocol.proofs.Refining.{put_each, put_each_two}

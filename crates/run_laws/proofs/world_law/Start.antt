@@ -21,7 +21,7 @@ use Rattle.node_ties.specs.node_tie.ManagerEvents.{FirstManagerAgrees, HeldAt}
 use Rattle.node_ties.specs.node_tie.RegistryEvents.{RegistryBegins, RegistrySound, manager_in}
 use Rattle.script_text.specs.declared.script.Script.{Script}
 use Rattle.cleaner_node.specs.CleanerEvents.{cleaner_start}
-use Rattle.store_nodes.specs.RegistryEvents.{registry_start}
+use Rattle.registry_node.specs.Events.{registry_start}
 use Rattle.token_client.specs.State.{epoch_of}
 use Rattle.token_law.specs.Net.{opening}
 use Rattle.token_law.specs.Net.Runs.{Begun}

@@ -19,7 +19,7 @@ use Rattle.node_ties.specs.node_tie.Sight.{ManagerDoes, ServerSends}
 use Rattle.node_ties.specs.node_tie.StoreEvents.{AllNeutral, PacketsSay, ServersSay}
 use Rattle.cleaner_node.specs.CleanerEvents as cleaners
 use Rattle.store_nodes.specs.declared.server.Server.{Server as ServerNode}
-use Rattle.store_nodes.specs.RegistryEvents.{registry_step}
+use Rattle.registry_node.specs.Events.{registry_step}
 use Rattle.store_nodes.specs.ServerEvents.{server_step}
 use Rattle.token_protocol.specs.Basics.{In}
 use Rattle.token_protocol.specs.Premises.{Premise}

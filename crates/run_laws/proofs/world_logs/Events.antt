@@ -30,8 +30,8 @@ use Rattle.log_ties.specs.node_log_tie.ServerEvents.{ServerGoes, ServerOwed}
 use Rattle.log_ties.specs.node_log_tie.Sight.{BodySeen, PacketSeen, ReachedBy}
 use Rattle.node_ties.specs.node_tie.RegistryEvents as board
 use Rattle.node_ties.specs.node_tie.RegistryEvents.{RegistrySound}
-use Rattle.store_nodes.specs.declared.registry_node.RegistryNode.{RegistryNode}
-use Rattle.store_nodes.specs.RegistryEvents.{registry_step}
+use Rattle.registry_node.specs.declared.node.RegistryNode.{RegistryNode}
+use Rattle.registry_node.specs.Events.{registry_step}
 use Rattle.store_nodes.specs.ServerEvents.{server_step}
 use Rattle.store_nodes.specs.ServerEvents as servers
 use Rattle.token_protocol.specs.Basics.{In}

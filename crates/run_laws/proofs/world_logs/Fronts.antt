@@ -18,7 +18,7 @@ use Rattle.log_ties.specs.node_log_tie.RegistryEvents.{NamesGroups}
 use Rattle.node_ties.specs.node_tie.RegistryEvents.{RegistrySound}
 use Rattle.registry.specs.Board.{all_news}
 use Rattle.registry.specs.BoardState.{BoardState}
-use Rattle.store_nodes.specs.declared.registry_node.RegistryNode.{RegistryNode}
+use Rattle.registry_node.specs.declared.node.RegistryNode.{RegistryNode}
 use Rattle.token_protocol.specs.Basics.{In}
 use Rattle.version_model.specs.declared.act.Act.{Act}
 use Rattle.wire_msg.specs.declared.packet.Do.TheVariants.{Deliver}

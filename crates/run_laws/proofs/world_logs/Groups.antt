@@ -22,9 +22,9 @@ use Rattle.registry.specs.Board as board
 use Rattle.registry.specs.BoardState.{BoardState}
 use Rattle.registry.specs.declared.input.In.{In as Input}
 use Rattle.registry.specs.declared.input.In.TheVariants.{Hello, Reassign, Done}
-use Rattle.store_nodes.specs.declared.registry_node.RegistryNode.{RegistryNode}
-use Rattle.store_nodes.specs.RegistryEvents.{registry_start, at_item, hears, move_of, on_begin, on_event, on_packet, registry_step}
-use Rattle.store_nodes.specs.RegistryEvents as registry
+use Rattle.registry_node.specs.declared.node.RegistryNode.{RegistryNode}
+use Rattle.registry_node.specs.Events.{registry_start, at_item, hears, move_of, on_begin, on_event, on_packet, registry_step}
+use Rattle.registry_node.specs.Events as registry
 use Rattle.version_model.specs.declared.work.Work.{Work}
 use Rattle.wire_msg.specs.declared.body.Body.{Body}
 use Rattle.wire_msg.specs.declared.body.Body.TheVariants as body

@@ -25,7 +25,7 @@ use Rattle.node_base.specs.declared.effects.Effect.{Effect}
 use Rattle.node_base.specs.declared.effects.Effect.TheVariants.{Send, Answer, Lose, Does}
 use Rattle.node_base.specs.Effects.{packets_of}
 use Rattle.node_ties.specs.node_tie.Sight.{ClientSends, CleanerSends}
-use Rattle.store_nodes.specs.declared.registry_node.RegistryNode.{RegistryNode}
+use Rattle.registry_node.specs.declared.node.RegistryNode.{RegistryNode}
 use Rattle.store_nodes.specs.declared.server.Server.{Server as ServerNode}
 use Rattle.token_law.specs.Net.{Packet as Told_packet}
 use Rattle.token_protocol.specs.Basics.{In}

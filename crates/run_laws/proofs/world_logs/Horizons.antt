@@ -19,7 +19,7 @@ use Rattle.node_base.specs.Setups.{IsSetup}
 use Rattle.registry.specs.Board.{all_news}
 use Rattle.registry.specs.BoardState.{BoardState}
 use Rattle.script_text.specs.declared.script.Script.{Script}
-use Rattle.store_nodes.specs.declared.registry_node.RegistryNode.{RegistryNode}
+use Rattle.registry_node.specs.declared.node.RegistryNode.{RegistryNode}
 use Rattle.token_protocol.specs.Basics.{In}
 use Rattle.version_model.specs.declared.act.Act.{Act}
 use Rattle.version_model.specs.declared.work.Work.{Work}

@@ -18,7 +18,7 @@ use Rattle.log_ties.specs.node_log_tie.RegistryEvents.{RegistrySeen}
 use Rattle.log_ties.specs.node_log_tie.ServerEvents.{ServerSeen}
 use Rattle.log_ties.specs.node_log_tie.Sight.{BodySeen}
 use Rattle.segment_format.specs.declared.segment.Segment.{Segment}
-use Rattle.store_nodes.specs.declared.registry_node.RegistryNode.{RegistryNode}
+use Rattle.registry_node.specs.declared.node.RegistryNode.{RegistryNode}
 use Rattle.store_nodes.specs.declared.server.Server.{Server as ServerNode}
 use Rattle.token_protocol.specs.Basics.{In}
 use Rattle.version_model.specs.declared.act.Act.{Act}

@@ -9,8 +9,8 @@ use Rattle.log_tie.specs.Setting.{Setting}
 use Rattle.node_base.specs.Setups.{IsSetup}
 use Rattle.log_ties.proofs.node_log_tie.Going.{run_later}
 use Rattle.log_ties.specs.node_log_tie.RegistryEvents.{Hears, IsFiled, NamesGroups, RegistryGoes, low_of}
-use Rattle.store_nodes.specs.declared.registry_node.RegistryNode.{RegistryNode}
-use Rattle.store_nodes.specs.RegistryEvents.{registry_step}
+use Rattle.registry_node.specs.declared.node.RegistryNode.{RegistryNode}
+use Rattle.registry_node.specs.Events.{registry_step}
 use Rattle.token_protocol.specs.Basics.{In}
 use Rattle.version_model.specs.declared.act.Act.{Act}
 use Rattle.version_model.specs.declared.act.Act.TheVariants as act

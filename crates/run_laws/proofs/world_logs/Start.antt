@@ -28,7 +28,7 @@ use Rattle.log_ties.specs.node_log_tie.ServerEvents.{ServerStarts}
 use Rattle.log_ties.specs.node_log_tie.Sight.{Question}
 use Rattle.log_ties.specs.node_log_tie.Sight.Question.{OfMaps, Unasked}
 use Rattle.script_text.specs.declared.script.Script.{Script}
-use Rattle.store_nodes.specs.RegistryEvents.{registry_start}
+use Rattle.registry_node.specs.Events.{registry_start}
 use Rattle.version_model.specs.declared.work.Work.{Work}
 use Rattle.world_base.specs.Cluster.{cluster_of, nodes_of, place_of}
 use Rattle.world_base.specs.declared.cluster.Cluster.{Cluster}

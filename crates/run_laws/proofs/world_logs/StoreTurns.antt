@@ -17,9 +17,9 @@ use Rattle.log_ties.specs.node_log_tie.CleanerEvents.{CleanerGoes, CleanerSeen}
 use Rattle.log_ties.specs.node_log_tie.RegistryEvents.{RegistryGoes}
 use Rattle.log_ties.specs.node_log_tie.ServerEvents.{ServerGoes}
 use Rattle.log_ties.specs.node_log_tie.Sight.{Later, PacketSeen}
-use Rattle.store_nodes.specs.declared.registry_node.RegistryNode.{RegistryNode}
+use Rattle.registry_node.specs.declared.node.RegistryNode.{RegistryNode}
 use Rattle.store_nodes.specs.declared.server.Server.{Server as ServerNode}
-use Rattle.store_nodes.specs.RegistryEvents.{registry_step}
+use Rattle.registry_node.specs.Events.{registry_step}
 use Rattle.store_nodes.specs.ServerEvents.{server_step}
 use Rattle.wire_msg.specs.declared.packet.Do.{Do}
 use Rattle.wire_msg.specs.declared.packet.Packet.{Packet}

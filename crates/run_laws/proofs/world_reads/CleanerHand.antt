@@ -26,7 +26,7 @@ use Rattle.node_base.specs.Setups.{IsSetup}
 use Rattle.log_ties.proofs.node_log_tie.Others.{same_or_other}
 use Rattle.run_laws.specs.place_law.Copies.{AsksOfHand}
 use Rattle.run_laws.proofs.reading_law.Maps.{KindOf, kind_starts, kind_stays}
-use Rattle.store_nodes.specs.RegistryEvents as registries
+use Rattle.registry_node.specs.Events as registries
 use Rattle.store_nodes.specs.ServerEvents as servers
 use Rattle.stripe_cleaner.specs.declared.phase.Phase.{Phase}
 use Rattle.stripe_cleaner.specs.declared.phase.Phase.TheVariants.{Greeting, Listing, Counting, Reading, Checking, Deleting, Over}

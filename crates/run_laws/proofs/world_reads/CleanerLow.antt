@@ -16,7 +16,7 @@ use Rattle.node_ties.specs.node_index_tie.RegistryEvents.{RegistryAgrees}
 use Rattle.registry.specs.Board.{all_news, slot_news}
 use Rattle.registry.specs.BoardState.{BoardState}
 use Rattle.segment_format.specs.declared.segment.Segment.{Segment}
-use Rattle.store_nodes.specs.declared.registry_node.RegistryNode.{RegistryNode}
+use Rattle.registry_node.specs.declared.node.RegistryNode.{RegistryNode}
 use Rattle.token_manager.specs.SlotState.{SlotState}
 use Rattle.token_protocol.specs.Basics.{In}
 use Rattle.xfs_base.specs.declared.block.BlockId.{BlockId}

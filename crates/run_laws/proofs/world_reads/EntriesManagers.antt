@@ -75,7 +75,7 @@ module _ (told : EntryTold) (slot : ℕ) where
 
   parts_told : (items : List Item) → AllByRecursion (PartTold told) items → RowsTold told (flat_map (part_rows slot) items)
   parts_told [] all = tt
-  parts_told (i ∷ fact) all = all_append (RowTold told) (part_rows slot i) (flat_map (part_rows slot) fact) (part_told i all.0) (parts_told fact all.1)
+  parts_told (i ∷ rest) all = all_append (RowTold told) (part_rows slot i) (flat_map (part_rows slot) rest) (part_told i all.0) (parts_told rest all.1)
 
   no_row : (s : Segment) (i : Item) → PartTold told i → IfSome (row_of s i) (RowTold told)
   no_row s (Block block value) fact = absurd fact
@@ -90,9 +90,9 @@ module _ (told : EntryTold) (slot : ℕ) where
 
   no_parts : (items : List Item) → AllByRecursion IsNoPart items → RowsTold told (flat_map (part_rows slot) items)
   no_parts [] none = tt
-  no_parts (Block block value ∷ fact) none = no_parts fact none.1
-  no_parts (Delta block ver hop item ∷ fact) none = no_parts fact none.1
-  no_parts (Part of rows ∷ fact) none = absurd none.0
+  no_parts (Block block value ∷ rest) none = no_parts rest none.1
+  no_parts (Delta block ver hop item ∷ rest) none = no_parts rest none.1
+  no_parts (Part of rows ∷ rest) none = absurd none.0
 
   -- and one without Parts the rows of its Deltas
   pub deltas_tell : (s : Segment) → AllByRecursion IsNoPart s.items → RowsTold told (rows_of s) → RowsTold told (told_of slot s)

@@ -21,7 +21,7 @@ use Rattle.node_ties.specs.node_tie.Sight.{ManagerDoes}
 use Rattle.run_laws.specs.reopening_law.Falls.{IsAside}
 use Rattle.segment_format.specs.declared.segment.Segment.{Segment}
 use Rattle.store_nodes.specs.declared.server.Server.{Server as ServerNode}
-use Rattle.store_nodes.specs.RegistryEvents.{registry_step}
+use Rattle.registry_node.specs.Events.{registry_step}
 use Rattle.store_nodes.specs.ServerEvents.{server_step}
 use Rattle.token_law.specs.Net.{Net}
 use Rattle.token_law.specs.Owed.{IsNeutral}

@@ -16,7 +16,7 @@ use Rattle.node_ties.specs.owner_index_tie.CleanerEvents.{CleanerAgrees}
 use Rattle.node_ties.specs.owner_index_tie.ClientEvents.{ClientAgrees}
 use Rattle.node_ties.specs.owner_index_tie.ServerEvents.{SaysNothing}
 use Rattle.segment_format.specs.declared.segment.Segment.{Segment}
-use Rattle.store_nodes.specs.declared.registry_node.RegistryNode.{RegistryNode}
+use Rattle.registry_node.specs.declared.node.RegistryNode.{RegistryNode}
 use Rattle.store_nodes.specs.declared.server.Server.{Server as ServerNode}
 use Rattle.token_protocol.specs.Basics.{In}
 use Rattle.wire_msg.specs.declared.body.Body.{Body}

@@ -18,7 +18,7 @@ use Rattle.registry.specs.Board.{inc_of}
 use Rattle.registry.specs.Slots.{entry_of}
 use Rattle.cleaner_node.specs.CleanerEvents as cleaners
 use Rattle.cleaner_node.specs.declared.cleaner.Cleaner.{Cleaner as CleanerNode}
-use Rattle.store_nodes.specs.declared.registry_node.RegistryNode.{RegistryNode}
+use Rattle.registry_node.specs.declared.node.RegistryNode.{RegistryNode}
 use Rattle.store_nodes.specs.declared.server.Server.{Server as ServerNode}
 use Rattle.node_ties.specs.node_tie.Promised.{with_promise}
 use Rattle.token_law.specs.Net.{Net, Runs, opening}

@@ -26,7 +26,7 @@ use Rattle.node_ties.specs.owner_index_tie.CleanerEvents.{PollGets}
 use Rattle.node_ties.specs.owner_index_tie.ClientEvents.{EventGets}
 use Rattle.node_ties.specs.owner_index_tie.Filing.{IsSameLog, filed_after}
 use Rattle.node_ties.specs.owner_index_tie.Owners.{IsLastFiled}
-use Rattle.store_nodes.specs.declared.registry_node.RegistryNode.{RegistryNode}
+use Rattle.registry_node.specs.declared.node.RegistryNode.{RegistryNode}
 use Rattle.token_client.specs.State as tokens
 use Rattle.wire_msg.specs.declared.deltas.Poll.{Poll}
 use Rattle.wire_msg.specs.declared.packet.Do.{Do}

@@ -85,8 +85,8 @@ module _ (told : Told) where
 
   all_begun : (number : ℕ) (items : List Item) → Checks (checks_from number items)
   all_begun number [] = tt
-  all_begun number (i ∷ fact) =
-      all_append (CheckTold told) (check_of number i) (checks_from (number + 1) fact) (one_begun number i) (all_begun (number + 1) fact)
+  all_begun number (i ∷ rest) =
+      all_append (CheckTold told) (check_of number i) (checks_from (number + 1) rest) (one_begun number i) (all_begun (number + 1) rest)
 
   -- ---- the segment in hand
 

@@ -166,6 +166,6 @@ module _ (told : Told) where
   pub rows_move : (s : Segment) (items : List Item) → AllByRecursion (ItemTold told) items
       → AllByRecursion (λ row. VersionTold told row.0 row.1.ver row.1.hop) (filter_map (row_of s) items)
   rows_move s [] all = tt
-  rows_move s (Block block value ∷ fact) all = rows_move s fact all.1
-  rows_move s (Delta block ver hop item ∷ fact) all = (all.0, rows_move s fact all.1)
-  rows_move s (Part slot rows ∷ fact) all = rows_move s fact all.1
+  rows_move s (Block block value ∷ rest) all = rows_move s rest all.1
+  rows_move s (Delta block ver hop item ∷ rest) all = (all.0, rows_move s rest all.1)
+  rows_move s (Part slot rows ∷ rest) all = rows_move s rest all.1

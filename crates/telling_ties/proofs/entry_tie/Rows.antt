@@ -106,14 +106,14 @@ module _ (told : Told) where
 
   parts_told : (slot : ℕ) (items : List Item) → AllByRecursion (PartTold told) items → RowsTold told (flat_map (part_rows slot) items)
   parts_told slot [] all = tt
-  parts_told slot (i ∷ fact) all =
-      all_append (RowTold told) (part_rows slot i) (flat_map (part_rows slot) fact) (part_told slot i all.0) (parts_told slot fact all.1)
+  parts_told slot (i ∷ rest) all =
+      all_append (RowTold told) (part_rows slot i) (flat_map (part_rows slot) rest) (part_told slot i all.0) (parts_told slot rest all.1)
 
   no_deltas : (s : Segment) (items : List Item) → AllByRecursion (PartTold told) items → RowsTold told (filter_map (segments.row_of s) items)
   no_deltas s [] all = tt
-  no_deltas s (Block block value ∷ fact) all = absurd all.0
-  no_deltas s (Delta block ver hop item ∷ fact) all = absurd all.0
-  no_deltas s (Part of rows ∷ fact) all = no_deltas s fact all.1
+  no_deltas s (Block block value ∷ rest) all = absurd all.0
+  no_deltas s (Delta block ver hop item ∷ rest) all = absurd all.0
+  no_deltas s (Part of rows ∷ rest) all = no_deltas s rest all.1
 
   -- a segment of Parts alone, whose rows are told, says of each slot what is told
   pub segment_told : (slot : ℕ) (s : Segment) → AllByRecursion (PartTold told) s.items → RowsTold told (told_of slot s)

@@ -16,8 +16,8 @@ use Rattle.manager_serving.specs.Serving.{fed_log}
 use Rattle.node_base.specs.Effects.{packets_of}
 use Rattle.registry.specs.Checkpoints.{horizon_at as horizon_kept}
 use Rattle.slot_beliefs.specs.Recalls.{applied_of, is_followed}
-use Rattle.store_nodes.specs.declared.registry_node.RegistryNode.{RegistryNode}
-use Rattle.store_nodes.specs.RegistryEvents.{takes as registry_takes}
+use Rattle.registry_node.specs.declared.node.RegistryNode.{RegistryNode}
+use Rattle.registry_node.specs.Events.{takes as registry_takes}
 use Rattle.takeover.specs.declared.report.Report.{Report}
 use Rattle.takeover.specs.Reports.{same_node, end_from, end_of, horizon_at, applied_at, applied_of as applied_from}
 use Rattle.token_manager.specs.SlotState.{SlotState}

@@ -8,7 +8,7 @@ use Rattle.manager_node.specs.Events.{happens}
 use Rattle.manager_node.specs.Phases.{lasting_of}
 use Rattle.manager_parts.specs.SlotTable.{next_of, horizon_of}
 use Rattle.slot_beliefs.specs.Recalls.{applied_of, applied_upto}
-use Rattle.store_nodes.specs.RegistryEvents.{takes as registry_takes}
+use Rattle.registry_node.specs.Events.{takes as registry_takes}
 use Rattle.takeover.specs.declared.report.Report.{Report}
 use Rattle.takeover.specs.Reports.{horizon_at, applied_at, applied_of as applied_from}
 use Rattle.token_manager.specs.SlotState.{SlotState}

@@ -15,8 +15,8 @@ use Rattle.registry.specs.declared.checkpoint.Checkpoint.{Checkpoint}
 use Rattle.registry.specs.declared.input.In.TheVariants as input
 use Rattle.registry.specs.declared.output.Out.{Out}
 use Rattle.registry.specs.declared.output.Out.TheVariants.{Changed, Epoch, Kept}
-use Rattle.store_nodes.specs.declared.registry_node.RegistryNode.{RegistryNode}
-use Rattle.store_nodes.specs.RegistryEvents.{Done, registry_start, registry_step, news_of, tells_all, moved, on_move, changed, welcome_of, on_hello, kept, on_done, move_of, on_item, at_item, on_begin, hears, on_packet, on_event, takes}
+use Rattle.registry_node.specs.declared.node.RegistryNode.{RegistryNode}
+use Rattle.registry_node.specs.Events.{Done, registry_start, registry_step, news_of, tells_all, moved, on_move, changed, welcome_of, on_hello, kept, on_done, move_of, on_item, at_item, on_begin, hears, on_packet, on_event, takes}
 use Rattle.version_model.specs.declared.work.Work.{Work}
 use Rattle.wire_msg.specs.declared.body.Body.{Body}
 use Rattle.wire_msg.specs.declared.body.Body.TheVariants as body

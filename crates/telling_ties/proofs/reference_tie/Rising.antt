@@ -11,7 +11,7 @@ use Rattle.manager_parts.specs.declared.slot_phase.SlotPhase.TheVariants as phas
 use Rattle.manager_serving.specs.declared.checkpointing.Checkpointing.{Checkpointing}
 use Rattle.manager_serving.specs.declared.serving.Serving.{Serving}
 use Rattle.registry.specs.Checkpoints.{parts_at}
-use Rattle.store_nodes.specs.declared.registry_node.RegistryNode.{RegistryNode}
+use Rattle.registry_node.specs.declared.node.RegistryNode.{RegistryNode}
 use Rattle.takeover.specs.declared.report.Report.{Report}
 use Rattle.wire_msg.specs.declared.body.Body.{Body}
 use Rattle.wire_msg.specs.declared.body.Body.TheVariants as body

@@ -1,8 +1,8 @@
 -- Storage servers and the registry tell nothing of where blocks lie.
 use Rattle.std.specs.List.{AllByRecursion}
-use Rattle.store_nodes.specs.declared.registry_node.RegistryNode.{RegistryNode}
+use Rattle.registry_node.specs.declared.node.RegistryNode.{RegistryNode}
 use Rattle.store_nodes.specs.declared.server.Server.{Server}
-use Rattle.store_nodes.specs.RegistryEvents.{registry_step}
+use Rattle.registry_node.specs.Events.{registry_step}
 use Rattle.store_nodes.specs.ServerEvents.{server_step}
 use Rattle.wire_msg.specs.declared.packet.Do.{Do}
 use Rattle.telling_ties.specs.entry_tie.Told.{PacketTold, FiledRows, told_by}

@@ -12,7 +12,7 @@ use Rattle.manager_serving.specs.declared.serving.Serving.{Serving}
 use Rattle.manager_serving.specs.Serving.{fed_log}
 use Rattle.registry.specs.Checkpoints.{horizon_at}
 use Rattle.registry.specs.Slots.{entry_of}
-use Rattle.store_nodes.specs.declared.registry_node.RegistryNode.{RegistryNode}
+use Rattle.registry_node.specs.declared.node.RegistryNode.{RegistryNode}
 use Rattle.takeover.specs.declared.report.Report.{Report}
 use Rattle.takeover.specs.TakeState.{TakeState}
 use Rattle.wire_msg.specs.declared.body.Body.{Body}

@@ -1,7 +1,7 @@
 -- What the registry keeps of what was filed of the logs of the clients and of the cleaner.
 use Rattle.std.specs.Prelude.{List}
-use Rattle.store_nodes.specs.declared.registry_node.RegistryNode.{RegistryNode}
-use Rattle.store_nodes.specs.RegistryEvents.{registry_start, registry_step}
+use Rattle.registry_node.specs.declared.node.RegistryNode.{RegistryNode}
+use Rattle.registry_node.specs.Events.{registry_start, registry_step}
 use Rattle.version_model.specs.declared.work.Work.{Work}
 use Rattle.xfs_base.specs.declared.setup.Setup.{Setup}
 use Rattle.telling_ties.specs.filed_tie.Bounds.{RegistryBounded}

@@ -1,8 +1,8 @@
 -- What the registry refers to: the parts of the slots' newest checkpoints.
 use Rattle.std.specs.Prelude.{ℕ, List}
 use Rattle.registry.specs.Checkpoints.{parts_at}
-use Rattle.store_nodes.specs.declared.registry_node.RegistryNode.{RegistryNode}
-use Rattle.store_nodes.specs.RegistryEvents.{registry_start, registry_step}
+use Rattle.registry_node.specs.declared.node.RegistryNode.{RegistryNode}
+use Rattle.registry_node.specs.Events.{registry_start, registry_step}
 use Rattle.version_model.specs.declared.work.Work.{Work}
 use Rattle.wire_msg.specs.declared.packet.Do.{Do}
 use Rattle.xfs_base.specs.declared.node.NodeId.{NodeId}

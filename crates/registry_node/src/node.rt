@@ -5,7 +5,7 @@ ghost use Rattle.wire_msg.specs.declared.body.Body.TheVariants.{Welcome as Welco
 ghost use Rattle.node_base.specs.declared.effects.Effect.TheVariants.{Send};
 ghost use Rattle.node_base.specs.Beginning.{work_at};
 ghost use Rattle.node_base.specs.Setups.{IsSetup};
-ghost use Rattle.store_nodes.specs.RegistryEvents.{registry_start, news_of, tells_all, moved, on_move, changed, welcome_of, welcomes, on_hello, kept, on_done, move_of, on_begin, hears, on_packet, on_event, takes, registry_step};
+ghost use Rattle.registry_node.specs.Events.{registry_start, news_of, tells_all, moved, on_move, changed, welcome_of, welcomes, on_hello, kept, on_done, move_of, on_begin, hears, on_packet, on_event, takes, registry_step};
 
 use node_base::{Effects, Items, Peers, has_room, is_well_formed};
 use registry::{Board, In, Out};
@@ -24,8 +24,8 @@ pub struct RegistryNode {
 }
 
 impl Actor for RegistryNode {
-    ghost use Rattle.store_nodes.specs.RegistryEvents.{registry_step};
-    ghost use Rattle.store_nodes.specs.Clocks.{registry_sends_clock_0};
+    ghost use Rattle.registry_node.specs.Events.{registry_step};
+    ghost use Rattle.registry_node.specs.Clocks.{registry_sends_clock_0};
 
     ghost transition = { registry_step };
 
@@ -64,13 +64,6 @@ impl RegistryNode {
         &self.board
     }
 
-    /// The items of the node.
-    pub fn items(&self) -> &Items
-        ensures { result.now ≡ self.now.items }
-    {
-        &self.items
-    }
-
     // An event, with what the world sees of it.
     fn turn(&mut self, alloc: Global, what: &Do) -> Mem<(List<Packet>, List<Act>)>
         ensures state { OnOk result (self.new ≡ (registry_step self.old what.now).node) }
@@ -104,7 +97,7 @@ impl RegistryNode {
         }
     }
 
-    #[tactic(auto, unfolding(crate::specs::RegistryEvents::on_begin))]
+    #[tactic(auto, unfolding(crate::specs::Events::on_begin))]
     fn on_begin(&mut self, alloc: Global, effects: &mut Effects) -> Mem<()>
         ensures state { OnOk result (self.new ≡ (on_begin self.old).state) }
         ensures effects { OnOk result (effects.new ≡ effects.old ++ (on_begin self.old).outs) }
@@ -118,7 +111,7 @@ impl RegistryNode {
         }
     }
 
-    #[tactic(auto, unfolding(crate::specs::RegistryEvents::on_packet))]
+    #[tactic(auto, unfolding(crate::specs::Events::on_packet))]
     fn on_packet(&mut self, alloc: Global, effects: &mut Effects, packet: &Packet) -> Mem<()>
         ensures state { OnOk result (self.new ≡ (on_packet self.old packet.now).state) }
         ensures effects { OnOk result (effects.new ≡ effects.old ++ (on_packet self.old packet.now).outs) }
@@ -141,7 +134,7 @@ impl RegistryNode {
     }
 
     // A slot goes to a manager.
-    #[tactic(auto, unfolding(crate::specs::RegistryEvents::on_move))]
+    #[tactic(auto, unfolding(crate::specs::Events::on_move))]
     fn on_move(
         &mut self,
         alloc: Global,
@@ -177,7 +170,7 @@ impl RegistryNode {
     }
 
     // A node asks for the maps, and may tell of a restart or a loss.
-    #[tactic(auto, unfolding(crate::specs::RegistryEvents::on_hello))]
+    #[tactic(auto, unfolding(crate::specs::Events::on_hello))]
     fn on_hello(
         &mut self,
         alloc: Global,
@@ -252,7 +245,7 @@ impl RegistryNode {
     }
 
     // A manager has written a checkpoint.
-    #[tactic(auto, unfolding(crate::specs::RegistryEvents::on_done))]
+    #[tactic(auto, unfolding(crate::specs::Events::on_done))]
     fn on_done(
         &mut self,
         alloc: Global,

@@ -30,7 +30,7 @@ use Rattle.registry.specs.BoardState.{BoardState}
 use Rattle.registry.specs.declared.input.In.TheVariants as board
 use Rattle.registry.specs.declared.output.Out.{Out}
 use Rattle.registry.specs.declared.output.Out.TheVariants.{Changed, Epoch, Kept}
-use Rattle.store_nodes.specs.declared.registry_node.RegistryNode.{RegistryNode}
+use Rattle.registry_node.specs.declared.node.RegistryNode.{RegistryNode}
 
 -- the registry after an event, and what it does
 abbrev pub Done : Type 0

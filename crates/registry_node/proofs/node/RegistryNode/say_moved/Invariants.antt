@@ -1,7 +1,7 @@
 use Rattle.std.proofs.Common.{◌≡◌, ◌++◌, drop}
 use Rattle.std.specs.List.{flat_map}
-use Rattle.store_nodes.specs.RegistryEvents.{moved}
-use Rattle.store_nodes.proofs.registry_node.RegistryNode.say_moved.Given as goal
+use Rattle.registry_node.specs.Events.{moved}
+use Rattle.registry_node.proofs.node.RegistryNode.say_moved.Given as goal
 
 abbrev pub invariant-loop-out : goal.invariant-loop-out
 invariant-loop-out l =

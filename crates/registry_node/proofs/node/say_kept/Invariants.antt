@@ -1,7 +1,7 @@
 use Rattle.std.proofs.Common.{◌≡◌, ◌++◌, drop}
 use Rattle.std.specs.List.{flat_map}
-use Rattle.store_nodes.specs.RegistryEvents.{kept}
-use Rattle.store_nodes.proofs.registry_node.say_kept.Given as goal
+use Rattle.registry_node.specs.Events.{kept}
+use Rattle.registry_node.proofs.node.say_kept.Given as goal
 
 abbrev pub invariant-loop-out : goal.invariant-loop-out
 invariant-loop-out l =

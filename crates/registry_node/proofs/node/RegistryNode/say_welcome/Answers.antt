@@ -2,7 +2,7 @@ use Rattle.std.proofs.Common.{◌≡◌, ◌++◌, ◌∷◌, [], OnOk, subst}
 use Rattle.wire_msg.specs.declared.body.Body.TheVariants.{Welcome as Welcoming}
 use Rattle.wire_msg.specs.declared.registry.Welcome.{Welcome}
 use Rattle.node_base.specs.declared.effects.Effect.TheVariants.{Send}
-use Rattle.store_nodes.proofs.registry_node.RegistryNode.say_welcome.Goals as goal
+use Rattle.registry_node.proofs.node.RegistryNode.say_welcome.Goals as goal
 
 pub returns : goal.returns
 returns c =
