@@ -54,8 +54,7 @@ pub record IsOutdated (b : BlockId) (f : Filed) (entry : Entry) : Type 0 where
   pub newer : entry.ver < (row_at f b log seq).ver
 
 -- What was dropped is outdated: where a slot's entry lies in a segment whose row was dropped, and a Dead of it was counted at an epoch up to the slot's, a
--- newer
--- version is filed.
+-- newer version is filed.
 abbrev pub DroppedIsOutdated : Type 0
 DroppedIsOutdated =
     (b : BlockId) (f : Filed) (w : IndexState) (s : SlotState) (place : Place) → IndexReached w → IsFiled f → Tells b f w → Manages b f w s

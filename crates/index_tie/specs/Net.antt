@@ -1,6 +1,5 @@
 -- A small world of the machines of one slot of the map: what logs filed, the slots of all managers that the slot had, each under its epoch (deposed ones go
--- on),
--- what the registry keeps of it, the cleaner's job, and the packets that were sent, of which any may come any number of times, in any order, or never.
+-- on), what the registry keeps of it, the cleaner's job, and the packets that were sent, of which any may come any number of times, in any order, or never.
 -- What the laws of tokens, logs and epochs say is asked of what happens: that clients file newer versions, that Deltas tell what was filed, that logs are
 -- read as they were written, and that epochs begin and are promised in their order.
 use Rattle.std.specs.Prelude.{◌≡◌, ℕ, suc, ◌-◌, ◌<◌, ◌≤◌, true, nat_lt, List, [], ◌∷◌, ◌++◌, length, take, Option, Some, None, Contains, if◌then◌else◌}
@@ -51,9 +50,8 @@ use Rattle.index_tie.specs.Slots.{DeltasTell}
 use Rattle.index_tie.specs.Takeovers.{of_log, IsEnd, Linked, IsItsText}
 
 -- A checkpoint that an epoch's manager plans, with what happened to the slot's pages before and with its horizon; a checkpoint of an epoch, with its
--- horizon and
--- its parts; a Report of the cleaner, with the epoch that it has promised and the end of its log; a Check of a
--- job, by the job's number, of a block at a place, below a horizon of this epoch; and the answers to it, a Dead with the epoch of who answered last.
+-- horizon and its parts; a Report of the cleaner, with the epoch that it has promised and the end of its log; a Check of a job, by the job's number,
+-- of a block at a place, below a horizon of this epoch; and the answers to it, a Dead with the epoch of who answered last.
 pub data Packet : Type 0 where
   CheckpointPlanned : ℕ → List Event → List ℕ → Packet
   CheckpointDone : ℕ → List ℕ → List SegRef → Packet

@@ -1,6 +1,5 @@
 -- What the owner of a log holds of it, the segment that it has in flight and what it has read back, was in flight; what was in flight is of the log; and
--- what is
--- listed is of what was in flight.
+-- what is listed is of what was in flight.
 use Rattle.std.specs.Prelude.{◌≡◌, List, IfSome}
 use Rattle.client_log.specs.LogState.{LogState}
 use Rattle.log_flight.specs.Flights.{FlightState}

@@ -92,10 +92,9 @@ pub fn what_is_held_flew()
     below();
 }
 
-/// What its owner writes of a log: at each moment of every run each segment that was in flight is of the log, of a boot and a number from 1 on, and has a text;
-/// what an owner that serves has in flight has the number after the end of its log, and names that end as the one
-/// before it; and what was read back is linked, up to
-/// the opening segment.
+/// What its owner writes of a log: at each moment of every run each segment that was in flight is of the log, of a
+/// boot and a number from 1 on, and has a text; what an owner that serves has in flight has the number after the end
+/// of its log, and names that end as the one before it; and what was read back is linked, up to the opening segment.
 pub fn what_flew_is_written()
     ensures written { WhatFlewIsWritten }
     ensures next { WhatFliesIsNext }
@@ -131,10 +130,10 @@ pub fn a_reopening_adopts()
     below();
 }
 
-/// A tail is filed or never: while no restart that ended was doubtful, at the event that ends a restart the flight of the last boot that served is filed, as a
-/// segment of its number and its boot, with its content, or no segment of that number and that boot is filed, then or
-/// later; and whatever else is filed then, and
-/// wasn't before, tells nothing.
+/// A tail is filed or never: while no restart that ended was doubtful, at the event that ends a restart the flight of
+/// the last boot that served is filed, as a segment of its number and its boot, with its content, or no segment of
+/// that number and that boot is filed, then or later; and whatever else is filed then, and wasn't before, tells
+/// nothing.
 pub fn a_tail_is_filed_or_never()
     ensures tail { ATailIsFiledOrNever }
     ensures only { ARestartFilesTheTail }

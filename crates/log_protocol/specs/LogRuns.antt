@@ -14,8 +14,7 @@ adopted_steps =
     ∷ Accept ∷ Note ∷ Serve ∷ Drop ∷ Delete ∷ Tell ∷ Lose ∷ Hear ∷ Learn ∷ Fill ∷ []
 
 -- A tail is restriped, the owner falls, and its reopening adopts the later attempt and serves, while the horizon passes a segment that it has read.
--- Then this segment
--- is dropped and deleted, and a server loses its disk, is heard and learned of, and fills its shelf again.
+-- Then this segment is dropped and deleted, and a server loses its disk, is heard and learned of, and fills its shelf again.
 pub record TailAdopted : Type 0 where
   pub state : State
   pub reached : Reached state

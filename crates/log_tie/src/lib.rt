@@ -14,10 +14,10 @@ pub fn log_inputs()
     ensures { TakesInputs }
 {}
 
-/// A log that is opened again, once all of it is read back: its opening segment is written by a step of the opening, and each input that it then
-/// takes is a list
-/// of steps, until the segment has settled, the owner serves and all that was read back is filed. Where no restart is doubtful the premise on losses is asked
-/// for (the 1996 paper, on recovery).
+/// A log that is opened again, once all of it is read back: its opening segment is written by a step of the opening,
+/// and each input that it then takes is a list of steps, until the segment has settled, the owner serves and all that
+/// was read back is filed. Where no restart is doubtful the premise on losses is asked for (the 1996 paper, on
+/// recovery).
 pub fn opening_inputs()
     ensures opens { OpensByStep }
     ensures takes { OpeningTakes }
@@ -31,12 +31,12 @@ pub fn shelf_deeds()
     ensures { TakesDeeds }
 {}
 
-/// A log that is opened again, from the restart until all of it is read back: each input of its opening is a list of steps: maps are learned, what
-/// the lists name
-/// is picked, kept or passed over, reading back is cut at later horizons; and where the opening tells its chain, all is read back. What others do meanwhile
-/// leaves it as it is seen. Asked of the world are that
-/// lists, fragments and answers of the registry were sent, that maps of groups are the registry's and whole, and that each booked segment has a text and names
-/// the group of the segment before it: then a segment that is read is the booked one (the 1996 paper, on recovery).
+/// A log that is opened again, from the restart until all of it is read back: each input of its opening is a list of
+/// steps: maps are learned, what the lists name is picked, kept or passed over, reading back is cut at later
+/// horizons; and where the opening tells its chain, all is read back. What others do meanwhile leaves it as it is
+/// seen. Asked of the world are that lists, fragments and answers of the registry were sent, that maps of groups are
+/// the registry's and whole, and that each booked segment has a text and names the group of the segment before it:
+/// then a segment that is read is the booked one (the 1996 paper, on recovery).
 pub fn scan_inputs()
     ensures starts { ScanStarts }
     ensures takes { ScanTakes }

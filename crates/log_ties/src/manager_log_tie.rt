@@ -18,9 +18,9 @@ use log_law::one_name_one_text;
 /// in range, those of the entry of a grant too.
 ///
 /// What is owed still is that the numbers of what comes are in the ranges of their types: the rows of Deltas (one
-/// that tells that nothing is known of a block may
-/// be any), the bytes of a fragment, the ids of the groups of maps. That each segment of a checkpoint has a text
-/// follows from it: how many Parts and rows it has is looked at when it is begun.
+/// that tells that nothing is known of a block may be any), the bytes of a fragment, the ids of the groups of
+/// maps. That each segment of a checkpoint has a text follows from it: how many Parts and rows it has is looked
+/// at when it is begun.
 pub fn manager_log_events_are_seen()
     ensures start { ManagerStarts }
     ensures events { ManagerTakes }
@@ -45,13 +45,12 @@ pub fn what_servers_tell_is_bytes()
 {}
 
 /// Whichever logs are asked about, a storage server holds and lists fragments of these alone, where each that is
-/// stored there, and each that another server lists
-/// to it, is of one of these: what it fills in once it is rebuilt is of a segment that was listed.
+/// stored there, and each that another server lists to it, is of one of these: what it fills in once it is
+/// rebuilt is of a segment that was listed.
 ///
 /// - `start`: a server at its start holds nothing.
 /// - `events`: where what it holds, what was listed to it and what it reads for a rebuild is of these logs, and what
-///   the packet that comes stores or lists, then
-///   so is it after the event, and all that it sends lists only such.
+///   the packet that comes stores or lists, then so is it after the event, and all that it sends lists only such.
 pub fn servers_list_what_was_stored()
     ensures start { ServersStartBare }
     ensures events { ServersListWhatWasStored }

@@ -1,6 +1,6 @@
 //! The laws of every run of the nodes: one owner, one manager, logs whole and in line, indexes that are the join, and
-//! reads of the newest version. It has no code
-//! of the product: its functions call the laws that they stand on, and their contracts are laws.
+//! reads of the newest version. It has no code of the product: its functions call the laws that they stand on, and
+//! their contracts are laws.
 //!
 //! Each module is a tie or a law of its own: its definitions stand in `specs/`, its lemmas in `proofs/`, below the module's name.
 #![tactic(auto)]

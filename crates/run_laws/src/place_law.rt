@@ -40,8 +40,8 @@ pub fn what_is_read_is_the_text()
 /// - `its`: while a block is fetched, its reading is of the place of the fetch, whatever event comes.
 /// - `runs`: so it is of each client, at each moment of every run.
 /// - `there`: where the place of each of its fetches is one that a filed segment says, its reading is of the place of
-///   the fetch, and what its reading holds came,
-///   whatever packet that was sent makes the reading end, the value at the place is that of the row of the block there.
+///   the fetch, and what its reading holds came, whatever packet that was sent makes the reading end, the value at
+///   the place is that of the row of the block there.
 pub fn a_fetch_reads_there()
     ensures start { ClientsStartSo }
     ensures its { ClientsKeepSo }
@@ -58,11 +58,10 @@ pub fn a_fetch_reads_there()
 /// - `checks`: at each moment of every run of the small world of a slot's index, what the cleaner's job asks for are Blocks of the segment that it has in hand,
 ///   where that is the one filed at its number.
 /// - `rows`: and each place that it asks of is that of the block's row, where the reference of the segment bears its
-///   group, and each Block of a segment is named
-///   by a Delta of its block.
+///   group, and each Block of a segment is named by a Delta of its block.
 /// - `copies`: where each Live that was sent answers a Check that was sent, at the place that its entry has, and what
-///   the cleaner awaits it asked of the segment
-///   in hand, and that has of a block one value, a Live that answers a question that is out tells, with the value that was read, what the filed segment says.
+///   the cleaner awaits it asked of the segment in hand, and that has of a block one value, a Live that answers a
+///   question that is out tells, with the value that was read, what the filed segment says.
 pub fn a_live_tells_a_copy()
     ensures checks { JobsChecksLie }
     ensures rows { ChecksAreOfRows }

@@ -29,10 +29,10 @@ fn below()
     settles_what_is_due();
 }
 
-/// What a reopening read back is what was filed, and what it adopts: where a restart ends, and no restart that ended was doubtful, the numbers of what was read
-/// back follow one another from one that isn't above the horizon up to the end behind which the opening segment was
-/// written; all that was filed from the horizon
-/// on is there, as it was filed; and each segment is the text of its name (the 1996 paper, on recovery).
+/// What a reopening read back is what was filed, and what it adopts: where a restart ends, and no restart that ended
+/// was doubtful, the numbers of what was read back follow one another from one that isn't above the horizon up to the
+/// end behind which the opening segment was written; all that was filed from the horizon on is there, as it was
+/// filed; and each segment is the text of its name (the 1996 paper, on recovery).
 pub fn what_was_read_back_is_what_was_filed()
     ensures back { ReopeningsReadBack }
 {

@@ -24,9 +24,9 @@ pub fn items_say_all()
 ///
 /// - `start`: a client at its start has nothing in its log.
 /// - `events`: where each version that waits in the log of a client that serves is one from 1 on, at first hand, and
-///   of no block two wait, and what is in flight
-///   has Blocks and Deltas alone, such versions of blocks, each block once, and each Delta names the Block of its value; and where the log that a client opens
-///   again has nothing that waits and no items in flight: so it is after each event.
+///   of no block two wait, and what is in flight has Blocks and Deltas alone, such versions of blocks, each block
+///   once, and each Delta names the Block of its value; and where the log that a client opens again has nothing that
+///   waits and no items in flight: so it is after each event.
 pub fn clients_write_originals()
     ensures start { ClientsStartWriting }
     ensures events { ClientsWriteOriginals }
@@ -36,8 +36,7 @@ pub fn clients_write_originals()
 ///
 /// - `start`: the cleaner at its start has nothing in its log.
 /// - `events`: what a client's log is, the cleaner's is after each event where it was before, but that each version
-///   was moved at least once; where a manager that
-///   tells of a live block tells a version from 1 on.
+///   was moved at least once; where a manager that tells of a live block tells a version from 1 on.
 pub fn cleaner_writes_copies()
     ensures start { CleanerStartsWriting }
     ensures events { CleanerWritesCopies }

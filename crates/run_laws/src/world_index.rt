@@ -19,8 +19,7 @@ use node_ties::owner_index_tie::{
 
 /// In every run whose events are given what they are owed, whatever messages are lost, repeated or reordered and
 /// whichever nodes stop, the index of a slot says of each block the newest that it was told, and the cleaner deletes
-/// no segment that has the newest
-/// version of a block (the 1996 paper, on the log cleaner).
+/// no segment that has the newest version of a block (the 1996 paper, on the log cleaner).
 ///
 /// - `keeps`: so it is of every run of a script of whose setup a run can be started, at each moment and of each slot: the index of each
 ///   manager that manages the slot is the join of what it has applied of the logs, and no Delete was sent of a segment that has the

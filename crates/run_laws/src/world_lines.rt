@@ -19,8 +19,7 @@ use node_ties::owner_index_tie::owners_file_their_flights;
 /// Lines are filed as the index wants it, and give what it is owed of logs.
 ///
 /// - `filed`: where each log that somebody has is sure, and has its line in what is filed, which says of blocks
-///   versions from 1 on, each segment bears its log and
-///   its number, some boot wrote it, and it says so.
+///   versions from 1 on, each segment bears its log and its number, some boot wrote it, and it says so.
 /// - `texts`: each is the text of its name.
 /// - `give`: what they say of blocks fits its types; from the least horizon on a log is linked; and each filed name is that of the segment of its number.
 pub fn lines_are_filed()
@@ -47,8 +46,7 @@ pub fn lines_go_on()
 }
 
 /// What an owner acts to be filed is owed, where it says of blocks: it is the text of its name, the next segment of
-/// its log, fits its types, and its number isn't
-/// the last.
+/// its log, fits its types, and its number isn't the last.
 pub fn what_is_filed_is_owed()
     ensures client { ClientsFilesAreOwed }
     ensures cleaner { CleanersFilesAreOwed }

@@ -32,14 +32,14 @@ use telling_ties::filed_tie::{
 };
 
 /// Whatever messages are lost, repeated or reordered, and whichever nodes stop and start again, logs are whole at
-/// each moment of a run (the 1996 paper, on RAID):
-/// of each segment that the owner of a log told to be filed, and of which no Delete was sent, each member of its
-/// group holds its fragment, or its server has lost its disk
-/// since the group was made; and whatever is held, stored or sent under a name of the log is a fragment of one segment, the same for all of that name.
+/// each moment of a run (the 1996 paper, on RAID): of each segment that the owner of a log told to be filed, and of
+/// which no Delete was sent, each member of its group holds its fragment, or its server has lost its disk since the
+/// group was made; and whatever is held, stored or sent under a name of the log is a fragment of one segment, the
+/// same for all of that name.
 ///
 /// - `horizons`: in every run of a script of whose setup a run can be started, the least horizon that the registry
-///   keeps of a client's log, or of the cleaner's,
-///   is 1 at most, or no more than one beyond a segment that this owner itself told to be filed.
+///   keeps of a client's log, or of the cleaner's, is 1 at most, or no more than one beyond a segment that this
+///   owner itself told to be filed.
 /// - `keeps`: the logs of clients are whole, and one name has one text, in every such run, however clients fall and open their logs again.
 /// - `cleaners`: so is the cleaner's log.
 /// - `managers`: so is the log of each manager, which begins anew wherever the manager restarts.

@@ -37,9 +37,9 @@ IsShort Memory = ⊥
 abbrev pub IsCutOff : List ℕ → Type 0
 IsCutOff bytes = (at : ℕ) × (at ≤ length bytes) × (answer_of bytes ≡ Err (Short at))
 
--- The refusal stands at the first place at which no text can go on, or at a version that no Block needs: it lies within the bytes; whatever comes
--- after the bytes, it
--- stays, unless they end too early; and each front of them that ends before the place is cut off and no more.
+-- The refusal stands at the first place at which no text can go on, or at a version that no Block needs: it lies
+-- within the bytes; whatever comes after the bytes, it stays, unless they end too early; and each front of them
+-- that ends before the place is cut off and no more.
 pub record IsFirst (bytes : List ℕ) (e : SegError) : Type 0 where
   pub within : place e ≤ length bytes
   pub stays : IsShort e ⊎ ((more : List ℕ) → answer_of (bytes ++ more) ≡ Err e)

@@ -72,8 +72,7 @@ NobodyHoldsAfterFall =
     → is_held (held_of (n.tokens d).blocks b).mode ≡ false
 
 -- Where logs keep their word, the acts of each block of the slot are legal: each read is of the newest version, with its value, and each fall and return
--- goes to
--- versions at or above what was synced or read elsewhere.
+-- goes to versions at or above what was synced or read elsewhere.
 abbrev pub ActsAreLegal : Type 0
 ActsAreLegal = (members part : ℕ) (n : Net) (b : BlockId) → Moment true members part n b → LegalActs (acts_of b n.acts)
 
@@ -89,8 +88,7 @@ FlightsAreNewer =
     → (said n.books l q b).version < (said n.books c (suc (n.books.end c)) b).version
 
 -- Where logs keep their word: what a sent Grant that the client would still accept tells of a block of the slot is at or above all that any log has filed
--- of the
--- block.
+-- of the block.
 abbrev pub GrantsAreOfTheNewest : Type 0
 GrantsAreOfTheNewest =
     (members part : ℕ) (n : Net) (b : BlockId) → Moment true members part n b → (c : ℕ) → IsClient members c → n.up c ≡ true

@@ -24,8 +24,7 @@ pub fn tokens_keep_their_word()
 /// The law of the acts of every run: what was read, synced and lost.
 ///
 /// - `legal`: where logs keep their word, the acts of each block are legal: each read is of the newest version, with
-///   its value, and no fall and no return goes below what was read
-///   elsewhere or synced.
+///   its value, and no fall and no return goes below what was read elsewhere or synced.
 /// - `apart`: whether or not they do, no client falls again before it is back, and no fall names a block twice.
 pub fn acts_are_legal()
     ensures legal { ActsAreLegal }

@@ -1,6 +1,6 @@
 -- One run of two clients (1 and 2) and the cleaner (member 0, whose copies stand in log 3), moment by moment: a write, a Recall, a read of a place, a
--- crash with the tail in flight,
--- a takeover, a return that adopts the tail, the cleaner's copy, a crash with nothing in flight, a return that discards.
+-- crash with the tail in flight, a takeover, a return that adopts the tail, the cleaner's copy, a crash with nothing in flight, a return that
+-- discards.
 use Rattle.std.specs.Prelude.{ℕ, ◌==◌, true, false, if◌then◌else◌, List, [], ◌∷◌}
 use Rattle.token_protocol.specs.Entry.{Entry, no_entry}
 use Rattle.token_protocol.specs.Packets.{Want, Offer, Recall, Gave, Report}

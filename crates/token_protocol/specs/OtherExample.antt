@@ -1,6 +1,5 @@
 -- A second run of two clients (1 and 2) and the cleaner (member 0, whose copies stand in log 3), which takes the steps that the first does not:
--- repetitions, an absent block, a refused write,
--- a Supply, a sync, an eviction, what is let go, a clean fall, segments without the block.
+-- repetitions, an absent block, a refused write, a Supply, a sync, an eviction, what is let go, a clean fall, segments without the block.
 use Rattle.std.specs.Prelude.{List, [], ◌∷◌}
 use Rattle.token_protocol.specs.Entry.{Entry, no_entry}
 use Rattle.token_protocol.specs.Packets.{Want, Offer, Recall, Gave}

@@ -1,10 +1,7 @@
 -- What is claimed of the run that a call of the program played: the headline, in one record. Two premises stand before all of it: the registry does not
--- fail, no
--- line of a script stops it; and want of memory ends the call, and then there is no run. What is said of versions (`legal_acts`), of what clients that
--- serve lose,
--- and that what takeovers lose had been filed (both in `losses_earned`), ends with the first restart that is doubtful; nothing else does. A script without
--- a line
--- by which a server loses its disk has no such restart (`undoubted`).
+-- fail, no line of a script stops it; and want of memory ends the call, and then there is no run. What is said of versions (`legal_acts`), of what clients
+-- that serve lose, and that what takeovers lose had been filed (both in `losses_earned`), ends with the first restart that is doubtful; nothing else does.
+-- A script without a line by which a server loses its disk has no such restart (`undoubted`).
 use Rattle.core_world.specs.AnyNode.{any_start, any_step}
 use Rattle.core_world.specs.declared.any_node.AnyNode.{AnyNode}
 use Rattle.earned_losses.specs.answer_law.Runs.{LostAnswersEarned}

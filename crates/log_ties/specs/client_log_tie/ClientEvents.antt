@@ -54,8 +54,7 @@ PhaseWritten (Opening l o) = StageWritten o.stage
 PhaseWritten (Serves s) = StaysWritten s.log
 
 -- To a scan: the ids of the groups of maps that were sent fit; and of the chain that it tells, whatever comes next, the log can go on behind the end, and
--- it goes
--- down to the horizon that was taken last.
+-- it goes down to the horizon that was taken last.
 pub record ScanTells (g : Setting) (n : Net) (s : ScanState) : Type 0 where
   pub maps : (m : GroupMapState) → In (MapSent m) n.sent → MapFits m
   pub end : (i : scan_ins.In) → CameToScan g n i → IfSome (chain_in (scan.transition s i).outs) (λ t. GoesOn t.end)

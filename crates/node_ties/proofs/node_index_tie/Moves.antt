@@ -157,8 +157,7 @@ module _ (part : ℕ) (texts : Texts) (asked : Questions) where
   -- ---- steps
 
   -- By things that happen there the small world comes to one in which this holds. The slot goes from one phase to another; only epochs that it held, and
-  -- such as
-  -- are named, are touched or held after. Where the event may end a takeover, a slot that is managed stays so; else none enters the small world,
+  -- such as are named, are touched or held after. Where the event may end a takeover, a slot that is managed stays so; else none enters the small world,
   -- and none that it doesn't know ever does.
   pub record Sees (brought : Brought) (n : Net) (p q : SlotPhase) (outs : List Effect) (At : Net → Type 0) : Type 0 where
     pub next : Net

@@ -1,6 +1,5 @@
 -- A client that serves gets a grant to own, which the open call asked for: before its call runs on, what the tokens make of it and of the write, or of
--- letting it
--- go, is seen in the small world, in the slot and elsewhere.
+-- letting it go, is seen in the small world, in the slot and elsewhere.
 use Rattle.std.proofs.Common.{◌≡◌, ◌<◌, ◌++◌, ◌-◌, ◌^◌, ℕ, ◌==◌, ◌&&◌, not, Bool, true, false, cond, List, [], ◌∷◌, Option, Some, None, is_none, nat_lt, refl, sym, ap, subst, ◌∙◌}
 use Rattle.client_log.specs.LogState.{LogState}
 use Rattle.client_log.specs.Transition as log

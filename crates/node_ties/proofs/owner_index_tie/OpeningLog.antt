@@ -1,6 +1,5 @@
 -- What the log of an opening makes of its inputs: it files nothing until its opening segment is settled; then what was read back and that segment are
--- filed, and
--- the log that is open has what is filed last as its end, and a feed that was told of it.
+-- filed, and the log that is open has what is filed last as its end, and a feed that was told of it.
 use Rattle.std.proofs.Common.{⊎_elim, ◌≡◌, ◌≤◌, ℕ, suc, ◌-◌, List, [], ◌∷◌, ◌++◌, map, Option, Some, None, refl, sym, ap, subst, ◌∙◌, arith}
 use Rattle.std.specs.List.{AllByRecursion}
 use Rattle.xfs_base.proofs.Booleans.{by_test}

@@ -1,6 +1,5 @@
 -- What an input makes of an owner's log: its end stays and it tells none, or what was in flight is told first, as settled, and is its end then. What is in
--- flight
--- has the number after the end.
+-- flight has the number after the end.
 use Rattle.std.proofs.Common.{◌≡◌, ℕ, suc, ◌&&◌, ◌⊎◌, inl, inr, cond, List, ◌∷◌, Option, Some, None, refl, sym, ap, ◌∙◌, arith}
 use Rattle.std.specs.Prelude.{nat_lt, length, drop, take}
 use Rattle.std.specs.List.{AllByRecursion}

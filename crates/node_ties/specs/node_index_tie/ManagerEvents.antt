@@ -57,8 +57,7 @@ use Rattle.node_ties.specs.node_index_tie.Sight.{Texts, Questions, held_in, IsRe
 
 module _ (part : ℕ) (texts : Texts) (n : Net) where
   -- A takeover of the slot at this epoch: it began with the registry's news of that epoch, and took these inputs. What it read are the texts of their
-  -- names, and
-  -- what reports told it is so.
+  -- names, and what reports told it is so.
   pub record TakingAgrees (epoch : ℕ) (take : TakeState) : Type 0 where
     pub news : SlotNews
     pub groups : GroupMapState
@@ -191,8 +190,7 @@ module _ (part : ℕ) (texts : Texts) (asked : Questions) (j : ℕ) (n : Net) wh
   WritesTexts (Waiting kept hello) = Unit {0}
 
   -- The world owes a manager that the packet that comes was sent there and what it tells is so, that what is filed are the texts of their names, and that
-  -- what the
-  -- manager writes is one.
+  -- what the manager writes is one.
   pub record ManagerOwed (p : Phase) (what : Do) (q : Phase) : Type 0 where
     pub gets : EventGets p what
     pub filed : AreTexts texts n.filed
@@ -212,10 +210,8 @@ abbrev pub rest : Net → Net
 rest n = record n { slots = λ e. None; sent = [] }
 
 -- An event of manager j is a list of things that happen in the small world: only slots and packets change, of the slots those of the epochs that the
--- manager held
--- or is given, and what it sends of the slot was sent there. An epoch at which nobody was active yet gets a manager only where this one serves and knows
--- it, and
--- a slot that enters the small world is managed from then on.
+-- manager held or is given, and what it sends of the slot was sent there. An epoch at which nobody was active yet gets a manager only where this one
+-- serves and knows it, and a slot that enters the small world is managed from then on.
 pub record ManagerGoes (part : ℕ) (texts : Texts) (asked : Questions) (j : ℕ) (n : Net) (p : Phase) (what : Do) (w : Went_to) : Type 0 where
   pub next : Net
   pub runs : Runs part (held_in part texts) n next

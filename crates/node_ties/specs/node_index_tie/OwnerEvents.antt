@@ -22,8 +22,7 @@ use Rattle.node_ties.specs.node_index_tie.Sight.{RowsFit, DeltasKnown}
 
 module _ (part : ℕ) (n : Net) (l : ℕ) where
   -- A feed of a log that began at a base was told of each filed segment of the log above it, and of no other. Rows fit their types, and the log isn't at
-  -- its last
-  -- number.
+  -- its last number.
   pub record FeedSeen (feed : FeedState) : Type 0 where
     pub base : ℕ
     pub inputs : List In

@@ -48,8 +48,7 @@ module _ (part : ℕ) (texts : Texts) (n : Net) (desk : Desk) where
     pub flies : (f : FlightState) → desk.log.flight ≡ Some f → f.segment.items ≡ items_of part desk.given
 
   -- The pages of a slot that is managed at this epoch, and the parts that its last checkpoint names: these cover what has not changed since; or its
-  -- checkpoint is
-  -- being written, and rows were put since that was begun; or the writer has come to the end of its numbers, and begins no more.
+  -- checkpoint is being written, and rows were put since that was begun; or the writer has come to the end of its numbers, and begins no more.
   pub data Paged (epoch : ℕ) (pages : PagesState) (parts : List SegRef) : Type 0 where
     Covered : (events : List Event) → AllMayCome (held_in part texts) nothing_checkpointed events → slot_after events ≡ checkpointed pages parts
         → ((w : WorkState) → desk.writer.work ≡ Some w → w.slot ≡ part → w.epoch ≡ epoch → ⊥) → Paged epoch pages parts

@@ -116,8 +116,7 @@ pub record IsTaken (cleaner : Cleaner) (what : Do) : Type 0 where
   pub formed : (q : Packet) → what ≡ Deliver q → is_well_formed cleaner.peers q ≡ true
 
 -- Each event of the cleaner, if the world owes it what its packet says, and logs what they owe where it is taken. Where logs keep their word, no client has
--- the number of its log; and it is said whether
--- an opening that ends has what was in flight.
+-- the number of its log; and it is said whether an opening that ends has what was in flight.
 abbrev pub CleanerTakes : Type 0
 CleanerTakes =
     (logs : Bool) (members part promised last_epoch : ℕ) (n : Net) → part < 8 → promised ≤ last_epoch → Premise logs (members ≤ its_log)

@@ -168,8 +168,7 @@ module _ (part : ℕ) (texts : Texts) (n : Net) where
   NewFor (Serving e) f s = Unit {0}
 
   -- The world owes the cleaner that what a reopening adopts was answered Live, and moved once; that it may ask what it asks; that answers are to its
-  -- questions, and
-  -- what is read is what was filed; and the rest as it owes a client.
+  -- questions, and what is read is what was filed; and the rest as it owes a client.
   pub record CleanerOwed (p : Phase) (what : Do) (w : Went_to) : Type 0 where
     pub files : FilesOwed (NewFor p) texts 9 n.filed w.outs
     pub asks : AllByRecursion (EffectOwed part n) w.outs
@@ -203,8 +202,7 @@ IsAway (Serving e) = ⊥
 IsAway _ = Unit {0}
 
 -- An event of the cleaner is a list of things that happen in the small world: its log files what it acts to be filed, and what it has promised, its job,
--- what was
--- to be deleted and packets go on; where it doesn't serve after it, it has promised nothing more.
+-- what was to be deleted and packets go on; where it doesn't serve after it, it has promised nothing more.
 pub record CleanerGoes (part : ℕ) (texts : Texts) (asked : Questions) (n : Net) (w : Went_to) : Type 0 where
   pub next : Net
   pub runs : Runs part (held_in part texts) n next

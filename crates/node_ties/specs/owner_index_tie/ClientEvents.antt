@@ -79,8 +79,7 @@ module _ (part : ℕ) (texts : Texts) (n : Net) (c : ℕ) where
   WritesTexts (Serves s) = FlightIsText texts s.log
 
   -- The world owes a client that what it acts to be filed is new, that what a reopening read back is what was filed and adopted, that the log is linked
-  -- from the
-  -- horizon of a polled epoch on, and that what the client writes are the texts of their names.
+  -- from the horizon of a polled epoch on, and that what the client writes are the texts of their names.
   pub record ClientOwed (p : Phase) (what : Do) (w : Went_to) : Type 0 where
     pub files : FilesOwed (IsNewerAtSlot part) texts c n.filed w.outs
     pub reopens : ReopensOn p w.state
@@ -90,8 +89,7 @@ module _ (part : ℕ) (texts : Texts) (n : Net) (c : ℕ) where
 -- ---- what an event is
 
 -- An event of client c is a list of things that happen in the small world: its log files each segment that it acts to be filed and that was not filed
--- before, and
--- nothing else changes, of no other log. What it tells of its log is so then.
+-- before, and nothing else changes, of no other log. What it tells of its log is so then.
 pub record ClientGoes (part : ℕ) (texts : Texts) (n : Net) (c : ℕ) (w : Went_to) : Type 0 where
   pub next : Net
   pub only_files : next ≡ filing n (filed_after texts c n.filed w.outs)

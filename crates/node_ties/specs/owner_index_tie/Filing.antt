@@ -19,8 +19,7 @@ filing n f = record n { filed = f }
 
 module _ (texts : Texts) (l : ℕ) where
   -- A segment of the log is filed where its number is the next one, with the text of its name; one that was filed before, as what a reopening read back,
-  -- changes
-  -- nothing.
+  -- changes nothing.
   abbrev pub with_name : Filed → SegName → Filed
   with_name f name = if name.seq == suc (f.head l) then with_segment f l (texts name) else f
 
@@ -45,8 +44,7 @@ pub record IsSameLog (l : ℕ) (f g : Filed) : Type 0 where
   pub segment : (q : ℕ) → 0 < q → q ≤ f.head l → g.segment l q ≡ f.segment l q
 
 -- The text of a name that is filed next is the next segment of its log; what it says is as new as is asked; its numbers are within their types, and no log
--- is at
--- its last number.
+-- is at its last number.
 pub record FilesNext (New : Filed → Segment → Type 0) (texts : Texts) (l : ℕ) (f : Filed) (name : SegName) : Type 0 where
   pub named : (texts name).name ≡ name
   pub segment : IsSegment l (suc (f.head l)) (texts name)

@@ -76,9 +76,8 @@ NumberedFrom first [] = Unit {0}
 NumberedFrom first (s ∷ segments) = (s.name.seq ≡ first) × NumberedFrom (suc first) segments
 
 -- What a reopening read back is what the log filed from the horizon on, and what it adopts behind that: its numbers follow one another, from one that isn't
--- above
--- the horizon up to the end behind which the opening segment was written; each segment is the text of its name; those of filed numbers are the filed ones, and
--- all that is filed was read.
+-- above the horizon up to the end behind which the opening segment was written; each segment is the text of its name; those of filed numbers are the filed
+-- ones, and all that is filed was read.
 pub record ReadBack (texts : Texts) (l : ℕ) (f : Filed) (low end : ℕ) (chain : List Segment) : Type 0 where
   pub first : ℕ
   pub numbers : NumberedFrom first chain

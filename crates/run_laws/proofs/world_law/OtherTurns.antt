@@ -1,6 +1,5 @@
 -- A server or the cleaner that has its turn: the moment after it stands to the same small world, but for what they act, and for what the cleaner has
--- promised and
--- what its log says.
+-- promised and what its log says.
 use Rattle.std.specs.Prelude.{All}
 use Rattle.std.proofs.Common.{◌≡◌, ◌⊎◌, ⊎_elim, ℕ, Bool, ◌≤◌, ◌<◌, ◌==◌, true, false, List, ◌++◌, Some, map, slice_get, slice_set, inl, inr, refl, sym, ap, subst, ◌∙◌, arith}
 use Rattle.std.proofs.lemmas.Bool.Decides.{nat_tests}

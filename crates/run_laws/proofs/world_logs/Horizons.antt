@@ -1,6 +1,5 @@
 -- In every run no horizon that the registry keeps of a client's or the cleaner's log is beyond what that owner told to be filed: whatever others act to be
--- filed,
--- what any node holds and tells of the log is no further than that.
+-- filed, what any node holds and tells of the log is no further than that.
 use Rattle.std.proofs.Common.{◌≡◌, ⊎_elim, ℕ, zero, suc, ◌≤◌, List, [], ◌∷◌, ◌++◌, Option, None, Some, drop, length, map, take, slice_get, slice_set, if◌then◌else◌, append-nil, inl, inr, refl, sym, ap, subst, ◌∙◌, arith}
 use Rattle.std.proofs.lemmas.List.{append_assoc}
 use Rattle.std.proofs.Math.Seq.{drop-append_seam, drop-length}

@@ -1,6 +1,5 @@
 -- Each moment of a run up to which no restart that ended was doubtful stands to the small worlds of each slot: so the acts up to it are legal, and the
--- indexes of
--- slots are kept.
+-- indexes of slots are kept.
 use Rattle.std.proofs.Common.{ℕ, ◌<◌}
 use Rattle.core_world.specs.AnyNode.{any_start, any_step}
 use Rattle.core_world.specs.declared.any_node.AnyNode.{AnyNode}

@@ -14,8 +14,7 @@ abbrev pub Rises : Net → Net → Type 0
 Rises n m = (e l : ℕ) → 0 < l → l ≤ 9 → of_log (n.horizon e) l ≤ of_log (m.horizon e) l
 
 -- One small world may follow another: nothing that is filed, sent, begun or to be deleted is taken back, and horizons rise; those of epochs that have no
--- manager
--- stay.
+-- manager stay.
 pub record Grown (n m : Net) : Type 0 where
   pub filed : IsMore n.filed m.filed
   pub stay : (e : ℕ) → m.slots e ≡ None → n.slots e ≡ None

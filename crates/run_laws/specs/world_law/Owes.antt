@@ -55,8 +55,7 @@ module _ (members part : ℕ) (n : Net) where
   ManagerTold p Tick = Unit {0}
 
 -- Of the node of this name; servers and the registry are owed nothing, nor are a client and the cleaner of an event that is not taken. Of the cleaner it is
--- said
--- whether an opening that ends has what was in flight.
+-- said whether an opening that ends has what was in flight.
 abbrev pub NodeTold : Bool → (members part last_epoch : ℕ) → Net → NodeId → AnyNode → Do → Type 0
 NodeTold adopted members part last_epoch n (Client c) (any.Client node) what = client.IsTaken node what → ClientTold part last_epoch n c node.phase what
 NodeTold adopted members part last_epoch n (Manager j) (any.Manager node) what = ManagerTold members part n node.phase what

@@ -1,6 +1,5 @@
 -- The lines of a client's log and of the cleaner's in their own events: numbers of what is filed have one after them, and the line goes on as the small
--- world of one
--- slot's index has it then.
+-- world of one slot's index has it then.
 use Rattle.std.specs.Prelude.{◌≡◌, ◌≤◌, ◌⊎◌, ℕ, true, false, List}
 use Rattle.log_ties.specs.cleaner_log_tie.Owner as cleaner_log
 use Rattle.cleaner_node.specs.CleanerEvents as cleaners

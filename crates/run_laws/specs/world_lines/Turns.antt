@@ -72,8 +72,7 @@ CleanersFilesAreOwed =
     → AllNew (NewFor part texts n p) texts 9 f outs → FilesOwed (NewFor part texts n p) texts 9 f outs
 
 -- An event of the owner: what it acts to be filed is filed after it. Where the owner serves then, its end is the last of what is filed then (which the law
--- of the
--- index gives); else nothing was filed.
+-- of the index gives); else nothing was filed.
 pub record IsTurn (texts : Texts) (l : ℕ) (g : Setting) (n o : Net) (f : Filed) (outs : List Effect) : Type 0 where
   pub run : Runs g n o
   pub sure : IsSure texts l g o
