@@ -1,12 +1,13 @@
 -- What a client acts and what it gets keeps the world seen.
 use Rattle.std.specs.Prelude.{if◌then◌else◌}
-use Rattle.std.proofs.Common.{◌≡◌, ℕ, ◌-◌, ◌^◌, Bool, true, false, nat_lt, List, [], ◌∷◌, ◌++◌, Option, Some, refl, sym, ap, subst, ◌∙◌, arith}
+use Rattle.std.proofs.Common.{◌≡◌, ℕ, Bool, true, false, nat_lt, List, [], ◌∷◌, ◌++◌, Option, Some, refl, sym, ap, subst, ◌∙◌, arith}
 use Rattle.xfs_base.specs.declared.block.BlockId.{BlockId}
 use Rattle.xfs_base.specs.declared.entry.Entry.{Entry}
 use Rattle.xfs_base.specs.declared.token.Mode.TheVariants.{Nothing, Copy, Own}
 use Rattle.xfs_base.specs.declared.token.Stamp.{Stamp}
 use Rattle.xfs_base.specs.Blocks.{same_block}
 use Rattle.xfs_base.proofs.BlockOrder.{same_block_itself}
+use Rattle.xfs_base.specs.Limits.{u64_end}
 use Rattle.version_model.specs.declared.act.Act.TheVariants as act
 use Rattle.act_tie.specs.BlockActs.{acts_of}
 use Rattle.act_tie.specs.Number.{number}
@@ -153,7 +154,7 @@ module _ (logs : Bool) (members part : ℕ) (n : Net) (i : Good logs members par
   owns_acted : (b : BlockId) (v : View logs members part b n) (c end : ℕ) (block : BlockId) (stamp : Stamp) (inc req : ℕ) (entry : Entry)
       (value : Option (List ℕ)) → IsServing logs members n c end
       → (block ≡ b → SentOffer c v.world stamp inc req Own (entry_seen entry)) → client.accepts (n.tokens c) block stamp inc req Own ≡ true
-      → nat_lt entry.ver (2 ^ 64 - 1) ≡ true
+      → nat_lt entry.ver u64_end ≡ true
       → Acted logs (setting b c (n.tokens c).inc) end v.world (writes_of b c block value) (laws.granted_and_wrote (n.tokens c) stamp inc req block entry value)
   owns_acted b v c end block stamp inc req entry value serves sent accepts room =
       let g = setting b c (n.tokens c).inc in
@@ -172,7 +173,7 @@ module _ (logs : Bool) (members part : ℕ) (n : Net) (i : Good logs members par
   pub owns_view : (b : BlockId) (v : View logs members part b n) (c end : ℕ) (block : BlockId) (stamp : Stamp) (inc req : ℕ) (entry : Entry)
       (value : Option (List ℕ)) → IsServing logs members n c end
       → In (GrantSent c block stamp inc req Own entry) n.sent → client.accepts (n.tokens c) block stamp inc req Own ≡ true
-      → nat_lt entry.ver (2 ^ 64 - 1) ≡ true
+      → nat_lt entry.ver u64_end ≡ true
       → View logs members part b
       (acted (after_client n c end (laws.granted_and_wrote (n.tokens c) stamp inc req block entry value)) (act.Wrote c block value ∷ []))
   owns_view b v c end block stamp inc req entry value serves fact accepts room =

@@ -1,7 +1,7 @@
 -- Inputs of another block: what is known of this block stays, and nothing is said of it.
 use Rattle.std.proofs.lemmas.Map.Views.{tells_apart}
 use Rattle.xfs_base.proofs.BlockOrder.{block_cmp_exact}
-use Rattle.std.proofs.Common.{◌≡◌, ℕ, ◌+◌, ◌-◌, ◌^◌, ◌≤◌, Bool, true, List, [], ◌∷◌, Option, Some, None, is_some, refl, sym, ap, subst, ◌∙◌, arith, nat_lt}
+use Rattle.std.proofs.Common.{◌≡◌, ℕ, ◌+◌, ◌≤◌, Bool, true, List, [], ◌∷◌, Option, Some, None, is_some, refl, sym, ap, subst, ◌∙◌, arith, nat_lt}
 use Rattle.std.specs.Ordering.{eq_by_cmp}
 use Rattle.xfs_base.specs.declared.block.BlockId.{BlockId}
 use Rattle.xfs_base.specs.declared.entry.Entry.{Entry}
@@ -27,6 +27,7 @@ use Rattle.token_tie.proofs.Frames.{goes_saying, said_both}
 use Rattle.xfs_base.specs.Modes.{is_own}
 use Rattle.xfs_base.specs.Stamps.{is_later}
 use Rattle.xfs_base.proofs.Booleans.{by_test}
+use Rattle.xfs_base.specs.Limits.{u32_end}
 
 module _ (g : Setting) where
   pub record Apart (s : TokensState) (d : Done) : Type 0 where
@@ -88,7 +89,7 @@ module _ (g : Setting) where
     pub ask-apart : (s : TokensState) (mode : Mode) → Apart s (new_want s block mode)
     unfolding new_want
     ask-apart s mode =
-        by_test (Apart s) (nat_lt s.req (2 ^ 32 - 1))
+        by_test (Apart s) (nat_lt s.req u32_end)
         (record {
           state = record (with_held s block (asked (held_of s.blocks block) (s.req + 1) mode)) { req = s.req + 1 };
           outs = Want block (s.req + 1) 0 mode ∷ [];

@@ -1,5 +1,5 @@
 -- Promises and ticks: inputs that go through many blocks.
-use Rattle.std.proofs.Common.{◌≡◌, ℕ, ◌+◌, ◌-◌, ◌^◌, ◌==◌, ◌≤◌, ◌<◌, Bool, true, false, cond, ◌&&◌, List, [], ◌∷◌, length, is_some, refl, sym, ap, subst, ◌∙◌, arith, nat_lt, nat_le}
+use Rattle.std.proofs.Common.{◌≡◌, ℕ, ◌+◌, ◌-◌, ◌==◌, ◌≤◌, ◌<◌, Bool, true, false, cond, ◌&&◌, List, [], ◌∷◌, length, is_some, refl, sym, ap, subst, ◌∙◌, arith, nat_lt, nat_le}
 use Rattle.std.proofs.Common.{slice_set, set, zero, suc}
 use Rattle.std.specs.List.{list_any}
 use Rattle.std.specs.Map.{values_of}
@@ -28,12 +28,13 @@ use Rattle.token_tie.proofs.Elsewhere.{apart_took, ask-apart, ask_again-apart}
 use Rattle.token_tie.proofs.Takes.{at_block, unheld_rank, ask-there, ask_again-there}
 use Rattle.xfs_base.specs.Modes.{is_held}
 use Rattle.xfs_base.proofs.Booleans.{and_first, and_second, by_test}
+use Rattle.xfs_base.specs.Limits.{u32_end}
 
 -- asking for another block, or for this one, leaves this one's mode
 ask-mode : (g : Setting) (u : TokensState) (block : BlockId) → (held_of (ask_copy u block).state.blocks g.block).mode ≡ (held_of u.blocks g.block).mode
 unfolding new_want
 ask-mode g u block =
-    by_test (λ (d : Done). (held_of d.state.blocks g.block).mode ≡ (held_of u.blocks g.block).mode) (nat_lt u.req (2 ^ 32 - 1))
+    by_test (λ (d : Done). (held_of d.state.blocks g.block).mode ≡ (held_of u.blocks g.block).mode) (nat_lt u.req u32_end)
     (record {
       state = record (with_held u block (asked (held_of u.blocks block) (u.req + 1) Copy)) { req = u.req + 1 };
       outs = Want block (u.req + 1) 0 Copy ∷ [];
@@ -159,7 +160,7 @@ module _ (logs : Bool) (g : Setting) (end : ℕ) where
         by_test At (may_promise s slot epoch) (steps ask_copy u blocks) (still s)
         (λ may.
         let rises = and_second (nat_lt slot 8) (nat_le (epoch_of s.epochs slot) epoch)
-        (and_first (nat_lt slot 8 && nat_le (epoch_of s.epochs slot) epoch) (nat_le (length (fetched_in slot s.blocks)) (2 ^ 32 - 1 - s.req)) may) in
+        (and_first (nat_lt slot 8 && nat_le (epoch_of s.epochs slot) epoch) (nat_le (length (fetched_in slot s.blocks)) (u32_end - s.req)) may) in
         let t = promised-known slot epoch rises in
         goes_through logs g end w (local_of u g.block) _ [] _ t
         (asks-took t.world u blocks (shown_on logs g end w [] (local_of u g.block) [] t) (end_on logs w t.world g.client end t.frame r.settled) free))

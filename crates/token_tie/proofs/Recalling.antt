@@ -1,5 +1,5 @@
 -- A Recall of this block.
-use Rattle.std.proofs.Common.{◌≡◌, ℕ, ◌+◌, ◌-◌, ◌^◌, ◌==◌, ◌≤◌, Bool, true, false, ◌&&◌, ◌||◌, [], ◌∷◌, Option, Some, None, is_some, is_none, refl, sym, ap, subst, ◌∙◌, arith, nat_lt}
+use Rattle.std.proofs.Common.{◌≡◌, ℕ, ◌+◌, ◌==◌, ◌≤◌, Bool, true, false, ◌&&◌, ◌||◌, [], ◌∷◌, Option, Some, None, is_some, is_none, refl, sym, ap, subst, ◌∙◌, arith, nat_lt}
 use Rattle.xfs_base.specs.declared.token.Mode.TheVariants.{Copy}
 use Rattle.xfs_base.specs.declared.token.Stamp.{Stamp}
 use Rattle.xfs_base.specs.Steps.{still, saying}
@@ -21,6 +21,7 @@ use Rattle.token_tie.proofs.SmallFacts.{equal_numbers}
 use Rattle.token_tie.proofs.Takes.{unheld_rank, lifted}
 use Rattle.xfs_base.specs.Stamps.{is_later}
 use Rattle.xfs_base.proofs.Booleans.{and_first, and_second, by_test, contrary}
+use Rattle.xfs_base.specs.Limits.{u32_end}
 
 -- a Recall stays sent where only clients step
 sent_on : (g : Setting) (w v : World) (stamp : Stamp) (keep : Bool) → ByClient g.client w v → SentRecall g.client w stamp keep
@@ -96,7 +97,7 @@ module _ (logs : Bool) (g : Setting) (end : ℕ) where
         let Given : Done → Type 0 = λ (d : Done). At (saying d.outs (give d.state g.block stamp keep)) in
         by_test At (can_refetch s g.block) (saying (refetch s g.block).outs (give (refetch s g.block).state g.block stamp keep)) (still s)
         (λ room. by_test Given (is_some h.fetch) (new_want dropped g.block Copy) (still s)
-        (λ some. by_test Given (nat_lt s.req (2 ^ 32 - 1)) (record { state = u; outs = outs }) (still dropped)
+        (λ some. by_test Given (nat_lt s.req u32_end) (record { state = u; outs = outs }) (still dropped)
         (λ _.
         let m = record l { held = unfetched h } in
         let one = drops_fetch-goes logs g end w l r.shows in
@@ -110,7 +111,7 @@ module _ (logs : Bool) (g : Setting) (end : ℕ) where
         (give-there t.world u stamp keep (shown_on logs g end w [] (local_of u g.block) outs t) (omega arith) (sent_on g w t.world stamp keep t.frame sent) same
         (ap (λ (k : Held). is_later stamp k.stamp) now ∙ later) (ap (λ (k : Held). is_none k.fetch) now)
         (end_on logs w t.world g.client end t.frame r.settled)))
-        (λ full. contrary (sym full ∙ none_or h.fetch (nat_lt s.req (2 ^ 32 - 1)) some room)))
+        (λ full. contrary (sym full ∙ none_or h.fetch (nat_lt s.req u32_end) some room)))
         (λ none. give-there w s stamp keep r.shows (omega arith) sent same later (none_by h.fetch none) r.settled))
         (λ _. stays)
 

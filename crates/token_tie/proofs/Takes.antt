@@ -1,5 +1,5 @@
 -- Inputs of this block: each is taken by steps of the client.
-use Rattle.std.proofs.Common.{◌≡◌, ℕ, ◌+◌, ◌-◌, ◌^◌, ◌==◌, ◌<◌, Bool, true, false, ◌&&◌, ◌||◌, not, List, [], ◌∷◌, Option, Some, None, is_some, is_none, refl, sym, ap, subst, ◌∙◌, arith, nat_lt}
+use Rattle.std.proofs.Common.{◌≡◌, ℕ, ◌+◌, ◌==◌, ◌<◌, Bool, true, false, ◌&&◌, ◌||◌, not, List, [], ◌∷◌, Option, Some, None, is_some, is_none, refl, sym, ap, subst, ◌∙◌, arith, nat_lt}
 use Rattle.std.specs.Ordering.{eq_by_cmp}
 use Rattle.std.specs.Prelude.{if◌then◌else◌}
 use Rattle.std.proofs.lemmas.Bool.Decides.{nat_tests}
@@ -35,6 +35,7 @@ use Rattle.token_tie.proofs.Leaves.{meets, taking, drops_want-goes, drops_fetch-
 use Rattle.xfs_base.specs.Modes.{allows, is_held, is_own}
 use Rattle.xfs_base.specs.Stamps.{is_later}
 use Rattle.xfs_base.proofs.Booleans.{and_first, and_second, by_test, contrary, not_true}
+use Rattle.xfs_base.specs.Limits.{u32_end, u64_end}
 
 one_block : (b k : BlockId) → eq_by_cmp block_cmp b k ≡ true → b ≡ k
 one_block b k same = tells_apart block_cmp_exact b k same
@@ -97,7 +98,7 @@ module _ (logs : Bool) (g : Setting) (end : ℕ) where
   unfolding new_want
   ask-there v u mode shows settled_ some less =
       let m = local_of u g.block in
-      by_test (Took logs g end v) (nat_lt u.req (2 ^ 32 - 1))
+      by_test (Took logs g end v) (nat_lt u.req u32_end)
       (record { state = record (with_held u g.block (asked m.held (u.req + 1) mode)) { req = u.req + 1 }; outs = Want g.block (u.req + 1) 0 mode ∷ [] })
       (still u)
       (λ t. lifted v u (asked m.held (u.req + 1) mode) (u.req + 1) _ (asks-goes logs g end v m mode shows some less settled_))
@@ -191,7 +192,7 @@ module _ (logs : Bool) (g : Setting) (end : ℕ) where
     all_three a b c p q t = ap (λ x. x && b && c) p ∙ ap (λ x. x && c) q ∙ t
 
     pub owns_and_writes : (stamp : Stamp) (inc req : ℕ) (entry : Entry) (value : Option (List ℕ)) → SentOffer g.client w stamp inc req Own (entry_seen entry)
-        → accepts s g.block stamp inc req Own ≡ true → nat_lt entry.ver (2 ^ 64 - 1) ≡ true
+        → accepts s g.block stamp inc req Own ≡ true → nat_lt entry.ver u64_end ≡ true
         → Acted logs g end w (WroteBlock g.client (g.number value) ∷ []) (laws.granted_and_wrote s stamp inc req g.block entry value)
     unfolding on_granted on_wrote
     owns_and_writes stamp inc req entry value sent t room =
@@ -200,7 +201,7 @@ module _ (logs : Bool) (g : Setting) (end : ℕ) where
         let u = with_held s g.block mine in
         let now : held_of u.blocks g.block ≡ mine = held_of-put_itself g.block mine s.blocks in
         let free : may_write (held_of u.blocks g.block) ≡ true =
-        ap may_write now ∙ all_three true (is_none h.giving) (nat_lt entry.ver (2 ^ 64 - 1)) refl (ungiven stamp inc req Own t) room in
+        ap may_write now ∙ all_three true (is_none h.giving) (nat_lt entry.ver u64_end) refl (ungiven stamp inc req Own t) room in
         let acts = WroteBlock g.client (g.number value) ∷ [] in
         by_test (λ (d : Done). Acted logs g end w acts (saying d.outs (on_wrote d.state g.block value))) (accepts s g.block stamp inc req Own)
         (record { state = u; outs = Ready g.block ∷ [] }) (still s)
@@ -264,7 +265,7 @@ module _ (logs : Bool) (g : Setting) (end : ℕ) where
           | true ↦ λ t.
               acts_lifted w (WroteBlock g.client (g.number value) ∷ []) s (written h value) s.req []
               (writes-goes logs g end w l value r.shows
-              (and_first (is_own h.mode) (is_none h.giving) (and_first (is_own h.mode && is_none h.giving) (nat_lt h.ver (2 ^ 64 - 1)) t)))
+              (and_first (is_own h.mode) (is_none h.giving) (and_first (is_own h.mode && is_none h.giving) (nat_lt h.ver u64_end) t)))
           | false ↦ λ t. stays
         ] refl
 

@@ -7,6 +7,7 @@ use Rattle.xfs_base.proofs.Booleans.{by_test, and_second}
 use Rattle.xfs_base.specs.declared.node.NodeId.TheVariants.{Client, Manager, Server, Cleaner, Registry}
 use Rattle.xfs_base.specs.declared.segment.SegRef.{SegRef}
 use Rattle.xfs_base.specs.Steps.{still}
+use Rattle.xfs_base.specs.Limits.{u32_end}
 use Rattle.group_map.specs.GroupMapState.{GroupMapState}
 use Rattle.group_map.specs.Groups.{generation_at, generations_after}
 use Rattle.group_map.specs.WellFormed.{IsGroupMap}
@@ -150,7 +151,7 @@ module _ (g : Setting) (owner : Asker) (n : Net) (b : BoardState) (before : Regi
       → Checkpointed (keep b slot epoch parts horizon).state
   unfolding keep
   kept_so slot epoch parts horizon covers =
-      by_test (λ (m : Made). Checkpointed m.state) (b.version == 4294967295) (still b) (record { state = checkpointed b slot parts horizon; outs = _ })
+      by_test (λ (m : Made). Checkpointed m.state) (b.version == u32_end) (still b) (record { state = checkpointed b slot parts horizon; outs = _ })
       (λ t. same)
       (λ t. record { groups = refl; horizons = kept_nine b.checkpoints slot (record { parts = parts; horizon = horizon }) covers before.horizons })
 

@@ -1,5 +1,5 @@
 -- A block arrives: what a grant, a supply or what was read makes of a client that asks for its call, in terms of a fact that is kept.
-use Rattle.std.proofs.Common.{◌≡◌, ◌⊎◌, inl, inr, ℕ, ◌-◌, ◌^◌, Bool, true, false, ◌&&◌, ◌==◌, not, nat_lt, List, [], ◌∷◌, Option, Some, None, is_some, is_none, refl, sym, ap, subst, ◌∙◌, arith}
+use Rattle.std.proofs.Common.{◌≡◌, ◌⊎◌, inl, inr, ℕ, Bool, true, false, ◌&&◌, ◌==◌, not, nat_lt, List, [], ◌∷◌, Option, Some, None, is_some, is_none, refl, sym, ap, subst, ◌∙◌, arith}
 use Rattle.std.proofs.lemmas.Bool.Decides.{nat_tests}
 use Rattle.client_parts.specs.Reads.{kept_while, reading_in, same_target, target_of}
 use Rattle.client_serving.specs.declared.serving.Serving.{Serving}
@@ -38,6 +38,7 @@ use Rattle.xfs_base.specs.Steps.{still}
 use Rattle.xfs_base.specs.Stamps.{is_later}
 use Rattle.xfs_base.proofs.Booleans.{and_first, and_second, by_test, contrary}
 use Rattle.xfs_base.proofs.Orders.{not_later_back, not_later_itself}
+use Rattle.xfs_base.specs.Limits.{u64_end}
 use Rattle.node_ties.specs.node_tie.Asks.{AsksForCall, needed}
 use Rattle.node_ties.proofs.node_tie.AsksBlock.{Need, WantSuits}
 use Rattle.node_ties.proofs.node_tie.AsksFollow.{call_with-step}
@@ -237,7 +238,7 @@ module _ (A : BlockId → Type 0) (M : GroupMapState → Type 0) (B : Fact) (P :
               let u : TokensState = with_held s.tokens block g in
               let now : held_of u.blocks block ≡ g = held_of-put_itself block g s.tokens.blocks in
               let ungiven : is_none h.giving ≡ true = (asks.sound.each block).asks_ungiven (asked Own t) in
-              let below : nat_lt entry.ver (2 ^ 64 - 1) ≡ true = grind (arith, nat_tests) in
+              let below : nat_lt entry.ver u64_end ≡ true = grind (arith, nat_tests) in
               by_test KeptOrFresh (same_mode (held_of u.blocks block).mode Copy) (notes_clean (with_block g) block) (with_block g)
               (λ x. contrary (sym (ap (λ (f : Held). same_mode f.mode Copy) now) ∙ x))
               (λ x. inr (record {
@@ -245,7 +246,7 @@ module _ (A : BlockId → Type 0) (M : GroupMapState → Type 0) (B : Fact) (P :
                 fact = k.owns s.tokens s.log s.cache block g arrives asks.sound
                     (record { asks = asked Own t; mode = refl; clean = refl; stamp = rises Own t; giving = refl }) p;
                 needs = needed_same (with_block g).call s.call (call_with-step s.call (kept_while u (reading_in s.call))) ∙ (needs_it Own t).0;
-                may = ap may_write now ∙ ap (λ b. b && nat_lt entry.ver (2 ^ 64 - 1)) ungiven ∙ below;
+                may = ap may_write now ∙ ap (λ b. b && nat_lt entry.ver u64_end) ungiven ∙ below;
                 empty = ap (λ (f : Held). is_none f.value) now;
               }))
 

@@ -1,5 +1,5 @@
 -- What inputs leave of a client's tokens that neither give nor take a block: only what is asked for changes, and puts-off may be dropped.
-use Rattle.std.proofs.Common.{◌≡◌, ℕ, ◌+◌, ◌-◌, ◌^◌, true, false, List, [], ◌∷◌, Option, Some, None, is_some, refl, sym, subst, ◌∙◌, nat_lt}
+use Rattle.std.proofs.Common.{◌≡◌, ℕ, ◌+◌, true, false, List, [], ◌∷◌, Option, Some, None, is_some, refl, sym, subst, ◌∙◌, nat_lt}
 use Rattle.std.specs.List.{AllByRecursion, list_any}
 use Rattle.std.specs.Map.{values_of}
 use Rattle.xfs_base.specs.declared.block.BlockId.{BlockId}
@@ -10,6 +10,7 @@ use Rattle.xfs_base.specs.Stamps.{is_later}
 use Rattle.xfs_base.specs.Steps.{still, steps}
 use Rattle.xfs_base.proofs.Booleans.{by_test, contrary}
 use Rattle.xfs_base.proofs.Orders.{not_later_itself, not_later_through}
+use Rattle.xfs_base.specs.Limits.{u32_end}
 use Rattle.token_client.specs.declared.held.Held.{Held}
 use Rattle.token_client.specs.declared.held.Wanted.{Wanted}
 use Rattle.token_client.specs.declared.output.Out.{Out}
@@ -89,7 +90,7 @@ unfolding new_want
 ask-quiet s block mode =
     let h : Held = held_of s.blocks block in
     let g : Held = asked h (s.req + 1) mode in
-    by_test (GoesQuietly s) (nat_lt s.req (2 ^ 32 - 1))
+    by_test (GoesQuietly s) (nat_lt s.req u32_end)
     (record { state = record (with_held s block g) { req = s.req + 1 }; outs = Want block (s.req + 1) 0 mode ∷ [] }) (still s)
     (λ t. record {
       quiet = quiet_put s block g (record { mode = refl; ver = refl; settled = refl; stamp = not_later_itself h.stamp; giving = λ x. x });
@@ -145,7 +146,7 @@ ask-stamp : (s : TokensState) (block : BlockId) (mode : Mode) → (held_of (new_
 unfolding new_want
 ask-stamp s block mode =
     let g : Held = asked (held_of s.blocks block) (s.req + 1) mode in
-    by_test (λ (d : Done). (held_of d.state.blocks block).stamp ≡ (held_of s.blocks block).stamp) (nat_lt s.req (2 ^ 32 - 1))
+    by_test (λ (d : Done). (held_of d.state.blocks block).stamp ≡ (held_of s.blocks block).stamp) (nat_lt s.req u32_end)
     (record { state = record (with_held s block g) { req = s.req + 1 }; outs = Want block (s.req + 1) 0 mode ∷ [] }) (still s)
     (λ t. put_same (λ (f : Held). f.stamp) block block g s.blocks refl) (λ t. refl)
 

@@ -1,5 +1,5 @@
 -- What the owner of a log tells managers of a slot is what the log filed.
-use Rattle.std.proofs.Common.{◌≡◌, ℕ, suc, ◌+◌, ◌-◌, ◌<◌, ◌≤◌, ◌==◌, ◌&&◌, Bool, true, false, cond, List, [], ◌∷◌, ◌++◌, map, refl, sym, ap, subst, ◌∙◌, arith}
+use Rattle.std.proofs.Common.{◌^◌, ◌≡◌, ℕ, suc, ◌+◌, ◌-◌, ◌<◌, ◌≤◌, ◌==◌, ◌&&◌, Bool, true, false, cond, List, [], ◌∷◌, ◌++◌, map, refl, sym, ap, subst, ◌∙◌, arith}
 use Rattle.std.specs.Prelude.{nat_lt, Contains}
 use Rattle.std.specs.List.{AllByRecursion, flat_map, range_with_len}
 use Rattle.std.proofs.lemmas.List.Elements.{All-from_recursion}
@@ -41,7 +41,7 @@ fit_slot slot (row ∷ rows) fit = by (slot_of row.0.ino.0 == slot) (fit_slot sl
 fit_after : (slot number : ℕ) (fs : List FiledDeltas) → AllByRecursion (λ (f : FiledDeltas). RowsFit f.rows) fs → RowsFit (rows_after slot number fs)
 fit_after slot number [] all = tt
 fit_after slot number (f ∷ fs) all =
-    all_both (λ row. row.0.blk < 4294967296) (cond (nat_lt number f.seq) (slot_rows slot f.rows) []) (rows_after slot number fs)
+    all_both (λ row. row.0.blk < 2 ^ 32) (cond (nat_lt number f.seq) (slot_rows slot f.rows) []) (rows_after slot number fs)
     (by_test RowsFit (nat_lt number f.seq) (slot_rows slot f.rows) [] (λ _. fit_slot slot f.rows all.0) (λ _. tt))
     (fit_after slot number fs all.1)
 

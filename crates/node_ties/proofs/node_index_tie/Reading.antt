@@ -1,5 +1,5 @@
 -- What a takeover has read once it took one more input, and that what it hands out then is what the small world needs to know.
-use Rattle.std.proofs.Common.{◌≡◌, ℕ, ◌<◌, inl, inr, List, [], ◌∷◌, ◌++◌, take, Option, Some, None, refl, sym, ap, ◌∙◌, zero, suc}
+use Rattle.std.proofs.Common.{◌^◌, ◌≡◌, ℕ, ◌<◌, inl, inr, List, [], ◌∷◌, ◌++◌, take, Option, Some, None, refl, sym, ap, ◌∙◌, zero, suc}
 use Rattle.std.specs.List.{AllByRecursion}
 use Rattle.xfs_base.proofs.Booleans.{by_test}
 use Rattle.xfs_base.specs.declared.node.NodeId.{NodeId}
@@ -109,11 +109,11 @@ module _ (part : ℕ) (texts : Texts) where
 
   fit_along : (chain : List Segment) → AllByRecursion (IsRead part texts) chain → RowsFit (told_along part chain)
   fit_along [] all = tt
-  fit_along (s ∷ ss) all = all_both (λ row. row.0.blk < 4294967296) (told_of part s) (told_along part ss) all.0.fits (fit_along ss all.1)
+  fit_along (s ∷ ss) all = all_both (λ row. row.0.blk < 2 ^ 32) (told_of part s) (told_along part ss) all.0.fits (fit_along ss all.1)
 
   pub fit_by_all : (chains : List (List Segment)) → AllByRecursion (AllByRecursion (IsRead part texts)) chains → RowsFit (told_by_all part chains)
   fit_by_all [] all = tt
-  fit_by_all (c ∷ cs) all = all_both (λ row. row.0.blk < 4294967296) (told_along part c) (told_by_all part cs) (fit_along c all.0) (fit_by_all cs all.1)
+  fit_by_all (c ∷ cs) all = all_both (λ row. row.0.blk < 2 ^ 32) (told_along part c) (told_by_all part cs) (fit_along c all.0) (fit_by_all cs all.1)
 
 -- ---- the end that was reported of a log
 

@@ -152,7 +152,7 @@ module _ (part : ℕ) (below : part < 8) (b : BoardState) (eight : length b.chec
     keep_goes : is_kept b m.slot m.epoch m.horizon ≡ true → Went part b (keep b m.slot m.epoch m.parts m.horizon).state what
     unfolding keep
     keep_goes fact =
-        by_test (λ (made : Made). Went part b made.state what) (b.version == 4294967295) (still b)
+        by_test (λ (made : Made). Went part b made.state what) (b.version == u32_end) (still b)
         (record { state = checkpointed b m.slot m.parts m.horizon; outs = Kept m.epoch ∷ [] })
         (λ _. stays what b refl)
         (λ _. record {

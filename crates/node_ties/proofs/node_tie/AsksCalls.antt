@@ -1,5 +1,5 @@
 -- A client whose open call runs asks for its call still: while a call on blocks waits, for the block that it needs; once it is answered, for none.
-use Rattle.std.proofs.Common.{◌≡◌, ℕ, zero, suc, ◌+◌, ◌^◌, ◌-◌, Bool, true, false, ◌||◌, ◌&&◌, ◌==◌, nat_lt, List, Option, Some, None, is_none, is_some, refl, sym, ap, subst, ◌∙◌}
+use Rattle.std.proofs.Common.{◌≡◌, ℕ, zero, suc, ◌+◌, Bool, true, false, ◌||◌, ◌&&◌, ◌==◌, nat_lt, List, Option, Some, None, is_none, is_some, refl, sym, ap, subst, ◌∙◌}
 use Rattle.client_log.specs.declared.input.In.TheVariants as log_in
 use Rattle.client_parts.specs.Calls.{after_answer}
 use Rattle.client_parts.specs.declared.call.Call.{Call}
@@ -28,6 +28,7 @@ use Rattle.xfs_base.specs.declared.token.Mode.TheVariants.{Nothing, Copy, Own}
 use Rattle.xfs_base.specs.Modes.{allows, is_held, is_nothing, is_own}
 use Rattle.xfs_base.specs.Steps.{saying}
 use Rattle.xfs_base.proofs.Booleans.{by_test, and_first, contrary}
+use Rattle.xfs_base.specs.Limits.{u64_end}
 use Rattle.node_ties.specs.node_tie.Asks.{AsksForCall, needed, needed_by}
 use Rattle.node_ties.proofs.node_tie.AsksBlock.{Need, WantSuits}
 use Rattle.node_ties.proofs.node_tie.AsksInputs.{AsksAs, none_asks, nothing_asks, transition-asks}
@@ -119,7 +120,7 @@ module _ (s : Serving) (block : BlockId) where
     written_none a t =
         let h : Held = held_at s block in
         let own : is_own h.mode ≡ true = and_first (is_own h.mode) (is_none h.giving)
-        (and_first (is_own h.mode && is_none h.giving) (nat_lt h.ver (2 ^ 64 - 1)) t) in
+        (and_first (is_own h.mode && is_none h.giving) (nat_lt h.ver u64_end) t) in
         nothing_asks (Some (block, Own)) block Own refl s.tokens a (unasked_where_owned (is_asking h) (is_own h.mode) (a.sound.each block).asks_unowned own)
 
     changes-for : AsksAs None s.tokens → MadeFor (Some (block, Own)) s (changes s block value)

@@ -1,5 +1,5 @@
 -- What a client asks for stays as it is needed, on each input of its tokens; and only a grant has a block read.
-use Rattle.std.proofs.Common.{◌≡◌, ℕ, ◌+◌, ◌-◌, ◌^◌, Bool, true, false, ◌&&◌, ◌==◌, not, List, [], ◌∷◌, ◌++◌, Option, Some, None, is_some, is_none, refl, sym, ap, subst, ◌∙◌, nat_lt}
+use Rattle.std.proofs.Common.{◌≡◌, ℕ, ◌+◌, Bool, true, false, ◌&&◌, ◌==◌, not, List, [], ◌∷◌, ◌++◌, Option, Some, None, is_some, is_none, refl, sym, ap, subst, ◌∙◌, nat_lt}
 use Rattle.std.specs.List.{list_any}
 use Rattle.std.specs.Map.{values_of}
 use Rattle.xfs_base.specs.declared.block.BlockId.{BlockId}
@@ -10,6 +10,7 @@ use Rattle.xfs_base.specs.Modes.{allows, is_held}
 use Rattle.xfs_base.specs.Stamps.{is_later}
 use Rattle.xfs_base.specs.Steps.{still, saying, steps}
 use Rattle.xfs_base.proofs.Booleans.{by_test, and_first, and_second, not_true}
+use Rattle.xfs_base.specs.Limits.{u32_end}
 use Rattle.token_client.specs.declared.held.Held.{Held}
 use Rattle.token_client.specs.declared.held.Wanted.{Wanted}
 use Rattle.token_client.specs.declared.output.Out.{Out}
@@ -58,7 +59,7 @@ module _ (n : Need) where
   unfolding new_want
   ask-quiet s block mode =
       let h : Held = held_of s.blocks block in
-      by_test (λ (d : Done). Each IsQuiet d.outs) (nat_lt s.req (2 ^ 32 - 1))
+      by_test (λ (d : Done). Each IsQuiet d.outs) (nat_lt s.req u32_end)
       (record { state = record (with_held s block (asked h (s.req + 1) mode)) { req = s.req + 1 }; outs = Want block (s.req + 1) 0 mode ∷ [] })
       (still s) (λ t. (tt, tt)) (λ t. tt)
 
@@ -68,7 +69,7 @@ module _ (n : Need) where
   unfolding new_want
   ask-suits s p block mode fact above =
       let h : Held = held_of s.blocks block in
-      by_test (λ (d : Done). AllSuit n d.state) (nat_lt s.req (2 ^ 32 - 1))
+      by_test (λ (d : Done). AllSuit n d.state) (nat_lt s.req u32_end)
       (record { state = record (with_held s block (asked h (s.req + 1) mode)) { req = s.req + 1 }; outs = Want block (s.req + 1) 0 mode ∷ [] })
       (still s) (λ t. put-suits s p block (asked h (s.req + 1) mode) (asked-suits n block h (p block) (s.req + 1) mode fact above)) (λ t. p)
 
@@ -264,7 +265,7 @@ module _ (n : Need) where
   unfolding new_want
   ask-free s block b free =
       let g : Held = asked (held_of s.blocks block) (s.req + 1) Copy in
-      by_test (λ (d : Done). IsFree d.state b) (nat_lt s.req (2 ^ 32 - 1))
+      by_test (λ (d : Done). IsFree d.state b) (nat_lt s.req u32_end)
       (record { state = record (with_held s block g) { req = s.req + 1 }; outs = Want block (s.req + 1) 0 Copy ∷ [] }) (still s)
       (λ t. (free.0, put_same (λ (h : Held). is_held h.mode) b block g s.blocks refl ∙ free.1)) (λ t. free)
 

@@ -1,6 +1,6 @@
 -- What a client's tokens bear through each input: their incarnation, what is promised, what is known of each recall that is put off, and a fact of each
 -- block that stays while its version and its value do, and from clean to clean.
-use Rattle.std.proofs.Common.{◌≡◌, ℕ, ◌+◌, ◌-◌, ◌^◌, ◌==◌, Bool, true, false, not, List, [], ◌∷◌, Option, Some, None, is_some, is_none, nat_lt, refl, sym, subst, slice_set, ◌&&◌, arith}
+use Rattle.std.proofs.Common.{◌≡◌, ℕ, ◌+◌, ◌==◌, Bool, true, false, not, List, [], ◌∷◌, Option, Some, None, is_some, is_none, nat_lt, refl, sym, subst, slice_set, ◌&&◌, arith}
 use Rattle.std.proofs.lemmas.Bool.Decides.{nat_tests}
 use Rattle.std.specs.List.{list_any}
 use Rattle.std.specs.Map.{values_of}
@@ -14,6 +14,7 @@ use Rattle.xfs_base.specs.declared.token.Stamp.{Stamp}
 use Rattle.xfs_base.specs.Modes.{is_own, is_held}
 use Rattle.xfs_base.specs.Stamps.{is_later}
 use Rattle.xfs_base.specs.Steps.{still, steps, saying}
+use Rattle.xfs_base.specs.Limits.{u32_end}
 use Rattle.token_client.specs.declared.held.Fetch.{Fetch}
 use Rattle.token_client.specs.declared.held.Giving.{Giving}
 use Rattle.token_client.specs.declared.held.Held.{Held}
@@ -124,7 +125,7 @@ module _ (P : BlockId → Option Giving → Type 0) (E : List ℕ → Type 0) (Q
     unfolding new_want
     ask-bears s block mode h =
         let g : Held = asked (held_of s.blocks block) (s.req + 1) mode in
-        by_test (λ (d : Done). Bears d.state) (nat_lt s.req (2 ^ 32 - 1))
+        by_test (λ (d : Done). Bears d.state) (nat_lt s.req u32_end)
         (record { state = record (with_held s block g) { req = s.req + 1 }; outs = output.Want block (s.req + 1) 0 mode ∷ [] }) (still s)
         (λ t. asks (same_held s h block g (h.giving block) refl refl refl refl)) (λ t. h)
       where

@@ -1,5 +1,5 @@
 -- A client that serves gets a grant. One to own is used in its event: the open call, for which it was asked, runs on and writes, or lets it go.
-use Rattle.std.proofs.Common.{◌≡◌, ◌<◌, ◌+◌, ◌-◌, ◌^◌, ℕ, ◌==◌, ◌&&◌, not, Bool, true, false, cond, List, [], Option, Some, None, is_none, nat_lt, refl, sym, ap, subst, ◌∙◌, arith}
+use Rattle.std.proofs.Common.{◌≡◌, ◌<◌, ◌+◌, ℕ, ◌==◌, ◌&&◌, not, Bool, true, false, cond, List, [], Option, Some, None, is_none, nat_lt, refl, sym, ap, subst, ◌∙◌, arith}
 use Rattle.std.proofs.lemmas.Bool.Decides.{nat_tests}
 use Rattle.client_parts.specs.declared.call.Call.{Call}
 use Rattle.client_parts.specs.Fitting.{put_fits}
@@ -32,6 +32,7 @@ use Rattle.xfs_base.specs.declared.token.Mode.TheVariants.{Nothing, Copy, Own}
 use Rattle.xfs_base.specs.declared.token.Stamp.{Stamp}
 use Rattle.xfs_base.specs.Modes.{is_own, same_mode}
 use Rattle.xfs_base.specs.Steps.{still, saying, steps}
+use Rattle.xfs_base.specs.Limits.{u64_end}
 use Rattle.node_ties.specs.node_tie.Asks.{needed, needed_by, AsksForCall}
 use Rattle.node_ties.specs.node_tie.Sight.{SentOf}
 use Rattle.node_ties.proofs.node_tie.ClientBlocks as blocks
@@ -59,7 +60,7 @@ module _ (logs : Bool) (members part limit c life room highest : ℕ) (pos : 0 <
   -- ---- a grant to own is accepted
 
   module _ (n : Net) (s : Serving) (h : At n s) (asks : AsksForCall s) (block : BlockId) (stamp : Stamp) (inc req : ℕ) (entry : Entry)
-      (sent : SentOf part n.sent block (GrantSent c block stamp inc req Own entry)) (below : nat_lt entry.ver (2 ^ 64 - 1) ≡ true)
+      (sent : SentOf part n.sent block (GrantSent c block stamp inc req Own entry)) (below : nat_lt entry.ver u64_end ≡ true)
       (taken : client.accepts s.tokens block stamp inc req Own ≡ true) where
     abbrev granted : client.Done
     granted = client.on_granted s.tokens block stamp inc req Own entry
@@ -179,7 +180,7 @@ module _ (logs : Bool) (members part limit c life room highest : ℕ) (pos : 0 <
   granted_so n s h asks block stamp inc req Own entry sent low =
       by_accepts (client.accepts s.tokens block stamp inc req Own) refl
     where
-      is_below : (ver : ℕ) → not (has_long_room ver) ≡ false → nat_lt ver (2 ^ 64 - 1) ≡ true
+      is_below : (ver : ℕ) → not (has_long_room ver) ≡ false → nat_lt ver u64_end ≡ true
       is_below ver r = grind (arith, nat_tests)
 
       by_accepts : (t : Bool) → client.accepts s.tokens block stamp inc req Own ≡ t

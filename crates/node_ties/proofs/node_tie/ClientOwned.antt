@@ -1,6 +1,6 @@
 -- A client that serves gets a grant to own, which the open call asked for: before its call runs on, what the tokens make of it and of the write, or of
 -- letting it go, is seen in the small world, in the slot and elsewhere.
-use Rattle.std.proofs.Common.{◌≡◌, ◌<◌, ◌++◌, ◌-◌, ◌^◌, ℕ, ◌==◌, ◌&&◌, not, Bool, true, false, cond, List, [], ◌∷◌, Option, Some, None, is_none, nat_lt, refl, sym, ap, subst, ◌∙◌}
+use Rattle.std.proofs.Common.{◌≡◌, ◌<◌, ◌++◌, ℕ, ◌==◌, ◌&&◌, not, Bool, true, false, cond, List, [], ◌∷◌, Option, Some, None, is_none, nat_lt, refl, sym, ap, subst, ◌∙◌}
 use Rattle.client_log.specs.LogState.{LogState}
 use Rattle.client_log.specs.Transition as log
 use Rattle.client_parts.specs.declared.call.Call.{Call}
@@ -40,6 +40,7 @@ use Rattle.xfs_base.specs.declared.token.Stamp.{Stamp}
 use Rattle.xfs_base.specs.Modes.{is_held, same_mode}
 use Rattle.xfs_base.specs.Stamps.{is_later}
 use Rattle.xfs_base.specs.Steps.{still}
+use Rattle.xfs_base.specs.Limits.{u64_end}
 use Rattle.node_ties.specs.node_tie.Asks.{needed, needed_by, AsksForCall}
 use Rattle.node_ties.specs.node_tie.ClientLogs.{IsUnsettled}
 use Rattle.node_ties.specs.node_tie.LogRows.{rows_flown, rows_waiting}
@@ -148,7 +149,7 @@ module _ (logs : Bool) (members part limit c life room highest : ℕ) (pos : 0 <
   -- ---- a grant to own is accepted
 
   module _ (n : Net) (s : Serving) (h : At n s) (asks : AsksForCall s) (block : BlockId) (stamp : Stamp) (inc req : ℕ) (entry : Entry)
-      (sent : SentOf part n.sent block (GrantSent c block stamp inc req Own entry)) (below : nat_lt entry.ver (2 ^ 64 - 1) ≡ true)
+      (sent : SentOf part n.sent block (GrantSent c block stamp inc req Own entry)) (below : nat_lt entry.ver u64_end ≡ true)
       (taken : client.accepts s.tokens block stamp inc req Own ≡ true) where
     abbrev pub granted : client.Done
     granted = client.on_granted s.tokens block stamp inc req Own entry
@@ -201,7 +202,7 @@ module _ (logs : Bool) (members part limit c life room highest : ℕ) (pos : 0 <
         (λ b other. p b)) (all_known logs members part limit c life room highest s.log s.tokens h.bears.held)
 
     pub may : may_write (held_of granted.state.blocks block) ≡ true
-    may = ap may_write known ∙ ap (λ t. t && nat_lt entry.ver (2 ^ 64 - 1)) (ungiven s asks block stamp inc req Own taken) ∙ below
+    may = ap may_write known ∙ ap (λ t. t && nat_lt entry.ver u64_end) (ungiven s asks block stamp inc req Own taken) ∙ below
 
     pub valueless : is_none (held_of granted.state.blocks block).value ≡ true
     valueless = ap (λ (g : Held). is_none g.value) known

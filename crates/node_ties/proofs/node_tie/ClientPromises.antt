@@ -1,5 +1,5 @@
 -- A client that serves promises a slot to a manager's epoch: what is dropped by it, and that what it reports is of that epoch.
-use Rattle.std.proofs.Common.{◌≡◌, ◌≤◌, ◌<◌, ℕ, ◌+◌, ◌-◌, ◌^◌, ◌==◌, ◌&&◌, Bool, true, List, [], ◌∷◌, Option, Some, None, is_some, nat_lt, nat_le, length, refl, sym, ap, ◌∙◌, arith, inl, inr, ◌++◌, subst}
+use Rattle.std.proofs.Common.{◌≡◌, ◌≤◌, ◌<◌, ℕ, ◌+◌, ◌-◌, ◌==◌, ◌&&◌, Bool, true, List, [], ◌∷◌, Option, Some, None, is_some, nat_lt, nat_le, length, refl, sym, ap, ◌∙◌, arith, inl, inr, ◌++◌, subst}
 use Rattle.std.specs.List.{AllByRecursion, filter}
 use Rattle.std.specs.List.Sorted.{IsStrictlySortedBy}
 use Rattle.std.specs.Map.{keys_of}
@@ -46,6 +46,7 @@ use Rattle.xfs_base.specs.declared.node.NodeId.TheVariants as node
 use Rattle.xfs_base.specs.declared.token.Mode.{Mode}
 use Rattle.xfs_base.specs.declared.token.Mode.TheVariants.{Copy}
 use Rattle.xfs_base.specs.Steps.{Stepped, still, steps}
+use Rattle.xfs_base.specs.Limits.{u32_end}
 use Rattle.node_ties.specs.node_tie.Asks.{needed, AsksForCall}
 use Rattle.node_ties.specs.node_tie.ClientEvents.{NewsWithin}
 use Rattle.node_ties.specs.node_tie.Sight.{ClientDoes, PollSeen}
@@ -107,10 +108,10 @@ promise_made : (s : Serving) (slot epoch : ℕ) → AsksForCall s → has_room s
 promise_made s slot epoch asks room may =
     let few : length (client.fetched_in slot s.tokens.blocks) ≤ 1 = one_fetched s.tokens.blocks slot (fetched_alone s asks) s.tokens.blocks asks.sound.sorted
     (agrees-itself s.tokens.blocks asks.sound.sorted) in
-    ap (λ t. t && nat_le (length (client.fetched_in slot s.tokens.blocks)) (2 ^ 32 - 1 - s.tokens.req)) may ∙ fits_in s.tokens.req
+    ap (λ t. t && nat_le (length (client.fetched_in slot s.tokens.blocks)) (u32_end - s.tokens.req)) may ∙ fits_in s.tokens.req
     (length (client.fetched_in slot s.tokens.blocks)) room few
   where
-    fits_in : (req k : ℕ) → has_room req ≡ true → k ≤ 1 → nat_le k (2 ^ 32 - 1 - req) ≡ true
+    fits_in : (req k : ℕ) → has_room req ≡ true → k ≤ 1 → nat_le k (u32_end - req) ≡ true
     fits_in req k r f = grind (arith, nat_tests)
 
 -- and is kept
@@ -146,7 +147,7 @@ wants_on (x ∷ xs) ys h k = (h.0, wants_on xs ys h.1 k)
 asks-wants : (t : TokensState) (block : BlockId) → AllByRecursion IsWant (client.ask_copy t block).outs
 unfolding client.new_want
 asks-wants t block =
-    by_test (λ (d : client.Done). AllByRecursion IsWant d.outs) (nat_lt t.req (2 ^ 32 - 1)) _ (still t) (λ x. (tt, tt)) (λ x. tt)
+    by_test (λ (d : client.Done). AllByRecursion IsWant d.outs) (nat_lt t.req u32_end) _ (still t) (λ x. (tt, tt)) (λ x. tt)
 
 all_ask-wants : (t : TokensState) (blocks : List BlockId) → AllByRecursion IsWant (steps client.ask_copy t blocks).outs
 all_ask-wants t [] = tt

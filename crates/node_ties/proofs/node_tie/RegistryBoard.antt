@@ -14,11 +14,12 @@ use Rattle.registry.specs.declared.output.Out.TheVariants.{Changed, Epoch, Kept}
 use Rattle.registry.specs.Slots.{entry_of, can_rise}
 use Rattle.xfs_base.proofs.Booleans.{by_test, and_first, and_second}
 use Rattle.xfs_base.specs.declared.segment.SegRef.{SegRef}
+use Rattle.xfs_base.specs.Limits.{u32_end}
 use Rattle.node_ties.specs.node_tie.RegistryEvents.{epoch_in, manager_in, inc_in, BoardSound, SlotGoes, BoardGoes}
 use Rattle.node_ties.proofs.node_tie.RegistrySlots.{set_other, set_same, next_epoch, raised_entry, raised_at, raised_long, all_can_rise, inc_put, inc_here}
 
 -- an epoch goes up by one at most
-raised_little : (manager : ℕ) (e : SlotEntry) → e.epoch < 4294967295 → (raised_entry manager e).epoch ≤ e.epoch + 1
+raised_little : (manager : ℕ) (e : SlotEntry) → e.epoch < u32_end → (raised_entry manager e).epoch ≤ e.epoch + 1
 unfolding raised_entry
 raised_little manager e below = at (e.manager == manager)
   where
@@ -30,7 +31,7 @@ raised_little manager e below = at (e.manager == manager)
 abbrev IsRaised : ℕ → SlotEntry → SlotEntry → Type 0
 IsRaised manager e next = ((e.manager ≢ manager) × (next ≡ e)) ⊎ (next.epoch ≡ e.epoch + 1)
 
-raised_so : (manager : ℕ) (e : SlotEntry) → e.epoch < 4294967295 → IsRaised manager e (raised_entry manager e)
+raised_so : (manager : ℕ) (e : SlotEntry) → e.epoch < u32_end → IsRaised manager e (raised_entry manager e)
 unfolding raised_entry
 raised_so manager e below = at (e.manager == manager) refl
   where
@@ -64,12 +65,12 @@ module _ (part : ℕ) (Told : ℕ → ℕ → Type 0) (s : BoardState) (sound : 
   within = omega arith
 
   -- no epoch is the last where the version isn't
-  low_epochs : s.version < 4294967295 → (slot : ℕ) → slot < 8 → (entry_at s.entries slot).epoch < 4294967295
+  low_epochs : s.version < u32_end → (slot : ℕ) → slot < 8 → (entry_at s.entries slot).epoch < u32_end
   low_epochs low slot below = omega (arith, sound.epochs slot below)
 
   -- ---- a manager that has restarted
 
-  module _ (low : s.version < 4294967295) (m inc : ℕ) (told : Told m inc) (newer : inc_of s.incs m < inc) where
+  module _ (low : s.version < u32_end) (m inc : ℕ) (told : Told m inc) (newer : inc_of s.incs m < inc) where
     abbrev restarted : BoardState
     restarted = manager_restarted s m inc
 
@@ -128,26 +129,26 @@ module _ (part : ℕ) (Told : ℕ → ℕ → Type 0) (s : BoardState) (sound : 
     }
 
   hears_newer : (m inc : ℕ) → hears_manager s m inc ≡ true → inc_of s.incs m < inc
-  hears_newer m inc hears = less (and_first (nat_lt (inc_of s.incs m) inc) (can_rise m s.entries) (and_second (nat_lt s.version 4294967295) _ hears))
+  hears_newer m inc hears = less (and_first (nat_lt (inc_of s.incs m) inc) (can_rise m s.entries) (and_second (nat_lt s.version u32_end) _ hears))
     where
       less : nat_lt (inc_of s.incs m) inc ≡ true → inc_of s.incs m < inc
       less newer = grind (arith, nat_tests)
 
-  pub goes_manager : s.version < 4294967295 → (m inc : ℕ) → Told m inc → BoardGoes part Told s (manager_hello s m inc).state
+  pub goes_manager : s.version < u32_end → (m inc : ℕ) → Told m inc → BoardGoes part Told s (manager_hello s m inc).state
   unfolding manager_hello
   goes_manager low m inc told =
       by_test Leads (hears_manager s m inc) (record { state = manager_restarted s m inc; outs = Changed ∷ [] }) (record { state = s; outs = [] })
       (λ hears. goes_restarted low m inc told (hears_newer m inc hears)) (λ t. goes_still)
 
   -- the incarnation that is kept then is no lower than the one that was told of
-  pub manager_heard : s.version < 4294967295 → (m inc : ℕ) → inc ≤ inc_in (manager_hello s m inc).state m
+  pub manager_heard : s.version < u32_end → (m inc : ℕ) → inc ≤ inc_in (manager_hello s m inc).state m
   unfolding manager_hello
   manager_heard low m inc =
       by_test (λ (made : Made). inc ≤ inc_in made.state m) (hears_manager s m inc) (record { state = manager_restarted s m inc; outs = Changed ∷ [] })
       (record { state = s; outs = [] })
       (λ hears. omega (arith, inc_here s.incs m inc)) (λ deaf. not_newer (nat_lt (inc_of s.incs m) inc) refl deaf)
     where
-      room : nat_lt s.version 4294967295 ≡ true
+      room : nat_lt s.version u32_end ≡ true
       room = grind (arith, nat_tests)
 
       rise : can_rise m s.entries ≡ true
@@ -176,7 +177,7 @@ module _ (part : ℕ) (Told : ℕ → ℕ → Type 0) (s : BoardState) (sound : 
 
   -- ---- a slot that is given to a manager
 
-  module _ (low : s.version < 4294967295) (at m : ℕ) (there : at < 8) where
+  module _ (low : s.version < u32_end) (at m : ℕ) (there : at < 8) where
     moved_here : entry_at (after_move s.entries at m) at ≡ next_entry (entry_at s.entries at) m
     moved_here = set_same s.entries at (next_entry (entry_at s.entries at) m) (omega (arith, sound.slots))
 
@@ -218,7 +219,7 @@ module _ (part : ℕ) (Told : ℕ → ℕ → Type 0) (s : BoardState) (sound : 
       version = omega arith;
     }
 
-  pub goes_reassigned : s.version < 4294967295 → (slot m : ℕ) → BoardGoes part Told s (reassign s slot m).state
+  pub goes_reassigned : s.version < u32_end → (slot m : ℕ) → BoardGoes part Told s (reassign s slot m).state
   unfolding reassign
   goes_reassigned low slot m =
       by_test Leads (can_move s slot)
@@ -233,7 +234,7 @@ module _ (part : ℕ) (Told : ℕ → ℕ → Type 0) (s : BoardState) (sound : 
   goes_kept : (slot epoch : ℕ) (parts : List SegRef) (horizon : List ℕ) → BoardGoes part Told s (keep s slot epoch parts horizon).state
   unfolding keep
   goes_kept slot epoch parts horizon =
-      by_test Leads (s.version == 4294967295) (record { state = s; outs = [] })
+      by_test Leads (s.version == u32_end) (record { state = s; outs = [] })
       (record { state = checkpointed s slot parts horizon; outs = Kept epoch ∷ [] })
       (λ t. goes_still) (λ t. goes_with (checkpointed s slot parts horizon) refl refl (omega arith))
 

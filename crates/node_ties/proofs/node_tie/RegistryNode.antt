@@ -31,6 +31,7 @@ use Rattle.xfs_base.specs.declared.node.NodeId.{NodeId}
 use Rattle.xfs_base.specs.declared.node.NodeId.TheVariants.{Client, Manager, Server, Cleaner, Registry}
 use Rattle.xfs_base.specs.declared.setup.Setup.{Setup}
 use Rattle.xfs_base.specs.Steps.{still}
+use Rattle.xfs_base.specs.Limits.{u32_end}
 use Rattle.node_ties.specs.node_tie.RegistryEvents.{manager_in, inc_in, RegistrySound, HearsHello, RegistrySends, RegistryDoes, BoardGoes, RegistryGoes, RegistryBegins}
 use Rattle.node_ties.proofs.node_tie.RegistryBoard.{goes_still, goes_manager, manager_heard, goes_server, goes_reassigned, goes_done}
 use Rattle.node_ties.proofs.node_tie.RegistryNews.{news_are}
@@ -49,7 +50,7 @@ record Goes (part : ℕ) (r : RegistryNode) (what : Do) (d : Done) : Type 0 wher
 stays : (part : ℕ) (r : RegistryNode) (sound : RegistrySound r) (what : Do) → Goes part r what (still r)
 stays part r sound what = record { board = goes_still part (ToldIn what) r.board sound; peers = refl; does = tt }
 
-module _ (part : ℕ) (below : part < 8) (r : RegistryNode) (sound : RegistrySound r) (low : r.board.version < 4294967295) (what : Do) where
+module _ (part : ℕ) (below : part < 8) (r : RegistryNode) (sound : RegistrySound r) (low : r.board.version < u32_end) (what : Do) where
   abbrev GoesTo : Done → Type 0
   GoesTo d = Goes part r what d
 
@@ -169,7 +170,7 @@ module _ (part : ℕ) (below : part < 8) (r : RegistryNode) (sound : RegistrySou
   ticks = record { board = goes_still part (ToldIn what) r.board sound; peers = refl; does = all_told r }
 
 module _ (part : ℕ) (below : part < 8) (r : RegistryNode) (sound : RegistrySound r) where
-  happens : (low : r.board.version < 4294967295) (what : Do) → Goes part r what (on_event r what)
+  happens : (low : r.board.version < u32_end) (what : Do) → Goes part r what (on_event r what)
   happens low Begin = begins part below r sound low Begin
   happens low (Deliver packet) = delivered part below r sound low (Deliver packet) packet refl
   happens low Tick = ticks part below r sound low Tick

@@ -16,6 +16,7 @@ use Rattle.registry.specs.Board.{inc_of}
 use Rattle.registry.specs.Slots.{all_slots, entry_of, raise_one, raised, can_rise_one, can_rise}
 use Rattle.xfs_base.proofs.BlockOrder.{lookup-insert_entry}
 use Rattle.xfs_base.proofs.Booleans.{by_test, or_second}
+use Rattle.xfs_base.specs.Limits.{u32_end}
 
 -- ---- one entry
 
@@ -32,7 +33,7 @@ set_same (x ∷ xs) zero e within = refl
 set_same (x ∷ xs) (suc at) e within = set_same xs at e (omega arith)
 
 -- the next entry, where the epoch isn't the last
-pub next_epoch : (e : SlotEntry) (manager : ℕ) → e.epoch < 4294967295 → (next_entry e manager).epoch ≡ e.epoch + 1
+pub next_epoch : (e : SlotEntry) (manager : ℕ) → e.epoch < u32_end → (next_entry e manager).epoch ≡ e.epoch + 1
 next_epoch e manager below = grind (arith, nat_tests)
 
 -- ---- a manager's slots are given to it again
@@ -113,14 +114,14 @@ pub raised_long : (manager : ℕ) (es : List SlotEntry) → length (raised manag
 raised_long manager es = fold_long manager es all_slots
 
 -- where no epoch is the last, all slots can be given again
-pub all_can_rise : (manager : ℕ) (es : List SlotEntry) → ((slot : ℕ) → slot < 8 → (entry_at es slot).epoch < 4294967295) → can_rise manager es ≡ true
+pub all_can_rise : (manager : ℕ) (es : List SlotEntry) → ((slot : ℕ) → slot < 8 → (entry_at es slot).epoch < u32_end) → can_rise manager es ≡ true
 all_can_rise manager es below = all_so all_slots
   where
     one_so : (slot : ℕ) → can_rise_one manager es slot ≡ true
     one_so slot =
         let low : slot % 8 < 8 = omega arith in
-        let less : (entry_at es (slot % 8)).epoch < 4294967295 = below (slot % 8) low in
-        or_second (not ((entry_of es slot).manager == manager)) (nat_lt (entry_of es slot).epoch 4294967295) (grind (arith, nat_tests))
+        let less : (entry_at es (slot % 8)).epoch < u32_end = below (slot % 8) low in
+        or_second (not ((entry_of es slot).manager == manager)) (nat_lt (entry_of es slot).epoch u32_end) (grind (arith, nat_tests))
 
     both : (a b : Bool) → a ≡ true → b ≡ true → (a && b) ≡ true
     both true b fact so = so

@@ -99,7 +99,7 @@ module _ (servers : ℕ) (groups : List GroupSetup) where
   done_so b slot epoch parts horizon fact =
       by_test (λ (d : board.Made). KeepsGroups d.state) (nat_lt 7 slot) _ _ (λ t. fact)
       (λ t. by_test (λ (d : board.Made). KeepsGroups d.state) (is_kept b slot epoch horizon) (board.keep b slot epoch parts horizon) _
-      (λ u. by_test (λ (d : board.Made). KeepsGroups d.state) (b.version == 4294967295) _ _ (λ v. fact) (λ v. fact)) (λ u. fact))
+      (λ u. by_test (λ (d : board.Made). KeepsGroups d.state) (b.version == u32_end) _ _ (λ v. fact) (λ v. fact)) (λ u. fact))
 
   abbrev KeepsIn : registry.Done → Type 0
   KeepsIn d = KeepsGroups d.state.board

@@ -46,6 +46,7 @@ use Rattle.xfs_base.proofs.Booleans.{by_test}
 use Rattle.xfs_base.specs.declared.node.NodeId.{NodeId}
 use Rattle.xfs_base.specs.declared.node.NodeId.TheVariants.{Client, Manager, Server, Cleaner, Registry}
 use Rattle.xfs_base.specs.declared.setup.Setup.{Setup}
+use Rattle.xfs_base.specs.Limits.{u32_end}
 
 -- the law of the map of groups
 abbrev pub GroupsStay : Type 0
@@ -129,7 +130,7 @@ module _ (law : GroupsStay) where
   by_input b (Done slot epoch parts horizon) =
       by_test (λ (d : board.Made). KeptBy b d.state) (nat_lt 7 slot) _ _ (λ t. same_map b.groups)
       (λ t. by_test (λ (d : board.Made). KeptBy b d.state) (is_kept b slot epoch horizon) (board.keep b slot epoch parts horizon) _
-      (λ u. by_test (λ (d : board.Made). KeptBy b d.state) (b.version == 4294967295) _ _ (λ v. same_map b.groups) (λ v. same_map b.groups))
+      (λ u. by_test (λ (d : board.Made). KeptBy b d.state) (b.version == u32_end) _ _ (λ v. same_map b.groups) (λ v. same_map b.groups))
       (λ u. same_map b.groups))
 
   abbrev KeptIn : RegistryNode → registry.Done → Type 0

@@ -18,6 +18,7 @@ use Rattle.run_laws.specs.world_logs.Roles.{Role}
 use Rattle.run_laws.specs.world_logs.Settings.{setting_of, stripe_by}
 use Rattle.run_laws.specs.world_logs.Shelves.{group_at, group_in, groups_of}
 use Rattle.xfs_base.proofs.Booleans.{by_test}
+use Rattle.xfs_base.specs.Limits.{u32_end}
 
 module _ (base : Setting) (end : World AnyNode) (servers : ℕ) where
   pub names_at_end : (o : Option Group) (stripe : Stripe) → Names o stripe → stripe_by o ≡ stripe
@@ -53,7 +54,7 @@ map_fits m ok log seq =
     let few = ok.few in
     subst (λ (g : Group). g.id < 2 ^ 32) (sym c.picked) (small c.group.id (length m.groups) below few)
   where
-    small : (id count : ℕ) → id < 1 + count → count ≤ 4294967295 → id < 2 ^ 32
+    small : (id count : ℕ) → id < 1 + count → count ≤ u32_end → id < 2 ^ 32
     small id count below few = omega arith
 
 -- so are those that the registry has at the end of the run
