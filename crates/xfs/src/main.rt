@@ -5,7 +5,7 @@
 use std::env;
 use std::io::ErrorKind;
 use std::process::ExitCode;
-use xfs_top::{OpenGate, StdSink, StdSource, xfs};
+use xfs_top::{OpenGate, StdSink, StdSource, ended, xfs};
 
 /// Makes the real source and sink, calls `xfs` with the words after the program's name, and ends with its
 /// status, or with 7 where memory is wanting for the words. Words that are not UTF-8 are handed in as no
@@ -30,5 +30,5 @@ fn main(rt: HostRuntime) -> ExitCode {
     let mut source = StdSource::new(rt.stdin());
     let mut sink = StdSink::new(rt.stdout());
     let outcome = xfs(&rt, alloc, &words, &mut source, &mut sink, &OpenGate);
-    ExitCode::from(outcome.status)
+    ExitCode::from(ended(outcome))
 }

@@ -1,4 +1,4 @@
-//! The two calls of the program.
+//! The two calls of the program, and how the process ends.
 ghost use Rattle.std.specs.Prelude.{◌≡◌, false, IfSome, map, string_bytes};
 ghost use Rattle.core_world.specs.AnyNode.{any_step, any_start};
 ghost use Rattle.top_call.specs.Claim.{writing, reading, Claim};
@@ -67,4 +67,11 @@ pub fn xfs<R: Threads + Wait + Sync, S: Source, K: Sink, G: Gate>(
     ensures headline { IfSome result.estate Headline }
 {
     solo(alloc, words, source, sink)
+}
+
+/// The status with which the process ends. The run is let go of.
+pub fn ended(outcome: Outcome<AnyNode>) -> u8
+    ensures { result ≡ outcome.status }
+{
+    outcome.status
 }

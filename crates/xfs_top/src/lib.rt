@@ -5,7 +5,7 @@
 pub mod calls;
 pub mod host;
 
-pub use calls::{solo, xfs};
+pub use calls::{ended, solo, xfs};
 pub use core_world::AnyNode;
 pub use host::{StdSink, StdSource};
 pub use top_call::{MemSink, MemSource, Outcome, Sink, Source};
