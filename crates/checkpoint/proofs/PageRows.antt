@@ -10,6 +10,7 @@ use Rattle.xfs_base.specs.declared.entry.Entry.{Entry}
 use Rattle.xfs_base.specs.Blocks.{block_cmp, same_block}
 use Rattle.xfs_base.proofs.BlockOrder.{same_block_exact}
 use Rattle.xfs_base.proofs.Booleans.{or_first, or_second}
+use Rattle.xfs_base.specs.Limits.{u32_end}
 use Rattle.delta_index.specs.Entries.{no_entry, first_greatest}
 use Rattle.delta_index.specs.Index.{entry_of}
 use Rattle.delta_index.specs.Join.{join}
@@ -44,30 +45,30 @@ direct q = record { ino = q.ino; blk = 0 }
 abbrev indirect : BlockId → BlockId
 indirect q = record { ino = q.ino; blk = 16 + (q.blk - 16) / 64 * 64 }
 
-on_direct : (q : BlockId) → is_direct q.blk ≡ true → list_any (same_block q) (blocks_run (direct q) 16 ++ record { ino = q.ino; blk = 4294967295 } ∷ []) ≡ true
+on_direct : (q : BlockId) → is_direct q.blk ≡ true → list_any (same_block q) (blocks_run (direct q) 16 ++ record { ino = q.ino; blk = u32_end } ∷ []) ≡ true
 on_direct q fact =
-    list_any-append (same_block q) (blocks_run (direct q) 16) (record { ino = q.ino; blk = 4294967295 } ∷ [])
+    list_any-append (same_block q) (blocks_run (direct q) 16) (record { ino = q.ino; blk = u32_end } ∷ [])
     ∙ elim (nat_lt q.blk 16) as
     (λ t. nat_lt q.blk 16 ≡ t
-    → (list_any (same_block q) (blocks_run (direct q) 16) || (same_block q (record { ino = q.ino; blk = 4294967295 }) || false)) ≡ true) [
+    → (list_any (same_block q) (blocks_run (direct q) 16) || (same_block q (record { ino = q.ino; blk = u32_end }) || false)) ≡ true) [
       | true ↦ λ low. let less : q.blk < 16 = grind (arith, nat_tests) in let at : q.blk ≡ 0 + q.blk =
           omega arith in or_first _ _ (in_run q (direct q) 16 q.blk refl at less)
-      | false ↦ λ high. let last : same_block q (record { ino = q.ino; blk = 4294967295 }) ≡ true =
+      | false ↦ λ high. let last : same_block q (record { ino = q.ino; blk = u32_end }) ≡ true =
           grind (arith, nat_tests) in or_second _ _ (or_first _ false last)
     ] refl
 
 on_indirect : (q : BlockId) → q.blk < 2 ^ 32 → is_direct q.blk ≡ false → list_any (same_block q) (blocks_on (indirect q)) ≡ true
 on_indirect q fits fact =
     let high : 16 ≤ q.blk = grind (arith, nat_tests) in
-    let low : q.blk < 4294967295 = grind (arith, nat_tests) in
+    let low : q.blk < u32_end = grind (arith, nat_tests) in
     let start : (16 + (q.blk - 16) / 64 * 64 == 0) ≡ false = grind (arith, nat_tests) in
     let k : ℕ = q.blk - (16 + (q.blk - 16) / 64 * 64) in
     let blk : q.blk ≡ 16 + (q.blk - 16) / 64 * 64 + k = omega arith in
-    let less : k < min 64 (4294967295 - (16 + (q.blk - 16) / 64 * 64)) = omega arith in
+    let less : k < min 64 (u32_end - (16 + (q.blk - 16) / 64 * 64)) = omega arith in
     ap (λ t. list_any (same_block q)
-    (cond t (blocks_run (indirect q) 16 ++ record { ino = q.ino; blk = 4294967295 } ∷ []) (blocks_run (indirect q) (min 64 (4294967295 - (indirect q).blk)))))
+    (cond t (blocks_run (indirect q) 16 ++ record { ino = q.ino; blk = u32_end } ∷ []) (blocks_run (indirect q) (min 64 (u32_end - (indirect q).blk)))))
     start
-    ∙ in_run q (indirect q) (min 64 (4294967295 - (indirect q).blk)) k refl blk less
+    ∙ in_run q (indirect q) (min 64 (u32_end - (indirect q).blk)) k refl blk less
 
 in_page : (q : BlockId) → q.blk < 2 ^ 32 → list_any (same_block q) (blocks_on (first_block q)) ≡ true
 in_page q fits =

@@ -1,11 +1,12 @@
 -- What the types of a program's numbers say of what is put: a segment can hold it.
-use Rattle.std.proofs.Common.{◌≡◌, ◌≤◌, ◌<◌, ℕ, suc, ◌+◌, ◌-◌, ◌^◌, Bool, true, false, ◌&&◌, List, [], ◌∷◌, length, get_or, Option, Some, is_none, nat_lt, nat_le, refl, arith}
+use Rattle.std.proofs.Common.{◌≡◌, ◌≤◌, ◌<◌, ℕ, suc, ◌+◌, ◌^◌, Bool, true, false, ◌&&◌, List, [], ◌∷◌, length, get_or, Option, Some, is_none, nat_lt, nat_le, refl, arith}
 use Rattle.std.specs.List.{list_all}
 use Rattle.std.proofs.lemmas.Bool.Decides.{nat_tests}
 use Rattle.segment_format.specs.Format.{second_version, is_length}
 use Rattle.xfs_base.specs.declared.block.BlockId.{BlockId}
 use Rattle.xfs_base.specs.Modes.{is_own}
 use Rattle.xfs_base.specs.Value.{IsValue}
+use Rattle.xfs_base.specs.Limits.{u64_end}
 use Rattle.token_client.specs.declared.held.Held.{Held}
 use Rattle.token_client.specs.Held.{may_write}
 use Rattle.client_parts.specs.Fitting.{block_fits, is_byte, value_fits, put_fits}
@@ -30,7 +31,7 @@ value_fits_so bytes h all =
     (both (nat_le 1 (length bytes)) (nat_le (length bytes) 8192) (up_to 1 (length bytes) h.0) (up_to (length bytes) 8192 h.1)) all
 
 -- a version that may be followed by another
-next_fits : (may : Bool) (ver : ℕ) → (may && nat_lt ver (2 ^ 64 - 1)) ≡ true → nat_lt (ver + 1) (2 ^ 64) ≡ true
+next_fits : (may : Bool) (ver : ℕ) → (may && nat_lt ver u64_end) ≡ true → nat_lt (ver + 1) (2 ^ 64) ≡ true
 next_fits true ver h = grind (arith, nat_tests)
 next_fits false ver h = absurd (cc)
 

@@ -22,7 +22,7 @@ use Rattle.xfs_base.specs.declared.entry.Place.{Place}
 -- the block is still being fetched
 abbrev pub is_fetched : TokensState → Option BlockAt → Bool
 is_fetched tokens None = false
-is_fetched tokens (Some at) = is_some (held_of tokens.blocks at.block).fetch
+is_fetched tokens (Some wanted) = is_some (held_of tokens.blocks wanted.block).fetch
 
 abbrev pub kept_while : TokensState → Option ReadingState → Option ReadingState
 kept_while tokens None = None

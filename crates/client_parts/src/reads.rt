@@ -81,11 +81,11 @@ fn kept_while(tokens: &Tokens, reading: Option<Reading>) -> Option<Reading>
     }
 }
 
-fn is_fetched(tokens: &Tokens, at: Option<BlockAt>) -> bool
-    ensures { result ≡ is_fetched tokens.now at }
+fn is_fetched(tokens: &Tokens, wanted: Option<BlockAt>) -> bool
+    ensures { result ≡ is_fetched tokens.now wanted }
 {
-    match at {
-        Some(at) => tokens.fetching(at.block).is_some(),
+    match wanted {
+        Some(wanted) => tokens.fetching(wanted.block).is_some(),
         None => false,
     }
 }

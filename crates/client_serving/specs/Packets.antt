@@ -102,15 +102,15 @@ on_ack s a = if is_acked s a then record s { feed = acknowledged s.feed a.slot a
 -- ---- fragments
 
 abbrev pub ends_fetch : Serving → BlockAt → Next → Done
-ends_fetch s at next.Again = hands s (tokens.Reask at.block)
-ends_fetch s at (next.Read segment) = hands s (tokens.Fetched at.block (value_at segment at.item))
-ends_fetch s at next.Wait = still s
-ends_fetch s at next.Ask = still s
-ends_fetch s at next.Lost = still s
+ends_fetch s wanted next.Again = hands s (tokens.Reask wanted.block)
+ends_fetch s wanted (next.Read segment) = hands s (tokens.Fetched wanted.block (value_at segment wanted.item))
+ends_fetch s wanted next.Wait = still s
+ends_fetch s wanted next.Ask = still s
+ends_fetch s wanted next.Lost = still s
 
 abbrev pub told_at : Serving → Option BlockAt → Heard → Done
 told_at s None h = still s
-told_at s (Some at) h = ends_fetch (with_reading s h.reading) at h.next
+told_at s (Some wanted) h = ends_fetch (with_reading s h.reading) wanted h.next
 
 unfoldable pub told_by : Serving → ℕ → ℕ → Told → Done
 told_by s server ask t = told_at s (block_read (reading_in s.call)) (heard (reading_in s.call) s.maps.groups ask server t)

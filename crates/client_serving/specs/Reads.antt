@@ -47,7 +47,7 @@ loses s block seg =
 
 abbrev pub loses_at : Serving → Option BlockAt → SegName → Done
 loses_at s None seg = still s
-loses_at s (Some at) seg = loses s at.block seg
+loses_at s (Some wanted) seg = loses s wanted.block seg
 
 -- ---- rounds
 

@@ -130,20 +130,20 @@ impl Serving {
         &mut self,
         alloc: Global,
         effects: &mut Effects,
-        at: Option<BlockAt>,
+        wanted: Option<BlockAt>,
         seg: SegName,
     ) -> Mem<()>
-        ensures state { OnOk result (self.new ≡ (loses_at self.old at seg).state) }
-        ensures effects { OnOk result (effects.new ≡ effects.old ++ (loses_at self.old at seg).outs) }
+        ensures state { OnOk result (self.new ≡ (loses_at self.old wanted seg).state) }
+        ensures effects { OnOk result (effects.new ≡ effects.old ++ (loses_at self.old wanted seg).outs) }
     {
-        match at {
-            Some(at) => lose(
+        match wanted {
+            Some(wanted) => lose(
                 alloc,
                 effects,
                 &mut self.lasting,
                 &mut self.call,
                 &mut self.tokens,
-                at.block,
+                wanted.block,
                 seg,
             ),
             None => Ok(()),
@@ -212,12 +212,12 @@ impl Serving {
         ensures state { OnOk result (self.new ≡ (told_by self.old server ask told).state) }
         ensures effects { OnOk result (effects.new ≡ effects.old ++ (told_by self.old server ask told).outs) }
     {
-        let Some(at) = block_read(&self.call) else {
+        let Some(wanted) = block_read(&self.call) else {
             drop(told);
             return Ok(());
         };
         let next = hear(alloc, &mut self.call, &self.maps.groups, ask, server, told)?;
-        self.end_fetch(alloc, effects, at, next)
+        self.end_fetch(alloc, effects, wanted, next)
     }
 
     // The segment is read, and with it the block; or its place is to be confirmed.
@@ -225,19 +225,25 @@ impl Serving {
         &mut self,
         alloc: Global,
         effects: &mut Effects,
-        at: BlockAt,
+        wanted: BlockAt,
         next: Next,
     ) -> Mem<()>
-        ensures state { OnOk result (self.new ≡ (ends_fetch self.old at next).state) }
-        ensures effects { OnOk result (effects.new ≡ effects.old ++ (ends_fetch self.old at next).outs) }
+        ensures state { OnOk result (self.new ≡ (ends_fetch self.old wanted next).state) }
+        ensures effects { OnOk result (effects.new ≡ effects.old ++ (ends_fetch self.old wanted next).outs) }
     {
         match next {
-            Next::Again => self.hand(alloc, effects, In::Reask { block: at.block }),
+            Next::Again => self.hand(
+                alloc,
+                effects,
+                In::Reask {
+                    block: wanted.block,
+                },
+            ),
             Next::Read(segment) => {
-                let value = value_at(alloc, &segment, at.item);
+                let value = value_at(alloc, &segment, wanted.item);
                 drop(segment);
                 let input = In::Fetched {
-                    block: at.block,
+                    block: wanted.block,
                     value: value?,
                 };
                 self.hand(alloc, effects, input)

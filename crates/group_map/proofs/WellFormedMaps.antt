@@ -7,6 +7,7 @@ use Rattle.group_map.specs.declared.group.Group.{Group}
 use Rattle.group_map.specs.GroupMapState.{GroupMapState}
 use Rattle.group_map.specs.Groups.{started, lost, numbered, first_layout, followers, generations_after, retired, is_hit}
 use Rattle.xfs_base.specs.declared.setup.GroupSetup.{GroupSetup}
+use Rattle.xfs_base.specs.Limits.{u32_end}
 use Rattle.group_map.specs.Losses.{Loss, MayLoseAll, after_losses}
 use Rattle.group_map.specs.Sizes.{IsParity, bad_size}
 use Rattle.group_map.specs.WellFormed.{IsServer, IsNumbered, IsGroupMap}
@@ -19,13 +20,13 @@ any_current-started : (gs : List GroupSetup) → 1 ≤ length gs → any_current
 any_current-started [] l = absurd (omega arith)
 any_current-started (g ∷ gs) l = refl
 
-pub IsGroupMap-started : (servers : ℕ) (gs : List GroupSetup) → 1 ≤ length gs → length gs ≤ 4294967295 → bad_size gs ≡ None
+pub IsGroupMap-started : (servers : ℕ) (gs : List GroupSetup) → 1 ≤ length gs → length gs ≤ u32_end → bad_size gs ≡ None
     → All (λ g. All (IsServer servers) g.servers) gs → All (λ g. IsDistinct nat_eq g.servers) gs → All (λ g. IsParity g.parity) gs
     → IsGroupMap (started servers gs)
 IsGroupMap-started servers gs one few e exist differ parity = record {
   each_server = length-replicate servers 1;
   by_id = IsNumbered-numbered 1 (map first_layout gs);
-  few = subst (λ n. n ≤ 4294967295) (sym (length-numbered 1 (map first_layout gs) ∙ length-map gs first_layout)) few;
+  few = subst (λ n. n ≤ u32_end) (sym (length-numbered 1 (map first_layout gs) ∙ length-map gs first_layout)) few;
   stripes = stripes-started servers gs e exist differ parity;
   present = present-started servers gs exist;
   current = any_current-started gs one;
@@ -44,13 +45,13 @@ by_id-lost gs server generations h =
     (IsNumbered-numbered (length gs + 1) (followers generations server gs)))
 
 pub IsGroupMap-lost : (state : GroupMapState) (server generation : ℕ) → IsServer state.servers server
-    → length state.groups + length (filter (is_hit server) state.groups) ≤ 4294967295 → IsGroupMap state → IsGroupMap (lost state server generation)
+    → length state.groups + length (filter (is_hit server) state.groups) ≤ u32_end → IsGroupMap state → IsGroupMap (lost state server generation)
 IsGroupMap-lost state server generation exists room h =
     let now : List ℕ = generations_after state.generations server generation in
     record {
       each_server = length-set state.generations (server - 1) generation ∙ h.each_server;
       by_id = by_id-lost state.groups server now h.by_id;
-      few = subst (λ n. n ≤ 4294967295) (sym (length-lost state.groups server (length state.groups + 1) now)) room;
+      few = subst (λ n. n ≤ u32_end) (sym (length-lost state.groups server (length state.groups + 1) now)) room;
       stripes = stripes-lost state.servers server (length state.groups + 1) now state.groups h.stripes;
       present = present-lost state.servers server generation (length state.groups + 1) state.generations state.groups exists h.stripes h.present;
       current = any_current-lost server (length state.groups + 1) now state.groups h.current;

@@ -7,6 +7,7 @@ use Rattle.std.proofs.lemmas.List.FromFn.{length-map-range_with_len}
 use Rattle.xfs_base.specs.declared.block.BlockId.{BlockId}
 use Rattle.xfs_base.specs.declared.entry.Entry.{Entry}
 use Rattle.xfs_base.specs.Blocks.{block_cmp}
+use Rattle.xfs_base.specs.Limits.{u32_end}
 use Rattle.index_pages.specs.declared.layout.Page.{Page}
 use Rattle.index_pages.specs.Layout.{blocks_run, blocks_on}
 use Rattle.index_pages.specs.Pages.{row_of, held, rows_on}
@@ -22,10 +23,10 @@ run_length b count = length-map-range_with_len (λ (k : ℕ). record { ino = b.i
 
 few_blocks : (b : BlockId) → length (blocks_on b) ≤ 64
 few_blocks b =
-    let last : BlockId = record { ino = b.ino; blk = 4294967295 } in
+    let last : BlockId = record { ino = b.ino; blk = u32_end } in
     let low : length (blocks_run b 16 ++ last ∷ []) ≤ 64 = omega (arith, length_push (blocks_run b 16) last, run_length b 16) in
-    let run : length (blocks_run b (min 64 (4294967295 - b.blk))) ≤ 64 = omega (arith, run_length b (min 64 (4294967295 - b.blk))) in
-    elim (b.blk == 0) as (λ t. length (cond t (blocks_run b 16 ++ last ∷ []) (blocks_run b (min 64 (4294967295 - b.blk)))) ≤ 64) [ true ↦ low | false ↦ run ]
+    let run : length (blocks_run b (min 64 (u32_end - b.blk))) ≤ 64 = omega (arith, run_length b (min 64 (u32_end - b.blk))) in
+    elim (b.blk == 0) as (λ t. length (cond t (blocks_run b 16 ++ last ∷ []) (blocks_run b (min 64 (u32_end - b.blk)))) ≤ 64) [ true ↦ low | false ↦ run ]
 
 pub few_rows : (rows : List (BlockId × Entry)) (page : Page) → length (rows_on rows page) ≤ 64
 few_rows rows page =

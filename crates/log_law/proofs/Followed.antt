@@ -152,7 +152,7 @@ module _ (k : Below) (g : Setting) (none : g.doubts ≡ false) (a : Net) (serves
       -- where it lacked its fragment among the steps
       module _ (l : Lacked h.w u i) where
         abbrev z : State
-        z = l.at
+        z = l.moment
 
         reached_z : Reached z
         reached_z = k.protocol.goes_on h.w z h.reached l.before

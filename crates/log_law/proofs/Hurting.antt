@@ -61,12 +61,12 @@ idle w reached = all w reached.run
 
 -- at some moment between, the member lacked its fragment of the head that there is at the end
 pub record Lacked (w u : State) (i : ℕ) : Type 0 where
-  pub at : State
-  pub before : Steps w at
-  pub later : Steps at u
-  pub head : at.head ≡ u.head
-  pub line : at.line at.head ≡ u.line u.head
-  pub lacks : LacksHead at i
+  pub moment : State
+  pub before : Steps w moment
+  pub later : Steps moment u
+  pub head : moment.head ≡ u.head
+  pub line : moment.line moment.head ≡ u.line u.head
+  pub lacks : LacksHead moment i
 
 pub earned_through : (k : Below) (w u : State) → Reached w → Steps w u → u.clean ≡ 1 → (i : ℕ) → InSpan u → 0 < u.head → u.span_low ≤ u.head → 0 < u.hurt i
     → HurtBefore w u i ⊎ Lacked w u i
@@ -83,7 +83,7 @@ earned_through k w u reached (More {v = v} run step) clean i span some low hurt 
     clean_v = (k.protocol.past v u reached_v (More Done step)).clean clean
 
     now : LacksHead u i → HurtBefore w u i ⊎ Lacked w u i
-    now l = inr (record { at = u; before = More run step; later = Done; head = refl; line = refl; lacks = l })
+    now l = inr (record { moment = u; before = More run step; later = Done; head = refl; line = refl; lacks = l })
 
     before : HurtBefore w v i ⊎ Lacked w v i → HurtBefore v u i → HurtBefore w u i ⊎ Lacked w u i
     before earlier b = ⊎_elim still lacked earlier
@@ -93,7 +93,7 @@ earned_through k w u reached (More {v = v} run step) clean i span some low hurt 
 
         lacked : Lacked w v i → HurtBefore w u i ⊎ Lacked w u i
         lacked a = inr
-            (record { at = a.at; before = a.before; later = More a.later step; head = a.head ∙ sym b.head; line = a.line ∙ sym b.line; lacks = a.lacks })
+            (record { moment = a.moment; before = a.before; later = More a.later step; head = a.head ∙ sym b.head; line = a.line ∙ sym b.line; lacks = a.lacks })
 
 -- ---- one of the members isn't hurt, or all are
 

@@ -23,11 +23,11 @@ flagged f g (suc n) up = let a = flagged f g n (λ i h k. up i (omega arith) k) 
 -- a server that missed the name in both rounds lacked it between
 missed_between : (s m u : State) (v g x : ℕ) → Invariant s → Missed s m v g x → Missed m u v g x → (u.dropped x ≡ 1 → ⊥) → m.holds v x ≡ 1 → ⊥
 missed_between s m u v g x i one two kept =
-    let a = run_grows s one.at one.began i in
-    let b = run_grows one.at m one.ended a.0 in
-    let c = run_grows m two.at two.began b.0 in
-    let d = run_grows two.at u two.ended c.0 in
-    (interval one.at m two.at one.ended two.began a.0 v x (two.in_generation ∙ sym one.in_generation) two.lacks
+    let a = run_grows s one.moment one.began i in
+    let b = run_grows one.moment m one.ended a.0 in
+    let c = run_grows m two.moment two.began b.0 in
+    let d = run_grows two.moment u two.ended c.0 in
+    (interval one.moment m two.moment one.ended two.began a.0 v x (two.in_generation ∙ sym one.in_generation) two.lacks
     (λ z. kept (d.1.dropped x (c.0.shelf.secured.marked_dropped v x z)))).1
 
 abbrev lack : State → ℕ → ℕ → ℕ

@@ -6,11 +6,11 @@ use Rattle.log_protocol.specs.Counting.{count}
 
 -- between two moments a server answered Missing of a name, in this generation
 pub record Missed (before after : State) (v generation x : ℕ) : Type 0 where
-  pub at : State
-  pub began : Steps before at
-  pub ended : Steps at after
-  pub in_generation : at.generation v ≡ generation
-  pub lacks : at.holds v x ≡ 0
+  pub moment : State
+  pub began : Steps before moment
+  pub ended : Steps moment after
+  pub in_generation : moment.generation v ≡ generation
+  pub lacks : moment.holds v x ≡ 0
 
 -- Two rounds over a segment: the first began after `since` and ended at m, the second began after m and ended at u; more members than `spare`
 -- answered Missing in both, each in one generation.

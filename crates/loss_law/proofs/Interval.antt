@@ -50,17 +50,17 @@ module _ (g : Setting) where
 
   -- at a moment up to this one the server lacked the segment, in this generation
   pub record Before (name : SegName) (n : Net) (v generation : ℕ) : Type 0 where
-    pub at : Net
-    pub base : Base g at
-    pub later : Runs g at n
-    pub lacks : LacksIn name v generation at
+    pub moment : Net
+    pub base : Base g moment
+    pub later : Runs g moment n
+    pub lacks : LacksIn name v generation moment
 
   -- so it did at a moment from that one on and up to this one
   pub record Between (name : SegName) (m n : Net) (v generation : ℕ) : Type 0 where
-    pub at : Net
-    pub first : Runs g m at
-    pub later : Runs g at n
-    pub lacks : LacksIn name v generation at
+    pub moment : Net
+    pub first : Runs g m moment
+    pub later : Runs g moment n
+    pub lacks : LacksIn name v generation moment
 
   none_left : (o : Option Fragment) → (is_some o ≡ true → ⊥) → is_none o ≡ true
   none_left None never = refl
@@ -74,19 +74,19 @@ module _ (g : Setting) where
       → (In name n.dropped → ⊥) → is_none (held_at (m.shelves v).held name) ≡ true
   lacks_between name m n v generation own base one two kept = none_left (held_at (m.shelves v).held name) unheld
     where
-      to : Passed g one.at m
-      to = passed one.at m one.base one.later
+      to : Passed g one.moment m
+      to = passed one.moment m one.base one.later
 
-      on : Passed g m two.at
-      on = passed m two.at base two.first
+      on : Passed g m two.moment
+      on = passed m two.moment base two.first
 
-      end : Passed g two.at n
-      end = passed two.at n on.base two.later
+      end : Passed g two.moment n
+      end = passed two.moment n on.base two.later
 
       unheld : is_held (m.shelves v) name ≡ true → ⊥
       unheld held = by (on.holds v name own held)
         where
-          by : HeldOn m two.at v name → ⊥
-          by (inl fact) = not_held (held_at (two.at.shelves v).held name) two.lacks.nothing fact
+          by : HeldOn m two.moment v name → ⊥
+          by (inl fact) = not_held (held_at (two.moment.shelves v).held name) two.lacks.nothing fact
           by (inr (inl less)) = let a = to.up v in let b = one.lacks.in_generation in let c = two.lacks.in_generation in omega arith
           by (inr (inr fact)) = kept (end.stays name fact)

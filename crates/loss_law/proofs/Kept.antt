@@ -97,7 +97,7 @@ once_now keeps P (On run e) fact now = (fact, inl now)
 module _ (g : Setting) (Was Now : SegRef → Type 0) (start n o : Net) (run : Runs g start n) (e : Happens g n o) (grows : Grows g n o) (boot : o.inc ≡ n.inc)
     (up : (seg : SegRef) → Was seg → Now seg) where
   pub between_on : (name : SegName) (m : Net) (v generation : ℕ) → Between g name m n v generation → Between g name m o v generation
-  between_on name m v generation b = record { at = b.at; first = b.first; later = On b.later e; lacks = b.lacks }
+  between_on name m v generation b = record { moment = b.moment; first = b.first; later = On b.later e; lacks = b.lacks }
 
   pub middle_on : (seg : SegRef) (kept : List (ℕ × ℕ)) → Middle g Was run seg kept → Middle g Now (On run e) seg kept
   middle_on seg kept m = record { net = m.net; base = m.base; later = On m.later e; pairs = m.pairs; known = λ some t. up seg (m.known some t) }
@@ -117,7 +117,7 @@ module _ (g : Setting) (Was Now : SegRef → Type 0) (start n o : Net) (run : Ru
         where
           by : LacksIn r.target.seg.name v generation o ⊎ Once (has_drawn r.ask) (LacksIn r.target.seg.name v generation) run
               → Between g r.target.seg.name a.middle.net o v generation
-          by (inl now) = record { at = o; first = On a.middle.later e; later = Begun; lacks = now }
+          by (inl now) = record { moment = o; first = On a.middle.later e; later = Begun; lacks = now }
           by (inr old) = between_on r.target.seg.name a.middle.net v generation (a.drawn v generation old)
 
   doubts_on : (ask : ℕ) (seg : SegRef) → Doubts g Was run ask seg → Doubts g Now (On run e) ask seg

@@ -118,7 +118,7 @@ module _ (g : Setting) (Was Now : SegRef → Type 0) (start n o : Net) (run : Ru
   first_asked : (r : ReadingState) → Middle g Now (On run e) r.target.seg r.kept → s.opening.ask < r.ask → r.round.answers ≡ [] → Asks_on g Now (On run e) r
   first_asked r m less none = record {
     middle = m;
-    drawn = λ v generation once. record { at = o; first = m.later; later = Begun; lacks = drawn_now r.ask (LacksIn r.target.seg.name v generation) less once };
+    drawn = λ v generation once. record { moment = o; first = m.later; later = Begun; lacks = drawn_now r.ask (LacksIn r.target.seg.name v generation) less once };
     told = subst (AllSo (Between g r.target.seg.name m.net o)) (sym none) tt;
   }
 
@@ -247,7 +247,7 @@ module _ (g : Setting) (Was Now : SegRef → Type 0) (start n o : Net) (run : Ru
 
       -- it was so before the end of the round
       before_now : (p : ℕ × ℕ) → Between g seg.name a.middle.net n p.0 p.1 → Before g seg.name n p.0 p.1
-      before_now p x = record { at = x.at; base = (passed g a.middle.net x.at a.middle.base x.first).base; later = x.later; lacks = x.lacks }
+      before_now p x = record { moment = x.moment; base = (passed g a.middle.net x.moment a.middle.base x.first).base; later = x.later; lacks = x.lacks }
 
       module _ (pairs : List (ℕ × ℕ)) (each : Each (λ p. Between g seg.name a.middle.net n p.0 p.1) pairs) (apart : Apart pairs)
           (among : Each (Among now.servers) pairs) where

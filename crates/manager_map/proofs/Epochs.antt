@@ -1,6 +1,6 @@
 -- What one move does to the entry of any slot, and what any list of moves does.
 use Prim.Native.Nat.compare
-use Rattle.std.proofs.Common.{◌≡◌, ℕ, ◌+◌, ◌-◌, ◌^◌, ◌<◌, ◌≤◌, Bool, true, false, cond, List, [], ◌∷◌, length, map, min, zero, suc, refl, ap, ◌∙◌, arith, nat_lt, slice_set}
+use Rattle.std.proofs.Common.{◌≡◌, ℕ, ◌+◌, ◌<◌, ◌≤◌, Bool, true, false, cond, List, [], ◌∷◌, length, map, min, zero, suc, refl, ap, ◌∙◌, arith, nat_lt, slice_set}
 use Rattle.std.specs.Prelude.{◌==◌}
 use Rattle.std.specs.List.{range_with_len}
 use Rattle.std.proofs.lemmas.Bool.Decides.{nat_tests}
@@ -9,6 +9,7 @@ use Rattle.std.proofs.Math.ListN.{length-set}
 use Rattle.manager_map.specs.declared.entry.SlotEntry.{SlotEntry}
 use Rattle.manager_map.specs.Slots.{first_entry, start_entries, entry_at, next_entry, after_move}
 use Rattle.manager_map.specs.Moves.{Move, after_moves, moves_of}
+use Rattle.xfs_base.specs.Limits.{u32_end}
 
 -- the second entry may follow the first: its epoch is not below, and under the same epoch it is the same
 pub record Follows (before now : SlotEntry) : Type 0 where
@@ -26,7 +27,7 @@ follows_both a b c ab bc = record {
 
 next_entry_follows : (entry : SlotEntry) (manager : ℕ) → Follows entry (next_entry entry manager)
 next_entry_follows entry manager =
-    elim (nat_lt entry.epoch (2 ^ 32 - 1)) as (λ (below : Bool). Follows entry (cond below (record { epoch = entry.epoch + 1; manager = manager }) entry)) [
+    elim (nat_lt entry.epoch u32_end) as (λ (below : Bool). Follows entry (cond below (record { epoch = entry.epoch + 1; manager = manager }) entry)) [
       | true ↦ record { never_below = omega arith; same_manager = λ same. absurd (omega arith) }
       | false ↦ follows_itself entry
     ]
@@ -51,7 +52,7 @@ moves_follow slots (move ∷ moves) slot =
 -- ---- the epoch counts the moves
 
 -- one more where the move is of the slot, but at the last epoch
-next_entry_epoch : (entry : SlotEntry) (manager : ℕ) → entry.epoch ≤ 2 ^ 32 - 1 → (next_entry entry manager).epoch ≡ min (entry.epoch + 1) (2 ^ 32 - 1)
+next_entry_epoch : (entry : SlotEntry) (manager : ℕ) → entry.epoch ≤ u32_end → (next_entry entry manager).epoch ≡ min (entry.epoch + 1) u32_end
 next_entry_epoch entry manager small = grind (arith, nat_tests)
 
 set_epoch : (slots : List SlotEntry) (at slot : ℕ) (entry : SlotEntry) → slot < length slots
@@ -64,15 +65,15 @@ set_epoch (x ∷ xs) (suc at) (suc slot) entry within =
     rw (compare.suc-suc at slot) (set_epoch xs at slot entry (omega arith))
 
 -- what one move makes of the epoch of any slot
-move_epoch : (slots : List SlotEntry) (move : Move) (slot : ℕ) → slot < length slots → (entry_at slots slot).epoch ≤ 2 ^ 32 - 1
-    → (entry_at (after_move slots move.slot move.manager) slot).epoch ≡ min ((entry_at slots slot).epoch + cond (move.slot == slot) 1 0) (2 ^ 32 - 1)
+move_epoch : (slots : List SlotEntry) (move : Move) (slot : ℕ) → slot < length slots → (entry_at slots slot).epoch ≤ u32_end
+    → (entry_at (after_move slots move.slot move.manager) slot).epoch ≡ min ((entry_at slots slot).epoch + cond (move.slot == slot) 1 0) u32_end
 move_epoch slots move slot within small =
     set_epoch slots move.slot slot (next_entry (entry_at slots move.slot) move.manager) within
     ∙ at_slot (move.slot == slot) refl
   where
     at_slot : (same : Bool) → (move.slot == slot) ≡ same
         → cond same (next_entry (entry_at slots move.slot) move.manager).epoch (entry_at slots slot).epoch ≡ min ((entry_at slots slot).epoch + cond same 1 0)
-        (2 ^ 32 - 1)
+        u32_end
     at_slot true fact =
         let one : move.slot ≡ slot = grind (arith, nat_tests) in
         ap (λ at. (next_entry (entry_at slots at) move.manager).epoch) one ∙ next_entry_epoch (entry_at slots slot) move.manager small
@@ -82,8 +83,8 @@ sums : (epoch next one rest all last : ℕ) → next ≡ min (epoch + one) last 
 sums epoch next one rest all last first count = omega arith
 
 -- each move of the slot adds one, up to the last epoch
-pub moves_epoch : (slots : List SlotEntry) (moves : List Move) (slot : ℕ) → slot < length slots → (entry_at slots slot).epoch ≤ 2 ^ 32 - 1
-    → (entry_at (after_moves slots moves) slot).epoch ≡ min ((entry_at slots slot).epoch + moves_of slot moves) (2 ^ 32 - 1)
+pub moves_epoch : (slots : List SlotEntry) (moves : List Move) (slot : ℕ) → slot < length slots → (entry_at slots slot).epoch ≤ u32_end
+    → (entry_at (after_moves slots moves) slot).epoch ≡ min ((entry_at slots slot).epoch + moves_of slot moves) u32_end
 moves_epoch slots [] slot within small = omega arith
 moves_epoch slots (move ∷ moves) slot within small =
     let next = after_move slots move.slot move.manager in
@@ -93,7 +94,7 @@ moves_epoch slots (move ∷ moves) slot within small =
     let count : moves_of slot (move ∷ moves) ≡ cond (move.slot == slot) 1 0 + moves_of slot moves =
     sum_by-cons (λ (m : Move). cond (m.slot == slot) 1 0) move moves in
     more ∙ sums (entry_at slots slot).epoch (entry_at next slot).epoch (cond (move.slot == slot) 1 0) (moves_of slot moves) (moves_of slot (move ∷ moves))
-    (2 ^ 32 - 1) one count
+    u32_end one count
 
 -- every slot starts under epoch 1
 pub start_epoch : (managers : ℕ) (slot : ℕ) → slot < 8 → (entry_at (start_entries managers) slot).epoch ≡ 1

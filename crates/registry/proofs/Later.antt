@@ -14,6 +14,7 @@ use Rattle.xfs_base.specs.declared.segment.SegRef.{SegRef}
 use Rattle.xfs_base.proofs.BlockOrder.{lookup-insert_entry}
 use Rattle.xfs_base.proofs.Booleans.{by_test, and_first, and_second, contrary}
 use Rattle.xfs_base.proofs.StepLoops.{steps_keep}
+use Rattle.xfs_base.specs.Limits.{u32_end}
 use Rattle.group_map.specs.GroupMapState.{GroupMapState}
 use Rattle.group_map.specs.Groups.{generation_at}
 use Rattle.manager_map.specs.declared.entry.SlotEntry.{SlotEntry}
@@ -169,7 +170,7 @@ later_both a b c ab bc = record {
 later_restarted : (s : BoardState) (manager inc : ℕ) → hears_manager s manager inc ≡ true → IsLater s (manager_restarted s manager inc)
 later_restarted s manager inc hears =
     let newer : nat_lt (inc_of s.incs manager) inc ≡ true =
-    and_first (nat_lt (inc_of s.incs manager) inc) (can_rise manager s.entries) (and_second (nat_lt s.version 4294967295) _ hears) in
+    and_first (nat_lt (inc_of s.incs manager) inc) (can_rise manager s.entries) (and_second (nat_lt s.version u32_end) _ hears) in
     record {
       version = omega arith;
       one_state = λ same. absurd (omega arith);
@@ -188,7 +189,7 @@ later_lost s server generation hears = record {
   incarnations = λ manager. omega arith;
   generations =
       λ q. generation_rises s.groups.generations (server - 1) (q - 1) generation
-      (newer_generation s.groups server generation (and_second (nat_lt s.version 4294967295) (may_lose s.groups server generation) hears));
+      (newer_generation s.groups server generation (and_second (nat_lt s.version u32_end) (may_lose s.groups server generation) hears));
 }
 
 later_moved : (s : BoardState) (slot manager : ℕ) → IsLater s (moved s slot manager)
@@ -241,7 +242,7 @@ module _ (s : BoardState) where
       → Leads (keep s slot epoch parts horizon)
   unfolding keep
   later_keep slot epoch parts horizon covers =
-      by_test Leads (s.version == 4294967295) (record { state = s; outs = [] }) (record { state = checkpointed s slot parts horizon; outs = _ })
+      by_test Leads (s.version == u32_end) (record { state = s; outs = [] }) (record { state = checkpointed s slot parts horizon; outs = _ })
       (λ _. later_itself s) (λ _. later_checkpointed s slot parts horizon covers)
 
   later_done : (slot epoch : ℕ) (parts : List SegRef) (horizon : List ℕ) → Leads (done s slot epoch parts horizon)

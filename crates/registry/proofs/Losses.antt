@@ -4,6 +4,7 @@ use Rattle.std.specs.Prelude.{◌==◌, nat_lt, filter, slice_get}
 use Rattle.std.specs.Option.{is_some}
 use Rattle.std.proofs.lemmas.Bool.Decides.{nat_tests}
 use Rattle.xfs_base.proofs.Booleans.{and_first, and_second, contrary, not_true}
+use Rattle.xfs_base.specs.Limits.{u32_end}
 use Rattle.group_map.specs.GroupMapState.{GroupMapState}
 use Rattle.group_map.specs.Groups.{generation_at, group_of, is_hit, lost}
 use Rattle.group_map.specs.WellFormed.{IsServer, IsGroupMap}
@@ -27,11 +28,11 @@ twice : (a b n m : ℕ) → a ≤ n → b ≤ a → n + n ≤ m → a + b ≤ m
 twice a b n m few short room = omega arith
 
 room_for : (groups : GroupMapState) (server : ℕ) → IsGroupMap groups → has_room groups ≡ true
-    → length groups.groups + length (filter (is_hit server) groups.groups) ≤ 4294967295
+    → length groups.groups + length (filter (is_hit server) groups.groups) ≤ u32_end
 room_for groups server fact room =
     let none : is_some (slice_get groups.groups 2147483647) ≡ false =
     ap is_some (sym (find-numbered 1 groups.groups 2147483647 fact.by_id)) ∙ not_true (is_some (group_of groups 2147483648)) room in
-    twice (length groups.groups) (length (filter (is_hit server) groups.groups)) 2147483647 4294967295 (few_or_there groups.groups 2147483647 none)
+    twice (length groups.groups) (length (filter (is_hit server) groups.groups)) 2147483647 u32_end (few_or_there groups.groups 2147483647 none)
     (filter_short (is_hit server) groups.groups) (lit≤ tt)
 
 module _ (groups : GroupMapState) (server generation : ℕ) (may : may_lose groups server generation ≡ true) where
@@ -57,11 +58,11 @@ module _ (groups : GroupMapState) (server generation : ℕ) (may : may_lose grou
       and_first (nat_lt (generation_at groups.generations server) generation) (has_room groups) known in
       grind (arith, nat_tests)
 
-  pub loss_room : IsGroupMap groups → length groups.groups + length (filter (is_hit server) groups.groups) ≤ 4294967295
+  pub loss_room : IsGroupMap groups → length groups.groups + length (filter (is_hit server) groups.groups) ≤ u32_end
   loss_room fact = room_for groups server fact (and_second (nat_lt (generation_at groups.generations server) generation) (has_room groups) known)
 
   pub loss_kept : IsGroupMap groups → IsGroupMap (lost groups server generation)
   loss_kept fact = IsGroupMap-lost groups server generation loss_exists (loss_room fact) fact
 
 pub loss_heard : (s : BoardState) (server generation : ℕ) → hears_server s server generation ≡ true → may_lose s.groups server generation ≡ true
-loss_heard s server generation hears = and_second (nat_lt s.version 4294967295) (may_lose s.groups server generation) hears
+loss_heard s server generation hears = and_second (nat_lt s.version u32_end) (may_lose s.groups server generation) hears

@@ -7,6 +7,7 @@ use Rattle.std.proofs.Math.ListN.{length-set}
 use Rattle.xfs_base.specs.Blocks.{slot_of}
 use Rattle.xfs_base.specs.declared.node.NodeId.TheVariants.{Manager}
 use Rattle.xfs_base.proofs.Booleans.{and_first, and_second}
+use Rattle.xfs_base.specs.Limits.{u32_end}
 use Rattle.manager_map.specs.declared.entry.SlotEntry.{SlotEntry}
 use Rattle.manager_map.specs.Slots.{entry_at, after_move, next_entry}
 use Rattle.registry.specs.declared.input.In.TheVariants.{Hello}
@@ -115,10 +116,10 @@ module _ (manager : ℕ) where
           let below : from < slot = grind (arith, nat_tests) in
           rest (omega (arith, below))
 
-  has_next : (e : SlotEntry) → (not (e.manager == manager) || nat_lt e.epoch 4294967295) ≡ true → again e ≡ restarted_entry manager e
+  has_next : (e : SlotEntry) → (not (e.manager == manager) || nat_lt e.epoch u32_end) ≡ true → again e ≡ restarted_entry manager e
   has_next e may = at (e.manager == manager) may
     where
-      at : (t : Bool) → (not t || nat_lt e.epoch 4294967295) ≡ true
+      at : (t : Bool) → (not t || nat_lt e.epoch u32_end) ≡ true
           → cond t (next_entry e manager) e ≡ cond t (record { epoch = e.epoch + 1; manager = manager }) e
       at true low = ap (λ t. cond t (record { epoch = e.epoch + 1; manager = manager }) e) low
       at false low = refl
@@ -128,11 +129,11 @@ pub restarted : (s : BoardState) (manager inc slot : ℕ) → hears_manager s ma
 unfolding manager_hello
 restarted s manager inc slot hears small within =
     let rise : can_rise manager s.entries ≡ true =
-    and_second (nat_lt (inc_of s.incs manager) inc) (can_rise manager s.entries) (and_second (nat_lt s.version 4294967295) _ hears) in
+    and_second (nat_lt (inc_of s.incs manager) inc) (can_rise manager s.entries) (and_second (nat_lt s.version u32_end) _ hears) in
     let may : can_rise_one manager s.entries slot ≡ true = can manager s.entries 0 8 slot rise (omega arith) (omega arith) in
     let heard : Made = record { state = manager_restarted s manager inc; outs = Changed ∷ [] } in
     let unheard : Made = record { state = s; outs = [] } in
     ap (λ t. entry_at (cond t heard unheard).state.entries slot) hears
     ∙ raised-within manager s.entries 0 8 slot (omega arith) (omega arith) small within
     ∙ has_next manager (entry_at s.entries slot)
-    (ap (λ at. not ((entry_at s.entries at).manager == manager) || nat_lt (entry_at s.entries at).epoch 4294967295) (sym (small_slot slot small)) ∙ may)
+    (ap (λ at. not ((entry_at s.entries at).manager == manager) || nat_lt (entry_at s.entries at).epoch u32_end) (sym (small_slot slot small)) ∙ may)

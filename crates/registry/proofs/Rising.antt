@@ -5,6 +5,7 @@ use Rattle.xfs_base.specs.declared.node.NodeId.TheVariants.{Client, Manager, Ser
 use Rattle.xfs_base.specs.declared.segment.SegRef.{SegRef}
 use Rattle.xfs_base.proofs.Booleans.{by_test}
 use Rattle.xfs_base.proofs.Members.{contains_nothing, contains_first, contains_cases}
+use Rattle.xfs_base.specs.Limits.{u32_end}
 use Rattle.manager_map.specs.Slots.{after_move, entry_at}
 use Rattle.registry.specs.declared.input.In.{In}
 use Rattle.registry.specs.declared.input.In.TheVariants.{Hello, Reassign, Done}
@@ -59,7 +60,7 @@ module _ (s : BoardState) where
   rises-keep : (slot epoch : ℕ) (parts : List SegRef) (horizon : List ℕ) → Rises (keep s slot epoch parts horizon) ⊥
   unfolding keep
   rises-keep slot epoch parts horizon =
-      by_test (λ made. Rises made ⊥) (s.version == 4294967295) (record { state = s; outs = [] })
+      by_test (λ made. Rises made ⊥) (s.version == u32_end) (record { state = s; outs = [] })
       (record { state = checkpointed s slot parts horizon; outs = Kept epoch ∷ [] }) (λ _. nobody ⊥)
       (λ _. answered (checkpointed s slot parts horizon) epoch (inr refl))
 

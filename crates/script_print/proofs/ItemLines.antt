@@ -16,6 +16,7 @@ use Rattle.script_text.proofs.Parts.{parted_cut, not_empty_parts}
 use Rattle.script_print.specs.Printing.{by, asked, asked_line, form_line, work_line, after_text}
 use Rattle.script_print.proofs.Bytes.{lacks_test, lacks_join, decimal_lacks}
 use Rattle.script_print.proofs.LineReads.{AllFit, texts_last, node_first, line_reads, line_lacks, line_begins}
+use Rattle.xfs_base.specs.Limits.{u32_end}
 
 -- what holds of each form
 abbrev is_regular : Form → Bool
@@ -201,7 +202,7 @@ timed_reads c after work a n =
           (line_lacks c (parts a.form) (verb a.form) a.meanings g.no_feed a.fits);
     }
   where
-    below : (m : ℕ) → m < 2 ^ 32 → m ≤ 4294967295
+    below : (m : ℕ) → m < 2 ^ 32 → m ≤ u32_end
     below m h = omega (arith, h)
 
 -- the line of an item is read as that item

@@ -71,7 +71,7 @@ is_block block (Some (Part slot rows)) = false
 
 abbrev pub has_block : Option BlockAt → Segment → Bool
 has_block None s = true
-has_block (Some at) s = is_block at.block (slice_get s.items at.item)
+has_block (Some wanted) s = is_block wanted.block (slice_get s.items wanted.item)
 
 -- it has the name, its prior is in a group that is known, and the item, where one is looked for, is a Block of the block
 abbrev pub is_target : Target → GroupMapState → Segment → Bool

@@ -30,12 +30,12 @@ impl Target {
     pub fn is_met_by(&self, segment: &Segment, groups: &GroupMap) -> bool
         ensures { result ≡ is_target self.now groups.now segment.now }
     {
-        let Some(at) = self.block else {
+        let Some(wanted) = self.block else {
             return self.seg.name.is_same(segment.name) && is_known(segment.prior, groups);
         };
         self.seg.name.is_same(segment.name)
             && is_known(segment.prior, groups)
-            && is_block(segment, at)
+            && is_block(segment, wanted)
     }
 }
 
@@ -49,11 +49,11 @@ fn is_known(prior: Prior, groups: &GroupMap) -> bool
     groups.lookup(prior.group).is_ok()
 }
 
-fn is_block(segment: &Segment, at: BlockAt) -> bool
-    ensures { result ≡ is_block at.block (slice_get segment.now.items at.item) }
+fn is_block(segment: &Segment, wanted: BlockAt) -> bool
+    ensures { result ≡ is_block wanted.block (slice_get segment.now.items wanted.item) }
 {
-    match segment.items.get(usize::from(at.item)) {
-        Some(Item::Block { block, value: _ }) => *block == at.block,
+    match segment.items.get(usize::from(wanted.item)) {
+        Some(Item::Block { block, value: _ }) => *block == wanted.block,
         _ => false,
     }
 }

@@ -23,6 +23,7 @@ use Rattle.delta_index.specs.Index.{entry_of, merged}
 use Rattle.usage_table.specs.Counts.{IsTable, count_of, blocks_at, after_shift}
 use Rattle.xfs_base.proofs.Orders.{seg_cmp_total, seg_cmp_exact}
 use Rattle.xfs_base.proofs.Sorted.{sorted_insert}
+use Rattle.xfs_base.specs.Limits.{u32_end}
 use Rattle.usage_table.proofs.Table.{table_after_shift, count_of-after_shift}
 use Rattle.index_pages.specs.Pages.{PagesState, put_newer, cleaned}
 use Rattle.index_pages.proofs.PlainTable.{rows-put_newer}
@@ -129,7 +130,7 @@ grown i m counted seg =
 -- ---- room for all
 
 pub fits_first : (usage : List (SegName × ℕ)) (m : BlockId × Entry) (ms : List (BlockId × Entry)) → Fits usage (m ∷ ms)
-    → ForSome (segment_of m.1) (λ seg. count_of usage seg < 2 ^ 32 - 1)
+    → ForSome (segment_of m.1) (λ seg. count_of usage seg < u32_end)
 fits_first usage m ms fits = λ seg fact.
     let one : blocks_at (segment_of m.1) seg ≡ 1 = ap (λ end. blocks_at end seg) fact ∙ one_at seg in
     let room : count_of usage seg + (blocks_at (segment_of m.1) seg + live_in seg ms) < 2 ^ 32 = fits seg (omega arith) in
@@ -159,24 +160,24 @@ both false c h = absurd (cc)
 
 -- the count of each segment of the rows can rise by so many
 can_rise-at : (more : ℕ) (usage : List (SegName × ℕ)) (rows : List (BlockId × Entry)) (seg : SegName) → has_room more usage rows ≡ true → 0 < live_in seg rows
-    → more ≤ 2 ^ 32 - 1 - count_of usage seg
+    → more ≤ u32_end - count_of usage seg
 can_rise-at more usage [] seg room some = absurd (omega arith)
 can_rise-at more usage (r ∷ rs) seg room some =
     let halves = both (can_rise more usage (segment_of r.1)) (has_room more usage rs) room in
     at_row (blocks_at (segment_of r.1) seg) refl (can_rise-at more usage rs seg halves.1)
   where
-    at_row : (n : ℕ) → blocks_at (segment_of r.1) seg ≡ n → (0 < live_in seg rs → more ≤ 2 ^ 32 - 1 - count_of usage seg)
-        → more ≤ 2 ^ 32 - 1 - count_of usage seg
+    at_row : (n : ℕ) → blocks_at (segment_of r.1) seg ≡ n → (0 < live_in seg rs → more ≤ u32_end - count_of usage seg)
+        → more ≤ u32_end - count_of usage seg
     at_row zero none rest = rest (omega arith)
     at_row (suc n) one rest =
-        let can : nat_le more (2 ^ 32 - 1 - count_of usage seg) ≡ true =
+        let can : nat_le more (u32_end - count_of usage seg) ≡ true =
         sym (ap (can_rise more usage) (is_end (segment_of r.1) seg (omega arith)))
         ∙ (both (can_rise more usage (segment_of r.1)) (has_room more usage rs) room).0 in
         grind (arith, nat_tests)
 
 pub room_fits : (usage : List (SegName × ℕ)) (rows : List (BlockId × Entry)) → has_room (length rows) usage rows ≡ true → Fits usage rows
 room_fits usage rows room = λ seg some.
-    let can : length rows ≤ 2 ^ 32 - 1 - count_of usage seg = can_rise-at (length rows) usage rows seg room some in
+    let can : length rows ≤ u32_end - count_of usage seg = can_rise-at (length rows) usage rows seg room some in
     let limit : live_in seg rows ≤ length rows = live_in-limit seg rows in
     omega arith
 

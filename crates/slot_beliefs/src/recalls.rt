@@ -114,8 +114,12 @@ pub fn nine(list: &[u32]) -> [u32; 9]
 pub fn applied_of(applied: &[u32; 9], log: u8) -> u32
     ensures { result ≡ applied_of applied.now log }
 {
-    let at = usize::from(log).saturating_sub(1);
-    if at < applied.len() { applied[at] } else { 0 }
+    let index = usize::from(log).saturating_sub(1);
+    if index < applied.len() {
+        applied[index]
+    } else {
+        0
+    }
 }
 
 /// What is applied, with this much of one log.

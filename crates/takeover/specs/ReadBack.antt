@@ -12,7 +12,7 @@ use Rattle.takeover.specs.Sources.{goes_back, back_from}
 -- the prior of the one above it.
 abbrev pub IsReadBack : Source → List Segment → Option Source → Type 0
 IsReadBack source [] left = left ≡ Some source
-IsReadBack source (s ∷ above) left = (at : Source) × IsReadBack source above (Some at) × (s.name ≡ at.seg.name) × (left ≡ back_from at s)
+IsReadBack source (s ∷ above) left = (reached : Source) × IsReadBack source above (Some reached) × (s.name ≡ reached.seg.name) × (left ≡ back_from reached s)
 
 -- each of these sources was read whole, and these are its segments, the lowest first
 abbrev pub AreReadBack : List Source → List (List Segment) → Type 0

@@ -1,5 +1,5 @@
 -- Transitions of several steps lead to a state that follows: recalls, promises and ticks.
-use Rattle.std.proofs.Common.{◌≡◌, ◌≢◌, ℕ, ◌+◌, ◌-◌, ◌^◌, Bool, true, false, cond, ◌&&◌, ◌==◌, List, [], ◌∷◌, Some, is_some, is_none, refl, sym, ap, subst, ◌∙◌, arith, nat_lt}
+use Rattle.std.proofs.Common.{◌≡◌, ◌≢◌, ℕ, ◌+◌, Bool, true, false, cond, ◌&&◌, ◌==◌, List, [], ◌∷◌, Some, is_some, is_none, refl, sym, ap, subst, ◌∙◌, arith, nat_lt}
 use Rattle.std.proofs.Common.{inl, inr, slice_set, unwrap_or}
 use Rattle.std.specs.List.{filter, list_any, AllByRecursion}
 use Rattle.std.specs.List.Sorted.{IsStrictlySortedBy}
@@ -21,6 +21,7 @@ use Rattle.xfs_base.specs.Modes.{is_own}
 use Rattle.xfs_base.specs.Stamps.{is_later}
 use Rattle.xfs_base.proofs.Booleans.{by_test, and_first, and_second}
 use Rattle.xfs_base.proofs.Orders.{not_later_itself}
+use Rattle.xfs_base.specs.Limits.{u32_end}
 use Rattle.token_client.specs.declared.held.Held.{Held}
 use Rattle.token_client.specs.declared.output.Out.TheVariants.{Want}
 use Rattle.token_client.specs.Held.{unknown, is_asking, asked, unfetched, promise_dropped}
@@ -38,7 +39,7 @@ ask-same : (s : TokensState) (block : BlockId) (mode : Mode)
 unfolding new_want
 ask-same s block mode =
     let h : Held = held_of s.blocks block in
-    by_test (λ (d : Done). (d.state.epochs ≡ s.epochs) × ((held_of d.state.blocks block).stamp ≡ h.stamp)) (nat_lt s.req (2 ^ 32 - 1))
+    by_test (λ (d : Done). (d.state.epochs ≡ s.epochs) × ((held_of d.state.blocks block).stamp ≡ h.stamp)) (nat_lt s.req u32_end)
     (record { state = record (with_held s block (asked h (s.req + 1) mode)) { req = s.req + 1 }; outs = Want block (s.req + 1) 0 mode ∷ [] }) (still s)
     (λ t. (refl, ap (λ (g : Held). g.stamp) (held_of-put_itself block (asked h (s.req + 1) mode) s.blocks)))
     (λ t. (refl, refl))
@@ -210,7 +211,7 @@ ask-free : (s : TokensState) (block : BlockId) (mode : Mode) (b : BlockId) → I
 unfolding new_want
 ask-free s block mode b free =
     let g : Held = asked (held_of s.blocks block) (s.req + 1) mode in
-    by_test (λ (d : Done). IsFree d.state b) (nat_lt s.req (2 ^ 32 - 1))
+    by_test (λ (d : Done). IsFree d.state b) (nat_lt s.req u32_end)
     (record { state = record (with_held s block g) { req = s.req + 1 }; outs = Want block (s.req + 1) 0 mode ∷ [] }) (still s)
     (λ t. (put_same (λ (h : Held). is_own h.mode) b block g s.blocks refl ∙ free.0, put_same (λ (h : Held). is_none h.giving) b block g s.blocks refl ∙ free.1))
     (λ t. free)

@@ -1,5 +1,5 @@
 -- The readings of the transitions, proved.
-use Rattle.std.proofs.Common.{◌≡◌, ℕ, ◌+◌, ◌-◌, ◌^◌, Bool, true, false, cond, ◌&&◌, ◌==◌, List, [], ◌∷◌, Option, Some, None, is_some, is_none, refl, sym, ap, ◌∙◌, nat_lt}
+use Rattle.std.proofs.Common.{◌≡◌, ℕ, ◌+◌, Bool, true, false, cond, ◌&&◌, ◌==◌, List, [], ◌∷◌, Option, Some, None, is_some, is_none, refl, sym, ap, ◌∙◌, nat_lt}
 use Rattle.xfs_base.specs.declared.block.BlockId.{BlockId}
 use Rattle.xfs_base.specs.declared.entry.Entry.{Entry}
 use Rattle.xfs_base.specs.declared.token.Mode.{Mode}
@@ -9,6 +9,7 @@ use Rattle.xfs_base.specs.Steps.{still, saying, steps}
 use Rattle.xfs_base.proofs.StepLoops.{steps_keep}
 use Rattle.xfs_base.specs.Stamps.{is_later}
 use Rattle.xfs_base.proofs.Booleans.{contrary, by_test, and_second}
+use Rattle.xfs_base.specs.Limits.{u32_end}
 use Rattle.token_client.specs.declared.held.Held.{Held}
 use Rattle.token_client.specs.declared.held.Wanted.{Wanted}
 use Rattle.token_client.specs.declared.output.Out.TheVariants.{Want, Gave, Flush, Ready}
@@ -62,7 +63,7 @@ ask-core : (s : TokensState) (block : BlockId) (mode : Mode) → core_in (new_wa
 unfolding new_want
 ask-core s block mode =
     let g : Held = asked (held_of s.blocks block) (s.req + 1) mode in
-    by_test (λ (d : Done). core_in d.state block ≡ core_in s block) (nat_lt s.req (2 ^ 32 - 1))
+    by_test (λ (d : Done). core_in d.state block ≡ core_in s block) (nat_lt s.req u32_end)
     (record { state = record (with_held s block g) { req = s.req + 1 }; outs = Want block (s.req + 1) 0 mode ∷ [] }) (still s)
     (λ t. put_same core_of block block g s.blocks refl) (λ t. refl)
 
@@ -127,7 +128,7 @@ ask-dropped : (s : TokensState) (block b : BlockId) → IsDropped s b → IsDrop
 unfolding new_want
 ask-dropped s block b h =
     let g : Held = asked (held_of s.blocks block) (s.req + 1) Copy in
-    by_test (λ (d : Done). IsDropped d.state b) (nat_lt s.req (2 ^ 32 - 1))
+    by_test (λ (d : Done). IsDropped d.state b) (nat_lt s.req u32_end)
     (record { state = record (with_held s block g) { req = s.req + 1 }; outs = Want block (s.req + 1) 0 Copy ∷ [] }) (still s)
     (λ t. (put_same (λ (k : Held). is_none k.fetch) b block g s.blocks refl ∙ h.0, put_same (λ (k : Held). is_none k.giving) b block g s.blocks refl ∙ h.1))
     (λ t. h)

@@ -1,5 +1,5 @@
 -- Each transition leads to a state that follows: one lemma for each of them.
-use Rattle.std.proofs.Common.{◌≡◌, ◌⊎◌, ℕ, ◌+◌, ◌-◌, ◌^◌, Bool, true, false, ◌&&◌, ◌==◌, not, List, [], ◌∷◌, Option, Some, None, is_some, is_none, refl, sym, ap, ◌∙◌, arith, nat_lt, nat_le}
+use Rattle.std.proofs.Common.{◌≡◌, ◌⊎◌, ℕ, ◌+◌, Bool, true, false, ◌&&◌, ◌==◌, not, List, [], ◌∷◌, Option, Some, None, is_some, is_none, refl, sym, ap, ◌∙◌, arith, nat_lt, nat_le}
 use Rattle.std.proofs.Common.{inl, inr}
 use Rattle.xfs_base.specs.declared.block.BlockId.{BlockId}
 use Rattle.xfs_base.specs.declared.entry.Entry.{Entry}
@@ -13,6 +13,7 @@ use Rattle.xfs_base.specs.Modes.{is_held, allows, is_own}
 use Rattle.xfs_base.specs.Stamps.{is_later}
 use Rattle.xfs_base.proofs.Booleans.{contrary, by_test, and_first, and_second, not_true}
 use Rattle.xfs_base.proofs.Orders.{not_later_itself, not_later_back}
+use Rattle.xfs_base.specs.Limits.{u32_end, u64_end}
 use Rattle.token_client.specs.declared.held.Fetch.{Fetch}
 use Rattle.token_client.specs.declared.held.Held.{Held}
 use Rattle.token_client.specs.declared.held.Wanted.{Wanted}
@@ -86,7 +87,7 @@ module _ (opens : BlockId → Type 0) (s : TokensState) (p : IsSound s) where
   unfolding new_want
   ask-follows block mode unowned ungiven why =
       let h : Held = held_of s.blocks block in
-      by_test At (nat_lt s.req (2 ^ 32 - 1))
+      by_test At (nat_lt s.req u32_end)
       (record { state = record (with_held s block (asked h (s.req + 1) mode)) { req = s.req + 1 }; outs = Want block (s.req + 1) 0 mode ∷ [] }) (still s)
       (λ t. follows_put opens s block (asked h (s.req + 1) mode) (s.req + 1) p (omega arith)
       (record {
@@ -178,7 +179,7 @@ module _ (opens : BlockId → Type 0) (s : TokensState) (p : IsSound s) where
       let free : Bool = is_own h.mode && is_none h.giving in
       by_test At (may_write h) (still (with_held s block (written h value))) (still s)
       (λ t. same-follows block (written h value) refl (λ a. a)
-      (written-sound (epoch_at s block) h (p.each block) value (and_first (is_own h.mode) (is_none h.giving) (and_first free (nat_lt h.ver (2 ^ 64 - 1)) t))))
+      (written-sound (epoch_at s block) h (p.each block) value (and_first (is_own h.mode) (is_none h.giving) (and_first free (nat_lt h.ver u64_end) t))))
       (λ t. stays)
 
   pub on_settled-follows : (block : BlockId) (ver : ℕ) → At (on_settled s block ver)

@@ -1,6 +1,6 @@
 -- No input lowers the version of a dirty block. Asking, giving, promises and ticks leave every version; what
 -- a block takes for a want or a fetch it takes while it is clean.
-use Rattle.std.proofs.Common.{◌≡◌, ◌≤◌, ℕ, ◌+◌, ◌-◌, ◌^◌, Bool, true, ◌&&◌, ◌==◌, List, [], ◌∷◌, Option, Some, None, is_some, is_none, refl, sym, ap, ◌∙◌, arith, nat_lt}
+use Rattle.std.proofs.Common.{◌≡◌, ◌≤◌, ℕ, ◌+◌, Bool, true, ◌&&◌, ◌==◌, List, [], ◌∷◌, Option, Some, None, is_some, is_none, refl, sym, ap, ◌∙◌, arith, nat_lt}
 use Rattle.std.specs.List.{list_any}
 use Rattle.std.specs.Map.{values_of}
 use Rattle.xfs_base.specs.declared.block.BlockId.{BlockId}
@@ -12,6 +12,7 @@ use Rattle.xfs_base.specs.Stamps.{is_later}
 use Rattle.xfs_base.specs.Steps.{still, saying, steps}
 use Rattle.xfs_base.proofs.Booleans.{contrary, by_test, and_first, and_second}
 use Rattle.xfs_base.proofs.StepLoops.{steps_keep}
+use Rattle.xfs_base.specs.Limits.{u32_end}
 use Rattle.token_client.specs.declared.held.Held.{Held}
 use Rattle.token_client.specs.declared.held.Wanted.{Wanted}
 use Rattle.token_client.specs.declared.input.In.{In}
@@ -42,7 +43,7 @@ ask-keeps : (s : TokensState) (block : BlockId) (mode : Mode) → Keeps s (new_w
 unfolding new_want
 ask-keeps s block mode =
     let g : Held = asked (held_of s.blocks block) (s.req + 1) mode in
-    by_test (λ (d : Done). Keeps s d.state) (nat_lt s.req (2 ^ 32 - 1))
+    by_test (λ (d : Done). Keeps s d.state) (nat_lt s.req u32_end)
     (record { state = record (with_held s block g) { req = s.req + 1 }; outs = Want block (s.req + 1) 0 mode ∷ [] }) (still s) (λ _. keeps_put s block g refl)
     (λ _ b. refl)
 

@@ -187,7 +187,7 @@ on_deltas s log first upto rows = if is_followed log then deltas_of s log first 
 -- whether a place is this one
 abbrev pub is_place : Option Place → Place → Bool
 is_place None place = false
-is_place (Some at) place = is_eq (seg_cmp at.seg.name place.seg.name) && (at.seg.group == place.seg.group) && (at.item == place.item)
+is_place (Some known) place = is_eq (seg_cmp known.seg.name place.seg.name) && (known.seg.group == place.seg.group) && (known.item == place.item)
 
 -- whether an entry lies at a place
 abbrev pub found : Entry → Place → Out

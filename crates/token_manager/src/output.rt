@@ -84,25 +84,25 @@ pub(crate) fn found(entry: Entry, place: Place) -> Out
 }
 
 // Whether a place is this one.
-fn is_place(at: Option<Place>, place: Place) -> bool
-    ensures { result ≡ is_place at place }
+fn is_place(known: Option<Place>, place: Place) -> bool
+    ensures { result ≡ is_place known place }
 {
-    match at {
-        Some(at) => is_at(at, place),
+    match known {
+        Some(known) => is_at(known, place),
         None => false,
     }
 }
 
-fn is_at(at: Place, place: Place) -> bool
-    ensures { result ≡ is_place (Some at) place }
+fn is_at(known: Place, place: Place) -> bool
+    ensures { result ≡ is_place (Some known) place }
 {
-    is_named(at.seg.name, place.seg.name)
-        && at.seg.group == place.seg.group
-        && at.item == place.item
+    is_named(known.seg.name, place.seg.name)
+        && known.seg.group == place.seg.group
+        && known.item == place.item
 }
 
-fn is_named(at: SegName, name: SegName) -> bool
-    ensures { result ≡ is_eq (seg_cmp at name) }
+fn is_named(known: SegName, name: SegName) -> bool
+    ensures { result ≡ is_eq (seg_cmp known name) }
 {
     at.order(name).is_eq()
 }

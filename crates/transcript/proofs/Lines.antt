@@ -14,6 +14,7 @@ use Rattle.world_base.specs.Items.{actor_of, is_for, is_for_actor, works_of}
 use Rattle.xfs_base.specs.declared.node.NodeId.{NodeId}
 use Rattle.xfs_base.specs.Nodes.{node_cmp}
 use Rattle.xfs_base.proofs.BlockOrder.{lookup-insert_entry}
+use Rattle.xfs_base.specs.Limits.{u32_end}
 use Rattle.transcript.proofs.NodeOrder.{node_total, node_eq_swap, same_node_is}
 use Rattle.transcript.specs.declared.replies.Reply.{Reply}
 use Rattle.transcript.specs.Numbers.{Numbers, last_of, next_of, behind_item, behind_line, AreOf}
@@ -31,14 +32,14 @@ item_numbered : (acts : List Act) (table : Table) (f g : NodeId → ℕ) (line :
 item_numbered acts table f g line None h = refl
 item_numbered acts table f g line (Some node) h = rw (h node) refl
 
-capped : (c : ℕ) → min (min c 4294967295 + 1) 4294967295 ≡ min (c + 1) 4294967295
+capped : (c : ℕ) → min (min c u32_end + 1) u32_end ≡ min (c + 1) u32_end
 capped c = grind arith
 
 pub line_numbered : (acts : List Act) (table : Table) (numbers : Numbers) (before : List Line) (line : Line) → AreOf numbers before
     → line_text acts table (next_of numbers) line ≡ line_text acts table (number_of before) line
 line_numbered acts table numbers before line h =
     item_numbered acts table (next_of numbers) (number_of before) line (actor_of line.work)
-    (λ node. ap (λ n. min (n + 1) 4294967295) (h node) ∙ capped (count_by (is_for node) (works_of before)))
+    (λ node. ap (λ n. min (n + 1) u32_end) (h node) ∙ capped (count_by (is_for node) (works_of before)))
 
 kept_one : (acts : List Act) (table : Table) (numbers : Numbers) (before rest : List Line) (text new all : List ℕ) (line : Line) → AreOf numbers before
     → text ++ lines_text acts table before (line ∷ rest) ≡ all → new ≡ text ++ line_text acts table (next_of numbers) line
@@ -74,20 +75,20 @@ count_more node before line =
     nothing_more : (n : ℕ) → 0 + n ≡ n
     nothing_more n = omega arith
 
-next_number : (numbers : Numbers) (n node : NodeId) (c : ℕ) → n ≡ node → last_of numbers node ≡ min c 4294967295 → next_of numbers n ≡ min (c + 1) 4294967295
-next_number numbers n node c e h = ap (λ x. next_of numbers x) e ∙ ap (λ x. min (x + 1) 4294967295) h ∙ capped c
+next_number : (numbers : Numbers) (n node : NodeId) (c : ℕ) → n ≡ node → last_of numbers node ≡ min c u32_end → next_of numbers n ≡ min (c + 1) u32_end
+next_number numbers n node c e h = ap (λ x. next_of numbers x) e ∙ ap (λ x. min (x + 1) u32_end) h ∙ capped c
 
-with_item : (numbers : Numbers) (n node : NodeId) (c : ℕ) (t : Bool) → is_eq (node_cmp n node) ≡ t → last_of numbers node ≡ min c 4294967295
-    → unwrap_or (cond t (Some (next_of numbers n)) (lookup (is_at (node_cmp node)) numbers)) 0 ≡ min (c + one_if t) 4294967295
+with_item : (numbers : Numbers) (n node : NodeId) (c : ℕ) (t : Bool) → is_eq (node_cmp n node) ≡ t → last_of numbers node ≡ min c u32_end
+    → unwrap_or (cond t (Some (next_of numbers n)) (lookup (is_at (node_cmp node)) numbers)) 0 ≡ min (c + one_if t) u32_end
 with_item numbers n node c true e h = next_number numbers n node c (same_node_is n node e) h
-with_item numbers n node c false e h = h ∙ ap (λ x. min x 4294967295) (add_nothing c)
+with_item numbers n node c false e h = h ∙ ap (λ x. min x u32_end) (add_nothing c)
   where
     add_nothing : (c : ℕ) → c ≡ c + 0
     add_nothing c = omega arith
 
-at_actor : (numbers : Numbers) (node : NodeId) (c : ℕ) (o : Option NodeId) → last_of numbers node ≡ min c 4294967295
-    → last_of (behind_item numbers o) node ≡ min (c + one_if (is_for_actor node o)) 4294967295
-at_actor numbers node c None h = h ∙ ap (λ x. min x 4294967295) (add_nothing c)
+at_actor : (numbers : Numbers) (node : NodeId) (c : ℕ) (o : Option NodeId) → last_of numbers node ≡ min c u32_end
+    → last_of (behind_item numbers o) node ≡ min (c + one_if (is_for_actor node o)) u32_end
+at_actor numbers node c None h = h ∙ ap (λ x. min x u32_end) (add_nothing c)
   where
     add_nothing : (c : ℕ) → c ≡ c + 0
     add_nothing c = omega arith
@@ -99,11 +100,11 @@ at_actor numbers node c (Some n) h =
 pub numbers_kept : (numbers : Numbers) (before : List Line) (line : Line) → AreOf numbers before → AreOf (behind_line numbers line) (before ++ line ∷ [])
 numbers_kept numbers before line h node =
     at_actor numbers node (count_by (is_for node) (works_of before)) (actor_of line.work) (h node)
-    ∙ ap (λ n. min n 4294967295) (sym (count_more node before line))
+    ∙ ap (λ n. min n u32_end) (sym (count_more node before line))
 
 pub all_numbers_kept : (numbers new : Numbers) (lines : List Line) (i : ℕ) (d line : Line) → i < length lines → line ≡ get_or lines i d
     → AreOf numbers (take i lines) → new ≡ behind_line numbers line → AreOf new (take (i + 1) lines)
 all_numbers_kept numbers new lines i d line l f h e node =
     ap (λ x. last_of x node) (e ∙ ap (behind_line numbers) f)
     ∙ numbers_kept numbers (take i lines) (get_or lines i d) h node
-    ∙ ap (λ x. min (count_by (is_for node) (works_of x)) 4294967295) (sym (take_more lines i d l))
+    ∙ ap (λ x. min (count_by (is_for node) (works_of x)) u32_end) (sym (take_more lines i d l))

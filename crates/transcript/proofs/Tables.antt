@@ -3,13 +3,14 @@ use Rattle.std.proofs.Common.{◌≡◌, ℕ, ◌+◌, List, min, refl, subst}
 use Rattle.std.specs.BTreeMap.{insert_entry}
 use Rattle.xfs_base.specs.declared.node.NodeId.{NodeId}
 use Rattle.xfs_base.specs.Nodes.{node_cmp}
+use Rattle.xfs_base.specs.Limits.{u32_end}
 use Rattle.transcript.specs.declared.falls.Fallen.{Fallen}
 use Rattle.transcript.specs.declared.replies.ItemName.{ItemName}
 use Rattle.transcript.specs.Falls.{FallsState}
 use Rattle.transcript.specs.Numbers.{Numbers, last_of, with_next}
 use Rattle.transcript.specs.Replies.{Table, RepliesState, item_cmp, handed_out, handing_out, with_answer}
 
-pub with_next_is : (entries view : Numbers) (node : NodeId) (n r : ℕ) → entries ≡ view → n ≡ last_of view node → r ≡ min (n + 1) 4294967295
+pub with_next_is : (entries view : Numbers) (node : NodeId) (n r : ℕ) → entries ≡ view → n ≡ last_of view node → r ≡ min (n + 1) u32_end
     → insert_entry node_cmp entries node r ≡ with_next view node
 with_next_is entries view node n r e f g = rw (g, f, e) refl
 

@@ -23,7 +23,7 @@ max_bytes = 1048576
 
 -- the greatest number of a u32
 abbrev pub u32_end : ℕ
-u32_end = 4294967295
+u32_end = 2 ^ 32 - 1
 
 -- the greatest number of a u64
 abbrev pub u64_end : ℕ

@@ -125,14 +125,14 @@ module _ (base : Setting) (e : Estate AnyNode) (run : IsRun any_step any_start e
   most_there : q ≤ joint.idx.net.filed.head (log_by h.role)
   most_there = subst (λ x. q ≤ joint.idx.net.filed.head x) (sym h.numbered) lies.limit
 
-  flown_there : tables.In s ((lines h.role h.there).at count).net.flown
+  flown_there : tables.In s ((lines h.role h.there).scene count).net.flown
   flown_there =
-      subst (λ x. tables.In (joint.idx.net.filed.segment x q) ((lines h.role h.there).at count).net.flown) h.numbered
+      subst (λ x. tables.In (joint.idx.net.filed.segment x q) ((lines h.role h.there).scene count).net.flown) h.numbered
       ((joint.lined h.role h.there h.keeps).lined.flown q lies.some most_there)
 
-  filed_there : tables.In s.name ((lines h.role h.there).at count).net.filed
+  filed_there : tables.In s.name ((lines h.role h.there).scene count).net.filed
   filed_there =
-      subst (λ x. tables.In (joint.idx.net.filed.segment x q).name ((lines h.role h.there).at count).net.filed) h.numbered
+      subst (λ x. tables.In (joint.idx.net.filed.segment x q).name ((lines h.role h.there).scene count).net.filed) h.numbered
       ((joint.lined h.role h.there h.keeps).lined.filed q lies.some most_there)
 
   -- its log's owner told it to be filed

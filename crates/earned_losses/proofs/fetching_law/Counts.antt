@@ -114,7 +114,7 @@ module _ (base : Setting) (e : Estate AnyNode) (run : IsRun any_step any_start e
   pub client_there : (count : ℕ) (x : AnyNode) → Here count ≡ Some x → (node : Client) × (x ≡ any.Client node)
   client_there count x fact = by x (((lines (OfClient c) is_there).stands count).seen reader x fact)
     where
-      by : (y : AnyNode) → ClientThere (setting base e (OfClient c)) (OfClient c) ((lines (OfClient c) is_there).at count) c y
+      by : (y : AnyNode) → ClientThere (setting base e (OfClient c)) (OfClient c) ((lines (OfClient c) is_there).scene count) c y
           → (node : Client) × (y ≡ any.Client node)
       by (any.Client node) h = (node, refl)
       by (any.Manager node) h = absurd h
@@ -141,14 +141,14 @@ module _ (base : Setting) (e : Estate AnyNode) (run : IsRun any_step any_start e
 
   -- ---- maps that were sent
 
-  maps_named : (count : ℕ) (m : GroupMapState) → tables.In (MapSent m) ((lines (OfClient c) is_there).at count).net.sent → IsNamed e c m
+  maps_named : (count : ℕ) (m : GroupMapState) → tables.In (MapSent m) ((lines (OfClient c) is_there).scene count).net.sent → IsNamed e c m
   maps_named count m sent id group fact = (base_at base e lines (OfClient c) is_there refl count).packets (MapSent m) sent id group fact
 
   brings : (count : ℕ) (p : Packet) → In p (moment e count).sent → BringsMaps (IsNamed e c) p.body
   brings count p among = by p.body (((lines (OfClient c) is_there).stands count).facts p among)
     where
-      by : (b : Body) → BodySeen (setting base e (OfClient c)) (asker_by (OfClient c) ((lines (OfClient c) is_there).at count))
-          ((lines (OfClient c) is_there).at count).net p.from p.to b
+      by : (b : Body) → BodySeen (setting base e (OfClient c)) (asker_by (OfClient c) ((lines (OfClient c) is_there).scene count))
+          ((lines (OfClient c) is_there).scene count).net p.from p.to b
           → BringsMaps (IsNamed e c) b
       by (body.MapNews m) seen = maps_named count m.groups seen
       by (body.Welcome m) seen = maps_named count m.news.groups seen.map

@@ -147,7 +147,7 @@ module _ (base : Setting) (e : Estate AnyNode) (run : IsRun any_step any_start e
         let h : Reads e c count d.was = good.reads d.was read in
         let x : Doubt e c h.since count d.was.target = h.doubt d.doubted in
         let g : Grant = d.confirms.grant in
-        let y : Renewed e c x.at count g.block =
+        let y : Renewed e c x.when count g.block =
         x.renewed (record { item = d.confirms.place.item; block = g.block }) (ap (λ (t : Target). t.block) d.confirms.reads) in
         let l : Later g.block y.life y.highest y.epoch s.tokens = y.later s serves in
         record {
@@ -165,7 +165,7 @@ module _ (base : Setting) (e : Estate AnyNode) (run : IsRun any_step any_start e
           torn = λ kept. x.torn.torn (subst (NotDeleted (moment e x.torn.second)) d.named kept);
           asked_after = λ among.
               not_both g.block y.life y.highest y.epoch s.tokens l g d.accepted
-              (λ life heard. y.before d.confirms.packet g (sent_on e x.torn.second x.at x.torn.ends d.confirms.packet among)
+              (λ life heard. y.before d.confirms.packet g (sent_on e x.torn.second x.when x.torn.ends d.confirms.packet among)
               (gets_it d.confirms.packet d.confirms.delivers) d.confirms.bears refl life heard) refl;
         }
 

@@ -107,10 +107,10 @@ module _ (e : Estate AnyNode) (c : ℕ) where
 
   -- two rounds have missed the segment, and the place of the block was asked for again since
   pub record Doubt (since count : ℕ) (target : Target) : Type 0 where
-    pub at : ℕ
-    pub until : at ≤ count
-    pub torn : TornUnlessDeleted e since at target.seg
-    pub renewed : (x : BlockAt) → target.block ≡ Some x → Renewed at count x.block
+    pub when : ℕ
+    pub until : when ≤ count
+    pub torn : TornUnlessDeleted e since when target.seg
+    pub renewed : (x : BlockAt) → target.block ≡ Some x → Renewed when count x.block
 
   -- what is known of the reading of the open call
   pub record Reads (count : ℕ) (r : ReadingState) : Type 0 where
@@ -137,7 +137,7 @@ module _ (e : Estate AnyNode) (c : ℕ) where
 
     doubt_on : WantsOn → (since : ℕ) (target : Target) → Doubt since count target → Doubt since (suc count) target
     doubt_on on since target d = record {
-      at = d.at;
+      when = d.when;
       until = (let a = d.until in omega arith);
       torn = d.torn;
       renewed = λ x block. (let r = d.renewed x block in record {
@@ -240,7 +240,7 @@ module _ (e : Estate AnyNode) (c : ℕ) where
             → (on_answer x.was x.groups x.ask x.server x.told).state.stage ≡ Doubted → (on_answer x.was x.groups x.ask x.server x.told).next ≡ Again
             → Doubt h.since (suc count) x.was.target
         doubts_now x h so doubted again = record {
-          at = count;
+          when = count;
           until = omega arith;
           torn = subst (λ (y : Target). TornUnlessDeleted e h.since count y.seg) (answer_keeps_target x.was x.groups x.ask x.server x.told).0
               (subst (StageTrue e reader h.since count x.was.ask (on_answer x.was x.groups x.ask x.server x.told).state) doubted so.stage);

@@ -128,7 +128,7 @@ module _ (base : Setting) (e : Estate AnyNode) (run : IsRun any_step any_start e
 
   later : (count slot epoch : ℕ) (name : SegName) → SaidLost e j count slot epoch name → SaidLost e j (suc count) slot epoch name
   later count slot epoch name s = record {
-    at = s.at;
+    when = s.when;
     before = (let b = s.before in omega arith);
     event = s.event;
     happens = s.happens;
@@ -207,7 +207,7 @@ module _ (base : Setting) (e : Estate AnyNode) (run : IsRun any_step any_start e
           let w = earned base e run lines j is_there came count event (map (sent_at t.clock) (any_step t.node (what_of event)).packets)
           (any_step t.node (what_of event)).acts u name slot l in
           record {
-            at = count;
+            when = count;
             before = omega arith;
             event = event;
             happens = fact;

@@ -126,13 +126,13 @@ module _ (laws : NodeLaws) (grants : ManagersGrantWhatTheyHold) (base : Setting)
 
   module _ (p : Packet) (m : Grant) (is_grant : p.body ≡ body.Grant m) (before count : ℕ) (s : SentIn e p before count) where
     abbrev w : World AnyNode
-    w = moment e s.at
+    w = moment e s.when
 
-    abbrev t : TurnAt w s.event (moment e (suc s.at)).nodes (moment e (suc s.at)).sent (moment e (suc s.at)).acts
+    abbrev t : TurnAt w s.event (moment e (suc s.when)).nodes (moment e (suc s.when)).sent (moment e (suc s.when)).acts
     t = s.turn
 
     placed : place_of k (node_of s.event) ≡ Some t.place
-    placed = subst (λ c. place_of c (node_of s.event) ≡ Some t.place) (cluster_at e s.at) t.placed
+    placed = subst (λ c. place_of c (node_of s.event) ≡ Some t.place) (cluster_at e s.when) t.placed
 
     stood : node_in w.nodes (place_of k (node_of s.event)) ≡ Some t.node
     stood = ap (node_in w.nodes) placed ∙ t.stands
@@ -140,12 +140,12 @@ module _ (laws : NodeLaws) (grants : ManagersGrantWhatTheyHold) (base : Setting)
     from_it : p.from ≡ node_of s.event
     from_it =
         at_clock t.clock (IsFrom (node_of s.event)) (IsFrom (node_of s.event)) (λ q h. h) (any_step t.node (what_of s.event)).packets
-        (sends_as base e lines s.at (node_of s.event) t.place t.node (what_of s.event) placed stood) p s.fresh
+        (sends_as base e lines s.when (node_of s.event) t.place t.node (what_of s.event) placed stood) p s.fresh
 
-    by_one : 0 < 8 → In p (moment e (suc s.at)).sent → ByManager k p.from
+    by_one : 0 < 8 → In p (moment e (suc s.when)).sent → ByManager k p.from
     by_one of_0 among =
-        grants_by k 0 (scene (suc s.at) 0 of_0) m p.from p.to
-        (subst (SentBy k 0 (scene (suc s.at) 0 of_0) p.from p.to) is_grant ((stands (suc s.at) 0 of_0).facts p among))
+        grants_by k 0 (scene (suc s.when) 0 of_0) m p.from p.to
+        (subst (SentBy k 0 (scene (suc s.when) 0 of_0) p.from p.to) is_grant ((stands (suc s.when) 0 of_0).facts p among))
 
     its_grant : (x : IsWaiting t.node) → GrantTells (manager_step x.manager (what_of s.event)).node.phase m
     its_grant x =
@@ -154,11 +154,11 @@ module _ (laws : NodeLaws) (grants : ManagersGrantWhatTheyHold) (base : Setting)
         (clocked (GrantTells after) t.clock (manager_step x.manager (what_of s.event)).packets (grants x.manager (what_of s.event) x.waits) p
         (subst (λ n. In p (map (sent_at t.clock) (any_step n (what_of s.event)).packets)) x.kind s.fresh))
 
-    granted_by : ByManager k p.from → GrantedAt (suc s.at) m
+    granted_by : ByManager k p.from → GrantedAt (suc s.when) m
     granted_by b =
         let name : node_of s.event ≡ Manager b.number = sym from_it ∙ b.named in
         let x : IsWaiting t.node =
-        waiting s.at b.number b.some b.limit t.node (subst (λ n. node_in w.nodes (place_of k n) ≡ Some t.node) name stood) (omega arith) (omega arith) in
+        waiting s.when b.number b.some b.limit t.node (subst (λ n. node_in w.nodes (place_of k n) ≡ Some t.node) name stood) (omega arith) (omega arith) in
         let then : AnyNode = (any_step t.node (what_of s.event)).node in
         record {
           number = b.number;
@@ -172,5 +172,5 @@ module _ (laws : NodeLaws) (grants : ManagersGrantWhatTheyHold) (base : Setting)
           tells = its_grant x;
         }
 
-    pub granted_then : In p (moment e (suc s.at)).sent → GrantedAt (suc s.at) m
+    pub granted_then : In p (moment e (suc s.when)).sent → GrantedAt (suc s.when) m
     granted_then among = granted_by (by_one (omega arith) among)

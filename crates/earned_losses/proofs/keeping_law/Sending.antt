@@ -26,17 +26,17 @@ by_last {A = A} before count low earlier last = by (nat_le before count) refl
 module _ (e : Estate AnyNode) (p : Packet) where
   -- in this event it is sent
   pub record SentIn (before count : ℕ) : Type 0 where
-    pub at : ℕ
-    pub since : before ≤ at
-    pub until : at < count
+    pub when : ℕ
+    pub since : before ≤ when
+    pub until : when < count
     pub event : Event
-    pub happens : slice_get e.events at ≡ Some event
-    pub turn : TurnAt (moment e at) event (moment e (suc at)).nodes (moment e (suc at)).sent (moment e (suc at)).acts
+    pub happens : slice_get e.events when ≡ Some event
+    pub turn : TurnAt (moment e when) event (moment e (suc when)).nodes (moment e (suc when)).sent (moment e (suc when)).acts
     pub fresh : In p (map (sent_at turn.clock) (any_step turn.node (what_of event)).packets)
 
   further : (before count : ℕ) → SentIn before count → SentIn before (suc count)
   further before count s = record {
-    at = s.at;
+    when = s.when;
     since = s.since;
     until = (let less = s.until in omega arith);
     event = s.event;
@@ -61,7 +61,7 @@ module _ (e : Estate AnyNode) (p : Packet) where
         → TurnAt (moment e count) event (moment e (suc count)).nodes (moment e (suc count)).sent (moment e (suc count)).acts → SentIn before (suc count)
     turned since sent event fact t =
         ⊎_elim (earlier since) (λ fresh. record {
-          at = count;
+          when = count;
           since = since;
           until = omega arith;
           event = event;
@@ -111,5 +111,5 @@ module _ (e : Estate AnyNode) (p : Packet) where
       subst (λ n. In p (moment e n).sent) same (sent_more (later - count) count sent)
 
   -- what is sent in the event was sent then
-  pub sent_then : (before count : ℕ) (s : SentIn before count) → In p (moment e (suc s.at)).sent
-  sent_then before count s = subst (In p) (sym s.turn.sent_are) (in_after (moment e s.at).sent _ p s.fresh)
+  pub sent_then : (before count : ℕ) (s : SentIn before count) → In p (moment e (suc s.when)).sent
+  sent_then before count s = subst (In p) (sym s.turn.sent_are) (in_after (moment e s.when).sent _ p s.fresh)

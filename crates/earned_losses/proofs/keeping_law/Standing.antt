@@ -109,7 +109,7 @@ module _ (below : Below) (base : Setting) (apart : TellsApart base) (e : Estate 
     part = slot_of m.block.ino.0
 
     abbrev after : ℕ
-    after = suc s.at
+    after = suc s.when
 
     limit : after ≤ count
     limit = (let less = s.until in omega arith)

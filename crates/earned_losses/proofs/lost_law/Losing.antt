@@ -57,7 +57,7 @@ module _ (keeps : GrantsLeadToWhatStands) (e : Estate AnyNode) (setup : IsSetup 
     segment = w.reading.target.seg;
     named = w.named;
     item = w.item;
-    at = w.first;
+    when = w.first;
     before = first_before;
     reads = w.reads;
     filed = filed e setup run w.first undoubted c some within w.item w.reading.target.seg (w.reads w.first (omega arith) first_before);

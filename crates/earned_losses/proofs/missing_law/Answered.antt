@@ -84,7 +84,7 @@ module _ (base : Setting) (e : Estate AnyNode) (run : IsRun any_step any_start e
 
   told_on : (count v : ℕ) (m : Missing) → Told count v m → Told (suc count) v m
   told_on count v m t = record {
-    at = t.at;
+    when = t.when;
     before = (let a = t.before in omega arith);
     packet = t.packet;
     among = t.among;
@@ -124,7 +124,7 @@ module _ (base : Setting) (e : Estate AnyNode) (run : IsRun any_step any_start e
           (sends_as base e lines count (node_of event) t.place t.node (what_of event) placed stood) p late
 
       module _ (p : Packet) (m : Missing) (v : ℕ) (to : p.to ≡ reader) (tells : p.body ≡ body.Missing m) where
-        told_by : (x : AnyNode) → ServerThere (setting base e OfCleaner) OfCleaner ((lines OfCleaner tt).at count) v x
+        told_by : (x : AnyNode) → ServerThere (setting base e OfCleaner) OfCleaner ((lines OfCleaner tt).scene count) v x
             → node_in (moment e count).nodes (place_of k_of (names.Server v)) ≡ Some x
             → In p (map (sent_at t.clock) (any_step x (what_of event)).packets) → Told (suc count) v m
         told_by (any.Client node) h fact among = absurd h
@@ -135,7 +135,7 @@ module _ (base : Setting) (e : Estate AnyNode) (run : IsRun any_step any_start e
             (any_step (any.Server node) (what_of event)).packets (misses_what_it_lacks node (what_of event)) p among in
             let a : Answering node (what_of event) p.to m = subst (MissingSo node (what_of event) p.to) tells so in
             record {
-              at = count;
+              when = count;
               before = omega arith;
               packet = a.packet;
               among = (brought (moment e count) event (may_happen e run count event at) a.packet a.delivers).0;
@@ -179,13 +179,13 @@ module _ (base : Setting) (e : Estate AnyNode) (run : IsRun any_step any_start e
 
   module _ (drawn : (count : ℕ) → FetchesDrawn e reader count) (rises : (count : ℕ) → last_at e reader count ≤ last_at e reader (suc count)) where
     -- it was sent after each moment at which its number was not drawn
-    told_since : (count v : ℕ) (m : Missing) → (t : Told count v m) → (k : ℕ) → last_at e reader k < m.ask → k ≤ t.at
-    told_since count v m t k undrawn = ⊎_elim (λ less. less) earlier (up_to_or_after k t.at)
+    told_since : (count v : ℕ) (m : Missing) → (t : Told count v m) → (k : ℕ) → last_at e reader k < m.ask → k ≤ t.when
+    told_since count v m t k undrawn = ⊎_elim (λ less. less) earlier (up_to_or_after k t.when)
       where
-        earlier : suc t.at ≤ k → k ≤ t.at
+        earlier : suc t.when ≤ k → k ≤ t.when
         earlier late =
-            let a = never_falls (last_at e reader) rises t.at k (omega arith) in
-            let b = drawn t.at t.packet t.fetch t.among t.asker t.asks in
+            let a = never_falls (last_at e reader) rises t.when k (omega arith) in
+            let b = drawn t.when t.packet t.fetch t.among t.asker t.asks in
             let c = t.ask in
             absurd (omega arith)
 
@@ -196,14 +196,14 @@ module _ (base : Setting) (e : Estate AnyNode) (run : IsRun any_step any_start e
         by : Told count v m → Answers e reader count v m
         by t = record {
           packet = t.packet;
-          among = sent_on e t.at count t.before t.packet t.among;
+          among = sent_on e t.when count t.before t.packet t.among;
           asker = t.asker;
           fetch = t.fetch;
           asks = t.asks;
           name = t.name;
           ask = t.ask;
           told = λ k limit undrawn. record {
-            at = t.at;
+            when = t.when;
             since = told_since count v m t k undrawn;
             until = t.before;
             shelf = t.shelf;

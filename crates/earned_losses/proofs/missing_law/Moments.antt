@@ -252,10 +252,10 @@ module _ (e : Estate AnyNode) where
         subst (λ o. lacks o name ≡ true) (sym a.has_shelf) (none_left _ unheld)
       where
         a : ShelfAt at v one.shelf
-        a = shelf_on one.at at v (let x = one.until in omega arith) one.shelf one.has_shelf
+        a = shelf_on one.when at v (let x = one.until in omega arith) one.shelf one.has_shelf
 
-        b : ShelfAt two.at v a.shelf
-        b = shelf_on at two.at v (let x = two.since in omega arith) a.shelf a.has_shelf
+        b : ShelfAt two.when v a.shelf
+        b = shelf_on at two.when v (let x = two.since in omega arith) a.shelf a.has_shelf
 
         same : b.shelf ≡ two.shelf
         same = same_shelf b.shelf two.shelf (sym b.has_shelf ∙ two.has_shelf)
@@ -263,7 +263,7 @@ module _ (e : Estate AnyNode) where
         unheld : is_held a.shelf name ≡ true → ⊥
         unheld held = by (b.on.holds name held)
           where
-            by : (is_held b.shelf name ≡ true) ⊎ ((a.shelf.generation < b.shelf.generation) ⊎ Deleted two.at name) → ⊥
+            by : (is_held b.shelf name ≡ true) ⊎ ((a.shelf.generation < b.shelf.generation) ⊎ Deleted two.when name) → ⊥
             by (inl fact) = not_held (held_at two.shelf.held name) two.nothing (subst (λ (s : ShelfState). is_held s name ≡ true) same fact)
             by (inr (inl less)) =
                 let x = a.on.up in
@@ -271,4 +271,4 @@ module _ (e : Estate AnyNode) where
                 let z = two.in_generation in
                 let w : b.shelf.generation ≡ two.shelf.generation = ap (λ (s : ShelfState). s.generation) same in
                 omega arith
-            by (inr (inr deleted)) = none_deleted two.at name (kept_before two.at count two.until name kept) deleted
+            by (inr (inr deleted)) = none_deleted two.when name (kept_before two.when count two.until name kept) deleted

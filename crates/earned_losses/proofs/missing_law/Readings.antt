@@ -62,7 +62,7 @@ module _ (e : Estate AnyNode) where
   pub missed_wider : (from to wider later v generation : ℕ) (name : SegName) → wider ≤ from → to ≤ later → MissedIn e from to v generation name
       → MissedIn e wider later v generation name
   missed_wider from to wider later v generation name before after m = record {
-    at = m.at;
+    when = m.when;
     since = (let a = m.since in omega arith);
     until = (let a = m.until in omega arith);
     shelf = m.shelf;

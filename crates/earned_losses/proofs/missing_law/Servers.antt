@@ -101,7 +101,7 @@ module _ (e : Estate AnyNode) (run : IsRun any_step any_start e.script e.events 
             ap (λ c. group_in (groups_of (node_in (moment e (length e.events)).nodes (place_of c names.Registry))) id) (sym (cluster_at e (length e.events)))
             ∙ (ap (λ w. group_at w id) (at_end e.events (start_world any_start e.script) e.world run) ∙ fact)
 
-        of_registry : (x : AnyNode) → RegistryThere (setting base e OfCleaner) OfCleaner ((lines OfCleaner tt).at (length e.events)) x
+        of_registry : (x : AnyNode) → RegistryThere (setting base e OfCleaner) OfCleaner ((lines OfCleaner tt).scene (length e.events)) x
             → group_in (groups_of (Some x)) id ≡ Some group → IsServer e.script.setup.servers (server_of group.members place)
         of_registry (any.Client node) h at = absurd h
         of_registry (any.Manager node) h at = absurd h
@@ -111,7 +111,7 @@ module _ (e : Estate AnyNode) (run : IsRun any_step any_start e.script e.events 
             subst (λ n. IsServer n (server_of group.members place)) h.size ((its_stripe node.board.groups h.map id group at).exist place no_member below)
 
         by : (o : Option AnyNode)
-            → ((x : AnyNode) → o ≡ Some x → RegistryThere (setting base e OfCleaner) OfCleaner ((lines OfCleaner tt).at (length e.events)) x)
+            → ((x : AnyNode) → o ≡ Some x → RegistryThere (setting base e OfCleaner) OfCleaner ((lines OfCleaner tt).scene (length e.events)) x)
             → group_in (groups_of o) id ≡ Some group → IsServer e.script.setup.servers (server_of group.members place)
         by None seen at = absurd cc
         by (Some x) seen at = of_registry x (seen x refl) at
@@ -120,14 +120,14 @@ module _ (e : Estate AnyNode) (run : IsRun any_step any_start e.script e.events 
 
     -- what no server was told to delete wasn't dropped
     pub undropped : (r : Role) (is_there : IsThere e.script.setup.clients e.script.setup.managers r) (count : ℕ) (name : SegName)
-        → NotDeleted (moment e count) name → tables.In name ((lines r is_there).at count).net.dropped → ⊥
+        → NotDeleted (moment e count) name → tables.In name ((lines r is_there).scene count).net.dropped → ⊥
     undropped r is_there count name undeleted d =
         (let o = ((lines r is_there).stands count).deleted name d in
         undeleted o.0 (record { name = name }) (in_was (moment e count).sent o.0 o.1) o.2 refl)
 
     module _ (r : Role) (is_there : IsThere e.script.setup.clients e.script.setup.managers r) (count : ℕ) (s : Segment) where
       abbrev net : Net
-      net = ((lines r is_there).at count).net
+      net = ((lines r is_there).scene count).net
 
       -- the shelf of a server is the one that the small world has
       shelf_is : (v : ℕ) (shelf : ShelfState) → shelf_at (moment e count) v ≡ Some shelf → net.shelves v ≡ shelf
@@ -138,7 +138,7 @@ module _ (e : Estate AnyNode) (run : IsRun any_step any_start e.script e.events 
           same : (a b : ShelfState) → Some a ≡ Some b → a ≡ b
           same a b q = cc
 
-          of_server : (x : AnyNode) → ServerThere (setting base e r) r ((lines r is_there).at count) v x → shelf_of (Some x) ≡ Some shelf
+          of_server : (x : AnyNode) → ServerThere (setting base e r) r ((lines r is_there).scene count) v x → shelf_of (Some x) ≡ Some shelf
               → net.shelves v ≡ shelf
           of_server (any.Client node) h at = absurd h
           of_server (any.Manager node) h at = absurd h
@@ -146,7 +146,7 @@ module _ (e : Estate AnyNode) (run : IsRun any_step any_start e.script e.events 
           of_server (any.Cleaner node) h at = absurd h
           of_server (any.Registry node) h at = absurd h
 
-          by : (o : Option AnyNode) → ((x : AnyNode) → o ≡ Some x → ServerThere (setting base e r) r ((lines r is_there).at count) v x)
+          by : (o : Option AnyNode) → ((x : AnyNode) → o ≡ Some x → ServerThere (setting base e r) r ((lines r is_there).scene count) v x)
               → shelf_of o ≡ Some shelf
               → net.shelves v ≡ shelf
           by None seen at = absurd cc
@@ -154,7 +154,7 @@ module _ (e : Estate AnyNode) (run : IsRun any_step any_start e.script e.events 
 
       -- ---- its text
 
-      module _ (laws : StoredLaws) (flew : tables.In s ((lines r is_there).at count).net.flown) where
+      module _ (laws : StoredLaws) (flew : tables.In s ((lines r is_there).scene count).net.flown) where
         one : OneText (setting base e r) net
         one = laws.one (setting base e r) net ((lines r is_there).stands count).moment
 
@@ -167,10 +167,10 @@ module _ (e : Estate AnyNode) (run : IsRun any_step any_start e.script e.events 
             (subst (λ (l : LogId). (l.0 == (setting base e r).log.0) ≡ true) (sym own) (itself (setting base e r).log.0))
 
         said : (packet : Packet) (m : Body) (to : NodeId) → WasSent (moment e count).sent packet → packet.to ≡ to → packet.body ≡ m
-            → BodySeen (setting base e r) (asker_by r ((lines r is_there).at count)) net packet.from to m
+            → BodySeen (setting base e r) (asker_by r ((lines r is_there).scene count)) net packet.from to m
         said packet m to was at fact =
-            subst (BodySeen (setting base e r) (asker_by r ((lines r is_there).at count)) net packet.from to) fact
-            (subst (λ t. BodySeen (setting base e r) (asker_by r ((lines r is_there).at count)) net packet.from t packet.body) at
+            subst (BodySeen (setting base e r) (asker_by r ((lines r is_there).scene count)) net packet.from to) fact
+            (subst (λ t. BodySeen (setting base e r) (asker_by r ((lines r is_there).scene count)) net packet.from t packet.body) at
             (((lines r is_there).stands count).facts packet (was_sent (moment e count).sent packet was)))
 
         module _ (group : Group) (striped_so : group_at e.world s.group ≡ Some group) where
@@ -206,7 +206,7 @@ module _ (e : Estate AnyNode) (run : IsRun any_step any_start e.script e.events 
           ⊎ (generation_of t.members place < (net.shelves (server_of t.members place)).generation)
 
       -- where each member of its group holds it, or has lost its disk, in the small world, it is stored
-      module _ (laws : StoredLaws) (flew : tables.In s ((lines r is_there).at count).net.flown)
+      module _ (laws : StoredLaws) (flew : tables.In s ((lines r is_there).scene count).net.flown)
           (all : (place : ℕ) → place < length (members_of (setting base e r) s)
           → Holds (setting base e r) net s place ⊎ IsLater (setting base e r) net s place) where
         stored_over : (group : Group) → group_at e.world s.group ≡ Some group → IsStoredAs e count (ref_of s)
@@ -243,10 +243,10 @@ module _ (e : Estate AnyNode) (run : IsRun any_step any_start e.script e.events 
     -- ---- what was filed
 
     module _ (laws : StoredLaws) (r : Role) (is_there : IsThere e.script.setup.clients e.script.setup.managers r) (count : ℕ) where
-      all : LogsWhole (setting base e r) ((lines r is_there).at count).net
-      all = laws.whole (setting base e r) ((lines r is_there).at count).net ((lines r is_there).stands count).moment
+      all : LogsWhole (setting base e r) ((lines r is_there).scene count).net
+      all = laws.whole (setting base e r) ((lines r is_there).scene count).net ((lines r is_there).stands count).moment
 
-      pub flown_is_stored : (s : Segment) → tables.In s ((lines r is_there).at count).net.flown → tables.In s.name ((lines r is_there).at count).net.filed
+      pub flown_is_stored : (s : Segment) → tables.In s ((lines r is_there).scene count).net.flown → tables.In s.name ((lines r is_there).scene count).net.filed
           → NotDeleted (moment e count) s.name → IsStoredAs e count (ref_of s)
       flown_is_stored s flew filed undeleted =
           on_shelves r is_there count s laws flew (all.whole s flew filed (undropped r is_there count s.name undeleted))
@@ -255,8 +255,8 @@ module _ (e : Estate AnyNode) (run : IsRun any_step any_start e.script e.events 
       pub filed_is_stored : (name : SegName) → In (act.Filed name) (did e (log_by r) count) → NotDeleted (moment e count) name → IsStored e count name
       filed_is_stored name acted kept =
           let f = all.flown name (((lines r is_there).stands count).filed name acted) in
-          let filed : tables.In f.0.name ((lines r is_there).at count).net.filed =
-          subst (λ n. tables.In n ((lines r is_there).at count).net.filed) (sym f.2) (((lines r is_there).stands count).filed name acted) in
+          let filed : tables.In f.0.name ((lines r is_there).scene count).net.filed =
+          subst (λ n. tables.In n ((lines r is_there).scene count).net.filed) (sym f.2) (((lines r is_there).stands count).filed name acted) in
           subst (IsStored e count) f.2 (flown_is_stored f.0 f.1 filed (subst (NotDeleted (moment e count)) (sym f.2) kept)).stored
 
 pub what_is_filed_is_stored : Setting → RunsHaveLines → StoredLaws → WhatIsFiledIsStored

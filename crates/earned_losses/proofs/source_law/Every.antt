@@ -71,10 +71,10 @@ pub takeovers_lose_what_was_filed : TakeoversReadWhatWasFiled → TakeoversReadW
 takeovers_lose_what_was_filed filed stored losses e ok run count none event fact j there own name among =
     let l : WasTornOrDeleted e j count name = losses e ok run j there count event fact own name among in
     let before = l.before in
-    let undoubted : NoDoubtfulRestart e l.at = λ r n less. none r n (omega arith) in
-    let reads : Reads (slot_at e j l.slot l.at) l.epoch l.segment = l.reads l.at (omega arith) before in
+    let undoubted : NoDoubtfulRestart e l.when = λ r n less. none r n (omega arith) in
+    let reads : Reads (slot_at e j l.slot l.when) l.epoch l.segment = l.reads l.when (omega arith) before in
     record {
       lost = l;
-      filed = filed e ok run l.at undoubted j there l.slot l.epoch l.segment reads;
-      stored = λ kept. stored e ok run l.at undoubted j there l.slot l.epoch l.segment reads kept;
+      filed = filed e ok run l.when undoubted j there l.slot l.epoch l.segment reads;
+      stored = λ kept. stored e ok run l.when undoubted j there l.slot l.epoch l.segment reads kept;
     }

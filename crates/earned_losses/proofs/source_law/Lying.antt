@@ -263,7 +263,7 @@ module _ (laws : Laws) (base : Setting) (e : Estate AnyNode) (run : IsRun any_st
     -- ---- what flew and was filed is stored
 
     module _ (role : Role) (its_there : IsThere e.script.setup.clients e.script.setup.managers role) (s : Segment)
-        (flown : tables.In s ((lines role its_there).at count).net.flown) (filed_so : tables.In s.name ((lines role its_there).at count).net.filed)
+        (flown : tables.In s ((lines role its_there).scene count).net.flown) (filed_so : tables.In s.name ((lines role its_there).scene count).net.filed)
         (same : ref_of s ≡ source.seg) (kept : NotDeleted (moment e count) source.seg.name) where
       stored_so : IsStoredAs e count source.seg
       stored_so =
@@ -282,14 +282,14 @@ module _ (laws : Laws) (base : Setting) (e : Estate AnyNode) (run : IsRun any_st
       most_there : f.seq ≤ joint.idx.net.filed.head (log_by h.role)
       most_there = subst (λ x. f.seq ≤ joint.idx.net.filed.head x) (sym h.numbered) f.limit
 
-      flown_there : tables.In (joint.idx.net.filed.segment f.log f.seq) ((lines h.role h.there).at count).net.flown
+      flown_there : tables.In (joint.idx.net.filed.segment f.log f.seq) ((lines h.role h.there).scene count).net.flown
       flown_there =
-          subst (λ x. tables.In (joint.idx.net.filed.segment x f.seq) ((lines h.role h.there).at count).net.flown) h.numbered
+          subst (λ x. tables.In (joint.idx.net.filed.segment x f.seq) ((lines h.role h.there).scene count).net.flown) h.numbered
           ((joint.lined h.role h.there h.keeps).lined.flown f.seq f.some most_there)
 
-      filed_there : tables.In (joint.idx.net.filed.segment f.log f.seq).name ((lines h.role h.there).at count).net.filed
+      filed_there : tables.In (joint.idx.net.filed.segment f.log f.seq).name ((lines h.role h.there).scene count).net.filed
       filed_there =
-          subst (λ x. tables.In (joint.idx.net.filed.segment x f.seq).name ((lines h.role h.there).at count).net.filed) h.numbered
+          subst (λ x. tables.In (joint.idx.net.filed.segment x f.seq).name ((lines h.role h.there).scene count).net.filed) h.numbered
           ((joint.lined h.role h.there h.keeps).lined.filed f.seq f.some most_there)
 
       acted_there : In (act.Filed (joint.idx.net.filed.segment f.log f.seq).name) (did e (log_by h.role) count)
@@ -311,7 +311,7 @@ module _ (laws : Laws) (base : Setting) (e : Estate AnyNode) (run : IsRun any_st
       grouped =
           refers.grouped (joint.idx.net.filed.segment f.log f.seq)
           (of_one e.script.setup.clients e.script.setup.managers
-          (λ a x. tables.In (joint.idx.net.filed.segment f.log f.seq) ((lines a x).at count).net.flown) h.role refers.of.role (sym one_owner) h.there
+          (λ a x. tables.In (joint.idx.net.filed.segment f.log f.seq) ((lines a x).scene count).net.flown) h.role refers.of.role (sym one_owner) h.there
           refers.of.there flown_there) (sym f.named)
 
       log_filed : WasFiled e count source.seg.name
@@ -345,7 +345,7 @@ module _ (laws : Laws) (base : Setting) (e : Estate AnyNode) (run : IsRun any_st
       part_stored : NotDeleted (moment e count) source.seg.name → IsStoredAs e count source.seg
       part_stored kept =
           stored_so (OfManager it.manager) it.there it.segment it.flew
-          (subst (λ n. tables.In n ((lines (OfManager it.manager) it.there).at count).net.filed) (sym it.named)
+          (subst (λ n. tables.In n ((lines (OfManager it.manager) it.there).scene count).net.filed) (sym it.named)
           (((lines (OfManager it.manager) it.there).stands count).filed source.seg.name it.acted))
           (λ i. record { name = it.named i; group = it.group i }) kept
 

@@ -66,39 +66,39 @@ module _ (base : Setting) (e : Estate AnyNode) (lines : HasLines base e) (r : Ro
   g = setting base e r
 
   abbrev n : Net
-  n = ((lines r there).at count).net
+  n = ((lines r there).scene count).net
 
-  abbrev m : Moment (setting base e r) ((lines r there).at count).net
+  abbrev m : Moment (setting base e r) ((lines r there).scene count).net
   m = ((lines r there).stands count).moment
 
-  base_now : Base (setting base e r) ((lines r there).at count).net
+  base_now : Base (setting base e r) ((lines r there).scene count).net
   base_now =
-      (passed (setting base e r) (opening (setting base e r) m.map) ((lines r there).at count).net (first_base (setting base e r) m.map) m.run).base
+      (passed (setting base e r) (opening (setting base e r) m.map) ((lines r there).scene count).net (first_base (setting base e r) m.map) m.run).base
 
   -- below the least horizon that this board has of the log, where the small world sees that
-  pub deleted_below : (b : BoardState) → RegistrySeen (setting base e r) ((lines r there).at count).net b → (name : SegName)
+  pub deleted_below : (b : BoardState) → RegistrySeen (setting base e r) ((lines r there).scene count).net b → (name : SegName)
       → name.log ≡ record { 0 = log_by r } → (p : Packet) (d : Delete) → In p (moment e count).sent → p.body ≡ body.Delete d → d.name ≡ name
       → name.seq < least_horizon (log_by r) (all_news b)
   deleted_below b seen name own p d among fact same =
-      let told : BodySeen (setting base e r) (asker_by r ((lines r there).at count)) ((lines r there).at count).net p.from p.to p.body =
+      let told : BodySeen (setting base e r) (asker_by r ((lines r there).scene count)) ((lines r there).scene count).net p.from p.to p.body =
       ((lines r there).stands count).facts p among in
-      let deletes : DeleteSeen (setting base e r) (asker_by r ((lines r there).at count)) ((lines r there).at count).net d =
-      subst (λ x. BodySeen (setting base e r) (asker_by r ((lines r there).at count)) ((lines r there).at count).net p.from p.to x) fact told in
+      let deletes : DeleteSeen (setting base e r) (asker_by r ((lines r there).scene count)) ((lines r there).scene count).net d =
+      subst (λ x. BodySeen (setting base e r) (asker_by r ((lines r there).scene count)) ((lines r there).scene count).net p.from p.to x) fact told in
       let of : is_of_log (setting base e r) d.name ≡ true =
       ap (is_of_log (setting base e r)) same ∙ (ap (λ (l : LogId). l.0 == log_by r) own ∙ itself (log_by r)) in
-      let dropped : tables.In name ((lines r there).at count).net.dropped =
-      subst (λ x. tables.In x ((lines r there).at count).net.dropped) same (base_now.packets (DeleteSent d.name) (deletes of)) in
+      let dropped : tables.In name ((lines r there).scene count).net.dropped =
+      subst (λ x. tables.In x ((lines r there).scene count).net.dropped) same (base_now.packets (DeleteSent d.name) (deletes of)) in
       subst (λ x. name.seq < x) seen.low (base_now.below name dropped)
 
 -- nothing of a manager's log was deleted
 module _ (written : WhatFlewIsWritten) (base : Setting) (e : Estate AnyNode) (lines : HasLines base e) (j : ℕ)
     (there : IsThere e.script.setup.clients e.script.setup.managers (OfManager j)) where
   pub none_deleted : (count later : ℕ) (b : BoardState)
-      → RegistrySeen (setting base e (OfManager j)) ((lines (OfManager j) there).at later).net b
-      → (s : Segment) → tables.In s ((lines (OfManager j) there).at count).net.flown → (p : Packet) (d : Delete) → In p (moment e later).sent
+      → RegistrySeen (setting base e (OfManager j)) ((lines (OfManager j) there).scene later).net b
+      → (s : Segment) → tables.In s ((lines (OfManager j) there).scene count).net.flown → (p : Packet) (d : Delete) → In p (moment e later).sent
       → p.body ≡ body.Delete d → d.name ≡ s.name → ⊥
   none_deleted count later b seen s flew p d among fact same =
-      let of = written (setting base e (OfManager j)) ((lines (OfManager j) there).at count).net ((lines (OfManager j) there).stands count).moment s flew in
+      let of = written (setting base e (OfManager j)) ((lines (OfManager j) there).scene count).net ((lines (OfManager j) there).stands count).moment s flew in
       let low = deleted_below base e lines (OfManager j) there later b seen s.name of.log p d among fact same in
       let one = least_is_one (log_by (OfManager j)) (high_log j there.0) b seen.horizons in
       let some = of.seq in

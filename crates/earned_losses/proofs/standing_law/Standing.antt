@@ -100,16 +100,16 @@ module _ (below : Below) (e : Estate AnyNode) (setup : IsSetup e.script.setup) (
   abbrev first : ℕ → ℕ → Segment
   first l q = first_of base e lines texts l q
 
-  stands : (at : ℕ) → NoDoubtfulRestart e at → MomentStands base e lines texts at
-  stands at undoubted = below.moments base below.setting.1 e setup run lines texts at undoubted
+  stands : (when : ℕ) → NoDoubtfulRestart e when → MomentStands base e lines texts when
+  stands when undoubted = below.moments base below.setting.1 e setup run lines texts when undoubted
 
   -- ---- the manager said so
 
   abbrev j : ℕ
   j = told.manager
 
-  abbrev at : ℕ
-  at = told.said.at
+  abbrev when : ℕ
+  when = told.said.when
 
   abbrev part : ℕ
   part = slot_of told.brings.gone.block.ino.0
@@ -120,26 +120,26 @@ module _ (below : Below) (e : Estate AnyNode) (setup : IsSetup e.script.setup) (
   of_eight : part < 8
   of_eight = slot_below told.brings.gone.block.ino.0
 
-  abbrev was : WasTornOrDeleted e told.manager told.said.at name
+  abbrev was : WasTornOrDeleted e told.manager told.said.when name
   was = told.said.was
 
-  earlier : NoDoubtfulRestart e at
+  earlier : NoDoubtfulRestart e when
   earlier r n less = none r n (let before = told.said.before in omega arith)
 
   -- it read the segment there, while it took the slot over in the epoch
-  reads : Reads (slot_at e j part at) epoch was.segment
+  reads : Reads (slot_at e j part when) epoch was.segment
   reads =
-      subst (λ x. Reads (slot_at e j part at) x was.segment) told.said.in_epoch
-      (subst (λ x. Reads (slot_at e j x at) was.epoch was.segment) told.said.of_slot (was.reads at was.before (omega arith)))
+      subst (λ x. Reads (slot_at e j part when) x was.segment) told.said.in_epoch
+      (subst (λ x. Reads (slot_at e j x when) was.epoch was.segment) told.said.of_slot (was.reads when was.before (omega arith)))
 
   is_there : IsThere e.script.setup.clients e.script.setup.managers (OfManager j)
-  is_there = is_manager e j part at reads.taking reads.takes
+  is_there = is_manager e j part when reads.taking reads.takes
 
   abbrev present : Present
   present = record { source = reads.source; reading = Some reads.reading }
 
-  abbrev then : Joint base e lines texts part first at
-  then = (stands at earlier).joints part of_eight
+  abbrev then : Joint base e lines texts part first when
+  then = (stands when earlier).joints part of_eight
 
   named_is : name ≡ reads.source.seg.name
   named_is = was.named ∙ ap (λ (x : SegRef). x.name) (sym reads.of_segment)
@@ -156,11 +156,11 @@ module _ (below : Below) (e : Estate AnyNode) (setup : IsSetup e.script.setup) (
     -- it is no part of a checkpoint
     no_part : ReadsPart reads.taking.take.news.parts reads.source → ⊥
     no_part x =
-        let known : PartKnown base e lines at (rows_at then.idx.net.filed) x.ref =
-        parts_known base e lines texts part first at then j is_there reads.taking reads.takes (PartKnown base e lines at (rows_at then.idx.net.filed))
-        ((stands at earlier).named part of_eight) x.ref x.among in
+        let known : PartKnown base e lines when (rows_at then.idx.net.filed) x.ref =
+        parts_known base e lines texts part first when then j is_there reads.taking reads.takes (PartKnown base e lines when (rows_at then.idx.net.filed))
+        ((stands when earlier).named part of_eight) x.ref x.among in
         let its : name ≡ known.segment.name = named_is ∙ (ap (λ (y : Source). y.seg.name) x.of_part ∙ sym known.named) in
-        none_deleted below.written base e lines known.manager known.there at count board
+        none_deleted below.written base e lines known.manager known.there when count board
         (registry_seen base e lines texts part first count (both_of base e lines texts part first count now) (OfManager known.manager) known.there)
         known.segment known.flew p d among fact (same ∙ its)
 
@@ -168,22 +168,22 @@ module _ (below : Below) (e : Estate AnyNode) (setup : IsSetup e.script.setup) (
     l = reads.source.seg.name.log.0
 
     -- the epoch lapsed
-    abbrev Then : Joint base e lines texts part first at → Type 0
+    abbrev Then : Joint base e lines texts part first when → Type 0
     Then b = of_log (b.idx.net.horizon epoch) l ≤ was.segment.name.seq
 
-    low_then : (b : Joint base e lines texts part first at) → Then b
+    low_then : (b : Joint base e lines texts part first when) → Then b
     low_then b =
         subst (λ x. of_log (b.idx.net.horizon x) l ≤ was.segment.name.seq) reads.of_epoch
-        (horizon_below base e lines texts part first at b j is_there reads.taking reads.takes present reads.present no_part l refl was.segment.name.seq
+        (horizon_below base e lines texts part first when b j is_there reads.taking reads.takes present reads.present no_part l refl was.segment.name.seq
         reads.above)
 
     lapsed_now : Lapsed below.manager base e run lines texts part of_eight first j is_there epoch l was.segment.name.seq count now
     lapsed_now =
-        lapsed below.manager base e run lines texts part of_eight first j is_there epoch l was.segment.name.seq at name
-        (taking_held (slot_at e j part at) reads.taking epoch reads.takes reads.of_epoch) told.said.broke
+        lapsed below.manager base e run lines texts part of_eight first j is_there epoch l was.segment.name.seq when name
+        (taking_held (slot_at e j part when) reads.taking epoch reads.takes reads.of_epoch) told.said.broke
         (λ b. subst (λ x. b.idx.net.slots x ≡ None) reads.of_epoch
-        (nobody_yet base e lines texts part first at b j is_there reads.taking reads.takes))
-        (λ b. subst (λ x. x ≤ b.idx.net.epoch) reads.of_epoch (has_begun base e lines texts part first at b j is_there reads.taking reads.takes)) low_then
+        (nobody_yet base e lines texts part first when b j is_there reads.taking reads.takes))
+        (λ b. subst (λ x. x ≤ b.idx.net.epoch) reads.of_epoch (has_begun base e lines texts part first when b j is_there reads.taking reads.takes)) low_then
         count told.said.before now ((stands count none).comes part of_eight)
 
     -- nobody manages the slot in a later epoch than the client has promised
@@ -204,14 +204,14 @@ module _ (below : Below) (e : Estate AnyNode) (setup : IsSetup e.script.setup) (
     -- what is filed is at the horizon of its log or above
     no_filed : ReadsFiled then.idx.net.filed reads.source → ⊥
     no_filed f =
-        let h : HasLog base e lines texts part first f.log = filed_log base e lines texts part first at then f.log f.seq f.some f.limit in
+        let h : HasLog base e lines texts part first f.log = filed_log base e lines texts part first when then f.log f.seq f.some f.limit in
         let of_its : reads.source.seg.name.log.0 ≡ f.log =
-        ap (λ (n : SegName). n.log.0) f.named ∙ ((filed_known base e lines texts part first at then).filed.each f.log f.seq f.some f.limit).log in
+        ap (λ (n : SegName). n.log.0) f.named ∙ ((filed_known base e lines texts part first when then).filed.each f.log f.seq f.some f.limit).log in
         let own : name.log ≡ record { 0 = log_by h.role } =
         same_log name.log (record { 0 = log_by h.role }) (ap (λ (n : SegName). n.log.0) named_is ∙ (of_its ∙ sym h.numbered)) in
         let gone = deleted_below base e lines h.role h.there count board
         (registry_seen base e lines texts part first count (both_of base e lines texts part first count now) h.role h.there) name own p d among fact same in
-        let nine = one_of_nine then.idx.net.filed (filed_known base e lines texts part first at then).filed f.log f.seq f.some f.limit in
+        let nine = one_of_nine then.idx.net.filed (filed_known base e lines texts part first when then).filed f.log f.seq f.some f.limit in
         let low : least_horizon (log_by h.role) (all_news board) ≤ of_log (now.idx.net.horizon epoch) (log_by h.role) =
         polled_low below.managed below.promised true (k base e lines texts part first) part texts.text first (moment e count).nodes
         (moment e count).sent (moment e count).acts now.tok now.idx of_eight both epoch bound lapsed_now.begun (log_by h.role)
@@ -223,7 +223,7 @@ module _ (below : Below) (e : Estate AnyNode) (setup : IsSetup e.script.setup) (
 
     not_deleted : ⊥
     not_deleted =
-        ⊎_elim no_part no_filed (part_or_filed base e lines texts part first at then j is_there reads.taking reads.takes present reads.present)
+        ⊎_elim no_part no_filed (part_or_filed base e lines texts part first when then j is_there reads.taking reads.takes present reads.present)
 
   pub stood : NotDeleted (moment e count) name
   stood packet m sent fact same = not_deleted packet m (was_sent (moment e count).sent packet sent) fact same
@@ -233,17 +233,17 @@ module _ (below : Below) (e : Estate AnyNode) (setup : IsSetup e.script.setup) (
   told_torn = record {
     told = told;
     stands = stood;
-    filed = below.filed e setup run was.at then_undoubted j is_there was.slot was.epoch was.segment (was.reads was.at (omega arith) was.before);
+    filed = below.filed e setup run was.when then_undoubted j is_there was.slot was.epoch was.segment (was.reads was.when (omega arith) was.before);
     torn = torn;
-    stored = below.stored e setup run was.at then_undoubted j is_there was.slot was.epoch was.segment (was.reads was.at (omega arith) was.before) torn.kept;
+    stored = below.stored e setup run was.when then_undoubted j is_there was.slot was.epoch was.segment (was.reads was.when (omega arith) was.before) torn.kept;
   }
     where
-      then_undoubted : NoDoubtfulRestart e was.at
+      then_undoubted : NoDoubtfulRestart e was.when
       then_undoubted r n less = none r n (let a = was.before in let b = told.said.before in omega arith)
 
-      torn : IsTornAt e was.at was.segment
+      torn : IsTornAt e was.when was.segment
       torn = ⊎_elim (λ torn. torn) (λ d. absurd (not_deleted d.0 (record { name = was.segment.name })
-          (sent_on e at count (let before = told.said.before in omega arith) d.0 d.1) d.2 (sym was.named))) was.lost
+          (sent_on e when count (let before = told.said.before in omega arith) d.0 d.1) d.2 (sym was.named))) was.lost
 
 pub gones_are_of_what_stands : Below → GonesAreOfWhatStands
 gones_are_of_what_stands below e setup run count none c event fact own s serves name among brings =

@@ -115,7 +115,7 @@ module _ (base : Setting) (e : Estate AnyNode) (run : IsRun any_step any_start e
             epoch = l.taking.epoch;
             segment = target.seg;
             named = l.named ∙ sym (ap (λ (x : Target). x.seg.name) looks);
-            at = t.first;
+            when = t.first;
             before = (let a = t.follows in let b = t.ends in omega arith);
             reads = λ i from to.
                 reads_at base e run lines j is_there came i k l.taking.epoch target (w.span.reads i (let a = t.begins in omega arith) to);

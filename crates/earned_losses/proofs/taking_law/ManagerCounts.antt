@@ -121,14 +121,14 @@ module _ (base : Setting) (e : Estate AnyNode) (run : IsRun any_step any_start e
 
   -- ---- what a packet brings
 
-  base_at : (count : ℕ) → Base (setting base e OfCleaner) ((lines OfCleaner tt).at count).net
+  base_at : (count : ℕ) → Base (setting base e OfCleaner) ((lines OfCleaner tt).scene count).net
   base_at count =
       let m = ((lines OfCleaner tt).stands count).moment in
-      (passed (setting base e OfCleaner) (opening (setting base e OfCleaner) m.map) ((lines OfCleaner tt).at count).net
+      (passed (setting base e OfCleaner) (opening (setting base e OfCleaner) m.map) ((lines OfCleaner tt).scene count).net
       (first_base (setting base e OfCleaner) m.map) m.run).base
 
   module _ (count : ℕ) (packet : Packet) (among : In packet (Sent count)) (to : packet.to ≡ names.Manager j) where
-    seen : BodySeen (setting base e OfCleaner) (asker_by OfCleaner ((lines OfCleaner tt).at count)) ((lines OfCleaner tt).at count).net packet.from packet.to
+    seen : BodySeen (setting base e OfCleaner) (asker_by OfCleaner ((lines OfCleaner tt).scene count)) ((lines OfCleaner tt).scene count).net packet.from packet.to
         packet.body
     seen = ((lines OfCleaner tt).stands count).facts packet among
 
@@ -155,7 +155,7 @@ module _ (base : Setting) (e : Estate AnyNode) (run : IsRun any_step any_start e
         same_generation a b e = cc
 
     brings : (said : Body) → packet.body ≡ said
-        → BodySeen (setting base e OfCleaner) (asker_by OfCleaner ((lines OfCleaner tt).at count)) ((lines OfCleaner tt).at count).net packet.from
+        → BodySeen (setting base e OfCleaner) (asker_by OfCleaner ((lines OfCleaner tt).scene count)) ((lines OfCleaner tt).scene count).net packet.from
         packet.to said
         → BodyBrought (IsNamed e) (CameBy e j count) packet.from said
     brings (body.Fragment m) fact of = found_came m.ask (told.Held m.fragment) (server_in packet.from) (λ generation same. held_not m generation same)
@@ -191,12 +191,12 @@ module _ (base : Setting) (e : Estate AnyNode) (run : IsRun any_step any_start e
   pub is_manager : (count : ℕ) (x : AnyNode) → Here count ≡ Some x → IsManager x
   is_manager count x at = by x (((lines (OfManager j) is_there).stands count).seen (names.Manager j) x at)
     where
-      number : (p : Phase) → ManagerAgrees (setting base e (OfManager j)) j ((lines (OfManager j) is_there).at count) p → (lasting_of p).number ≡ j
+      number : (p : Phase) → ManagerAgrees (setting base e (OfManager j)) j ((lines (OfManager j) is_there).scene count) p → (lasting_of p).number ≡ j
       number (managing.Down kept) agrees = agrees.lasts.number
       number (managing.Waiting kept hello) agrees = agrees.lasts.number
       number (managing.Serving s) agrees = agrees.lasts.number
 
-      by : (z : AnyNode) → ManagerThere (setting base e (OfManager j)) (OfManager j) ((lines (OfManager j) is_there).at count) j z → IsManager z
+      by : (z : AnyNode) → ManagerThere (setting base e (OfManager j)) (OfManager j) ((lines (OfManager j) is_there).scene count) j z → IsManager z
       by (any.Client node) h = absurd h
       by (any.Manager node) h = record { node = node; kind = refl; number = number node.phase (h refl) }
       by (any.Server node) h = absurd h

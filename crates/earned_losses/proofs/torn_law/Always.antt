@@ -96,7 +96,7 @@ module _ (base : Setting) (e : Estate AnyNode) (run : IsRun any_step any_start e
 
       -- what a server misses
       module _ (p : Packet) (m : Missing) (v : ℕ) (late : In p new) (to : p.to ≡ owner_by r) (tells : p.body ≡ body.Missing m) where
-        told_by : (x : AnyNode) → ServerThere (setting base e r) r ((lines r is_there).at count) v x
+        told_by : (x : AnyNode) → ServerThere (setting base e r) r ((lines r is_there).scene count) v x
             → In p (map (sent_at t.clock) (any_step x (what_of event)).packets) → Told base e lines r is_there keeps count m v
         told_by (any.Client node) h among = absurd h
         told_by (any.Manager node) h among = absurd h

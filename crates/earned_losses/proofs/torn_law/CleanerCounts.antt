@@ -150,9 +150,9 @@ module _ (base : Setting) (e : Estate AnyNode) (lines : HasLines base e)
             ≡ Some (any_step t.node (what_of event)).node) (sym same)
             (here k_of (moment e count).nodes (node_of event) t.place placed (any_step t.node (what_of event)).node t.node t.stands)
 
-        d : Drew (setting base e OfCleaner) ((lines OfCleaner is_there).at count) t.node (what_of event)
+        d : Drew (setting base e OfCleaner) ((lines OfCleaner is_there).scene count) t.node (what_of event)
         d =
-            drew (setting base e OfCleaner) ((lines OfCleaner is_there).at count) t.node (what_of event)
+            drew (setting base e OfCleaner) ((lines OfCleaner is_there).scene count) t.node (what_of event)
             (((lines OfCleaner is_there).stands count).seen names.Cleaner t.node was) (subst NodeUp was good.serves)
 
         before : (p : Packet) (m : Fetch) → In p (Sent count) → p.from ≡ names.Cleaner → p.body ≡ body.Fetch m → m.ask ≤ last_of (Here (suc count))

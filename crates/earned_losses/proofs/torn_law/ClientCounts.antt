@@ -145,9 +145,9 @@ module _ (base : Setting) (e : Estate AnyNode) (lines : HasLines base e) (c : �
           ≡ Some (any_step t.node (what_of event)).node) (sym same)
           (here k_of (moment e count).nodes (node_of event) t.place placed (any_step t.node (what_of event)).node t.node t.stands)
 
-      d : Drew (setting base e (OfClient c)) ((lines (OfClient c) is_there).at count) c t.node (what_of event)
+      d : Drew (setting base e (OfClient c)) ((lines (OfClient c) is_there).scene count) c t.node (what_of event)
       d =
-          drew (setting base e (OfClient c)) ((lines (OfClient c) is_there).at count) c t.node (what_of event)
+          drew (setting base e (OfClient c)) ((lines (OfClient c) is_there).scene count) c t.node (what_of event)
           (((lines (OfClient c) is_there).stands count).seen (names.Client c) t.node was) (subst NodeUp was good.serves)
 
       own_up : last_of (Here count) ≤ last_of (Here (suc count))

@@ -46,7 +46,7 @@ module _ (base : Setting) (e : Estate AnyNode) (lines : HasLines base e) (r : Ro
   line = lines r is_there
 
   abbrev pub net : ℕ → Net
-  net count = ((lines r is_there).at count).net
+  net count = ((lines r is_there).scene count).net
 
   abbrev pub at_count : (count : ℕ) → Moment (setting base e r) (net count)
   at_count count = ((lines r is_there).stands count).moment
@@ -64,15 +64,15 @@ module _ (base : Setting) (e : Estate AnyNode) (lines : HasLines base e) (r : Ro
   pub named_is : (count : ℕ) (name : NodeId) → node_named (moment e count) name ≡ node_in (moment e count).nodes (place_of k_of name)
   named_is count name = ap (λ c. node_in (moment e count).nodes (place_of c name)) (cluster_at e count)
 
-  pub owns_at : (count : ℕ) (x : AnyNode) → node_in (moment e count).nodes (place_of k_of owner) ≡ Some x → Owns (setting base e r) (line.at count) owner x
-  owns_at count x fact = owner_owns (setting base e r) (line.at count) r keeps x ((line.stands count).seen owner x fact)
+  pub owns_at : (count : ℕ) (x : AnyNode) → node_in (moment e count).nodes (place_of k_of owner) ≡ Some x → Owns (setting base e r) (line.scene count) owner x
+  owns_at count x fact = owner_owns (setting base e r) (line.scene count) r keeps x ((line.stands count).seen owner x fact)
 
   -- the node that reads its log
   pub record Node (count : ℕ) (s : Scanning) : Type 0 where
     pub node : AnyNode
     pub stands : node_in (moment e count).nodes (place_of k_of owner) ≡ Some node
     pub scan : scan_of (Some node) ≡ Some s
-    pub scans : Scans (setting base e r) (line.at count) s (last_of (Some node)) (boot_in (Some node)) (TurnsOf (setting base e r) (line.at count) node s)
+    pub scans : Scans (setting base e r) (line.scene count) s (last_of (Some node)) (boot_in (Some node)) (TurnsOf (setting base e r) (line.scene count) node s)
 
   pub node_at : (count : ℕ) (s : Scanning) → scan_at e r count ≡ Some s → Node count s
   node_at count s fact = by (node_in (moment e count).nodes (place_of k_of owner)) refl (sym (ap scan_of (named_is count owner)) ∙ fact)
@@ -93,16 +93,16 @@ module _ (base : Setting) (e : Estate AnyNode) (lines : HasLines base e) (r : Ro
 
   -- at a moment of this opening, up to this one, at which it was read
   pub record TornBy (count : ℕ) (segment : SegRef) : Type 0 where
-    pub at : ℕ
-    pub before : at ≤ count
-    pub opens : (k : ℕ) → at ≤ k → k ≤ count → is_some (scan_at e r k) ≡ true
-    pub reads : IsReading segment (net at)
-    pub torn : IsTorn (setting base e r) segment (net at)
+    pub when : ℕ
+    pub before : when ≤ count
+    pub opens : (k : ℕ) → when ≤ k → k ≤ count → is_some (scan_at e r k) ≡ true
+    pub reads : IsReading segment (net when)
+    pub torn : IsTorn (setting base e r) segment (net when)
 
   pub torn_now : (count : ℕ) → is_some (scan_at e r count) ≡ true → (segment : SegRef) → IsReading segment (net count)
       → IsTorn (setting base e r) segment (net count) → TornBy count segment
   torn_now count opens segment reads torn = record {
-    at = count;
+    when = count;
     before = omega arith;
     opens = λ k since limit. subst (λ j. is_some (scan_at e r j) ≡ true) (omega arith) opens;
     reads = reads;
@@ -111,7 +111,7 @@ module _ (base : Setting) (e : Estate AnyNode) (lines : HasLines base e) (r : Ro
 
   pub torn_on : (count : ℕ) → is_some (scan_at e r (suc count)) ≡ true → (segment : SegRef) → TornBy count segment → TornBy (suc count) segment
   torn_on count opens segment t = record {
-    at = t.at;
+    when = t.when;
     before = (let a = t.before in omega arith);
     opens = λ k since limit.
         ⊎_elim (λ same. subst (λ j. is_some (scan_at e r j) ≡ true) (sym same) opens) (λ below. t.opens k since below) (last_or_before k count limit);

@@ -91,17 +91,17 @@ module _ (base : Setting) (e : Estate AnyNode) (lines : HasLines base e) (count 
   sends_as (names.Client c) place x what at fact =
       let b = behind 0 e.script.setup.clients c place at in
       let l = lines (OfClient c) (b.some, b.within) in
-      client_from (setting base e (OfClient c)) (l.at count) c x what ((l.stands count).seen (names.Client c) x fact)
+      client_from (setting base e (OfClient c)) (l.scene count) c x what ((l.stands count).seen (names.Client c) x fact)
   sends_as (names.Manager j) place x what at fact =
       let b = behind e.script.setup.clients e.script.setup.managers j place at in
       let l = lines (OfManager j) (b.some, b.within) in
-      manager_from (setting base e (OfManager j)) (l.at count) j x what ((l.stands count).seen (names.Manager j) x fact)
+      manager_from (setting base e (OfManager j)) (l.scene count) j x what ((l.stands count).seen (names.Manager j) x fact)
   sends_as (names.Server v) place x what at fact =
       let l = lines OfCleaner tt in
-      server_sends (setting base e OfCleaner) (l.at count) OfCleaner v x what ((l.stands count).seen (names.Server v) x fact)
+      server_sends (setting base e OfCleaner) (l.scene count) OfCleaner v x what ((l.stands count).seen (names.Server v) x fact)
   sends_as names.Cleaner place x what at fact =
       let l = lines OfCleaner tt in
-      cleaner_from (setting base e OfCleaner) (l.at count) OfCleaner x what ((l.stands count).seen names.Cleaner x fact)
+      cleaner_from (setting base e OfCleaner) (l.scene count) OfCleaner x what ((l.stands count).seen names.Cleaner x fact)
   sends_as names.Registry place x what at fact =
       let l = lines OfCleaner tt in
-      registry_from (setting base e OfCleaner) (l.at count) OfCleaner x what ((l.stands count).seen names.Registry x fact)
+      registry_from (setting base e OfCleaner) (l.scene count) OfCleaner x what ((l.stands count).seen names.Registry x fact)

@@ -100,7 +100,7 @@ module _ (base : Setting) (e : Estate AnyNode) (run : IsRun any_step any_start e
 
   -- ---- what is torn in the small world is so on the shelves
 
-  shelf_there : (count v : ℕ) (name : SegName) (x : AnyNode) → ServerThere (setting base e r) r ((lines r is_there).at count) v x
+  shelf_there : (count v : ℕ) (name : SegName) (x : AnyNode) → ServerThere (setting base e r) r ((lines r is_there).scene count) v x
       → is_none (held_at ((small count).shelves v).held name) ≡ true → lacks (shelf_of (Some x)) name ≡ true
   shelf_there count v name (any.Client node) h none = absurd h
   shelf_there count v name (any.Manager node) h none = absurd h
@@ -120,10 +120,10 @@ module _ (base : Setting) (e : Estate AnyNode) (run : IsRun any_step any_start e
 
   not_deleted : (count : ℕ) (name : SegName) → name.log ≡ (setting base e r).log → (tables.In name (small count).dropped → ⊥) → NotDeleted (moment e count) name
   not_deleted count name own kept packet m sent fact same =
-      let seen : BodySeen (setting base e r) (asker_by r ((lines r is_there).at count)) (small count) packet.from packet.to packet.body =
+      let seen : BodySeen (setting base e r) (asker_by r ((lines r is_there).scene count)) (small count) packet.from packet.to packet.body =
       ((lines r is_there).stands count).facts packet (was_sent (moment e count).sent packet sent) in
-      let deletes : DeleteSeen (setting base e r) (asker_by r ((lines r is_there).at count)) (small count) m =
-      subst (λ b. BodySeen (setting base e r) (asker_by r ((lines r is_there).at count)) (small count) packet.from packet.to b) fact seen in
+      let deletes : DeleteSeen (setting base e r) (asker_by r ((lines r is_there).scene count)) (small count) m =
+      subst (λ b. BodySeen (setting base e r) (asker_by r ((lines r is_there).scene count)) (small count) packet.from packet.to b) fact seen in
       let of : is_of_log (setting base e r) m.name ≡ true =
       ap (is_of_log (setting base e r)) same ∙ (ap (λ (l : LogId). l.0 == (setting base e r).log.0) own ∙ itself (setting base e r).log.0) in
       kept (subst (λ n. tables.In n (small count).dropped) same
@@ -189,23 +189,23 @@ module _ (base : Setting) (e : Estate AnyNode) (run : IsRun any_step any_start e
       segment = t.segment;
       named = t.named;
       is_read = t.is_read;
-      at = t.once.at;
+      when = t.once.when;
       before = t.once.before;
       opens = t.once.opens;
-      read = read_there t.once.at t.segment (t.once.opens t.once.at (omega arith) t.once.before) t.once.reads;
-      torn = torn_there t.once.at t.segment (of_log s.scan.stage t.segment truths.kept t.is_read) t.once.torn;
+      read = read_there t.once.when t.segment (t.once.opens t.once.when (omega arith) t.once.before) t.once.reads;
+      torn = torn_there t.once.when t.segment (of_log s.scan.stage t.segment truths.kept t.is_read) t.once.torn;
     }
 
     module _ (event : Event) (fact : slice_get e.events count ≡ Some event) (own : owner_by r ≡ node_of event) where
       gets : (p : Packet) → what_of event ≡ done.Deliver p → In p (moment e count).sent × (p.to ≡ owner_by r)
       gets p brings = (let b = brought (moment e count) event (may_happen e run count event fact) p brings in (b.0, b.1 ∙ sym own))
 
-      module _ (last boot : ℕ) (sc : Scans (setting base e r) ((lines r is_there).at count) s last boot (λ k. Unit {0})) (name : SegName) where
+      module _ (last boot : ℕ) (sc : Scans (setting base e r) ((lines r is_there).scene count) s last boot (λ k. Unit {0})) (name : SegName) where
         came : (i : Input) → Comes sc.known s (what_of event) i → CameToScan (setting base e r) (small count) i
         came i comes =
-            comes_so (setting base e r) ((lines r is_there).at count) (owner_by r) sc.number sc.known s last sc.sees (what_of event)
+            comes_so (setting base e r) ((lines r is_there).scene count) (owner_by r) sc.number sc.known s last sc.sees (what_of event)
             (λ p brings. let got = gets p brings in
-            subst (λ to. BodySeen (setting base e r) (asker_by r ((lines r is_there).at count)) (small count) p.from to p.body) got.1
+            subst (λ to. BodySeen (setting base e r) (asker_by r ((lines r is_there).scene count)) (small count) p.from to p.body) got.1
             (((lines r is_there).stands count).facts p got.0)) i comes
 
         -- what its scan says is lost

@@ -98,7 +98,7 @@ module _ (base : Setting) (e : Estate AnyNode) (lines : HasLines base e) (r : Ro
   Torn count = TornBy base e lines r is_there keeps count
 
   abbrev asker_of : ℕ → Asker
-  asker_of count = asker_by r ((lines r is_there).at count)
+  asker_of count = asker_by r ((lines r is_there).scene count)
 
   opens_at : (count : ℕ) (s : Scanning) → scan_at e r count ≡ Some s → is_some (scan_at e r count) ≡ true
   opens_at count s fact = ap is_some fact
@@ -152,7 +152,7 @@ module _ (base : Setting) (e : Estate AnyNode) (lines : HasLines base e) (r : Ro
             } in
             joined base e lines r is_there keeps count new sent_is s
             (aside (setting base e r) (Torn count) (Torn (suc count)) (torn_on base e lines r is_there keeps count (opens_at (suc count) s fact))
-            (opening (setting base e r) (at_count base e lines r is_there keeps count).map) ((lines r is_there).at count)
+            (opening (setting base e r) (at_count base e lines r is_there keeps count).map) ((lines r is_there).scene count)
             (at_count base e lines r is_there keeps count).run (base_at base e lines r is_there keeps count)
             (net base e lines r is_there keeps (suc count)) ((lines r is_there).goes count)
             (opens_through base e lines r is_there keeps count new sent_is s s a b refl) (Sent count) new (owner_by r) a.scans.number a.scans.known s
@@ -177,11 +177,11 @@ module _ (base : Setting) (e : Estate AnyNode) (lines : HasLines base e) (r : Ro
     abbrev new : List Packet
     new = map (sent_at clock) (any_step x what).packets
 
-    owns : Owns (setting base e r) ((lines r is_there).at count) (owner_by r) x
+    owns : Owns (setting base e r) ((lines r is_there).scene count) (owner_by r) x
     owns = owns_at base e lines r is_there keeps count x was
 
     -- what is fetched
-    module _ (s : Scanning) (k : Scans (setting base e r) ((lines r is_there).at count) s (last_of (Some x)) (boot_in (Some x)) (λ k. Unit {0}))
+    module _ (s : Scanning) (k : Scans (setting base e r) ((lines r is_there).scene count) s (last_of (Some x)) (boot_in (Some x)) (λ k. Unit {0}))
         (by : Option Input) (does : AllByRecursion (DoesSo k.known s what (last_of (Some x)) by) (outs_of x what)) where
       AsksSo : Packet → Type 0
       AsksSo p = (m : Fetch) → p.body ≡ body.Fetch m → Fetches k.known s what (last_of (Some x)) by m.name
@@ -206,19 +206,19 @@ module _ (base : Setting) (e : Estate AnyNode) (lines : HasLines base e) (r : Ro
         let same_node : b0.node ≡ y = one_node b0.node y (sym b0.stands ∙ now) in
         let after : scan_of (Some y) ≡ Some later = subst (λ z. scan_of (Some z) ≡ Some later) same_node b0.scan in
         let boot : boot_in (Some b0.node) ≡ boot_in (Some x) = ap (λ z. boot_in (Some z)) same_node ∙ t.boot in
-        let known : Scans (setting base e r) ((lines r is_there).at count) s (last_of (Some x)) (boot_in (Some x)) (λ k. Unit {0}) =
+        let known : Scans (setting base e r) ((lines r is_there).scene count) s (last_of (Some x)) (boot_in (Some x)) (λ k. Unit {0}) =
         record { known = sc.known; number = sc.number; sees = sc.sees; boot = sc.boot; turns = tt } in
         let before : scan_at e r count ≡ Some s = scan_is base e lines r is_there keeps count x s was scan in
         let truths = good.truths s before in
         joined base e lines r is_there keeps count new sent_is later
         (own_turn (setting base e r) (Torn count) (Torn (suc count)) (torn_on base e lines r is_there keeps count (opens_at (suc count) later fact))
-        (opening (setting base e r) (at_count base e lines r is_there keeps count).map) ((lines r is_there).at count)
+        (opening (setting base e r) (at_count base e lines r is_there keeps count).map) ((lines r is_there).scene count)
         (at_count base e lines r is_there keeps count).run (base_at base e lines r is_there keeps count)
         (net base e lines r is_there keeps (suc count)) ((lines r is_there).goes count)
         (opens_through base e lines r is_there keeps count new sent_is s later a b0 boot) (Sent count) new (owner_by r) sc.number sc.known s
         (last_of (Some x)) sc.sees truths (torn_now base e lines r is_there keeps count (opens_at count s before)) what
         (drawn_at base e lines r is_there keeps count good fetches x was) (no_server r)
-        (comes_so (setting base e r) ((lines r is_there).at count) (owner_by r) sc.number sc.known s (last_of (Some x)) sc.sees what
+        (comes_so (setting base e r) ((lines r is_there).scene count) (owner_by r) sc.number sc.known s (last_of (Some x)) sc.sees what
         (λ p same. let got = gets p same in
         subst (λ to. BodySeen (setting base e r) (asker_of count) (net base e lines r is_there keeps count) p.from to p.body) got.1
         (((lines r is_there).stands count).facts p got.0)))

@@ -32,7 +32,7 @@ module _ (below : Below) (e : Estate AnyNode) (run : IsRun any_step any_start e.
   g = setting below.setting e r
 
   abbrev net : ℕ → Net
-  net count = ((lines r is_there).at count).net
+  net count = ((lines r is_there).scene count).net
 
   module _ (count : ℕ) (segment : SegRef) (read : IsReadAt e r count segment) (kept : NotDeleted (moment e count) segment.name) where
     there : IsWhole g (net count) segment
@@ -54,8 +54,8 @@ module _ (below : Below) (e : Estate AnyNode) (run : IsRun any_step any_start e.
   loses_whole : OpeningLosesWhatIsTorn e r → LosesWhatWasWhole e r
   loses_whole torn count event fact own opens name among =
       let t = torn count event fact own opens name among in
-      let w = reads_whole t.at t.segment t.read t.torn.kept in
-      record { lost = t; whole = w; disks = w.stored.disks (subst (IsTornAt e t.at) (sym w.over) t.torn) }
+      let w = reads_whole t.when t.segment t.read t.torn.kept in
+      record { lost = t; whole = w; disks = w.stored.disks (subst (IsTornAt e t.when) (sym w.over) t.torn) }
 
 pub what_reopenings_read : Below → WhatReopeningsReadIsWhole
 what_reopenings_read below e ok run r is_there keeps = reads_whole below e run (below.lines below.setting e ok run) r is_there keeps

@@ -130,4 +130,4 @@ FetchesLossesEarned =
 abbrev pub CallsReadBlocks : Type 0
 CallsReadBlocks =
     (e : Estate AnyNode) → IsSetup e.script.setup → IsRun any_step any_start e.script e.events e.world → (c : ℕ) → 0 < c → c ≤ e.script.setup.clients
-    → (count : ℕ) (r : ReadingState) → what_is_read (serving_at e c count) ≡ Some r → (at : BlockAt) × (r.target.block ≡ Some at)
+    → (count : ℕ) (r : ReadingState) → what_is_read (serving_at e c count) ≡ Some r → (wanted : BlockAt) × (r.target.block ≡ Some wanted)

@@ -51,17 +51,17 @@ GonesAreOfBroken = (m : ManagerNode) (what : Do) → All (λ (p : Packet). IfGon
 module _ (e : Estate AnyNode) (j : ℕ) where
   -- At a moment before this one manager j said that a segment was lost while it took this slot over in this epoch: that was torn then, or was deleted.
   pub record SaidLost (count slot epoch : ℕ) (name : SegName) : Type 0 where
-    pub at : ℕ
-    pub before : at < count
+    pub when : ℕ
+    pub before : when < count
     pub event : Event
-    pub happens : slice_get e.events at ≡ Some event
+    pub happens : slice_get e.events when ≡ Some event
     pub own : Manager j ≡ node_of event
-    pub says : In (act.Lost (Manager j) name) (acts_in (moment e at) event)
-    pub was : WasTornOrDeleted e j at name
+    pub says : In (act.Lost (Manager j) name) (acts_in (moment e when) event)
+    pub was : WasTornOrDeleted e j when name
     pub of_slot : was.slot ≡ slot
     pub in_epoch : was.epoch ≡ epoch
     -- and with that the slot broke
-    pub broke : slot_at e j slot (suc at) ≡ phase.Broken epoch name
+    pub broke : slot_at e j slot (suc when) ≡ phase.Broken epoch name
 
   -- so it did of each slot that is broken
   abbrev pub BrokenSlotsWereLost : Type 0

@@ -29,12 +29,12 @@ module _ (e : Estate AnyNode) where
     pub segment : SegRef
     pub named : name ≡ segment.name
     pub item : ℕ
-    pub at : ℕ
-    pub before : at ≤ count
-    pub reads : (k : ℕ) → at ≤ k → k ≤ count → ReadsAt e c k item segment
-    pub filed : WasFiled e at segment.name
-    pub torn : IsTornAt e at segment
-    pub stored : IsStoredAs e at segment
+    pub when : ℕ
+    pub before : when ≤ count
+    pub reads : (k : ℕ) → when ≤ k → k ≤ count → ReadsAt e c k item segment
+    pub filed : WasFiled e when segment.name
+    pub torn : IsTornAt e when segment
+    pub stored : IsStoredAs e when segment
 
   -- what a client says is lost while it serves, at a moment up to which no restart that ended was doubtful: a manager told it so, in the epoch that the
   -- client has promised, and it was torn when that manager read it, while it took the slot over in that epoch; or it was torn while the client's open call

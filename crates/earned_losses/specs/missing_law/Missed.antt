@@ -52,11 +52,11 @@ FetchesDrawn e reader count =
 module _ (e : Estate AnyNode) where
   -- at a moment from one to another a server was of this generation and held no fragment of the name
   pub record MissedIn (from to v generation : ℕ) (name : SegName) : Type 0 where
-    pub at : ℕ
-    pub since : from ≤ at
-    pub until : at ≤ to
+    pub when : ℕ
+    pub since : from ≤ when
+    pub until : when ≤ to
     pub shelf : ShelfState
-    pub has_shelf : shelf_at (moment e at) v ≡ Some shelf
+    pub has_shelf : shelf_at (moment e when) v ≡ Some shelf
     pub in_generation : shelf.generation ≡ generation
     pub nothing : held_at shelf.held name ≡ None
 

@@ -51,8 +51,8 @@ TakeoversReadWhatIsStored =
 -- more members of its group had lost their disk than the parity makes good.
 pub record WasFiledAndLost (e : Estate AnyNode) (j count : ℕ) (name : SegName) : Type 0 where
   pub lost : WasTornOrDeleted e j count name
-  pub filed : WasFiled e lost.at lost.segment.name
-  pub stored : NotDeleted (moment e lost.at) lost.segment.name → IsStoredAs e lost.at lost.segment
+  pub filed : WasFiled e lost.when lost.segment.name
+  pub stored : NotDeleted (moment e lost.when) lost.segment.name → IsStoredAs e lost.when lost.segment
 
 -- so it is of what a manager says is lost in an event up to which no restart that ended was doubtful
 abbrev pub TakeoverLossesFiled : Estate AnyNode → Type 0

@@ -30,9 +30,9 @@ use Rattle.xfs_base.specs.declared.segment.SegName.{SegName}
 pub record ToldTorn (e : Estate AnyNode) (c : ℕ) (s : Serving) (count : ℕ) (what : Do) (name : SegName) : Type 0 where
   pub told : ToldLost e c s count what name
   pub stands : NotDeleted (moment e count) name
-  pub filed : WasFiled e told.said.was.at told.said.was.segment.name
-  pub torn : IsTornAt e told.said.was.at told.said.was.segment
-  pub stored : IsStoredAs e told.said.was.at told.said.was.segment
+  pub filed : WasFiled e told.said.was.when told.said.was.segment.name
+  pub torn : IsTornAt e told.said.was.when told.said.was.segment
+  pub stored : IsStoredAs e told.said.was.when told.said.was.segment
 
 -- So it is where a client that serves says, at an event that brings it a Gone, that the segment that this names is lost, while no restart that ended was
 -- doubtful: in each run of a script of whose setup a run can be started.

@@ -65,10 +65,10 @@ module _ (e : Estate AnyNode) (j : ℕ) where
     pub epoch : ℕ
     pub segment : SegRef
     pub named : name ≡ segment.name
-    pub at : ℕ
-    pub before : at ≤ count
-    pub reads : (k : ℕ) → at ≤ k → k ≤ count → Reads (slot_at slot k) epoch segment
-    pub lost : IsTornAt e at segment ⊎ Deletes segment.name (moment e count).sent
+    pub when : ℕ
+    pub before : when ≤ count
+    pub reads : (k : ℕ) → when ≤ k → k ≤ count → Reads (slot_at slot k) epoch segment
+    pub lost : IsTornAt e when segment ⊎ Deletes segment.name (moment e count).sent
 
   -- so it is of what the manager says is lost, which it says while it takes a slot over
   abbrev pub TakeoverLosesWhatIsTorn : Type 0

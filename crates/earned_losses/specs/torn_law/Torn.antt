@@ -83,11 +83,11 @@ module _ (e : Estate AnyNode) where
     pub segment : SegRef
     pub named : name ≡ segment.name
     pub is_read : IsRead scan.scan.stage segment
-    pub at : ℕ
-    pub before : at ≤ count
-    pub opens : (k : ℕ) → at ≤ k → k ≤ count → is_some (scan_at r k) ≡ true
-    pub read : IsReadAt r at segment
-    pub torn : IsTornAt at segment
+    pub when : ℕ
+    pub before : when ≤ count
+    pub opens : (k : ℕ) → when ≤ k → k ≤ count → is_some (scan_at r k) ≡ true
+    pub read : IsReadAt r when segment
+    pub torn : IsTornAt when segment
 
   -- what a client, or the cleaner, says is lost while it opens its log
   abbrev pub OpeningLosesWhatIsTorn : Role → Type 0

@@ -28,8 +28,8 @@ module _ (e : Estate AnyNode) where
   -- good.
   pub record WasWhole (r : Role) (count : ℕ) (name : SegName) : Type 0 where
     pub lost : WasTornInOpening e r count name
-    pub whole : IsStoredAs e lost.at lost.segment
-    pub disks : whole.stored.group.parity < disks_lost (moment e lost.at) whole.stored.group
+    pub whole : IsStoredAs e lost.when lost.segment
+    pub disks : whole.stored.group.parity < disks_lost (moment e lost.when) whole.stored.group
 
   -- what a client, or the cleaner, says is lost while it opens its log
   abbrev pub LosesWhatWasWhole : Role → Type 0

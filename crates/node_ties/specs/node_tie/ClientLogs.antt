@@ -73,11 +73,11 @@ pub record FiledStay (k m : Books) (l : ℕ) (flight : Option FlightState) : Typ
 module _ (k : Books) (s : Serving) where
   abbrev pub BringsRead : Option BlockAt → Next → Type 0
   BringsRead None x = Unit {0}
-  BringsRead (Some at) (next.Read segment) = ReadsThere k s.tokens at.block (value_at segment at.item)
-  BringsRead (Some at) next.Again = Unit {0}
-  BringsRead (Some at) next.Wait = Unit {0}
-  BringsRead (Some at) next.Ask = Unit {0}
-  BringsRead (Some at) next.Lost = Unit {0}
+  BringsRead (Some wanted) (next.Read segment) = ReadsThere k s.tokens wanted.block (value_at segment wanted.item)
+  BringsRead (Some wanted) next.Again = Unit {0}
+  BringsRead (Some wanted) next.Wait = Unit {0}
+  BringsRead (Some wanted) next.Ask = Unit {0}
+  BringsRead (Some wanted) next.Lost = Unit {0}
 
   -- a server tells this in answer to a fetch
   abbrev pub Tells : NodeId → ℕ → Told → Type 0

@@ -64,7 +64,7 @@ module _ (b : Below) (base : Setting) (e : Estate AnyNode) (r : Role) (is_there 
   g = setting base e r
 
   abbrev small : ℕ → Net
-  small count = (line.at count).net
+  small count = (line.scene count).net
 
   abbrev moment_at : (count : ℕ) → Moment (setting base e r) (small count)
   moment_at count = (line.stands count).moment
@@ -72,20 +72,20 @@ module _ (b : Below) (base : Setting) (e : Estate AnyNode) (r : Role) (is_there 
   -- ---- what was sent, and what is held
 
   said : (count : ℕ) (packet : Packet) (m : Body) → WasSent (moment e count).sent packet → packet.body ≡ m
-      → BodySeen g (asker_by r (line.at count)) (small count) packet.from packet.to m
+      → BodySeen g (asker_by r (line.scene count)) (small count) packet.from packet.to m
   said count packet m was fact =
-      subst (BodySeen g (asker_by r (line.at count)) (small count) packet.from packet.to) fact
+      subst (BodySeen g (asker_by r (line.scene count)) (small count) packet.from packet.to) fact
       ((line.stands count).facts packet (was_sent (moment e count).sent packet was))
 
   said_to : (count : ℕ) (packet : Packet) (m : Body) (to : NodeId) → WasSent (moment e count).sent packet → packet.to ≡ to → packet.body ≡ m
-      → BodySeen g (asker_by r (line.at count)) (small count) packet.from to m
-  said_to count packet m to was at fact = subst (λ t. BodySeen g (asker_by r (line.at count)) (small count) packet.from t m) at (said count packet m was fact)
+      → BodySeen g (asker_by r (line.scene count)) (small count) packet.from to m
+  said_to count packet m to was at fact = subst (λ t. BodySeen g (asker_by r (line.scene count)) (small count) packet.from t m) at (said count packet m was fact)
 
   of_log : (name : SegName) → name.log ≡ g.log → is_of_log g name ≡ true
   of_log name own = subst (λ (l : LogId). (l.0 == g.log.0) ≡ true) (sym own) (itself g.log.0)
 
   held_there : (count v : ℕ) (shelf : ShelfState) → shelf_at (moment e count) v ≡ Some shelf → (small count).shelves v ≡ shelf
-  held_there count v shelf fact = subst (ShelfIs g (line.at count) v) fact (shelf_is base e r is_there keeps line count v)
+  held_there count v shelf fact = subst (ShelfIs g (line.scene count) v) fact (shelf_is base e r is_there keeps line count v)
 
   -- what isn't dropped was deleted by no one
   not_deleted : (count : ℕ) (name : SegName) → name.log ≡ g.log → (tables.In name (small count).dropped → ⊥) → NotDeleted (moment e count) name
@@ -106,12 +106,12 @@ module _ (b : Below) (base : Setting) (e : Estate AnyNode) (r : Role) (is_there 
   lacked_between : (from to : ℕ) (name : SegName) (v : ℕ) → name.log ≡ g.log → Lacked b base e r keeps line from to name v
       → LackedBetween e r from to name v
   lacked_between from to name v own l = record {
-    at = l.at;
+    when = l.when;
     since = l.since;
     before = l.before;
-    begun = (let a = boot_is base e r is_there keeps line from in let c = boot_is base e r is_there keeps line (suc l.at) in let d = l.begun in omega arith);
-    kept = not_deleted l.at name own l.kept;
-    lacked = lacked_or_lost l.at name v l.lacked;
+    begun = (let a = boot_is base e r is_there keeps line from in let c = boot_is base e r is_there keeps line (suc l.when) in let d = l.begun in omega arith);
+    kept = not_deleted l.when name own l.kept;
+    lacked = lacked_or_lost l.when name v l.lacked;
   }
 
   -- ---- the text, up to a count, of a segment that was in flight at it
@@ -216,11 +216,11 @@ module _ (b : Below) (base : Setting) (e : Estate AnyNode) (r : Role) (is_there 
     above =
         let p = picks b base e r keeps line count (writing_picked (small count).owner writes) in
         record {
-          at = p.at;
+          when = p.when;
           within = p.within;
-          boot = boot_is base e r is_there keeps line p.at ∙ (p.boot ∙ sym (boot_is base e r is_there keeps line count));
+          boot = boot_is base e r is_there keeps line p.when ∙ (p.boot ∙ sym (boot_is base e r is_there keeps line count));
           low = p.bound.low;
-          reads = low_is base e r is_there keeps line p.at ∙ p.bound.reads;
+          reads = low_is base e r is_there keeps line p.when ∙ p.bound.reads;
           covers = (let limit = p.bound.limit in let above = d.above in omega arith);
         }
 

@@ -88,10 +88,10 @@ module _ (base : Setting) (e : Estate AnyNode) (run : IsRun any_step any_start e
 
   -- ---- what comes to the registry
 
-  reached_one : (count v inc : ℕ) → IsServer e.script.setup.servers v → inc ≤ ((its.at count).net.shelves v).generation → inc ≤ 1
+  reached_one : (count v inc : ℕ) → IsServer e.script.setup.servers v → inc ≤ ((its.scene count).net.shelves v).generation → inc ≤ 1
   reached_one count v inc there reached =
       let s = has_shelf base e run lines count v there in
-      let same = subst (ShelfIs (setting base e OfCleaner) (its.at count) v) s.1 (shelf_is base e OfCleaner tt refl its count v) in
+      let same = subst (ShelfIs (setting base e OfCleaner) (its.scene count) v) s.1 (shelf_is base e OfCleaner tt refl its count v) in
       let one = subst (λ (o : Option ShelfState). IfSome o (λ x. x.generation ≡ 1)) s.1 (shelf_is_first e none count v) in
       let g_ = ap (λ (x : ShelfState). x.generation) same in omega arith
 
@@ -99,9 +99,9 @@ module _ (base : Setting) (e : Estate AnyNode) (run : IsRun any_step any_start e
       → DoTellsNone e.script.setup.servers e.script.setup.groups (what_of (Deliver p))
   tells_none count p may m fact v from there =
       let seen = (its.stands count).facts p (was_sent (moment e count).sent p may) in
-      let hello = subst (BodySeen (setting base e OfCleaner) (asker_by OfCleaner (its.at count)) (its.at count).net p.from p.to) fact seen in
+      let hello = subst (BodySeen (setting base e OfCleaner) (asker_by OfCleaner (its.scene count)) (its.scene count).net p.from p.to) fact seen in
       reached_one count v m.inc there
-      (subst (λ n. ReachedBy (setting base e OfCleaner) (asker_by OfCleaner (its.at count)) (its.at count).net n m.inc) from hello.reached)
+      (subst (λ n. ReachedBy (setting base e OfCleaner) (asker_by OfCleaner (its.scene count)) (its.scene count).net n m.inc) from hello.reached)
 
   event_tells : (count : ℕ) (event : Event) → MayHappen (moment e count) event → DoTellsNone e.script.setup.servers e.script.setup.groups (what_of event)
   event_tells count (Begin name) may = tt

@@ -219,26 +219,26 @@ module _ (g : Setting) (w : Scene) where
 module _ (base : Setting) (e : Estate AnyNode) (r : Role) (is_there : IsThere e.script.setup.clients e.script.setup.managers r) (keeps : renews r ≡ false)
     (line : Line base e r) where
   abbrev owner : ℕ → Owner
-  owner count = (line.at count).net.owner
+  owner count = (line.scene count).net.owner
 
   pub here_at : (count : ℕ) (name : NodeId) (o : Option AnyNode) → node_in (moment e count).nodes (place_of (cluster_of e.script.setup) name) ≡ o
       → node_named (moment e count) name ≡ o
   here_at count name o fact =
       subst (λ c. node_in (moment e count).nodes (place_of c name) ≡ o) (sym (owner_there e r is_there keeps count).cluster) fact
 
-  there_at : (count : ℕ) → (x : AnyNode) × (node_named (moment e count) (owner_by r) ≡ Some x) × IsOwner (setting base e r) (line.at count) x
+  there_at : (count : ℕ) → (x : AnyNode) × (node_named (moment e count) (owner_by r) ≡ Some x) × IsOwner (setting base e r) (line.scene count) x
   there_at count =
       let has = (owner_there e r is_there keeps count).has in (
         has.0,
         here_at count (owner_by r) (Some has.0) has.1,
-        is_owner (setting base e r) (line.at count) r keeps has.0 ((line.stands count).seen (owner_by r) has.0 has.1),
+        is_owner (setting base e r) (line.scene count) r keeps has.0 ((line.stands count).seen (owner_by r) has.0 has.1),
       )
 
   pub log_is : (count : ℕ) → log_at e r count ≡ serving_log (owner count)
   log_is count = (let x = there_at count in ap log_in x.1 ∙ x.2.log)
 
   -- its boot is that of the small world
-  pub boot_is : (count : ℕ) → boot_at e r count ≡ (line.at count).net.inc
+  pub boot_is : (count : ℕ) → boot_at e r count ≡ (line.scene count).net.inc
   boot_is count = (let x = there_at count in ap boot_in x.1 ∙ x.2.boot)
 
   -- and it reads back as far
@@ -252,12 +252,12 @@ module _ (base : Setting) (e : Estate AnyNode) (r : Role) (is_there : IsThere e.
   away_there count fact = log_is count ∙ none_serving (owner count) fact
 
   -- shelves are those of the small world
-  pub shelf_is : (count v : ℕ) → ShelfIs (setting base e r) (line.at count) v (shelf_at (moment e count) v)
+  pub shelf_is : (count v : ℕ) → ShelfIs (setting base e r) (line.scene count) v (shelf_at (moment e count) v)
   shelf_is count v = by (node_in (moment e count).nodes (place_of (cluster_of e.script.setup) (Server v))) refl
     where
       by : (o : Option AnyNode) → node_in (moment e count).nodes (place_of (cluster_of e.script.setup) (Server v)) ≡ o
-          → ShelfIs (setting base e r) (line.at count) v (shelf_at (moment e count) v)
-      by None fact = subst (λ o. ShelfIs (setting base e r) (line.at count) v (shelf_of o)) (sym (here_at count (Server v) None fact)) tt
+          → ShelfIs (setting base e r) (line.scene count) v (shelf_at (moment e count) v)
+      by None fact = subst (λ o. ShelfIs (setting base e r) (line.scene count) v (shelf_of o)) (sym (here_at count (Server v) None fact)) tt
       by (Some x) fact =
-          subst (λ o. ShelfIs (setting base e r) (line.at count) v (shelf_of o)) (sym (here_at count (Server v) (Some x) fact))
-          (shelf_there (setting base e r) (line.at count) r v x ((line.stands count).seen (Server v) x fact))
+          subst (λ o. ShelfIs (setting base e r) (line.scene count) v (shelf_of o)) (sym (here_at count (Server v) (Some x) fact))
+          (shelf_there (setting base e r) (line.scene count) r v x ((line.stands count).seen (Server v) x fact))

@@ -156,21 +156,21 @@ writing_picked (Serving s) fact = contrary fact
 
 module _ (b : Below) (base : Setting) (e : Estate AnyNode) (r : Role) (keeps : renews r ≡ false) (line : Line base e r) where
   abbrev small : ℕ → Net
-  small count = (line.at count).net
+  small count = (line.scene count).net
 
   -- in this boot it read back at some count to no more than the low of its pick
   pub record Picked (count : ℕ) : Type 0 where
-    pub at : ℕ
-    pub within : at ≤ count
-    pub boot : (small at).inc ≡ (small count).inc
-    pub bound : Bounded (small at).owner (small count).picked
+    pub when : ℕ
+    pub within : when ≤ count
+    pub boot : (small when).inc ≡ (small count).inc
+    pub bound : Bounded (small when).owner (small count).picked
 
   here : (count : ℕ) → Bounded (small count).owner (small count).picked → Picked count
-  here count bound = record { at = count; within = omega arith; boot = refl; bound = bound }
+  here count bound = record { when = count; within = omega arith; boot = refl; bound = bound }
 
   stays : (count : ℕ) → (small (suc count)).inc ≡ (small count).inc → (small (suc count)).picked ≡ (small count).picked → Picked count → Picked (suc count)
   stays count inc picked p = record {
-    at = p.at;
+    when = p.when;
     within = (let w = p.within in omega arith);
     boot = p.boot ∙ sym inc;
     bound = record { low = p.bound.low; reads = p.bound.reads; limit = (let m = p.bound.limit in let s = picked in omega arith) };

@@ -95,7 +95,7 @@ serves_straight (OfManager j) runs keeps straight = contrary (sym keeps)
 
 module _ (b : Below) (base : Setting) (e : Estate AnyNode) (r : Role) (keeps : renews r ≡ false) (line : Line base e r) where
   abbrev pub net : ℕ → Net
-  net count = (line.at count).net
+  net count = (line.scene count).net
 
   abbrev pub at_count : (count : ℕ) → Moment (setting base e r) (net count)
   at_count count = (line.stands count).moment
@@ -129,12 +129,12 @@ module _ (b : Below) (base : Setting) (e : Estate AnyNode) (r : Role) (keeps : r
 
   -- From one count on and before another, in an event before which the segment wasn't dropped, a server lacked its fragment, or lost its disk.
   pub record Lacked (from to : ℕ) (name : SegName) (v : ℕ) : Type 0 where
-    pub at : ℕ
-    pub since : from ≤ at
-    pub before : at < to
-    pub begun : (net from).inc < (net (suc at)).inc
-    pub kept : In name (net at).dropped → ⊥
-    pub lacked : LacksOrLoses (net at) (net (suc at)) name v
+    pub when : ℕ
+    pub since : from ≤ when
+    pub before : when < to
+    pub begun : (net from).inc < (net (suc when)).inc
+    pub kept : In name (net when).dropped → ⊥
+    pub lacked : LacksOrLoses (net when) (net (suc when)) name v
 
   -- The owner served last at one count, up to this one.
   pub record Span (count : ℕ) : Type 0 where
@@ -170,12 +170,12 @@ module _ (b : Below) (base : Setting) (e : Estate AnyNode) (r : Role) (keeps : r
 
     later_lacked : (name : SegName) (v : ℕ) → Lacked s.last count name v → Lacked s.last (suc count) name v
     later_lacked name v l =
-        record { at = l.at; since = l.since; before = (let a = l.before in omega arith); begun = l.begun; kept = l.kept; lacked = l.lacked }
+        record { when = l.when; since = l.since; before = (let a = l.before in omega arith); begun = l.begun; kept = l.kept; lacked = l.lacked }
 
     now_lacked : (name : SegName) (v : ℕ) → name.log ≡ (setting base e r).log → LackedOn (at_count count).run (net (suc count)) name v
         → Lacked s.last (suc count) name v
     now_lacked name v own l = record {
-      at = count;
+      when = count;
       since = s.before;
       before = omega arith;
       begun = (let a = s.rises l.between l.first l.spanning in let c = boot_rises (setting base e r) l.between (net (suc count)) l.later in omega arith);

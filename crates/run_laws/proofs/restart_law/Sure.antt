@@ -41,7 +41,7 @@ module _ (b : Below) (base : Setting) (e : Estate AnyNode) (r : Role) (is_there 
   g = setting base e r
 
   abbrev small : ℕ → Net
-  small count = (line.at count).net
+  small count = (line.scene count).net
 
   abbrev moment_at : (count : ℕ) → Moment (setting base e r) (small count)
   moment_at count = (line.stands count).moment

@@ -86,9 +86,9 @@ module _ (base : Setting) (e : Estate AnyNode) (run : IsRun any_step any_start e
   record HasRegistry (x : AnyNode) : Type 0 where
     node : RegistryNode
     kind : x ≡ any.Registry node
-    seen : RegistrySeen (setting base e OfCleaner) (its.at (length e.events)).net node.board
+    seen : RegistrySeen (setting base e OfCleaner) (its.scene (length e.events)).net node.board
 
-  registry_so : (x : AnyNode) → Seen (setting base e OfCleaner) OfCleaner (its.at (length e.events)) Registry x → HasRegistry x
+  registry_so : (x : AnyNode) → Seen (setting base e OfCleaner) OfCleaner (its.scene (length e.events)) Registry x → HasRegistry x
   registry_so (any.Client node) h = absurd h
   registry_so (any.Manager node) h = absurd h
   registry_so (any.Server node) h = absurd h
@@ -108,7 +108,7 @@ module _ (base : Setting) (e : Estate AnyNode) (run : IsRun any_step any_start e
 
   -- ---- a server of a group
 
-  server_so : (count v : ℕ) (x : AnyNode) → Seen (setting base e OfCleaner) OfCleaner (its.at count) (Server v) x
+  server_so : (count v : ℕ) (x : AnyNode) → Seen (setting base e OfCleaner) OfCleaner (its.scene count) (Server v) x
       → (s : ShelfState) × (shelf_of (Some x) ≡ Some s)
   server_so count v (any.Client node) h = absurd h
   server_so count v (any.Manager node) h = absurd h
@@ -145,7 +145,7 @@ module _ (base : Setting) (e : Estate AnyNode) (run : IsRun any_step any_start e
               → node_in (moment e count).nodes (place_of (cluster_of e.script.setup) (Manager j)) ≡ Some x
           there_in h = subst (λ k. node_in (moment e count).nodes (place_of k (Manager j)) ≡ Some x) (cluster_is count) h
 
-          by_kind : (x : AnyNode) → Seen (setting base e OfCleaner) OfCleaner (its.at count) (Manager j) x → log_in (Some x) ≡ Some s → ⊥
+          by_kind : (x : AnyNode) → Seen (setting base e OfCleaner) OfCleaner (its.scene count) (Manager j) x → log_in (Some x) ≡ Some s → ⊥
           by_kind (any.Client node) h at = h
           by_kind (any.Manager node) h at = absurd cc
           by_kind (any.Server node) h at = h
@@ -188,7 +188,7 @@ module _ (b : Below) (base : Setting) (e : Estate AnyNode) (run : IsRun any_step
   g = setting base e r
 
   abbrev small : ℕ → Net
-  small k = (line.at k).net
+  small k = (line.scene k).net
 
   owner_is : (small d.last).owner ≡ Serving d.log
   owner_is = serving_so (small d.last).owner d.log (sym (log_is base e r is_whose.there is_whose.keeps line d.last) ∙ d.served)
@@ -210,23 +210,23 @@ module _ (b : Below) (base : Setting) (e : Estate AnyNode) (run : IsRun any_step
   first : LackedBetween e r d.last count d.segment.name (server_of d.group.members 0)
   first = d.lost 0 some_member
 
-  abbrev at : ℕ
-  at = first.at
+  abbrev when : ℕ
+  when = first.when
 
-  filed : tables.In d.segment.name (small at).filed
-  filed = (grows base e r line d.last at first.since).filed d.segment.name filed_last
+  filed : tables.In d.segment.name (small when).filed
+  filed = (grows base e r line d.last when first.since).filed d.segment.name filed_last
 
-  undropped : tables.In d.segment.name (small at).dropped → ⊥
+  undropped : tables.In d.segment.name (small when).dropped → ⊥
   undropped fact =
-      (let o = (line.stands at).deleted d.segment.name fact in
-      first.kept o.0 (record { name = d.segment.name }) (in_was (moment e at).sent o.0 o.1) o.2 refl)
+      (let o = (line.stands when).deleted d.segment.name fact in
+      first.kept o.0 (record { name = d.segment.name }) (in_was (moment e when).sent o.0 o.1) o.2 refl)
 
-  abbrev flew : (s : Segment) × tables.In s (small at).flown × (s.name ≡ d.segment.name)
-  flew = (b.whole g (small at) (line.stands at).moment).flown d.segment.name filed
+  abbrev flew : (s : Segment) × tables.In s (small when).flown × (s.name ≡ d.segment.name)
+  flew = (b.whole g (small when) (line.stands when).moment).flown d.segment.name filed
 
   abbrev grouped : (group : Group) × (group_at e.world flew.0.group ≡ Some group)
   grouped = striped base e.world e.script.setup.servers (group_at e.world flew.0.group)
-      ((b.whole g (small at) (line.stands at).moment).striped flew.0 flew.1)
+      ((b.whole g (small when) (line.stands when).moment).striped flew.0 flew.1)
 
   -- ---- a member of a group
 
@@ -237,7 +237,7 @@ module _ (b : Below) (base : Setting) (e : Estate AnyNode) (run : IsRun any_step
 
     shelf_so : (k : ℕ) → (small k).shelves (server_of group.members place) ≡ (has k).0
     shelf_so k =
-        subst (ShelfIs g (line.at k) (server_of group.members place)) (has k).1
+        subst (ShelfIs g (line.scene k) (server_of group.members place)) (has k).1
         (shelf_is base e r is_whose.there is_whose.keeps line k (server_of group.members place))
 
     as_made : (k : ℕ) → (has k).0.generation ≡ generation_of group.members place
@@ -247,21 +247,21 @@ module _ (b : Below) (base : Setting) (e : Estate AnyNode) (run : IsRun any_step
   -- ---- it held its fragment
 
   abbrev HasOver : Stripe → ℕ → Type 0
-  HasOver s place = (held_at ((small at).shelves (server_of s.members place)).held flew.0.name ≡ Some (fragment_over flew.0 s place))
-      ⊎ (generation_of s.members place < ((small at).shelves (server_of s.members place)).generation)
+  HasOver s place = (held_at ((small when).shelves (server_of s.members place)).held flew.0.name ≡ Some (fragment_over flew.0 s place))
+      ⊎ (generation_of s.members place < ((small when).shelves (server_of s.members place)).generation)
 
   all_have : (place : ℕ) → place < length grouped.0.members → HasOver (record { members = grouped.0.members; parity = grouped.0.parity }) place
   all_have = subst (λ (s : Stripe). (place : ℕ) → place < length s.members → HasOver s place) (ap stripe_by grouped.1)
-      ((b.whole g (small at) (line.stands at).moment).whole flew.0 flew.1 (subst (λ n. tables.In n (small at).filed) (sym flew.2) filed)
-      (λ fact. undropped (subst (λ n. tables.In n (small at).dropped) flew.2 fact)))
+      ((b.whole g (small when) (line.stands when).moment).whole flew.0 flew.1 (subst (λ n. tables.In n (small when).filed) (sym flew.2) filed)
+      (λ fact. undropped (subst (λ n. tables.In n (small when).dropped) flew.2 fact)))
 
   holds : (place : ℕ) → place < length grouped.0.members
-      → held_at ((small at).shelves (server_of grouped.0.members place)).held d.segment.name ≡ Some (piece flew.0 grouped.0 place)
+      → held_at ((small when).shelves (server_of grouped.0.members place)).held d.segment.name ≡ Some (piece flew.0 grouped.0 place)
   holds place within =
-      ⊎_elim (λ h. subst (λ n. held_at ((small at).shelves (server_of grouped.0.members place)).held n ≡ Some (piece flew.0 grouped.0 place)) flew.2 h)
+      ⊎_elim (λ h. subst (λ n. held_at ((small when).shelves (server_of grouped.0.members place)).held n ≡ Some (piece flew.0 grouped.0 place)) flew.2 h)
       (λ later.
-      let same = shelf_so flew.0.group grouped.0 grouped.1 place within at in
-      let made = as_made flew.0.group grouped.0 grouped.1 place within at in
+      let same = shelf_so flew.0.group grouped.0 grouped.1 place within when in
+      let made = as_made flew.0.group grouped.0 grouped.1 place within when in
       let e_ = ap (λ (s : ShelfState). s.generation) same in absurd (omega arith)) (all_have place within)
 
   grouped_some : 0 < length grouped.0.members
@@ -270,41 +270,41 @@ module _ (b : Below) (base : Setting) (e : Estate AnyNode) (run : IsRun any_step
   -- so the group is the one of its text
   same_id : flew.0.group ≡ d.segment.group
   same_id =
-      let x = has flew.0.group grouped.0 grouped.1 0 grouped_some at in
+      let x = has flew.0.group grouped.0 grouped.1 0 grouped_some when in
       let h = subst (λ (s : ShelfState). held_at s.held d.segment.name ≡ Some (piece flew.0 grouped.0 0))
-      (shelf_so flew.0.group grouped.0 grouped.1 0 grouped_some at)
+      (shelf_so flew.0.group grouped.0 grouped.1 0 grouped_some when)
       (holds 0 grouped_some) in
       ap (λ (f : Fragment). f.meta.group)
-      ((d.text at first.since (let m = first.before in omega arith)).held (server_of grouped.0.members 0) x.0 (piece flew.0 grouped.0 0) x.1 h)
+      ((d.text when first.since (let m = first.before in omega arith)).held (server_of grouped.0.members 0) x.0 (piece flew.0 grouped.0 0) x.1 h)
 
   the_group : grouped.0 ≡ d.group
   the_group = same_group grouped.0 d.group (sym grouped.1 ∙ ap (group_at e.world) same_id ∙ d.striped)
 
-  here : held_at ((small at).shelves (server_of d.group.members 0)).held d.segment.name ≡ Some (piece flew.0 grouped.0 0)
+  here : held_at ((small when).shelves (server_of d.group.members 0)).held d.segment.name ≡ Some (piece flew.0 grouped.0 0)
   here =
-      subst (λ (x : Group). held_at ((small at).shelves (server_of x.members 0)).held d.segment.name ≡ Some (piece flew.0 grouped.0 0)) the_group
+      subst (λ (x : Group). held_at ((small when).shelves (server_of x.members 0)).held d.segment.name ≡ Some (piece flew.0 grouped.0 0)) the_group
       (holds 0 grouped_some)
 
   pub never : ⊥
   never = ⊎_elim lacks loses first.lacked
     where
-      lacks : Lacks (shelf_at (moment e at) (server_of d.group.members 0)) d.segment.name → ⊥
+      lacks : Lacks (shelf_at (moment e when) (server_of d.group.members 0)) d.segment.name → ⊥
       lacks h =
-          let x = has d.segment.group d.group d.striped 0 some_member at in
+          let x = has d.segment.group d.group d.striped 0 some_member when in
           let nothing = subst (λ (o : Option ShelfState). Lacks o d.segment.name) x.1 h in
           held_none (piece flew.0 grouped.0 0)
           (sym nothing
           ∙ subst (λ (s : ShelfState). held_at s.held d.segment.name ≡ Some (piece flew.0 grouped.0 0))
-          (shelf_so d.segment.group d.group d.striped 0 some_member at) here)
+          (shelf_so d.segment.group d.group d.striped 0 some_member when) here)
 
-      loses : LostDisk (shelf_at (moment e at) (server_of d.group.members 0)) (shelf_at (moment e (suc at)) (server_of d.group.members 0)) → ⊥
+      loses : LostDisk (shelf_at (moment e when) (server_of d.group.members 0)) (shelf_at (moment e (suc when)) (server_of d.group.members 0)) → ⊥
       loses h =
-          let less = subst (λ (o : Option ShelfState). LostDisk (Some (has d.segment.group d.group d.striped 0 some_member at).0) o)
-          (has d.segment.group d.group d.striped 0 some_member (suc at)).1
-          (subst (λ (o : Option ShelfState). LostDisk o (shelf_at (moment e (suc at)) (server_of d.group.members 0)))
-          (has d.segment.group d.group d.striped 0 some_member at).1 h) in
-          let before = as_made d.segment.group d.group d.striped 0 some_member at in
-          let now = as_made d.segment.group d.group d.striped 0 some_member (suc at) in
+          let less = subst (λ (o : Option ShelfState). LostDisk (Some (has d.segment.group d.group d.striped 0 some_member when).0) o)
+          (has d.segment.group d.group d.striped 0 some_member (suc when)).1
+          (subst (λ (o : Option ShelfState). LostDisk o (shelf_at (moment e (suc when)) (server_of d.group.members 0)))
+          (has d.segment.group d.group d.striped 0 some_member when).1 h) in
+          let before = as_made d.segment.group d.group d.striped 0 some_member when in
+          let now = as_made d.segment.group d.group d.striped 0 some_member (suc when) in
           absurd (omega arith)
 
 -- over all counts

@@ -47,15 +47,15 @@ begun_so g n m (On run happens) begun h = absurd begun
 
 module _ (base : Setting) (e : Estate AnyNode) (c : ℕ) (line : Line base e (OfClient c)) where
   abbrev So : ℕ → Type 0
-  So count = IsOriginalLog (line.at count).net
+  So count = IsOriginalLog (line.scene count).net
 
   own_so : (count : ℕ) (event : Event) → slice_get e.events count ≡ Some event → Client c ≡ node_of event → So count → So (suc count)
   own_so count event fact own h =
-      logs_go_on (setting base e (OfClient c)) (line.at count).net (line.at (suc count)).net (line.goes count) (line.straight count event fact own)
+      logs_go_on (setting base e (OfClient c)) (line.scene count).net (line.scene (suc count)).net (line.goes count) (line.straight count event fact own)
       (line.puts count event fact own) h
 
-  left_so : (count : ℕ) → IsLeft (line.at count).net (line.at (suc count)).net → So count → So (suc count)
-  left_so count left h = same_so (setting base e (OfClient c)) (line.at count).net h (line.at (suc count)).net left.owner left.flown
+  left_so : (count : ℕ) → IsLeft (line.scene count).net (line.scene (suc count)).net → So count → So (suc count)
+  left_so count left h = same_so (setting base e (OfClient c)) (line.scene count).net h (line.scene (suc count)).net left.owner left.flown
 
   next_so : (count : ℕ) (o : Option Event) → slice_get e.events count ≡ o → So count → So (suc count)
   next_so count None fact h = subst (λ w. IsOriginalLog w.net) (sym (line.ended count fact)) h
@@ -65,7 +65,7 @@ module _ (base : Setting) (e : Estate AnyNode) (c : ℕ) (line : Line base e (Of
   each_so : (count : ℕ) → So count
   each_so zero =
       let at = (line.stands zero).moment in
-      begun_so (setting base e (OfClient c)) (opening (setting base e (OfClient c)) at.map) (line.at zero).net at.run line.begins
+      begun_so (setting base e (OfClient c)) (opening (setting base e (OfClient c)) at.map) (line.scene zero).net at.run line.begins
       (first_so (setting base e (OfClient c)) at.map)
   each_so (suc count) = next_so count (slice_get e.events count) refl (each_so count)
 

@@ -154,7 +154,7 @@ module _ (laws : NodeLaws) (stay : GroupsStay) (base : Setting) (e : Estate AnyN
 
   pub lines : HasLines base e
   lines r there = record {
-    at = λ count. ((good_at count).logs r there).0;
+    scene = λ count. ((good_at count).logs r there).0;
     stands = λ count. ((good_at count).logs r there).1;
     goes = λ count. (steps count r there).runs;
     begins = first_begins r there;
@@ -200,7 +200,7 @@ module _ (below : Below) (e : Estate AnyNode) (ok : IsSetup e.script.setup) (run
       let same : moment e end ≡ e.world = at_end e.events (start_world any_start e.script) e.world run in
       let f = tokens.front below.nodes.tokens e ok run end 0 (omega arith) in
       let l : Line base_of e (OfClient 1) = all (OfClient 1) (omega arith, ok.clients.0) in
-      let s = members_exist base_of e.world (moment e end) setup_of.servers (OfClient 1) k_of f.0 (l.at end) (did e 1 end) (l.stands end) f.1.0.registry
+      let s = members_exist base_of e.world (moment e end) setup_of.servers (OfClient 1) k_of f.0 (l.scene end) (did e 1 end) (l.stands end) f.1.0.registry
       f.1.1.placed.registry id group
       (ap (λ w. group_at w id) same ∙ fact) place below_ in
       shelf_there count (server_of group.members place) s.0 s.1
@@ -210,9 +210,9 @@ module _ (below : Below) (e : Estate AnyNode) (ok : IsSetup e.script.setup) (run
       let l : Line base_of e r = all r there in
       let f = tokens.front below.nodes.tokens e ok run count 0 (omega arith) in
       record {
-        whole = λ name fact kept. is_whole base_of e.world (moment e count) setup_of.servers r k_of f.0 (l.at count) (did e (log_by r) count) (l.stands count)
+        whole = λ name fact kept. is_whole base_of e.world (moment e count) setup_of.servers r k_of f.0 (l.scene count) (did e (log_by r) count) (l.stands count)
             below.whole below.text (exist count) name fact kept;
-        one_text = λ name of. has_text base_of e.world (moment e count) setup_of.servers r k_of f.0 (l.at count) (did e (log_by r) count) (l.stands count)
+        one_text = λ name of. has_text base_of e.world (moment e count) setup_of.servers r k_of f.0 (l.scene count) (did e (log_by r) count) (l.stands count)
             below.text name of;
       }
 

@@ -51,7 +51,7 @@ module _ (base : Setting) (e : Estate AnyNode) (r : Role) (line : Line base e r)
   g = setting base e r
 
   abbrev pub net : ℕ → Net
-  net count = (line.at count).net
+  net count = (line.scene count).net
 
   abbrev pub at : (count : ℕ) → Moment (setting base e r) (net count)
   at count = (line.stands count).moment

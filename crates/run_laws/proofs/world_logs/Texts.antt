@@ -58,7 +58,7 @@ module _ (law : OneNameOneText) (own : WhatFlewIsOfTheLog) (base : Setting) (e :
   There r = IsThere clients managers r
 
   abbrev flown_in : (r : Role) → There r → List Segment
-  flown_in r there = ((lines r there).at (length e.events)).net.flown
+  flown_in r there = ((lines r there).scene (length e.events)).net.flown
 
   -- of the first so many clients, and managers
   of_clients : (c : ℕ) → c ≤ clients → List Segment
@@ -168,7 +168,7 @@ module _ (law : OneNameOneText) (own : WhatFlewIsOfTheLog) (base : Setting) (e :
   any name = record { name = name; prior = record { pass = record { inc = 0; att = 0 }; group = 0 }; group = 0; items = [] }
 
   its_log : (r : Role) (h : There r) (s : Segment) → In s (flown_in r h) → s.name.log ≡ (setting base e r).log
-  its_log r h s fact = own (setting base e r) ((lines r h).at (length e.events)).net ((lines r h).stands (length e.events)).moment s fact
+  its_log r h s fact = own (setting base e r) ((lines r h).scene (length e.events)).net ((lines r h).stands (length e.events)).moment s fact
 
   -- the one that is found is that of any log
   found_is : (r : Role) (h : There r) (s : Segment) → In s (flown_in r h) → (f : Found s.name) → f.0 ≡ s

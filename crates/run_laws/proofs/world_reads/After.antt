@@ -117,13 +117,13 @@ module _ (base : Setting) (e : Estate AnyNode) (lines : HasLines base e) (texts 
   -- ---- the log of one that is left as it was
 
   pub left_flight : AfterLaws → (count : ℕ) (r : Role) (there : There base e lines texts part first r)
-      → IsLeft ((lines r there).at count).net ((lines r there).at (suc count)).net
+      → IsLeft ((lines r there).scene count).net ((lines r there).scene (suc count)).net
       → last_flight (then_on ((lines r there).stands count).moment.run ((lines r there).goes count)) ≡ last_flight ((lines r there).stands count).moment.run
   left_flight laws count r there left =
       flight_left laws.leave (setting base e r) _ _ _ ((lines r there).stands count).moment.run ((lines r there).goes count) left
 
   pub left_after : AfterLaws → (count : ℕ) (k m : Books) (f h : Filed) (r : Role) (there : There base e lines texts part first r)
-      → IsLeft ((lines r there).at count).net ((lines r there).at (suc count)).net → SameLog k m (log_by r) → IsSameLog (log_by r) f h
+      → IsLeft ((lines r there).scene count).net ((lines r there).scene (suc count)).net → SameLog k m (log_by r) → IsSameLog (log_by r) f h
       → KnownAt count k f r there
       → KnownAt (suc count) m h r there
   left_after laws count k m f h r there left books filed fact =

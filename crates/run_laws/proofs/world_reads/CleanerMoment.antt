@@ -70,7 +70,7 @@ module _ (base : Setting) (e : Estate AnyNode) (lines : HasLines base e) (texts 
   pub upto_before : (count : ℕ) → IsSureUpto base e lines texts part first (suc count) → IsSureUpto base e lines texts part first count
   upto_before count sure r there keeps =
       sure_before ((lines r there).stands count).moment.run ((lines r there).goes count)
-      (subst (λ (m : Moment (setting base e r) ((lines r there).at (suc count)).net). IsSureRun m.run) ((lines r there).joined count) (sure r there keeps))
+      (subst (λ (m : Moment (setting base e r) ((lines r there).scene (suc count)).net). IsSureRun m.run) ((lines r there).joined count) (sure r there keeps))
 
   -- ---- the small worlds of the slot
 

@@ -154,7 +154,7 @@ module _ (base : Setting) (e : Estate AnyNode) (lines : HasLines base e) (texts 
         job_seen (OfClient c) there =
             by_other (setting base e (OfClient c)) (log_at base e lines texts part first (OfClient c) there count)
             (((lines (OfClient c) there).stands count).seen Cleaner (any.Cleaner node) here)
-        job_seen OfCleaner there = own ((lines OfCleaner there).at count) (((lines OfCleaner there).stands count).seen Cleaner (any.Cleaner node) here)
+        job_seen OfCleaner there = own ((lines OfCleaner there).scene count) (((lines OfCleaner there).stands count).seen Cleaner (any.Cleaner node) here)
           where
             own : (w : Scene) → CleanerOwns (setting base e OfCleaner) w node.phase → JobPhaseSeen (setting base e OfCleaner) w.net job.cleaning.phase
             own w owns =

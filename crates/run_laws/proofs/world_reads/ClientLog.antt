@@ -73,10 +73,10 @@ module _ (base : Setting) (e : Estate AnyNode) (lines : HasLines base e) (texts 
 
   -- the small world of its log before an event, and after it
   abbrev pub before : Scene
-  before = line.at count
+  before = line.scene count
 
   abbrev pub after : Scene
-  after = line.at (suc count)
+  after = line.scene (suc count)
 
   -- An event of client c, between a moment that stands to all small worlds and one up to which all restarts were sure. The contents of the segments that logs
   -- write are told apart.

@@ -148,7 +148,7 @@ module _ (base : Setting) (e : Estate AnyNode) (lines : HasLines base e) (texts 
     module _ (r : Role) (there : There base e lines texts part first r) (keeps : renews r ≡ false) (node : AnyNode) (took : Took w event node)
         (owned : OwnsEvent base e lines texts part first count r there event node h) where
       abbrev scene : Scene
-      scene = (lines r there).at count
+      scene = (lines r there).scene count
 
       abbrev acts : List Act
       acts = (any_step node what).acts
@@ -324,13 +324,13 @@ module _ (base : Setting) (e : Estate AnyNode) (lines : HasLines base e) (texts 
           by (managing.Down kept) fact = tt
           by (managing.Waiting kept hello) fact = tt
           by (managing.Serving s) fact = λ flight flies acted. (
-              let its = subst (manager_log.ManagerAgrees (setting base e (OfManager j)) j (line.at count)) fact
+              let its = subst (manager_log.ManagerAgrees (setting base e (OfManager j)) j (line.scene count)) fact
               ((line.stands count).seen (Manager j) (any.Manager it) here refl) in
               let writes = (subst (ManagerAgrees part texts.text joint.idx.net) fact (joint.index_stands.managers j b.some b.within)).0.writer in
-              let flew : tables.In flight.segment (line.at count).net.flown =
-              subst (λ (o : Option FlightState). IfSome o (λ (f : FlightState). tables.In f.segment (line.at count).net.flown)) flies
-              (subst (OwnerFlew (line.at count).net.flown) its.log.owner
-              (laws.held (setting base e (OfManager j)) (line.at count).net (line.stands count).moment)) in
+              let flew : tables.In flight.segment (line.scene count).net.flown =
+              subst (λ (o : Option FlightState). IfSome o (λ (f : FlightState). tables.In f.segment (line.scene count).net.flown)) flies
+              (subst (OwnerFlew (line.scene count).net.flown) its.log.owner
+              (laws.held (setting base e (OfManager j)) (line.scene count).net (line.stands count).moment)) in
               record {
                 manager = j;
                 there = (b.some, b.within);

@@ -84,9 +84,9 @@ module _ (base : Setting) (e : Estate AnyNode) (lines : HasLines base e) (texts 
       g = setting base e r
 
       body_seen : (p : Packet) (m : Body) → In p sent → p.body ≡ m
-          → BodySeen g (asker_by r ((lines r there).at count)) (log_at base e lines texts part first r there count) p.from p.to m
+          → BodySeen g (asker_by r ((lines r there).scene count)) (log_at base e lines texts part first r there count) p.from p.to m
       body_seen p m among fact =
-          subst (BodySeen g (asker_by r ((lines r there).at count)) (log_at base e lines texts part first r there count) p.from p.to) fact
+          subst (BodySeen g (asker_by r ((lines r there).scene count)) (log_at base e lines texts part first r there count) p.from p.to) fact
           (((lines r there).stands count).facts p among)
 
       pub log_known : LogKnown texts.text sent (cuts_at e.world) (record { 0 = log_by r })

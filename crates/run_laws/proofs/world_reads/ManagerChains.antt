@@ -97,7 +97,7 @@ module _ (base : Setting) (e : Estate AnyNode) (lines : HasLines base e) (texts 
       → is_of_log (setting base e r) m.fragment.meta.name ≡ true
       → In (FragmentSent m.fragment) (log_at base e lines texts part first r there count).sent
   its_fragment r there p m among fact =
-      subst (BodySeen (setting base e r) (asker_by r ((lines r there).at count)) (log_at base e lines texts part first r there count) p.from p.to) fact
+      subst (BodySeen (setting base e r) (asker_by r ((lines r there).scene count)) (log_at base e lines texts part first r there count) p.from p.to) fact
       (((lines r there).stands count).facts p among)
 
   -- its log is known

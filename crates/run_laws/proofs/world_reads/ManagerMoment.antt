@@ -91,7 +91,7 @@ module _ (base : Setting) (e : Estate AnyNode) (lines : HasLines base e) (texts 
 
     -- the small world of its log after the event
     abbrev pub after : Scene
-    after = line.at (suc count)
+    after = line.scene (suc count)
 
     -- An event of manager j at such a moment, at which readers hold what came.
     pub record ManagerEvent (event : Event) (node : ManagerNode) : Type 0 where

@@ -146,7 +146,7 @@ module _ (base : Setting) (e : Estate AnyNode) (lines : HasLines base e) (texts 
 
   -- it is none, or flew
   client_end : (c : ℕ) (there : There base e lines texts part first (OfClient c)) (s : LogState)
-      → SeesLog (setting base e (OfClient c)) c ((lines (OfClient c) there).at count) s → EndFlew base e lines texts part first count c s.end
+      → SeesLog (setting base e (OfClient c)) c ((lines (OfClient c) there).scene count) s → EndFlew base e lines texts part first count c s.end
   client_end c there s sees = by s.end.seq refl
     where
       g : Setting
@@ -156,7 +156,7 @@ module _ (base : Setting) (e : Estate AnyNode) (lines : HasLines base e) (texts 
       by zero fact = inl fact
       by (suc q) fact =
           let at = ((lines (OfClient c) there).stands count).moment in
-          let net = ((lines (OfClient c) there).at count).net in
+          let net = ((lines (OfClient c) there).scene count).net in
           let last = laws.last (setting base e (OfClient c)) net refl at (sure (OfClient c) there refl) s sees.owner in
           let f = (laws.whole (setting base e (OfClient c)) net at).flown (record { log = s.log; seq = s.end.seq; pass = s.end.pass })
           (last.filed (omega arith)) in
@@ -170,14 +170,14 @@ module _ (base : Setting) (e : Estate AnyNode) (lines : HasLines base e) (texts 
             grouped = sym (laws.ends (setting base e (OfClient c)) net at s sees.owner f.0 f.1 named);
           })
 
-  cleaner_end : (s : LogState) → SeesLog (setting base e OfCleaner) 9 ((lines OfCleaner tt).at count) s → EndFlew base e lines texts part first count 9 s.end
+  cleaner_end : (s : LogState) → SeesLog (setting base e OfCleaner) 9 ((lines OfCleaner tt).scene count) s → EndFlew base e lines texts part first count 9 s.end
   cleaner_end s sees = by s.end.seq refl
     where
       by : (q : ℕ) → s.end.seq ≡ q → EndFlew base e lines texts part first count 9 s.end
       by zero fact = inl fact
       by (suc q) fact =
           let at = ((lines OfCleaner tt).stands count).moment in
-          let net = ((lines OfCleaner tt).at count).net in
+          let net = ((lines OfCleaner tt).scene count).net in
           let last = laws.last (setting base e OfCleaner) net refl at (sure OfCleaner tt refl) s sees.owner in
           let f = (laws.whole (setting base e OfCleaner) net at).flown (record { log = s.log; seq = s.end.seq; pass = s.end.pass })
           (last.filed (omega arith)) in
@@ -204,7 +204,7 @@ module _ (base : Setting) (e : Estate AnyNode) (lines : HasLines base e) (texts 
     g = setting base e (OfClient c)
 
     abbrev w : Scene
-    w = (lines (OfClient c) there).at count
+    w = (lines (OfClient c) there).scene count
 
     agrees : client_log.ClientAgrees g c w node.phase
     agrees = (((lines (OfClient c) there).stands count).seen (Client c) (any.Client node) here refl).agrees
@@ -250,7 +250,7 @@ module _ (base : Setting) (e : Estate AnyNode) (lines : HasLines base e) (texts 
     }
 
   module _ (node : CleanerNode) (what : Do) (here : node_in (moment e count).nodes (place_of k Cleaner) ≡ Some (any.Cleaner node)) where
-    cleaner_agrees : cleaner_log.CleanerAgrees (setting base e OfCleaner) ((lines OfCleaner tt).at count) node.phase
+    cleaner_agrees : cleaner_log.CleanerAgrees (setting base e OfCleaner) ((lines OfCleaner tt).scene count) node.phase
     cleaner_agrees = (((lines OfCleaner tt).stands count).seen Cleaner (any.Cleaner node) here).agrees
 
     record CleanerReported : Type 0 where
@@ -273,7 +273,7 @@ module _ (base : Setting) (e : Estate AnyNode) (lines : HasLines base e) (texts 
         by (cleaning.Serving s) fact = record {
           end = s.log.end;
           is_end = λ t serves. ap (λ (x : Emptying). x.log.end) (one t s (sym serves ∙ fact));
-          flew = cleaner_end s.log (subst (cleaner_log.CleanerAgrees (setting base e OfCleaner) ((lines OfCleaner tt).at count)) fact cleaner_agrees).log;
+          flew = cleaner_end s.log (subst (cleaner_log.CleanerAgrees (setting base e OfCleaner) ((lines OfCleaner tt).scene count)) fact cleaner_agrees).log;
         }
 
     pub cleaner_step_refers : StepRefers (any.Cleaner node) what
@@ -289,7 +289,7 @@ module _ (base : Setting) (e : Estate AnyNode) (lines : HasLines base e) (texts 
     gm = setting base e (OfManager j)
 
     abbrev wm : Scene
-    wm = (lines (OfManager j) there).at count
+    wm = (lines (OfManager j) there).scene count
 
     manager_agrees : manager_log.ManagerAgrees gm j wm node.phase
     manager_agrees = ((lines (OfManager j) there).stands count).seen (Manager j) (any.Manager node) here refl

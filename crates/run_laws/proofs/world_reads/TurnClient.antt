@@ -79,10 +79,10 @@ module _ (laws : StepsBelow) (base : Setting) (e : Estate AnyNode) (lines : HasL
   line = lines (OfClient c) there
 
   abbrev w : Scene
-  w = line.at count
+  w = line.scene count
 
   abbrev v : Scene
-  v = line.at (suc count)
+  v = line.scene (suc count)
 
   abbrev at : Moment g w.net
   at = (line.stands count).moment

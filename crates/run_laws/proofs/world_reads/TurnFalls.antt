@@ -62,8 +62,8 @@ module _ (base : Setting) (e : Estate AnyNode) (lines : HasLines base e) (texts 
   fell_serving count b c there s fact = (
     serving_told true (members cl part) part b.tok.net (moment e count).acts b.tokens_stand.runs b.tokens_stand.acts c
         (subst (held.ClientAgrees true part c b.tok.net) fact (now.client_held base e lines texts part first count b c there)).up,
-    served_last (setting base e (OfClient c)) _ ((lines (OfClient c) there).at count).net ((lines (OfClient c) there).stands count).moment.run s.log
-        (subst (log_tie.ClientAgrees (setting base e (OfClient c)) c ((lines (OfClient c) there).at count)) fact
+    served_last (setting base e (OfClient c)) _ ((lines (OfClient c) there).scene count).net ((lines (OfClient c) there).stands count).moment.run s.log
+        (subst (log_tie.ClientAgrees (setting base e (OfClient c)) c ((lines (OfClient c) there).scene count)) fact
         (now.client_sees base e lines texts part first count b c there).agrees).1.owner,
   )
 
@@ -126,7 +126,7 @@ module _ (base : Setting) (e : Estate AnyNode) (lines : HasLines base e) (texts 
 
         flight : flew_at base e lines texts part first (OfClient c) there (suc count) ≡ flew_at base e lines texts part first (OfClient c) there count
         flight =
-            ap (λ (m : Moment (setting base e (OfClient c)) ((lines (OfClient c) there).at (suc count)).net). last_flight m.run)
+            ap (λ (m : Moment (setting base e (OfClient c)) ((lines (OfClient c) there).scene (suc count)).net). last_flight m.run)
             ((lines (OfClient c) there).joined count)
             ∙ left_flight base e lines texts part first laws.after count (OfClient c) there ((lines (OfClient c) there).others count event at_event away)
 

@@ -132,7 +132,7 @@ module _ (laws : StepsBelow) (base : Setting) (e : Estate AnyNode) (lines : HasL
       where
         by : (p : Phase) → (b.tok.client c).phase ≡ p → ClientLinked part n c p
         by (clients.Serving s) fact =
-            linked_from (epoch_of s.tokens.epochs part) (of_client c there s fact) c (setting base e (OfClient c)) ((lines (OfClient c) there).at count).net
+            linked_from (epoch_of s.tokens.epochs part) (of_client c there s fact) c (setting base e (OfClient c)) ((lines (OfClient c) there).scene count).net
             there.0 (let less = now.below base e lines texts part first count b c there in omega arith)
             (now.client_sure base e lines texts part first count b c there sure) (known.all (OfClient c) there refl).known.line
             (now.registry_seen base e lines texts part first count b (OfClient c) there)
@@ -144,7 +144,7 @@ module _ (laws : StepsBelow) (base : Setting) (e : Estate AnyNode) (lines : HasL
       where
         by : (p : cleaning.Phase) → b.tok.cleaner.phase ≡ p → CleanerLinked part n p
         by (cleaners.Serving v) fact =
-            linked_from (owner.epoch_of v.promised part) (of_cleaner v fact) 9 (setting base e OfCleaner) ((lines OfCleaner tt).at count).net (omega arith)
+            linked_from (owner.epoch_of v.promised part) (of_cleaner v fact) 9 (setting base e OfCleaner) ((lines OfCleaner tt).scene count).net (omega arith)
             (omega arith) (sure_at base e lines texts part first count sure) (known.all OfCleaner tt refl).known.line
             (now.registry_seen base e lines texts part first count b OfCleaner tt)
         by (cleaners.Opening l o) fact = tt

@@ -52,7 +52,7 @@ module _ (base : Setting) (e : Estate AnyNode) (lines : HasLines base e) (texts 
     in_index = same_client (b.tok.client c) (b.idx.client c) (sym client_here ∙ b.index_stands.placed.clients c there.0 member)
 
     -- as its log sees it, as tokens see it, and as the index does
-    pub client_sees : OwnerSeen (setting base e (OfClient c)) ((lines (OfClient c) there).at count) c (b.tok.client c).phase
+    pub client_sees : OwnerSeen (setting base e (OfClient c)) ((lines (OfClient c) there).scene count) c (b.tok.client c).phase
     client_sees = ((lines (OfClient c) there).stands count).seen (Client c) (any.Client (b.tok.client c)) client_here refl
 
     pub client_held : tokens.ClientAgrees true part c b.tok.net (b.tok.client c).phase
@@ -64,7 +64,7 @@ module _ (base : Setting) (e : Estate AnyNode) (lines : HasLines base e) (texts 
 
     -- its log is sure
     pub client_sure : IsSureUpto base e lines texts part first count
-        → IsSure texts.text c (setting base e (OfClient c)) ((lines (OfClient c) there).at count).net
+        → IsSure texts.text c (setting base e (OfClient c)) ((lines (OfClient c) there).scene count).net
     client_sure sure = record {
       own = refl;
       trusted = refl;
@@ -81,7 +81,7 @@ module _ (base : Setting) (e : Estate AnyNode) (lines : HasLines base e) (texts 
   pub cleaner_in_index : b.tok.cleaner ≡ b.idx.cleaner
   cleaner_in_index = same_cleaner b.tok.cleaner b.idx.cleaner (sym cleaner_here ∙ b.index_stands.placed.cleaner)
 
-  pub cleaner_owns : CleanerOwns (setting base e OfCleaner) ((lines OfCleaner tt).at count) b.tok.cleaner.phase
+  pub cleaner_owns : CleanerOwns (setting base e OfCleaner) ((lines OfCleaner tt).scene count) b.tok.cleaner.phase
   cleaner_owns = ((lines OfCleaner tt).stands count).seen Cleaner (any.Cleaner b.tok.cleaner) cleaner_here
 
   pub cleaner_copies : CleanerCopies b.tok.net.books b.tok.cleaner.phase
@@ -93,5 +93,5 @@ module _ (base : Setting) (e : Estate AnyNode) (lines : HasLines base e) (texts 
   -- ---- the registry
 
   pub registry_seen : (r : Role) (there : There base e lines texts part first r)
-      → RegistrySeen (setting base e r) ((lines r there).at count).net b.idx.registry.board
+      → RegistrySeen (setting base e r) ((lines r there).scene count).net b.idx.registry.board
   registry_seen r there = ((lines r there).stands count).seen Registry (any.Registry b.idx.registry) b.index_stands.placed.registry

@@ -91,9 +91,9 @@ module _ (laws : StepsBelow) (base : Setting) (e : Estate AnyNode) (lines : HasL
     -- ---- no event
 
     left : slice_get e.events count ≡ None → (r : Role) (there : There base e lines texts part first r)
-        → IsLeft ((lines r there).at count).net ((lines r there).at (suc count)).net
+        → IsLeft ((lines r there).scene count).net ((lines r there).scene (suc count)).net
     left none r there =
-        subst (λ (x : Scene). IsLeft ((lines r there).at count).net x.net) (sym ((lines r there).ended count none))
+        subst (λ (x : Scene). IsLeft ((lines r there).scene count).net x.net) (sym ((lines r there).ended count none))
         (record { inc = refl; owner = refl; filed = refl; feed = refl; flown = refl; picked = refl })
 
     ended : slice_get e.events count ≡ None → Rests base e lines texts part first count

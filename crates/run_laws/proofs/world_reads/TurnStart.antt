@@ -114,7 +114,7 @@ module _ (laws : StepsBelow) (base : Setting) (e : Estate AnyNode) (lines : HasL
   start_flight =
       let at = ((lines OfCleaner tt).stands 0).moment in
       begun_flight laws.lines_begin first 9 (WritesKind OfCleaner) (setting base e OfCleaner) (log.opening (setting base e OfCleaner) at.map)
-      ((lines OfCleaner tt).at 0).net
+      ((lines OfCleaner tt).scene 0).net
       at.run (lines OfCleaner tt).begins
 
   -- no restart has ended yet

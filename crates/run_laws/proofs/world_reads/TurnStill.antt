@@ -53,7 +53,7 @@ module _ (base : Setting) (e : Estate AnyNode) (lines : HasLines base e) (texts 
 
   -- the small world of each log is left as it was, or its owner was to take the event
   abbrev pub IsStill : (r : Role) → There base e lines texts part first r → Type 0
-  IsStill r there = IsLeft ((lines r there).at count).net ((lines r there).at (suc count)).net ⊎ ServesStraight ((lines r there).goes count)
+  IsStill r there = IsLeft ((lines r there).scene count).net ((lines r there).scene (suc count)).net ⊎ ServesStraight ((lines r there).goes count)
 
   module _ (rests : Rests) (b : Both base e lines texts part first count) where
     abbrev pub rested : Both base e lines texts part first (suc count)
@@ -68,11 +68,11 @@ module _ (base : Setting) (e : Estate AnyNode) (lines : HasLines base e) (texts 
       entered = b.entered;
     }
 
-    abbrev at : (r : Role) (there : There base e lines texts part first r) → Moment (setting base e r) ((lines r there).at count).net
+    abbrev at : (r : Role) (there : There base e lines texts part first r) → Moment (setting base e r) ((lines r there).scene count).net
     at r there = ((lines r there).stands count).moment
 
-    abbrev goes : (r : Role) (there : There base e lines texts part first r) → Runs (setting base e r) ((lines r there).at count).net
-        ((lines r there).at (suc count)).net
+    abbrev goes : (r : Role) (there : There base e lines texts part first r) → Runs (setting base e r) ((lines r there).scene count).net
+        ((lines r there).scene (suc count)).net
     goes r there = (lines r there).goes count
 
     abbrev SameFlight : (r : Role) → There base e lines texts part first r → Type 0
@@ -87,32 +87,32 @@ module _ (base : Setting) (e : Estate AnyNode) (lines : HasLines base e) (texts 
           by (b.tok.client c).phase (now.client_sees base e lines texts part first count b c there).agrees
           (now.client_sees base e lines texts part first (suc count) rested c there).agrees
         where
-          by : (p : clienting.Phase) → client_log.ClientAgrees (setting base e (OfClient c)) c ((lines (OfClient c) there).at count) p
-              → client_log.ClientAgrees (setting base e (OfClient c)) c ((lines (OfClient c) there).at (suc count)) p → SameFlight (OfClient c) there
+          by : (p : clienting.Phase) → client_log.ClientAgrees (setting base e (OfClient c)) c ((lines (OfClient c) there).scene count) p
+              → client_log.ClientAgrees (setting base e (OfClient c)) c ((lines (OfClient c) there).scene (suc count)) p → SameFlight (OfClient c) there
           by (clients.Serving s) was up =
               still.serving_flight (setting base e (OfClient c)) _ _ (at (OfClient c) there) (goes (OfClient c) there) straight s.log was.1.owner up.1.owner
           by (clients.Down l) was up =
               still.away_flight (setting base e (OfClient c)) _ _ (at (OfClient c) there) (goes (OfClient c) there) straight
-              (client_away part texts.text (setting base e (OfClient c)) c ((lines (OfClient c) there).at (suc count)) b.idx.net (clients.Down l) up tt)
+              (client_away part texts.text (setting base e (OfClient c)) c ((lines (OfClient c) there).scene (suc count)) b.idx.net (clients.Down l) up tt)
           by (clients.Opening l o) was up =
               still.away_flight (setting base e (OfClient c)) _ _ (at (OfClient c) there) (goes (OfClient c) there) straight
-              (client_away part texts.text (setting base e (OfClient c)) c ((lines (OfClient c) there).at (suc count)) b.idx.net (clients.Opening l o) up tt)
+              (client_away part texts.text (setting base e (OfClient c)) c ((lines (OfClient c) there).scene (suc count)) b.idx.net (clients.Opening l o) up tt)
 
       cleaner_flight : ServesStraight (goes OfCleaner tt) → SameFlight OfCleaner tt
       cleaner_flight straight =
           by b.tok.cleaner.phase (now.cleaner_owns base e lines texts part first count b).agrees
           (now.cleaner_owns base e lines texts part first (suc count) rested).agrees
         where
-          by : (p : cleaning.Phase) → cleaner_log.CleanerAgrees (setting base e OfCleaner) ((lines OfCleaner tt).at count) p
-              → cleaner_log.CleanerAgrees (setting base e OfCleaner) ((lines OfCleaner tt).at (suc count)) p → SameFlight OfCleaner tt
+          by : (p : cleaning.Phase) → cleaner_log.CleanerAgrees (setting base e OfCleaner) ((lines OfCleaner tt).scene count) p
+              → cleaner_log.CleanerAgrees (setting base e OfCleaner) ((lines OfCleaner tt).scene (suc count)) p → SameFlight OfCleaner tt
           by (cleaners.Serving s) was up =
               still.serving_flight (setting base e OfCleaner) _ _ (at OfCleaner tt) (goes OfCleaner tt) straight s.log was.log.owner up.log.owner
           by (cleaners.Down l) was up =
               still.away_flight (setting base e OfCleaner) _ _ (at OfCleaner tt) (goes OfCleaner tt) straight
-              (cleaner_away part texts.text (setting base e OfCleaner) ((lines OfCleaner tt).at (suc count)) b.idx.net (cleaners.Down l) up tt)
+              (cleaner_away part texts.text (setting base e OfCleaner) ((lines OfCleaner tt).scene (suc count)) b.idx.net (cleaners.Down l) up tt)
           by (cleaners.Opening l o) was up =
               still.away_flight (setting base e OfCleaner) _ _ (at OfCleaner tt) (goes OfCleaner tt) straight
-              (cleaner_away part texts.text (setting base e OfCleaner) ((lines OfCleaner tt).at (suc count)) b.idx.net (cleaners.Opening l o) up tt)
+              (cleaner_away part texts.text (setting base e OfCleaner) ((lines OfCleaner tt).scene (suc count)) b.idx.net (cleaners.Opening l o) up tt)
 
       same_flight : (r : Role) (there : There base e lines texts part first r) → renews r ≡ false → SameFlight r there
       same_flight (OfClient c) there keeps = ⊎_elim (λ left. left_flight base e lines texts part first laws.after count (OfClient c) there left)
@@ -124,7 +124,7 @@ module _ (base : Setting) (e : Estate AnyNode) (lines : HasLines base e) (texts 
       pub flew_still : (r : Role) (there : There base e lines texts part first r) → renews r ≡ false
           → flew_at base e lines texts part first r there (suc count) ≡ flew_at base e lines texts part first r there count
       flew_still r there keeps =
-          ap (λ (m : Moment (setting base e r) ((lines r there).at (suc count)).net). last_flight m.run) ((lines r there).joined count)
+          ap (λ (m : Moment (setting base e r) ((lines r there).scene (suc count)).net). last_flight m.run) ((lines r there).joined count)
           ∙ same_flight r there keeps
 
       -- ---- what is known of logs
@@ -132,19 +132,19 @@ module _ (base : Setting) (e : Estate AnyNode) (lines : HasLines base e) (texts 
       module _ (sure : IsSureUpto base e lines texts part first (suc count))
           (known : LogsKnown base e lines texts part first count b) where
         left : (r : Role) (there : There base e lines texts part first r) → renews r ≡ false
-            → IsLeft ((lines r there).at count).net ((lines r there).at (suc count)).net
+            → IsLeft ((lines r there).scene count).net ((lines r there).scene (suc count)).net
             → KnownAt base e lines texts part first (suc count) b.tok.net.books b.idx.net.filed r there
         left r there keeps fact =
             left_after base e lines texts part first laws.after count b.tok.net.books b.tok.net.books b.idx.net.filed b.idx.net.filed r there fact
             (same_log b.tok.net.books (log_by r)) (same_filing b.idx.net.filed (log_by r)) (known.all r there keeps)
 
         own : (r : Role) (there : There base e lines texts part first r) → renews r ≡ false → ServesStraight (goes r there)
-            → IsSure texts.text (log_by r) (setting base e r) ((lines r there).at (suc count)).net
-            → ((s : LogState) → ((lines r there).at (suc count)).net.owner ≡ Serving s → s.end.seq ≡ b.idx.net.filed.head (log_by r))
+            → IsSure texts.text (log_by r) (setting base e r) ((lines r there).scene (suc count)).net
+            → ((s : LogState) → ((lines r there).scene (suc count)).net.owner ≡ Serving s → s.end.seq ≡ b.idx.net.filed.head (log_by r))
             → KnownAt base e lines texts part first (suc count) b.tok.net.books b.idx.net.filed r there
         own r there keeps straight is_sure end =
             let its = known.all r there keeps in
-            subst (λ (m : Moment (setting base e r) ((lines r there).at (suc count)).net). OwnAfter (WritesKind r) (log_by r) m b.tok.net.books
+            subst (λ (m : Moment (setting base e r) ((lines r there).scene (suc count)).net). OwnAfter (WritesKind r) (log_by r) m b.tok.net.books
             b.idx.net.filed) (sym ((lines r there).joined count)) (record {
               known = still.still_known (setting base e r) _ _ (at r there) (goes r there) straight laws.after texts.text (log_by r) is_sure b.tok.net.books
                   b.idx.net.filed its.known end (same_flight r there keeps);
@@ -156,13 +156,13 @@ module _ (base : Setting) (e : Estate AnyNode) (lines : HasLines base e) (texts 
         all_still (OfClient c) there keeps = ⊎_elim (λ fact. left (OfClient c) there keeps fact)
             (λ straight. own (OfClient c) there keeps straight
             (now.client_sure base e lines texts part first (suc count) rested c there sure)
-            (client_end part texts.text (setting base e (OfClient c)) c ((lines (OfClient c) there).at (suc count)) b.idx.net (b.tok.client c).phase
+            (client_end part texts.text (setting base e (OfClient c)) c ((lines (OfClient c) there).scene (suc count)) b.idx.net (b.tok.client c).phase
             (now.client_sees base e lines texts part first (suc count) rested c there).agrees
             (now.client_indexed base e lines texts part first (suc count) rested c there)))
             (stays (OfClient c) there keeps)
         all_still OfCleaner there keeps = ⊎_elim (λ fact. left OfCleaner tt keeps fact)
             (λ straight. own OfCleaner tt keeps straight (sure_at base e lines texts part first (suc count) sure)
-            (cleaner_end part texts.text (setting base e OfCleaner) ((lines OfCleaner tt).at (suc count)) b.idx.net b.tok.cleaner.phase
+            (cleaner_end part texts.text (setting base e OfCleaner) ((lines OfCleaner tt).scene (suc count)) b.idx.net b.tok.cleaner.phase
             (now.cleaner_owns base e lines texts part first (suc count) rested).agrees
             (now.cleaner_indexed base e lines texts part first (suc count) rested).phase))
             (stays OfCleaner tt keeps)

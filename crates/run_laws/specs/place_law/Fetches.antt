@@ -36,13 +36,13 @@ use Rattle.run_laws.specs.place_law.Reads.{FiledKnown}
 
 -- where the reading looks for a block
 abbrev pub place_read : ReadingState → BlockAt → Place
-place_read r at = record { seg = r.target.seg; item = at.item }
+place_read r wanted = record { seg = r.target.seg; item = wanted.item }
 
 -- while a block is fetched, it is read where the fetch has it
 abbrev pub ReadsItsFetch : Serving → Type 0
 ReadsItsFetch s =
-    (r : ReadingState) (at : BlockAt) (f : Fetch) → reading_in s.call ≡ Some r → r.target.block ≡ Some at → (held_at s at.block).fetch ≡ Some f
-    → f.place ≡ place_read r at
+    (r : ReadingState) (wanted : BlockAt) (f : Fetch) → reading_in s.call ≡ Some r → r.target.block ≡ Some wanted → (held_at s wanted.block).fetch ≡ Some f
+    → f.place ≡ place_read r wanted
 
 abbrev pub PhaseReadsItsFetch : Phase → Type 0
 PhaseReadsItsFetch (Down l) = Unit {0}

@@ -117,22 +117,22 @@ module _ (e : Estate AnyNode) where
   -- In the boot that an owner is in at a moment, the low by which its opening picked where the log goes on isn't above this number: at a moment of the boot, up
   -- to that one, it had picked, and read back to no more than the number.
   pub record ReadsBackTo (r : Role) (count seq : ℕ) : Type 0 where
-    pub at : ℕ
-    pub within : at ≤ count
-    pub boot : boot_at r at ≡ boot_at r count
+    pub when : ℕ
+    pub within : when ≤ count
+    pub boot : boot_at r when ≡ boot_at r count
     pub low : ℕ
-    pub reads : low_at r at ≡ Some low
+    pub reads : low_at r when ≡ Some low
     pub covers : low ≤ seq
 
   -- At a moment from one on and before another, while no server was told to delete the segment, a server lacked its fragment, or it lost its disk in the event
   -- there; and by the end of this event the owner had begun a boot since the first of the two moments.
   pub record LackedBetween (r : Role) (from to : ℕ) (name : SegName) (v : ℕ) : Type 0 where
-    pub at : ℕ
-    pub since : from ≤ at
-    pub before : at < to
-    pub begun : boot_at r from < boot_at r (suc at)
-    pub kept : NotDeleted (moment e at) name
-    pub lacked : Lacks (shelf_at (moment e at) v) name ⊎ LostDisk (shelf_at (moment e at) v) (shelf_at (moment e (suc at)) v)
+    pub when : ℕ
+    pub since : from ≤ when
+    pub before : when < to
+    pub begun : boot_at r from < boot_at r (suc when)
+    pub kept : NotDeleted (moment e when) name
+    pub lacked : Lacks (shelf_at (moment e when) v) name ⊎ LostDisk (shelf_at (moment e when) v) (shelf_at (moment e (suc when)) v)
 
   -- A doubtful restart, which ends in the event at this count: each member of the newest segment of the log, unless that is below the low by which the opening
   -- picked its chain, lacked its fragment at some moment since the owner began to open the log, after it served last, with the attempts that a fall cut short.

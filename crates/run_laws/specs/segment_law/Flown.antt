@@ -36,4 +36,4 @@ LogsGoOnOriginal = (g : Setting) (n o : Net) (runs : Runs g n o) → ServesStrai
 
 -- At each count of the events of a run it is so of each client's log: so of what is filed there, which was in flight.
 abbrev pub ClientsFlewOriginals : Type 0
-ClientsFlewOriginals = (base : Setting) (e : Estate AnyNode) (c : ℕ) (line : Line base e (OfClient c)) (count : ℕ) → IsOriginalLog (line.at count).net
+ClientsFlewOriginals = (base : Setting) (e : Estate AnyNode) (c : ℕ) (line : Line base e (OfClient c)) (count : ℕ) → IsOriginalLog (line.scene count).net

@@ -75,19 +75,19 @@ module _ (base : Setting) (e : Estate AnyNode) where
   setting r = setting_of base e.world e.script.setup.servers r
 
   pub record Line (r : Role) : Type 0 where
-    pub at : ℕ → Scene
-    pub stands : (count : ℕ) → Stands (setting r) r (at count) cluster (moment e count).nodes (moment e count).sent (did e (log_by r) count)
-    pub goes : (count : ℕ) → Runs (setting r) (at count).net (at (suc count)).net
+    pub scene : ℕ → Scene
+    pub stands : (count : ℕ) → Stands (setting r) r (scene count) cluster (moment e count).nodes (moment e count).sent (did e (log_by r) count)
+    pub goes : (count : ℕ) → Runs (setting r) (scene count).net (scene (suc count)).net
     pub begins : IsBegun (stands 0).moment.run
     pub joined : (count : ℕ) → (stands (suc count)).moment ≡ moment_then (stands count).moment (goes count)
     pub own : (count : ℕ) (event : Event) → slice_get e.events count ≡ Some event → owner_by r ≡ node_of event
-        → GrowsBy (setting r) r (at count) (at (suc count))
+        → GrowsBy (setting r) r (scene count) (scene (suc count))
     pub straight : (count : ℕ) (event : Event) → slice_get e.events count ≡ Some event → owner_by r ≡ node_of event → StraightBy r (goes count)
     pub puts : (count : ℕ) (event : Event) → slice_get e.events count ≡ Some event → owner_by r ≡ node_of event
-        → PutsBy r (at count).net (at (suc count)).net
+        → PutsBy r (scene count).net (scene (suc count)).net
     pub others : (count : ℕ) (event : Event) → slice_get e.events count ≡ Some event → (owner_by r ≡ node_of event → ⊥)
-        → IsLeft (at count).net (at (suc count)).net
-    pub ended : (count : ℕ) → slice_get e.events count ≡ None → at (suc count) ≡ at count
+        → IsLeft (scene count).net (scene (suc count)).net
+    pub ended : (count : ℕ) → slice_get e.events count ≡ None → scene (suc count) ≡ scene count
 
 -- each log of a run has its line: each client's, the cleaner's and each manager's
 abbrev pub HasLines : Setting → Estate AnyNode → Type 0
@@ -102,7 +102,7 @@ RunsHaveLines = (base : Setting) (e : Estate AnyNode) → IsSetup e.script.setup
 pub record Texts (base : Setting) (e : Estate AnyNode) (lines : HasLines base e) : Type 0 where
   pub text : SegName → Segment
   pub flown : (r : Role) (there : IsThere e.script.setup.clients e.script.setup.managers r) (count : ℕ) (s : Segment)
-      → In s ((lines r there).at count).net.flown
+      → In s ((lines r there).scene count).net.flown
       → text s.name ≡ s
 
 -- the lines of a run have one text of each name

@@ -57,7 +57,7 @@ module _ (base : Setting) (e : Estate AnyNode) (lines : HasLines base e) where
     pub manager : ℕ
     pub there : IsThere e.script.setup.clients e.script.setup.managers (OfManager manager)
     pub segment : Segment
-    pub flew : tables.In segment ((lines (OfManager manager) there).at count).net.flown
+    pub flew : tables.In segment ((lines (OfManager manager) there).scene count).net.flown
     pub named : segment.name ≡ ref.name
     pub group : segment.group ≡ ref.group
     pub acted : In (act.Filed ref.name) (did e (log_by (OfManager manager)) count)

@@ -48,7 +48,7 @@ module _ (base : Setting) (e : Estate AnyNode) (lines : HasLines base e) (texts 
 
   -- the small world of a log at a count of the events
   abbrev pub log_at : (r : Role) → There r → ℕ → LogNet
-  log_at r there count = ((lines r there).at count).net
+  log_at r there count = ((lines r there).scene count).net
 
   -- what its owner had in flight when it served last
   abbrev pub flew_at : (r : Role) → There r → ℕ → Option FlightState

@@ -49,7 +49,7 @@ pub record LiesTold (told : Told) (block : BlockId) (place : Place) : Type 0 whe
 -- a block is read from a segment where it is told to lie
 abbrev pub BlockTold : Told → SegRef → Option BlockAt → Type 0
 BlockTold told seg None = Unit {0}
-BlockTold told seg (Some at) = LiesTold told at.block (record { seg = seg; item = at.item })
+BlockTold told seg (Some wanted) = LiesTold told wanted.block (record { seg = seg; item = wanted.item })
 
 abbrev pub ReadingTold : Told → Option ReadingState → Type 0
 ReadingTold told None = Unit {0}

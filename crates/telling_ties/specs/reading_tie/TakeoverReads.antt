@@ -33,7 +33,7 @@ to_any came own server told = AnyQuestion came server told
 abbrev pub ReadsDown : Came → Striped → Source → List Segment → Source → Type 0
 ReadsDown came striped first [] source = source ≡ first
 ReadsDown came striped first (s ∷ above) source =
-    (at : Source) × ReadsDown came striped first above at × ReadsJoined (to_any came) striped at.seg s × (back_from at s ≡ Some source)
+    (reached : Source) × ReadsDown came striped first above reached × ReadsJoined (to_any came) striped reached.seg s × (back_from reached s ≡ Some source)
 
 -- a source that is read is where one of these leads
 pub record LeadsDown (came : Came) (striped : Striped) (sources : List Source) (source : Source) : Type 0 where

@@ -6,6 +6,7 @@ use Rattle.group_map.specs.GroupMapState.{GroupMapState}
 use Rattle.group_map.specs.Groups.{numbered, followers, generations_after, retired, is_hit}
 use Rattle.group_map.specs.WellFormed.{IsServer, IsGroupMap}
 use Rattle.group_map.proofs.WellFormedMaps.{IsGroupMap-lost}
+use Rattle.xfs_base.specs.Limits.{u32_end}
 use Rattle.group_map.proofs.group_map.GroupMap.after_loss.Goals as goal
 
 pub invariant_of-self : goal.invariant_of-self
@@ -18,8 +19,8 @@ invariant_of-self c =
     (followers (generations_after c.self.inside.generations c.args.server c.args.generation) c.args.server c.self.inside.groups) =
     first_of (search rules, grind (arith, common_steps))
     in
-    let room : length c.self.inside.groups + length (filter (is_hit c.args.server) c.self.inside.groups) ≤ 4294967295 =
-    subst (λ (s : GroupMapState). length s.groups + length (filter (is_hit c.args.server) s.groups) ≤ 4294967295) (sym c.self.view_is) c.requires.room
+    let room : length c.self.inside.groups + length (filter (is_hit c.args.server) c.self.inside.groups) ≤ u32_end =
+    subst (λ (s : GroupMapState). length s.groups + length (filter (is_hit c.args.server) s.groups) ≤ u32_end) (sym c.self.view_is) c.requires.room
     in
     let exists : IsServer c.self.inside.servers c.args.server =
     subst (λ (s : GroupMapState). IsServer s.servers c.args.server) (sym c.self.view_is) c.requires.exists in

@@ -3,6 +3,7 @@ use Rattle.usage_table.specs.Counts.{count_of, after_shift}
 use Rattle.delta_index.specs.Index.{entry_of}
 use Rattle.slot_beliefs.specs.Index.{Indexed, indexed, segment_of, IsCounted}
 use Rattle.slot_beliefs.proofs.Counting.{shown, held_counted, kept_indexed, put_indexed, counted_as}
+use Rattle.xfs_base.specs.Limits.{u32_end}
 use Rattle.slot_beliefs.proofs.index.BlockIndex.merge.Goals as goal
 
 pub invariant_of-self-then-not-branch : goal.invariant_of-self-then-not-branch
@@ -29,7 +30,7 @@ shift-shifted-requires-clause-held c = λ x fact.
 
 pub shift-shifted-requires-clause-room : goal.shift-shifted-requires-clause-room
 shift-shifted-requires-clause-room c = λ x fact apart.
-    subst (λ (i : Indexed). count_of i.usage x < 4294967295) (sym c.self.view_is) (c.requires x (sym c.segment_of-2.ensures ∙ fact))
+    subst (λ (i : Indexed). count_of i.usage x < u32_end) (sym c.self.view_is) (c.requires x (sym c.segment_of-2.ensures ∙ fact))
 
 pub invariant_of-self-in_default : goal.invariant_of-self-in_default
 invariant_of-self-in_default c =
