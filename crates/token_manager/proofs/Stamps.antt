@@ -53,7 +53,7 @@ both_turns epoch turn at xs ys first rest =
     ∙ after_both epoch turn (length xs) (length ys) ∙ ap (stamps_after epoch turn) (sym (length-append xs ys))
 
 -- the epoch stays, and the turns are given out
-record Gives (s : SlotState) (input : In) : Type 0 where
+record GivesTurns (s : SlotState) (input : In) : Type 0 where
   epoch : (transition s input).state.epoch ≡ s.epoch
   turns : AreTurns s.epoch s.turn (transition s input).state.turn (given_by input (transition s input).outs)
 
@@ -61,7 +61,7 @@ gives_turns : (s : SlotState) (input : In) → IsNotTick input
     → AreTurns s.epoch s.turn (transition s input).state.turn (stamps_in (transition s input).outs)
 gives_turns s input news = are_counted s.epoch s.turn (transition s input).state.turn (transition s input).outs (takes-transition s input news).1
 
-gives : (s : SlotState) (input : In) → Gives s input
+gives : (s : SlotState) (input : In) → GivesTurns s input
 gives s (Want client block inc req again mode end) =
     let input : In = Want client block inc req again mode end in record { epoch = (takes-transition s input tt).0; turns = gives_turns s input tt }
 gives s (Gave client block said end) =
