@@ -1,5 +1,5 @@
 -- What waits, and what is sealed, is what was put last.
-use Rattle.std.proofs.Common.{◌≡◌, ℕ, zero, suc, true, false, cond, ◌⊎◌, inl, inr, List, [], ◌∷◌, Option, Some, None, refl, sym, ap, subst, ◌∙◌, take, drop}
+use Rattle.std.proofs.Common.{◌≡◌, ℕ, zero, suc, true, false, cond, ◌⊎◌, inl, inr, List, [], ◌∷◌, ◌++◌, Option, Some, None, refl, sym, ap, subst, ◌∙◌, take, drop}
 use Rattle.std.specs.Prelude.{IfSome, ◌&&◌, nat_lt, length, if◌then◌else◌}
 use Rattle.std.specs.List.{AllByRecursion}
 use Rattle.std.proofs.lemmas.Bool.{true≢false}
@@ -25,7 +25,7 @@ use Rattle.client_log.specs.declared.input.In.{In}
 use Rattle.client_log.specs.declared.input.In.TheVariants.{Put, Parts, Seal, Acked, Maps, Tick}
 use Rattle.client_log.specs.LogState.{LogState, started}
 use Rattle.client_log.specs.Transition.{Done, all_sends, launched, writes, has_next, is_idle, is_full, can_go_on, sealed, if_full, waits, on_put, on_seal, on_parts, restriped, landed, settled, can_follow, followed, looked_at, on_acked, on_maps, on_tick, transition}
-use Rattle.client_log.specs.History.{state_after, last_put, AreLastPuts, WereFlying, HoldsLastPuts}
+use Rattle.client_log.specs.History.{state_after, put_with, put_by, last_put, AreLastPuts, WereFlying, HoldsLastPuts}
 
 -- ---- lists of changes
 
@@ -185,26 +185,26 @@ put_waits b c known s w =
       | false ↦ w
     ]
 
+abbrev Known : Type 0
+Known = BlockId → Option Change
+
+-- what waits after an input
+waiting_after : (s : LogState) (input : In) (known : Known) → Waiting known s.dirty → Waiting (λ b. put_with s input b (known b)) (transition s input).state.dirty
+waiting_after s (Put block entry value) known w = put_waits block (record { entry = entry; value = value }) known s w
+waiting_after s (Parts items) known w = waiting_kept known s (on_parts s items) (kept_parts s items) w
+waiting_after s Seal known w = waiting_kept known s (on_seal s) (kept_seal s) w
+waiting_after s (Acked name index generation) known w =
+    waiting_kept known s (on_acked s name index generation) (kept_acked s name index generation) w
+waiting_after s (Maps groups) known w = waiting_kept known s (on_maps s groups) (kept_maps s groups) w
+waiting_after s Tick known w = waiting_kept known s (on_tick s) (kept_tick s) w
+
+waiting_by : (s : LogState) (inputs : List In) (known : Known) → Waiting known s.dirty → Waiting (λ b. put_by s inputs b (known b)) (state_after s inputs).dirty
+waiting_by s [] known w = w
+waiting_by s (input ∷ later) known w = waiting_by (transition s input).state later (λ b. put_with s input b (known b)) (waiting_after s input known w)
+
 waiting : (start : LogState) → start.dirty ≡ [] → (history : List In) → Waiting (last_put start history) (state_after start history).dirty
 unfolding Apart
-waiting start e [] = subst (Waiting (last_put start [])) (sym e) (record { fresh = tt; apart = tt })
-waiting start e (Put block entry value ∷ earlier) =
-    put_waits block (record { entry = entry; value = value }) (last_put start earlier) (state_after start earlier) (waiting start e earlier)
-waiting start e (Parts items ∷ earlier) =
-    waiting_kept (last_put start earlier) (state_after start earlier) (on_parts (state_after start earlier) items)
-    (kept_parts (state_after start earlier) items) (waiting start e earlier)
-waiting start e (Seal ∷ earlier) =
-    waiting_kept (last_put start earlier) (state_after start earlier) (on_seal (state_after start earlier)) (kept_seal (state_after start earlier))
-    (waiting start e earlier)
-waiting start e (Acked name index generation ∷ earlier) =
-    waiting_kept (last_put start earlier) (state_after start earlier) (on_acked (state_after start earlier) name index generation)
-    (kept_acked (state_after start earlier) name index generation) (waiting start e earlier)
-waiting start e (Maps groups ∷ earlier) =
-    waiting_kept (last_put start earlier) (state_after start earlier) (on_maps (state_after start earlier) groups)
-    (kept_maps (state_after start earlier) groups) (waiting start e earlier)
-waiting start e (Tick ∷ earlier) =
-    waiting_kept (last_put start earlier) (state_after start earlier) (on_tick (state_after start earlier)) (kept_tick (state_after start earlier))
-    (waiting start e earlier)
+waiting start e history = waiting_by start history (λ b. None) (subst (Waiting (λ b. None)) (sym e) (record { fresh = tt; apart = tt }))
 
 pub last_waits : (log : LogId) (inc : ℕ) (end : End) (groups : GroupMapState) (history : List In)
     → AreLastPuts (started log inc end groups) history (state_after (started log inc end groups) history).dirty
@@ -248,6 +248,12 @@ module _ (s : LogState) (Held : List Item → Type 0) (same : (items : List Item
         | false ↦ held_still s refl
       ]
 
+-- one more input is heard last
+put_behind : (s : LogState) (history : List In) (input : In) (b : BlockId) (last : Option Change)
+    → put_by s (history ++ input ∷ []) b last ≡ put_with (state_after s history) input b (put_by s history b last)
+put_behind s [] input b last = refl
+put_behind s (x ∷ history) input b last = put_behind (transition s x).state history input b (put_with s x b last)
+
 module _ (start : LogState) (empty : start.dirty ≡ []) (history : List In) where
   abbrev past : LogState
   past = state_after start history
@@ -255,10 +261,19 @@ module _ (start : LogState) (empty : start.dirty ≡ []) (history : List In) whe
   abbrev known : BlockId → Option Change
   known = last_put start history
 
+  -- what is put last once the input is heard, too
+  abbrev known_then : In → BlockId → Option Change
+  known_then input b = put_with past input b (known b)
+
+  put_last : (input : In) (changes : List (BlockId × Change)) → Fresh (known_then input) changes → AreLastPuts start (history ++ input ∷ []) changes
+  put_last input [] h = tt
+  put_last input (c ∷ changes) h = (put_behind start history input c.0 None ∙ h.0, put_last input changes h.1)
+
   -- those that wait first, where they are what was put last
-  first_last : (input : In) (dirty : List (BlockId × Change)) → AreLastPuts start (input ∷ history) (take segment_blocks dirty)
+  first_last : (input : In) (dirty : List (BlockId × Change)) → Fresh (known_then input) (take segment_blocks dirty)
       → HoldsLastPuts start history input (items_of 0 (take segment_blocks dirty))
-  first_last input dirty h = inr (inr (record { changes = take segment_blocks dirty; last = h; written = refl }))
+  first_last input dirty h =
+      inr (inr (record { changes = take segment_blocks dirty; last = put_last input (take segment_blocks dirty) h; written = refl }))
 
   known_first : Fresh known (take segment_blocks past.dirty)
   known_first = all_take (λ x. known x.0 ≡ Some x.1) segment_blocks past.dirty (waiting start empty history).fresh
@@ -268,7 +283,7 @@ module _ (start : LogState) (empty : start.dirty ≡ []) (history : List In) whe
 
   seals_put : (input : In) (b : BlockId) (c : Change)
       → ((can_go_on (waits past b c) ≡ true) → Fresh (now b c known) (take segment_blocks (waits past b c).dirty)
-      → AreLastPuts start (input ∷ history) (take segment_blocks (waits past b c).dirty)) → Seals input (on_put past b c)
+      → Fresh (known_then input) (take segment_blocks (waits past b c).dirty)) → Seals input (on_put past b c)
   unfolding on_put
   seals_put input b c last =
       let t : LogState = waits past b c in
@@ -338,5 +353,6 @@ module _ (start : LogState) (empty : start.dirty ≡ []) (history : List In) whe
   seals Tick = seals_tick
 
 pub last_sealed : (log : LogId) (inc : ℕ) (end : End) (groups : GroupMapState) (history : List In) (input : In)
-    → IfSome (state_after (started log inc end groups) (input ∷ history)).flight (λ g. HoldsLastPuts (started log inc end groups) history input g.segment.items)
+    → IfSome (transition (state_after (started log inc end groups) history) input).state.flight
+    (λ g. HoldsLastPuts (started log inc end groups) history input g.segment.items)
 last_sealed log inc end groups history input = seals (started log inc end groups) refl history input

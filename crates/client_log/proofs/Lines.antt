@@ -176,9 +176,12 @@ step s (Acked name index generation) l = steps_acked s name index generation l
 step s (Maps groups) l = steps_maps s groups l
 step s Tick l = steps_tick s l
 
+stays_in_line : (s : LogState) (inputs : List In) → IsInLine s → IsInLine (state_after s inputs)
+stays_in_line s [] l = l
+stays_in_line s (input ∷ later) l = stays_in_line (transition s input).state later (step s input l).line
+
 pub in_line : (log : LogId) (inc : ℕ) (end : End) (groups : GroupMapState) (history : List In) → IsInLine (state_after (started log inc end groups) history)
-in_line log inc end groups [] = tt
-in_line log inc end groups (input ∷ earlier) = (step (state_after (started log inc end groups) earlier) input (in_line log inc end groups earlier)).line
+in_line log inc end groups history = stays_in_line (started log inc end groups) history tt
 
 pub rises_by_one : (log : LogId) (inc : ℕ) (end : End) (groups : GroupMapState) (history : List In) (input : In)
     → EndRisesByOne (state_after (started log inc end groups) history) (transition (state_after (started log inc end groups) history) input)

@@ -1,10 +1,11 @@
--- What a log took, newest first, and what is claimed of it whatever it took.
+-- What a log took, oldest first, and what is claimed of it whatever it took.
 use Rattle.std.specs.Prelude.{◌≡◌, ◌+◌, ◌⊎◌, IfSome, MatchOption, List, [], ◌∷◌, ◌++◌, Contains, Option, Some, None, if◌then◌else◌}
 use Rattle.std.specs.List.{AllByRecursion}
 use Rattle.xfs_base.specs.declared.block.BlockId.{BlockId}
 use Rattle.xfs_base.specs.declared.entry.Entry.{Entry}
 use Rattle.xfs_base.specs.declared.segment.End.{End}
 use Rattle.xfs_base.specs.Blocks.{same_block}
+use Rattle.xfs_base.specs.Steps.{steps}
 use Rattle.segment_format.specs.declared.segment.Item.{Item}
 use Rattle.group_map.specs.GroupMapState.{GroupMapState}
 use Rattle.log_flight.specs.declared.dirty.Change.{Change}
@@ -22,8 +23,7 @@ use Rattle.client_log.specs.Transition.{Done, transition, prior_from, end_from, 
 
 -- a log that began so and took these inputs
 abbrev pub state_after : LogState → List In → LogState
-state_after start [] = start
-state_after start (input ∷ earlier) = (transition (state_after start earlier) input).state
+state_after start inputs = (steps transition start inputs).state
 
 -- ---- the line of segments
 
@@ -123,18 +123,26 @@ FlightFollows s input after = MatchOption after.flight (HasLanded s after) (Foll
 
 -- ---- what is written
 
+-- what is put last of a block once an input is heard: this version, where it is a Put of the block that has an effect
+abbrev pub put_with : LogState → In → BlockId → Option Change → Option Change
+put_with s (Put b entry value) block last =
+    if can_go_on (waits s b (record { entry = entry; value = value }))
+    then (if same_block b block then Some (record { entry = entry; value = value }) else last)
+    else last
+put_with s (Parts items) block last = last
+put_with s Seal block last = last
+put_with s (Acked name index generation) block last = last
+put_with s (Maps groups) block last = last
+put_with s Tick block last = last
+
+-- what is put last of a block once these are heard
+abbrev pub put_by : LogState → List In → BlockId → Option Change → Option Change
+put_by s [] block last = last
+put_by s (input ∷ later) block last = put_by (transition s input).state later block (put_with s input block last)
+
 -- what was put last of a block, among the puts that had an effect
 abbrev pub last_put : LogState → List In → BlockId → Option Change
-last_put start [] block = None
-last_put start (Put b entry value ∷ earlier) block =
-    if can_go_on (waits (state_after start earlier) b (record { entry = entry; value = value }))
-    then (if same_block b block then Some (record { entry = entry; value = value }) else last_put start earlier block)
-    else last_put start earlier block
-last_put start (Parts items ∷ earlier) block = last_put start earlier block
-last_put start (Seal ∷ earlier) block = last_put start earlier block
-last_put start (Acked name index generation ∷ earlier) block = last_put start earlier block
-last_put start (Maps groups ∷ earlier) block = last_put start earlier block
-last_put start (Tick ∷ earlier) block = last_put start earlier block
+last_put start history block = put_by start history block None
 
 -- each of these changes is what was put last of its block
 abbrev pub AreLastPuts : LogState → List In → List (BlockId × Change) → Type 0
@@ -164,7 +172,7 @@ pub record WereFlying (s : LogState) (items : List Item) : Type 0 where
 -- what a flight holds after an input: what flew before, what was given, or what was put last
 abbrev pub HoldsLastPuts : LogState → List In → In → List Item → Type 0
 HoldsLastPuts start history input items =
-    WereFlying (state_after start history) items ⊎ (IsGiven input items ⊎ AreOfLastPuts start (input ∷ history) items)
+    WereFlying (state_after start history) items ⊎ (IsGiven input items ⊎ AreOfLastPuts start (history ++ input ∷ []) items)
 
 -- ---- nothing is lost
 

@@ -1,6 +1,6 @@
 //! What is true of a log, whatever it took before. Each function stands for the law that its contract
-//! states; a call of it does nothing. A history is what a log took, newest first.
-ghost use Rattle.std.specs.Prelude.{◌≡◌, ℕ, IfSome, List, ◌∷◌, true};
+//! states; a call of it does nothing. A history is what a log took, oldest first.
+ghost use Rattle.std.specs.Prelude.{◌≡◌, ℕ, IfSome, List, true};
 ghost use Rattle.std.specs.List.{AllByRecursion};
 ghost use Rattle.xfs_base.specs.declared.block.BlockId.{BlockId};
 ghost use Rattle.xfs_base.specs.declared.segment.End.{End};
@@ -50,7 +50,7 @@ pub fn last_put_waits()
 /// what flew before, what was given as items, or changes of which each was put last.
 pub fn last_put_is_sealed()
     ensures { (log : LogId) (inc : ℕ) (end : End) (groups : GroupMapState) (history : List In) (input : In)
-        → IfSome (state_after (started log inc end groups) (input ∷ history)).flight
+        → IfSome (transition (state_after (started log inc end groups) history) input).state.flight
         (λ g. HoldsLastPuts (started log inc end groups) history input g.segment.items) }
 {}
 

@@ -34,10 +34,13 @@ kind_of (Calls c) = Kind.Calls
 kind_of (Takes p may) = Kind.Takes
 kind_of (Serves c may) = Kind.Serves
 
--- The kinds of a run's steps, newest first.
+-- The kinds of a run's steps, oldest first, and then the rest.
+abbrev pub kinds_then : {w v : World} → Steps w v → List Kind → List Kind
+kinds_then Done rest = rest
+kinds_then (More steps step) rest = kinds_then steps (kind_of step ∷ rest)
+
 abbrev pub kinds : {w v : World} → Steps w v → List Kind
-kinds Done = []
-kinds (More steps step) = kind_of step ∷ kinds steps
+kinds steps = kinds_then steps []
 
 -- The run takes every kind of step, so no guard is one that nobody can meet.
 abbrev pub TakesEach : {w v : World} → Steps w v → Type 0

@@ -1,5 +1,5 @@
 -- What a log's input makes of the book: what is booked has a text, and the end and each prior name groups as they are.
-use Rattle.std.proofs.Common.{◌≡◌, ⊎_elim, ℕ, ◌+◌, ◌-◌, ◌<◌, ◌⊎◌, List, [], ◌∷◌, Option, Some, None, refl, sym, ap, subst, ◌∙◌, inl, inr, arith}
+use Rattle.std.proofs.Common.{◌≡◌, ⊎_elim, ℕ, ◌+◌, ◌-◌, ◌<◌, ◌⊎◌, List, [], ◌∷◌, ◌++◌, Option, Some, None, refl, sym, ap, subst, ◌∙◌, inl, inr, arith}
 use Rattle.std.specs.Prelude.{IfSome}
 use Rattle.std.specs.List.{AllByRecursion}
 use Rattle.xfs_base.specs.declared.segment.End.{End}
@@ -15,7 +15,7 @@ use Rattle.log_flight.specs.Flights.{FlightState}
 use Rattle.client_log.specs.declared.input.In.{In as Input}
 use Rattle.client_log.specs.declared.output.Out.{Out}
 use Rattle.client_log.specs.declared.output.Out.TheVariants.{Send, Settled}
-use Rattle.client_log.specs.History.{IsNext, IsInLine, settled_ends, EndRisesByOne, TellsWhatIsDue}
+use Rattle.client_log.specs.History.{state_after, IsNext, IsInLine, settled_ends, EndRisesByOne, TellsWhatIsDue}
 use Rattle.client_log.specs.LogState.{LogState, started}
 use Rattle.client_log.specs.Transition.{transition, end_from}
 use Rattle.log_scan.specs.Transition.{name_at, end_below}
@@ -31,15 +31,19 @@ use Rattle.log_law.specs.Events.{IsWritten, WritesText}
 use Rattle.log_law.specs.Below.{Below}
 use Rattle.log_law.proofs.Views.{Ran, Behind, Flown}
 
--- a log that took one more input
+-- a log that takes one more input behind these
+behind : (s : LogState) (history : List In) (i : In) → (transition (state_after s history) i).state ≡ state_after s (history ++ i ∷ [])
+behind s [] i = refl
+behind s (x ∷ history) i = behind (transition s x).state history i
+
 pub ran_on : (s : LogState) (i : Input) → Ran s → Ran (transition s i).state
 ran_on s i r = record {
   log = r.log;
   inc = r.inc;
   end = r.end;
   groups = r.groups;
-  history = i ∷ r.history;
-  reaches = ap (λ (z : LogState). (transition z i).state) r.reaches;
+  history = r.history ++ i ∷ [];
+  reaches = ap (λ (z : LogState). (transition z i).state) r.reaches ∙ behind (started r.log r.inc r.end r.groups) r.history i;
 }
 
 pub ran_first : (log : LogId) (inc : ℕ) (end : End) (groups : GroupMapState) → Ran (started log inc end groups)

@@ -189,11 +189,11 @@ moment37 = restarts_discarding moment36 1 3 2
 abbrev pub example_acts : List Act
 example_acts = Back 1 false ∷ Fell 1 2 2 ∷ Wrote 1 9 ∷ Back 1 true ∷ Fell 1 1 2 ∷ Wrote 1 8 ∷ Read 2 1 7 ∷ Wrote 1 7 ∷ []
 
--- The kinds of its steps, newest first.
+-- The kinds of its steps, oldest first.
 abbrev pub example_kinds : List Kind
 example_kinds =
-    Kind.RestartsDiscarding ∷ Kind.CrashesDirty ∷ Kind.WritesFirst ∷ Kind.Offers ∷ Kind.Asks ∷ Kind.SettlesCopy ∷ Kind.SealsCopy ∷ Kind.Activates
-    ∷ Kind.Reports ∷ Kind.Promises ∷ Kind.Reports ∷ Kind.Promises ∷ Kind.Reports ∷ Kind.Promises ∷ Kind.RestartsAdopting ∷ Kind.CrashesDirty
-    ∷ Kind.SealsWith ∷ Kind.WritesFirst ∷ Kind.Offers ∷ Kind.Notes ∷ Kind.Gives ∷ Kind.Recalls ∷ Kind.Asks ∷ Kind.Reads ∷ Kind.Fetches ∷ Kind.TakesPlace
-    ∷ Kind.Offers ∷ Kind.Applies ∷ Kind.Notes ∷ Kind.Gives ∷ Kind.Settles ∷ Kind.SealsWith ∷ Kind.Recalls ∷ Kind.Asks ∷ Kind.WritesFirst ∷ Kind.Offers
-    ∷ Kind.Asks ∷ []
+    Kind.Asks ∷ Kind.Offers ∷ Kind.WritesFirst ∷ Kind.Asks ∷ Kind.Recalls ∷ Kind.SealsWith ∷ Kind.Settles ∷ Kind.Gives ∷ Kind.Notes ∷ Kind.Applies
+    ∷ Kind.Offers ∷ Kind.TakesPlace ∷ Kind.Fetches ∷ Kind.Reads ∷ Kind.Asks ∷ Kind.Recalls ∷ Kind.Gives ∷ Kind.Notes ∷ Kind.Offers ∷ Kind.WritesFirst
+    ∷ Kind.SealsWith ∷ Kind.CrashesDirty ∷ Kind.RestartsAdopting ∷ Kind.Promises ∷ Kind.Reports ∷ Kind.Promises ∷ Kind.Reports ∷ Kind.Promises
+    ∷ Kind.Reports ∷ Kind.Activates ∷ Kind.SealsCopy ∷ Kind.SettlesCopy ∷ Kind.Asks ∷ Kind.Offers ∷ Kind.WritesFirst ∷ Kind.CrashesDirty
+    ∷ Kind.RestartsDiscarding ∷ []

@@ -44,7 +44,10 @@ kind_of (SettlesCopy c may) = Kind.SettlesCopy
 kind_of (DiscardsCopy c may) = Kind.DiscardsCopy
 kind_of (Loses x untrusted) = Kind.Loses
 
--- The kinds of a run's steps, newest first.
+-- The kinds of a run's steps, oldest first, and then the rest.
+abbrev pub kinds_then : {logs : Bool} {w v : World} → Steps logs w v → List Kind → List Kind
+kinds_then Done rest = rest
+kinds_then (More steps step) rest = kinds_then steps (kind_of step ∷ rest)
+
 abbrev pub kinds : {logs : Bool} {w v : World} → Steps logs w v → List Kind
-kinds Done = []
-kinds (More steps step) = kind_of step ∷ kinds steps
+kinds steps = kinds_then steps []

@@ -172,10 +172,10 @@ other_moment36 = discards_copy other_moment35 3
 abbrev pub other_acts : List Act
 other_acts = Synced 1 2 ∷ Wrote 1 6 ∷ Wrote 1 5 ∷ Read 2 0 0 ∷ []
 
--- The kinds of its steps, newest first.
+-- The kinds of its steps, oldest first.
 abbrev pub other_kinds : List Kind
 other_kinds =
-    Kind.DiscardsCopy ∷ Kind.SettlesCopy ∷ Kind.SealsOther ∷ Kind.Seals ∷ Kind.CrashesClean ∷ Kind.DropsFetch ∷ Kind.DropsWant ∷ Kind.Asks
-    ∷ Kind.TakesSupply ∷ Kind.Offers ∷ Kind.Applies ∷ Kind.Notes ∷ Kind.Gives ∷ Kind.Recalls ∷ Kind.Asks ∷ Kind.Syncs ∷ Kind.Settles ∷ Kind.SealsWith
-    ∷ Kind.Writes ∷ Kind.WritesFirst ∷ Kind.Offers ∷ Kind.Asks ∷ Kind.Declines ∷ Kind.Offers ∷ Kind.Turns ∷ Kind.Notes ∷ Kind.GivesAgain ∷ Kind.Gives
-    ∷ Kind.Recalls ∷ Kind.Asks ∷ Kind.Evicts ∷ Kind.Reads ∷ Kind.TakesAbsent ∷ Kind.Offers ∷ Kind.AsksAgain ∷ Kind.Asks ∷ []
+    Kind.Asks ∷ Kind.AsksAgain ∷ Kind.Offers ∷ Kind.TakesAbsent ∷ Kind.Reads ∷ Kind.Evicts ∷ Kind.Asks ∷ Kind.Recalls ∷ Kind.Gives ∷ Kind.GivesAgain
+    ∷ Kind.Notes ∷ Kind.Turns ∷ Kind.Offers ∷ Kind.Declines ∷ Kind.Asks ∷ Kind.Offers ∷ Kind.WritesFirst ∷ Kind.Writes ∷ Kind.SealsWith ∷ Kind.Settles
+    ∷ Kind.Syncs ∷ Kind.Asks ∷ Kind.Recalls ∷ Kind.Gives ∷ Kind.Notes ∷ Kind.Applies ∷ Kind.Offers ∷ Kind.TakesSupply ∷ Kind.Asks ∷ Kind.DropsWant
+    ∷ Kind.DropsFetch ∷ Kind.CrashesClean ∷ Kind.Seals ∷ Kind.SealsOther ∷ Kind.SettlesCopy ∷ Kind.DiscardsCopy ∷ []

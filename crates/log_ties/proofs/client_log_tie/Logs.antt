@@ -1,5 +1,5 @@
 -- What an input makes of a log that is its owner's: it stays so, and what it sends and files is seen.
-use Rattle.std.proofs.Common.{◌≡◌, ℕ, ◌==◌, true, false, cond, List, [], ◌∷◌, ◌++◌, Some, None, refl, sym, ap, subst, ◌∙◌, take, drop}
+use Rattle.std.proofs.Common.{◌≡◌, ℕ, ◌==◌, true, false, cond, List, [], ◌∷◌, Some, None, refl, sym, subst, ◌∙◌, take, drop}
 use Rattle.std.specs.Prelude.{IfSome, ◌&&◌, nat_lt, length}
 use Rattle.std.specs.List.{AllByRecursion}
 use Rattle.xfs_base.specs.declared.segment.Prior.{Prior}
@@ -18,7 +18,6 @@ use Rattle.log_flight.specs.Items.{items_of}
 use Rattle.log_flight.specs.Texts.{has_text}
 use Rattle.client_log.specs.declared.input.In.{In as Input}
 use Rattle.client_log.specs.declared.input.In.TheVariants.{Put, Parts, Seal, Acked, Maps, Tick}
-use Rattle.client_log.specs.History.{state_after}
 use Rattle.client_log.specs.LogState.{LogState}
 use Rattle.client_log.specs.Transition.{Done, all_sends, launched, next_name, prior_from, writes, has_next, is_idle, is_full, can_go_on, sealed, if_full, waits, on_put, on_seal, on_parts, next_attempt, restriped, landed, settled, can_follow, followed, looked_at, on_acked, on_maps, on_tick, transition}
 use Rattle.stripe_code.specs.Fragments.{same_name}
@@ -29,7 +28,7 @@ use Rattle.log_tie.specs.Shelves.{is_of_log}
 use Rattle.log_law.specs.Net.{Packet, log_packets, after_log}
 use Rattle.log_law.specs.Net.Packet.{StoredSent}
 use Rattle.log_law.specs.Net.Owner.{Serving}
-use Rattle.log_law.specs.Events.{IsWritten, WritesText, CameToLog}
+use Rattle.log_law.specs.Events.{WritesText, CameToLog}
 use Rattle.log_law.specs.Events.Happens.{Acts}
 use Rattle.log_law.specs.Events.Runs.{Begun, On}
 use Rattle.log_ties.proofs.node_log_tie.OwnLogs.{SendsOwn, own_log}
@@ -144,17 +143,8 @@ module _ (g : Setting) where
 
 -- ---- it stays written
 
-appended : (xs : List Input) (i : Input) → AllByRecursion InputFits xs → InputFits i → AllByRecursion InputFits (xs ++ i ∷ [])
-appended [] i all fits = (fits, tt)
-appended (x ∷ xs) i all fits = (all.0, appended xs i all.1 fits)
-
-after_first : (s : LogState) (i : Input) (later : List Input) → state_after (transition s i).state later ≡ state_after s (later ++ i ∷ [])
-after_first s i [] = refl
-after_first s i (x ∷ later) = ap (λ z. (transition z x).state) (after_first s i later)
-
 pub written_after : (s : LogState) (i : Input) → StaysWritten s → InputFits i → StaysWritten (transition s i).state
-written_after s i h fits later all =
-    subst (λ z. IfSome z.flight (λ f. IsWritten f.segment)) (sym (after_first s i later)) (h (later ++ i ∷ []) (appended later i all fits))
+written_after s i h fits later all = h (i ∷ later) (fits, all)
 
 pub writes_text : (s : LogState) (i : Input) → StaysWritten s → InputFits i → WritesText (transition s i)
 writes_text s i h fits = h (i ∷ []) (fits, tt)

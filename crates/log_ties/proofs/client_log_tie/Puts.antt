@@ -12,21 +12,19 @@ use Rattle.log_ties.specs.client_log_tie.Puts.{LogTook, flown_after}
 
 -- ---- lists of inputs
 
-after_both : (s : LogState) (later earlier : List Input) → state_after s (later ++ earlier) ≡ state_after (state_after s earlier) later
-after_both s [] earlier = refl
-after_both s (i ∷ later) earlier = ap (λ (t : LogState). (transition t i).state) (after_both s later earlier)
+after_both : (s : LogState) (first second : List Input) → state_after s (first ++ second) ≡ state_after (state_after s first) second
+after_both s [] second = refl
+after_both s (i ∷ first) second = after_both (transition s i).state first second
 
-flown_both : (s : LogState) (later earlier : List Input) (before : List Segment)
-    → flown_after s (later ++ earlier) before ≡ flown_after (state_after s earlier) later (flown_after s earlier before)
-flown_both s [] earlier before = refl
-flown_both s (i ∷ later) earlier before =
-    ap (λ (t : LogState). flown_with (transition t i).state.flight (flown_after s (later ++ earlier) before)) (after_both s later earlier)
-    ∙ ap (λ rest. flown_with (transition (state_after (state_after s earlier) later) i).state.flight rest) (flown_both s later earlier before)
+flown_both : (s : LogState) (first second : List Input) (before : List Segment)
+    → flown_after s (first ++ second) before ≡ flown_after (state_after s first) second (flown_after s first before)
+flown_both s [] second before = refl
+flown_both s (i ∷ first) second before = flown_both (transition s i).state first second (flown_with (transition s i).state.flight before)
 
-all_both : (Puts : Input → Type 0) (later earlier : List Input) → AllByRecursion Puts later → AllByRecursion Puts earlier
-    → AllByRecursion Puts (later ++ earlier)
-all_both Puts [] earlier a b = b
-all_both Puts (i ∷ later) earlier a b = (a.0, all_both Puts later earlier a.1 b)
+all_both : (Puts : Input → Type 0) (first second : List Input) → AllByRecursion Puts first → AllByRecursion Puts second
+    → AllByRecursion Puts (first ++ second)
+all_both Puts [] second a b = b
+all_both Puts (i ∷ first) second a b = (a.0, all_both Puts first second a.1 b)
 
 all_such : (P Q : Input → Type 0) → ((i : Input) → P i → Q i) → (inputs : List Input) → AllByRecursion P inputs → AllByRecursion Q inputs
 all_such P Q weaker [] all = tt
@@ -50,10 +48,10 @@ took_nothing Puts n s fact = record { inputs = []; all = tt; serves = fact; flow
 
 pub took_both : (Puts : Input → Type 0) (n m o : Net) (s : LogState) (a : LogTook Puts n m s) → LogTook Puts m o (state_after s a.inputs) → LogTook Puts n o s
 took_both Puts n m o s a b = record {
-  inputs = b.inputs ++ a.inputs;
-  all = all_both Puts b.inputs a.inputs b.all a.all;
-  serves = b.serves ∙ ap (λ t. Serving t) (sym (after_both s b.inputs a.inputs));
-  flown = b.flown ∙ ap (flown_after (state_after s a.inputs) b.inputs) a.flown ∙ sym (flown_both s b.inputs a.inputs n.flown);
+  inputs = a.inputs ++ b.inputs;
+  all = all_both Puts a.inputs b.inputs a.all b.all;
+  serves = b.serves ∙ ap (λ t. Serving t) (sym (after_both s a.inputs b.inputs));
+  flown = b.flown ∙ ap (flown_after (state_after s a.inputs) b.inputs) a.flown ∙ sym (flown_both s a.inputs b.inputs n.flown);
 }
 
 pub took_such : (P Q : Input → Type 0) → ((i : Input) → P i → Q i) → (n o : Net) (s : LogState) → LogTook P n o s → LogTook Q n o s

@@ -352,7 +352,7 @@ fit_after s Tick h fits = fit_tick s h
 
 fit_all : (s : LogState) (later : List Input) → LogFits s → AllByRecursion InputFits later → LogFits (state_after s later)
 fit_all s [] h all = h
-fit_all s (i ∷ later) h all = fit_after (state_after s later) i (fit_all s later h all.1) all.0
+fit_all s (i ∷ later) h all = fit_all (transition s i).state later (fit_after s i h all.0) all.1
 
 in_flight : (o : Option FlightState) → IfSome o FlightFits → IfSome o (λ f. IsWritten f.segment)
 in_flight None h = tt

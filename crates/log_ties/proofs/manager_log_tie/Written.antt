@@ -1,5 +1,5 @@
 -- A log of checkpoints that starts anew stays written, as long as what it takes fits.
-use Rattle.std.proofs.Common.{◌≡◌, ◌<◌, ℕ, ◌+◌, ◌^◌, ◌&&◌, Bool, true, false, cond, List, [], ◌∷◌, ◌++◌, length, Option, Some, None, nat_lt, nat_le, refl, sym, subst, ap, arith}
+use Rattle.std.proofs.Common.{◌≡◌, ◌<◌, ℕ, ◌+◌, ◌^◌, ◌&&◌, Bool, true, false, cond, List, [], ◌∷◌, length, Option, Some, None, nat_lt, nat_le, refl, subst, arith}
 use Rattle.std.specs.Prelude.{IfSome}
 use Rattle.std.specs.List.{AllByRecursion}
 use Rattle.std.proofs.lemmas.Bool.Decides.{nat_tests}
@@ -185,7 +185,7 @@ fit_after s Tick h fits = fit_tick s h
 
 fit_all : (s : LogState) (later : List Input) → LogFits s → AllByRecursion InputFits later → LogFits (state_after s later)
 fit_all s [] h all = h
-fit_all s (i ∷ later) h all = fit_after (state_after s later) i (fit_all s later h all.1) all.0
+fit_all s (i ∷ later) h all = fit_all (transition s i).state later (fit_after s i h all.0) all.1
 
 in_flight : (o : Option FlightState) → IfSome o FlightFits → IfSome o (λ f. IsWritten f.segment)
 in_flight None h = tt
@@ -201,17 +201,8 @@ anew_written log inc m fact small ids later all =
 
 -- ---- one input
 
-appended : (xs : List Input) (i : Input) → AllByRecursion InputFits xs → InputFits i → AllByRecursion InputFits (xs ++ i ∷ [])
-appended [] i all fits = (fits, tt)
-appended (x ∷ xs) i all fits = (all.0, appended xs i all.1 fits)
-
-after_first : (s : LogState) (i : Input) (later : List Input) → state_after (transition s i).state later ≡ state_after s (later ++ i ∷ [])
-after_first s i [] = refl
-after_first s i (x ∷ later) = ap (λ z. (transition z x).state) (after_first s i later)
-
 pub written_after : (s : LogState) (i : Input) → StaysWritten s → InputFits i → StaysWritten (transition s i).state
-written_after s i h fits later all =
-    subst (λ z. IfSome z.flight (λ f. IsWritten f.segment)) (sym (after_first s i later)) (h (later ++ i ∷ []) (appended later i all fits))
+written_after s i h fits later all = h (i ∷ later) (fits, all)
 
 pub writes_text : (s : LogState) (i : Input) → StaysWritten s → InputFits i → WritesText (transition s i)
 writes_text s i h fits = h (i ∷ []) (fits, tt)

@@ -5,6 +5,7 @@ use Rattle.client_log.specs.declared.input.In.{In as Input}
 use Rattle.client_log.specs.declared.input.In.TheVariants.{Put, Parts, Seal, Acked, Maps, Tick}
 use Rattle.client_log.specs.History.{state_after}
 use Rattle.client_log.specs.LogState.{LogState}
+use Rattle.client_log.specs.Transition.{transition}
 use Rattle.log_law.specs.Net.{Net, flown_with}
 use Rattle.log_law.specs.Net.{Owner as owner}
 use Rattle.log_law.specs.Restarts.{is_serving}
@@ -19,12 +20,12 @@ PutsOwn (Acked name index generation) = Unit {0}
 PutsOwn (Maps groups) = Unit {0}
 PutsOwn Tick = Unit {0}
 
--- what was in flight up to now, once a log took these, newest first
+-- what was in flight up to now, once a log took these, oldest first
 abbrev pub flown_after : LogState → List Input → List Segment → List Segment
 flown_after s [] before = before
-flown_after s (i ∷ earlier) before = flown_with (state_after s (i ∷ earlier)).flight (flown_after s earlier before)
+flown_after s (i ∷ later) before = flown_after (transition s i).state later (flown_with (transition s i).state.flight before)
 
--- From the one moment to the other the log took such inputs, newest first, and nothing flew but what was in flight after each.
+-- From the one moment to the other the log took such inputs, oldest first, and nothing flew but what was in flight after each.
 pub record LogTook (Puts : Input → Type 0) (n o : Net) (s : LogState) : Type 0 where
   pub inputs : List Input
   pub all : AllByRecursion Puts inputs

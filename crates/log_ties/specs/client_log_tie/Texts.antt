@@ -42,7 +42,7 @@ InputFits (Acked name index generation) = Unit {0}
 InputFits (Maps m) = MapFits m
 InputFits Tick = Unit {0}
 
--- Whatever fits and a log takes from now on, newest first: what is in flight then has a text.
+-- Whatever fits and a log takes from now on, oldest first: what is in flight then has a text.
 abbrev pub StaysWritten : LogState → Type 0
 StaysWritten s = (later : List Input) → AllByRecursion InputFits later → IfSome (state_after s later).flight (λ f. IsWritten f.segment)
 

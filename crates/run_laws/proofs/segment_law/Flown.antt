@@ -44,7 +44,7 @@ own_so s Tick own h = logs.tick_so IsFirstHand IsOriginal originals s h
 
 all_so : (s : LogState) (inputs : List Input) → AllByRecursion PutsOwn inputs → WritesOriginals s → WritesOriginals (state_after s inputs)
 all_so s [] own h = h
-all_so s (i ∷ earlier) own h = own_so (state_after s earlier) i own.0 (all_so s earlier own.1 h)
+all_so s (i ∷ later) own h = all_so (transition s i).state later own.1 (own_so s i own.0 h)
 
 abbrev AllFlew : List Segment → Type 0
 AllFlew flown = (s : Segment) → In s flown → IsOriginal s
@@ -58,9 +58,10 @@ flies_so (Some f) before fact all s (inr among) = all s among
 flew_so : (s : LogState) (inputs : List Input) (before : List Segment) → AllByRecursion PutsOwn inputs → WritesOriginals s → AllFlew before
     → AllFlew (flown_after s inputs before)
 flew_so s [] before own h all = all
-flew_so s (i ∷ earlier) before own h all =
-    let now : WritesOriginals (state_after s (i ∷ earlier)) = all_so s (i ∷ earlier) own h in
-    flies_so (state_after s (i ∷ earlier)).flight (flown_after s earlier before) now.flies (flew_so s earlier before own.1 h all)
+flew_so s (i ∷ later) before own h all =
+    let now : WritesOriginals (transition s i).state = own_so s i own.0 h in
+    flew_so (transition s i).state later (flown_with (transition s i).state.flight before) own.1 now
+    (flies_so (transition s i).state.flight before now.flies all)
 
 took_so : (n o : Net) (s : LogState) → n.owner ≡ Serving s → LogTook PutsOwn n o s → IsOriginalLog n → IsOriginalLog o
 took_so n o s fact took h =
