@@ -1,5 +1,5 @@
 -- The order of a cache is that of the last uses.
-use Rattle.std.proofs.Common.{◌≡◌, ℕ, zero, suc, ◌+◌, ◌<◌, ◌≤◌, Bool, true, false, cond, ◌||◌, List, [], ◌∷◌, ◌++◌, All, length, take, drop, map, refl, sym, ap, subst, if◌then◌else◌, arith}
+use Rattle.std.proofs.Common.{◌≡◌, ℕ, zero, suc, ◌+◌, ◌<◌, ◌≤◌, Bool, true, false, cond, ◌||◌, List, [], ◌∷◌, ◌++◌, All, length, take, drop, map, refl, sym, ap, subst, ◌∙◌, if◌then◌else◌, arith}
 use Rattle.std.specs.Prelude.{not}
 use Rattle.std.specs.List.{list_any, filter, AllPairs, AllByRecursion}
 use Rattle.std.proofs.lemmas.Bool.{true≢false}
@@ -8,13 +8,14 @@ use Rattle.std.proofs.lemmas.List.Elements.{All-cons, All-nil}
 use Rattle.std.proofs.lemmas.List.Kept.{AllPairs-cons}
 use Rattle.xfs_base.specs.declared.block.BlockId.{BlockId}
 use Rattle.xfs_base.specs.Blocks.{same_block}
+use Rattle.xfs_base.specs.Steps.{steps}
 use Rattle.xfs_base.proofs.BlockOrder.{same_block_itself}
 use Rattle.coop_cache.specs.declared.input.In.{In}
 use Rattle.coop_cache.specs.declared.input.In.TheVariants.{Clean, Touch, Dirty, Gone}
 use Rattle.coop_cache.specs.declared.output.Out.TheVariants.{Victim}
-use Rattle.coop_cache.specs.CacheState.{CacheState}
+use Rattle.coop_cache.specs.CacheState.{CacheState, started}
 use Rattle.coop_cache.specs.Transition.{without, used_last, excess, is_clean, touched, transition}
-use Rattle.coop_cache.specs.Use.{state_after, last_use, IsByUse, IsLeastUsed}
+use Rattle.coop_cache.specs.Use.{state_after, uses, is_used, last_use, IsByUse, IsLeastUsed}
 use Rattle.coop_cache.proofs.Orders.{without-absent}
 
 -- each block is below all later ones, by a number for each
@@ -130,58 +131,125 @@ taken_rises f p (b ∷ bs) r =
       | false ↦ taken_rises f p bs r.1
     ]
 
--- no use is later than now
-past_use : (history : List In) (block : BlockId) → last_use history block ≤ length history
-past_use [] block = omega arith
-past_use (Clean used ∷ earlier) block =
-    elim (same_block used block) as (λ t. cond t (length earlier + 1) (last_use earlier block) ≤ suc (length earlier))
-    [ true ↦ omega arith | false ↦ omega (arith, past_use earlier block) ]
-past_use (Touch used ∷ earlier) block =
-    elim (same_block used block) as (λ t. cond t (length earlier + 1) (last_use earlier block) ≤ suc (length earlier))
-    [ true ↦ omega arith | false ↦ omega (arith, past_use earlier block) ]
-past_use (Dirty changed ∷ earlier) block = omega (arith, past_use earlier block)
-past_use (Gone gone ∷ earlier) block = omega (arith, past_use earlier block)
+-- ---- the last uses, from one input to the next
 
-rising : (capacity : ℕ) (history : List In) → IsRising (last_use history) (state_after capacity history).blocks
-unfolding IsRising
-rising capacity [] = tt
-rising capacity (Clean block ∷ earlier) =
-    let s : CacheState = state_after capacity earlier in
+-- the last uses after one more input, where n came before and these were the last uses
+abbrev after_one : (BlockId → ℕ) → ℕ → In → BlockId → ℕ
+after_one f n input b = if uses input b then n + 1 else f b
+
+-- and after more inputs
+abbrev after_more : (BlockId → ℕ) → ℕ → List In → BlockId → ℕ
+after_more f n [] = f
+after_more f n (input ∷ later) = after_more (after_one f n input) (n + 1) later
+
+unused : (inputs : List In) (b : BlockId) → is_used inputs b ≡ false → last_use inputs b ≡ 0
+unused [] b h = refl
+unused (input ∷ later) b h = ap (λ t. if t then last_use later b + 1 else 0) h
+
+-- the last use counts from the first of more inputs, where one of them is a use
+counted : (f : BlockId → ℕ) (n : ℕ) (inputs : List In) (b : BlockId)
+    → after_more f n inputs b ≡ (if is_used inputs b then n + last_use inputs b else f b)
+counted f n [] b = refl
+counted f n (input ∷ later) b =
+    let last : ℕ = last_use later b in
+    counted (after_one f n input) (n + 1) later b ∙ elim (uses input b) as
+    (λ t. cond (is_used later b) (n + 1 + last) (cond t (n + 1) (f b)) ≡ cond (t || is_used later b) (n + cond (t || is_used later b) (last + 1) 0) (f b)) [
+      | true ↦ elim (is_used later b) as (λ t. is_used later b ≡ t → cond t (n + 1 + last) (n + 1) ≡ n + (last + 1))
+          [ true ↦ λ e. omega arith | false ↦ λ e. omega (arith, unused later b e) ] refl
+      | false ↦ elim (is_used later b) as (λ t. cond t (n + 1 + last) (f b) ≡ cond t (n + cond t (last + 1) 0) (f b)) [ true ↦ omega arith | false ↦ refl ]
+    ]
+
+-- of a cache that has just begun, no block was used
+abbrev never : BlockId → ℕ
+never b = 0
+
+from_start : (inputs : List In) (b : BlockId) → after_more never 0 inputs b ≡ last_use inputs b
+from_start inputs b =
+    counted never 0 inputs b ∙ elim (is_used inputs b) as (λ t. is_used inputs b ≡ t → cond t (0 + last_use inputs b) 0 ≡ last_use inputs b)
+    [ true ↦ λ e. omega arith | false ↦ λ e. sym (unused inputs b e) ] refl
+
+-- ---- the order, from one input to the next
+
+one_past : (f : BlockId → ℕ) (n : ℕ) (input : In) → ((b : BlockId) → f b ≤ n) → (b : BlockId) → after_one f n input b ≤ n + 1
+one_past f n input past b =
+    elim (uses input b) as (λ t. cond t (n + 1) (f b) ≤ n + 1) [ true ↦ omega arith | false ↦ omega (arith, past b) ]
+
+one_rises : (f : BlockId → ℕ) (n : ℕ) (s : CacheState) (input : In) → ((b : BlockId) → f b ≤ n) → IsRising f s.blocks
+    → IsRising (after_one f n input) (transition s input).state.blocks
+one_rises f n s (Clean block) past r =
     let blocks : List BlockId = used_last block s.blocks in
-    dropped (last_use (Clean block ∷ earlier)) (excess s.capacity blocks) blocks
-    (used_rises (last_use earlier) (length earlier) block (past_use earlier) s.blocks (rising capacity earlier))
-rising capacity (Touch block ∷ earlier) =
-    touch_rises (last_use earlier) (length earlier) block (past_use earlier) (state_after capacity earlier) (rising capacity earlier)
-rising capacity (Dirty block ∷ earlier) =
-    taken_rises (last_use earlier) (λ b. not (same_block block b)) (state_after capacity earlier).blocks (rising capacity earlier)
-rising capacity (Gone block ∷ earlier) =
-    taken_rises (last_use earlier) (λ b. not (same_block block b)) (state_after capacity earlier).blocks (rising capacity earlier)
+    dropped (after_one f n (Clean block)) (excess s.capacity blocks) blocks (used_rises f n block past s.blocks r)
+one_rises f n s (Touch block) past r = touch_rises f n block past s r
+one_rises f n s (Dirty block) past r = taken_rises f (λ b. not (same_block block b)) s.blocks r
+one_rises f n s (Gone block) past r = taken_rises f (λ b. not (same_block block b)) s.blocks r
+
+all_rises : (f : BlockId → ℕ) (n : ℕ) (s : CacheState) (inputs : List In) → ((b : BlockId) → f b ≤ n) → IsRising f s.blocks
+    → IsRising (after_more f n inputs) (steps transition s inputs).state.blocks
+all_rises f n s [] past r = r
+all_rises f n s (input ∷ later) past r =
+    all_rises (after_one f n input) (n + 1) (transition s input).state later (one_past f n input past) (one_rises f n s input past r)
+
+-- a block that is cached after some inputs stands above all that were there, before any leaves
+cached_rises : (f : BlockId → ℕ) (n : ℕ) (s : CacheState) (inputs : List In) (block : BlockId) → ((b : BlockId) → f b ≤ n) → IsRising f s.blocks
+    → IsRising (after_more f n (inputs ++ Clean block ∷ [])) (used_last block (steps transition s inputs).state.blocks)
+cached_rises f n s [] block past r = used_rises f n block past s.blocks r
+cached_rises f n s (input ∷ later) block past r =
+    cached_rises (after_one f n input) (n + 1) (transition s input).state later block (one_past f n input past) (one_rises f n s input past r)
+
+module _ (f g : BlockId → ℕ) (same : (b : BlockId) → f b ≡ g b) where
+  same_above : (b : BlockId) (bs : List BlockId) → AllByRecursion (λ c. f b < f c) bs → AllByRecursion (λ c. g b < g c) bs
+  same_above b [] h = h
+  same_above b (c ∷ cs) h = (omega (arith, same b, same c, h.0), same_above b cs h.1)
+
+  same_rises : (bs : List BlockId) → IsRising f bs → IsRising g bs
+  unfolding IsRising
+  same_rises [] r = r
+  same_rises (b ∷ bs) r = (same_above b bs r.0, same_rises bs r.1)
 
 pub by_use : (capacity : ℕ) (history : List In) → IsByUse history (state_after capacity history).blocks
-by_use capacity history = pairs_of (last_use history) (state_after capacity history).blocks (rising capacity history)
+unfolding IsRising
+by_use capacity history =
+    let blocks : List BlockId = (state_after capacity history).blocks in
+    pairs_of (last_use history) blocks
+    (same_rises (after_more never 0 history) (last_use history) (from_start history) blocks
+    (all_rises never 0 (started capacity) history (λ b. omega arith) tt))
+
+one_more : (s : CacheState) (inputs : List In) (input : In)
+    → (steps transition s (inputs ++ input ∷ [])).state ≡ (transition (steps transition s inputs).state input).state
+one_more s [] input = refl
+one_more s (first ∷ later) input = one_more (transition s first).state later input
+
+none_told : (capacity : ℕ) (history : List In) → All (IsLeastUsed history (state_after capacity history).blocks) []
+none_told capacity history = All-nil (IsLeastUsed history (state_after capacity history).blocks)
 
 pub victims_least : (capacity : ℕ) (history : List In) (input : In)
-    → All (IsLeastUsed (input ∷ history) (state_after capacity (input ∷ history)).blocks) (transition (state_after capacity history) input).outs
+    → All (IsLeastUsed (history ++ input ∷ []) (state_after capacity (history ++ input ∷ [])).blocks) (transition (state_after capacity history) input).outs
+unfolding IsRising
 victims_least capacity history (Clean block) =
     let s : CacheState = state_after capacity history in
     let blocks : List BlockId = used_last block s.blocks in
-    left_out (Clean block ∷ history) (excess s.capacity blocks) blocks
-    (used_rises (last_use history) (length history) block (past_use history) s.blocks (rising capacity history))
-victims_least capacity history (Touch block) = All-nil (IsLeastUsed (Touch block ∷ history) (state_after capacity (Touch block ∷ history)).blocks)
-victims_least capacity history (Dirty block) = All-nil (IsLeastUsed (Dirty block ∷ history) (state_after capacity (Dirty block ∷ history)).blocks)
-victims_least capacity history (Gone block) = All-nil (IsLeastUsed (Gone block ∷ history) (state_after capacity (Gone block ∷ history)).blocks)
+    let all : List In = history ++ Clean block ∷ [] in
+    subst (λ t. All (IsLeastUsed all t.blocks) (transition s (Clean block)).outs) (sym (one_more (started capacity) history (Clean block)))
+    (left_out all (excess s.capacity blocks) blocks
+    (same_rises (after_more never 0 all) (last_use all) (from_start all) blocks
+    (cached_rises never 0 (started capacity) history block (λ b. omega arith) tt)))
+victims_least capacity history (Touch block) = none_told capacity (history ++ Touch block ∷ [])
+victims_least capacity history (Dirty block) = none_told capacity (history ++ Dirty block ∷ [])
+victims_least capacity history (Gone block) = none_told capacity (history ++ Gone block ∷ [])
 
 -- ---- the capacity
 
-pub capacity_stays : (capacity : ℕ) (history : List In) → (state_after capacity history).capacity ≡ capacity
-capacity_stays capacity [] = refl
-capacity_stays capacity (Clean block ∷ earlier) = capacity_stays capacity earlier
-capacity_stays capacity (Touch block ∷ earlier) =
-    let s : CacheState = state_after capacity earlier in
-    elim (is_clean s block) as (λ t. (cond t (record { blocks = used_last block s.blocks; capacity = s.capacity }) s).capacity ≡ capacity)
-    [ true ↦ capacity_stays capacity earlier | false ↦ capacity_stays capacity earlier ]
-capacity_stays capacity (Dirty block ∷ earlier) = capacity_stays capacity earlier
-capacity_stays capacity (Gone block ∷ earlier) = capacity_stays capacity earlier
+one_capacity : (s : CacheState) (input : In) → (transition s input).state.capacity ≡ s.capacity
+one_capacity s (Clean block) = refl
+one_capacity s (Touch block) =
+    elim (is_clean s block) as (λ t. (cond t (record { blocks = used_last block s.blocks; capacity = s.capacity }) s).capacity ≡ s.capacity)
+    [ true ↦ refl | false ↦ refl ]
+one_capacity s (Dirty block) = refl
+one_capacity s (Gone block) = refl
+
+capacity_stays : (s : CacheState) (inputs : List In) → (steps transition s inputs).state.capacity ≡ s.capacity
+capacity_stays s [] = refl
+capacity_stays s (input ∷ later) = capacity_stays (transition s input).state later ∙ one_capacity s input
 
 pub fewer : (p : BlockId → Bool) (bs : List BlockId) → length (filter p bs) ≤ length bs
 fewer p [] = omega arith
@@ -198,20 +266,28 @@ one_fewer block (b ∷ bs) h =
       | false ↦ λ e. omega (arith, one_fewer block bs e)
     ] h
 
-pub capacity_kept : (capacity : ℕ) (history : List In) → length (state_after capacity history).blocks ≤ capacity
-capacity_kept capacity [] = omega arith
-capacity_kept capacity (Clean block ∷ earlier) =
-    let s : CacheState = state_after capacity earlier in
+-- no more blocks are kept than may be
+abbrev Fits : CacheState → Type 0
+Fits s = length s.blocks ≤ s.capacity
+
+one_fits : (s : CacheState) (input : In) → Fits s → Fits (transition s input).state
+one_fits s (Clean block) fits =
     let blocks : List BlockId = used_last block s.blocks in
-    omega (arith, length-drop (excess s.capacity blocks) blocks, capacity_stays capacity earlier)
-capacity_kept capacity (Touch block ∷ earlier) =
-    let s : CacheState = state_after capacity earlier in
-    elim (is_clean s block) as
-    (λ t. is_clean s block ≡ t → length (cond t (record { blocks = used_last block s.blocks; capacity = s.capacity }) s).blocks ≤ capacity) [
-      | true ↦ λ e. omega (arith, one_fewer block s.blocks e, length-append (without block s.blocks) (block ∷ []), capacity_kept capacity earlier)
-      | false ↦ λ e. capacity_kept capacity earlier
+    omega (arith, length-drop (excess s.capacity blocks) blocks)
+one_fits s (Touch block) fits =
+    elim (is_clean s block) as (λ t. is_clean s block ≡ t → Fits (cond t (record { blocks = used_last block s.blocks; capacity = s.capacity }) s)) [
+      | true ↦ λ e. omega (arith, one_fewer block s.blocks e, length-append (without block s.blocks) (block ∷ []), fits)
+      | false ↦ λ e. fits
     ] refl
-capacity_kept capacity (Dirty block ∷ earlier) =
-    omega (arith, fewer (λ b. not (same_block block b)) (state_after capacity earlier).blocks, capacity_kept capacity earlier)
-capacity_kept capacity (Gone block ∷ earlier) =
-    omega (arith, fewer (λ b. not (same_block block b)) (state_after capacity earlier).blocks, capacity_kept capacity earlier)
+one_fits s (Dirty block) fits = omega (arith, fewer (λ b. not (same_block block b)) s.blocks, fits)
+one_fits s (Gone block) fits = omega (arith, fewer (λ b. not (same_block block b)) s.blocks, fits)
+
+all_fit : (s : CacheState) (inputs : List In) → Fits s → Fits (steps transition s inputs).state
+all_fit s [] fits = fits
+all_fit s (input ∷ later) fits = all_fit (transition s input).state later (one_fits s input fits)
+
+pub fits_after : (capacity : ℕ) (history : List In) → length (state_after capacity history).blocks ≤ (state_after capacity history).capacity
+fits_after capacity history = all_fit (started capacity) history (omega arith)
+
+pub capacity_kept : (capacity : ℕ) (history : List In) → length (state_after capacity history).blocks ≤ capacity
+capacity_kept capacity history = omega (arith, fits_after capacity history, capacity_stays (started capacity) history)

@@ -15,7 +15,7 @@ use Rattle.coop_cache.specs.CacheState.{CacheState}
 use Rattle.coop_cache.specs.Transition.{without, used_last, excess, is_clean, transition}
 use Rattle.coop_cache.specs.Use.{state_after}
 use Rattle.coop_cache.specs.Leaving.{is_victim, StaysOrIsTold, TellsWhereFull}
-use Rattle.coop_cache.proofs.LastUses.{capacity_stays, capacity_kept, fewer}
+use Rattle.coop_cache.proofs.LastUses.{fits_after, fewer}
 
 either : (a b : Bool) → (a || b) ≡ true → (a ≡ true) ⊎ (b ≡ true)
 either true b h = inl refl
@@ -101,10 +101,7 @@ cleaned_where_full s block fits =
 
 pub told_where_full : (capacity : ℕ) (history : List In) (input : In)
     → TellsWhereFull (state_after capacity history) (transition (state_after capacity history) input).outs
-told_where_full capacity history (Clean block) =
-    let s : CacheState = state_after capacity history in
-    let fits : length s.blocks ≤ s.capacity = omega (arith, capacity_stays capacity history, capacity_kept capacity history) in
-    cleaned_where_full s block fits
+told_where_full capacity history (Clean block) = cleaned_where_full (state_after capacity history) block (fits_after capacity history)
 told_where_full capacity history (Touch block) = inl refl
 told_where_full capacity history (Dirty block) = inl refl
 told_where_full capacity history (Gone block) = inl refl

@@ -1,6 +1,6 @@
 //! What is true of a cache, whatever it was told before. Each function stands for the law that its
-//! contract states; a call of it does nothing. A history is what a cache took, newest first.
-ghost use Rattle.std.specs.Prelude.{◌≡◌, ℕ, ◌<◌, ◌≤◌, true, List, ◌∷◌, All, length};
+//! contract states; a call of it does nothing. A history is what a cache took, oldest first.
+ghost use Rattle.std.specs.Prelude.{◌≡◌, ℕ, ◌≤◌, true, List, [], ◌∷◌, ◌++◌, All, length};
 ghost use Rattle.xfs_base.specs.declared.block.BlockId.{BlockId};
 ghost use Rattle.coop_cache.specs.declared.input.In.{In};
 ghost use Rattle.coop_cache.specs.CacheState.{CacheState};
@@ -17,7 +17,8 @@ pub fn order_is_by_use()
 /// A victim is the least recently used: it was used last before every block that the cache keeps.
 pub fn victim_is_least_recently_used()
     ensures { (capacity : ℕ) (history : List In) (input : In)
-        → All (IsLeastUsed (input ∷ history) (state_after capacity (input ∷ history)).blocks) (transition (state_after capacity history) input).outs }
+        → All (IsLeastUsed (history ++ input ∷ []) (state_after capacity (history ++ input ∷ [])).blocks)
+            (transition (state_after capacity history) input).outs }
 {}
 
 /// A cache never keeps more clean blocks than it may.
