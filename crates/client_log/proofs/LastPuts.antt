@@ -189,7 +189,8 @@ abbrev Known : Type 0
 Known = BlockId → Option Change
 
 -- what waits after an input
-waiting_after : (s : LogState) (input : In) (known : Known) → Waiting known s.dirty → Waiting (λ b. put_with s input b (known b)) (transition s input).state.dirty
+waiting_after : (s : LogState) (input : In) (known : Known) → Waiting known s.dirty
+    → Waiting (λ b. put_with s input b (known b)) (transition s input).state.dirty
 waiting_after s (Put block entry value) known w = put_waits block (record { entry = entry; value = value }) known s w
 waiting_after s (Parts items) known w = waiting_kept known s (on_parts s items) (kept_parts s items) w
 waiting_after s Seal known w = waiting_kept known s (on_seal s) (kept_seal s) w

@@ -118,7 +118,8 @@ module _ (g : Setting) (Was Now : SegRef → Type 0) (start n o : Net) (run : Ru
   first_asked : (r : ReadingState) → Middle g Now (On run e) r.target.seg r.kept → s.opening.ask < r.ask → r.round.answers ≡ [] → Asks_on g Now (On run e) r
   first_asked r m less none = record {
     middle = m;
-    drawn = λ v generation once. record { moment = o; first = m.later; later = Begun; lacks = drawn_now r.ask (LacksIn r.target.seg.name v generation) less once };
+    drawn = λ v generation once.
+        record { moment = o; first = m.later; later = Begun; lacks = drawn_now r.ask (LacksIn r.target.seg.name v generation) less once };
     told = subst (AllSo (Between g r.target.seg.name m.net o)) (sym none) tt;
   }
 

@@ -128,8 +128,8 @@ module _ (base : Setting) (e : Estate AnyNode) (run : IsRun any_step any_start e
       (first_base (setting base e OfCleaner) m.map) m.run).base
 
   module _ (count : ℕ) (packet : Packet) (among : In packet (Sent count)) (to : packet.to ≡ names.Manager j) where
-    seen : BodySeen (setting base e OfCleaner) (asker_by OfCleaner ((lines OfCleaner tt).scene count)) ((lines OfCleaner tt).scene count).net packet.from packet.to
-        packet.body
+    seen : BodySeen (setting base e OfCleaner) (asker_by OfCleaner ((lines OfCleaner tt).scene count)) ((lines OfCleaner tt).scene count).net
+        packet.from packet.to packet.body
     seen = ((lines OfCleaner tt).stands count).facts packet among
 
     found_came : (ask : ℕ) (t : Told) (server : Option ℕ) → ((generation : ℕ) → t ≡ told.Missing generation → ⊥)

@@ -23,4 +23,5 @@ pub record HasPresentGroups (groups : GroupMapState) : Type 0 where
 abbrev pub StripesByPresentGroupsAlways : Type 0
 StripesByPresentGroupsAlways =
     (number : ℕ) (setup : Setup) (works : List Work) (events : List Do) → IsGroupMap (started setup.servers setup.groups)
-    → AllByRecursion (DoBrings IsGroupMap) events → WhereItServes (λ s. HasPresentGroups s.log.groups) (after_events (first_client number setup works) events).phase
+    → AllByRecursion (DoBrings IsGroupMap) events
+    → WhereItServes (λ s. HasPresentGroups s.log.groups) (after_events (first_client number setup works) events).phase

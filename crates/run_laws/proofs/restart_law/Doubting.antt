@@ -79,7 +79,8 @@ module _ (b : Below) (base : Setting) (e : Estate AnyNode) (r : Role) (is_there 
 
   said_to : (count : ℕ) (packet : Packet) (m : Body) (to : NodeId) → WasSent (moment e count).sent packet → packet.to ≡ to → packet.body ≡ m
       → BodySeen g (asker_by r (line.scene count)) (small count) packet.from to m
-  said_to count packet m to was at fact = subst (λ t. BodySeen g (asker_by r (line.scene count)) (small count) packet.from t m) at (said count packet m was fact)
+  said_to count packet m to was at fact =
+      subst (λ t. BodySeen g (asker_by r (line.scene count)) (small count) packet.from t m) at (said count packet m was fact)
 
   of_log : (name : SegName) → name.log ≡ g.log → is_of_log g name ≡ true
   of_log name own = subst (λ (l : LogId). (l.0 == g.log.0) ≡ true) (sym own) (itself g.log.0)

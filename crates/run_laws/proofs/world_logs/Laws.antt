@@ -210,7 +210,8 @@ module _ (below : Below) (e : Estate AnyNode) (ok : IsSetup e.script.setup) (run
       let l : Line base_of e r = all r there in
       let f = tokens.front below.nodes.tokens e ok run count 0 (omega arith) in
       record {
-        whole = λ name fact kept. is_whole base_of e.world (moment e count) setup_of.servers r k_of f.0 (l.scene count) (did e (log_by r) count) (l.stands count)
+        whole = λ name fact kept.
+            is_whole base_of e.world (moment e count) setup_of.servers r k_of f.0 (l.scene count) (did e (log_by r) count) (l.stands count)
             below.whole below.text (exist count) name fact kept;
         one_text = λ name of. has_text base_of e.world (moment e count) setup_of.servers r k_of f.0 (l.scene count) (did e (log_by r) count) (l.stands count)
             below.text name of;
