@@ -1,5 +1,5 @@
 -- What is read and deleted is below the least horizon of its log.
-use Rattle.std.proofs.Common.{◌≡◌, ℕ, zero, suc, ◌<◌, Bool, true, cond, List, [], ◌∷◌, Option, Some, None, map, take, length, refl, ap, arith}
+use Rattle.std.proofs.Common.{◌≡◌, ℕ, zero, suc, ◌<◌, Bool, true, cond, List, [], ◌∷◌, ◌++◌, Option, Some, None, map, take, length, refl, arith}
 use Rattle.std.specs.Prelude.{fold, ◌==◌, ◌&&◌, not, nat_lt}
 use Rattle.std.specs.List.{AllByRecursion, cons_option}
 use Rattle.std.specs.declared.cmp.Ordering.{Ordering}
@@ -37,6 +37,7 @@ use Rattle.stripe_cleaner.specs.Listing.{ListingState, begun, is_among, without}
 use Rattle.stripe_cleaner.specs.Promises.{promised_with, is_above, is_promised}
 use Rattle.stripe_cleaner.specs.Transition as step
 use Rattle.stripe_cleaner.specs.Transition.{Done, turned, is_greeting, lists, usage_asks, welcomed, on_welcome, forgotten, forgetting, on_promise, mapped, listed, heard, on_list, usage_with, on_counts, listed_in, counted_in, read_in, answered_in, moved_in, deleted_in, awaits, on_usage, is_heard, may_move, on_live, on_dead, transition}
+use Rattle.stripe_cleaner.proofs.Histories.{split_with, always}
 
 -- ---- keys of a table
 
@@ -100,10 +101,16 @@ module _ (P : SegName → Type 0) where
 -- ---- in each phase
 
 module _ (start : CleaningState) where
-  welcomed_later : (history : List In) (i : In) (slots : List SlotNews) → IsWelcomed start history slots → IsWelcomed start (i ∷ history) slots
-  welcomed_later history i slots w = record { groups = w.groups; later = i ∷ w.later; before = w.before; split = ap (λ h. i ∷ h) w.split; awaited = w.awaited }
+  welcomed_later : (history : List In) (i : In) (slots : List SlotNews) → IsWelcomed start history slots → IsWelcomed start (history ++ i ∷ []) slots
+  welcomed_later history i slots w = record {
+    groups = w.groups;
+    before = w.before;
+    later = w.later ++ i ∷ [];
+    split = split_with history w.before w.later (input.Welcome slots w.groups) i w.split;
+    awaited = w.awaited;
+  }
 
-  below_later : (history : List In) (i : In) (name : SegName) → IsBelow start history name → IsBelow start (i ∷ history) name
+  below_later : (history : List In) (i : In) (name : SegName) → IsBelow start history name → IsBelow start (history ++ i ∷ []) name
   below_later history i name b = record { slots = b.slots; welcomed = welcomed_later history i b.slots b.welcomed; below = b.below }
 
   module _ (history : List In) where
@@ -274,37 +281,37 @@ module _ (start : CleaningState) where
   abbrev FineDone : List In → Done → Type 0
   FineDone history d = BelowIn history d.state.phase × Says history d.outs
 
-  in_later : (history : List In) (i : In) (p : Phase) → BelowIn history p → BelowIn (i ∷ history) p
+  in_later : (history : List In) (i : In) (p : Phase) → BelowIn history p → BelowIn (history ++ i ∷ []) p
   in_later history i Greeting b = tt
   in_later history i (Listing l) b = (welcomed_later history i l.slots b.0, b.1)
-  in_later history i (Counting c) b = all_moved_to (IsBelow start history) (IsBelow start (i ∷ history)) (keys_of c.candidates) (below_later history i) b
+  in_later history i (Counting c) b = all_moved_to (IsBelow start history) (IsBelow start (history ++ i ∷ [])) (keys_of c.candidates) (below_later history i) b
   in_later history i (Reading j segment) b = (
     below_later history i segment.name b.0,
-    all_moved_to (λ (s : SegRef). IsBelow start history s.name) (λ (s : SegRef). IsBelow start (i ∷ history) s.name) j.left
+    all_moved_to (λ (s : SegRef). IsBelow start history s.name) (λ (s : SegRef). IsBelow start (history ++ i ∷ []) s.name) j.left
         (λ s. below_later history i s.name) b.1,
   )
   in_later history i (Checking j segment checks) b = (
     below_later history i segment.name b.0,
-    all_moved_to (λ (s : SegRef). IsBelow start history s.name) (λ (s : SegRef). IsBelow start (i ∷ history) s.name) j.left
+    all_moved_to (λ (s : SegRef). IsBelow start history s.name) (λ (s : SegRef). IsBelow start (history ++ i ∷ []) s.name) j.left
         (λ s. below_later history i s.name) b.1,
   )
   in_later history i (Deleting j segment servers) b = (
     below_later history i segment.name b.0,
-    all_moved_to (λ (s : SegRef). IsBelow start history s.name) (λ (s : SegRef). IsBelow start (i ∷ history) s.name) j.left
+    all_moved_to (λ (s : SegRef). IsBelow start history s.name) (λ (s : SegRef). IsBelow start (history ++ i ∷ []) s.name) j.left
         (λ s. below_later history i s.name) b.1,
   )
   in_later history i Over b = tt
 
   welcome_is_below : (history : List In) (slots : List SlotNews) (groups : GroupMapState)
-      → BelowIn (input.Welcome slots groups ∷ history) (state_after start history).phase
-      → FineDone (input.Welcome slots groups ∷ history) (on_welcome (state_after start history) slots groups)
+      → BelowIn (history ++ input.Welcome slots groups ∷ []) (state_after start history).phase
+      → FineDone (history ++ input.Welcome slots groups ∷ []) (on_welcome (state_after start history) slots groups)
   unfolding on_welcome
   welcome_is_below history slots groups b =
       let s : CleaningState = state_after start history in
-      by_test (FineDone (input.Welcome slots groups ∷ history)) (is_greeting s.phase && (length slots == 8)) (welcomed s slots groups) (still s)
+      by_test (FineDone (history ++ input.Welcome slots groups ∷ [])) (is_greeting s.phase && (length slots == 8)) (welcomed s slots groups) (still s)
       (λ t. (
-        (record { groups = groups; later = []; before = history; split = refl; awaited = and_first (is_greeting s.phase) (length slots == 8) t }, tt),
-        says_lists (input.Welcome slots groups ∷ history) (begun slots groups).awaited,
+        (record { groups = groups; before = history; later = []; split = refl; awaited = and_first (is_greeting s.phase) (length slots == 8) t }, tt),
+        says_lists (history ++ input.Welcome slots groups ∷ []) (begun slots groups).awaited,
       ))
       (λ t. (b, tt))
 
@@ -337,28 +344,31 @@ module _ (start : CleaningState) where
       (λ t. answered_in_below h (dead_at block) s.phase b)
       (λ t. (b, tt))
 
-  turn_is_below : (history : List In) (i : In) → BelowIn (i ∷ history) (state_after start history).phase
-      → FineDone (i ∷ history) (transition (state_after start history) i)
+  turn_is_below : (history : List In) (i : In) → BelowIn (history ++ i ∷ []) (state_after start history).phase
+      → FineDone (history ++ i ∷ []) (transition (state_after start history) i)
   turn_is_below history (input.Welcome slots groups) b = welcome_is_below history slots groups b
-  turn_is_below history (input.Promise slot epoch) b = promise_is_below (input.Promise slot epoch ∷ history) (state_after start history) slot epoch b
-  turn_is_below history (input.Maps groups) b = (mapped_is_below (input.Maps groups ∷ history) groups (state_after start history).phase b, tt)
-  turn_is_below history (input.Listed server held) b = listed_in_below (input.Listed server held ∷ history) server held (state_after start history).phase b
+  turn_is_below history (input.Promise slot epoch) b = promise_is_below (history ++ input.Promise slot epoch ∷ []) (state_after start history) slot epoch b
+  turn_is_below history (input.Maps groups) b = (mapped_is_below (history ++ input.Maps groups ∷ []) groups (state_after start history).phase b, tt)
+  turn_is_below history (input.Listed server held) b =
+      listed_in_below (history ++ input.Listed server held ∷ []) server held (state_after start history).phase b
   turn_is_below history (input.Usage slot epoch counts) b =
-      usage_is_below (input.Usage slot epoch counts ∷ history) (state_after start history) slot epoch counts b
-  turn_is_below history (input.Read read) b = read_in_below (input.Read read ∷ history) read (state_after start history).phase b
+      usage_is_below (history ++ input.Usage slot epoch counts ∷ []) (state_after start history) slot epoch counts b
+  turn_is_below history (input.Read read) b = read_in_below (history ++ input.Read read ∷ []) read (state_after start history).phase b
   turn_is_below history (input.Live block epoch entry) b =
-      live_is_below (input.Live block epoch entry ∷ history) (state_after start history) block epoch entry b
-  turn_is_below history (input.Dead block epoch) b = dead_is_below (input.Dead block epoch ∷ history) (state_after start history) block epoch b
-  turn_is_below history input.Moved b = moved_in_below (input.Moved ∷ history) (state_after start history).phase b
-  turn_is_below history (input.Deleted server name) b = deleted_in_below (input.Deleted server name ∷ history) server name (state_after start history).phase b
-  turn_is_below history input.Tick b = (b, awaits_below (input.Tick ∷ history) (state_after start history).phase b)
+      live_is_below (history ++ input.Live block epoch entry ∷ []) (state_after start history) block epoch entry b
+  turn_is_below history (input.Dead block epoch) b = dead_is_below (history ++ input.Dead block epoch ∷ []) (state_after start history) block epoch b
+  turn_is_below history input.Moved b = moved_in_below (history ++ input.Moved ∷ []) (state_after start history).phase b
+  turn_is_below history (input.Deleted server name) b =
+      deleted_in_below (history ++ input.Deleted server name ∷ []) server name (state_after start history).phase b
+  turn_is_below history input.Tick b = (b, awaits_below (history ++ input.Tick ∷ []) (state_after start history).phase b)
 
   below_always : BelowIn [] start.phase → (history : List In) → BelowIn history (state_after start history).phase
-  below_always b [] = b
-  below_always b (i ∷ history) = (turn_is_below history i (in_later history i (state_after start history).phase (below_always b history))).0
+  below_always b =
+      always start (λ history s. BelowIn history s.phase) b
+      (λ history i k. (turn_is_below history i (in_later history i (state_after start history).phase k)).0)
 
 pub all_empties_below : (count : ℕ) (history : List In) (i : In)
-    → AllByRecursion (EmptiesBelow (started count) (i ∷ history)) (transition (state_after (started count) history) i).outs
+    → AllByRecursion (EmptiesBelow (started count) (history ++ i ∷ [])) (transition (state_after (started count) history) i).outs
 all_empties_below count history i =
     (turn_is_below (started count) history i
     (in_later (started count) history i (state_after (started count) history).phase (below_always (started count) tt history))).1

@@ -29,7 +29,7 @@ use Rattle.stripe_cleaner.specs.declared.phase.Phase.TheVariants.{Greeting, List
 use Rattle.stripe_cleaner.specs.Checks.{checks_from, after_live, after_dead, after_moved, live_at, dead_at, moved_at, is_dead, is_awaited, any_asked, all_dead, place_in, questions, moves}
 use Rattle.stripe_cleaner.specs.CleaningState.{CleaningState, started}
 use Rattle.stripe_cleaner.specs.Counting.{CountingState, has_usage, is_counted, awaited_slots, all_slots, chosen}
-use Rattle.stripe_cleaner.specs.Histories.{state_after, Stage, stage_at_live, stage_at_dead, stage_at_moved, awaits_moved, stage_with, stage_after, blocks_of, reads, IsEmptied, DeletesEmptied}
+use Rattle.stripe_cleaner.specs.Histories.{state_after, Stage, stage_at_live, stage_at_dead, stage_at_moved, awaits_moved, stage_with, stage_from, stage_after, blocks_of, reads, IsEmptied, DeletesEmptied}
 use Rattle.stripe_cleaner.specs.Histories.Stage.{Asked, Live, Moved, Dead}
 use Rattle.stripe_cleaner.specs.Job.{Turn, next_of, next, deletes, servers_of, deleting, counted, left_to_delete, same_name, on_deleted, checking, looked_at, is_moving}
 use Rattle.stripe_cleaner.specs.JobState.{JobState}
@@ -37,6 +37,7 @@ use Rattle.stripe_cleaner.specs.Listing.{ListingState, begun, is_among, without}
 use Rattle.stripe_cleaner.specs.Promises.{promised_with, is_above, is_promised}
 use Rattle.stripe_cleaner.specs.Transition as step
 use Rattle.stripe_cleaner.specs.Transition.{Done, turned, is_greeting, lists, usage_asks, welcomed, on_welcome, forgotten, forgetting, on_promise, mapped, listed, heard, on_list, usage_with, on_counts, listed_in, counted_in, read_in, answered_in, moved_in, deleted_in, awaits, on_usage, is_heard, may_move, on_live, on_dead, transition}
+use Rattle.stripe_cleaner.proofs.Histories.{after_both, split_with, always}
 
 -- ---- stages
 
@@ -97,49 +98,56 @@ blocks-map : (f : Check → Check) → ((c : Check) → (f c).block ≡ c.block)
 blocks-map f same [] = refl
 blocks-map f same (c ∷ cs) = λ k. same c k ∷ blocks-map f same cs k
 
-joined : (start : CleaningState) (later before : List In) → state_after start (later ++ before) ≡ state_after (state_after start before) later
-joined start [] before = refl
-joined start (i ∷ later) before = ap (λ (s : CleaningState). (transition s i).state) (joined start later before)
+-- how far a block is after one more input
+stage_more : (s : CleaningState) (stage : Stage) (inputs : List In) (i : In) (b : BlockId)
+    → stage_from s stage (inputs ++ i ∷ []) b ≡ stage_with (state_after s inputs) i b (stage_from s stage inputs b)
+stage_more s stage [] i b = refl
+stage_more s stage (taken ∷ inputs) i b = stage_more (transition s taken).state (stage_with s taken b stage) inputs i b
 
 module _ (start : CleaningState) where
   -- the segment was read, and each of these checks is as far as its block is
   record IsChecked (history : List In) (name : SegName) (checks : List Check) : Type 0 where
     pub segment : Segment
-    pub later : List In
     pub before : List In
-    pub split : history ≡ later ++ input.Read (Some segment) ∷ before
+    pub later : List In
+    pub split : history ≡ before ++ input.Read (Some segment) ∷ later
     pub awaited : reads name (state_after start before).phase
     pub named : segment.name ≡ name
     pub blocks : map (λ (c : Check). c.block) checks ≡ blocks_of segment.items
-    pub stages : AllByRecursion (λ (c : Check). stage_of c.fate ≡ stage_after (state_after start (input.Read (Some segment) ∷ before)) later c.block) checks
+    pub stages : AllByRecursion
+        (λ (c : Check). stage_of c.fate ≡ stage_after (transition (state_after start before) (input.Read (Some segment))).state later c.block) checks
 
-  emptied_later : (history : List In) (i : In) (name : SegName) → IsEmptied start history name → IsEmptied start (i ∷ history) name
+  emptied_later : (history : List In) (i : In) (name : SegName) → IsEmptied start history name → IsEmptied start (history ++ i ∷ []) name
   emptied_later history i name e = record {
     segment = e.segment;
-    later = i ∷ e.later;
     before = e.before;
-    split = ap (λ h. i ∷ h) e.split;
+    later = e.later ++ i ∷ [];
+    split = split_with history e.before e.later (input.Read (Some e.segment)) i e.split;
     awaited = e.awaited;
     named = e.named;
     dead = go (blocks_of e.segment.items) e.dead;
   }
     where
       from : CleaningState
-      from = state_after start (input.Read (Some e.segment) ∷ e.before)
+      from = (transition (state_after start e.before) (input.Read (Some e.segment))).state
 
-      go : (bs : List BlockId) → AllByRecursion (λ b. stage_after from e.later b ≡ Dead) bs → AllByRecursion (λ b. stage_after from (i ∷ e.later) b ≡ Dead) bs
+      go : (bs : List BlockId) → AllByRecursion (λ b. stage_after from e.later b ≡ Dead) bs
+          → AllByRecursion (λ b. stage_after from (e.later ++ i ∷ []) b ≡ Dead) bs
       go [] all = tt
-      go (b ∷ bs) all = (ap (stage_with (state_after from e.later) i b) all.0 ∙ dead_stays (state_after from e.later) i b, go bs all.1)
+      go (b ∷ bs) all = (
+        stage_more from Asked e.later i b ∙ ap (stage_with (state_after from e.later) i b) all.0 ∙ dead_stays (state_after from e.later) i b,
+        go bs all.1,
+      )
 
   -- an input that changes the checks as it changes the stages
   checked_with : (history : List In) (i : In) (name : SegName) (checks : List Check) (f : Check → Check) → ((c : Check) → (f c).block ≡ c.block)
       → ((c : Check) → stage_of (f c).fate ≡ stage_with (state_after start history) i c.block (stage_of c.fate)) → IsChecked history name checks
-      → IsChecked (i ∷ history) name (map f checks)
+      → IsChecked (history ++ i ∷ []) name (map f checks)
   checked_with history i name checks f same moves k = record {
     segment = k.segment;
-    later = i ∷ k.later;
     before = k.before;
-    split = ap (λ h. i ∷ h) k.split;
+    later = k.later ++ i ∷ [];
+    split = split_with history k.before k.later (input.Read (Some k.segment)) i k.split;
     awaited = k.awaited;
     named = k.named;
     blocks = blocks-map f same checks ∙ k.blocks;
@@ -147,28 +155,29 @@ module _ (start : CleaningState) where
   }
     where
       from : CleaningState
-      from = state_after start (input.Read (Some k.segment) ∷ k.before)
+      from = (transition (state_after start k.before) (input.Read (Some k.segment))).state
 
       here : state_after start history ≡ state_after from k.later
-      here = ap (state_after start) k.split ∙ joined start k.later (input.Read (Some k.segment) ∷ k.before)
+      here = ap (state_after start) k.split ∙ after_both start k.before (input.Read (Some k.segment) ∷ k.later)
 
       go : (cs : List Check) → AllByRecursion (λ (c : Check). stage_of c.fate ≡ stage_after from k.later c.block) cs
-          → AllByRecursion (λ (c : Check). stage_of c.fate ≡ stage_after from (i ∷ k.later) c.block) (map f cs)
+          → AllByRecursion (λ (c : Check). stage_of c.fate ≡ stage_after from (k.later ++ i ∷ []) c.block) (map f cs)
       go [] all = tt
       go (c ∷ cs) all = (
         moves c ∙ ap (λ (s : CleaningState). stage_with s i c.block (stage_of c.fate)) here ∙ ap (stage_with (state_after from k.later) i c.block) all.0
-            ∙ ap (λ b. stage_after from (i ∷ k.later) b) (sym (same c)),
+            ∙ sym (stage_more from Asked k.later i c.block) ∙ ap (λ b. stage_after from (k.later ++ i ∷ []) b) (sym (same c)),
         go cs all.1,
       )
 
   -- an input that changes neither
   checked_later : (history : List In) (i : In) (name : SegName) (checks : List Check)
-      → ((b : BlockId) (x : Stage) → stage_with (state_after start history) i b x ≡ x) → IsChecked history name checks → IsChecked (i ∷ history) name checks
+      → ((b : BlockId) (x : Stage) → stage_with (state_after start history) i b x ≡ x) → IsChecked history name checks
+      → IsChecked (history ++ i ∷ []) name checks
   checked_later history i name checks stays k = record {
     segment = k.segment;
-    later = i ∷ k.later;
     before = k.before;
-    split = ap (λ h. i ∷ h) k.split;
+    later = k.later ++ i ∷ [];
+    split = split_with history k.before k.later (input.Read (Some k.segment)) i k.split;
     awaited = k.awaited;
     named = k.named;
     blocks = k.blocks;
@@ -176,17 +185,17 @@ module _ (start : CleaningState) where
   }
     where
       from : CleaningState
-      from = state_after start (input.Read (Some k.segment) ∷ k.before)
+      from = (transition (state_after start k.before) (input.Read (Some k.segment))).state
 
       here : state_after start history ≡ state_after from k.later
-      here = ap (state_after start) k.split ∙ joined start k.later (input.Read (Some k.segment) ∷ k.before)
+      here = ap (state_after start) k.split ∙ after_both start k.before (input.Read (Some k.segment) ∷ k.later)
 
       go : (cs : List Check) → AllByRecursion (λ (c : Check). stage_of c.fate ≡ stage_after from k.later c.block) cs
-          → AllByRecursion (λ (c : Check). stage_of c.fate ≡ stage_after from (i ∷ k.later) c.block) cs
+          → AllByRecursion (λ (c : Check). stage_of c.fate ≡ stage_after from (k.later ++ i ∷ []) c.block) cs
       go [] all = tt
       go (c ∷ cs) all = (
         sym (stays c.block (stage_of c.fate)) ∙ ap (λ (s : CleaningState). stage_with s i c.block (stage_of c.fate)) here
-            ∙ ap (stage_with (state_after from k.later) i c.block) all.0,
+            ∙ ap (stage_with (state_after from k.later) i c.block) all.0 ∙ sym (stage_more from Asked k.later i c.block),
         go cs all.1,
       )
 
@@ -195,8 +204,8 @@ module _ (start : CleaningState) where
       → IsEmptied start history name
   emptied_from history name checks dead k = record {
     segment = k.segment;
-    later = k.later;
     before = k.before;
+    later = k.later;
     split = k.split;
     awaited = k.awaited;
     named = k.named;
@@ -204,7 +213,7 @@ module _ (start : CleaningState) where
   }
     where
       from : CleaningState
-      from = state_after start (input.Read (Some k.segment) ∷ k.before)
+      from = (transition (state_after start k.before) (input.Read (Some k.segment))).state
 
       go : (cs : List Check) → all_dead cs ≡ true → AllByRecursion (λ (c : Check). stage_of c.fate ≡ stage_after from k.later c.block) cs
           → AllByRecursion (λ b. stage_after from k.later b ≡ Dead) (map (λ (c : Check). c.block) cs)
@@ -214,11 +223,11 @@ module _ (start : CleaningState) where
 
   -- a segment that is read is checked
   checked_first : (history : List In) (segment : Segment) (name : SegName) → reads name (state_after start history).phase → segment.name ≡ name
-      → IsChecked (input.Read (Some segment) ∷ history) name (checks_from 0 segment.items)
+      → IsChecked (history ++ input.Read (Some segment) ∷ []) name (checks_from 0 segment.items)
   checked_first history segment name awaited named = record {
     segment = segment;
-    later = [];
     before = history;
+    later = [];
     split = refl;
     awaited = awaited;
     named = named;
@@ -352,7 +361,7 @@ module _ (start : CleaningState) where
 
   -- where an input changes no stage, the segment is as far as before
   stays_known : (history : List In) (i : In) (p : Phase) → ((b : BlockId) (x : Stage) → stage_with (state_after start history) i b x ≡ x) → KnownIn history p
-      → KnownIn (i ∷ history) p
+      → KnownIn (history ++ i ∷ []) p
   stays_known history i (Checking j segment checks) stays k = checked_later history i segment.name checks stays k
   stays_known history i (Deleting j segment servers) stays k = emptied_later history i segment.name k
   stays_known history i p stays k = tt
@@ -361,12 +370,12 @@ module _ (start : CleaningState) where
 
   -- a read of the segment that is awaited
   read_fine : (history : List In) (read : Option Segment) (p : Phase) → (state_after start history).phase ≡ p → KnownIn history p
-      → Fine (input.Read read ∷ history) (read_in read p)
-  read_fine history None (Reading j segment) e k = next_fine (input.Read None ∷ history) j.left j
+      → Fine (history ++ input.Read read ∷ []) (read_in read p)
+  read_fine history None (Reading j segment) e k = next_fine (history ++ input.Read None ∷ []) j.left j
   read_fine history (Some read) (Reading j segment) e k =
-      by_test (Fine (input.Read (Some read) ∷ history)) (same_name read.name segment.name) (checking j segment (checks_from 0 read.items))
+      by_test (Fine (history ++ input.Read (Some read) ∷ [])) (same_name read.name segment.name) (checking j segment (checks_from 0 read.items))
       (still (Reading j segment))
-      (λ t. checking_fine (input.Read (Some read) ∷ history) j segment (checks_from 0 read.items)
+      (λ t. checking_fine (history ++ input.Read (Some read) ∷ []) j segment (checks_from 0 read.items)
       (checked_first history read segment.name (subst (reads segment.name) (sym e) refl) (tells_apart seg_cmp_exact read.name segment.name t)))
       (λ t. (tt, tt))
   read_fine history read (Checking j segment checks) e k = (checked_later history (input.Read read) segment.name checks (λ b x. refl) k, tt)
@@ -376,9 +385,9 @@ module _ (start : CleaningState) where
   -- an answer that changes the checks as it changes the stages
   answered_fine : (history : List In) (i : In) (answer : Check → Check) (p : Phase) → ((c : Check) → (answer c).block ≡ c.block)
       → ((c : Check) → stage_of (answer c).fate ≡ stage_with (state_after start history) i c.block (stage_of c.fate)) → KnownIn history p
-      → Fine (i ∷ history) (answered_in answer p)
+      → Fine (history ++ i ∷ []) (answered_in answer p)
   answered_fine history i answer (Checking j segment checks) same moves k =
-      looked_fine (i ∷ history) j segment (any_asked checks) (map answer checks) (checked_with history i segment.name checks answer same moves k)
+      looked_fine (history ++ i ∷ []) j segment (any_asked checks) (map answer checks) (checked_with history i segment.name checks answer same moves k)
   answered_fine history i answer (Deleting j segment servers) same moves k = (emptied_later history i segment.name k, tt)
   answered_fine history i answer p same moves k = (tt, tt)
 
@@ -400,11 +409,11 @@ module _ (start : CleaningState) where
   dead_stage block c false e = refl
 
   live_fine : (history : List In) (block : BlockId) (epoch : ℕ) (entry : Entry) → KnownIn history (state_after start history).phase
-      → FineDone (input.Live block epoch entry ∷ history) (on_live (state_after start history) block epoch entry)
+      → FineDone (history ++ input.Live block epoch entry ∷ []) (on_live (state_after start history) block epoch entry)
   unfolding on_live
   live_fine history block epoch entry k =
       let s : CleaningState = state_after start history in
-      by_test (FineDone (input.Live block epoch entry ∷ history)) (is_heard s.promised block epoch && may_move entry)
+      by_test (FineDone (history ++ input.Live block epoch entry ∷ [])) (is_heard s.promised block epoch && may_move entry)
       (turned s (answered_in (live_at block entry) s.phase)) (still s)
       (λ t. answered_fine history (input.Live block epoch entry) (live_at block entry) s.phase (live_block block entry)
       (λ c. live_stage block entry c (same_block c.block block) refl
@@ -413,25 +422,25 @@ module _ (start : CleaningState) where
       (λ t. (stays_known history (input.Live block epoch entry) s.phase (λ b x. ap (λ y. cond y (cond (same_block b block) (stage_at_live x) x) x) t) k, tt))
 
   dead_fine : (history : List In) (block : BlockId) (epoch : ℕ) → KnownIn history (state_after start history).phase
-      → FineDone (input.Dead block epoch ∷ history) (on_dead (state_after start history) block epoch)
+      → FineDone (history ++ input.Dead block epoch ∷ []) (on_dead (state_after start history) block epoch)
   unfolding on_dead
   dead_fine history block epoch k =
       let s : CleaningState = state_after start history in
-      by_test (FineDone (input.Dead block epoch ∷ history)) (is_heard s.promised block epoch) (turned s (answered_in (dead_at block) s.phase)) (still s)
+      by_test (FineDone (history ++ input.Dead block epoch ∷ [])) (is_heard s.promised block epoch) (turned s (answered_in (dead_at block) s.phase)) (still s)
       (λ t. answered_fine history (input.Dead block epoch) (dead_at block) s.phase (dead_block block)
       (λ c. dead_stage block c (same_block c.block block) refl
       ∙ ap (λ y. cond y (cond (same_block c.block block) (stage_at_dead (stage_of c.fate)) (stage_of c.fate)) (stage_of c.fate)) (sym t))
       k)
       (λ t. (stays_known history (input.Dead block epoch) s.phase (λ b x. ap (λ y. cond y (cond (same_block b block) (stage_at_dead x) x) x) t) k, tt))
 
-  moved_fine : (history : List In) (p : Phase) → (state_after start history).phase ≡ p → KnownIn history p → Fine (input.Moved ∷ history) (moved_in p)
+  moved_fine : (history : List In) (p : Phase) → (state_after start history).phase ≡ p → KnownIn history p → Fine (history ++ input.Moved ∷ []) (moved_in p)
   moved_fine history (Checking j segment checks) e k =
-      by_test (Fine (input.Moved ∷ history)) (is_moving checks)
+      by_test (Fine (history ++ input.Moved ∷ [])) (is_moving checks)
       (record { state = Checking j segment (map moved_at checks); outs = questions segment (map moved_at checks) }) (still (Checking j segment checks))
       (λ t. (
         checked_with history input.Moved segment.name checks moved_at (λ c. refl)
             (λ c. stage-after_moved c.fate ∙ ap (λ y. cond y (stage_at_moved (stage_of c.fate)) (stage_of c.fate)) (sym (ap awaits_moved e ∙ t))) k,
-        says_questions (input.Moved ∷ history) segment (map moved_at checks),
+        says_questions (history ++ input.Moved ∷ []) segment (map moved_at checks),
       ))
       (λ t. (checked_later history input.Moved segment.name checks (λ b x. ap (λ y. cond y (stage_at_moved x) x) (ap awaits_moved e ∙ t)) k, tt))
   moved_fine history (Deleting j segment servers) e k = (emptied_later history input.Moved segment.name k, tt)
@@ -460,37 +469,39 @@ module _ (start : CleaningState) where
   abbrev now : List In → CleaningState
   now history = state_after start history
 
-  turn_fine : (history : List In) (i : In) → KnownIn history (now history).phase → FineDone (i ∷ history) (transition (now history) i)
+  turn_fine : (history : List In) (i : In) → KnownIn history (now history).phase → FineDone (history ++ i ∷ []) (transition (now history) i)
   turn_fine history (input.Welcome slots groups) k =
-      welcome_fine (input.Welcome slots groups ∷ history) (now history) slots groups
+      welcome_fine (history ++ input.Welcome slots groups ∷ []) (now history) slots groups
       (stays_known history (input.Welcome slots groups) (now history).phase (λ b x. refl) k)
   turn_fine history (input.Promise slot epoch) k =
-      promise_fine (input.Promise slot epoch ∷ history) (now history) slot epoch
+      promise_fine (history ++ input.Promise slot epoch ∷ []) (now history) slot epoch
       (stays_known history (input.Promise slot epoch) (now history).phase (λ b x. refl) k)
-  turn_fine history (input.Maps groups) k =
-      (mapped_fine (input.Maps groups ∷ history) groups (now history).phase (stays_known history (input.Maps groups) (now history).phase (λ b x. refl) k), tt)
+  turn_fine history (input.Maps groups) k = (
+    mapped_fine (history ++ input.Maps groups ∷ []) groups (now history).phase
+        (stays_known history (input.Maps groups) (now history).phase (λ b x. refl) k),
+    tt,
+  )
   turn_fine history (input.Listed server held) k =
-      listed_in_fine (input.Listed server held ∷ history) server held (now history).phase
+      listed_in_fine (history ++ input.Listed server held ∷ []) server held (now history).phase
       (stays_known history (input.Listed server held) (now history).phase (λ b x. refl) k)
   turn_fine history (input.Usage slot epoch counts) k =
-      usage_fine (input.Usage slot epoch counts ∷ history) (now history) slot epoch counts
+      usage_fine (history ++ input.Usage slot epoch counts ∷ []) (now history) slot epoch counts
       (stays_known history (input.Usage slot epoch counts) (now history).phase (λ b x. refl) k)
   turn_fine history (input.Read read) k = read_fine history read (now history).phase refl k
   turn_fine history (input.Live block epoch entry) k = live_fine history block epoch entry k
   turn_fine history (input.Dead block epoch) k = dead_fine history block epoch k
   turn_fine history input.Moved k = moved_fine history (now history).phase refl k
   turn_fine history (input.Deleted server name) k =
-      deleted_in_fine (input.Deleted server name ∷ history) server name (now history).phase
+      deleted_in_fine (history ++ input.Deleted server name ∷ []) server name (now history).phase
       (stays_known history (input.Deleted server name) (now history).phase (λ b x. refl) k)
   turn_fine history input.Tick k = (
     stays_known history input.Tick (now history).phase (λ b x. refl) k,
-    awaits_fine (input.Tick ∷ history) (now history).phase (stays_known history input.Tick (now history).phase (λ b x. refl) k),
+    awaits_fine (history ++ input.Tick ∷ []) (now history).phase (stays_known history input.Tick (now history).phase (λ b x. refl) k),
   )
 
   known_always : KnownIn [] start.phase → (history : List In) → KnownIn history (now history).phase
-  known_always k [] = k
-  known_always k (i ∷ history) = (turn_fine history i (known_always k history)).0
+  known_always k = always start (λ history s. KnownIn history s.phase) k (λ history i known. (turn_fine history i known).0)
 
 pub all_deletes_emptied : (count : ℕ) (history : List In) (i : In)
-    → AllByRecursion (DeletesEmptied (started count) (i ∷ history)) (transition (state_after (started count) history) i).outs
+    → AllByRecursion (DeletesEmptied (started count) (history ++ i ∷ [])) (transition (state_after (started count) history) i).outs
 all_deletes_emptied count history i = (turn_fine (started count) history i (known_always (started count) tt history)).1

@@ -1,3 +1,4 @@
 pub mod Below
 pub mod Emptying
+pub mod Histories
 pub mod Loops

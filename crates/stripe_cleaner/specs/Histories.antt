@@ -1,4 +1,4 @@
--- What a job took, newest first, and what is claimed of it whatever it took.
+-- What a job took, oldest first, and what is claimed of it whatever it took.
 use Rattle.std.specs.Prelude.{◌≡◌, ◌<◌, Bool, false, IsTrue, List, [], ◌∷◌, ◌++◌, Option, Some, None, ◌&&◌, if◌then◌else◌}
 use Rattle.std.specs.List.{AllByRecursion, filter_map}
 use Rattle.group_map.specs.GroupMapState.{GroupMapState}
@@ -9,6 +9,7 @@ use Rattle.xfs_base.specs.declared.block.BlockId.{BlockId}
 use Rattle.xfs_base.specs.declared.news.SlotNews.{SlotNews}
 use Rattle.xfs_base.specs.declared.segment.SegName.{SegName}
 use Rattle.xfs_base.specs.Blocks.{same_block}
+use Rattle.xfs_base.specs.Steps.{steps}
 use Rattle.stripe_cleaner.specs.declared.input.In.{In}
 use Rattle.stripe_cleaner.specs.declared.input.In.TheVariants as input
 use Rattle.stripe_cleaner.specs.declared.output.Out.{Out}
@@ -22,17 +23,16 @@ use Rattle.stripe_cleaner.specs.Transition.{is_greeting, is_heard, may_move, tra
 
 -- a job that began so and took these inputs
 abbrev pub state_after : CleaningState → List In → CleaningState
-state_after start [] = start
-state_after start (input ∷ earlier) = (transition (state_after start earlier) input).state
+state_after start inputs = (steps transition start inputs).state
 
 -- ---- horizons
 
 -- the job took a Welcome of these slots while it awaited one
 pub record IsWelcomed (start : CleaningState) (history : List In) (slots : List SlotNews) : Type 0 where
   pub groups : GroupMapState
-  pub later : List In
   pub before : List In
-  pub split : history ≡ later ++ input.Welcome slots groups ∷ before
+  pub later : List In
+  pub split : history ≡ before ++ input.Welcome slots groups ∷ later
   pub awaited : IsTrue (is_greeting (state_after start before).phase)
 
 -- the segment is below the least horizon of its log in the Welcome of the job
@@ -83,10 +83,14 @@ stage_with s (input.Dead b epoch) block stage = if is_heard s.promised b epoch t
 stage_with s input.Moved block stage = if awaits_moved s.phase then stage_at_moved stage else stage
 stage_with s input block stage = stage
 
+-- how far the block is after these inputs, where it was this far in this state
+abbrev pub stage_from : CleaningState → Stage → List In → BlockId → Stage
+stage_from s stage [] block = stage
+stage_from s stage (input ∷ later) block = stage_from (transition s input).state (stage_with s input block stage) later block
+
 -- how far the block is after these inputs, where it was asked for in this state
 abbrev pub stage_after : CleaningState → List In → BlockId → Stage
-stage_after s [] block = Asked
-stage_after s (input ∷ later) block = stage_with (state_after s later) input block (stage_after s later block)
+stage_after s inputs block = stage_from s Asked inputs block
 
 abbrev pub block_of : Item → Option BlockId
 block_of (Block block value) = Some block
@@ -105,12 +109,13 @@ reads name phase = ⊥
 -- where it was never live.
 pub record IsEmptied (start : CleaningState) (history : List In) (name : SegName) : Type 0 where
   pub segment : Segment
-  pub later : List In
   pub before : List In
-  pub split : history ≡ later ++ input.Read (Some segment) ∷ before
+  pub later : List In
+  pub split : history ≡ before ++ input.Read (Some segment) ∷ later
   pub awaited : reads name (state_after start before).phase
   pub named : segment.name ≡ name
-  pub dead : AllByRecursion (λ b. stage_after (state_after start (input.Read (Some segment) ∷ before)) later b ≡ Dead) (blocks_of segment.items)
+  pub dead : AllByRecursion (λ b. stage_after (transition (state_after start before) (input.Read (Some segment))).state later b ≡ Dead)
+      (blocks_of segment.items)
 
 -- what is deleted is emptied
 abbrev pub DeletesEmptied : CleaningState → List In → Out → Type 0
