@@ -17,6 +17,7 @@ use Rattle.xfs_base.specs.declared.segment.End.{End}
 use Rattle.xfs_base.specs.declared.segment.LogId.{LogId}
 use Rattle.xfs_base.specs.declared.segment.SegName.{SegName}
 use Rattle.xfs_base.proofs.Booleans.{by_test}
+use Rattle.xfs_base.proofs.StepLoops.{steps_keep}
 use Rattle.log_scan.specs.declared.input.In.{In}
 use Rattle.log_scan.specs.declared.input.In.TheVariants.{Welcome, Fenced, Got, Missing, Maps, Tick}
 use Rattle.log_scan.specs.declared.listing.Listing.{Listing}
@@ -278,21 +279,25 @@ module _ (log : LogId) where
 
   -- ---- over any history
 
-  record Reached (s : ScanState) : Type 0 where
+  -- what is true of an opening at its start, and after each input
+  record Sound (s : ScanState) : Type 0 where
     opening : IsOpening log s.opening
     stage : IsStage log s.stage
 
-  reached : (inc : ℕ) (history : List In) → Reached (state_after (started log inc) history)
-  reached inc [] = record { opening = record { of_log = refl; low = omega arith }; stage = tt }
-  reached inc (input ∷ earlier) =
-      let before = state_after (started log inc) earlier in
-      let r = reached inc earlier in
-      let k = keeps_takes before.opening before.stage input r.opening r.stage in
+  sound_start : (inc : ℕ) → Sound (started log inc)
+  sound_start inc = record { opening = record { of_log = refl; low = omega arith }; stage = tt }
+
+  sound_transition : (s : ScanState) (input : In) → Sound s → Sound (transition s input).state
+  sound_transition s input sound =
+      let k = keeps_takes s.opening s.stage input sound.opening sound.stage in
       record { opening = k.opening; stage = k.stage }
+
+  sound_after : (s : ScanState) → Sound s → (history : List In) → Sound (state_after s history)
+  sound_after s sound history = steps_keep transition Sound sound_transition s history sound
 
 pub all_linked : (log : LogId) (inc : ℕ) (history : List In) (input : In)
     → AllByRecursion (TellsLinked log) (transition (state_after (started log inc) history) input).outs
 all_linked log inc history input =
     let before = state_after (started log inc) history in
-    let r = reached log inc history in
-    (keeps_takes log before.opening before.stage input r.opening r.stage).outs
+    let sound = sound_after log (started log inc) (sound_start log inc) history in
+    (keeps_takes log before.opening before.stage input sound.opening sound.stage).outs

@@ -7,6 +7,7 @@ use Rattle.xfs_base.specs.declared.segment.End.{End}
 use Rattle.xfs_base.specs.declared.segment.LogId.{LogId}
 use Rattle.xfs_base.specs.declared.segment.Prior.{Prior}
 use Rattle.xfs_base.specs.declared.segment.SegName.{SegName}
+use Rattle.xfs_base.specs.Steps.{steps}
 use Rattle.log_scan.specs.declared.input.In.{In}
 use Rattle.log_scan.specs.declared.input.In.TheVariants.{Welcome, Fenced, Got, Missing, Maps, Tick}
 use Rattle.log_scan.specs.declared.listing.Listing.{Listing}
@@ -53,10 +54,9 @@ TellsLinked log (Fetch server name ask) = Unit {0}
 TellsLinked log (Chain segments end prior) = IsLinked log segments end prior
 TellsLinked log (Lost name) = Unit {0}
 
--- an opening that began so and took these inputs, newest first
+-- an opening that began so and took these inputs, oldest first
 abbrev pub state_after : ScanState → List In → ScanState
-state_after start [] = start
-state_after start (input ∷ earlier) = (transition (state_after start earlier) input).state
+state_after start inputs = (steps transition start inputs).state
 
 -- ---- from where it is read
 

@@ -1,5 +1,5 @@
 //! What holds of every opening. Each function stands for the law that its contract states; a call of it
-//! does nothing. A history is what an opening took, newest first.
+//! does nothing. A history is what an opening took, oldest first.
 ghost use Rattle.std.specs.Prelude.{◌≡◌, ℕ, List, Some};
 ghost use Rattle.std.specs.List.{AllByRecursion};
 ghost use Rattle.xfs_base.specs.declared.fragment.FragMeta.{FragMeta};
