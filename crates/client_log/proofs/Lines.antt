@@ -7,6 +7,7 @@ use Rattle.xfs_base.specs.declared.segment.Prior.{Prior}
 use Rattle.xfs_base.specs.declared.segment.SegName.{SegName}
 use Rattle.xfs_base.specs.Limits.{segment_blocks}
 use Rattle.xfs_base.specs.Steps.{still}
+use Rattle.xfs_base.proofs.StepLoops.{steps_keep}
 use Rattle.segment_format.specs.declared.segment.Item.{Item}
 use Rattle.group_map.specs.declared.group.Member.{Member}
 use Rattle.group_map.specs.GroupMapState.{GroupMapState}
@@ -176,12 +177,8 @@ step s (Acked name index generation) l = steps_acked s name index generation l
 step s (Maps groups) l = steps_maps s groups l
 step s Tick l = steps_tick s l
 
-stays_in_line : (s : LogState) (inputs : List In) → IsInLine s → IsInLine (state_after s inputs)
-stays_in_line s [] l = l
-stays_in_line s (input ∷ later) l = stays_in_line (transition s input).state later (step s input l).line
-
 pub in_line : (log : LogId) (inc : ℕ) (end : End) (groups : GroupMapState) (history : List In) → IsInLine (state_after (started log inc end groups) history)
-in_line log inc end groups history = stays_in_line (started log inc end groups) history tt
+in_line log inc end groups history = steps_keep transition IsInLine (λ s input l. (step s input l).line) (started log inc end groups) history tt
 
 pub rises_by_one : (log : LogId) (inc : ℕ) (end : End) (groups : GroupMapState) (history : List In) (input : In)
     → EndRisesByOne (state_after (started log inc end groups) history) (transition (state_after (started log inc end groups) history) input)
