@@ -104,5 +104,5 @@ fn is_at(known: Place, place: Place) -> bool
 fn is_named(known: SegName, name: SegName) -> bool
     ensures { result ≡ is_eq (seg_cmp known name) }
 {
-    at.order(name).is_eq()
+    known.order(name).is_eq()
 }
