@@ -18,7 +18,7 @@ pub fn order_is_by_use()
 pub fn victim_is_least_recently_used()
     ensures { (capacity : ℕ) (history : List In) (input : In)
         → All (IsLeastUsed (history ++ input ∷ []) (state_after capacity (history ++ input ∷ [])).blocks)
-            (transition (state_after capacity history) input).outs }
+        (transition (state_after capacity history) input).outs }
 {}
 
 /// A cache never keeps more clean blocks than it may.
