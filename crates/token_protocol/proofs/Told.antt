@@ -1,9 +1,9 @@
 -- The acts of every run are legal: the history of the world is the one that the acts make, and the laws say the rest. And what is told of steps after others.
-use Rattle.std.proofs.Common.{◌≡◌, ℕ, Bool, true, refl, ap, ◌∙◌, List, [], ◌++◌, max, arith}
+use Rattle.std.proofs.Common.{◌≡◌, ℕ, Bool, true, refl, sym, ap, subst, ◌∙◌, List, [], ◌∷◌, ◌++◌, append-nil, append_assoc, max, arith}
 use Rattle.std.proofs.lemmas.Bool.{true≢false}
 use Rattle.std.proofs.lemmas.Bool.Decides.{nat_tests}
 use Rattle.token_protocol.specs.World.{World, start, flying_row}
-use Rattle.token_protocol.specs.Acts.{Act, History, LegalActs, LegalFell, LegalBack, history}
+use Rattle.token_protocol.specs.Acts.{Act, History, LegalActs, LegalFrom, LegalFell, LegalBack, no_history, after_act, history_by, history}
 use Rattle.token_protocol.specs.Crashing.{MayCrashDirty}
 use Rattle.token_protocol.specs.Told.{tells, told}
 use Rattle.token_protocol.specs.Step.{Step, Steps}
@@ -30,150 +30,128 @@ pub record Agrees (h : History) (newest : ℕ) (value_at : ℕ → ℕ) (writer 
 abbrev pub Matches : History → World → Type 0
 Matches h w = Agrees h w.newest w.value_at w.writer w.pinned w.fallen w.cut_low w.cut_high
 
-record Legal (acts : List Act) (w : World) : Type 0 where
-  matches : Matches (history acts) w
-  legal : LegalActs acts
+-- Acts after others make of a history what they make of the one that those made.
+pub history_through : (acts more : List Act) (h : History) → history_by h (acts ++ more) ≡ history_by (history_by h acts) more
+history_through [] more h = refl
+history_through (act ∷ acts) more h = history_through acts more (after_act h act)
+
+-- They are legal after those where they are legal in that one.
+legal_through : (acts more : List Act) (h : History) → LegalFrom h acts → LegalFrom (history_by h acts) more → LegalFrom h (acts ++ more)
+legal_through [] more h legal rest = rest
+legal_through (act ∷ acts) more h legal rest = (legal.0, legal_through acts more (after_act h act) legal.1 rest)
+
+-- Acts that are legal in a history, and make of it the world's.
+record Legal (h : History) (acts : List Act) (w : World) : Type 0 where
+  matches : Matches (history_by h acts) w
+  legal : LegalFrom h acts
 
 -- A fall is legal in the history that the acts made, since it is in the world's.
-fall : (w : World) (who : ℕ) (acts : List Act) → Invariant w → Legal acts w → MayCrashDirty w who
-    → LegalFell (history acts) who (w.client who).settled (max (w.client who).settled (flying_row w who).version)
-fall w who acts i l may =
+fall : (w : World) (who : ℕ) (h : History) → Invariant w → Matches h w → MayCrashDirty w who
+    → LegalFell h who (w.client who).settled (max (w.client who).settled (flying_row w who).version)
+fall w who h i m may =
     let law = falls_legal w i who may in
     record {
-      some = grind (arith, (dirty_leads w i who may.dirty).ahead, l.matches.length);
-      own = grind (arith, law.newest_mine, l.matches.writers w.newest, l.matches.length);
-      pinned = grind (arith, nat_tests, law.cut.pinned, l.matches.pin);
+      some = grind (arith, (dirty_leads w i who may.dirty).ahead, m.length);
+      own = grind (arith, law.newest_mine, m.writers w.newest, m.length);
+      pinned = grind (arith, nat_tests, law.cut.pinned, m.pin);
       ordered = grind arith;
-      known = grind (arith, nat_tests, law.cut.known, l.matches.length);
+      known = grind (arith, nat_tests, law.cut.known, m.length);
     }
 
 -- So is a return: while its client is fallen, what it fell to stays.
-back : (w : World) (who : ℕ) (acts : List Act) → Invariant w → Legal acts w → LegalBack (history acts) who
-back w who acts i l =
+back : (w : World) (who : ℕ) (h : History) → Invariant w → Matches h w → LegalBack h who
+back w who h i m =
     let law = returns_legal w i who in
     record {
-      ordered = λ fell. grind (arith, law (grind (arith, l.matches.falls who)), l.matches.lows who, l.matches.highs who);
-      known = λ fell. grind (arith, law (grind (arith, l.matches.falls who)), l.matches.highs who, l.matches.length);
+      ordered = λ fell. grind (arith, law (grind (arith, m.falls who)), m.lows who, m.highs who);
+      known = λ fell. grind (arith, law (grind (arith, m.falls who)), m.highs who, m.length);
     }
 
-legal_step : (w v : World) (step : Step true w v) (acts : List Act) → Invariant w → Legal acts w → Legal (tells w v step acts) v
-legal_step w v (Asks who mode request end h k) acts i l = record { matches = l.matches; legal = l.legal }
-legal_step w v (AsksAgain who end h k) acts i l = record { matches = l.matches; legal = l.legal }
-legal_step w v (DropsWant who) acts i l = record { matches = l.matches; legal = l.legal }
-legal_step w v (DropsFetch who) acts i l = record { matches = l.matches; legal = l.legal }
-legal_step w v (Offers asked h k) acts i l = record { matches = l.matches; legal = l.legal }
-legal_step w v (Recalls who keep h) acts i l = record { matches = l.matches; legal = l.legal }
-legal_step w v (WritesFirst taken value h) acts i l = record { matches = grind (arith, nat_tests); legal = (l.legal, tt) }
-legal_step w v (Declines taken h) acts i l = record { matches = l.matches; legal = l.legal }
-legal_step w v (TakesAbsent taken h t) acts i l = record { matches = l.matches; legal = l.legal }
-legal_step w v (TakesSupply taken value h t) acts i l = record { matches = l.matches; legal = l.legal }
-legal_step w v (TakesPlace taken h t) acts i l = record { matches = l.matches; legal = l.legal }
-legal_step w v (Fetches who value h k) acts i l = record { matches = l.matches; legal = l.legal }
-legal_step w v (Writes who value h) acts i l = record { matches = grind (arith, nat_tests); legal = (l.legal, tt) }
-legal_step w v (Reads who h) acts i l = record {
+-- What a step tells is legal in the world's history.
+legal_step : (w v : World) (step : Step true w v) (past : History) → Invariant w → Matches past w → Legal past (tells w v step) v
+legal_step w v (Asks who mode request end h k) past i m = record { matches = m; legal = tt }
+legal_step w v (AsksAgain who end h k) past i m = record { matches = m; legal = tt }
+legal_step w v (DropsWant who) past i m = record { matches = m; legal = tt }
+legal_step w v (DropsFetch who) past i m = record { matches = m; legal = tt }
+legal_step w v (Offers asked h k) past i m = record { matches = m; legal = tt }
+legal_step w v (Recalls who keep h) past i m = record { matches = m; legal = tt }
+legal_step w v (WritesFirst taken value h) past i m = record { matches = grind (arith, nat_tests); legal = (tt, tt) }
+legal_step w v (Declines taken h) past i m = record { matches = m; legal = tt }
+legal_step w v (TakesAbsent taken h t) past i m = record { matches = m; legal = tt }
+legal_step w v (TakesSupply taken value h t) past i m = record { matches = m; legal = tt }
+legal_step w v (TakesPlace taken h t) past i m = record { matches = m; legal = tt }
+legal_step w v (Fetches who value h k) past i m = record { matches = m; legal = tt }
+legal_step w v (Writes who value h) past i m = record { matches = grind (arith, nat_tests); legal = (tt, tt) }
+legal_step w v (Reads who h) past i m = record {
   matches = grind (arith, nat_tests);
   legal = (
-    l.legal,
     record {
       newest = grind (
         arith,
         i.content.versions.held_version who h.holds,
-        l.matches.length,
+        m.length,
       );
       text = grind (
         arith,
         i.content.values.held_value who h.holds,
-        l.matches.length,
-        l.matches.values w.newest,
+        m.length,
+        m.values w.newest,
       );
     },
+    tt,
   );
 }
-legal_step w v (Syncs who version h) acts i l = record { matches = grind (arith, nat_tests); legal = (l.legal, tt) }
-legal_step w v (Evicts who h) acts i l = record { matches = l.matches; legal = l.legal }
-legal_step w v (Gives answered end h k) acts i l = record { matches = l.matches; legal = l.legal }
-legal_step w v (GivesAgain answered end h k) acts i l = record { matches = l.matches; legal = l.legal }
-legal_step w v (Notes noted h) acts i l = record { matches = l.matches; legal = l.legal }
-legal_step w v (Applies who upto e h k) acts i l = record { matches = l.matches; legal = l.legal }
-legal_step w v Turns acts i l = record { matches = l.matches; legal = l.legal }
-legal_step w v (SealsWith who h) acts i l = record { matches = l.matches; legal = l.legal }
-legal_step w v (Seals who h) acts i l = record { matches = l.matches; legal = l.legal }
-legal_step w v (Settles who h k) acts i l = record { matches = l.matches; legal = l.legal }
-legal_step w v (CrashesDirty who h) acts i l = record { matches = grind (arith, nat_tests); legal = (l.legal, fall w who acts i l h) }
-legal_step w v (CrashesClean who h) acts i l = record { matches = l.matches; legal = l.legal }
-legal_step w v (RestartsAdopting who incarnation promised h k) acts i l = record { matches = grind (arith, nat_tests); legal = (l.legal, back w who acts i l) }
-legal_step w v (RestartsDiscarding who incarnation promised h) acts i l = record { matches = grind (arith, nat_tests); legal = (l.legal, back w who acts i l) }
-legal_step w v (Promises who epoch h) acts i l = record { matches = l.matches; legal = l.legal }
-legal_step w v (Reports who end h k) acts i l = record { matches = l.matches; legal = l.legal }
-legal_step w v (Activates epoch report applied e h k) acts i l = record { matches = l.matches; legal = l.legal }
-legal_step w v (SealsCopy who log segment h k) acts i l = record { matches = l.matches; legal = l.legal }
-legal_step w v (SealsOther who h) acts i l = record { matches = l.matches; legal = l.legal }
-legal_step w v (SettlesCopy who h) acts i l = record { matches = l.matches; legal = l.legal }
-legal_step w v (DiscardsCopy who h) acts i l = record { matches = l.matches; legal = l.legal }
-legal_step w v (Loses x h) acts i l = absurd (true≢false h)
+legal_step w v (Syncs who version h) past i m = record { matches = grind (arith, nat_tests); legal = (tt, tt) }
+legal_step w v (Evicts who h) past i m = record { matches = m; legal = tt }
+legal_step w v (Gives answered end h k) past i m = record { matches = m; legal = tt }
+legal_step w v (GivesAgain answered end h k) past i m = record { matches = m; legal = tt }
+legal_step w v (Notes noted h) past i m = record { matches = m; legal = tt }
+legal_step w v (Applies who upto e h k) past i m = record { matches = m; legal = tt }
+legal_step w v Turns past i m = record { matches = m; legal = tt }
+legal_step w v (SealsWith who h) past i m = record { matches = m; legal = tt }
+legal_step w v (Seals who h) past i m = record { matches = m; legal = tt }
+legal_step w v (Settles who h k) past i m = record { matches = m; legal = tt }
+legal_step w v (CrashesDirty who h) past i m = record { matches = grind (arith, nat_tests); legal = (fall w who past i m h, tt) }
+legal_step w v (CrashesClean who h) past i m = record { matches = m; legal = tt }
+legal_step w v (RestartsAdopting who incarnation promised h k) past i m = record { matches = grind (arith, nat_tests); legal = (back w who past i m, tt) }
+legal_step w v (RestartsDiscarding who incarnation promised h) past i m = record { matches = grind (arith, nat_tests); legal = (back w who past i m, tt) }
+legal_step w v (Promises who epoch h) past i m = record { matches = m; legal = tt }
+legal_step w v (Reports who end h k) past i m = record { matches = m; legal = tt }
+legal_step w v (Activates epoch report applied e h k) past i m = record { matches = m; legal = tt }
+legal_step w v (SealsCopy who log segment h k) past i m = record { matches = m; legal = tt }
+legal_step w v (SealsOther who h) past i m = record { matches = m; legal = tt }
+legal_step w v (SettlesCopy who h) past i m = record { matches = m; legal = tt }
+legal_step w v (DiscardsCopy who h) past i m = record { matches = m; legal = tt }
+legal_step w v (Loses x h) past i m = absurd (true≢false h)
 
-legal_steps : (w v : World) (steps : Steps true w v) → Invariant w → Legal [] w → Legal (told w v steps) v × Invariant v
-legal_steps w v Done i l = (l, i)
-legal_steps w v (More {v = x} steps step) i l =
-    let before = legal_steps w x steps i l in
-    (legal_step x v step (told w x steps) before.1 before.0, keeps x v step before.1)
+legal_steps : (w v : World) (steps : Steps true w v) (h : History) → Invariant w → Matches h w → Legal h (told w v steps) v × Invariant v
+legal_steps w v Done h i m = (record { matches = m; legal = tt }, i)
+legal_steps w v (More {v = x} steps step) h i m =
+    let before = legal_steps w x steps h i m in
+    let acts = told w x steps in
+    let last = legal_step x v step (history_by h acts) before.1 before.0.matches in
+    (
+      record {
+        matches = subst (λ (now : History). Matches now v) (sym (history_through acts (tells x v step) h)) last.matches;
+        legal = legal_through acts (tells x v step) h before.0.legal last.legal;
+      },
+      keeps x v step before.1,
+    )
 
-opening : (n : ℕ) → Legal [] (start n)
-opening n = record {
-  matches = record { length = refl; values = λ v. refl; writers = λ v. refl; pin = refl; falls = λ c. refl; lows = λ c. refl; highs = λ c. refl };
-  legal = tt;
-}
+opening : (n : ℕ) → Matches no_history (start n)
+opening n = record { length = refl; values = λ v. refl; writers = λ v. refl; pin = refl; falls = λ c. refl; lows = λ c. refl; highs = λ c. refl }
 
 -- The history that the acts of a run made is that of the world to which it came.
 pub acts_match : (n : ℕ) (w : World) (steps : Steps true (start n) w) → Matches (history (told (start n) w steps)) w
-acts_match n w steps = (legal_steps (start n) w steps (begins n) (opening n)).0.matches
+acts_match n w steps = (legal_steps (start n) w steps no_history (begins n) (opening n)).0.matches
 
 pub acts_legal : (n : ℕ) (w : World) (steps : Steps true (start n) w) → LegalActs (told (start n) w steps)
-acts_legal n w steps = (legal_steps (start n) w steps (begins n) (opening n)).0.legal
+acts_legal n w steps = (legal_steps (start n) w steps no_history (begins n) (opening n)).0.legal
 
--- What a step tells stands before what was told.
-tells_more : (logs : Bool) (w v : World) (step : Step logs w v) (acts more : List Act) → tells w v step (acts ++ more) ≡ tells w v step acts ++ more
-tells_more logs w v (Asks who mode request end h k) acts more = refl
-tells_more logs w v (AsksAgain who end h k) acts more = refl
-tells_more logs w v (DropsWant who) acts more = refl
-tells_more logs w v (DropsFetch who) acts more = refl
-tells_more logs w v (Offers asked h k) acts more = refl
-tells_more logs w v (Recalls who keep h) acts more = refl
-tells_more logs w v (WritesFirst taken value h) acts more = refl
-tells_more logs w v (Declines taken h) acts more = refl
-tells_more logs w v (TakesAbsent taken h t) acts more = refl
-tells_more logs w v (TakesSupply taken value h t) acts more = refl
-tells_more logs w v (TakesPlace taken h t) acts more = refl
-tells_more logs w v (Fetches who value h k) acts more = refl
-tells_more logs w v (Writes who value h) acts more = refl
-tells_more logs w v (Reads who h) acts more = refl
-tells_more logs w v (Syncs who version h) acts more = refl
-tells_more logs w v (Evicts who h) acts more = refl
-tells_more logs w v (Gives answered end h k) acts more = refl
-tells_more logs w v (GivesAgain answered end h k) acts more = refl
-tells_more logs w v (Notes noted h) acts more = refl
-tells_more logs w v (Applies who upto e h k) acts more = refl
-tells_more logs w v Turns acts more = refl
-tells_more logs w v (SealsWith who h) acts more = refl
-tells_more logs w v (Seals who h) acts more = refl
-tells_more logs w v (Settles who h k) acts more = refl
-tells_more logs w v (CrashesDirty who h) acts more = refl
-tells_more logs w v (CrashesClean who h) acts more = refl
-tells_more logs w v (RestartsAdopting who incarnation promised h k) acts more = refl
-tells_more logs w v (RestartsDiscarding who incarnation promised h) acts more = refl
-tells_more logs w v (Promises who epoch h) acts more = refl
-tells_more logs w v (Reports who end h k) acts more = refl
-tells_more logs w v (Activates epoch report applied e h k) acts more = refl
-tells_more logs w v (SealsCopy who log segment h k) acts more = refl
-tells_more logs w v (SealsOther who h) acts more = refl
-tells_more logs w v (SettlesCopy who h) acts more = refl
-tells_more logs w v (DiscardsCopy who h) acts more = refl
-tells_more logs w v (Loses x h) acts more = refl
-
--- What steps after others tell stands before what those told.
+-- What steps after others tell stands after what those told.
 pub told_through : (logs : Bool) (w v u : World) (first : Steps logs w v) (then_ : Steps logs v u)
-    → told w u (steps_through w v u first then_) ≡ told v u then_ ++ told w v first
+    → told w u (steps_through w v u first then_) ≡ told w v first ++ told v u then_
 unfolding steps_through
-told_through logs w v u first Done = refl
+told_through logs w v u first Done = sym (append-nil (told w v first))
 told_through logs w v u first (More {v = x} steps step) =
-    ap (tells x u step) (told_through logs w v x first steps) ∙ tells_more logs x u step (told v x steps) (told w v first)
+    ap (λ acts. acts ++ tells x u step) (told_through logs w v x first steps) ∙ append_assoc (told w v first) (told v x steps) (tells x u step)

@@ -70,12 +70,20 @@ LegalAct h (Act.Fell c low high) = LegalFell h c low high
 LegalAct h (Act.Back c adopted) = LegalBack h c
 LegalAct h act = Unit {0}
 
--- The history that acts made, newest act first.
+-- What acts, oldest first, make of a history.
+abbrev pub history_by : History → List Act → History
+history_by h [] = h
+history_by h (act ∷ acts) = history_by (after_act h act) acts
+
+-- The history that acts made, oldest act first.
 abbrev pub history : List Act → History
-history [] = no_history
-history (act ∷ acts) = after_act (history acts) act
+history acts = history_by no_history acts
+
+-- Each act is legal in the history that the acts before it made, where the first is done in this one.
+abbrev pub LegalFrom : History → List Act → Type 0
+LegalFrom h [] = Unit {0}
+LegalFrom h (act ∷ acts) = LegalAct h act × LegalFrom (after_act h act) acts
 
 -- Each act is legal in the history that the acts before it made.
 abbrev pub LegalActs : List Act → Type 0
-LegalActs [] = Unit {0}
-LegalActs (act ∷ acts) = LegalActs acts × LegalAct (history acts) act
+LegalActs acts = LegalFrom no_history acts

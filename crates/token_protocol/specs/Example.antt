@@ -185,9 +185,9 @@ moment36 = crashes_dirty moment35 1
 abbrev pub moment37 : World
 moment37 = restarts_discarding moment36 1 3 2
 
--- What the run tells, newest act first.
+-- What the run tells, oldest act first.
 abbrev pub example_acts : List Act
-example_acts = Back 1 false ∷ Fell 1 2 2 ∷ Wrote 1 9 ∷ Back 1 true ∷ Fell 1 1 2 ∷ Wrote 1 8 ∷ Read 2 1 7 ∷ Wrote 1 7 ∷ []
+example_acts = Wrote 1 7 ∷ Read 2 1 7 ∷ Wrote 1 8 ∷ Fell 1 1 2 ∷ Back 1 true ∷ Wrote 1 9 ∷ Fell 1 2 2 ∷ Back 1 false ∷ []
 
 -- The kinds of its steps, oldest first.
 abbrev pub example_kinds : List Kind

@@ -168,9 +168,9 @@ other_moment35 = settles_copy other_moment34 3
 abbrev pub other_moment36 : World
 other_moment36 = discards_copy other_moment35 3
 
--- What the run tells, newest act first.
+-- What the run tells, oldest act first.
 abbrev pub other_acts : List Act
-other_acts = Synced 1 2 ∷ Wrote 1 6 ∷ Wrote 1 5 ∷ Read 2 0 0 ∷ []
+other_acts = Read 2 0 0 ∷ Wrote 1 5 ∷ Wrote 1 6 ∷ Synced 1 2 ∷ []
 
 -- The kinds of its steps, oldest first.
 abbrev pub other_kinds : List Kind
