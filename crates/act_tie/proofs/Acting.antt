@@ -13,10 +13,10 @@ use Rattle.version_model.specs.History.{Content, History, is_by_other}
 use Rattle.version_model.specs.Effects.{append, pin, cut_to, holds_flight, settle_falls, settle}
 use Rattle.version_model.specs.Legal.{NamesNoBlockTwice}
 use Rattle.token_protocol.specs.Acts as block
-use Rattle.token_protocol.specs.Acts.Act.{Wrote as WroteBlock, Read as ReadBlock, Synced as SyncedBlock, Fell as FellBlock, Back as BackBlock}
+use Rattle.token_protocol.specs.Acts.Act.{Wrote as WroteBlock, Read as ReadBlock, Synced as SyncedBlock, Back as BackBlock}
 use Rattle.token_protocol.specs.Basics.{put}
 use Rattle.act_tie.specs.Number.{number}
-use Rattle.act_tie.specs.BlockActs.{fall_of, is_adopted, with_sync, with_fall}
+use Rattle.act_tie.specs.BlockActs.{fall_of, is_adopted, told_by_sync, told_by_fall}
 use Rattle.act_tie.specs.Shown.{BlockShown, FallShown, FallsShown}
 use Rattle.act_tie.proofs.Falling.{cut_by, settled_told, settled_block}
 
@@ -136,22 +136,20 @@ module _ (b : BlockId) (p : BlockHistory) (told : ℕ → List FallTold) (t : bl
 -- ---- acts that change what waits
 
 -- a sync
-pub synced_shown : (b : BlockId) (p : BlockHistory) (told : ℕ → List FallTold) (acts : List block.Act) (client n : ℕ) → BlockShown b p told (block.history acts)
-    → BlockShown b (pin n p) told (block.history (with_sync client n acts))
-synced_shown b p told acts client n s = go (nat_lt 0 n) refl
+pub synced_shown : (b : BlockId) (p : BlockHistory) (told : ℕ → List FallTold) (t : block.History) (client n : ℕ) → BlockShown b p told t
+    → BlockShown b (pin n p) told (block.history_by t (told_by_sync client n))
+synced_shown b p told t client n s = go (nat_lt 0 n) refl
   where
-    go : (y : Bool) → nat_lt 0 n ≡ y → BlockShown b (pin n p) told (block.history (if y then SyncedBlock client n ∷ acts else acts))
-    go true some =
-        pinned_shown b p told (block.history acts) s (max (block.history acts).pinned n) (max n p.pinned) (let same = s.pinned in grind (arith, nat_tests))
-    go false none = pinned_shown b p told (block.history acts) s (block.history acts).pinned (max n p.pinned) (let same = s.pinned in grind (arith, nat_tests))
+    go : (y : Bool) → nat_lt 0 n ≡ y → BlockShown b (pin n p) told (block.history_by t (if y then SyncedBlock client n ∷ [] else []))
+    go true some = pinned_shown b p told t s (max t.pinned n) (max n p.pinned) (let same = s.pinned in grind (arith, nat_tests))
+    go false none = pinned_shown b p told t s t.pinned (max n p.pinned) (let same = s.pinned in grind (arith, nat_tests))
 
 -- a fall
-pub fell_shown : (b : BlockId) (p : BlockHistory) (told : ℕ → List FallTold) (acts : List block.Act) (client : ℕ) (flight : Option (ℕ × ℕ)) (falls : List Fall)
-    → BlockShown b p told (block.history acts)
-    → told client ≡ [] → NamesNoBlockTwice falls
+pub fell_shown : (b : BlockId) (p : BlockHistory) (told : ℕ → List FallTold) (t : block.History) (client : ℕ) (flight : Option (ℕ × ℕ)) (falls : List Fall)
+    → BlockShown b p told t → told client ≡ [] → NamesNoBlockTwice falls
     → BlockShown b p (λ c. if c == client then told c ++ (record { flight = flight; falls = falls }) ∷ [] else told c)
-    (block.history (with_fall client (fall_of b falls) acts))
-fell_shown b p told acts client flight falls s none once = by_named (fall_of b falls) refl
+    (block.history_by t (told_by_fall client (fall_of b falls)))
+fell_shown b p told t client flight falls s none once = by_named (fall_of b falls) refl
   where
     empty : (c : ℕ) → (c == client) ≡ true → told c ≡ []
     empty c same = subst (λ d. told d ≡ []) (let e : client ≡ c = grind (arith, nat_tests) in e) none
@@ -165,25 +163,23 @@ fell_shown b p told acts client flight falls s none once = by_named (fall_of b f
 
     by_named : (o : Option Fall) → fall_of b falls ≡ o
         → BlockShown b p (λ c. if c == client then told c ++ (record { flight = flight; falls = falls }) ∷ [] else told c)
-        (block.history (with_fall client o acts))
+        (block.history_by t (told_by_fall client o))
     by_named None fact =
         record { newest = s.newest; absent = s.absent; values = s.values; writers = s.writers; pinned = s.pinned; falls = λ c. go c (c == client) refl }
       where
         go : (c : ℕ) (y : Bool) → (c == client) ≡ y
-            → FallsShown b (if y then told c ++ (record { flight = flight; falls = falls }) ∷ [] else told c) ((block.history acts).fallen c)
-            ((block.history acts).low c) ((block.history acts).high c)
+            → FallsShown b (if y then told c ++ (record { flight = flight; falls = falls }) ∷ [] else told c) (t.fallen c) (t.low c) (t.high c)
         go c true same =
-            one c ((block.history acts).fallen c) ((block.history acts).low c) ((block.history acts).high c) (empty c same)
-            (subst (λ o. FallShown o ((block.history acts).fallen c) ((block.history acts).low c) ((block.history acts).high c)) (sym fact)
-            (subst (λ ts. FallsShown b ts ((block.history acts).fallen c) ((block.history acts).low c) ((block.history acts).high c)) (empty c same)
-            (s.falls c)))
+            one c (t.fallen c) (t.low c) (t.high c) (empty c same)
+            (subst (λ o. FallShown o (t.fallen c) (t.low c) (t.high c)) (sym fact)
+            (subst (λ ts. FallsShown b ts (t.fallen c) (t.low c) (t.high c)) (empty c same) (s.falls c)))
         go c false apart = s.falls c
     by_named (Some f) fact =
         record { newest = s.newest; absent = s.absent; values = s.values; writers = s.writers; pinned = s.pinned; falls = λ c. go c (c == client) refl }
       where
         go : (c : ℕ) (y : Bool) → (c == client) ≡ y
-            → FallsShown b (if y then told c ++ (record { flight = flight; falls = falls }) ∷ [] else told c) (if y then 1 else (block.history acts).fallen c)
-            (if y then f.low else (block.history acts).low c) (if y then f.high else (block.history acts).high c)
+            → FallsShown b (if y then told c ++ (record { flight = flight; falls = falls }) ∷ [] else told c) (if y then 1 else t.fallen c)
+            (if y then f.low else t.low c) (if y then f.high else t.high c)
         go c true same = one c 1 f.low f.high (empty c same) (subst (λ o. FallShown o 1 f.low f.high) (sym fact) (refl, refl, refl))
         go c false apart = s.falls c
 

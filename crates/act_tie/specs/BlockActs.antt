@@ -1,5 +1,5 @@
--- The acts of one block, among those of a run: each as the token protocol tells it, newest first.
-use Rattle.std.specs.Prelude.{ℕ, Bool, false, nat_lt, List, [], ◌∷◌, Option, Some, None, find, if◌then◌else◌}
+-- The acts of one block, among those of a run: each as the token protocol tells it, oldest first.
+use Rattle.std.specs.Prelude.{ℕ, Bool, false, nat_lt, List, [], ◌∷◌, ◌++◌, Option, Some, None, find, if◌then◌else◌}
 use Rattle.xfs_base.specs.Blocks.{same_block}
 use Rattle.xfs_base.specs.declared.block.BlockId.{BlockId}
 use Rattle.xfs_base.specs.declared.segment.SegName.{SegName}
@@ -23,30 +23,31 @@ is_adopted chain [] = false
 is_adopted chain (t ∷ ts) = holds_flight chain t.flight
 
 -- A sync is told with the greatest version of its client, where it has one.
-abbrev pub with_sync : ℕ → ℕ → List block.Act → List block.Act
-with_sync client version told = if nat_lt 0 version then SyncedBlock client version ∷ told else told
+abbrev pub told_by_sync : ℕ → ℕ → List block.Act
+told_by_sync client version = if nat_lt 0 version then SyncedBlock client version ∷ [] else []
 
 -- A fall is told where it names the block.
-abbrev pub with_fall : ℕ → Option Fall → List block.Act → List block.Act
-with_fall client None told = told
-with_fall client (Some f) told = FellBlock client f.low f.high ∷ told
+abbrev pub told_by_fall : ℕ → Option Fall → List block.Act
+told_by_fall client None = []
+told_by_fall client (Some f) = FellBlock client f.low f.high ∷ []
 
--- What is told of the block once an act is done in this history.
-abbrev pub told_with : BlockId → History → Act → List block.Act → List block.Act
-told_with b h (Wrote client block value) told = if same_block block b then WroteBlock client (number value) ∷ told else told
-told_with b h (Read client block ver value) told = if same_block block b then ReadBlock client ver (number value) ∷ told else told
-told_with b h (Synced client) told = with_sync client (greatest_by client 1 (h.of_block b).versions) told
-told_with b h (Fell client flight falls) told = with_fall client (fall_of b falls) told
-told_with b h (Back client chain) told = BackBlock client (is_adopted chain (h.told client)) ∷ told
-told_with b h (Lost node seg) told = told
-told_with b h (Filed seg) told = told
-told_with b h (Dropped seg) told = told
-told_with b h (Answered node item answer) told = told
+-- What an act that is done in this history tells of the block.
+abbrev pub told_by : BlockId → History → Act → List block.Act
+told_by b h (Wrote client block value) = if same_block block b then WroteBlock client (number value) ∷ [] else []
+told_by b h (Read client block ver value) = if same_block block b then ReadBlock client ver (number value) ∷ [] else []
+told_by b h (Synced client) = told_by_sync client (greatest_by client 1 (h.of_block b).versions)
+told_by b h (Fell client flight falls) = told_by_fall client (fall_of b falls)
+told_by b h (Back client chain) = BackBlock client (is_adopted chain (h.told client)) ∷ []
+told_by b h (Lost node seg) = []
+told_by b h (Filed seg) = []
+told_by b h (Dropped seg) = []
+told_by b h (Answered node item answer) = []
 
-abbrev pub told_from : BlockId → History → List block.Act → List Act → List block.Act
-told_from b h told [] = told
-told_from b h told (a ∷ acts) = told_from b (after_act a h) (told_with b h a told) acts
+-- What acts tell of it, the first of them done in this history.
+abbrev pub acts_from : BlockId → History → List Act → List block.Act
+acts_from b h [] = []
+acts_from b h (a ∷ acts) = told_by b h a ++ acts_from b (after_act a h) acts
 
 -- The acts of the block.
 abbrev pub acts_of : BlockId → List Act → List block.Act
-acts_of b acts = told_from b nothing_yet [] acts
+acts_of b acts = acts_from b nothing_yet acts
