@@ -25,7 +25,7 @@ put_there f c x d other = grind (arith, nat_tests)
 -- steps that tell nothing, and then others that tell nothing
 pub both_quiet : (logs : Bool) (w v u : World) (s : Steps logs w v) (t : Steps logs v u) → told w v s ≡ [] → told v u t ≡ []
     → told w u (steps_through w v u s t) ≡ []
-both_quiet logs w v u s t p q = told_through logs w v u s t ∙ (λ i. q i ++ p i)
+both_quiet logs w v u s t p q = told_through logs w v u s t ∙ (λ i. p i ++ q i)
 
 pub by_nothing : (c : ℕ) (w : World) → ByClient c w w
 by_nothing c w = record { others = refl; client = λ d other. refl; wants = λ p fact. fact; gaves = λ x fact. fact }
@@ -67,7 +67,7 @@ module _ (logs : Bool) (g : Setting) (end : ℕ) where
   epoch_on w v by = ap (λ (u : World). u.epoch) by.others
 
   -- one step of the client, which tells these acts and becomes x
-  pub acts_by : (w v : World) (acts : List Act) (l : Local) (outs : List Out) (x : Client) (step : Step logs w v) → tells w v step [] ≡ acts
+  pub acts_by : (w v : World) (acts : List Act) (l : Local) (outs : List Out) (x : Client) (step : Step logs w v) → tells w v step ≡ acts
       → v.client ≡ put w.client g.client x → rest v ≡ rest w
       → ((p : packets.Want) → In p w.wants → In p v.wants) → ((y : packets.Gave) → In y w.gaves → In y v.gaves) → Shows g w.epoch l x → AllSaid g end v outs
       → Acts logs g end w acts l outs

@@ -173,7 +173,7 @@ module _ (logs : Bool) where
 
   turning : (w : World) (n : ℕ) → Turning w (w.turn + n)
   turning w zero = let e : w.turn ≡ w.turn + 0 = omega arith in subst (Turning w) e (Ended, refl)
-  turning w (suc n) = let e : suc (w.turn + n) ≡ w.turn + suc n = omega arith in let t = turning w n in subst (Turning w) e (More t.0 Turns, t.1)
+  turning w (suc n) = let e : suc (w.turn + n) ≡ w.turn + suc n = omega arith in let t = turning w n in subst (Turning w) e (More t.0 Turns, λ i. t.1 i ++ [])
 
   -- the slot speaks of another block
   pub turns-runs : (b : BlockId) (w : World) (s : SlotState) (d : Done) (n : ℕ) → Manages b s w → d.state.epoch ≡ s.epoch → d.state.turn ≡ s.turn + n
