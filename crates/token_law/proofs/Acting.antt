@@ -1,6 +1,6 @@
 -- Reads, syncs and acts that change no history: the world is seen as before.
 use Rattle.std.specs.Prelude.{if◌then◌else◌, slice_get}
-use Rattle.std.proofs.Common.{◌≡◌, ℕ, suc, ◌+◌, ◌==◌, ◌≤◌, ◌<◌, max, Bool, true, false, nat_lt, List, [], ◌∷◌, ◌++◌, length, Option, Some, refl, sym, ap, subst, ◌∙◌, arith}
+use Rattle.std.proofs.Common.{◌≡◌, ℕ, suc, ◌+◌, ◌==◌, ◌≤◌, ◌<◌, max, Bool, true, false, nat_lt, List, [], ◌∷◌, ◌++◌, length, Option, Some, refl, sym, ap, subst, ◌∙◌, append-nil, arith}
 use Rattle.std.proofs.lemmas.Bool.Decides.{nat_tests}
 use Rattle.xfs_base.specs.declared.block.BlockId.{BlockId}
 use Rattle.xfs_base.specs.Blocks.{same_block}
@@ -142,9 +142,9 @@ reads_here members part b n v c value pos less up held fact =
     let known = shown.version in
     let text : x.value ≡ number value = subst (λ o. ValueShown number o x.value) fact shown.value in
     pinned_view true members part b n v (reads w c).pinned (n.acts ++ act.Read c b ver value ∷ []) (More v.steps (Reads c (record { holds = omega arith })))
-    ((λ i. ReadBlock c (known i) (text i) ∷ v.acts i)
+    ((λ i. v.acts i ++ ReadBlock c (known i) (text i) ∷ [])
     ∙ sym (acts_on b n.acts (act.Read c b ver value)
-    ∙ ap (λ t. if t then ReadBlock c ver (number value) ∷ acts_of b n.acts else acts_of b n.acts) (same_block_itself b)))
+    ∙ ap (λ t. acts_of b n.acts ++ (if t then ReadBlock c ver (number value) ∷ [] else [])) (same_block_itself b)))
 
 pub apart_blocks : (b k : BlockId) → (k ≡ b → ⊥) → same_block k b ≡ false
 apart_blocks b k other = go (same_block k b) refl
@@ -167,7 +167,7 @@ reads_view true members part b n v c block value pos less up held fact =
     let ver = (held_of (n.tokens c).blocks k).ver in
     unacted true members part b n v (n.acts ++ act.Read c k ver value ∷ [])
     (acts_on b n.acts (act.Read c k ver value)
-    ∙ ap (λ t. if t then ReadBlock c ver (number value) ∷ acts_of b n.acts else acts_of b n.acts) (apart_blocks b k other)))
+    ∙ ap (λ t. acts_of b n.acts ++ (if t then ReadBlock c ver (number value) ∷ [] else [])) (apart_blocks b k other) ∙ append-nil (acts_of b n.acts)))
     block held fact
 
 -- ---- syncs
@@ -218,11 +218,11 @@ syncs_true members part b n v apart c pos less up clean = go (nat_lt 0 version) 
     go : (t : Bool) → nat_lt 0 version ≡ t → View true members part b (acted n (act.Synced c ∷ []))
     go true h =
         pinned_view true members part b n v (syncs v.world version).pinned (n.acts ++ act.Synced c ∷ []) (More v.steps (Syncs c version (may h)))
-        (ap (λ acts. SyncedBlock c version ∷ acts) v.acts
-        ∙ sym (acts_on b n.acts (act.Synced c) ∙ ap (λ t. if t then SyncedBlock c version ∷ acts_of b n.acts else acts_of b n.acts) h))
+        (ap (λ acts. acts ++ SyncedBlock c version ∷ []) v.acts
+        ∙ sym (acts_on b n.acts (act.Synced c) ∙ ap (λ t. acts_of b n.acts ++ (if t then SyncedBlock c version ∷ [] else [])) h))
     go false h =
         unacted true members part b n v (n.acts ++ act.Synced c ∷ [])
-        (acts_on b n.acts (act.Synced c) ∙ ap (λ t. if t then SyncedBlock c version ∷ acts_of b n.acts else acts_of b n.acts) h)
+        (acts_on b n.acts (act.Synced c) ∙ ap (λ t. acts_of b n.acts ++ (if t then SyncedBlock c version ∷ [] else [])) h ∙ append-nil (acts_of b n.acts))
 
 pub syncs_view : (logs : Bool) (members part : ℕ) (b : BlockId) (n : Net) → View logs members part b n → Premise logs (FallsApart n.acts) → (c : ℕ) → 0 < c
     → c < members → n.up c ≡ true → Premise logs (AllClean (n.tokens c))
@@ -238,10 +238,10 @@ neutral_acts b acts (act.Read client k ver value) neutral = absurd neutral
 neutral_acts b acts (act.Synced client) neutral = absurd neutral
 neutral_acts b acts (act.Fell client flight falls) neutral = absurd neutral
 neutral_acts b acts (act.Back client chain) neutral = absurd neutral
-neutral_acts b acts (act.Lost node seg) neutral = acts_on b acts (act.Lost node seg)
-neutral_acts b acts (act.Filed seg) neutral = acts_on b acts (act.Filed seg)
-neutral_acts b acts (act.Dropped seg) neutral = acts_on b acts (act.Dropped seg)
-neutral_acts b acts (act.Answered node item answer) neutral = acts_on b acts (act.Answered node item answer)
+neutral_acts b acts (act.Lost node seg) neutral = acts_on b acts (act.Lost node seg) ∙ append-nil (acts_of b acts)
+neutral_acts b acts (act.Filed seg) neutral = acts_on b acts (act.Filed seg) ∙ append-nil (acts_of b acts)
+neutral_acts b acts (act.Dropped seg) neutral = acts_on b acts (act.Dropped seg) ∙ append-nil (acts_of b acts)
+neutral_acts b acts (act.Answered node item answer) neutral = acts_on b acts (act.Answered node item answer) ∙ append-nil (acts_of b acts)
 
 pub says_view : (logs : Bool) (members part : ℕ) (b : BlockId) (n : Net) → View logs members part b n → (a : Act) → IsNeutral a
     → View logs members part b (acted n (a ∷ []))

@@ -1,6 +1,6 @@
 -- Falls are apart in every run: while a client serves no fall of it waits, and it falls only then.
 use Rattle.std.specs.Prelude.{if◌then◌else◌}
-use Rattle.std.proofs.Common.{◌≡◌, ℕ, ◌==◌, Bool, true, false, List, [], ◌∷◌, ◌++◌, Option, refl, sym, ap, subst, ◌∙◌, arith}
+use Rattle.std.proofs.Common.{◌≡◌, ℕ, ◌==◌, Bool, true, false, List, [], ◌∷◌, ◌++◌, Option, refl, sym, ap, subst, ◌∙◌, append-nil, arith}
 use Rattle.std.proofs.lemmas.Bool.Decides.{nat_tests}
 use Rattle.xfs_base.specs.declared.segment.SegName.{SegName}
 use Rattle.xfs_base.proofs.Booleans.{contrary, by_test}
@@ -29,10 +29,6 @@ pub record FallsKept (up : ℕ → Bool) (acts : List Act) : Type 0 where
   pub apart : FallsApart acts
   pub waits : (c : ℕ) → up c ≡ true → (history_after acts nothing_yet).told c ≡ []
 
-pub nothing_more : {X : Type 0} (xs : List X) → xs ++ [] ≡ xs
-nothing_more [] = refl
-nothing_more (x ∷ xs) = ap (λ ys. x ∷ ys) (nothing_more xs)
-
 -- one more act
 kept_on : (up now : ℕ → Bool) (acts : List Act) (a : Act) → FallsKept up acts → IsApart a (history_after acts nothing_yet)
     → ((c : ℕ) → now c ≡ true → (after_act a (history_after acts nothing_yet)).told c ≡ []) → FallsKept now (acts ++ a ∷ [])
@@ -45,19 +41,19 @@ kept_on up now acts a i apart waits = record {
 wrote_kept : (up : ℕ → Bool) (acts : List Act) (c : ℕ) (s : TokensState) (x : inputs.In) → FallsKept up acts → FallsKept up (acts ++ acts_by c s x)
 wrote_kept up acts c s (input.Wrote block value) i =
     by_test (λ (more : List Act). FallsKept up (acts ++ more)) (may_write (held_of s.blocks block)) (act.Wrote c block value ∷ []) []
-    (λ _. kept_on up up acts (act.Wrote c block value) i tt i.waits) (λ _. subst (FallsKept up) (sym (nothing_more acts)) i)
-wrote_kept up acts c s (input.Need block mode) i = subst (FallsKept up) (sym (nothing_more acts)) i
-wrote_kept up acts c s (input.Granted block stamp inc req mode entry) i = subst (FallsKept up) (sym (nothing_more acts)) i
-wrote_kept up acts c s (input.Supplied block stamp inc req ver value) i = subst (FallsKept up) (sym (nothing_more acts)) i
-wrote_kept up acts c s (input.Forwarded block stamp ver) i = subst (FallsKept up) (sym (nothing_more acts)) i
-wrote_kept up acts c s (input.Recalled block stamp keep) i = subst (FallsKept up) (sym (nothing_more acts)) i
-wrote_kept up acts c s (input.Settled block ver) i = subst (FallsKept up) (sym (nothing_more acts)) i
-wrote_kept up acts c s (input.Fetched block value) i = subst (FallsKept up) (sym (nothing_more acts)) i
-wrote_kept up acts c s (input.Evict block) i = subst (FallsKept up) (sym (nothing_more acts)) i
-wrote_kept up acts c s (input.Reask block) i = subst (FallsKept up) (sym (nothing_more acts)) i
-wrote_kept up acts c s (input.Quit block) i = subst (FallsKept up) (sym (nothing_more acts)) i
-wrote_kept up acts c s (input.Promise slot epoch) i = subst (FallsKept up) (sym (nothing_more acts)) i
-wrote_kept up acts c s input.Tick i = subst (FallsKept up) (sym (nothing_more acts)) i
+    (λ _. kept_on up up acts (act.Wrote c block value) i tt i.waits) (λ _. subst (FallsKept up) (sym (append-nil acts)) i)
+wrote_kept up acts c s (input.Need block mode) i = subst (FallsKept up) (sym (append-nil acts)) i
+wrote_kept up acts c s (input.Granted block stamp inc req mode entry) i = subst (FallsKept up) (sym (append-nil acts)) i
+wrote_kept up acts c s (input.Supplied block stamp inc req ver value) i = subst (FallsKept up) (sym (append-nil acts)) i
+wrote_kept up acts c s (input.Forwarded block stamp ver) i = subst (FallsKept up) (sym (append-nil acts)) i
+wrote_kept up acts c s (input.Recalled block stamp keep) i = subst (FallsKept up) (sym (append-nil acts)) i
+wrote_kept up acts c s (input.Settled block ver) i = subst (FallsKept up) (sym (append-nil acts)) i
+wrote_kept up acts c s (input.Fetched block value) i = subst (FallsKept up) (sym (append-nil acts)) i
+wrote_kept up acts c s (input.Evict block) i = subst (FallsKept up) (sym (append-nil acts)) i
+wrote_kept up acts c s (input.Reask block) i = subst (FallsKept up) (sym (append-nil acts)) i
+wrote_kept up acts c s (input.Quit block) i = subst (FallsKept up) (sym (append-nil acts)) i
+wrote_kept up acts c s (input.Promise slot epoch) i = subst (FallsKept up) (sym (append-nil acts)) i
+wrote_kept up acts c s input.Tick i = subst (FallsKept up) (sym (append-nil acts)) i
 
 said_kept : (up : ℕ → Bool) (acts : List Act) (a : Act) → IsNeutral a → FallsKept up acts → FallsKept up (acts ++ a ∷ [])
 said_kept up acts (act.Wrote client block value) neutral i = absurd neutral

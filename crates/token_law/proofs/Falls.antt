@@ -14,7 +14,7 @@ use Rattle.version_model.specs.declared.act.Act.TheVariants as act
 use Rattle.version_model.specs.declared.act.Fall.{Fall}
 use Rattle.version_model.specs.Effects.{history_after}
 use Rattle.version_model.specs.History.{nothing_yet}
-use Rattle.act_tie.specs.BlockActs.{fall_of, with_fall, told_with, acts_of}
+use Rattle.act_tie.specs.BlockActs.{fall_of, told_by_fall, told_by, acts_of}
 use Rattle.act_tie.proofs.Onward.{acts_on}
 use Rattle.slot_beliefs.specs.Recalls as slot
 use Rattle.token_client.specs.declared.held.Held.{Held}
@@ -22,7 +22,6 @@ use Rattle.token_client.specs.Held.{is_dirty}
 use Rattle.token_client.specs.State.{held_of, is_in_slot, epoch_of}
 use Rattle.token_client.specs.State.{started as fresh_tokens}
 use Rattle.token_client.specs.Transition as client
-use Rattle.token_protocol.specs.Acts as block
 use Rattle.token_protocol.specs.Acts.Act.{Fell as FellBlock, Back as BackBlock}
 use Rattle.token_protocol.specs.Basics.{put, In}
 use Rattle.token_protocol.specs.Crashing.{MayRestart, down, back, crashes_dirty, crashes_clean, restarts_adopting, restarts_discarding}
@@ -58,14 +57,14 @@ module _ (logs : Bool) (members part : ℕ) (b : BlockId) (n : Net) (v : View lo
 
   -- a step that tells of the block what an act is
   abbrev pub Tells : (u : World) → Step logs w u → Act → Type 0
-  Tells u step a = (acts : List block.Act) → tells w u step acts ≡ told_with b (history_after n.acts nothing_yet) a acts
+  Tells u step a = tells w u step ≡ told_by b (history_after n.acts nothing_yet) a
 
   pub acts_more : (u : World) (step : Step logs w u) (a : Act) → Premise logs (Tells u step a)
       → Premise logs (told (start members) u (More v.steps step) ≡ acts_of b (n.acts ++ a ∷ []))
   acts_more u step a h =
       owed_both logs (told (start members) w v.steps ≡ acts_of b n.acts) (Tells u step a)
       (told (start members) u (More v.steps step) ≡ acts_of b (n.acts ++ a ∷ []))
-      (λ old new. ap (tells w u step) old ∙ new (acts_of b n.acts) ∙ sym (acts_on b n.acts a)) v.acts h
+      (λ old new. (λ i. old i ++ new i) ∙ sym (acts_on b n.acts a)) v.acts h
 
   pub same_manager : (u : World) → u.epoch ≡ w.epoch → u.turn ≡ w.turn → ((d : ℕ) → u.belief d ≡ w.belief d) → ((d : ℕ) → u.applied d ≡ w.applied d)
       → u.index ≡ w.index → JobShown (slot.job_at v.slot.jobs b) v.slot.epoch u.awaited u.keep u.owed u.applied u.wants u.recalls → Manages b v.slot u
@@ -142,22 +141,21 @@ module _ (logs : Bool) (members part : ℕ) (b : BlockId) (n : Net) (v : View lo
   -- the fall of a dirty block is told, and that of a clean one isn't
   tells_dirty : (c : ℕ) (falls : List Fall) → Shows (setting b c (n.tokens c).inc) w.epoch (local_of (n.tokens c) b) (w.client c) → is_dirty (held c) ≡ true
       → Kept b n.books w
-      → fall_of b falls ≡ fall_from b (held c) (said n.books c (suc (n.books.end c)) b) → (acts : List block.Act)
-      → FellBlock c (w.client c).settled (max (w.client c).settled (flying_row w c).version) ∷ acts ≡ with_fall c (fall_of b falls) acts
-  tells_dirty c falls shown dirty kept fact acts =
+      → fall_of b falls ≡ fall_from b (held c) (said n.books c (suc (n.books.end c)) b)
+      → FellBlock c (w.client c).settled (max (w.client c).settled (flying_row w c).version) ∷ [] ≡ told_by_fall c (fall_of b falls)
+  tells_dirty c falls shown dirty kept fact =
       let row = said n.books c (suc (n.books.end c)) b in
       let f : Fall = record { block = b; low = (held c).settled; high = max (held c).settled row.version } in
       let settles = shown.settled in
       let flies = in_flight c kept in
-      (λ i. FellBlock c (settles i) (max (settles i) (flies i)) ∷ acts) ∙ sym (ap (λ o. with_fall c o acts) (fact ∙ ap (λ t. if t then Some f else None) dirty))
+      (λ i. FellBlock c (settles i) (max (settles i) (flies i)) ∷ []) ∙ sym (ap (told_by_fall c) (fact ∙ ap (λ t. if t then Some f else None) dirty))
 
   tells_clean : (c : ℕ) (falls : List Fall) → is_dirty (held c) ≡ false → fall_of b falls ≡ fall_from b (held c) (said n.books c (suc (n.books.end c)) b)
-      → (acts : List block.Act)
-      → acts ≡ with_fall c (fall_of b falls) acts
-  tells_clean c falls clean fact acts =
+      → [] ≡ told_by_fall c (fall_of b falls)
+  tells_clean c falls clean fact =
       let row = said n.books c (suc (n.books.end c)) b in
       let f : Fall = record { block = b; low = (held c).settled; high = max (held c).settled row.version } in
-      sym (ap (λ o. with_fall c o acts) (fact ∙ ap (λ t. if t then Some f else None) clean))
+      sym (ap (told_by_fall c) (fact ∙ ap (λ t. if t then Some f else None) clean))
 
   pub crash_view : (c : ℕ) (flight : Option (ℕ × ℕ)) (falls : List Fall) → 0 < c → c < members → n.up c ≡ true
       → Premise logs (FallsSo n.books c (n.tokens c) flight falls)
@@ -268,7 +266,7 @@ module _ (logs : Bool) (members part : ℕ) (b : BlockId) (n : Net) (v : View lo
             (same_manager u refl refl (λ d. refl) (λ d. refl) refl v.manages.job)
             (all_same u refl refl refl refl refl refl (More Done step))
             (owed_on logs (Kept b n.books w) (Kept b (filed n.books c) u) (λ kept. filed_seen b n.books w.end w.flight w.rows kept c) v.kept)
-            (acts_more u step (act.Back c chain) (owed logs (Tells u step (act.Back c chain)) (λ _ acts. ap (λ t. BackBlock c t ∷ acts) (sym fact))))
+            (acts_more u step (act.Back c chain) (owed logs (Tells u step (act.Back c chain)) (λ _. ap (λ t. BackBlock c t ∷ []) (sym fact))))
         | false ↦ λ fact.
             let u = restarts_discarding w c inc promised in
             let step : Step logs w u = RestartsDiscarding c inc promised may in
@@ -276,7 +274,7 @@ module _ (logs : Bool) (members part : ℕ) (b : BlockId) (n : Net) (v : View lo
             (same_manager u refl refl (λ d. refl) (λ d. refl) refl v.manages.job)
             (all_same u refl refl refl refl refl refl (More Done step))
             (owed_on logs (Kept b n.books w) (Kept b (discarded n.books c) u) (λ kept. discarded_seen b n.books w.end w.flight w.rows kept c) v.kept)
-            (acts_more u step (act.Back c chain) (owed logs (Tells u step (act.Back c chain)) (λ _ acts. ap (λ t. BackBlock c t ∷ acts) (sym fact))))
+            (acts_more u step (act.Back c chain) (owed logs (Tells u step (act.Back c chain)) (λ _. ap (λ t. BackBlock c t ∷ []) (sym fact))))
       ] refl
     where
       promised : ℕ

@@ -1,5 +1,5 @@
 -- Segments that are sealed, filed and reopened, and versions that are settled: the world is seen as before.
-use Rattle.std.proofs.Common.{◌≡◌, ℕ, zero, suc, ◌≤◌, ◌<◌, Bool, true, false, nat_lt, List, [], inl, ⊎_elim, refl, sym, ap, subst, ◌∙◌, arith}
+use Rattle.std.proofs.Common.{◌≡◌, ℕ, zero, suc, ◌≤◌, ◌<◌, Bool, true, false, nat_lt, List, [], ◌++◌, inl, ⊎_elim, refl, sym, ap, subst, ◌∙◌, append-nil, arith}
 use Rattle.std.proofs.lemmas.Bool.Decides.{nat_tests}
 use Rattle.xfs_base.specs.declared.block.BlockId.{BlockId}
 use Rattle.xfs_base.proofs.Booleans.{contrary}
@@ -16,7 +16,7 @@ use Rattle.token_protocol.specs.Premises.{Premise, SettledEnd, SegmentFlying}
 use Rattle.token_protocol.specs.Step.{Step, Steps}
 use Rattle.token_protocol.specs.Step.Step.{SealsWith, Seals, Settles, SealsCopy, SealsOther, SettlesCopy, DiscardsCopy, Loses}
 use Rattle.token_protocol.specs.Step.Steps.{Done, More}
-use Rattle.token_protocol.specs.Told.{told}
+use Rattle.token_protocol.specs.Told.{tells, told}
 use Rattle.token_protocol.specs.World.{World, start}
 use Rattle.token_protocol.proofs.Invariant.{owned, always}
 use Rattle.token_protocol.proofs.Laws.{epoch_promised, flights_new}
@@ -27,9 +27,9 @@ use Rattle.token_tie.proofs.Frames.{put_here, put_there}
 use Rattle.token_law.specs.Books.{Row, Books, row_in, said, sealed, filed, discarded, reopened, with_empty}
 use Rattle.token_law.specs.Net.{Net, all_settled}
 use Rattle.token_law.specs.Owed.{SealsNewest, SealsOriginals}
-use Rattle.token_law.proofs.Premises.{owed}
+use Rattle.token_law.proofs.Premises.{owed, owed_on}
 use Rattle.token_law.proofs.Logged.{flag, row_seen, LogsSeen, Kept, BooksWhole, sealed_seen, sealed_without, filed_seen, discarded_seen, whole_sealed, whole_filed, whole_discarded}
-use Rattle.token_law.proofs.Views.{setting, ClientShown, FellDirty, IsNobody, View, Lasts, lasts_by, carried_on}
+use Rattle.token_law.proofs.Views.{setting, ClientShown, FellDirty, IsNobody, View, Lasts, told_no_more, lasts_by, carried_on}
 use Rattle.token_law.proofs.Falls.{shown_up, same_manager}
 use Rattle.token_law.proofs.Settling.{once_settled, none_settled, settled_here, settled_once, settled_some}
 
@@ -44,13 +44,13 @@ module _ (logs : Bool) (members part : ℕ) (b : BlockId) (n : Net) (v : View lo
   abbrev Told : (u : World) → Steps logs (start members) u → Type 0
   Told u steps = told (start members) u steps ≡ acts_of b n.acts
 
-  -- logs change, and nothing else
-  pub rebooked : (k : Books) (end flight : ℕ → ℕ) (rows : ℕ → ℕ → abstract.Row) (steps : Steps logs (start members) (logged w end flight rows))
-      → Premise logs (Told (logged w end flight rows) steps)
+  -- logs change by a step that tells nothing, and nothing else
+  pub rebooked : (k : Books) (end flight : ℕ → ℕ) (rows : ℕ → ℕ → abstract.Row) (step : Step logs w (logged w end flight rows))
+      → tells w (logged w end flight rows) step ≡ []
       → Premise logs (LogsSeen b k end flight rows) → View logs members part b (record n { books = k })
-  rebooked k end flight rows steps told_ kept = record {
+  rebooked k end flight rows step quiet kept = record {
     world = logged w end flight rows;
-    steps = steps;
+    steps = More v.steps step;
     many = v.many;
     some = v.some;
     nobody = v.nobody;
@@ -74,7 +74,8 @@ module _ (logs : Bool) (members part : ℕ) (b : BlockId) (n : Net) (v : View lo
         })
         (v.sent p fact);
     kept = kept;
-    acts = told_;
+    acts = owed_on logs (Told w v.steps) (Told (logged w end flight rows) (More v.steps step))
+        (λ old. (λ i. old i ++ quiet i) ∙ append-nil (acts_of b n.acts)) v.acts;
   }
 
   -- a client's segment, with this version of the block, is filed, and its tokens are told
@@ -140,12 +141,12 @@ module _ (logs : Bool) (members part : ℕ) (b : BlockId) (n : Net) (v : View lo
               lasts = owed logs (Lasts w f) (λ _. record { join = omega arith; value = λ m _. refl });
             }) (v.sent p fact));
         kept = kept;
-        acts = told_;
+        acts = told_no_more logs (told (start members) f steps) (acts_of b n.acts) told_;
       }
 
 -- nothing is asked of logs that don't keep their word
 pub unbooked : (members part : ℕ) (b : BlockId) (n : Net) → View false members part b n → (k : Books) → View false members part b (record n { books = k })
-unbooked members part b n v k = rebooked false members part b n v k v.world.end v.world.flight v.world.rows v.steps tt tt
+unbooked members part b n v k = rebooked false members part b n v k v.world.end v.world.flight v.world.rows (Loses v.world refl) refl tt
 
 -- nothing is in flight there where nothing is in flight here
 unflown : (b : BlockId) (k : Books) (w : World) (l : ℕ) → Kept b k w → k.flying l ≡ false → w.flight l ≡ 0
@@ -168,7 +169,7 @@ seals_view false members part b n v c rows pos less up free newest whole = unboo
 seals_view true members part b n v c rows pos less up free newest whole =
     ⊎_elim
     (λ none. rebooked true members part b n v (sealed n.books c rows) w.end (put w.flight c 1) w.rows
-    (More v.steps (Seals c (record { client = pos; serving = shown.serving; none = unflown b n.books w c v.kept free }))) v.acts
+    (Seals c (record { client = pos; serving = shown.serving; none = unflown b n.books w c v.kept free })) refl
     (sealed_without b n.books w.end w.flight w.rows v.kept c rows none (unsaid members n.books c whole free)))
     (λ h.
     let x = w.client c in
@@ -177,7 +178,7 @@ seals_view true members part b n v c rows pos less up free newest whole =
     let dirty : x.settled < x.version = let s = shown.settled in let m = shown.version in let d = below _ _ h.0 in omega arith in
     rebooked true members part b n v (sealed n.books c rows) w.end (put w.flight c 1)
     (put w.rows c (put (w.rows c) (suc (w.end c)) (record { version = x.version; value = x.value })))
-    (More v.steps (SealsWith c (record { dirty = dirty }))) v.acts
+    (SealsWith c (record { dirty = dirty })) refl
     (sealed_seen b n.books w.end w.flight w.rows v.kept c rows (record { version = x.version; value = x.value })
     (λ i. record { version = ver i; value = value i })))
     (newest.newest b)
@@ -287,12 +288,12 @@ copies_view true members part b n v l rows out free originals whole =
     let w = v.world in
     let may : MaySealCopy w l = record { outsider = let m = v.many in omega arith; none = unflown b n.books w l v.kept free } in
     ⊎_elim
-    (λ none. rebooked true members part b n v (sealed n.books l rows) w.end (put w.flight l 1) w.rows (More v.steps (SealsOther l may)) v.acts
+    (λ none. rebooked true members part b n v (sealed n.books l rows) w.end (put w.flight l 1) w.rows (SealsOther l may) refl
     (sealed_without b n.books w.end w.flight w.rows v.kept l rows none (unsaid members n.books l whole free)))
     (λ h.
     let r = w.rows h.0 h.1 in
     rebooked true members part b n v (sealed n.books l rows) w.end (put w.flight l 1) (put w.rows l (put (w.rows l) (suc (w.end l)) r))
-    (More v.steps (SealsCopy l h.0 h.1 may (record { filed = let e = v.kept.ends h.0 in let q = h.2 in omega arith }))) v.acts
+    (SealsCopy l h.0 h.1 may (record { filed = let e = v.kept.ends h.0 in let q = h.2 in omega arith })) refl
     (sealed_seen b n.books w.end w.flight w.rows v.kept l rows r (v.kept.says h.0 h.1 ∙ ap row_seen (sym h.3))))
     (originals.copies b)
 
@@ -302,7 +303,7 @@ filed_view false members part b n v l out flies = unbooked members part b n v (f
 filed_view true members part b n v l out flies =
     let w = v.world in
     rebooked true members part b n v (filed n.books l) (put w.end l (suc (w.end l))) (put w.flight l 0) w.rows
-    (More v.steps (SettlesCopy l (record { outsider = let m = v.many in omega arith; flying = flown b n.books w l v.kept flies }))) v.acts
+    (SettlesCopy l (record { outsider = let m = v.many in omega arith; flying = flown b n.books w l v.kept flies })) refl
     (filed_seen b n.books w.end w.flight w.rows v.kept l)
 
 discarded_view : (members part : ℕ) (b : BlockId) (n : Net) → View true members part b n → (l : ℕ) → members ≤ l
@@ -310,7 +311,7 @@ discarded_view : (members part : ℕ) (b : BlockId) (n : Net) → View true memb
 discarded_view members part b n v l out =
     let w = v.world in
     rebooked true members part b n v (discarded n.books l) w.end (put w.flight l 0) (put w.rows l (put (w.rows l) (suc (w.end l)) abstract.no_row))
-    (More v.steps (DiscardsCopy l (record { outsider = let m = v.many in omega arith }))) v.acts (discarded_seen b n.books w.end w.flight w.rows v.kept l)
+    (DiscardsCopy l (record { outsider = let m = v.many in omega arith })) refl (discarded_seen b n.books w.end w.flight w.rows v.kept l)
 
 other_empties : (members part : ℕ) (b : BlockId) (n : Net) (l count : ℕ) → View true members part b n → members ≤ l → n.books.flying l ≡ false
     → BooksWhole members n.books

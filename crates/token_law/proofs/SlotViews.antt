@@ -1,5 +1,5 @@
 -- A step of the latest manager, and one of a deposed manager, as the world is seen.
-use Rattle.std.proofs.Common.{◌≡◌, ℕ, ◌+◌, ◌≤◌, ◌<◌, Bool, List, [], ◌∷◌, ◌++◌, ⊎_elim, Some, None, refl, sym, ap, subst, ◌∙◌, arith}
+use Rattle.std.proofs.Common.{◌≡◌, ℕ, ◌+◌, ◌≤◌, ◌<◌, Bool, List, [], ◌∷◌, ◌++◌, ⊎_elim, Some, None, refl, sym, ap, subst, ◌∙◌, append-nil, arith}
 use Rattle.xfs_base.specs.declared.block.BlockId.{BlockId}
 use Rattle.xfs_base.specs.declared.token.Stamp.{Stamp}
 use Rattle.token_manager.specs.declared.output.Out as tellings
@@ -10,7 +10,7 @@ use Rattle.token_manager.proofs.Guarded.{Sound}
 use Rattle.token_protocol.specs.Basics.{put, In}
 use Rattle.token_protocol.specs.World.{World, start}
 use Rattle.token_tie.specs.Managed as managed
-use Rattle.token_tie.specs.Managed.{want_seen, JobShown, Manages, ByManager, AllTold}
+use Rattle.token_tie.specs.Managed.{AllTold}
 use Rattle.token_law.specs.Net.{Packet, Net, slot_packets, after_slot}
 use Rattle.token_manager.specs.Laws.{CountsTurns}
 use Rattle.token_protocol.proofs.Refining.{put_each}
@@ -73,7 +73,7 @@ module _ (logs : Bool) (members part : ℕ) (b : BlockId) (n : Net) (v : View lo
         kept = owed_on logs (Kept b n.books w) (Kept b n.books t.world) (subst (λ (u : World). Kept b n.books u) (sym same)) v.kept;
         acts = owed_on logs (told (start members) w v.steps ≡ acts_of b n.acts)
             (told (start members) t.world (steps_through (start members) w t.world v.steps t.steps) ≡ acts_of b n.acts)
-            (λ old. told_through logs (start members) w t.world v.steps t.steps ∙ (λ i. t.quiet i ++ old i)) v.acts;
+            (λ old. told_through logs (start members) w t.world v.steps t.steps ∙ (λ i. old i ++ t.quiet i) ∙ append-nil (acts_of b n.acts)) v.acts;
       }
 
   -- what a deposed manager says is heard by nobody

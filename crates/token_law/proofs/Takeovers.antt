@@ -6,6 +6,7 @@ use Rattle.xfs_base.specs.declared.block.BlockId.{BlockId}
 use Rattle.xfs_base.specs.declared.entry.Entry.{Entry}
 use Rattle.xfs_base.specs.declared.token.Mode.{Mode}
 use Rattle.xfs_base.specs.declared.token.Mode.TheVariants.{Nothing, Copy, Own}
+use Rattle.act_tie.specs.BlockActs.{acts_of}
 use Rattle.slot_beliefs.specs.Beliefs.{share_of, all_believed}
 use Rattle.slot_beliefs.specs.Recalls.{applied_of}
 use Rattle.slot_beliefs.specs.Index.{nothing_indexed, indexed_all}
@@ -13,6 +14,7 @@ use Rattle.token_client.specs.State.{held_of}
 use Rattle.token_manager.specs.SlotState.{SlotState}
 use Rattle.token_manager.specs.Transition as slot
 use Rattle.token_manager.proofs.Guarded.{Sound}
+use Rattle.token_protocol.specs.Acts as block
 use Rattle.token_protocol.specs.Basics.{put, In}
 use Rattle.token_protocol.specs.Client.{Client}
 use Rattle.token_protocol.specs.Packets as packets
@@ -20,6 +22,7 @@ use Rattle.token_protocol.specs.Laws.{CleanerEmpty}
 use Rattle.token_protocol.specs.Premises.{Premise, SettledEnd, IndexGathered}
 use Rattle.token_protocol.specs.Step.{Steps}
 use Rattle.token_protocol.specs.Step.Steps.{More}
+use Rattle.token_protocol.specs.Told.{told}
 use Rattle.token_protocol.specs.World.{World, start}
 use Rattle.token_protocol.proofs.Invariant.{owned}
 use Rattle.token_tie.specs.Seen.{mode_number, local_of, entry_seen}
@@ -31,7 +34,6 @@ use Rattle.token_client.specs.declared.held.Held.{Held}
 use Rattle.token_client.specs.State.{held_in, is_in_slot}
 use Rattle.delta_index.specs.Index.{entry_of}
 use Rattle.token_protocol.specs.Takeover as takeover
-use Rattle.token_protocol.specs.Entry.{Row}
 use Rattle.token_protocol.specs.Step.Step.{Reports as ReportsStep, Activates as ActivatesStep, Promises as PromisesStep}
 use Rattle.token_protocol.proofs.Laws.{beliefs_cover}
 use Rattle.token_protocol.proofs.Refining.{put_each}
@@ -44,7 +46,7 @@ use Rattle.token_law.specs.Owed.{Gathered}
 use Rattle.token_law.proofs.Premises.{owed, owed_both}
 use Rattle.token_law.proofs.Logged.{Kept}
 use Rattle.token_law.proofs.Indexes.{nothing_of_nobody, gathered_of}
-use Rattle.token_law.proofs.Views.{setting, ClientShown, some_one, Supplies, Carried, View, Lasts, carried_on}
+use Rattle.token_law.proofs.Views.{setting, ClientShown, some_one, Supplies, Carried, View, Lasts, told_no_more, carried_on}
 
 pub carried_rise : (logs : Bool) (part : ℕ) (b : BlockId) (w : World) (epoch : ℕ) (report : ℕ → packets.Report) (applied : ℕ → ℕ) (e : abstract_entry.Entry)
     (p : Packet) → w.epoch < epoch → Carried logs part b w p → Carried logs part b (takeover.activates w epoch report applied e) p
@@ -263,9 +265,15 @@ module _ (logs : Bool) (members part : ℕ) (b : BlockId) (n : Net) (v : View lo
         (record { epoch = refl; wants = λ x h. h; gaves = λ x h. h; offers = λ x h. h; recalls = λ x h. h; reports = λ x h. inr h; lasts = unchanged })
         (v.sent p fact));
     kept = v.kept;
-    acts = v.acts;
+    acts = told_no_more logs ((before ++ []) ++ []) of_block (told_no_more logs (before ++ []) of_block (told_no_more logs before of_block v.acts));
   }
     where
+      before : List block.Act
+      before = told (start members) old v.steps
+
+      of_block : List block.Act
+      of_block = acts_of b n.acts
+
       unchanged : Premise logs (Lasts old now)
       unchanged = owed logs (Lasts old now) (λ _. record { join = omega arith; value = λ k _. refl })
 

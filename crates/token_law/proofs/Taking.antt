@@ -1,6 +1,6 @@
 -- What a client acts and what it gets keeps the world seen.
 use Rattle.std.specs.Prelude.{if◌then◌else◌}
-use Rattle.std.proofs.Common.{◌≡◌, ℕ, Bool, true, false, nat_lt, List, [], ◌∷◌, ◌++◌, Option, Some, refl, sym, ap, subst, ◌∙◌, arith}
+use Rattle.std.proofs.Common.{◌≡◌, ℕ, Bool, true, false, nat_lt, List, [], ◌∷◌, ◌++◌, Option, Some, refl, sym, ap, subst, ◌∙◌, append-nil, arith}
 use Rattle.xfs_base.specs.declared.block.BlockId.{BlockId}
 use Rattle.xfs_base.specs.declared.entry.Entry.{Entry}
 use Rattle.xfs_base.specs.declared.token.Mode.TheVariants.{Nothing, Copy, Own}
@@ -41,7 +41,6 @@ use Rattle.token_law.specs.Net.Packet.{GrantSent, SupplySent}
 use Rattle.token_law.specs.Owed.{ReadsThere}
 use Rattle.token_law.proofs.Premises.{owed, owed_on, owed_both}
 use Rattle.token_law.proofs.Logged.{Kept}
-use Rattle.token_law.proofs.Apart.{nothing_more}
 use Rattle.token_law.proofs.Views.{setting, View, Supplies, end_owed, client_view, quiet_view}
 use Rattle.token_law.proofs.Falls.{shown_up}
 use Rattle.token_law.proofs.Acting.{apart_blocks}
@@ -96,23 +95,17 @@ module _ (logs : Bool) (members part : ℕ) (n : Net) (i : Good logs members par
   writes_of b c k value = if same_block k b then WroteBlock c (number value) ∷ [] else []
 
   adds_write : (b : BlockId) (c : ℕ) (k : BlockId) (value : Option (List ℕ))
-      → writes_of b c k value ++ acts_of b n.acts ≡ acts_of b (n.acts ++ act.Wrote c k value ∷ [])
-  adds_write b c k value = go (same_block k b) ∙ sym (acts_on b n.acts (act.Wrote c k value))
-    where
-      go : (t : Bool)
-          → (if t then WroteBlock c (number value) ∷ [] else [])
-          ++ acts_of b n.acts ≡ (if t then WroteBlock c (number value) ∷ acts_of b n.acts else acts_of b n.acts)
-      go true = refl
-      go false = refl
+      → acts_of b n.acts ++ writes_of b c k value ≡ acts_of b (n.acts ++ act.Wrote c k value ∷ [])
+  adds_write b c k value = sym (acts_on b n.acts (act.Wrote c k value))
 
-  adds_none : (b : BlockId) → acts_of b n.acts ≡ acts_of b (n.acts ++ [])
-  adds_none b = sym (ap (acts_of b) (nothing_more n.acts))
+  adds_none : (b : BlockId) → acts_of b n.acts ++ [] ≡ acts_of b (n.acts ++ [])
+  adds_none b = append-nil (acts_of b n.acts) ∙ sym (ap (acts_of b) (append-nil n.acts))
 
   adds : (b : BlockId) (c : ℕ) (x : inputs.In)
-      → laws.acts_seen (setting b c (n.tokens c).inc) (n.tokens c) x ++ acts_of b n.acts ≡ acts_of b (n.acts ++ acts_by c (n.tokens c) x)
+      → acts_of b n.acts ++ laws.acts_seen (setting b c (n.tokens c).inc) (n.tokens c) x ≡ acts_of b (n.acts ++ acts_by c (n.tokens c) x)
   adds b c (input.Wrote k value) = go (may_write (held_of (n.tokens c).blocks k))
     where
-      go : (t : Bool) → (if t then writes_of b c k value else []) ++ acts_of b n.acts ≡ acts_of b (n.acts ++ (if t then act.Wrote c k value ∷ [] else []))
+      go : (t : Bool) → acts_of b n.acts ++ (if t then writes_of b c k value else []) ≡ acts_of b (n.acts ++ (if t then act.Wrote c k value ∷ [] else []))
       go true = adds_write b c k value
       go false = adds_none b
   adds b c (input.Need block mode) = adds_none b
@@ -136,7 +129,7 @@ module _ (logs : Bool) (members part : ℕ) (n : Net) (i : Good logs members par
       let more = n.acts ++ acts_by c (n.tokens c) x in
       client_view logs members part b n v c end (laws.acts_seen g (n.tokens c) x) (client.transition (n.tokens c) x) more serves.some serves.up
       (takes_inputs logs g end v.world (n.tokens c) x (ready b v c end serves) (own_brings b c v.world x own))
-      (owed logs (laws.acts_seen g (n.tokens c) x ++ acts_of b n.acts ≡ acts_of b more) (λ _. adds b c x))
+      (owed logs (acts_of b n.acts ++ laws.acts_seen g (n.tokens c) x ≡ acts_of b more) (λ _. adds b c x))
 
   -- a grant to own of another block changes nothing here, and neither does its write
   owned_there : (b : BlockId) (v : View logs members part b n) (c end : ℕ) (block : BlockId) (stamp : Stamp) (inc req : ℕ) (entry : Entry)
@@ -181,7 +174,7 @@ module _ (logs : Bool) (members part : ℕ) (n : Net) (i : Good logs members par
       client_view logs members part b n v c end (writes_of b c block value)
       (laws.granted_and_wrote (n.tokens c) stamp inc req block entry value) more serves.some serves.up
       (owns_acted b v c end block stamp inc req entry value serves (v.sent _ fact) accepts room)
-      (owed logs (writes_of b c block value ++ acts_of b n.acts ≡ acts_of b more) (λ _. adds_write b c block value))
+      (owed logs (acts_of b n.acts ++ writes_of b c block value ≡ acts_of b more) (λ _. adds_write b c block value))
 
   -- a grant that is let go
   declined_there : (b : BlockId) (v : View logs members part b n) (c end : ℕ) (block : BlockId) (stamp : Stamp) (inc req : ℕ) (entry : Entry)

@@ -1,5 +1,5 @@
 -- How the small world is seen, block by block: what its clients, its latest manager and its packets are there; and what a step of a client leaves of that.
-use Rattle.std.proofs.Common.{◌≡◌, ℕ, ◌≤◌, ◌<◌, Bool, true, false, List, [], ◌∷◌, ◌++◌, ◌⊎◌, inl, inr, ⊎_elim, Option, Some, None, refl, sym, ap, subst, ◌∙◌, arith}
+use Rattle.std.proofs.Common.{◌≡◌, ℕ, ◌≤◌, ◌<◌, Bool, true, false, List, [], ◌∷◌, ◌++◌, ◌⊎◌, inl, inr, ⊎_elim, Option, Some, None, refl, sym, ap, subst, ◌∙◌, append-nil, arith}
 use Rattle.xfs_base.specs.declared.block.BlockId.{BlockId}
 use Rattle.xfs_base.specs.declared.entry.Entry.{Entry}
 use Rattle.xfs_base.specs.declared.token.Mode.TheVariants.{Copy}
@@ -51,6 +51,10 @@ use Rattle.token_client.proofs.Tables.{InOrder}
 use Rattle.xfs_base.proofs.Booleans.{contrary}
 use Rattle.token_law.proofs.Premises.{owed, owed_on, owed_both}
 use Rattle.token_law.proofs.Logged.{Kept}
+
+-- what is told, and then nothing more
+pub told_no_more : (logs : Bool) (acts all : List block.Act) → Premise logs (acts ≡ all) → Premise logs (acts ++ [] ≡ all)
+told_no_more logs acts all = owed_on logs (acts ≡ all) (acts ++ [] ≡ all) (λ same. append-nil acts ∙ same)
 
 pub either_in : {X : Type 0} (p : X) (xs ys : List X) → In p (xs ++ ys) → In p xs ⊎ In p ys
 either_in p [] ys fact = inr fact
@@ -245,7 +249,7 @@ module _ (logs : Bool) (members part : ℕ) (b : BlockId) (n : Net) (v : View lo
   -- a client took an input, and acted so
   pub client_view : (c end : ℕ) (acts : List block.Act) (d : client.Done) (more : List Act) → 0 < c → n.up c ≡ true
       → Acted logs (setting b c (n.tokens c).inc) end w acts d
-      → Premise logs (acts ++ acts_of b n.acts ≡ acts_of b more) → View logs members part b (record (after_client n c end d) { acts = more })
+      → Premise logs (acts_of b n.acts ++ acts ≡ acts_of b more) → View logs members part b (record (after_client n c end d) { acts = more })
   client_view c end acts d more some up t adds =
       let epoch = epoch_on logs (setting b c (n.tokens c).inc) end w t.world t.frame in
       record {
@@ -275,15 +279,16 @@ module _ (logs : Bool) (members part : ℕ) (b : BlockId) (n : Net) (v : View lo
             (v.sent p old))
             (either_in p (client_packets c d.state.inc end d.outs) n.sent fact);
         kept = owed_on logs (Kept b n.books w) (Kept b n.books t.world) (subst (λ (u : World). Kept b n.books u) (sym t.frame.others)) v.kept;
-        acts = owed_both logs (told (start members) w v.steps ≡ acts_of b n.acts) (acts ++ acts_of b n.acts ≡ acts_of b more)
+        acts = owed_both logs (told (start members) w v.steps ≡ acts_of b n.acts) (acts_of b n.acts ++ acts ≡ acts_of b more)
             (told (start members) t.world (steps_through (start members) w t.world v.steps t.steps) ≡ acts_of b more)
-            (λ old new. told_through logs (start members) w t.world v.steps t.steps ∙ (λ i. t.tells i ++ old i) ∙ new) v.acts adds;
+            (λ old new. told_through logs (start members) w t.world v.steps t.steps ∙ (λ i. old i ++ t.tells i) ∙ new) v.acts adds;
       }
 
   -- where it acts nothing
   pub quiet_view : (c end : ℕ) (d : client.Done) → 0 < c → n.up c ≡ true → Took logs (setting b c (n.tokens c).inc) end w d
       → View logs members part b (after_client n c end d)
-  quiet_view c end d some up t = client_view c end [] d n.acts some up t (owed logs (acts_of b n.acts ≡ acts_of b n.acts) (λ _. refl))
+  quiet_view c end d some up t =
+      client_view c end [] d n.acts some up t (owed logs (acts_of b n.acts ++ [] ≡ acts_of b n.acts) (λ _. append-nil (acts_of b n.acts)))
 
   -- a client reports: nothing but its report is new
   pub report_view : (c end : ℕ) → 0 < c → c < members → n.up c ≡ true → Premise logs (end ≡ n.books.end c) → IsSound (n.tokens c) → is_in_slot part b ≡ true
@@ -330,7 +335,7 @@ module _ (logs : Bool) (members part : ℕ) (b : BlockId) (n : Net) (v : View lo
             (record { epoch = refl; wants = λ x h. h; gaves = λ x h. h; offers = λ x h. h; recalls = λ x h. h; reports = λ x h. inr h; lasts = unchanged })
             (v.sent p old)) fact;
         kept = v.kept;
-        acts = v.acts;
+        acts = told_no_more logs (told (start members) w v.steps) (acts_of b n.acts) v.acts;
       }
     where
       unchanged : Premise logs (Lasts w (takeover.reports w c end))
