@@ -1,12 +1,9 @@
 -- What names a segment names its group: read off how the small world is seen.
-use Rattle.std.proofs.Common.{◌≡◌, sym, ap, subst, ◌∙◌}
-use Rattle.client_log.specs.LogState.{LogState}
+use Rattle.std.proofs.Common.{sym, ap, subst, ◌∙◌}
 use Rattle.log_scan.specs.Transition.{end_below, name_at}
-use Rattle.log_tie.specs.Setting.{Setting}
 use Rattle.segment_format.specs.declared.segment.Segment.{Segment}
 use Rattle.log_law.specs.Below.{Below}
 use Rattle.log_law.specs.Groups.{EndsNameGroups, PriorsNameGroups}
-use Rattle.log_law.specs.Net.Owner.{Serving}
 use Rattle.log_law.proofs.Calmer.{doubtful}
 use Rattle.log_law.proofs.Views.{OwnerShown, View}
 use Rattle.log_law.proofs.Wholeness.{seen}

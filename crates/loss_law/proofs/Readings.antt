@@ -31,7 +31,7 @@ use Rattle.log_scan.specs.declared.stage.Stage.TheVariants.{Reads, Over}
 use Rattle.log_scan.specs.Pick.{known_group, start_of}
 use Rattle.log_scan.specs.ScanState.{ScanState}
 use Rattle.log_scan.specs.Transition as scan
-use Rattle.log_scan.specs.Transition.{Done, goes, stays, least_horizon}
+use Rattle.log_scan.specs.Transition.{Done, goes, least_horizon}
 use Rattle.log_protocol.specs.Tables.{In}
 use Rattle.log_tie.specs.Setting.{Setting, Stripe}
 use Rattle.log_law.specs.Net.{Net}

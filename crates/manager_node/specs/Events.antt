@@ -1,11 +1,10 @@
 -- What each event makes of a manager.
-use Rattle.std.specs.Prelude.{ℕ, Bool, ◌==◌, ◌&&◌, not, if◌then◌else◌, List, [], ◌∷◌}
+use Rattle.std.specs.Prelude.{ℕ, Bool, ◌==◌, ◌&&◌, if◌then◌else◌, List, [], ◌∷◌}
 use Rattle.group_map.specs.Groups.{started as groups_started}
 use Rattle.log_owner.specs.Sending.{hello}
 use Rattle.manager_parts.specs.declared.lasting.Lasting.{Lasting as Kept}
 use Rattle.manager_serving.specs.Serving.{first, again, on_news, hears, on_tick}
 use Rattle.node_base.specs.Beginning.{started as items_started}
-use Rattle.node_base.specs.declared.effects.Effect.{Effect}
 use Rattle.node_base.specs.declared.peers.Peers.{Peers}
 use Rattle.node_base.specs.Effects.{packets_of, acts_of}
 use Rattle.node_base.specs.Maps.{fits, forgotten}
@@ -20,7 +19,7 @@ use Rattle.wire_msg.specs.declared.registry.Welcome.{Welcome}
 use Rattle.wire_msg.specs.NodeStep.{NodeStep}
 use Rattle.xfs_base.specs.declared.node.NodeId.TheVariants.{Manager as AManager}
 use Rattle.xfs_base.specs.declared.setup.Setup.{Setup}
-use Rattle.xfs_base.specs.Steps.{Stepped, still, saying}
+use Rattle.xfs_base.specs.Steps.{still}
 use Rattle.manager_node.specs.declared.manager.Manager.{Manager}
 use Rattle.manager_node.specs.declared.phase.Phase.{Phase}
 use Rattle.manager_node.specs.declared.phase.Phase.TheVariants.{Down, Waiting, Serving as Serves}

@@ -1,5 +1,5 @@
 -- Where a manager stands, and what its next item makes of it.
-use Rattle.std.specs.Prelude.{ℕ, Bool, List, [], ◌∷◌, ◌++◌, Option, Some, None}
+use Rattle.std.specs.Prelude.{ℕ, Bool, [], ◌∷◌, ◌++◌, Option, Some, None}
 use Rattle.log_owner.specs.Sending.{hello}
 use Rattle.manager_parts.specs.declared.lasting.Lasting.{Lasting as Kept}
 use Rattle.manager_parts.specs.Lasting.{kept_has_room, with_answer}
@@ -15,7 +15,7 @@ use Rattle.version_model.specs.declared.answer.Answer.{Answer}
 use Rattle.version_model.specs.declared.answer.Answer.TheVariants as answer
 use Rattle.version_model.specs.declared.work.Work.{Work}
 use Rattle.version_model.specs.declared.work.Work.TheVariants as work
-use Rattle.xfs_base.specs.Steps.{Stepped, still, saying}
+use Rattle.xfs_base.specs.Steps.{Stepped, still}
 use Rattle.manager_node.specs.declared.beginning.Wish.{Wish}
 use Rattle.manager_node.specs.declared.beginning.Wish.TheVariants.{Crash, Restart, Checkpoint}
 use Rattle.manager_node.specs.declared.phase.Phase.{Phase}

@@ -1,5 +1,5 @@
 -- What a manager has of a slot.
-use Rattle.std.specs.Prelude.{ℕ, Bool, true, false, ◌&&◌, [], ◌∷◌, Option, None, replicate}
+use Rattle.std.specs.Prelude.{ℕ, Bool, true, false, ◌&&◌, [], Option, None, replicate}
 use Rattle.node_base.specs.Asking.{own_of}
 use Rattle.node_base.specs.Room.{has_room, has_long_room}
 use Rattle.token_manager.specs.SlotState.{SlotState}

@@ -1,5 +1,5 @@
 -- What each packet, and the time, make of a manager that serves.
-use Rattle.std.specs.Prelude.{ℕ, Bool, true, false, ◌==◌, ◌&&◌, if◌then◌else◌, List, [], ◌∷◌, ◌++◌, Option, Some, None}
+use Rattle.std.specs.Prelude.{ℕ, Bool, true, false, ◌==◌, ◌&&◌, if◌then◌else◌, List, [], ◌∷◌, Option, Some, None}
 use Rattle.checkpoint.specs.Transition.{started as writer_started}
 use Rattle.client_log.specs.declared.input.In.TheVariants as log_input
 use Rattle.client_log.specs.LogState.{started as log_started}
@@ -11,7 +11,6 @@ use Rattle.manager_parts.specs.Lasting.{log_of, kept_has_room}
 use Rattle.manager_parts.specs.SlotTable as table
 use Rattle.manager_parts.specs.SlotTable.{Table, TableAsker, Asks, Hearer}
 use Rattle.node_base.specs.Asking.{next_ask, drawn}
-use Rattle.node_base.specs.declared.effects.Effect.{Effect}
 use Rattle.node_base.specs.declared.maps.Maps.{Maps}
 use Rattle.node_base.specs.Known.{names_known}
 use Rattle.node_base.specs.Maps.{at_start, fits, is_older, taken}
@@ -35,7 +34,7 @@ use Rattle.xfs_base.specs.declared.news.SlotNews.{SlotNews}
 use Rattle.xfs_base.specs.declared.node.NodeId.{NodeId}
 use Rattle.xfs_base.specs.declared.node.NodeId.TheVariants.{Client, Manager, Server, Cleaner, Registry}
 use Rattle.xfs_base.specs.declared.segment.LogId.{LogId}
-use Rattle.xfs_base.specs.Steps.{Stepped, still, saying}
+use Rattle.xfs_base.specs.Steps.{still, saying}
 use Rattle.manager_serving.specs.Checkpoints.{Done, gives, writes, on_stored, on_ckpt_ack, tells_again}
 use Rattle.manager_serving.specs.declared.serving.Serving.{Serving}
 pub use Rattle.xfs_base.specs.Segments.{no_end}

@@ -5,7 +5,7 @@ use Rattle.manager_parts.specs.declared.slot_phase.SlotPhase.{SlotPhase}
 use Rattle.manager_parts.specs.declared.slot_phase.SlotPhase.TheVariants as phase
 use Rattle.manager_parts.specs.Slots.{epoch_of}
 use Rattle.manager_parts.specs.SlotTable as table
-use Rattle.manager_parts.specs.SlotTable.{Asks, Hearer, Table, TableAsker, all_slots}
+use Rattle.manager_parts.specs.SlotTable.{Hearer, Table, TableAsker, all_slots}
 use Rattle.manager_parts.specs.Takeovers as takeovers
 use Rattle.manager_parts.specs.Takeovers.{Asker, asker}
 use Rattle.manager_parts.specs.Tokens as tokens

@@ -1,6 +1,5 @@
 -- Each act of a run that a segment is lost is earned: whoever says it reads, and of each kind of reader it is known.
-use Rattle.std.proofs.Common.{◌≡◌, ℕ, true, Some, is_some, slice_get, sym, subst}
-use Rattle.client_serving.specs.declared.serving.Serving.{Serving}
+use Rattle.std.proofs.Common.{◌≡◌, ℕ, Some, slice_get}
 use Rattle.core_world.specs.AnyNode.{any_start, any_step}
 use Rattle.core_world.specs.declared.any_node.AnyNode.{AnyNode}
 use Rattle.earned_losses.specs.earned_law.Earned.{IsEarned, LostActsAreEarned}

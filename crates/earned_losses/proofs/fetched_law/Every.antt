@@ -1,5 +1,5 @@
 -- What a client's open call reads had been filed, and is stored, at each moment of every run up to which no restart was doubtful.
-use Rattle.std.proofs.Common.{ℕ, ◌<◌, subst, arith}
+use Rattle.std.proofs.Common.{◌<◌, subst, arith}
 use Rattle.earned_losses.proofs.fetched_law.Lying.{is_stored, was_filed}
 use Rattle.earned_losses.specs.fetched_law.Reads.{CallsReadWhatIsStored, CallsReadWhatWasFiled}
 use Rattle.earned_losses.specs.fetching_law.Fetchings.{CallsReadBlocks}

@@ -1,6 +1,6 @@
 -- What a client's open call reads at a moment that stands to the small worlds is a segment that a log has filed, under the name and over the group with
 -- which it is read: so the log's owner told it to be filed, and it is stored unless it was deleted.
-use Rattle.std.proofs.Common.{◌≡◌, ℕ, ◌≤◌, false, Option, Some, None, refl, sym, subst}
+use Rattle.std.proofs.Common.{◌≡◌, ℕ, ◌≤◌, Option, Some, None, refl, sym, subst}
 use Rattle.client_node.specs.declared.client.Client.{Client as ClientNode}
 use Rattle.client_node.specs.declared.phase.Phase.{Phase}
 use Rattle.client_node.specs.declared.phase.Phase.TheVariants.{Down, Opening, Serving as Serves}
@@ -34,14 +34,12 @@ use Rattle.run_laws.specs.world_law.Owners.{moment, node_in, node_named}
 use Rattle.run_laws.specs.world_logs.Doings.{did}
 use Rattle.run_laws.specs.world_logs.Lines.{HasLines, Texts}
 use Rattle.run_laws.specs.world_logs.Logs.{NotDeleted}
-use Rattle.run_laws.specs.world_logs.Roles.{IsThere, Role, log_by, renews}
+use Rattle.run_laws.specs.world_logs.Roles.{log_by}
 use Rattle.run_laws.proofs.world_reads.KnownLogs.{HasLog, filed_known, filed_log}
 use Rattle.run_laws.specs.world_reads.Joint.{Joint}
 use Rattle.xfs_base.specs.declared.entry.Entry.{Entry}
 use Rattle.xfs_base.specs.declared.entry.Place.{Place}
 use Rattle.xfs_base.specs.declared.node.NodeId.TheVariants.{Client}
-use Rattle.xfs_base.specs.declared.segment.SegName.{SegName}
-use Rattle.xfs_base.specs.declared.segment.SegRef.{SegRef}
 
 -- ---- the client
 

@@ -1,5 +1,5 @@
 -- A client reads by a map of groups: the walk of the maps that it knows, for what is true of every map of groups.
-use Rattle.std.proofs.Common.{ℕ, List, [], ◌∷◌, Option, Some, None}
+use Rattle.std.proofs.Common.{List, [], ◌∷◌, Option, Some, None}
 use Rattle.std.specs.Prelude.{IfSome}
 use Rattle.std.specs.List.{AllByRecursion}
 use Rattle.client_node.specs.declared.client.Client.{Client}

@@ -18,7 +18,6 @@ use Rattle.run_laws.specs.world_law.Owners.{moment}
 use Rattle.run_laws.specs.world_logs.Shelves.{HoldsOrLost, IsKept, group_at, piece, shelf_at}
 use Rattle.xfs_base.proofs.Booleans.{contrary}
 use Rattle.xfs_base.specs.declared.fragment.Fragment.{Fragment}
-use Rattle.xfs_base.specs.declared.segment.SegName.{SegName}
 use Rattle.earned_losses.specs.missing_law.Stored.{disks_lost, has_lost_disk}
 
 lacks_none : (o : Option Fragment) (f : Fragment) → o ≡ Some f → is_none o ≡ true → ⊥

@@ -1,5 +1,5 @@
 -- What is true of a reading over the counts of a run, and what each step of it makes of that.
-use Rattle.std.proofs.Common.{◌≡◌, ◌⊎◌, ⊎_elim, ℕ, suc, ◌==◌, ◌&&◌, ◌<◌, ◌≤◌, Bool, true, false, nat_lt, List, [], ◌∷◌, ◌++◌, Option, Some, None, length, refl, sym, ap, subst, ◌∙◌, inl, inr, arith}
+use Rattle.std.proofs.Common.{◌≡◌, ◌⊎◌, ⊎_elim, ℕ, suc, ◌==◌, ◌&&◌, ◌<◌, ◌≤◌, true, false, nat_lt, List, [], ◌∷◌, ◌++◌, Option, Some, None, length, refl, sym, ap, subst, ◌∙◌, inl, inr, arith}
 use Rattle.std.proofs.lemmas.Bool.Decides.{nat_tests}
 use Rattle.core_world.specs.AnyNode.{any_start, any_step}
 use Rattle.core_world.specs.declared.any_node.AnyNode.{AnyNode}
@@ -20,7 +20,7 @@ use Rattle.segment_reading.specs.Reading.{ReadingState, Step, begun, counts, end
 use Rattle.stripe_code.specs.declared.round.RoundState.{RoundState}
 use Rattle.stripe_code.specs.declared.round.RoundState.TheVariants as round
 use Rattle.stripe_code.specs.declared.round.Told.{Told}
-use Rattle.stripe_code.specs.Round.{RoundSoFar, asks, missing_in, state_of, taken, told_fits}
+use Rattle.stripe_code.specs.Round.{RoundSoFar, asks, state_of, taken, told_fits}
 use Rattle.token_protocol.specs.Basics.{In}
 use Rattle.earned_losses.specs.torn_law.Torn.{IsTornAt}
 use Rattle.wire_msg.specs.declared.body.Body.TheVariants as body

@@ -1,5 +1,5 @@
 -- What is acted to be lost in an event, the node of the event says is lost; and it reads then.
-use Rattle.std.proofs.Common.{◌≡◌, ◌⊎◌, ⊎_elim, ℕ, ◌+◌, ◌<◌, ◌==◌, ◌&&◌, true, false, List, [], ◌∷◌, ◌++◌, Option, Some, None, is_some, drop, length, take, slice_get, refl, sym, ap, subst, ◌∙◌, inl, inr, arith}
+use Rattle.std.proofs.Common.{◌≡◌, ◌⊎◌, ⊎_elim, ℕ, ◌+◌, ◌<◌, ◌==◌, true, false, List, [], ◌∷◌, ◌++◌, Option, Some, None, is_some, drop, length, slice_get, refl, sym, ap, subst, ◌∙◌, inl, inr, arith}
 use Rattle.cleaner_node.specs.CleanerEvents as cleaning
 use Rattle.cleaner_node.specs.declared.cleaner.Cleaner.{Cleaner as CleanerNode}
 use Rattle.cleaner_node.specs.declared.cleaner.Phase as cleaner_phases
@@ -51,7 +51,6 @@ use Rattle.world_base.specs.Cluster.{cluster_of, place_of}
 use Rattle.world_base.specs.declared.cluster.Cluster.{Cluster}
 use Rattle.world_base.specs.declared.estate.Estate.{Estate}
 use Rattle.world_base.specs.declared.event.Event.{Event}
-use Rattle.world_base.specs.declared.world.World.{World}
 use Rattle.world_base.specs.Events.{node_of, what_of}
 use Rattle.world_base.specs.NextWorld.{next_world}
 use Rattle.world_base.specs.Runs.{IsRun}
@@ -70,7 +69,7 @@ use Rattle.earned_losses.proofs.answer_law.Managers.{manager_plain}
 use Rattle.earned_losses.proofs.answer_law.Runs.{client_stands}
 use Rattle.earned_losses.proofs.answer_law.Settling.{UnlessScans}
 use Rattle.earned_losses.proofs.answer_law.Stores.{registry_quiet, server_quiet}
-use Rattle.earned_losses.proofs.answer_law.Telling.{AllQuiet, NoLosses, SaysLost, none_among, plain_says, quiet_no_loss, quiet_plain, says_lost}
+use Rattle.earned_losses.proofs.answer_law.Telling.{AllQuiet, SaysLost, none_among, plain_says, quiet_no_loss, quiet_plain, says_lost}
 use Rattle.earned_losses.proofs.torn_law.Counts.{Still, TurnAt, happened_so}
 use Rattle.earned_losses.specs.answer_law.Answers.{IsBegunBy}
 use Rattle.earned_losses.specs.fetching_law.Fetchings.{BringsGone, FetchesLossesEarned, WasTornInFetch, open_item, serving_at, serving_in, serving_of}

@@ -10,7 +10,7 @@ use Rattle.manager_parts.specs.declared.slot_phase.SlotPhase.{SlotPhase}
 use Rattle.manager_parts.specs.declared.slot_phase.SlotPhase.TheVariants as phase
 use Rattle.manager_parts.specs.declared.slot_phase.Taking.{Taking}
 use Rattle.manager_parts.specs.SlotTable as table
-use Rattle.manager_parts.specs.SlotTable.{Table, all_slots, at_slot, begin_at, changed_in, cleaned_at, cleaned_phase, in_slot, named_at, named_phase, next_active, recalls, recalls_all, usage_in}
+use Rattle.manager_parts.specs.SlotTable.{Table, all_slots, at_slot, changed_in, cleaned_at, cleaned_phase, in_slot, named_at, named_phase, recalls, recalls_all, usage_in}
 use Rattle.manager_parts.specs.Tokens as tokens
 use Rattle.node_base.specs.Beginning.{answers_unanswered}
 use Rattle.node_base.specs.declared.effects.Effect.{Effect}

@@ -31,7 +31,7 @@ use Rattle.segment_reading.specs.declared.reading.Next.{Next}
 use Rattle.segment_reading.specs.declared.reading.Next.TheVariants as next
 use Rattle.segment_reading.specs.declared.reading.Stage.{Stage}
 use Rattle.segment_reading.specs.declared.reading.Stage.TheVariants.{Asking, Between, Doubted, Over}
-use Rattle.segment_reading.specs.Reading.{ReadingState, on_answer, on_confirmed, to_ask}
+use Rattle.segment_reading.specs.Reading.{ReadingState, on_confirmed, to_ask}
 use Rattle.segment_reading.specs.Reading as rounds
 use Rattle.stripe_cleaner.specs.declared.input.In.{In as Input}
 use Rattle.stripe_cleaner.specs.declared.input.In.TheVariants as input

@@ -1,5 +1,5 @@
 -- The map of groups by which a client reads is one that it was told, or that of the setup.
-use Rattle.std.specs.Prelude.{ℕ, IfSome, List, Option, Some, None}
+use Rattle.std.specs.Prelude.{ℕ, IfSome, List, Option, None}
 use Rattle.std.specs.List.{AllByRecursion}
 use Rattle.client_node.specs.declared.phase.Phase.{Phase}
 use Rattle.client_node.specs.declared.phase.Phase.TheVariants.{Down, Opening, Serving as Serves}

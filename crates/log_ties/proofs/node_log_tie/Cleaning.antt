@@ -34,7 +34,7 @@ use Rattle.stripe_cleaner.specs.JobState.{JobState}
 use Rattle.stripe_cleaner.specs.Listing.{ListingState, begun, is_among, without}
 use Rattle.stripe_cleaner.specs.Promises.{is_promised, is_above, promised_with}
 use Rattle.stripe_cleaner.specs.Transition as cleaning
-use Rattle.stripe_cleaner.specs.Transition.{Done, turned, lists, usage_asks, is_greeting, welcomed, on_welcome, forgotten, forgetting, on_promise, job_with, mapped, listed, heard, on_list, usage_with, on_counts, listed_in, counted_in, read_in, answered_in, moved_in, deleted_in, awaits, on_listed, on_usage, is_heard, may_move, on_live, on_dead, transition}
+use Rattle.stripe_cleaner.specs.Transition.{Done, turned, lists, usage_asks, is_greeting, welcomed, on_welcome, forgotten, forgetting, on_promise, mapped, listed, heard, on_list, usage_with, listed_in, counted_in, read_in, answered_in, moved_in, deleted_in, awaits, on_usage, is_heard, may_move, on_live, on_dead, transition}
 use Rattle.log_scan.specs.Transition as scan
 use Rattle.log_scan.specs.Transition.{horizon_of}
 use Rattle.log_tie.specs.Setting.{Setting}

@@ -11,7 +11,7 @@ use Rattle.group_map.specs.declared.group.Member.{Member}
 use Rattle.group_map.specs.GroupMapState.{GroupMapState}
 use Rattle.group_map.specs.Groups.{group_of, generation_at, current_ids, chosen}
 use Rattle.group_map.specs.Sizes.{is_group_size}
-use Rattle.group_map.specs.WellFormed.{IsServer, IsGroupMap, IsPresent}
+use Rattle.group_map.specs.WellFormed.{IsServer, IsGroupMap}
 use Rattle.group_map.specs.WellFormed as stripes
 use Rattle.group_map.proofs.AlwaysCurrent.{some_current}
 use Rattle.group_map.proofs.Numbers.{IsCurrent-chosen}

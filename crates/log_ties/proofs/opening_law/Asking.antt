@@ -1,5 +1,5 @@
 -- An opening asks no more questions than its node, but for one by which it waits in vain.
-use Rattle.std.proofs.Common.{⊎_elim, ◌≡◌, ◌≤◌, ◌<◌, ℕ, ◌+◌, ◌==◌, ◌&&◌, not, true, cond, List, [], ◌∷◌, Option, Some, None, nat_lt, refl, sym, ap, subst, inl, inr, arith}
+use Rattle.std.proofs.Common.{⊎_elim, ◌≡◌, ◌≤◌, ◌<◌, ℕ, ◌+◌, ◌==◌, ◌&&◌, true, cond, List, [], ◌∷◌, Option, Some, None, nat_lt, sym, subst, inl, inr, arith}
 use Rattle.std.specs.List.{AllByRecursion}
 use Rattle.std.proofs.lemmas.Bool.Decides.{nat_tests}
 use Rattle.xfs_base.proofs.Booleans.{by_test}
@@ -18,7 +18,7 @@ use Rattle.log_owner.specs.declared.opening.Scanning.{Scanning}
 use Rattle.log_owner.specs.declared.opening.Settling.{Settling}
 use Rattle.log_owner.specs.declared.opening.Stage.{Stage}
 use Rattle.log_owner.specs.declared.opening.Stage.TheVariants as stage
-use Rattle.log_owner.specs.Opening.{Went, Moved, went, stays, drops, asking, at_scan, at_log, nothing_asked, said, scanned, written, opens, logged, writes, behind, starts_log, settles_over, follows, scans_on, scans_at, scans, on_start, welcomed_with, welcomed, welcomed_as, is_meant, welcomed_in, on_welcome, regrouped, on_news, is_fenced, fenced_by, by_server, on_fenced, own_in, answers, found_by, missing_by, on_found, on_missing, on_stored, on_tick, on_body, on_packet}
+use Rattle.log_owner.specs.Opening.{Went, Moved, went, stays, drops, asking, at_scan, nothing_asked, said, scanned, written, opens, writes, behind, settles_over, follows, scans_on, scans_at, scans, welcomed_with, welcomed, welcomed_as, is_meant, on_welcome, regrouped, on_news, is_fenced, fenced_by, by_server, on_fenced, own_in, answers, found_by, missing_by, on_found, on_missing, on_stored, on_tick, on_body, on_packet}
 use Rattle.log_owner.specs.Promised.{promised_in}
 use Rattle.log_owner.specs.Sending.{server_in}
 use Rattle.log_scan.specs.declared.input.In.{In}
@@ -27,7 +27,7 @@ use Rattle.log_scan.specs.declared.output.Out.{Out}
 use Rattle.log_scan.specs.declared.output.Out.TheVariants.{Hello, Fence, Fetch, Chain, Lost}
 use Rattle.log_scan.specs.declared.stage.Stage.TheVariants.{Reads}
 use Rattle.log_scan.specs.Transition as scan
-use Rattle.node_base.specs.Asking.{next_ask, drawn, drawn_for, asked_as, own_of}
+use Rattle.node_base.specs.Asking.{drawn, drawn_for, asked_as, own_of}
 use Rattle.node_base.specs.declared.questions.Asked.{Asked}
 use Rattle.node_base.specs.declared.questions.Questions.{Questions}
 use Rattle.node_base.specs.Known.{names_known}
@@ -36,15 +36,14 @@ use Rattle.node_base.specs.Room.{has_room}
 use Rattle.node_base.specs.Shape.{is_log}
 use Rattle.wire_msg.specs.declared.body.Body.{Body}
 use Rattle.wire_msg.specs.declared.body.Body.TheVariants as body
-use Rattle.wire_msg.specs.declared.packet.Packet.{Packet}
 use Rattle.wire_msg.specs.declared.registry.News.{News}
 use Rattle.wire_msg.specs.declared.registry.Welcome.{Welcome}
 use Rattle.wire_msg.specs.declared.storage.Fenced.{Fenced}
 use Rattle.wire_msg.specs.declared.storage.Found.{Found as Fragment}
 use Rattle.wire_msg.specs.declared.storage.Missing.{Missing}
 use Rattle.wire_msg.specs.declared.storage.Stored.{Stored}
-use Rattle.log_ties.specs.opening_law.Questions.{WaitsInVain, FewAsked, PastStage, ScanAsks, StageAsks, ProgressAsks, AsksOn, StartAsksFew, PacketAsksFew, TickAsksFew, GroupsAfter, GroupsCome, QuestionsAreLeft}
-use Rattle.log_ties.proofs.opening_law.Steps.{UpTo, AsksBy, Old, New, Says, Steps, Still, says_so, still_so}
+use Rattle.log_ties.specs.opening_law.Questions.{WaitsInVain, PastStage, ScanAsks, StageAsks, ProgressAsks, AsksOn, StartAsksFew, PacketAsksFew, TickAsksFew, GroupsAfter, GroupsCome, QuestionsAreLeft}
+use Rattle.log_ties.proofs.opening_law.Steps.{UpTo, AsksBy, Old, New, Steps, Still, says_so, still_so}
 
 -- ---- the questions of the node
 

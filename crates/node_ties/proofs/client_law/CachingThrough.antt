@@ -7,11 +7,9 @@ use Rattle.client_node.specs.Starting.{first_client}
 use Rattle.client_parts.specs.declared.call.Going.{Going}
 use Rattle.client_parts.specs.declared.lasting.Lasting.{Lasting}
 use Rattle.client_serving.specs.declared.serving.Serving.{Serving}
-use Rattle.client_serving.specs.Flights.{held_at}
 use Rattle.client_serving.specs.Packets.{on_packet, on_tick}
 use Rattle.client_calls.specs.Running.{goes_on, runs_upto}
 use Rattle.coop_cache.specs.Transition.{is_clean}
-use Rattle.token_client.specs.Held.{may_evict}
 use Rattle.wire_msg.specs.declared.packet.Do.TheVariants.{Deliver}
 use Rattle.wire_msg.specs.declared.packet.Packet.{Packet}
 use Rattle.xfs_base.specs.declared.block.BlockId.{BlockId}

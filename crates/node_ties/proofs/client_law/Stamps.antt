@@ -1,11 +1,10 @@
 -- The stamp of a block never falls while a client serves: its tokens change it for a later one alone.
-use Rattle.std.proofs.Common.{◌≡◌, ℕ, true, false, ◌&&◌, not, List, [], ◌∷◌, Option, Some, None, refl, ap, subst, ◌∙◌}
+use Rattle.std.proofs.Common.{◌≡◌, ℕ, false, ◌&&◌, not, List, [], ◌∷◌, Option, Some, None, refl, ap, subst, ◌∙◌}
 use Rattle.std.specs.Prelude.{fold}
 use Rattle.client_log.specs.declared.input.In as log_in
 use Rattle.client_log.specs.declared.input.In.TheVariants as log_ins
 use Rattle.client_node.specs.declared.client.Client.{Client}
 use Rattle.client_node.specs.declared.phase.Phase.TheVariants.{Serving as Serves}
-use Rattle.client_node.specs.declared.phase.Phase.{Phase}
 use Rattle.client_node.specs.Phases.{takes}
 use Rattle.client_node.specs.Starting.{first_client}
 use Rattle.client_calls.specs.Blocks.{changes, wrote}
@@ -15,7 +14,7 @@ use Rattle.client_serving.specs.Follow.{notes_clean}
 use Rattle.client_serving.specs.Sends as client
 use Rattle.token_client.specs.declared.held.Giving.{Giving}
 use Rattle.token_client.specs.declared.held.Held.{Held}
-use Rattle.token_client.specs.Held.{is_dirty, is_settled_by, let_go, may_end_fetch, may_evict, may_write, version_settled, written}
+use Rattle.token_client.specs.Held.{is_dirty, is_settled_by, let_go, may_evict, may_write, version_settled, written}
 use Rattle.token_client.specs.State.{TokensState, dirty_in, held_of, with_held}
 use Rattle.token_client.specs.Transition.{Done, on_evict, on_settled, on_wrote}
 use Rattle.token_client.proofs.Tables.{put_each}

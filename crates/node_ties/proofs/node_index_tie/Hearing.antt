@@ -18,7 +18,7 @@ use Rattle.manager_parts.specs.Slots.{epoch_of, fetch_of as fetch_in}
 use Rattle.manager_parts.specs.declared.slot_phase.SlotPhase.{SlotPhase}
 use Rattle.manager_parts.specs.declared.slot_phase.SlotPhase.TheVariants as phase
 use Rattle.manager_serving.specs.Checkpoints as node
-use Rattle.manager_serving.specs.Checkpoints.{Done, gives}
+use Rattle.manager_serving.specs.Checkpoints.{Done}
 use Rattle.manager_serving.specs.Serving as serving
 use Rattle.manager_serving.specs.Serving.{and_then, asker_of, with_slots, with_asker}
 use Rattle.manager_serving.specs.declared.serving.Serving.{Serving}

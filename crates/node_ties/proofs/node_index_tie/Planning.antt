@@ -28,7 +28,6 @@ use Rattle.manager_parts.specs.declared.slot_phase.Active.{Active}
 use Rattle.manager_parts.specs.declared.slot_phase.SlotPhase.{SlotPhase}
 use Rattle.manager_parts.specs.declared.slot_phase.SlotPhase.TheVariants as phase
 use Rattle.manager_serving.specs.Checkpoints as node
-use Rattle.manager_serving.specs.Checkpoints.{Done}
 use Rattle.manager_serving.specs.declared.serving.Serving.{Serving}
 use Rattle.node_ties.specs.node_tie.ManagerEvents.{phase_at, HeldAt}
 use Rattle.slot_beliefs.specs.Index.{Indexed, pages_of, cleaned_index}

@@ -10,7 +10,6 @@ use Rattle.checkpoint.specs.WriterState.{WriterState}
 use Rattle.index_tie.specs.Net.{Net}
 use Rattle.manager_parts.specs.Numbers.{slot_after}
 use Rattle.manager_parts.specs.SlotTable as table
-use Rattle.manager_parts.specs.SlotTable.{Table, Asks}
 use Rattle.manager_serving.specs.Checkpoints as node
 use Rattle.manager_serving.specs.Checkpoints.{Done, gives}
 use Rattle.manager_serving.specs.declared.checkpointing.Checkpointing.{Checkpointing}

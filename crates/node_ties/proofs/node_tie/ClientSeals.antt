@@ -38,7 +38,7 @@ use Rattle.node_ties.proofs.node_tie.ClientBearing.{Bears, IsValued, Stays, on_s
 use Rattle.node_ties.proofs.node_tie.ClientBooks.{onward_sealed, put_here, said_now, sealed_beyond, other_sealed}
 use Rattle.node_ties.proofs.node_tie.ClientFrames as frames
 use Rattle.node_ties.proofs.node_tie.ClientFrames.{HasNumbers}
-use Rattle.node_ties.proofs.node_tie.ClientFrames.{Sent, Promised, Known, LogStands, grown_still, grown_on}
+use Rattle.node_ties.proofs.node_tie.ClientFrames.{Known, LogStands, grown_still}
 use Rattle.node_ties.proofs.node_tie.ClientRows.{Rows, once_dropped, once_taken, some_dropped, some_taken}
 use Rattle.node_ties.proofs.node_tie.ClientUnsettled.{AllUnsettled, all_sealed, taken_newest}
 use Rattle.node_ties.proofs.node_tie.LogRows.{rows_told_of, take_within}

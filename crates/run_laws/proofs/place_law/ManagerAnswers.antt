@@ -51,7 +51,6 @@ use Rattle.xfs_base.specs.declared.node.NodeId.TheVariants.{Manager}
 use Rattle.xfs_base.specs.declared.segment.LogId.{LogId}
 use Rattle.xfs_base.specs.Steps.{still}
 use Rattle.client_log.specs.declared.output.Out.TheVariants as log_out
-use Rattle.manager_node.specs.Events.{manager_step}
 use Rattle.node_base.specs.declared.effects.Effect.TheVariants.{Send, Answer, Lose, Does}
 use Rattle.node_base.specs.Effects.{packet_of, packets_of}
 use Rattle.wire_msg.specs.declared.cleaning.Live.{Live}

@@ -4,7 +4,6 @@ use Rattle.std.specs.List.{fold}
 use Rattle.core_world.specs.AnyNode.{any_start, any_step}
 use Rattle.core_world.specs.declared.any_node.AnyNode.{AnyNode}
 use Rattle.group_map.specs.Groups as groups
-use Rattle.group_map.specs.Groups.{group_of}
 use Rattle.group_map.specs.GroupMapState.{GroupMapState}
 use Rattle.node_base.specs.Setups.{IsSetup}
 use Rattle.registry_node.specs.Events.{registry_start}

@@ -39,7 +39,7 @@ use Rattle.xfs_base.specs.declared.segment.LogId.{LogId}
 use Rattle.xfs_base.specs.declared.segment.SegName.{SegName}
 use Rattle.run_laws.specs.restart_law.Below.{Below}
 use Rattle.run_laws.specs.restart_law.Restarts as nodes
-use Rattle.run_laws.specs.restart_law.Restarts.{DoubtfulRestart, LackedBetween, LostDisk, ReadsBackTo, log_at, newest}
+use Rattle.run_laws.specs.restart_law.Restarts.{DoubtfulRestart, LackedBetween, LostDisk, ReadsBackTo, newest}
 use Rattle.run_laws.proofs.restart_law.Deletes.{deletes_are_drops}
 use Rattle.run_laws.proofs.restart_law.Nodes.{ShelfIs, away_there, boot_is, low_is, serves_there, shelf_is, some_serving}
 use Rattle.run_laws.proofs.restart_law.Picks.{picks, writing_picked}

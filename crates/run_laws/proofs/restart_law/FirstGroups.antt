@@ -10,7 +10,7 @@ use Rattle.node_base.specs.Room.{has_room}
 use Rattle.node_base.specs.Shape.{is_well_formed}
 use Rattle.registry.proofs.Losses.{loss_exists, loss_newer}
 use Rattle.registry.specs.Board as board
-use Rattle.registry.specs.Board.{can_move, hears_manager, hears_server, is_kept, may_lose, transition}
+use Rattle.registry.specs.Board.{can_move, hears_manager, hears_server, is_kept, may_lose}
 use Rattle.registry.specs.BoardState.{BoardState}
 use Rattle.registry_node.specs.declared.node.RegistryNode.{RegistryNode}
 use Rattle.registry_node.specs.Events as registry

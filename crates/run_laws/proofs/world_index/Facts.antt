@@ -1,9 +1,8 @@
 -- What packets tell of where blocks lie goes on to be so, as the small world goes on.
-use Rattle.std.proofs.Common.{◌≡◌, ℕ, suc, ◌≤◌, ◌<◌, List, None, sym, ap, ◌∙◌, arith}
+use Rattle.std.proofs.Common.{ℕ, suc, ◌≤◌, ◌<◌, List, sym, ap, ◌∙◌, arith}
 use Rattle.index_tie.proofs.Growth.{deltas_stay}
 use Rattle.index_tie.proofs.Takeovers.{by_log, of_log_out}
-use Rattle.index_tie.specs.Growth.{IsMore}
-use Rattle.index_tie.specs.Net.{Net, Packet as Said}
+use Rattle.index_tie.specs.Net.{Net}
 use Rattle.index_tie.specs.Takeovers.{of_log, IsEnd}
 use Rattle.log_protocol.specs.Tables as tables
 use Rattle.node_ties.specs.node_index_tie.Sight.{Questions, CheckKnown, DeadKnown, DeltasKnown, EndKnown, ManagerSends, ReportKnown}
@@ -13,7 +12,6 @@ use Rattle.wire_msg.specs.declared.body.Body.TheVariants as body
 use Rattle.wire_msg.specs.declared.cleaning.Check.{Check}
 use Rattle.wire_msg.specs.declared.cleaning.Dead.{Dead}
 use Rattle.wire_msg.specs.declared.deltas.Deltas.{Deltas}
-use Rattle.run_laws.proofs.world_index.Horizons.{Rises}
 pub use Rattle.run_laws.specs.world_index.Growth.{Grown}
 use Rattle.run_laws.specs.world_index.Standing.{AllKept, CleanerTells, NewsKept, OwnerTells, RegistryTells, SentBy}
 use Rattle.xfs_base.specs.declared.news.SlotNews.{SlotNews}

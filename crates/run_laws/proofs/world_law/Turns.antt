@@ -1,5 +1,5 @@
 -- Each event of the world keeps a moment standing to the small world of a slot, if logs are owed no more than they give.
-use Rattle.std.proofs.Common.{◌≡◌, ◌⊎◌, ℕ, ◌+◌, ◌≤◌, ◌<◌, Bool, List, ◌++◌, Some, map, slice_get, slice_set, unwrap_or, inl, inr, refl, sym, ap, subst, ◌∙◌, arith}
+use Rattle.std.proofs.Common.{◌≡◌, ◌⊎◌, ℕ, ◌+◌, ◌<◌, Bool, List, ◌++◌, Some, map, slice_get, slice_set, unwrap_or, inl, inr, refl, sym, ap, subst, ◌∙◌, arith}
 use Rattle.std.proofs.lemmas.List.Elements.{recursion_from_All}
 use Rattle.client_node.specs.Phases.{lasting_of, takes}
 use Rattle.core_world.specs.AnyNode.{any_step}
@@ -50,7 +50,7 @@ use Rattle.run_laws.proofs.world_law.RegistryTurns as boards
 use Rattle.run_laws.proofs.world_law.RegistryTurns.{registry_scene, registry_turn}
 use Rattle.run_laws.proofs.world_law.Sent.{was_sent}
 pub use Rattle.run_laws.specs.world_law.Since.{Since}
-use Rattle.run_laws.specs.world_law.Standing.{Fact, ManagerSees, PastAt, Scene, Stands, epoch_now, life_of_manager, members}
+use Rattle.run_laws.specs.world_law.Standing.{Fact, ManagerSees, PastAt, Scene, Stands, epoch_now, members}
 use Rattle.run_laws.proofs.world_law.Turning.{next_keeps}
 use Rattle.run_laws.specs.world_law.Owes.{BooksGo, ClientTold, ManagerTold, TurnOwes}
 use Rattle.run_laws.specs.world_law.Owners.{node_in}

@@ -34,7 +34,7 @@ use Rattle.run_laws.proofs.world_index.AskingCleans.{answers_silent}
 use Rattle.run_laws.proofs.world_index.AskingSays.{AllSilent, IsSilent, IsSilentBody}
 use Rattle.run_laws.proofs.world_index.AskingServing.{pushes_silent}
 use Rattle.run_laws.proofs.world_reads.CleanerChecking as serving
-use Rattle.run_laws.proofs.world_reads.CleanerChecking.{AllMay, At, BodyReadsMay, EffectMay, Kept, all_silent}
+use Rattle.run_laws.proofs.world_reads.CleanerChecking.{AllMay, At, BodyReadsMay, EffectMay, all_silent}
 use Rattle.run_laws.proofs.world_reads.CleanerChecks.{May}
 use Rattle.xfs_base.proofs.Booleans.{by_test}
 use Rattle.xfs_base.specs.declared.node.NodeId.{NodeId}

@@ -1,7 +1,7 @@
 -- Where the cleaner's log is open again: what it read back is what was filed, and the log is open as the books of tokens are.
 use Rattle.std.proofs.Common.{◌≡◌, ℕ, Bool, true, false, Option, None, Some, if◌then◌else◌, refl, sym, ap}
 use Rattle.cleaner_emptying.specs.declared.emptying.Emptying.{Emptying}
-use Rattle.cleaner_node.specs.CleanerEvents.{Went_to, after_opening, happens, hears, on_begin, on_deliver, on_time, opening_at, opening_begins, opening_wishes, phase_room, takes}
+use Rattle.cleaner_node.specs.CleanerEvents.{after_opening, happens, hears, on_begin, on_deliver, on_time, opening_at, opening_wishes, phase_room, takes}
 use Rattle.cleaner_node.specs.CleanerEvents as events
 use Rattle.cleaner_node.specs.declared.cleaner.Phase.TheVariants.{Opening, Serving}
 use Rattle.cleaner_node.specs.declared.cleaner.Wish.{Wish}
@@ -12,7 +12,6 @@ use Rattle.log_owner.specs.declared.opened.Progress.{Progress}
 use Rattle.log_owner.specs.declared.opened.Progress.TheVariants as progress
 use Rattle.log_owner.specs.declared.opening.Opening as openings
 use Rattle.log_owner.specs.Opening as opening
-use Rattle.log_owner.specs.Opening.{Went}
 use Rattle.node_base.specs.Beginning.{next_item}
 use Rattle.node_base.specs.declared.peers.Peers.{Peers}
 use Rattle.node_base.specs.Shape.{is_well_formed}

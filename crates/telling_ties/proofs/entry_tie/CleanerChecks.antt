@@ -19,7 +19,7 @@ use Rattle.stripe_cleaner.specs.Job.{Turn, next, next_of, counted, left_to_delet
 use Rattle.stripe_cleaner.specs.JobState.{JobState}
 use Rattle.stripe_cleaner.specs.Listing.{is_among, without}
 use Rattle.stripe_cleaner.specs.Transition as steps
-use Rattle.stripe_cleaner.specs.Transition.{Done, on_welcome, on_promise, forgetting, forgotten, mapped, listed, listed_in, on_list, counted_in, on_counts, usage_with, read_in, answered_in, moved_in, deleted_in, on_usage, on_live, on_dead, is_heard, may_move, welcomed, is_greeting, heard, transition}
+use Rattle.stripe_cleaner.specs.Transition.{Done, on_welcome, on_promise, forgetting, mapped, listed, listed_in, counted_in, usage_with, read_in, answered_in, moved_in, deleted_in, on_usage, on_live, on_dead, is_heard, may_move, welcomed, is_greeting, heard, transition}
 use Rattle.stripe_cleaner.specs.Promises.{is_above, is_promised}
 use Rattle.xfs_base.proofs.BlockOrder.{same_block_exact}
 use Rattle.xfs_base.proofs.Booleans.{by_test}
