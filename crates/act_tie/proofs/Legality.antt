@@ -147,7 +147,7 @@ legal_from [] h made s apart legal = tt
 legal_from (a ∷ acts) h made s apart legal = (
   legal_here a h made s apart.0 (λ b. (parts b).0),
   legal_from acts (after_act a h) (λ b. block.history_by (made b) (told_by b h a)) (λ b. act_shown b a h (made b) (s b) apart.0 (parts b).0) apart.1
-  (λ b. (parts b).1),
+      (λ b. (parts b).1),
 )
   where
     parts : (b : BlockId)

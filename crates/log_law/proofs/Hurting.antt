@@ -93,8 +93,14 @@ earned_through k w u reached (More {v = v} run step) clean i span some low hurt 
 
         lacked : Lacked w v i → HurtBefore w u i ⊎ Lacked w u i
         lacked a = inr
-            (record { moment = a.moment; before = a.before; later = More a.later step; head = a.head ∙ sym b.head; line = a.line ∙ sym b.line;
-            lacks = a.lacks })
+            (record {
+              moment = a.moment;
+              before = a.before;
+              later = More a.later step;
+              head = a.head ∙ sym b.head;
+              line = a.line ∙ sym b.line;
+              lacks = a.lacks;
+            })
 
 -- ---- one of the members isn't hurt, or all are
 

@@ -129,8 +129,7 @@ legal_steps w v Done h i m = (record { matches = m; legal = tt }, i)
 legal_steps w v (More {v = x} steps step) h i m =
     let before = legal_steps w x steps h i m in
     let acts = told w x steps in
-    let last = legal_step x v step (history_by h acts) before.1 before.0.matches in
-    (
+    let last = legal_step x v step (history_by h acts) before.1 before.0.matches in (
       record {
         matches = subst (λ (now : History). Matches now v) (sym (history_through acts (tells x v step) h)) last.matches;
         legal = legal_through acts (tells x v step) h before.0.legal last.legal;
