@@ -32,7 +32,7 @@ use Rattle.log_law.specs.Below.{Below}
 use Rattle.log_law.proofs.Views.{Ran, Behind, Flown}
 
 -- a log that takes one more input behind these
-behind : (s : LogState) (history : List In) (i : In) → (transition (state_after s history) i).state ≡ state_after s (history ++ i ∷ [])
+behind : (s : LogState) (history : List Input) (i : Input) → (transition (state_after s history) i).state ≡ state_after s (history ++ i ∷ [])
 behind s [] i = refl
 behind s (x ∷ history) i = behind (transition s x).state history i
 
