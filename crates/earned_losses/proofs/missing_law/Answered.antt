@@ -64,17 +64,17 @@ module _ (base : Setting) (e : Estate AnyNode) (run : IsRun any_step any_start e
 
   -- it was sent at this moment, in answer to a fetch of the reader that was sent by then, of what the server lacked then
   record Told (count v : ℕ) (m : Missing) : Type 0 where
-    at : ℕ
-    before : at ≤ count
+    when : ℕ
+    before : when ≤ count
     packet : Packet
-    among : In packet (moment e at).sent
+    among : In packet (moment e when).sent
     asker : packet.from ≡ reader
     fetch : Fetch
     asks : packet.body ≡ body.Fetch fetch
     name : m.name ≡ fetch.name
     ask : m.ask ≡ fetch.ask
     shelf : ShelfState
-    has_shelf : shelf_at (moment e at) v ≡ Some shelf
+    has_shelf : shelf_at (moment e when) v ≡ Some shelf
     in_generation : shelf.generation ≡ m.generation
     nothing : held_at shelf.held fetch.name ≡ None
 

@@ -39,7 +39,7 @@ module _ (base : Setting) (e : Estate AnyNode) (lines : HasLines base e) (texts 
   its_setting = setting base e OfCleaner
 
   abbrev pub its_scene : ℕ → Scene
-  its_scene count = its_line.at count
+  its_scene count = its_line.scene count
 
   abbrev pub its_moment : (count : ℕ) → Moment its_setting (its_scene count).net
   its_moment count = (its_line.stands count).moment
