@@ -16,7 +16,7 @@ use Rattle.token_protocol.specs.Acts as block
 use Rattle.token_protocol.specs.Acts.Act.{Wrote as WroteBlock, Read as ReadBlock, Synced as SyncedBlock, Back as BackBlock}
 use Rattle.token_protocol.specs.Basics.{put}
 use Rattle.act_tie.specs.Number.{number}
-use Rattle.act_tie.specs.BlockActs.{fall_of, is_adopted, told_by_sync, told_by_fall}
+use Rattle.act_tie.specs.BlockActs.{fall_of, is_adopted, acts_of_sync, acts_of_fall}
 use Rattle.act_tie.specs.Shown.{BlockShown, FallShown, FallsShown}
 use Rattle.act_tie.proofs.Falling.{cut_by, settled_told, settled_block}
 
@@ -48,7 +48,7 @@ module _ (b : BlockId) (p : BlockHistory) (told : ℕ → List FallTold) (t : bl
   -- ---- writes
 
   pub wrote_shown : (client : ℕ) (value : Content)
-      → BlockShown b (append (record { content = value; writer = client }) p) told (block.after_act t (WroteBlock client (number value)))
+      → BlockShown b (append (record { content = value; writer = client }) p) told (block.after_act (WroteBlock client (number value)) t)
   wrote_shown client value =
       let v : Version = record { content = value; writer = client } in
       record {
@@ -88,7 +88,7 @@ module _ (b : BlockId) (p : BlockHistory) (told : ℕ → List FallTold) (t : bl
       (λ other. grind (arith, nat_tests)) (λ own. grind (arith, nat_tests))
 
   pub read_shown : (client ver number : ℕ) → block.LegalRead t ver number
-      → BlockShown b (if is_by_other client ver p.versions then pin ver p else p) told (block.after_act t (ReadBlock client ver number))
+      → BlockShown b (if is_by_other client ver p.versions then pin ver p else p) told (block.after_act (ReadBlock client ver number) t)
   read_shown client zero number legal = let same =
       s.pinned in chosen false zero (if t.writer zero == client then t.pinned else max t.pinned zero) (λ other. absurd (cc)) (λ own. grind (arith, nat_tests))
   read_shown client (suc n) number legal = at_writer client n (slice_get p.versions n) refl (let a = legal.newest in let c = s.newest in omega arith)
@@ -137,10 +137,10 @@ module _ (b : BlockId) (p : BlockHistory) (told : ℕ → List FallTold) (t : bl
 
 -- a sync
 pub synced_shown : (b : BlockId) (p : BlockHistory) (told : ℕ → List FallTold) (t : block.History) (client n : ℕ) → BlockShown b p told t
-    → BlockShown b (pin n p) told (block.history_by t (told_by_sync client n))
+    → BlockShown b (pin n p) told (block.history_after (acts_of_sync client n) t)
 synced_shown b p told t client n s = go (nat_lt 0 n) refl
   where
-    go : (y : Bool) → nat_lt 0 n ≡ y → BlockShown b (pin n p) told (block.history_by t (if y then SyncedBlock client n ∷ [] else []))
+    go : (y : Bool) → nat_lt 0 n ≡ y → BlockShown b (pin n p) told (block.history_after (if y then SyncedBlock client n ∷ [] else []) t)
     go true some = pinned_shown b p told t s (max t.pinned n) (max n p.pinned) (let same = s.pinned in grind (arith, nat_tests))
     go false none = pinned_shown b p told t s t.pinned (max n p.pinned) (let same = s.pinned in grind (arith, nat_tests))
 
@@ -148,7 +148,7 @@ synced_shown b p told t client n s = go (nat_lt 0 n) refl
 pub fell_shown : (b : BlockId) (p : BlockHistory) (told : ℕ → List FallTold) (t : block.History) (client : ℕ) (flight : Option (ℕ × ℕ)) (falls : List Fall)
     → BlockShown b p told t → told client ≡ [] → NamesNoBlockTwice falls
     → BlockShown b p (λ c. if c == client then told c ++ (record { flight = flight; falls = falls }) ∷ [] else told c)
-    (block.history_by t (told_by_fall client (fall_of b falls)))
+    (block.history_after (acts_of_fall client (fall_of b falls)) t)
 fell_shown b p told t client flight falls s none once = by_named (fall_of b falls) refl
   where
     empty : (c : ℕ) → (c == client) ≡ true → told c ≡ []
@@ -163,7 +163,7 @@ fell_shown b p told t client flight falls s none once = by_named (fall_of b fall
 
     by_named : (o : Option Fall) → fall_of b falls ≡ o
         → BlockShown b p (λ c. if c == client then told c ++ (record { flight = flight; falls = falls }) ∷ [] else told c)
-        (block.history_by t (told_by_fall client o))
+        (block.history_after (acts_of_fall client o) t)
     by_named None fact =
         record { newest = s.newest; absent = s.absent; values = s.values; writers = s.writers; pinned = s.pinned; falls = λ c. go c (c == client) refl }
       where
@@ -187,15 +187,15 @@ fell_shown b p told t client flight falls s none once = by_named (fall_of b fall
 pub back_shown : (b : BlockId) (h : History) (t : block.History) (client : ℕ) (chain : List SegName) (ts : List FallTold) → BlockShown b (h.of_block b) h.told t
     → FallsShown b ts (t.fallen client) (t.low client) (t.high client) → block.LegalBack t client
     → BlockShown b ((settle chain ts h).of_block b) (λ c. if c == client then [] else (settle chain ts h).told c)
-    (block.after_act t (BackBlock client (is_adopted chain ts)))
+    (block.after_act (BackBlock client (is_adopted chain ts)) t)
 back_shown b h t client chain [] s none legal = uncut_shown b (h.of_block b) h.told t s client (t.low client) none
 back_shown b h t client chain (w ∷ []) s fell legal =
     let adopted = holds_flight chain w.flight in
     subst (λ (told : ℕ → List FallTold). BlockShown b ((settle_falls (holds_flight chain w.flight) w.falls h).of_block b)
-    (λ c. if c == client then [] else told c) (block.after_act t (BackBlock client (holds_flight chain w.flight))))
+    (λ c. if c == client then [] else told c) (block.after_act (BackBlock client (holds_flight chain w.flight)) t))
     (sym (settled_told adopted w.falls h))
     (subst (λ (p : BlockHistory). BlockShown b p (λ c. if c == client then [] else h.told c)
-    (block.after_act t (BackBlock client (holds_flight chain w.flight))))
+    (block.after_act (BackBlock client (holds_flight chain w.flight)) t))
     (sym (settled_block adopted w.falls h b fell.0))
     (by_fall b (h.of_block b) h.told t s client adopted (fall_of b w.falls) fell.1 legal))
 back_shown b h t client chain (w ∷ u ∷ ws) s none legal = absurd none

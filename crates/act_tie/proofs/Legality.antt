@@ -18,7 +18,7 @@ use Rattle.token_protocol.specs.Acts as block
 use Rattle.token_protocol.specs.Acts.Act.{Wrote as WroteBlock, Read as ReadBlock, Fell as FellBlock}
 use Rattle.token_protocol.proofs.Told.{history_through}
 use Rattle.act_tie.specs.Number.{number}
-use Rattle.act_tie.specs.BlockActs.{fall_of, told_by_fall, told_by, acts_from, acts_of}
+use Rattle.act_tie.specs.BlockActs.{fall_of, acts_of_fall, block_acts, acts_from, acts_of}
 use Rattle.act_tie.specs.Shown.{BlockShown, HistoryShown, IsApart, AreApartFrom, FallsApart}
 use Rattle.act_tie.proofs.Injection.{number-same}
 use Rattle.act_tie.proofs.Falling.{all_found}
@@ -67,7 +67,7 @@ abbrev AllShown : History → (BlockId → block.History) → Type 0
 AllShown h made = (b : BlockId) → HistoryShown b h (made b)
 
 abbrev AllLegal : Act → History → (BlockId → block.History) → Type 0
-AllLegal a h made = (b : BlockId) → block.LegalFrom (made b) (told_by b h a)
+AllLegal a h made = (b : BlockId) → block.LegalFrom (made b) (block_acts b h a)
 
 legal_here : (a : Act) (h : History) (made : BlockId → block.History) → AllShown h made → IsApart a h → AllLegal a h made → IsLegalIn a h
 legal_here (Wrote client q value) h made s apart legal = tt
@@ -83,7 +83,7 @@ legal_here (Fell client flight falls) h made s apart legal = (apart.1, walk fall
     walk [] found = tt
     walk (g ∷ gs) found =
         let here : block.LegalFrom (made g.block) (FellBlock client g.low g.high ∷ []) =
-        subst (λ o. block.LegalFrom (made g.block) (told_by_fall client o)) found.0 (legal g.block) in
+        subst (λ o. block.LegalFrom (made g.block) (acts_of_fall client o)) found.0 (legal g.block) in
         (may_fall g.block (h.of_block g.block) h.told (made g.block) (s g.block) client g here.0, walk gs found.1)
 legal_here (Back client chain) h made s apart legal = tt
 legal_here (Lost node seg) h made s apart legal = tt
@@ -93,12 +93,12 @@ legal_here (Answered node item answer) h made s apart legal = tt
 
 -- ---- each act keeps histories seen
 
-act_shown : (b : BlockId) (a : Act) (h : History) (t : block.History) → HistoryShown b h t → IsApart a h → block.LegalFrom t (told_by b h a)
-    → HistoryShown b (after_act a h) (block.history_by t (told_by b h a))
+act_shown : (b : BlockId) (a : Act) (h : History) (t : block.History) → HistoryShown b h t → IsApart a h → block.LegalFrom t (block_acts b h a)
+    → HistoryShown b (after_act a h) (block.history_after (block_acts b h a) t)
 act_shown b (Wrote client q value) h t s apart legal = go (same_block q b)
   where
     go : (y : Bool) → BlockShown b (if y then append (record { content = value; writer = client }) (h.of_block b) else h.of_block b) h.told
-        (block.history_by t (if y then WroteBlock client (number value) ∷ [] else []))
+        (block.history_after (if y then WroteBlock client (number value) ∷ [] else []) t)
     go true = wrote_shown b (h.of_block b) h.told t s client value
     go false = s
 act_shown b (Read client q ver value) h t s apart legal = go (same_block q b) refl legal
@@ -115,12 +115,12 @@ act_shown b (Read client q ver value) h t s apart legal = go (same_block q b) re
 
     go : (y : Bool) → same_block q b ≡ y → block.LegalFrom t (if y then ReadBlock client ver (number value) ∷ [] else [])
         → HistoryShown b (if is_by_other client ver (h.of_block q).versions then change q (pin ver) h else h)
-        (block.history_by t (if y then ReadBlock client ver (number value) ∷ [] else []))
+        (block.history_after (if y then ReadBlock client ver (number value) ∷ [] else []) t)
     go true same here =
         let one : b ≡ q = same_block_exact q b same in
         subst (λ (x : BlockId). HistoryShown b (if is_by_other client ver (h.of_block x).versions then change q (pin ver) h else h)
-        (block.after_act t (ReadBlock client ver (number value)))) one
-        (pinned_or (is_by_other client ver (h.of_block b).versions) true (block.after_act t (ReadBlock client ver (number value))) same
+        (block.after_act (ReadBlock client ver (number value)) t)) one
+        (pinned_or (is_by_other client ver (h.of_block b).versions) true (block.after_act (ReadBlock client ver (number value)) t) same
         (read_shown b (h.of_block b) h.told t s client ver (number value) here.0))
     go false same here = pinned_or (is_by_other client ver (h.of_block q).versions) false t same s
 act_shown b (Synced client) h t s apart legal = synced_shown b (h.of_block b) h.told t client (greatest_by client 1 (h.of_block b).versions) s
@@ -135,10 +135,10 @@ act_shown b (Answered node item answer) h t s apart legal = s
 
 -- of acts and those after them, each part is legal where it begins
 legal_parts : (acts more : List block.Act) (t : block.History) → block.LegalFrom t (acts ++ more)
-    → block.LegalFrom t acts × block.LegalFrom (block.history_by t acts) more
+    → block.LegalFrom t acts × block.LegalFrom (block.history_after acts t) more
 legal_parts [] more t legal = (tt, legal)
 legal_parts (act ∷ acts) more t legal =
-    let rest = legal_parts acts more (block.after_act t act) legal.1 in
+    let rest = legal_parts acts more (block.after_act act t) legal.1 in
     ((legal.0, rest.0), rest.1)
 
 legal_from : (acts : List Act) (h : History) (made : BlockId → block.History) → AllShown h made → AreApartFrom h acts
@@ -146,13 +146,13 @@ legal_from : (acts : List Act) (h : History) (made : BlockId → block.History) 
 legal_from [] h made s apart legal = tt
 legal_from (a ∷ acts) h made s apart legal = (
   legal_here a h made s apart.0 (λ b. (parts b).0),
-  legal_from acts (after_act a h) (λ b. block.history_by (made b) (told_by b h a)) (λ b. act_shown b a h (made b) (s b) apart.0 (parts b).0) apart.1
+  legal_from acts (after_act a h) (λ b. block.history_after (block_acts b h a) (made b)) (λ b. act_shown b a h (made b) (s b) apart.0 (parts b).0) apart.1
       (λ b. (parts b).1),
 )
   where
     parts : (b : BlockId)
-        → block.LegalFrom (made b) (told_by b h a) × block.LegalFrom (block.history_by (made b) (told_by b h a)) (acts_from b (after_act a h) acts)
-    parts b = legal_parts (told_by b h a) (acts_from b (after_act a h) acts) (made b) (legal b)
+        → block.LegalFrom (made b) (block_acts b h a) × block.LegalFrom (block.history_after (block_acts b h a) (made b)) (acts_from b (after_act a h) acts)
+    parts b = legal_parts (block_acts b h a) (acts_from b (after_act a h) acts) (made b) (legal b)
 
 begun : AllShown nothing_yet (λ b. block.no_history)
 begun b = record { newest = refl; absent = refl; values = λ v x fact. absurd (cc); writers = λ v x fact. absurd (cc); pinned = refl; falls = λ c. refl }
@@ -162,13 +162,13 @@ are_legal acts apart legal = legal_from acts nothing_yet (λ b. block.no_history
 
 -- one block alone is seen where its own acts are legal
 shown_from : (b : BlockId) (acts : List Act) (h : History) (t : block.History) → HistoryShown b h t → AreApartFrom h acts
-    → block.LegalFrom t (acts_from b h acts) → HistoryShown b (history_after acts h) (block.history_by t (acts_from b h acts))
+    → block.LegalFrom t (acts_from b h acts) → HistoryShown b (history_after acts h) (block.history_after (acts_from b h acts) t)
 shown_from b [] h t s apart legal = s
 shown_from b (a ∷ acts) h t s apart legal =
     let rest = acts_from b (after_act a h) acts in
-    let parts = legal_parts (told_by b h a) rest t legal in
-    subst (λ (u : block.History). HistoryShown b (history_after acts (after_act a h)) u) (sym (history_through (told_by b h a) rest t))
-    (shown_from b acts (after_act a h) (block.history_by t (told_by b h a)) (act_shown b a h t s apart.0 parts.0) apart.1 parts.1)
+    let parts = legal_parts (block_acts b h a) rest t legal in
+    subst (λ (u : block.History). HistoryShown b (history_after acts (after_act a h)) u) (sym (history_through (block_acts b h a) rest t))
+    (shown_from b acts (after_act a h) (block.history_after (block_acts b h a) t) (act_shown b a h t s apart.0 parts.0) apart.1 parts.1)
 
 pub are_shown : (acts : List Act) → FallsApart acts → (b : BlockId) → block.LegalActs (acts_of b acts)
     → HistoryShown b (history_after acts nothing_yet) (block.history (acts_of b acts))

@@ -23,30 +23,30 @@ is_adopted chain [] = false
 is_adopted chain (t ∷ ts) = holds_flight chain t.flight
 
 -- A sync is told with the greatest version of its client, where it has one.
-abbrev pub told_by_sync : ℕ → ℕ → List block.Act
-told_by_sync client version = if nat_lt 0 version then SyncedBlock client version ∷ [] else []
+abbrev pub acts_of_sync : ℕ → ℕ → List block.Act
+acts_of_sync client version = if nat_lt 0 version then SyncedBlock client version ∷ [] else []
 
 -- A fall is told where it names the block.
-abbrev pub told_by_fall : ℕ → Option Fall → List block.Act
-told_by_fall client None = []
-told_by_fall client (Some f) = FellBlock client f.low f.high ∷ []
+abbrev pub acts_of_fall : ℕ → Option Fall → List block.Act
+acts_of_fall client None = []
+acts_of_fall client (Some f) = FellBlock client f.low f.high ∷ []
 
 -- What an act that is done in this history tells of the block.
-abbrev pub told_by : BlockId → History → Act → List block.Act
-told_by b h (Wrote client block value) = if same_block block b then WroteBlock client (number value) ∷ [] else []
-told_by b h (Read client block ver value) = if same_block block b then ReadBlock client ver (number value) ∷ [] else []
-told_by b h (Synced client) = told_by_sync client (greatest_by client 1 (h.of_block b).versions)
-told_by b h (Fell client flight falls) = told_by_fall client (fall_of b falls)
-told_by b h (Back client chain) = BackBlock client (is_adopted chain (h.told client)) ∷ []
-told_by b h (Lost node seg) = []
-told_by b h (Filed seg) = []
-told_by b h (Dropped seg) = []
-told_by b h (Answered node item answer) = []
+abbrev pub block_acts : BlockId → History → Act → List block.Act
+block_acts b h (Wrote client block value) = if same_block block b then WroteBlock client (number value) ∷ [] else []
+block_acts b h (Read client block ver value) = if same_block block b then ReadBlock client ver (number value) ∷ [] else []
+block_acts b h (Synced client) = acts_of_sync client (greatest_by client 1 (h.of_block b).versions)
+block_acts b h (Fell client flight falls) = acts_of_fall client (fall_of b falls)
+block_acts b h (Back client chain) = BackBlock client (is_adopted chain (h.told client)) ∷ []
+block_acts b h (Lost node seg) = []
+block_acts b h (Filed seg) = []
+block_acts b h (Dropped seg) = []
+block_acts b h (Answered node item answer) = []
 
 -- What acts tell of it, the first of them done in this history.
 abbrev pub acts_from : BlockId → History → List Act → List block.Act
 acts_from b h [] = []
-acts_from b h (a ∷ acts) = told_by b h a ++ acts_from b (after_act a h) acts
+acts_from b h (a ∷ acts) = block_acts b h a ++ acts_from b (after_act a h) acts
 
 -- The acts of the block.
 abbrev pub acts_of : BlockId → List Act → List block.Act

@@ -16,6 +16,7 @@ use Rattle.xfs_base.specs.declared.block.BlockId.{BlockId}
 use Rattle.xfs_base.specs.declared.node.NodeId.{NodeId}
 use Rattle.xfs_base.specs.declared.node.NodeId.TheVariants as nodes
 use Rattle.xfs_base.specs.declared.segment.SegName.{SegName}
+use Rattle.xfs_base.specs.Limits.{max_value}
 use Rattle.audit.specs.declared.shape.Verb.{Verb}
 use Rattle.audit.specs.declared.shape.Verb.TheVariants as verbs
 use Rattle.audit.specs.Shapes.{front, back, shape_of}
@@ -91,7 +92,7 @@ read_version word = read_long (drop 1 word)
 -- a text that a block can hold
 abbrev pub value_of : List ℕ → Result (Option (List ℕ)) Kind
 value_of [] = Err BadText
-value_of (b ∷ bytes) = if nat_le (length (b ∷ bytes)) 8192 then Ok (Some (b ∷ bytes)) else Err TooLong
+value_of (b ∷ bytes) = if nat_le (length (b ∷ bytes)) max_value then Ok (Some (b ∷ bytes)) else Err TooLong
 
 abbrev pub read_value : List ℕ → Result (Option (List ℕ)) Kind
 read_value rest = if bytes_eq rest (codes "absent") then Ok None else (or_fault BadText (quoted_text rest) >>= value_of)

@@ -1,5 +1,6 @@
 -- A journal: its acts, line by line, or its first bad line.
 use Rattle.std.specs.Prelude.{◌≡◌, ℕ, ◌+◌, ◌==◌, Bool, true, false, ◌&&◌, ◌||◌, nat_lt, List, [], ◌∷◌, ◌++◌, length, slice_get, Option, Some, None, Result, Ok, Err, if◌then◌else◌}
+use Rattle.xfs_base.specs.Limits.{max_bytes}
 use Rattle.script_text.specs.declared.refusal.Kind.{Kind}
 use Rattle.script_text.specs.declared.refusal.Kind.TheVariants.{TooLong}
 use Rattle.script_text.specs.declared.refusal.ScriptError.{ScriptError}
@@ -41,7 +42,7 @@ pub record BadLine : Type 0 where
 
 -- the line that ends at this place holds byte 1,048,577 of the input, or comes after it
 abbrev pub is_past : ℕ → ℕ → Bool
-is_past total end = nat_lt 1048576 total && nat_lt 1048576 end
+is_past total end = nat_lt max_bytes total && nat_lt max_bytes end
 
 abbrev pub behind_line : ℕ → Result (Option Act) Kind → (Option Act → Result Journal BadLine) → Result Journal BadLine
 behind_line number (Ok act) f = f act

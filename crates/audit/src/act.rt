@@ -1,7 +1,5 @@
 //! Reading a line of an act.
-ghost use Rattle.std.specs.Prelude.{◌≡◌};
 ghost use Rattle.script_text.specs.Outcome.{Answers};
-ghost use Rattle.script_text.specs.Words.{first, behind};
 ghost use Rattle.audit.specs.Acts.{read_each, read_fall, read_segment, act_of, read_act};
 
 use crate::part::{

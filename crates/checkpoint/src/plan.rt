@@ -1,5 +1,5 @@
 //! Which pages a checkpoint writes.
-ghost use Rattle.std.specs.Prelude.{◌≡◌, length, IfOk};
+ghost use Rattle.std.specs.Prelude.{◌≡◌, IfOk};
 ghost use Rattle.checkpoint.specs.Plan.{writes_all, plan_of};
 
 use index_pages::Pages;

@@ -6,7 +6,7 @@ use Rattle.segment_format.specs.Format.{second_version, is_length}
 use Rattle.xfs_base.specs.declared.block.BlockId.{BlockId}
 use Rattle.xfs_base.specs.Modes.{is_own}
 use Rattle.xfs_base.specs.Value.{IsValue}
-use Rattle.xfs_base.specs.Limits.{u64_end}
+use Rattle.xfs_base.specs.Limits.{u64_end, max_value}
 use Rattle.token_client.specs.declared.held.Held.{Held}
 use Rattle.token_client.specs.Held.{may_write}
 use Rattle.client_parts.specs.Fitting.{block_fits, is_byte, value_fits, put_fits}
@@ -28,7 +28,7 @@ all_bytes (b ∷ bytes) h = both (is_byte b) (list_all is_byte bytes) (below b 2
 pub value_fits_so : (bytes : List ℕ) → IsValue (Some bytes) → list_all is_byte bytes ≡ true → value_fits (Some bytes) ≡ true
 value_fits_so bytes h all =
     both (is_length second_version (length bytes)) (list_all is_byte bytes)
-    (both (nat_le 1 (length bytes)) (nat_le (length bytes) 8192) (up_to 1 (length bytes) h.0) (up_to (length bytes) 8192 h.1)) all
+    (both (nat_le 1 (length bytes)) (nat_le (length bytes) max_value) (up_to 1 (length bytes) h.0) (up_to (length bytes) max_value h.1)) all
 
 -- a version that may be followed by another
 next_fits : (may : Bool) (ver : ℕ) → (may && nat_lt ver u64_end) ≡ true → nat_lt (ver + 1) (2 ^ 64) ≡ true

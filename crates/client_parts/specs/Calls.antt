@@ -1,6 +1,7 @@
 -- The call that is open: what it is to make on blocks, and its answer.
 use Rattle.std.specs.Prelude.{ℕ, Bool, ◌&&◌, nat_le, if◌then◌else◌, Option, Some, None}
 use Rattle.xfs_base.specs.declared.block.BlockId.{BlockId}
+use Rattle.xfs_base.specs.Limits.{max_lines}
 use Rattle.client_parts.specs.declared.call.Call.{Call}
 use Rattle.client_parts.specs.declared.call.Going.TheVariants.{On, Ends}
 use Rattle.client_parts.specs.declared.call.Going.{Going}
@@ -52,7 +53,7 @@ after_answer (File p) a = going (plan.after_answer p a)
 
 -- neither an item nor a client has a greater number
 abbrev pub may_make : ℕ → ℕ → Bool
-may_make number self = nat_le number 20000 && (nat_le 1 self && nat_le self 8)
+may_make number self = nat_le number max_lines && (nat_le 1 self && nat_le self 8)
 
 -- the call on files of an item
 abbrev pub file_call : FileCall → ℕ → ℕ → Option Going

@@ -8,6 +8,7 @@ use segment_reading::Reading;
 use std::alloc::Global;
 use std::mem;
 use version_model::{Answer, FileCall, Work};
+use xfs_base::limits::MAX_LINES;
 use xfs_base::{BlockId, Mem};
 
 /// What a call does after its present call on blocks.
@@ -113,7 +114,7 @@ fn file_call(alloc: Global, call: &FileCall, number: u32, client: u8) -> Mem<Opt
 fn may_make(number: u32, client: u8) -> bool
     ensures { result ≡ may_make number client }
 {
-    number <= 20000 && (1 <= client && client <= 8)
+    number <= MAX_LINES && (1 <= client && client <= 8)
 }
 
 fn stands_by(alloc: Global, plan: FilePlan) -> Mem<Going>

@@ -10,6 +10,7 @@ use Rattle.xfs_base.specs.declared.block.BlockId.{BlockId}
 use Rattle.xfs_base.specs.Blocks.{same_block}
 use Rattle.xfs_base.specs.Steps.{steps}
 use Rattle.xfs_base.proofs.BlockOrder.{same_block_itself}
+use Rattle.xfs_base.proofs.StepLoops.{steps_both}
 use Rattle.coop_cache.specs.declared.input.In.{In}
 use Rattle.coop_cache.specs.declared.input.In.TheVariants.{Clean, Touch, Dirty, Gone}
 use Rattle.coop_cache.specs.declared.output.Out.TheVariants.{Victim}
@@ -214,11 +215,6 @@ by_use capacity history =
     (same_rises (after_more never 0 history) (last_use history) (from_start history) blocks
     (all_rises never 0 (started capacity) history (λ b. omega arith) tt))
 
-one_more : (s : CacheState) (inputs : List In) (input : In)
-    → (steps transition s (inputs ++ input ∷ [])).state ≡ (transition (steps transition s inputs).state input).state
-one_more s [] input = refl
-one_more s (first ∷ later) input = one_more (transition s first).state later input
-
 none_told : (capacity : ℕ) (history : List In) → All (IsLeastUsed history (state_after capacity history).blocks) []
 none_told capacity history = All-nil (IsLeastUsed history (state_after capacity history).blocks)
 
@@ -229,7 +225,7 @@ victims_least capacity history (Clean block) =
     let s : CacheState = state_after capacity history in
     let blocks : List BlockId = used_last block s.blocks in
     let all : List In = history ++ Clean block ∷ [] in
-    subst (λ t. All (IsLeastUsed all t.blocks) (transition s (Clean block)).outs) (sym (one_more (started capacity) history (Clean block)))
+    subst (λ t. All (IsLeastUsed all t.blocks) (transition s (Clean block)).outs) (sym (steps_both transition (started capacity) history (Clean block ∷ [])))
     (left_out all (excess s.capacity blocks) blocks
     (same_rises (after_more never 0 all) (last_use all) (from_start all) blocks
     (cached_rises never 0 (started capacity) history block (λ b. omega arith) tt)))

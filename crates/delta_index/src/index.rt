@@ -4,7 +4,7 @@ ghost use Rattle.std.specs.List.Sorted.{IsStrictlySortedBy};
 ghost use Rattle.std.specs.Map.{keys_of};
 ghost use Rattle.xfs_base.specs.Blocks.{block_cmp};
 ghost use Rattle.xfs_base.specs.declared.block.BlockId.{BlockId};
-ghost use Rattle.delta_index.specs.Entries.{no_entry, is_newer};
+ghost use Rattle.delta_index.specs.Entries.{is_newer};
 ghost use Rattle.delta_index.specs.Index.{entry_of, merged, merged_all, HoldsJust};
 ghost use Rattle.delta_index.specs.Join.{join};
 

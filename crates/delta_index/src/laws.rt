@@ -4,7 +4,7 @@ ghost use Rattle.std.specs.Prelude.{◌≡◌, ◌≢◌, ◌↔◌, IsTrue, Lis
 ghost use Rattle.xfs_base.specs.declared.block.BlockId.{BlockId};
 ghost use Rattle.xfs_base.specs.declared.entry.Entry.{Entry};
 ghost use Rattle.delta_index.specs.Entries.{no_entry, is_newer, first_greatest, HasSameRank, DiffersInRank};
-ghost use Rattle.delta_index.specs.Index.{entry_of, merged, merged_all};
+ghost use Rattle.delta_index.specs.Index.{entry_of, merged_all};
 ghost use Rattle.delta_index.specs.Join.{entries_of, join, IsJoin, MayChangePlaces};
 
 /// After any list of merges an index holds of each block the join of them.

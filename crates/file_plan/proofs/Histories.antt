@@ -20,6 +20,7 @@ use Rattle.file_plan.proofs.Measuring.{size_meets, get_meets}
 use Rattle.file_plan.proofs.Moving.{mv_meets}
 use Rattle.file_plan.proofs.Removing.{rm_meets}
 use Rattle.xfs_base.specs.declared.block.Ino.{Ino}
+use Rattle.xfs_base.specs.Limits.{max_lines}
 use Rattle.file_plan.specs.declared.node.Kind.{Kind}
 use Rattle.file_plan.specs.declared.node.Kind.TheVariants as kind
 use Rattle.file_plan.specs.Calls.{root}
@@ -70,7 +71,7 @@ weaker p (suc n) answers w Q R f h =
     (λ a v g. weaker p n (answers ++ a ∷ []) v Q R f g) h
 
 -- numbers of different items differ, and fit
-made_fits : (number client : ℕ) → number ≤ 20000 → client ≤ 8 → (made_by number client).0 < 2 ^ 32
+made_fits : (number client : ℕ) → number ≤ max_lines → client ≤ 8 → (made_by number client).0 < 2 ^ 32
 made_fits number client h g = omega (arith, h, g)
 
 made_some : (number client : ℕ) → 1 ≤ client → made_by number client ≢ root

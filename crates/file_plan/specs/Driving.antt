@@ -7,6 +7,7 @@ use Rattle.version_model.specs.declared.file_call.FileCall.{FileCall}
 use Rattle.version_model.specs.declared.file_call.FileCall.TheVariants as call
 use Rattle.version_model.specs.History.{Content}
 use Rattle.xfs_base.specs.declared.block.Ino.{Ino}
+use Rattle.xfs_base.specs.Limits.{max_text, max_lines}
 use Rattle.file_plan.specs.declared.block_call.BlockAnswer.{BlockAnswer}
 use Rattle.file_plan.specs.declared.block_call.BlockAnswer.TheVariants.{Got, Changed, Synced}
 use Rattle.file_plan.specs.declared.block_call.BlockAnswer.TheVariants.{Put as Written}
@@ -86,8 +87,8 @@ MeetsTree c =
 abbrev pub IsShort : FileCall → Type 0
 IsShort (call.Mk path) = length path ≤ 16
 IsShort (call.Mkdir path) = length path ≤ 16
-IsShort (call.Put path offset bytes) = (length path ≤ 16) × (length bytes ≤ 65536)
-IsShort (call.Get path offset len) = (length path ≤ 16) × (len ≤ 65536)
+IsShort (call.Put path offset bytes) = (length path ≤ 16) × (length bytes ≤ max_text)
+IsShort (call.Get path offset len) = (length path ≤ 16) × (len ≤ max_text)
 IsShort (call.Size path) = length path ≤ 16
 IsShort (call.Ls path) = length path ≤ 16
 IsShort (call.Rm path) = length path ≤ 16
@@ -108,7 +109,7 @@ made_of item = made_by item.number item.client
 abbrev pub AreItems : List Item → Type 0
 AreItems [] = Unit {0}
 AreItems (item ∷ items) =
-    (item.number ≤ 20000) × (1 ≤ item.client) × (item.client ≤ 8)
+    (item.number ≤ max_lines) × (1 ≤ item.client) × (item.client ≤ 8)
     × AllByRecursion (λ other. (other.number ≡ item.number) × (other.client ≡ item.client) → ⊥) items × AreItems items
 
 -- Each call replies as the tree has it that the calls before it left.

@@ -1,6 +1,6 @@
 //! The form of a bucket: its entries in strictly rising order of names, each the byte of its kind, its
 //! index number in four bytes, the length of its name in one, and its name.
-ghost use Rattle.std.specs.Prelude.{◌≡◌, ◌&&◌, ◌++◌, ◌∷◌, [], ◌<◌, ◌≤◌, ◌+◌, IfOk, IfSome, OnOk, MatchOption, None, Some, length, IsTrue};
+ghost use Rattle.std.specs.Prelude.{◌≡◌, ◌&&◌, ◌++◌, ◌<◌, ◌+◌, IfOk, OnOk, None, Some, length, IsTrue};
 ghost use Rattle.std.specs.FinMap.Entries.{is_sorted};
 ghost use Rattle.file_plan.specs.Names.{name_cmp, is_good};
 ghost use Rattle.file_plan.specs.Format.{kind_byte, kind_of, is_kind_byte, row_text, rows_text, has_row, front_row, rest_of_rows, rows_from, read_rows};

@@ -1,5 +1,5 @@
 //! Bytes of blocks.
-ghost use Rattle.std.specs.Prelude.{◌≡◌, ◌+◌, ◌<◌, ◌≤◌, ◌^◌, ◌++◌, IfOk, OnOk, length, take, drop};
+ghost use Rattle.std.specs.Prelude.{◌≡◌, ◌+◌, ◌<◌, ◌^◌, ◌++◌, IfOk, length, drop};
 ghost use Rattle.xfs_base.specs.Value.{IsValue};
 ghost use Rattle.file_plan.specs.Format.{bytes_in, content_of, overlaid, cut_of};
 

@@ -1,6 +1,6 @@
 //! The bytes of a file, block by block.
-ghost use Rattle.std.specs.Prelude.{◌≡◌, ◌<◌, ◌≤◌, ◌^◌, min, length, nat_lt, if◌then◌else◌, IfOk, IfSome};
-ghost use Rattle.file_plan.specs.Format.{file_end};
+ghost use Rattle.std.specs.Prelude.{◌≡◌, ◌<◌, ◌≤◌, min, IfOk, IfSome};
+ghost use Rattle.xfs_base.specs.Limits.{max_bytes};
 ghost use Rattle.file_plan.specs.Plan.{filling, putting, fetching, in_block, emptying, blocks_of, measured_as, measured};
 
 use crate::places::{BLOCK_SIZE, FILE_END};
@@ -88,14 +88,14 @@ pub(crate) fn emptying(ino: Ino, blk: u32, left: u32, ver: u64) -> PlanState
 }
 
 fn blocks_of(size: u32) -> u32
-    requires { size ≤ 1048576 }
+    requires { size ≤ max_bytes }
     ensures { result ≡ blocks_of size }
 {
     (size + (BLOCK_SIZE - 1)) / BLOCK_SIZE
 }
 
 fn measured_as(alloc: Global, ino: Ino, task: Task, ver: u64, size: u32) -> Mem<PlanState>
-    requires { size ≤ 1048576 }
+    requires { size ≤ max_bytes }
     ensures { IfOk result (λ state. state ≡ measured_as ino task ver size) }
 {
     match task {
@@ -128,7 +128,7 @@ pub(crate) fn measured(
     ver: u64,
     size: Option<u32>,
 ) -> Mem<PlanState>
-    requires { IfSome size (λ size. size ≤ 1048576) }
+    requires { IfSome size (λ size. size ≤ max_bytes) }
     ensures { IfOk result (λ state. state ≡ measured ino task ver size) }
 {
     match size {

@@ -1,6 +1,6 @@
 //! What is done at the last name of a path.
 ghost use Rattle.std.specs.Prelude.{◌≡◌, IfOk};
-ghost use Rattle.file_plan.specs.Plan.{fits, entering, leaving, needs_file, at_entry, found, unfound, looked_at, looked, entered};
+ghost use Rattle.file_plan.specs.Plan.{fits, entering, leaving, needs_file, at_entry, found, unfound, looked, entered};
 
 use crate::bucket::bucket_bytes;
 use crate::content::putting;

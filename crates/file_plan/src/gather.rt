@@ -1,5 +1,5 @@
 //! The listing of a directory: its eight buckets in turn.
-ghost use Rattle.std.specs.Prelude.{◌≡◌, ◌≤◌, ◌+◌, ◌<◌, ◌^◌, IfOk, map};
+ghost use Rattle.std.specs.Prelude.{◌≡◌, ◌+◌, ◌<◌, ◌^◌, IfOk, map};
 ghost use Rattle.file_plan.specs.Plan.{gathering, gathered, shown};
 
 use crate::rows::insert_all;

@@ -1,5 +1,6 @@
 //! A call on files as a plan.
 ghost use Rattle.std.specs.Prelude.{◌≡◌, ◌-◌, ◌<◌, ◌≤◌, IfOk, Some, length, take};
+ghost use Rattle.xfs_base.specs.Limits.{max_lines};
 ghost use Rattle.file_plan.specs.Calls.{block_size};
 ghost use Rattle.file_plan.specs.Format.{bytes_in, content_of, overlaid};
 ghost use Rattle.file_plan.specs.Ranges.{IsInRange};
@@ -37,7 +38,7 @@ impl Model for FilePlan {
 /// The index number that a client makes with its item of this number: its slot is of the client's own
 /// manager (the 1996 paper, "File Directories and Index Numbers").
 pub fn made_by(number: u32, client: u8) -> Ino
-    requires numbered { number ≤ 20000 }
+    requires numbered { number ≤ max_lines }
     requires client { 1 ≤ client }
     requires of_eight { client ≤ 8 }
     ensures { result ≡ made_by number client }
@@ -195,7 +196,7 @@ pub fn plan(
     client: u8,
     so_far: &[BlockAnswer],
 ) -> Mem<Next>
-    requires numbered { number ≤ 20000 }
+    requires numbered { number ≤ max_lines }
     requires client { 1 ≤ client }
     requires of_eight { client ≤ 8 }
     ensures { IfOk result (λ step. step ≡ plan call.now number client so_far.now) }

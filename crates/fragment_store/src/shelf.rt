@@ -1,9 +1,8 @@
 //! The shelf.
-ghost use Rattle.std.specs.Prelude.{◌≡◌, ◌≢◌, ◌↔◌, ◌⊎◌, ◌||◌, IfOk, OnOk, OnErr, IsErrOf, IsTrue, MatchResult, Some, None, Contains, List as Seq, map, not};
+ghost use Rattle.std.specs.Prelude.{◌≡◌, ◌≢◌, ◌↔◌, ◌⊎◌, ◌||◌, IfOk, OnOk, OnErr, IsErrOf, MatchResult, Some, None, Contains, map, not};
 ghost use Rattle.std.specs.List.Sorted.{IsStrictlySortedBy};
 ghost use Rattle.xfs_base.specs.declared.segment.SegName.{SegName};
-ghost use Rattle.xfs_base.specs.Segments.{pass_cmp, seg_cmp};
-ghost use Rattle.xfs_base.specs.Stamps.{is_greater};
+ghost use Rattle.xfs_base.specs.Segments.{seg_cmp};
 ghost use Rattle.fragment_store.specs.declared.store_error.StoreError.TheVariants.{Memory};
 ghost use Rattle.fragment_store.specs.ShelfState.{ShelfState, new_shelf, held_at, is_held, is_marked, fence_of};
 ghost use Rattle.fragment_store.specs.Calls.{store_refused, kept, on_fence, on_list, on_delete, on_fill, on_lose, barred, in_order};

@@ -1,6 +1,5 @@
 //! The reading of the wanted segments, one after the other.
-ghost use Rattle.std.specs.Prelude.{◌≡◌, ◌++◌, IfOk, OnOk, All, IsTrue, Some, None, map};
-ghost use Rattle.std.specs.Option.{ForSome};
+ghost use Rattle.std.specs.Prelude.{◌≡◌, ◌++◌, OnOk, All, IsTrue, Some, None};
 ghost use Rattle.group_rebuild.specs.declared.output.Out.TheVariants.{Fetch};
 ghost use Rattle.group_rebuild.specs.Reads.{ReadsState, counts, fetches, go_on, judged, on_answer, on_tick, at_first};
 ghost use Rattle.group_rebuild.specs.Wanted.{IsWanted};

@@ -1,8 +1,8 @@
 //! The rebuild.
-ghost use Rattle.std.specs.Prelude.{◌≡◌, ◌++◌, ◌==◌, IfOk, OnOk, Contains, List as Seq, map, Some, None};
+ghost use Rattle.std.specs.Prelude.{◌≡◌, ◌++◌, ◌==◌, IfOk, OnOk, Some, None};
 ghost use Rattle.std.specs.List.{list_any};
 ghost use Rattle.group_rebuild.specs.RebuildState.{started};
-ghost use Rattle.group_rebuild.specs.Transition.{awaited, listed_with, without, heard_from, awaits, lists, begun, on_listed, on_told, on_tick, transition};
+ghost use Rattle.group_rebuild.specs.Transition.{awaited, listed_with, without, awaits, lists, begun, on_listed, on_told, on_tick, transition};
 
 use crate::input::In;
 use crate::output::Out;

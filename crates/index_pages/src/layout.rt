@@ -1,5 +1,5 @@
 //! Which blocks share a page.
-ghost use Rattle.std.specs.Prelude.{◌≡◌, ◌+◌, ◌<◌, ◌^◌, map, IfOk};
+ghost use Rattle.std.specs.Prelude.{◌≡◌, ◌+◌, ◌<◌, ◌^◌, IfOk};
 ghost use Rattle.index_pages.specs.Layout.{first_block, is_direct, blocks_run, blocks_on};
 
 use std::alloc::Global;

@@ -13,7 +13,6 @@ use Rattle.xfs_base.proofs.Orders.{seg_cmp_total}
 use Rattle.token_manager.specs.declared.output.Out.{Out}
 use Rattle.token_manager.specs.declared.output.Out.TheVariants.{Live, Dead}
 use Rattle.token_manager.specs.Transition.{entry_at, is_place}
-use Rattle.log_protocol.specs.IndexState.{IndexState}
 use Rattle.log_protocol.specs.IndexState as index
 use Rattle.log_protocol.proofs.IndexInduction.{index_is_join_always, index_in_bounds_always}
 use Rattle.index_tie.specs.Filed.{Filed, row_at, Names}

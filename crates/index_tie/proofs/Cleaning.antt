@@ -34,7 +34,7 @@ use Rattle.stripe_cleaner.specs.JobState.{JobState}
 use Rattle.stripe_cleaner.specs.Listing.{ListingState, begun, is_among, without}
 use Rattle.stripe_cleaner.specs.Promises.{promised_at, promised_with, is_above, is_promised}
 use Rattle.stripe_cleaner.specs.Transition as step
-use Rattle.stripe_cleaner.specs.Transition.{Done, turned, is_greeting, lists, usage_asks, welcomed, on_welcome, forgotten, forgetting, on_promise, mapped, listed, heard, on_list, usage_with, on_counts, listed_in, counted_in, read_in, answered_in, moved_in, deleted_in, awaits, on_usage, is_heard, may_move, on_live, on_dead, transition}
+use Rattle.stripe_cleaner.specs.Transition.{Done, turned, is_greeting, lists, usage_asks, welcomed, on_welcome, forgotten, forgetting, on_promise, mapped, listed, heard, usage_with, listed_in, counted_in, read_in, answered_in, moved_in, deleted_in, awaits, on_usage, is_heard, may_move, on_live, on_dead, transition}
 use Rattle.log_protocol.specs.IndexState.{IndexState}
 use Rattle.log_protocol.specs.IndexSteps.{IndexSteps, promises, counts, drops_row}
 use Rattle.log_protocol.specs.IndexSteps.IndexSteps.{Done as Ended, More}

@@ -2,6 +2,7 @@
 use Rattle.std.proofs.Common.{◌≡◌, ℕ, zero, suc, ◌+◌, ◌-◌, ◌≤◌, Bool, true, false, nat_lt, ◌&&◌, List, [], ◌∷◌, ◌++◌, length, map, slice_get, refl, sym, ◌∙◌, ap, subst, arith, Option, Some, None, Result, Ok, Err, if◌then◌else◌, append-nil, append_assoc}
 use Rattle.std.specs.List.{AllByRecursion}
 use Rattle.std.proofs.lemmas.Bool.Decides.{nat_tests}
+use Rattle.xfs_base.specs.Limits.{max_bytes}
 use Rattle.act_text.specs.Acts.{line_of}
 use Rattle.audit.specs.Acts.{read_act}
 use Rattle.audit.specs.Journal.{BadLine, is_skipped, said, noted, is_past, behind_line, journal_from, read_journal, Says, IsAudited}
@@ -80,13 +81,13 @@ is_read j = Ok j
 abbrev with_entries : ℕ → Journal → List Entry → Journal
 with_entries n j es = record { acts = j.acts ++ acts_in es; lines = j.lines ++ numbers_from n es }
 
-not_past : (total end : ℕ) → total ≤ 1048576 → is_past total end ≡ false
-not_past total end h = at_test (nat_lt 1048576 total) (small total h)
+not_past : (total end : ℕ) → total ≤ max_bytes → is_past total end ≡ false
+not_past total end h = at_test (nat_lt max_bytes total) (small total h)
   where
-    small : (n : ℕ) → n ≤ 1048576 → nat_lt 1048576 n ≡ false
+    small : (n : ℕ) → n ≤ max_bytes → nat_lt max_bytes n ≡ false
     small n l = grind (arith, nat_tests, l)
 
-    at_test : (t : Bool) → t ≡ false → (t && nat_lt 1048576 end) ≡ false
+    at_test : (t : Bool) → t ≡ false → (t && nat_lt max_bytes end) ≡ false
     at_test t e = rw e refl
 
 within : (bad next : Result Journal BadLine) (t : Bool) → t ≡ false → (if t then bad else next) ≡ next
@@ -100,7 +101,7 @@ with_one n j (Tells act) es =
     λ i. record { acts = append_assoc j.acts (act ∷ []) (acts_in es) i; lines = append_assoc j.lines (n ∷ []) (numbers_from (n + 1) es) i }
 with_one n j (Other line) es = refl
 
-entries_read : (total place n : ℕ) (es : List Entry) (j : Journal) → total ≤ 1048576 → AllByRecursion IsEntry es
+entries_read : (total place n : ℕ) (es : List Entry) (j : Journal) → total ≤ max_bytes → AllByRecursion IsEntry es
     → journal_from total place n (map entry_line es) j ≡ is_read (with_entries n j es)
 entries_read total place n [] j t a = ap is_read (with_none n j)
 entries_read total place n (e ∷ es) j t a =

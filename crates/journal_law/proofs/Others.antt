@@ -27,6 +27,7 @@ use Rattle.xfs_base.specs.declared.block.BlockId.{BlockId}
 use Rattle.xfs_base.specs.declared.node.NodeId.{NodeId}
 use Rattle.xfs_base.specs.declared.node.NodeId.TheVariants as nodes
 use Rattle.xfs_base.specs.declared.segment.SegName.{SegName}
+use Rattle.xfs_base.specs.Limits.{max_value}
 use Rattle.journal_law.specs.Told.{IsCount, IsClient, IsBlock, IsVersion, IsContent, IsSegment, IsFlight, IsFall, IsTold, NoOtherActIsRead}
 
 abbrev good : {X : Type 0} → X → Result X Kind
@@ -161,15 +162,15 @@ fall_is w f e =
 
 -- ---- values
 
-few : (text : List ℕ) (value : Option (List ℕ)) → value_of text ≡ Ok value → (1 ≤ length text) × (length text ≤ 8192) × (Some text ≡ value)
+few : (text : List ℕ) (value : Option (List ℕ)) → value_of text ≡ Ok value → (1 ≤ length text) × (length text ≤ max_value) × (Some text ≡ value)
 few [] value e = absurd (err_ok BadText value e)
-few (b ∷ bytes) value e = at_length (nat_le (length (b ∷ bytes)) 8192) refl e
+few (b ∷ bytes) value e = at_length (nat_le (length (b ∷ bytes)) max_value) refl e
   where
-    small : (n : ℕ) → nat_le n 8192 ≡ true → n ≤ 8192
+    small : (n : ℕ) → nat_le n max_value ≡ true → n ≤ max_value
     small n f = grind (arith, nat_tests, f)
 
-    at_length : (t : Bool) → nat_le (length (b ∷ bytes)) 8192 ≡ t → (if t then good (Some (b ∷ bytes)) else Err TooLong) ≡ Ok value
-        → (1 ≤ length (b ∷ bytes)) × (length (b ∷ bytes) ≤ 8192) × (Some (b ∷ bytes) ≡ value)
+    at_length : (t : Bool) → nat_le (length (b ∷ bytes)) max_value ≡ t → (if t then good (Some (b ∷ bytes)) else Err TooLong) ≡ Ok value
+        → (1 ≤ length (b ∷ bytes)) × (length (b ∷ bytes) ≤ max_value) × (Some (b ∷ bytes) ≡ value)
     at_length true f g = (omega arith, small (length (b ∷ bytes)) f, same_ok (Some (b ∷ bytes)) value g)
     at_length false f g = absurd (err_ok TooLong value g)
 

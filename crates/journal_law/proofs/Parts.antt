@@ -28,6 +28,7 @@ use Rattle.xfs_base.specs.declared.block.BlockId.{BlockId}
 use Rattle.xfs_base.specs.declared.node.NodeId.{NodeId}
 use Rattle.xfs_base.specs.declared.node.NodeId.TheVariants as nodes
 use Rattle.xfs_base.specs.declared.segment.SegName.{SegName}
+use Rattle.xfs_base.specs.Limits.{max_value}
 use Rattle.journal_law.specs.Told.{IsCount, IsClient, IsBlock, IsVersion, IsContent, IsSegment, IsFlight, IsFall}
 use Rattle.journal_law.proofs.Bytes.{and_true, decimal_begins, begins_join, decimal_lacks, no_word, front_of, back_of}
 
@@ -218,9 +219,9 @@ fall_read f h =
 
 -- ---- values
 
-few_bytes : (bytes : List ℕ) → 1 ≤ length bytes → length bytes ≤ 8192 → value_of bytes ≡ Ok (Some bytes)
+few_bytes : (bytes : List ℕ) → 1 ≤ length bytes → length bytes ≤ max_value → value_of bytes ≡ Ok (Some bytes)
 few_bytes [] l u = absurd (omega (arith, l))
-few_bytes (b ∷ bytes) l u = let e : nat_le (length (b ∷ bytes)) 8192 ≡ true = grind (arith, nat_tests, u) in rw e refl
+few_bytes (b ∷ bytes) l u = let e : nat_le (length (b ∷ bytes)) max_value ≡ true = grind (arith, nat_tests, u) in rw e refl
 
 pub value_read : (value : Option (List ℕ)) → IsContent value → read_value (value_text value) ≡ Ok value
 value_read None h = refl

@@ -23,6 +23,7 @@ use Rattle.world_base.specs.Items.{actor_of}
 use Rattle.world_base.specs.declared.estate.Estate.{Estate}
 use Rattle.xfs_base.specs.declared.node.NodeId.{NodeId}
 use Rattle.xfs_base.specs.declared.segment.SegName.{SegName}
+use Rattle.xfs_base.specs.Limits.{max_bytes}
 use Rattle.journal_law.specs.Told.{IsTold}
 use Rattle.journal_law.specs.Journals.{Entry, Tells, Other, IsEntry, entry_text, journal_text, acts_in, numbers_from, IsJournal, JudgesByLine}
 use Rattle.journal_law.specs.Runs.{IsOneLine, IsPrinted, told, IsPrintedRun, IsReadAsPrinted, IsJudgedByItsActs}
@@ -297,7 +298,7 @@ module _ {N : Type 0} (e : Estate N) where
     each = good_join head_entries (tells_all (told e.world.acts) ++ last_entry ∷ [])
         (lines_good e.world.acts (replies_of e.world.acts) h.acts [] e.script.lines)
         (good_join (tells_all (told e.world.acts)) (last_entry ∷ []) (told_good e.world.acts h.acts) (end_good (items_in e) (open_items e), tt));
-    short = subst (λ t. length t ≤ 1048576) (sym (run_text h.asked)) h.short;
+    short = subst (λ t. length t ≤ max_bytes) (sym (run_text h.asked)) h.short;
   }
 
   pub run_read : IsReadAsPrinted e

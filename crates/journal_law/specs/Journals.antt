@@ -1,6 +1,7 @@
 -- Journals of such acts, with lines among them that tell no act, and the verdict on them.
 use Rattle.std.specs.Prelude.{◌≡◌, ℕ, ◌+◌, ◌-◌, ◌≤◌, true, List, [], ◌∷◌, ◌++◌, length, slice_get, Option, Some, None, Ok}
 use Rattle.std.specs.List.{AllByRecursion, filter_map}
+use Rattle.xfs_base.specs.Limits.{max_bytes}
 use Rattle.act_text.specs.Acts.{act_text, line_of}
 use Rattle.audit.specs.Journal.{is_skipped, read_journal, IsAudited}
 use Rattle.audit.specs.declared.journal.Journal.{Journal}
@@ -52,7 +53,7 @@ numbers_from n (e ∷ es) = number_in n e ++ numbers_from (n + 1) es
 -- a journal that can be read: of good lines, and not too long
 pub record IsJournal (entries : List Entry) : Type 0 where
   pub each : AllByRecursion IsEntry entries
-  pub short : length (journal_text entries) ≤ 1048576
+  pub short : length (journal_text entries) ≤ max_bytes
 
 abbrev pub journal_of : List Entry → Journal
 journal_of entries = record { acts = acts_in entries; lines = numbers_from 1 entries }

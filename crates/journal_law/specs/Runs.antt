@@ -1,6 +1,7 @@
 -- The text of a run is a journal of the run's acts.
 use Rattle.std.specs.Prelude.{◌≡◌, ℕ, ◌≤◌, true, not, List, length, filter, Ok}
 use Rattle.std.specs.List.{AllByRecursion}
+use Rattle.xfs_base.specs.Limits.{max_bytes}
 use Rattle.audit.specs.Journal.{read_journal, IsAudited}
 use Rattle.script_text.specs.Words.{Lacks}
 use Rattle.transcript.specs.Replies.{is_answer}
@@ -40,7 +41,7 @@ module _ {N : Type 0} where
   pub record IsPrintedRun (e : Estate N) : Type 0 where
     pub asked : e.script.setup.acts ≡ true
     pub acts : AllByRecursion IsPrinted e.world.acts
-    pub short : length (text_of e) ≤ 1048576
+    pub short : length (text_of e) ≤ max_bytes
 
   -- The text of such a run is read as all its acts that are no answers, in their order.
   abbrev pub IsReadAsPrinted : Estate N → Type 0

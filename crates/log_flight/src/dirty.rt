@@ -1,5 +1,5 @@
 //! What waits to be written, in the order of the first change.
-ghost use Rattle.std.specs.Prelude.{◌≡◌, [], take, drop, length, OnOk, IfOk, if◌then◌else◌};
+ghost use Rattle.std.specs.Prelude.{◌≡◌, [], take, drop, length, OnOk, IfOk};
 ghost use Rattle.indexmap.specs.IndexMap.{insert_entry};
 ghost use Rattle.xfs_base.specs.Blocks.{same_block};
 ghost use Rattle.xfs_base.specs.Limits.{segment_blocks};

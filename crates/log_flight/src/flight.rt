@@ -1,5 +1,5 @@
 //! A segment that is not settled.
-ghost use Rattle.std.specs.Prelude.{◌≡◌, ◌<◌, length, count_by, slice_set, IfOk, true};
+ghost use Rattle.std.specs.Prelude.{◌≡◌, ◌<◌, length, slice_set, IfOk, true};
 ghost use Rattle.segment_format.specs.declared.segment.Segment.{Segment};
 ghost use Rattle.segment_format.specs.Text.{KeepsLimits};
 ghost use Rattle.stripe_code.specs.Fragments.{same_name};

@@ -6,6 +6,7 @@ use Rattle.xfs_base.specs.declared.segment.End.{End}
 use Rattle.xfs_base.specs.declared.segment.LogId.{LogId}
 use Rattle.xfs_base.specs.declared.segment.Prior.{Prior}
 use Rattle.xfs_base.specs.declared.segment.SegName.{SegName}
+use Rattle.xfs_base.proofs.StepLoops.{steps_both}
 use Rattle.segment_format.specs.declared.segment.Segment.{Segment}
 use Rattle.segment_format.specs.Ranges.{Fits}
 use Rattle.segment_format.specs.Text.{text_of, IsText}
@@ -15,7 +16,7 @@ use Rattle.log_flight.specs.Flights.{FlightState}
 use Rattle.client_log.specs.declared.input.In.{In as Input}
 use Rattle.client_log.specs.declared.output.Out.{Out}
 use Rattle.client_log.specs.declared.output.Out.TheVariants.{Send, Settled}
-use Rattle.client_log.specs.History.{state_after, IsNext, IsInLine, settled_ends, EndRisesByOne, TellsWhatIsDue}
+use Rattle.client_log.specs.History.{IsNext, IsInLine, settled_ends, EndRisesByOne, TellsWhatIsDue}
 use Rattle.client_log.specs.LogState.{LogState, started}
 use Rattle.client_log.specs.Transition.{transition, end_from}
 use Rattle.log_scan.specs.Transition.{name_at, end_below}
@@ -31,11 +32,6 @@ use Rattle.log_law.specs.Events.{IsWritten, WritesText}
 use Rattle.log_law.specs.Below.{Below}
 use Rattle.log_law.proofs.Views.{Ran, Behind, Flown}
 
--- a log that takes one more input behind these
-behind : (s : LogState) (history : List Input) (i : Input) → (transition (state_after s history) i).state ≡ state_after s (history ++ i ∷ [])
-behind s [] i = refl
-behind s (x ∷ history) i = behind (transition s x).state history i
-
 pub ran_on : (s : LogState) (i : Input) → Ran s → Ran (transition s i).state
 ran_on s i r = record {
   log = r.log;
@@ -43,7 +39,7 @@ ran_on s i r = record {
   end = r.end;
   groups = r.groups;
   history = r.history ++ i ∷ [];
-  reaches = ap (λ (z : LogState). (transition z i).state) r.reaches ∙ behind (started r.log r.inc r.end r.groups) r.history i;
+  reaches = ap (λ (z : LogState). (transition z i).state) r.reaches ∙ sym (steps_both transition (started r.log r.inc r.end r.groups) r.history (i ∷ []));
 }
 
 pub ran_first : (log : LogId) (inc : ℕ) (end : End) (groups : GroupMapState) → Ran (started log inc end groups)

@@ -2,7 +2,6 @@
 ghost use Rattle.std.specs.Prelude.{◌≡◌, ◌++◌, [], IfOk, OnOk};
 ghost use Rattle.log_owner.specs.Opening.{at_scan, at_log, behind, nothing_asked, opens, opened, writes, wrote_one, written, scanned, starts_log, settles, follows, scans_on, welcomed, welcomed_in, is_meant};
 ghost use Rattle.log_owner.specs.Opened.{feed_of, files, names_in};
-ghost use Rattle.log_owner.specs.Promised.{promised_in};
 ghost use Rattle.client_log.specs.declared.input.In.TheVariants.{Parts};
 ghost use Rattle.client_log.specs.Transition as log_steps;
 ghost use Rattle.log_scan.specs.declared.input.In.TheVariants.{Welcome as Hears};

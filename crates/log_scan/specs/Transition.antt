@@ -7,7 +7,7 @@ use Rattle.segment_format.specs.declared.segment.Segment.{Segment}
 use Rattle.segment_reading.specs.declared.reading.Next.{Next}
 use Rattle.segment_reading.specs.declared.reading.Next.TheVariants as next
 use Rattle.segment_reading.specs.declared.target.Target.{Target}
-use Rattle.segment_reading.specs.Reading.{ReadingState, Step, is_asking, to_ask, on_answer, on_confirmed}
+use Rattle.segment_reading.specs.Reading.{ReadingState, is_asking, to_ask, on_answer, on_confirmed}
 use Rattle.segment_reading.specs.Reading as reading
 use Rattle.stripe_code.specs.declared.round.Told.{Told}
 use Rattle.stripe_code.specs.declared.round.Told.TheVariants as told

@@ -1,9 +1,8 @@
 //! Reading the chain back, one segment after the other.
 ghost use Rattle.std.specs.Prelude.{◌≡◌, ◌++◌, ◌<◌, IfOk, OnOk, Some, map};
-ghost use Rattle.segment_reading.specs.Reading.{ReadingState};
 ghost use Rattle.xfs_base.specs.Limits.{u32_end};
 ghost use Rattle.log_scan.specs.declared.output.Out.TheVariants.{Fetch};
-ghost use Rattle.log_scan.specs.Transition.{read_from, end_below, with_segment, prior_at, chain_of, fetches, target_at, names_none, is_bottom, begins_round, follows, goes_on, confirms_by, confirms, heard_with, heard};
+ghost use Rattle.log_scan.specs.Transition.{read_from, end_below, with_segment, chain_of, fetches, target_at, names_none, is_bottom, begins_round, follows, goes_on, confirms, heard_with, heard};
 
 use crate::Out;
 use crate::opening::{Opening, known_group};

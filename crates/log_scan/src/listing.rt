@@ -1,6 +1,5 @@
 //! What one server lists of the log.
 ghost use Rattle.std.specs.Prelude.{◌≡◌};
-ghost use Rattle.std.specs.List.{list_any};
 ghost use Rattle.log_scan.specs.Pick.{has_name, lacks, has_list};
 
 use group_map::Member;

@@ -1,7 +1,7 @@
 //! Where the log goes on.
 ghost use Rattle.std.specs.Prelude.{◌≡◌, ◌++◌, ◌∷◌, [], Some, option_to_list};
 ghost use Rattle.std.specs.List.{list_any};
-ghost use Rattle.log_scan.specs.Pick.{above, counting, is_newer, newest, lacks, is_torn, end_at, end_before, end_of_none, start_in, start_from, start_of};
+ghost use Rattle.log_scan.specs.Pick.{above, counting, is_newer, newest, lacks, is_torn, end_at, end_before, end_of_none, start_in, start_of};
 
 use crate::listing::Listing;
 use crate::opening::known_group;

@@ -1,5 +1,5 @@
 //! What an event has a node do.
-ghost use Rattle.std.specs.Prelude.{◌≡◌, ◌++◌, ◌∷◌, [], IfOk, OnOk, filter, not};
+ghost use Rattle.std.specs.Prelude.{◌≡◌, ◌++◌, ◌∷◌, [], IfOk, OnOk};
 ghost use Rattle.node_base.specs.declared.effects.Effect.TheVariants.{Send, Answer as Answers, Lose, Does};
 ghost use Rattle.node_base.specs.Effects.{packets_of, acts_of, sends_to, packet_of, act_of};
 ghost use Rattle.node_base.specs.Nodes.{servers, others};

@@ -1,6 +1,6 @@
 //! Sums, products and inverses of single bytes.
 ghost use Rattle.std.specs.Prelude.{◌≡◌, ◌<◌, ℕ};
-ghost use Rattle.parity_kernel.specs.Field.{doubled, product, times_squares, inverse_of};
+ghost use Rattle.parity_kernel.specs.Field.{doubled, product, inverse_of};
 
 /// Twice a byte in the field of 256 elements.
 #[inline(always)]

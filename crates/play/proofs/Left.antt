@@ -14,7 +14,7 @@ use Rattle.world_base.specs.Cluster.{nodes_of}
 use Rattle.world_base.specs.NextWorld.{next_world}
 use Rattle.world_base.specs.Schedule.{Going, ScheduleState, delivers, done, goes, is_done, left, passes, repeated, sent}
 use Rattle.play.specs.declared.player.Player.{Player}
-use Rattle.play.specs.Plays.{comes, delivered, goes_by, goes_on, happens, rounded, sent_since, ticks, with_event, with_schedule}
+use Rattle.play.specs.Plays.{comes, delivered, goes_by, goes_on, happens, rounded, sent_since, ticks, with_schedule}
 use Rattle.play.specs.Plays as plays
 
 -- ---- the schedule says what comes next

@@ -1,5 +1,5 @@
 //! Playing a script.
-ghost use Rattle.std.specs.Prelude.{◌≡◌, ◌+◌, ◌<◌, ◌≤◌, ◌^◌, drop, length, IfOk, OnOk};
+ghost use Rattle.std.specs.Prelude.{◌≡◌, ◌+◌, ◌<◌, ◌≤◌, ◌^◌, drop, IfOk, OnOk};
 ghost use Rattle.world_base.specs.Runs.{BeginsAll, IsRun, begun_in};
 ghost use Rattle.node_base.specs.Setups.{IsSetup};
 ghost use Rattle.play.specs.Plays.{actors_of, answers, is_answer, sent_since, happens, begins, comes, delivered, goes_out, opens, plays_line, rounded, starts, played};

@@ -1,5 +1,5 @@
 //! What is kept of the newest checkpoint of a slot.
-ghost use Rattle.std.specs.Prelude.{◌≡◌, [], IfOk, replicate, map, slice_index};
+ghost use Rattle.std.specs.Prelude.{◌≡◌, IfOk, map, slice_index};
 ghost use Rattle.registry.specs.Checkpoints.{first_checkpoint, none_lower, no_lower, covers_kept, parts_at, horizon_at};
 
 use std::alloc::Global;

@@ -1,6 +1,6 @@
 //! The slots of the manager map, all at once.
 ghost use Rattle.std.specs.Prelude.{◌≡◌, fold};
-ghost use Rattle.registry.specs.Slots.{entry_of, raise_one, raised, can_rise_one, can_rise};
+ghost use Rattle.registry.specs.Slots.{entry_of, raise_one, can_rise_one, can_rise};
 
 use manager_map::{ManagerMap, SlotEntry};
 use xfs_base::Ino;

@@ -7,6 +7,7 @@ use Rattle.std.proofs.lemmas.Fmt.{digits_decimal, decimal_nonempty, decimal_digi
 use Rattle.std.proofs.lemmas.Str.Parse.{digit_from_value}
 use Rattle.xfs_base.specs.Blocks.{IsRaw}
 use Rattle.xfs_base.specs.declared.node.NodeId.TheVariants as nodes
+use Rattle.xfs_base.specs.Limits.{max_lines, max_bytes}
 use Rattle.version_model.specs.declared.work.Work.{Work}
 use Rattle.version_model.specs.declared.work.Work.TheVariants as works
 use Rattle.script_text.specs.declared.form.Form.TheVariants as form
@@ -384,7 +385,7 @@ works_few (suc n) turn x =
     omega (arith, a, b, e)
 
 -- numbered works are asked for, and their text is short
-numbered_asked : (ws : List Work) (before room : ℕ) → AreDrawn ws → 10 + 10 * length ws ≤ room → before + length ws ≤ 20000
+numbered_asked : (ws : List Work) (before room : ℕ) → AreDrawn ws → 10 + 10 * length ws ≤ room → before + length ws ≤ max_lines
     → AreAsked generated_setup before room (numbered (before + 1) ws)
 numbered_asked [] before room a h k = tt
 numbered_asked (w ∷ ws) before room a h k =
@@ -464,7 +465,7 @@ head_length =
       decimal_digit 8 (omega arith),
     ) refl
 
-drawn_short : (number n : ℕ) → n ≤ 2000 → length (printed (generated number n)) ≤ 1048576
+drawn_short : (number n : ℕ) → n ≤ 2000 → length (printed (generated number n)) ≤ max_bytes
 drawn_short number n h =
     let ws = works_from n 1 (number % 2147483648) in
     let f : length ws ≤ 2 * n = works_few n 1 (number % 2147483648) in

@@ -4,6 +4,7 @@ use Rattle.std.proofs.lemmas.List.{length-map}
 use Rattle.std.specs.List.{AllByRecursion}
 use Rattle.xfs_base.specs.declared.setup.Setup.{Setup}
 use Rattle.xfs_base.specs.declared.setup.GroupSetup.{GroupSetup}
+use Rattle.xfs_base.specs.Limits.{max_lines}
 use Rattle.script_text.specs.declared.script.Line.{Line}
 use Rattle.script_text.specs.declared.script.Script.{Script}
 use Rattle.script_text.specs.declared.stage.Stage.{Stage}
@@ -39,7 +40,7 @@ pub record IsSetup (s : Setup) : Type 0 where
 abbrev pub AreAsked : Setup → ℕ → ℕ → List Line → Type 0
 AreAsked s before room [] = Unit {0}
 AreAsked s before room (l ∷ ls) =
-    (before < l.number) × (l.number ≤ 20000) × IsAsked (record { setup = s; room = room }) l.after l.work
+    (before < l.number) × (l.number ≤ max_lines) × IsAsked (record { setup = s; room = room }) l.after l.work
     × AreAsked s l.number (room - text_size l.work) ls
 
 -- what the lines from a place on say, where the line before them has this number
@@ -49,14 +50,14 @@ record Rest (s : Script) (p : Place) (before : ℕ) : Type 0 where
   setup : s.setup ≡ p.setup
   asked : AreAsked p.setup before p.room items
 
-within : (total n end : ℕ) → (IsPast (record { total = total; number = n; end = end }) → ⊥) → n ≤ 20000
+within : (total n end : ℕ) → (IsPast (record { total = total; number = n; end = end }) → ⊥) → n ≤ max_lines
 within total n end h = not_above n (λ l. h (inl l))
   where
-    not_above : (m : ℕ) → (20000 < m → ⊥) → m ≤ 20000
+    not_above : (m : ℕ) → (max_lines < m → ⊥) → m ≤ max_lines
     not_above m k = omega (arith, k)
 
 -- an item, and the lines behind it
-item_rest : (n before : ℕ) (l : List ℕ) (p q : Place) (s : Script) → before < n → n ≤ 20000 → Lacks 10 l → AddsItem n p (words l) q → Rest s q n
+item_rest : (n before : ℕ) (l : List ℕ) (p q : Place) (s : Script) → before < n → n ≤ max_lines → Lacks 10 l → AddsItem n p (words l) q → Rest s q n
     → Rest s p before
 item_rest n before l p q s b m k (whole, other, after, work, i, e) r =
     let made : Place = record p { stage = stage.Items; room = p.room - text_size work; items = p.items ++ item_at n after work ∷ [] } in

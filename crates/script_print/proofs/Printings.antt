@@ -2,6 +2,7 @@
 use Rattle.std.proofs.Common.{◌≡◌, ℕ, ◌+◌, ◌-◌, ◌≤◌, Bool, true, false, List, [], ◌∷◌, ◌++◌, length, refl, sym, ◌∙◌, ap, subst, arith, inr, Result, Ok, Err, IfOk, append_assoc, append-nil, length-append}
 use Rattle.std.specs.List.{repeat, AllByRecursion}
 use Rattle.xfs_base.specs.declared.setup.Setup.{Setup}
+use Rattle.xfs_base.specs.Limits.{max_lines, max_bytes}
 use Rattle.script_text.specs.declared.script.Line.{Line}
 use Rattle.script_text.specs.declared.script.Script.{Script}
 use Rattle.script_text.specs.declared.stage.Stage.TheVariants as stage
@@ -68,11 +69,11 @@ items_go (l ∷ ls) before p w (b, m, a, more) =
       whole = r.whole;
     }
 
-items_few : (s : Setup) (before room : ℕ) (ls : List Line) → before ≤ 20000 → AreAsked s before room ls → before + length (item_lines before ls) ≤ 20000
+items_few : (s : Setup) (before room : ℕ) (ls : List Line) → before ≤ max_lines → AreAsked s before room ls → before + length (item_lines before ls) ≤ max_lines
 items_few s before room [] b a = omega (arith, b)
 items_few s before room (l ∷ ls) b (c, m, a, more) =
     let k = l.number - before - 1 in
-    let r : l.number + length (item_lines l.number ls) ≤ 20000 = items_few s l.number (room - text_size l.work) ls m more in
+    let r : l.number + length (item_lines l.number ls) ≤ max_lines = items_few s l.number (room - text_size l.work) ls m more in
     let e : length (empties k) ≡ k = length_empty k in
     let f : length (empties k ++ (item_line l.after l.work ∷ item_lines l.number ls)) ≡ length (empties k) + length
     (item_line l.after l.work ∷ item_lines l.number ls) = length-append (empties k) (item_line l.after l.work ∷ item_lines l.number ls) in
@@ -95,7 +96,7 @@ printed_lines s w =
     ∙ ended_lines (setup_lines s.setup) (ended (item_lines n s.lines) ++ []) (setup_lacks s.setup w.setup)
     ∙ ap (λ x. setup_lines s.setup ++ x) (f ∙ append-nil (item_lines n s.lines))
 
-setup_few : (s : Setup) → IsSetup s → length (setup_lines s) ≤ 20000
+setup_few : (s : Setup) → IsSetup s → length (setup_lines s) ≤ max_lines
 setup_few s h =
     let e = lines_count s in
     let c = cache_few s.cache in
@@ -107,7 +108,7 @@ setup_few s h =
     acts_few false = omega arith
 
 -- what is known of a script is enough for its text to spell it
-pub whole_spelled : (s : Script) → Whole s → length (printed s) ≤ 1048576 → IsScriptOf false (printed s) s
+pub whole_spelled : (s : Script) → Whole s → length (printed s) ≤ max_bytes → IsScriptOf false (printed s) s
 whole_spelled s w t =
     let n = length (setup_lines s.setup) in
     let g : End 1 (setup_lines s.setup) start s.setup = setup_goes s.setup w.setup in
@@ -116,7 +117,7 @@ whole_spelled s w t =
     let all = setup_lines s.setup ++ item_lines n s.lines in
     let h : Goes 1 all start r.last = goes_on 1 (n + 1) (setup_lines s.setup) (item_lines n s.lines) start p r.last (omega arith) g.goes r.goes in
     let d : length all ≡ n + length (item_lines n s.lines) = length-append (setup_lines s.setup) (item_lines n s.lines) in
-    let f : n + length (item_lines n s.lines) ≤ 20000 = items_few s.setup n 67108864 s.lines (setup_few s.setup w.setup) w.asked in
+    let f : n + length (item_lines n s.lines) ≤ max_lines = items_few s.setup n 67108864 s.lines (setup_few s.setup w.setup) w.asked in
     let a : Accepts false (line_at (length (printed s)) 1 0) all start (record { setup = r.last.setup; lines = r.last.items }) =
     accepts (length (printed s)) 1 0 all start r.last t (omega (arith, d, f)) h r.whole in
     let P : List (List ℕ) → Type 0 = λ ls. Accepts false (line_at (length (printed s)) 1 0) ls start (record { setup = r.last.setup; lines = r.last.items }) in
@@ -125,14 +126,14 @@ whole_spelled s w t =
     subst R r.items (subst Q r.setup (subst P (sym (printed_lines s w)) a))
 
 -- the text of a script that some bytes spell spells it
-pub printed_again : (s : Script) → IsScript s → length (printed s) ≤ 1048576 → IsScriptOf false (printed s) s
+pub printed_again : (s : Script) → IsScript s → length (printed s) ≤ max_bytes → IsScriptOf false (printed s) s
 printed_again s (live, bytes, a) t = whole_spelled s (script_whole live (length bytes) (lines bytes) s (lines_lack bytes) a) t
 
 pub again : {E : Type 0} (s : Script) (r : Result (List ℕ) E) → IfOk r (λ text. text ≡ printed s)
-    → IfOk r (λ text. IsScript s → length text ≤ 1048576 → IsScriptOf false text s)
+    → IfOk r (λ text. IsScript s → length text ≤ max_bytes → IsScriptOf false text s)
 again s (Ok text) e = λ i t.
     (let P : List ℕ → Type 0 = λ x. IsScriptOf false x s in
-    let Q : List ℕ → Type 0 = λ x. length x ≤ 1048576 in
-    let l : length (printed s) ≤ 1048576 = subst Q e t in
+    let Q : List ℕ → Type 0 = λ x. length x ≤ max_bytes in
+    let l : length (printed s) ≤ max_bytes = subst Q e t in
     subst P (sym e) (printed_again s i l))
 again s (Err x) e = tt

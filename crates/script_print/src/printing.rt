@@ -1,7 +1,7 @@
 //! Printing a script.
 ghost use Rattle.std.specs.Prelude.{◌≡◌, ◌≤◌, ◌-◌, ◌∷◌, ◌++◌, [], length, false, IfOk, OnOk};
-ghost use Rattle.std.specs.Fmt.{decimal};
 ghost use Rattle.std.specs.List.{repeat};
+ghost use Rattle.xfs_base.specs.Limits.{max_bytes};
 ghost use Rattle.script_text.specs.Script.{IsScriptOf};
 ghost use Rattle.script_print.specs.Printing.{after_text, item_text, items_text, printed, IsScript};
 
@@ -77,7 +77,7 @@ fn text_of(alloc: Global, script: &Script) -> Mem<Text>
 /// no line asks for has an empty line.
 pub fn print(alloc: Global, script: &Script) -> Mem<Text>
     ensures exact { IfOk result (λ text. text ≡ printed script.now) }
-    ensures again { IfOk result (λ text. IsScript script.now → length text ≤ 1048576 → IsScriptOf false text script.now) }
+    ensures again { IfOk result (λ text. IsScript script.now → length text ≤ max_bytes → IsScriptOf false text script.now) }
 {
     text_of(alloc, script)
 }

@@ -1,5 +1,6 @@
 -- A script has at most 20,000 items: one for each line at most.
 use Rattle.std.proofs.Common.{◌≡◌, ℕ, ◌+◌, ◌≤◌, ◌<◌, Bool, List, [], ◌∷◌, ◌++◌, length, ap, arith, inl, inr, length-append, Result, Ok, Err, IfOk}
+use Rattle.xfs_base.specs.Limits.{max_lines}
 use Rattle.script_text.specs.declared.refusal.ScriptError.{ScriptError}
 use Rattle.script_text.specs.declared.script.Script.{Script}
 use Rattle.script_text.specs.declared.stage.Stage.{Stage}
@@ -29,10 +30,10 @@ one_more n l p q (inr (s, inr (w, b, after, work, i, e))) =
     let g : length (p.items ++ item_at n after work ∷ []) ≡ length p.items + 1 = length-append p.items (item_at n after work ∷ []) in
     omega (arith, f, g)
 
-not_many : (total n end : ℕ) → (IsPast (record { total = total; number = n; end = end }) → ⊥) → n ≤ 20000
+not_many : (total n end : ℕ) → (IsPast (record { total = total; number = n; end = end }) → ⊥) → n ≤ max_lines
 not_many total n end h = not_above n (λ l. h (inl l))
   where
-    not_above : (m : ℕ) → (20000 < m → ⊥) → m ≤ 20000
+    not_above : (m : ℕ) → (max_lines < m → ⊥) → m ≤ max_lines
     not_above m k = omega (arith, k)
 
 few_from : (live : Bool) (total n at : ℕ) (ls : List (List ℕ)) (p : Place) (s : Script) → n ≤ 20001 → Accepts live (line_at total n at) ls p s
@@ -41,16 +42,17 @@ few_from live total n at [] p s h a =
     let f : length s.lines ≡ length p.items = ap (λ (x : Script). length x.lines) a.2 in
     omega (arith, f, h)
 few_from live total n at (l ∷ ls) p s h a =
-    let m : n ≤ 20000 = not_many total n (at + (length l + 1)) a.0 in
+    let m : n ≤ max_lines = not_many total n (at + (length l + 1)) a.0 in
     let k : length a.1.items ≤ length p.items + 1 = one_more n l p a.1 a.2 in
     let r : length s.lines + (n + 1) ≤ length a.1.items + 20001 = few_from live total (n + 1) (at + (length l + 1)) ls a.1 s (omega (arith, m)) a.3 in
     omega (arith, k, r)
 
-pub few_items : (live : Bool) (bytes : List ℕ) (s : Script) → IsScriptOf live bytes s → length s.lines ≤ 20000
+pub few_items : (live : Bool) (bytes : List ℕ) (s : Script) → IsScriptOf live bytes s → length s.lines ≤ max_lines
 few_items live bytes s a =
     let r : length s.lines + 1 ≤ length (start.items) + 20001 = few_from live (length bytes) 1 0 (lines bytes) start s (omega arith) a in
     omega (arith, r)
 
-pub few_found : (live : Bool) (bytes : List ℕ) (r : Result Script ScriptError) → IfOk r (λ s. IsScriptOf live bytes s) → IfOk r (λ s. length s.lines ≤ 20000)
+pub few_found : (live : Bool) (bytes : List ℕ) (r : Result Script ScriptError) → IfOk r (λ s. IsScriptOf live bytes s)
+    → IfOk r (λ s. length s.lines ≤ max_lines)
 few_found live bytes (Ok s) a = few_items live bytes s a
 few_found live bytes (Err e) a = tt

@@ -4,6 +4,7 @@ use Rattle.std.proofs.lemmas.Bool.Decides.{nat_tests}
 use Rattle.std.proofs.lemmas.Bool.{eqb-true, eqb-false}
 use Rattle.std.specs.List.{repeat, AllByRecursion, onto_first}
 use Rattle.xfs_base.specs.Blocks.{IsRaw, creator_of}
+use Rattle.xfs_base.specs.Limits.{max_value, max_text}
 use Rattle.script_text.specs.declared.form.Part.{Part}
 use Rattle.script_text.specs.declared.form.Part.TheVariants as part
 use Rattle.script_text.specs.declared.refusal.Kind.{Kind}
@@ -260,8 +261,8 @@ within_true c part.Board v e = one_of_true 3 v e
 within_true c (part.Number a b) v e = tt
 within_true c part.Raw v e = tt
 within_true c part.Path v e = le_true (length v) 16 e
-within_true c part.BlockText v e = le_true (length v) (min 8192 c.room) e
-within_true c part.FileText v e = le_true (length v) (min 65536 c.room) e
+within_true c part.BlockText v e = le_true (length v) (min max_value c.room) e
+within_true c part.FileText v e = le_true (length v) (min max_text c.room) e
 
 pub within_test : (c : Context) (p : Part) (v : Meaning p) → IsWithin c p v → is_within c p v ≡ true
 within_test c part.Cleaner v e = refl
@@ -275,8 +276,8 @@ within_test c part.Board v e = one_of_test 3 v e
 within_test c (part.Number a b) v e = refl
 within_test c part.Raw v e = refl
 within_test c part.Path v e = le_test (length v) 16 e
-within_test c part.BlockText v e = le_test (length v) (min 8192 c.room) e
-within_test c part.FileText v e = le_test (length v) (min 65536 c.room) e
+within_test c part.BlockText v e = le_test (length v) (min max_value c.room) e
+within_test c part.FileText v e = le_test (length v) (min max_text c.room) e
 
 not_within : (c : Context) (p : Part) (v : Meaning p) → (IsWithin c p v → ⊥) → is_within c p v ≡ false
 not_within c p v h = at_test (is_within c p v) refl

@@ -13,7 +13,7 @@ use Rattle.script_text.specs.Outcome.{Answers, Fails, or_fault}
 use Rattle.script_text.specs.Spelling.{Context}
 use Rattle.script_text.specs.Reading.{number_in, raw_in, read_node, read_text, read_work}
 use Rattle.script_text.proofs.Items.{part_then_err, part_err, work_bad}
-use Rattle.xfs_base.specs.Limits.{u32_end}
+use Rattle.xfs_base.specs.Limits.{u32_end, max_value}
 
 pub work_is : (c : Context) (f g : Form) (ws : List (List ℕ)) (r : Result Work LineError) → f ≡ g → Answers r (read_work c g ws) → Answers r (read_work c f ws)
 work_is c f g ws r e h = let P : Form → Type 0 = λ x. Answers r (read_work c x ws) in subst P (sym e) h
@@ -22,7 +22,7 @@ work_is c f g ws r e h = let P : Form → Type 0 = λ x. Answers r (read_work c 
 bput_fault : (c : Context) (ws : List (List ℕ)) (k ino blk : ℕ) (x : Kind) → read_node 99 c.setup.clients (first ws) ≡ Ok k
     → or_fault BadNumber (raw_in (first (behind (behind ws)))) ≡ Ok ino
     → or_fault BadNumber (number_in 0 u32_end (first (behind (behind (behind ws))))) ≡ Ok blk
-    → read_text false (min 8192 c.room) (joined 32 (behind (behind (behind (behind ws))))) ≡ Err x → read_work c Bput ws ≡ Err x
+    → read_text false (min max_value c.room) (joined 32 (behind (behind (behind (behind ws))))) ≡ Err x → read_work c Bput ws ≡ Err x
 bput_fault c ws k ino blk x a b d f =
     work_bad c Bput ws x
     (part_then_err c part.Client (part.Verb ∷ part.Raw ∷ part.Number 0 u32_end ∷ part.BlockText ∷ []) ws k x a
@@ -32,7 +32,7 @@ bput_fault c ws k ino blk x a b d f =
     (part_err c part.BlockText [] (behind (behind (behind (behind ws)))) x f)))))
 
 pub bput_text : (c : Context) (ws w2 w3 w4 : List (List ℕ)) (k ino blk m : ℕ) (e : LineError) → w2 ≡ behind (behind ws) → w3 ≡ behind w2 → w4 ≡ behind w3
-    → m ≡ min 8192 c.room → read_node 99 c.setup.clients (first ws) ≡ Ok k → or_fault BadNumber (raw_in (first w2)) ≡ Ok ino
+    → m ≡ min max_value c.room → read_node 99 c.setup.clients (first ws) ≡ Ok k → or_fault BadNumber (raw_in (first w2)) ≡ Ok ino
     → or_fault BadNumber (number_in 0 u32_end (first w3)) ≡ Ok blk → Fails e (read_text false m (joined 32 w4)) → Fails e (read_work c Bput ws)
 bput_text c ws w2 w3 w4 k ino blk m Memory e2 e3 e4 e5 a b d f = tt
 bput_text c ws w2 w3 w4 k ino blk m (Bad x) e2 e3 e4 e5 a b d f =

@@ -4,7 +4,7 @@ use Rattle.std.specs.List.{list_all}
 use Rattle.std.specs.Str.{bytes_eq}
 use Rattle.xfs_base.specs.declared.block.BlockId.{BlockId}
 use Rattle.xfs_base.specs.declared.node.NodeId.TheVariants as nodes
-use Rattle.xfs_base.specs.Limits.{u32_end}
+use Rattle.xfs_base.specs.Limits.{u32_end, max_deliveries, max_text}
 use Rattle.version_model.specs.declared.work.Work.{Work}
 use Rattle.version_model.specs.declared.work.Work.TheVariants as works
 use Rattle.version_model.specs.declared.file_call.FileCall.TheVariants as calls
@@ -57,7 +57,7 @@ parts Sync = part.Client ∷ part.Verb ∷ []
 parts Mk = part.Client ∷ part.Verb ∷ part.Path ∷ []
 parts Mkdir = part.Client ∷ part.Verb ∷ part.Path ∷ []
 parts Put = part.Client ∷ part.Verb ∷ part.Path ∷ part.Number 0 u32_end ∷ part.FileText ∷ []
-parts Get = part.Client ∷ part.Verb ∷ part.Path ∷ part.Number 0 u32_end ∷ part.Number 0 65536 ∷ []
+parts Get = part.Client ∷ part.Verb ∷ part.Path ∷ part.Number 0 u32_end ∷ part.Number 0 max_text ∷ []
 parts Size = part.Client ∷ part.Verb ∷ part.Path ∷ []
 parts Ls = part.Client ∷ part.Verb ∷ part.Path ∷ []
 parts Rm = part.Client ∷ part.Verb ∷ part.Path ∷ []
@@ -77,12 +77,12 @@ parts ServerStart = part.Server ∷ part.Verb ∷ []
 parts Move = part.Registry ∷ part.Verb ∷ part.Number 0 7 ∷ part.Manager ∷ []
 parts BoardStop = part.Board ∷ part.Verb ∷ []
 parts BoardStart = part.Board ∷ part.Verb ∷ []
-parts NetLose = part.Network ∷ part.Verb ∷ part.Number 0 20000 ∷ []
-parts NetAgain = part.Network ∷ part.Verb ∷ part.Number 0 20000 ∷ []
+parts NetLose = part.Network ∷ part.Verb ∷ part.Number 0 max_deliveries ∷ []
+parts NetAgain = part.Network ∷ part.Verb ∷ part.Number 0 max_deliveries ∷ []
 parts NetMix = part.Network ∷ part.Verb ∷ part.Number 0 2147483647 ∷ []
 parts NetHold = part.Network ∷ part.Verb ∷ []
 parts NetGo = part.Network ∷ part.Verb ∷ []
-parts NetStep = part.Network ∷ part.Verb ∷ part.Number 0 20000 ∷ []
+parts NetStep = part.Network ∷ part.Verb ∷ part.Number 0 max_deliveries ∷ []
 
 -- all forms
 abbrev pub all_forms : List Form

@@ -10,7 +10,7 @@ use Rattle.xfs_base.specs.Blocks.{creator_of}
 use Rattle.xfs_base.specs.declared.setup.Setup.{Setup}
 use Rattle.xfs_base.specs.declared.setup.GroupSetup.{GroupSetup}
 use Rattle.xfs_base.specs.declared.node.NodeId.{NodeId}
-use Rattle.xfs_base.specs.Limits.{u32_end}
+use Rattle.xfs_base.specs.Limits.{u32_end, max_value, max_text, max_lines, max_bytes}
 use Rattle.version_model.specs.declared.work.Work.{Work}
 use Rattle.version_model.specs.declared.work.Work.TheVariants as works
 use Rattle.script_text.specs.declared.form.Form.{Form}
@@ -231,8 +231,8 @@ is_within c part.Board n = is_one_of 3 n
 is_within c (part.Number least limit) n = true
 is_within c part.Raw n = true
 is_within c part.Path names = are_few names
-is_within c part.BlockText text = is_short (min 8192 c.room) text
-is_within c part.FileText text = is_short (min 65536 c.room) text
+is_within c part.BlockText text = is_short (min max_value c.room) text
+is_within c part.FileText text = is_short (min max_text c.room) text
 is_within c part.Cleaner u = true
 is_within c part.Registry u = true
 is_within c part.Network u = true
@@ -362,7 +362,7 @@ read_line n line p = if is_silent line then Ok p else read_words n p (words line
 
 -- the line is past a limit
 abbrev pub is_past : ℕ → ℕ → ℕ → Bool
-is_past total n end = nat_lt 20000 n || nat_lt 1048576 total && nat_lt 1048576 end
+is_past total n end = nat_lt max_lines n || nat_lt max_bytes total && nat_lt max_bytes end
 
 -- the place behind a line that ends here
 abbrev pub read_at : ℕ → ℕ → ℕ → List ℕ → Place → Result Place Kind

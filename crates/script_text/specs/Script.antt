@@ -7,7 +7,7 @@ use Rattle.std.specs.Fmt.{decimal}
 use Rattle.xfs_base.specs.declared.setup.GroupSetup.{GroupSetup}
 use Rattle.xfs_base.specs.declared.node.NodeId.{NodeId}
 use Rattle.xfs_base.specs.declared.node.NodeId.TheVariants.{Client, Manager, Cleaner}
-use Rattle.xfs_base.specs.Limits.{u32_end}
+use Rattle.xfs_base.specs.Limits.{u32_end, max_lines, max_bytes}
 use Rattle.version_model.specs.declared.work.Work.{Work}
 use Rattle.version_model.specs.declared.work.Work.TheVariants as works
 use Rattle.version_model.specs.declared.file_call.FileCall.TheVariants as calls
@@ -179,7 +179,7 @@ pub record LineEnd : Type 0 where
 
 -- the line is past a limit: it is line 20,001 or later, or it has the first byte too many or stands behind it
 abbrev pub IsPast : LineEnd → Type 0
-IsPast line = (20000 < line.number) ⊎ (1048576 < line.total) × (1048576 < line.end)
+IsPast line = (max_lines < line.number) ⊎ (max_bytes < line.total) × (max_bytes < line.end)
 
 -- the place at the first line: nothing is said yet, a client caches 64 clean blocks where no line says another number, and texts
 -- may have 64 MiB

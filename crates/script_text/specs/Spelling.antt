@@ -4,6 +4,7 @@ use Rattle.std.specs.List.{AllByRecursion}
 use Rattle.std.specs.Fmt.{decimal}
 use Rattle.xfs_base.specs.Blocks.{IsRaw}
 use Rattle.xfs_base.specs.declared.setup.Setup.{Setup}
+use Rattle.xfs_base.specs.Limits.{max_value, max_text}
 use Rattle.script_text.specs.declared.form.Part.{Part}
 use Rattle.script_text.specs.declared.form.Part.TheVariants as part
 use Rattle.script_text.specs.declared.refusal.Kind.{Kind}
@@ -59,8 +60,8 @@ IsWithin c part.Manager n = IsOneOf c.setup.managers n
 IsWithin c part.Server n = IsOneOf c.setup.servers n
 IsWithin c part.Board n = IsOneOf 3 n
 IsWithin c part.Path names = length names ≤ 16
-IsWithin c part.BlockText text = length text ≤ min 8192 c.room
-IsWithin c part.FileText text = length text ≤ min 65536 c.room
+IsWithin c part.BlockText text = length text ≤ min max_value c.room
+IsWithin c part.FileText text = length text ≤ min max_text c.room
 IsWithin c p v = Unit {0}
 
 -- the kind of a malformed part

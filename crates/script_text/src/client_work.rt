@@ -1,5 +1,6 @@
 //! Reading the works of clients.
 ghost use Rattle.std.specs.Prelude.{◌≡◌, ◌<◌, ◌≤◌, length, Some, IfOk, IfErr};
+ghost use Rattle.xfs_base.specs.Limits.{max_value};
 ghost use Rattle.script_text.specs.declared.form.Form.TheVariants.{Bget, Bput, Get, Ls, Mk, Mkdir, Mv, Put, Rm, Size};
 ghost use Rattle.script_text.specs.Words.{words};
 ghost use Rattle.script_text.specs.Outcome.{Answers};
@@ -12,15 +13,12 @@ use crate::path::read_path;
 use crate::text::read_text;
 use std::alloc::Global;
 use version_model::{FileCall, Work};
-use xfs_base::limits::MAX_VALUE;
+use xfs_base::limits::{MAX_TEXT, MAX_VALUE};
 use xfs_base::{BlockId, Bytes, Ino, Setup, Text, Value};
-
-/// The most bytes of a text for a file.
-const MAX_TEXT: usize = 65536;
 
 /// The value of a text that a block holds.
 fn value_of(alloc: Global, text: &Text) -> Result<Value, LineError>
-    requires { (0 < length text.now) × (length text.now ≤ 8192) }
+    requires { (0 < length text.now) × (length text.now ≤ max_value) }
     ensures value { IfOk result (λ value. value ≡ Some text.now) }
     ensures memory { IfErr result (λ error. error ≡ LineError.Memory) }
 {
@@ -86,7 +84,7 @@ pub fn get(alloc: Global, setup: &Setup, line: &[u8]) -> Result<Work, LineError>
     let mut words = operands(line);
     let path = read_path(alloc, &mut words)?;
     let offset = read_number(0, u32::MAX, &mut words)?;
-    let len = read_number(0, 65536, &mut words)?;
+    let len = read_number(0, MAX_TEXT as u32, &mut words)?;
     let call = FileCall::Get { path, offset, len };
     Ok(Work::File { client, call })
 }

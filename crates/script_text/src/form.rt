@@ -6,6 +6,7 @@ ghost use Rattle.script_text.specs.Forms.{parts, verb, all_forms, is_digit, are_
 ghost use Rattle.script_text.specs.Reading.{form_of};
 
 use crate::word::{Words, spells};
+use xfs_base::limits::{MAX_DELIVERIES, MAX_TEXT};
 
 /// What a line asks for, by its words.
 #[derive(Clone, Copy)]
@@ -176,7 +177,7 @@ fn parts(form: Form) -> &'static [Part]
             Part::Verb,
             Part::Path,
             Part::Number(0, u32::MAX),
-            Part::Number(0, 65536),
+            Part::Number(0, MAX_TEXT as u32),
         ],
         Form::Size => &[Part::Client, Part::Verb, Part::Path],
         Form::Ls => &[Part::Client, Part::Verb, Part::Path],
@@ -202,12 +203,12 @@ fn parts(form: Form) -> &'static [Part]
         ],
         Form::BoardStop => &[Part::Board, Part::Verb],
         Form::BoardStart => &[Part::Board, Part::Verb],
-        Form::NetLose => &[Part::Network, Part::Verb, Part::Number(0, 20000)],
-        Form::NetAgain => &[Part::Network, Part::Verb, Part::Number(0, 20000)],
+        Form::NetLose => &[Part::Network, Part::Verb, Part::Number(0, MAX_DELIVERIES)],
+        Form::NetAgain => &[Part::Network, Part::Verb, Part::Number(0, MAX_DELIVERIES)],
         Form::NetMix => &[Part::Network, Part::Verb, Part::Number(0, 2147483647)],
         Form::NetHold => &[Part::Network, Part::Verb],
         Form::NetGo => &[Part::Network, Part::Verb],
-        Form::NetStep => &[Part::Network, Part::Verb, Part::Number(0, 20000)],
+        Form::NetStep => &[Part::Network, Part::Verb, Part::Number(0, MAX_DELIVERIES)],
     }
 }
 

@@ -8,6 +8,7 @@ use crate::LineError;
 use crate::operands::{board, client, manager, number_behind, operands, server};
 use crate::part::{read_node, read_number};
 use version_model::Work;
+use xfs_base::limits::MAX_DELIVERIES;
 use xfs_base::{NodeId, Setup};
 
 /// Reads a line of `sync`.
@@ -136,7 +137,7 @@ pub fn clean(line: &[u8]) -> Result<Work, LineError>
 pub fn net_lose(line: &[u8]) -> Result<Work, LineError>
     ensures { (c : _) → Answers result (read_work c NetLose (words line.now)) }
 {
-    let number = number_behind(0, 20_000, line)?;
+    let number = number_behind(0, MAX_DELIVERIES, line)?;
     Ok(Work::NetLose(number))
 }
 
@@ -144,7 +145,7 @@ pub fn net_lose(line: &[u8]) -> Result<Work, LineError>
 pub fn net_again(line: &[u8]) -> Result<Work, LineError>
     ensures { (c : _) → Answers result (read_work c NetAgain (words line.now)) }
 {
-    let number = number_behind(0, 20_000, line)?;
+    let number = number_behind(0, MAX_DELIVERIES, line)?;
     Ok(Work::NetAgain(number))
 }
 
@@ -160,6 +161,6 @@ pub fn net_mix(line: &[u8]) -> Result<Work, LineError>
 pub fn net_step(line: &[u8]) -> Result<Work, LineError>
     ensures { (c : _) → Answers result (read_work c NetStep (words line.now)) }
 {
-    let number = number_behind(0, 20_000, line)?;
+    let number = number_behind(0, MAX_DELIVERIES, line)?;
     Ok(Work::NetStep(number))
 }

@@ -1,5 +1,5 @@
 //! Reading the parts of a line that are numbers and nodes.
-ghost use Rattle.std.specs.Prelude.{◌≡◌, ◌≤◌, ◌<◌, IfSome, IfOk};
+ghost use Rattle.std.specs.Prelude.{◌≡◌, ◌≤◌, ◌<◌, IfSome};
 ghost use Rattle.script_text.specs.Words.{first, behind};
 ghost use Rattle.script_text.specs.Outcome.{Answers, or_fault};
 ghost use Rattle.script_text.specs.declared.refusal.Kind.TheVariants.{BadNumber};

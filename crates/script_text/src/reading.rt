@@ -1,5 +1,6 @@
 //! Reading a script.
 ghost use Rattle.std.specs.Prelude.{◌≡◌, ◌⊎◌, ◌<◌, ◌≤◌, ◌+◌, ◌∷◌, length, IfOk, OnOk, IfErr, MatchResult};
+ghost use Rattle.xfs_base.specs.Limits.{max_lines};
 ghost use Rattle.script_text.specs.Lines.{lines};
 ghost use Rattle.script_text.specs.Words.{words};
 ghost use Rattle.script_text.specs.Script.{IsScriptOf, IsFirstBad, HasCause, start, is_silent, text_size, is_whole};
@@ -237,7 +238,7 @@ fn read_script(alloc: Global, bytes: &[u8], live: bool) -> Result<Script, Script
 /// spell no script. `live` refuses a script in which a node crashes for good.
 pub fn parse(alloc: Global, bytes: &[u8], live: bool) -> Result<Script, ScriptError>
     ensures found { IfOk result (λ script. IsScriptOf live bytes.now script) }
-    ensures few { IfOk result (λ script. length script.lines ≤ 20000) }
+    ensures few { IfOk result (λ script. length script.lines ≤ max_lines) }
     ensures cause { IfErr result (λ error. HasCause live bytes.now error) }
     ensures found_if_any { (script : _) → IsScriptOf live bytes.now script
         → MatchResult result (λ found. found ≡ script) (λ error. error ≡ ScriptError.Memory) }

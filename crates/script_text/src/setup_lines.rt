@@ -1,7 +1,7 @@
 //! The lines of the setup.
 ghost use Rattle.std.specs.Prelude.{◌≡◌, ◌≤◌, ◌==◌, [], codes, IfOk, IfSome};
 ghost use Rattle.std.specs.List.{list_any};
-ghost use Rattle.script_text.specs.Words.{words, first, behind};
+ghost use Rattle.script_text.specs.Words.{words, first};
 ghost use Rattle.script_text.specs.Script.{is_setup_word};
 ghost use Rattle.script_text.specs.Reading.{number_for, new_server, servers_from, enough_for, group_of, group_said, acts_said, said_as, said_at};
 

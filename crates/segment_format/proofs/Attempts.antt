@@ -1,12 +1,12 @@
 -- Behind its header a text is that of its items.
-use Rattle.std.proofs.Common.{◌≡◌, ℕ, ◌+◌, List, ◌++◌, length, drop, refl, sym, ap, ◌∙◌, arith}
+use Rattle.std.proofs.Common.{◌≡◌, ℕ, ◌+◌, List, ◌++◌, length, drop, refl, sym, ap, ◌∙◌}
 use Rattle.std.specs.List.{flat_map}
 use Rattle.std.proofs.lemmas.List.{drop_at, length-append}
 use Rattle.segment_format.specs.declared.head.Head.{Head}
 use Rattle.segment_format.specs.declared.segment.Item.{Item}
 use Rattle.segment_format.specs.declared.segment.Segment.{Segment}
 use Rattle.segment_format.specs.Format.{mark, header_length}
-use Rattle.segment_format.specs.Text.{item_text, head_text, head_of, text_of, IsText}
+use Rattle.segment_format.specs.Text.{item_text, head_text, head_of, IsText}
 
 length-header : (h : Head) → length (mark ++ head_text h) ≡ header_length
 length-header h = refl

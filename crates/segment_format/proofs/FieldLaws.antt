@@ -12,6 +12,7 @@ use Rattle.xfs_base.specs.declared.segment.LogId.{LogId}
 use Rattle.xfs_base.specs.declared.segment.Pass.{Pass}
 use Rattle.xfs_base.specs.declared.segment.Prior.{Prior}
 use Rattle.xfs_base.specs.declared.segment.SegName.{SegName}
+use Rattle.xfs_base.specs.Limits.{max_value}
 use Rattle.segment_format.specs.declared.head.Head.{Head}
 use Rattle.segment_format.specs.declared.seg_error.SegError.TheVariants.{BadMark, BadVersion, BadLength}
 use Rattle.segment_format.specs.Format.{first_version, second_version, most_items, longest, mark, is_mark, is_within, IsWithin, is_log, IsLog, is_version, IsVersion, is_length, IsLength}
@@ -182,7 +183,7 @@ abbrev pub OfValue : ℕ → Option (List ℕ) → Type 0
 OfValue version None = ⊥
 OfValue version (Some bytes) = IsLength version (length bytes)
 
-longest_fits : (b : Bool) (n : ℕ) → n ≤ cond b 4096 8192 → n < 2 ^ 16
+longest_fits : (b : Bool) (n : ℕ) → n ≤ cond b 4096 max_value → n < 2 ^ 16
 longest_fits true n le = omega arith
 longest_fits false n le = omega arith
 

@@ -8,6 +8,7 @@ use Rattle.xfs_base.specs.declared.block.BlockId.{BlockId}
 use Rattle.xfs_base.specs.Blocks.{same_block}
 use Rattle.xfs_base.specs.Fields.{Fields}
 use Rattle.xfs_base.proofs.BlockOrder.{same_block_exact, same_block_itself}
+use Rattle.xfs_base.specs.Limits.{max_value}
 use Rattle.segment_format.specs.declared.head.Head.{Head}
 use Rattle.segment_format.specs.declared.segment.Item.{Item}
 use Rattle.segment_format.specs.declared.segment.Item.TheVariants.{Block, Delta, Part}
@@ -166,7 +167,7 @@ items-reader version (suc n) seen o d =
 
 -- ---- the version that the items need
 
-below_longest : (b : Bool) (n : ℕ) → n ≤ cond b 4096 8192 → n ≤ 8192
+below_longest : (b : Bool) (n : ℕ) → n ≤ cond b 4096 max_value → n ≤ max_value
 below_longest true n le = omega arith
 below_longest false n le = le
 

@@ -2,7 +2,7 @@
 ghost use Rattle.std.specs.Prelude.{◌≡◌, ◌++◌, ◌<◌, ◌^◌, length, OnOk, IfOk};
 ghost use Rattle.std.specs.List.{AllByRecursion, flat_map};
 ghost use Rattle.segment_format.specs.Format.{mark, second_version};
-ghost use Rattle.segment_format.specs.Text.{block_text, pass_text, name_text, prior_text, value_text, place_text, row_text, item_text, head_text, head_of, text_of, version_of, IsItem, KeepsLimits, IsText};
+ghost use Rattle.segment_format.specs.Text.{block_text, pass_text, name_text, prior_text, value_text, place_text, row_text, item_text, head_text, head_of, version_of, IsItem, KeepsLimits, IsText};
 
 use crate::format::MARK;
 use crate::segment::version_of;

@@ -1,5 +1,5 @@
 //! The wants that wait, their recalls, and what is applied of each log.
-ghost use Rattle.std.specs.Prelude.{◌≡◌, ℕ, ◌+◌, ◌^◌, ◌<◌, length, IsTrue, OnOk, IfOk, IfNone, option_map};
+ghost use Rattle.std.specs.Prelude.{◌≡◌, ◌+◌, ◌^◌, ◌<◌, length, IsTrue, OnOk, IfOk, IfNone, option_map};
 ghost use Rattle.std.specs.BTreeMap.{insert_entry};
 ghost use Rattle.std.specs.List.{list_any};
 ghost use Rattle.xfs_base.specs.Blocks.{block_cmp};

@@ -1,7 +1,7 @@
 //! What a storage server does for a rebuild of its shelf that is under way.
 ghost use Rattle.std.specs.Prelude.{◌≡◌, ◌++◌, OnOk, Some};
 ghost use Rattle.xfs_base.specs.Steps.{steps};
-ghost use Rattle.store_nodes.specs.Rebuilds.{says, lists_asked, fetch_asked, rebuilds, goes_on, awaits_list, fetch_of, on_listed, found_for, on_found, missing_for, on_missing};
+ghost use Rattle.store_nodes.specs.Rebuilds.{says, lists_asked, fetch_asked, rebuilds, goes_on, awaits_list, fetch_of, on_listed, on_found, on_missing};
 
 use crate::Server;
 use crate::server::Rebuilding;

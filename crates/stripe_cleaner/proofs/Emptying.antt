@@ -17,6 +17,7 @@ use Rattle.xfs_base.specs.Blocks.{same_block}
 use Rattle.xfs_base.specs.Steps.{still}
 use Rattle.xfs_base.proofs.Booleans.{by_test, and_first, and_second}
 use Rattle.xfs_base.proofs.Orders.{seg_cmp_exact}
+use Rattle.xfs_base.proofs.StepLoops.{steps_both}
 use Rattle.stripe_cleaner.specs.declared.checks.Check.{Check}
 use Rattle.stripe_cleaner.specs.declared.checks.Fate.{Fate}
 use Rattle.stripe_cleaner.specs.declared.checks.Fate.TheVariants as fate
@@ -36,8 +37,8 @@ use Rattle.stripe_cleaner.specs.JobState.{JobState}
 use Rattle.stripe_cleaner.specs.Listing.{ListingState, begun, is_among, without}
 use Rattle.stripe_cleaner.specs.Promises.{promised_with, is_above, is_promised}
 use Rattle.stripe_cleaner.specs.Transition as step
-use Rattle.stripe_cleaner.specs.Transition.{Done, turned, is_greeting, lists, usage_asks, welcomed, on_welcome, forgotten, forgetting, on_promise, mapped, listed, heard, on_list, usage_with, on_counts, listed_in, counted_in, read_in, answered_in, moved_in, deleted_in, awaits, on_usage, is_heard, may_move, on_live, on_dead, transition}
-use Rattle.stripe_cleaner.proofs.Histories.{after_both, split_with, always}
+use Rattle.stripe_cleaner.specs.Transition.{Done, turned, is_greeting, lists, usage_asks, welcomed, on_welcome, forgotten, forgetting, on_promise, mapped, listed, heard, usage_with, listed_in, counted_in, read_in, answered_in, moved_in, deleted_in, awaits, on_usage, is_heard, may_move, on_live, on_dead, transition}
+use Rattle.stripe_cleaner.proofs.Histories.{split_with, always}
 
 -- ---- stages
 
@@ -158,7 +159,7 @@ module _ (start : CleaningState) where
       from = (transition (state_after start k.before) (input.Read (Some k.segment))).state
 
       here : state_after start history ≡ state_after from k.later
-      here = ap (state_after start) k.split ∙ after_both start k.before (input.Read (Some k.segment) ∷ k.later)
+      here = ap (state_after start) k.split ∙ steps_both transition start k.before (input.Read (Some k.segment) ∷ k.later)
 
       go : (cs : List Check) → AllByRecursion (λ (c : Check). stage_of c.fate ≡ stage_after from k.later c.block) cs
           → AllByRecursion (λ (c : Check). stage_of c.fate ≡ stage_after from (k.later ++ i ∷ []) c.block) (map f cs)
@@ -188,7 +189,7 @@ module _ (start : CleaningState) where
       from = (transition (state_after start k.before) (input.Read (Some k.segment))).state
 
       here : state_after start history ≡ state_after from k.later
-      here = ap (state_after start) k.split ∙ after_both start k.before (input.Read (Some k.segment) ∷ k.later)
+      here = ap (state_after start) k.split ∙ steps_both transition start k.before (input.Read (Some k.segment) ∷ k.later)
 
       go : (cs : List Check) → AllByRecursion (λ (c : Check). stage_of c.fate ≡ stage_after from k.later c.block) cs
           → AllByRecursion (λ (c : Check). stage_of c.fate ≡ stage_after from (k.later ++ i ∷ []) c.block) cs

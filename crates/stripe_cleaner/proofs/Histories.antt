@@ -1,14 +1,10 @@
 -- A history with one more input behind it, and what each input keeps.
-use Rattle.std.proofs.Common.{◌≡◌, List, [], ◌∷◌, ◌++◌, refl, sym, ap, subst, ◌∙◌, append-nil, append_assoc}
+use Rattle.std.proofs.Common.{◌≡◌, List, [], ◌∷◌, ◌++◌, sym, ap, subst, ◌∙◌, append-nil, append_assoc}
 use Rattle.stripe_cleaner.specs.declared.input.In.{In}
 use Rattle.stripe_cleaner.specs.CleaningState.{CleaningState}
 use Rattle.stripe_cleaner.specs.Histories.{state_after}
 use Rattle.stripe_cleaner.specs.Transition.{transition}
-
--- the state after some inputs and then others
-pub after_both : (start : CleaningState) (before later : List In) → state_after start (before ++ later) ≡ state_after (state_after start before) later
-after_both start [] later = refl
-after_both start (i ∷ before) later = after_both (transition start i).state before later
+use Rattle.xfs_base.proofs.StepLoops.{steps_both}
 
 -- where an input is in a history, it is when one more is put behind
 pub split_with : (history before later : List In) (found i : In) → history ≡ before ++ found ∷ later → history ++ i ∷ [] ≡ before ++ found ∷ (later ++ i ∷ [])
@@ -24,7 +20,7 @@ module _ (start : CleaningState) (P : List In → CleaningState → Type 0) (fir
   after_more before [] p = subst Now (sym (append-nil before)) p
   after_more before (i ∷ later) p =
       subst Now (append_assoc before (i ∷ []) later)
-      (after_more (before ++ i ∷ []) later (subst (P (before ++ i ∷ [])) (sym (after_both start before (i ∷ []))) (keeps before i p)))
+      (after_more (before ++ i ∷ []) later (subst (P (before ++ i ∷ [])) (sym (steps_both transition start before (i ∷ []))) (keeps before i p)))
 
   -- what holds at the start, and which each input keeps, holds after any inputs
   pub always : (history : List In) → P history (state_after start history)

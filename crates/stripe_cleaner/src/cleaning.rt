@@ -1,7 +1,7 @@
 //! The job: its state, its start, and what it takes.
 ghost use Rattle.std.specs.Prelude.{◌≡◌, ◌++◌, IfOk, OnOk};
 ghost use Rattle.stripe_cleaner.specs.CleaningState.{started};
-ghost use Rattle.stripe_cleaner.specs.Transition.{on_welcome, welcomed, on_promise, on_listed, on_usage, on_read, is_heard, on_live, on_dead, moved_in, deleted_in, mapped, turned, awaits, transition};
+ghost use Rattle.stripe_cleaner.specs.Transition.{on_welcome, on_promise, on_listed, on_usage, on_read, is_heard, on_live, on_dead, moved_in, deleted_in, mapped, turned, transition};
 
 use crate::input::In;
 use crate::listing::Listing;

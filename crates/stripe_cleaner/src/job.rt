@@ -4,7 +4,7 @@ ghost use Rattle.xfs_base.specs.Limits.{u32_end};
 ghost use Rattle.stripe_cleaner.specs.declared.output.Out.TheVariants.{Finished, Move};
 ghost use Rattle.stripe_cleaner.specs.declared.phase.Phase.TheVariants.{Checking, Over};
 ghost use Rattle.stripe_cleaner.specs.Checks.{live_at, dead_at, moves};
-ghost use Rattle.stripe_cleaner.specs.Job.{next, servers_in, servers_of, deletes, deleting, counted, left_to_delete, same_name, on_deleted, checking, on_read, looked_at, on_answer, is_moving, on_moved};
+ghost use Rattle.stripe_cleaner.specs.Job.{next, servers_in, servers_of, deletes, deleting, left_to_delete, same_name, on_deleted, checking, on_read, looked_at, on_answer, is_moving, on_moved};
 
 use crate::checks::{
     Check, all_dead, all_dead_at, all_live_at, all_moved, any_asked, any_live, checks_of, moves_of,

@@ -1,6 +1,5 @@
 //! The gathering of what the storage servers hold.
 ghost use Rattle.std.specs.Prelude.{◌≡◌, ◌++◌, [], IfOk, OnOk, slice_index};
-ghost use Rattle.std.specs.List.{list_any};
 ghost use Rattle.stripe_cleaner.specs.Candidates.{horizon_at, least_horizon, is_cleaned, is_candidate, candidates_with};
 ghost use Rattle.stripe_cleaner.specs.Listing.{all_servers, begun, is_among, without};
 ghost use Rattle.stripe_cleaner.specs.Transition.{lists, heard, listed, on_list};

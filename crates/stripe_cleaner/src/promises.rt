@@ -1,5 +1,5 @@
 //! The epochs that the cleaner has promised, by slot.
-ghost use Rattle.std.specs.Prelude.{◌≡◌, slice_set};
+ghost use Rattle.std.specs.Prelude.{◌≡◌};
 ghost use Rattle.stripe_cleaner.specs.Promises.{promised_at, is_promised, is_above, promised_with, promised_of};
 
 use xfs_base::SlotNews;

@@ -1,5 +1,5 @@
 //! One round of asking servers for the fragments of a segment.
-ghost use Rattle.std.specs.Prelude.{◌≡◌, ◌-◌, ◌<◌, ◌==◌, ◌&&◌, IsTrue, IfOk, OnOk, List as Seq, Option, ℕ, Some, None, length, filter, not, is_some, count_by, unwrap_or, if◌then◌else◌};
+ghost use Rattle.std.specs.Prelude.{◌≡◌, ◌-◌, ◌<◌, ◌==◌, ◌&&◌, IsTrue, IfOk, OnOk, Option, Some, None, length, filter, not, is_some, count_by, unwrap_or};
 ghost use Rattle.std.specs.List.{list_any};
 ghost use Rattle.stripe_code.specs.Joined.{HasLengths, excess, joined, missing_from};
 ghost use Rattle.stripe_code.specs.Round.{asks, has_answered, have_answered, unanswered, anew, taken, len_in, bytes_in, missing_in, parts_in, count_of, state_of, says_as_before, fits, told_fits};

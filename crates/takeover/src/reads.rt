@@ -1,6 +1,5 @@
 //! The reading of a takeover, one segment after the other.
 ghost use Rattle.std.specs.Prelude.{◌≡◌, ◌++◌, IfOk, OnOk, IsTrue, Some};
-ghost use Rattle.segment_reading.specs.Reading.{on_answer};
 ghost use Rattle.takeover.specs.Transition.{can_ask, reads, asks, sought, go_on, active, handed, with_chain, goes_on_from, has_read, lost, again, judged_as, told_in};
 
 use crate::Take;

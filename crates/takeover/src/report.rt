@@ -1,6 +1,6 @@
 //! The reports of the clients and the cleaner.
 ghost use Rattle.std.specs.Prelude.{◌≡◌, ◌++◌, ◌+◌, ◌≤◌, IfOk, OnOk, map};
-ghost use Rattle.std.specs.List.{list_any, flat_map};
+ghost use Rattle.std.specs.List.{list_any};
 ghost use Rattle.takeover.specs.Reports.{same_node, polled, is_heard, unheard, awaited_of, writer_of, end_from, end_of, horizon_at, applied_at, applied_of, with_client, held_by, beliefs_of};
 
 use std::alloc::Global;

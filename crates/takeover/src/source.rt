@@ -1,7 +1,7 @@
 //! Where a takeover reads.
-ghost use Rattle.std.specs.Prelude.{◌≡◌, ◌++◌, ◌≤◌, IfOk, OnOk, map, length};
+ghost use Rattle.std.specs.Prelude.{◌≡◌, ◌++◌, ◌≤◌, IfOk, OnOk, map};
 ghost use Rattle.std.specs.List.{flat_map, range_with_len};
-ghost use Rattle.takeover.specs.Sources.{part_source, log_sources, sources_of, is_none, prior_of, goes_back, back_from};
+ghost use Rattle.takeover.specs.Sources.{part_source, log_sources, sources_of, is_none, back_from};
 ghost use Rattle.takeover.specs.Transition.{target_of, waits_in, unanswered, fetches};
 
 use crate::output::Out;

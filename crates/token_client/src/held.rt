@@ -76,7 +76,7 @@ fn gives_after(giving: Option<Giving>, stamp: Stamp) -> bool
 }
 
 impl Held {
-    ghost use Rattle.token_client.specs.Held.{unknown, is_dirty, is_asking, must_ask, is_wanted, is_answer, may_write, is_settled_by, may_end_fetch, may_evict, asked, asked_again, owned, copied, fetched_from, copy_granted, grant_taken, fetch_ended, written, version_settled, let_go, unasked, unfetched, promise_dropped, put_off, given_up};
+    ghost use Rattle.token_client.specs.Held.{unknown, is_dirty, is_asking, must_ask, is_answer, may_write, is_settled_by, may_end_fetch, may_evict, asked, owned, copied, fetched_from, copy_granted, grant_taken, fetch_ended, written, let_go, unasked, promise_dropped, put_off, given_up};
 
     /// Nothing is known.
     pub(crate) fn new() -> Held

@@ -13,7 +13,8 @@ use Rattle.version_model.specs.History.{History, is_by_other, nothing_yet}
 use Rattle.version_model.specs.Legal.{NamesNoBlockTwice}
 use Rattle.act_tie.specs.Shown.{FallsApart, IsApart}
 use Rattle.act_tie.proofs.Falling.{settled_told}
-use Rattle.act_tie.proofs.Onward.{history_on, apart_on}
+use Rattle.version_model.proofs.Onward.{history_through}
+use Rattle.act_tie.proofs.Onward.{apart_on}
 use Rattle.token_client.specs.declared.input.In as inputs
 use Rattle.token_client.specs.declared.input.In.TheVariants as input
 use Rattle.token_client.specs.Held.{may_write}
@@ -34,7 +35,7 @@ kept_on : (up now : ℕ → Bool) (acts : List Act) (a : Act) → FallsKept up a
     → ((c : ℕ) → now c ≡ true → (after_act a (history_after acts nothing_yet)).told c ≡ []) → FallsKept now (acts ++ a ∷ [])
 kept_on up now acts a i apart waits = record {
   apart = apart_on acts a nothing_yet i.apart apart;
-  waits = λ c serves. ap (λ (h : History). h.told c) (history_on acts a nothing_yet) ∙ waits c serves;
+  waits = λ c serves. ap (λ (h : History). h.told c) (history_through acts (a ∷ []) nothing_yet) ∙ waits c serves;
 }
 
 -- an act that changes no fall

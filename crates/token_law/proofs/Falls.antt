@@ -14,7 +14,7 @@ use Rattle.version_model.specs.declared.act.Act.TheVariants as act
 use Rattle.version_model.specs.declared.act.Fall.{Fall}
 use Rattle.version_model.specs.Effects.{history_after}
 use Rattle.version_model.specs.History.{nothing_yet}
-use Rattle.act_tie.specs.BlockActs.{fall_of, told_by_fall, told_by, acts_of}
+use Rattle.act_tie.specs.BlockActs.{fall_of, acts_of_fall, block_acts, acts_of}
 use Rattle.act_tie.proofs.Onward.{acts_on}
 use Rattle.slot_beliefs.specs.Recalls as slot
 use Rattle.token_client.specs.declared.held.Held.{Held}
@@ -57,7 +57,7 @@ module _ (logs : Bool) (members part : ℕ) (b : BlockId) (n : Net) (v : View lo
 
   -- a step that tells of the block what an act is
   abbrev pub Tells : (u : World) → Step logs w u → Act → Type 0
-  Tells u step a = tells w u step ≡ told_by b (history_after n.acts nothing_yet) a
+  Tells u step a = tells w u step ≡ block_acts b (history_after n.acts nothing_yet) a
 
   pub acts_more : (u : World) (step : Step logs w u) (a : Act) → Premise logs (Tells u step a)
       → Premise logs (told (start members) u (More v.steps step) ≡ acts_of b (n.acts ++ a ∷ []))
@@ -142,20 +142,20 @@ module _ (logs : Bool) (members part : ℕ) (b : BlockId) (n : Net) (v : View lo
   tells_dirty : (c : ℕ) (falls : List Fall) → Shows (setting b c (n.tokens c).inc) w.epoch (local_of (n.tokens c) b) (w.client c) → is_dirty (held c) ≡ true
       → Kept b n.books w
       → fall_of b falls ≡ fall_from b (held c) (said n.books c (suc (n.books.end c)) b)
-      → FellBlock c (w.client c).settled (max (w.client c).settled (flying_row w c).version) ∷ [] ≡ told_by_fall c (fall_of b falls)
+      → FellBlock c (w.client c).settled (max (w.client c).settled (flying_row w c).version) ∷ [] ≡ acts_of_fall c (fall_of b falls)
   tells_dirty c falls shown dirty kept fact =
       let row = said n.books c (suc (n.books.end c)) b in
       let f : Fall = record { block = b; low = (held c).settled; high = max (held c).settled row.version } in
       let settles = shown.settled in
       let flies = in_flight c kept in
-      (λ i. FellBlock c (settles i) (max (settles i) (flies i)) ∷ []) ∙ sym (ap (told_by_fall c) (fact ∙ ap (λ t. if t then Some f else None) dirty))
+      (λ i. FellBlock c (settles i) (max (settles i) (flies i)) ∷ []) ∙ sym (ap (acts_of_fall c) (fact ∙ ap (λ t. if t then Some f else None) dirty))
 
   tells_clean : (c : ℕ) (falls : List Fall) → is_dirty (held c) ≡ false → fall_of b falls ≡ fall_from b (held c) (said n.books c (suc (n.books.end c)) b)
-      → [] ≡ told_by_fall c (fall_of b falls)
+      → [] ≡ acts_of_fall c (fall_of b falls)
   tells_clean c falls clean fact =
       let row = said n.books c (suc (n.books.end c)) b in
       let f : Fall = record { block = b; low = (held c).settled; high = max (held c).settled row.version } in
-      sym (ap (told_by_fall c) (fact ∙ ap (λ t. if t then Some f else None) clean))
+      sym (ap (acts_of_fall c) (fact ∙ ap (λ t. if t then Some f else None) clean))
 
   pub crash_view : (c : ℕ) (flight : Option (ℕ × ℕ)) (falls : List Fall) → 0 < c → c < members → n.up c ≡ true
       → Premise logs (FallsSo n.books c (n.tokens c) flight falls)

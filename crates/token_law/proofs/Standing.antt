@@ -6,7 +6,7 @@ use Rattle.xfs_base.specs.declared.block.BlockId.{BlockId}
 use Rattle.xfs_base.specs.declared.entry.Entry.{Entry}
 use Rattle.xfs_base.specs.declared.token.Mode.{Mode}
 use Rattle.xfs_base.specs.Modes.{is_own}
-use Rattle.xfs_base.proofs.StepLoops.{steps_keep}
+use Rattle.xfs_base.proofs.StepLoops.{steps_both, steps_keep}
 use Rattle.slot_beliefs.specs.declared.job.Awaited.{Awaited}
 use Rattle.slot_beliefs.specs.Recalls.{recalls, noted, ready_blocks, applied_upto}
 use Rattle.token_manager.specs.declared.input.In.{In}
@@ -34,10 +34,6 @@ pub record Ran (s : SlotState) : Type 0 where
 pub begun : (epoch : ℕ) (index : List (BlockId × Entry)) (beliefs : List (BlockId × ℕ × Mode)) (applied : List ℕ) → Ran (started epoch index beliefs applied)
 begun epoch index beliefs applied = record { epoch = epoch; index = index; beliefs = beliefs; applied = applied; taken = []; reaches = refl }
 
-one_more : (s : SlotState) (taken : List In) (x : In) → state_after s (taken ++ x ∷ []) ≡ (transition (state_after s taken) x).state
-one_more s [] x = refl
-one_more s (y ∷ taken) x = one_more (transition s y).state taken x
-
 pub on : (s : SlotState) (x : In) → Ran s → Ran (transition s x).state
 on s x r = record {
   epoch = r.epoch;
@@ -45,7 +41,8 @@ on s x r = record {
   beliefs = r.beliefs;
   applied = r.applied;
   taken = r.taken ++ x ∷ [];
-  reaches = ap (λ (z : SlotState). (transition z x).state) r.reaches ∙ sym (one_more (started r.epoch r.index r.beliefs r.applied) r.taken x);
+  reaches = ap (λ (z : SlotState). (transition z x).state) r.reaches
+      ∙ sym (steps_both transition (started r.epoch r.index r.beliefs r.applied) r.taken (x ∷ []));
 }
 
 -- ---- its wants stand in order

@@ -1,11 +1,11 @@
 //! One slot.
-ghost use Rattle.std.specs.Prelude.{◌≡◌, ℕ, ◌+◌, ◌^◌, ◌<◌, ◌≤◌, ◌==◌, ◌||◌, not, length, OnOk, IfOk, IsTrue, ◌∷◌, ◌++◌, []};
+ghost use Rattle.std.specs.Prelude.{◌≡◌, ◌+◌, ◌^◌, ◌<◌, ◌≤◌, ◌==◌, ◌||◌, not, length, OnOk, IfOk, IsTrue, ◌∷◌, ◌++◌, []};
 ghost use Rattle.xfs_base.specs.Modes.{is_own};
 ghost use Rattle.xfs_base.specs.Steps.{steps};
 ghost use Rattle.xfs_base.specs.declared.segment.SegName.{SegName};
 ghost use Rattle.slot_beliefs.specs.Index.{pages_of, live_in, has_room};
 ghost use Rattle.slot_beliefs.specs.Recalls.{applied_of, ready_blocks, is_followed, applied_upto};
-ghost use Rattle.token_manager.specs.Transition.{started, cleaned, has_turns, passers, answer, finished, recall_or_finish, recall, is_dropped, on_want, gave_last, gave_noted, on_gave, finished_at, apply, apply_or_not, on_deltas, on_check, on_tick, transition};
+ghost use Rattle.token_manager.specs.Transition.{started, cleaned, has_turns, passers, answer, finished, recall_or_finish, recall, is_dropped, on_want, gave_last, gave_noted, on_gave, finished_at, apply, apply_or_not, on_deltas, transition};
 
 use crate::input::In;
 use crate::output::{Out, found};

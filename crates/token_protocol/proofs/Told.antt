@@ -3,7 +3,7 @@ use Rattle.std.proofs.Common.{◌≡◌, ℕ, Bool, true, refl, sym, ap, subst, 
 use Rattle.std.proofs.lemmas.Bool.{true≢false}
 use Rattle.std.proofs.lemmas.Bool.Decides.{nat_tests}
 use Rattle.token_protocol.specs.World.{World, start, flying_row}
-use Rattle.token_protocol.specs.Acts.{Act, History, LegalActs, LegalFrom, LegalFell, LegalBack, no_history, after_act, history_by, history}
+use Rattle.token_protocol.specs.Acts.{Act, History, LegalActs, LegalFrom, LegalFell, LegalBack, no_history, after_act, history_after, history}
 use Rattle.token_protocol.specs.Crashing.{MayCrashDirty}
 use Rattle.token_protocol.specs.Told.{tells, told}
 use Rattle.token_protocol.specs.Step.{Step, Steps}
@@ -31,18 +31,18 @@ abbrev pub Matches : History → World → Type 0
 Matches h w = Agrees h w.newest w.value_at w.writer w.pinned w.fallen w.cut_low w.cut_high
 
 -- Acts after others make of a history what they make of the one that those made.
-pub history_through : (acts more : List Act) (h : History) → history_by h (acts ++ more) ≡ history_by (history_by h acts) more
+pub history_through : (acts more : List Act) (h : History) → history_after (acts ++ more) h ≡ history_after more (history_after acts h)
 history_through [] more h = refl
-history_through (act ∷ acts) more h = history_through acts more (after_act h act)
+history_through (act ∷ acts) more h = history_through acts more (after_act act h)
 
 -- They are legal after those where they are legal in that one.
-legal_through : (acts more : List Act) (h : History) → LegalFrom h acts → LegalFrom (history_by h acts) more → LegalFrom h (acts ++ more)
+legal_through : (acts more : List Act) (h : History) → LegalFrom h acts → LegalFrom (history_after acts h) more → LegalFrom h (acts ++ more)
 legal_through [] more h legal rest = rest
-legal_through (act ∷ acts) more h legal rest = (legal.0, legal_through acts more (after_act h act) legal.1 rest)
+legal_through (act ∷ acts) more h legal rest = (legal.0, legal_through acts more (after_act act h) legal.1 rest)
 
 -- Acts that are legal in a history, and make of it the world's.
 record Legal (h : History) (acts : List Act) (w : World) : Type 0 where
-  matches : Matches (history_by h acts) w
+  matches : Matches (history_after acts h) w
   legal : LegalFrom h acts
 
 -- A fall is legal in the history that the acts made, since it is in the world's.
@@ -129,7 +129,7 @@ legal_steps w v Done h i m = (record { matches = m; legal = tt }, i)
 legal_steps w v (More {v = x} steps step) h i m =
     let before = legal_steps w x steps h i m in
     let acts = told w x steps in
-    let last = legal_step x v step (history_by h acts) before.1 before.0.matches in (
+    let last = legal_step x v step (history_after acts h) before.1 before.0.matches in (
       record {
         matches = subst (λ (now : History). Matches now v) (sym (history_through acts (tells x v step) h)) last.matches;
         legal = legal_through acts (tells x v step) h before.0.legal last.legal;

@@ -37,13 +37,13 @@ cut h c version =
     }
 
 -- What an act makes of the history.
-abbrev pub after_act : History → Act → History
-after_act h (Act.Wrote c value) =
+abbrev pub after_act : Act → History → History
+after_act (Act.Wrote c value) h =
     record h { length = suc h.length; value_at = put h.value_at (suc h.length) value; writer = put h.writer (suc h.length) c }
-after_act h (Act.Read c version value) = record h { pinned = if h.writer version == c then h.pinned else max h.pinned version }
-after_act h (Act.Synced c version) = record h { pinned = max h.pinned version }
-after_act h (Act.Fell c low high) = record h { fallen = put h.fallen c 1; low = put h.low c low; high = put h.high c high }
-after_act h (Act.Back c adopted) = cut h c (if adopted then h.high c else h.low c)
+after_act (Act.Read c version value) h = record h { pinned = if h.writer version == c then h.pinned else max h.pinned version }
+after_act (Act.Synced c version) h = record h { pinned = max h.pinned version }
+after_act (Act.Fell c low high) h = record h { fallen = put h.fallen c 1; low = put h.low c low; high = put h.high c high }
+after_act (Act.Back c adopted) h = cut h c (if adopted then h.high c else h.low c)
 
 -- A read is legal of the newest version with its value.
 pub record LegalRead (h : History) (version : ℕ) (value : ℕ) : Type 0 where
@@ -71,18 +71,18 @@ LegalAct h (Act.Back c adopted) = LegalBack h c
 LegalAct h act = Unit {0}
 
 -- What acts, oldest first, make of a history.
-abbrev pub history_by : History → List Act → History
-history_by h [] = h
-history_by h (act ∷ acts) = history_by (after_act h act) acts
+abbrev pub history_after : List Act → History → History
+history_after [] h = h
+history_after (act ∷ acts) h = history_after acts (after_act act h)
 
 -- The history that acts made, oldest act first.
 abbrev pub history : List Act → History
-history acts = history_by no_history acts
+history acts = history_after acts no_history
 
 -- Each act is legal in the history that the acts before it made, where the first is done in this one.
 abbrev pub LegalFrom : History → List Act → Type 0
 LegalFrom h [] = Unit {0}
-LegalFrom h (act ∷ acts) = LegalAct h act × LegalFrom (after_act h act) acts
+LegalFrom h (act ∷ acts) = LegalAct h act × LegalFrom (after_act act h) acts
 
 -- Each act is legal in the history that the acts before it made.
 abbrev pub LegalActs : List Act → Type 0

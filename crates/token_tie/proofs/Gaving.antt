@@ -16,12 +16,12 @@ use Rattle.slot_beliefs.specs.declared.job.Wanted.{Wanted}
 use Rattle.slot_beliefs.specs.declared.job.Awaited.{Awaited}
 use Rattle.slot_beliefs.specs.declared.job.Holder.{Holder}
 use Rattle.slot_beliefs.specs.declared.job.Job.{Job}
-use Rattle.slot_beliefs.specs.Beliefs.{holder_cmp, holder, given_up, share_of, wanted_share}
+use Rattle.slot_beliefs.specs.Beliefs.{holder_cmp, holder, given_up, share_of}
 use Rattle.slot_beliefs.specs.Beliefs as manager
 use Rattle.slot_beliefs.specs.Recalls.{recalls, applied_of, is_ready, is_applied, answers, noted, job_at}
 use Rattle.slot_beliefs.specs.Recalls as recall
 use Rattle.slot_beliefs.proofs.Shares.{belief, disowned, holder_laws}
-use Rattle.token_manager.specs.Laws.{Awaits, state_after}
+use Rattle.token_manager.specs.Laws.{Awaits}
 use Rattle.token_manager.specs.Recalls.{sent}
 use Rattle.token_manager.specs.SlotState.{SlotState}
 use Rattle.token_manager.specs.Transition.{Done, has_turns, passers, finished, given, gave_last, gave_one, gave_noted, gave_job, on_gave}

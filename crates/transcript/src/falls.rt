@@ -1,8 +1,8 @@
 //! What clients that are back have lost.
-ghost use Rattle.std.specs.Prelude.{◌≡◌, ◌==◌, ◌&&◌, ◌++◌, ◌∷◌, [], OnOk, IfOk, map};
+ghost use Rattle.std.specs.Prelude.{◌≡◌, ◌==◌, ◌&&◌, OnOk, IfOk, map};
 ghost use Rattle.std.specs.List.{fold, list_any};
 ghost use Rattle.version_model.specs.Effects.{holds_flight};
-ghost use Rattle.transcript.specs.Falls.{started, count_of, of_client, without, with_all, with_version, waits, falls_to, target_of, settles_fall, settles, settled_by, fallen_at, comes_back, after_act};
+ghost use Rattle.transcript.specs.Falls.{started, count_of, of_client, without, with_version, waits, falls_to, target_of, settles_fall, settles, settled_by, fallen_at, comes_back, after_act};
 
 use std::alloc::Global;
 use std::collections::BTreeMap;

@@ -2,7 +2,7 @@
 ghost use Rattle.std.specs.Prelude.{◌≡◌, ◌++◌, [], Some, IfOk, OnOk};
 ghost use Rattle.transcript.specs.Numbers.{next_of, with_next, behind_line};
 ghost use Rattle.transcript.specs.Replies.{replies_of, reply_of};
-ghost use Rattle.transcript.specs.Text.{fall_text, fell_text, reply_text, item_text, line_text, lines_text, asked_text, end_text, text_of};
+ghost use Rattle.transcript.specs.Text.{fall_text, fell_text, reply_text, line_text, lines_text, asked_text, end_text, text_of};
 
 use crate::falls::Fallen;
 use crate::numbers::Numbers;

@@ -1,5 +1,5 @@
 //! What holds over any list of calls.
-ghost use Rattle.std.specs.Prelude.{◌≡◌, ◌+◌, ℕ, List, []};
+ghost use Rattle.std.specs.Prelude.{◌≡◌, ◌+◌, List, []};
 ghost use Rattle.xfs_base.specs.declared.segment.SegName.{SegName};
 ghost use Rattle.usage_table.specs.Counts.{count_of};
 ghost use Rattle.usage_table.specs.Shifts.{Shift, after_shifts, AreSound, arrivals, departures};

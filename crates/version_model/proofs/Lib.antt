@@ -1,3 +1,4 @@
 mod Each
+pub mod Onward
 mod ShownChanges
 mod Versions

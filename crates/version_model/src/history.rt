@@ -1,5 +1,5 @@
 //! The history of a block: the versions that were written, and which of them may never fall again.
-ghost use Rattle.std.specs.Prelude.{◌≡◌, ◌↔◌, ◌<◌, IfOk, OnOk, IsTrue, Some, length};
+ghost use Rattle.std.specs.Prelude.{◌≡◌, ◌↔◌, ◌<◌, OnOk, IsTrue, Some, length};
 ghost use Rattle.version_model.specs.Effects.{append, pin, cut_to};
 ghost use Rattle.version_model.specs.History.{unwritten, content_at, greatest_by, is_by_other};
 ghost use Rattle.version_model.specs.Legal.{IsNewestBy, MayFall};

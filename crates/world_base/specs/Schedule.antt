@@ -1,6 +1,7 @@
 -- The schedule by which one thread plays a script: which packet comes next, and when time passes. Packets are known by numbers.
 use Rattle.std.specs.Prelude.{ℕ, ◌+◌, ◌-◌, ◌*◌, ◌/◌, ◌%◌, Bool, true, false, List, [], ◌∷◌, ◌++◌, drop, length, slice_index, nat_lt, ◌==◌, ◌||◌, Option, Some, None, if◌then◌else◌}
 use Rattle.std.specs.List.{remove}
+use Rattle.xfs_base.specs.Limits.{max_deliveries}
 use Rattle.version_model.specs.declared.work.Work.{Work}
 use Rattle.version_model.specs.declared.work.Work.TheVariants as works
 use Rattle.world_base.specs.declared.schedule.Next.{Next}
@@ -40,9 +41,9 @@ repeated s number =
 abbrev pub with_room : ℕ → ℕ → ScheduleState → ScheduleState
 with_room deliveries rounds s = record s { deliveries = deliveries; rounds = rounds }
 
--- the queue is drained: 20,000 deliveries, and rounds by what is lost and unanswered
+-- the queue is drained: as many deliveries as a line may have, and rounds by what is lost and unanswered
 abbrev pub drained : ℕ → ScheduleState → ScheduleState
-drained unanswered s = with_room 20000 (16 + s.lose + 4 * unanswered) s
+drained unanswered s = with_room max_deliveries (16 + s.lose + 4 * unanswered) s
 
 -- an item was begun: the queue is drained, unless the packets are held back
 unfoldable pub item_begun : ℕ → ScheduleState → ScheduleState

@@ -8,13 +8,11 @@ use std::collections::VecDeque;
 use std::marker::Model;
 use version_model::Work;
 use xfs_base::Mem;
+use xfs_base::limits::MAX_DELIVERIES;
 
 pub mod mixer;
 
 use mixer::{drawn_place, mixer_of, next_number};
-
-/// The most packets that are delivered for one line.
-pub const MAX_DELIVERIES: u32 = 20_000;
 
 /// How often time passes for one line, apart from what is lost and unanswered.
 const ROUNDS: u128 = 16;

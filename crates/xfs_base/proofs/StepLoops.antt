@@ -1,5 +1,5 @@
--- A loop that makes one step for each item, and what all steps keep.
-use Rattle.std.proofs.Common.{◌≡◌, ℕ, ◌+◌, ◌<◌, List, [], ◌∷◌, ◌++◌, length, get_or, drop, sym, ap, ◌∙◌, append_assoc}
+-- A loop that makes one step for each item, what all steps keep, and where the steps of two lists lead.
+use Rattle.std.proofs.Common.{◌≡◌, ℕ, ◌+◌, ◌<◌, List, [], ◌∷◌, ◌++◌, length, get_or, drop, refl, sym, ap, ◌∙◌, append_assoc}
 use Rattle.std.proofs.lemmas.List.{at_drop_more}
 use Rattle.xfs_base.specs.Steps.{Stepped, steps}
 
@@ -21,3 +21,9 @@ pub steps_keep : {S O A : Type 0} (step : S → A → Stepped S O) (P : S → Ty
     → P (steps step s xs).state
 steps_keep step P keep s [] p = p
 steps_keep step P keep s (x ∷ xs) p = steps_keep step P keep (step s x).state xs (keep s x p)
+
+-- the steps of one list and then of another lead where those of both lead
+pub steps_both : {S O A : Type 0} (step : S → A → Stepped S O) (s : S) (first second : List A)
+    → (steps step s (first ++ second)).state ≡ (steps step (steps step s first).state second).state
+steps_both step s [] second = refl
+steps_both step s (x ∷ first) second = steps_both step (step s x).state first second

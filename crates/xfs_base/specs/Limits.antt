@@ -21,6 +21,14 @@ max_lines = 20000
 abbrev pub max_bytes : ℕ
 max_bytes = 1048576
 
+-- how many bytes one call writes to a file or reads of it at most
+abbrev pub max_text : ℕ
+max_text = 65536
+
+-- the most packets that are delivered for one line of a script, and that a line may lose, repeat or let through
+abbrev pub max_deliveries : ℕ
+max_deliveries = 20000
+
 -- the greatest number of a u32
 abbrev pub u32_end : ℕ
 u32_end = 2 ^ 32 - 1

@@ -15,5 +15,11 @@ pub const MAX_LINES: u32 = 20_000;
 /// How many bytes a script or the text of a file may have.
 pub const MAX_BYTES: usize = 1_048_576;
 
+/// How many bytes one call writes to a file or reads of it at most.
+pub const MAX_TEXT: usize = 65_536;
+
+/// The most packets that are delivered for one line of a script, and that a line may lose, repeat or let through.
+pub const MAX_DELIVERIES: u32 = 20_000;
+
 /// How far below its type's end each counter of a node stands before the node takes an event.
 pub const COUNTER_ROOM: u32 = 65_536;

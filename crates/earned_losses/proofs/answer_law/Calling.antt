@@ -33,7 +33,7 @@ use Rattle.xfs_base.specs.Steps.{saying}
 use Rattle.earned_losses.proofs.answer_law.Following.{Goes, IsOpen, Kept, from_goes, hands_go, itself, notes_gone_kept, plainly, seals_go, stays, then_goes, writes_go}
 use Rattle.earned_losses.proofs.answer_law.Items.{same, same_answered}
 use Rattle.earned_losses.proofs.answer_law.Plans.{BeginsWell, GoingWell, after_well, call_well}
-use Rattle.earned_losses.proofs.answer_law.Telling.{AllPlain, Told, answers_plain, told_append, told_by, told_plain}
+use Rattle.earned_losses.proofs.answer_law.Telling.{AllPlain, Told, answers_plain, told_append, told_of, told_plain}
 use Rattle.earned_losses.specs.answer_law.Calls.{CallsWell, PlansWell}
 
 -- ---- calls on blocks
@@ -177,7 +177,7 @@ begins_goes s number (Some going) well good =
     let b : Goes t (saying d.outs (runs d.state)) = then_goes t d (runs d.state) a (runs_go d.state (a.kept.calls well)) in
     record {
       well = b.kept.calls well;
-      told = told_by (IsOpen t) (λ n. number ≡ n) (λ n fact. one_number number n fact) [] (saying d.outs (runs d.state)).outs b.told;
+      told = told_of (IsOpen t) (λ n. number ≡ n) (λ n fact. one_number number n fact) [] (saying d.outs (runs d.state)).outs b.told;
       number_is = b.kept.number;
       begun = b.kept.items.begun;
       waits = λ n fact. inr (one_number number n (b.kept.items.waits n fact));

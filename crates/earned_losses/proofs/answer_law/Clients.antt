@@ -39,7 +39,7 @@ use Rattle.earned_losses.proofs.answer_law.Following.{Goes, IsOpen, then_goes}
 use Rattle.earned_losses.proofs.answer_law.Items as counting
 use Rattle.earned_losses.proofs.answer_law.Openings as openly
 use Rattle.earned_losses.proofs.answer_law.Settling.{UnlessScans, packet_settles, tick_settles, unless_scans, unless_then}
-use Rattle.earned_losses.proofs.answer_law.Telling.{AllPlain, AllQuiet, IsNoLoss, IsPlain, IsQuiet, NoLosses, Told, all_append, all_pushed_plain, answers_no_loss, answers_plain, answers_quiet, items_so, losses_said, pushed_no_loss, quiet_no_loss, quiet_plain, told_behind, told_by, told_plain}
+use Rattle.earned_losses.proofs.answer_law.Telling.{AllPlain, AllQuiet, IsNoLoss, IsPlain, IsQuiet, NoLosses, Told, all_append, all_pushed_plain, answers_no_loss, answers_plain, answers_quiet, items_so, losses_said, pushed_no_loss, quiet_no_loss, quiet_plain, told_behind, told_of, told_plain}
 use Rattle.earned_losses.specs.answer_law.Answers.{IsBegunBy}
 use Rattle.earned_losses.specs.answer_law.Calls.{CallsWell, ClientsSay, ClientsStartWell, GoesWell}
 
@@ -81,7 +81,7 @@ served s what d well g = record {
   well = g.kept.calls well;
   number = g.kept.number;
   items = counting.same_goes s.lasting.items d.state.lasting.items what g.kept.items;
-  told = told_by (IsOpen s) (IsBegunBy s.lasting.items what) (λ number fact. inl fact) [] d.outs g.told;
+  told = told_of (IsOpen s) (IsBegunBy s.lasting.items what) (λ number fact. inl fact) [] d.outs g.told;
   loses = tt;
 }
 
@@ -198,7 +198,7 @@ module _ (s : Serving) (number : ℕ) (its : next_item s.lasting.items ≡ Some 
         well = o.well;
         number = o.number_is;
         items = record { begun = begun_so g.begun o.begun; waits = λ n fact. waits_so n g (o.waits n fact) };
-        told = told_by (λ n. number ≡ n) (IsBegunBy s.lasting.items Begin) its_item [] (opens t number).outs o.told;
+        told = told_of (λ n. number ≡ n) (IsBegunBy s.lasting.items Begin) its_item [] (opens t number).outs o.told;
         loses = tt;
       }
     where

@@ -53,7 +53,7 @@ use Rattle.xfs_base.specs.declared.token.Stamp.{Stamp}
 use Rattle.xfs_base.specs.Modes.{is_held, is_nothing, same_mode}
 use Rattle.xfs_base.specs.Steps.{saying, steps, still}
 use Rattle.earned_losses.proofs.answer_law.Items.{Same, same, same_answered, same_then}
-use Rattle.earned_losses.proofs.answer_law.Telling.{AllPlain, IsPlain, Told, all_append, all_flat_map, all_map, all_pushed_plain, pushed_plain, told_append, told_by, told_plain, told_then}
+use Rattle.earned_losses.proofs.answer_law.Telling.{AllPlain, IsPlain, Told, all_append, all_flat_map, all_map, all_pushed_plain, pushed_plain, told_append, told_of, told_plain, told_then}
 use Rattle.earned_losses.specs.answer_law.Calls.{CallsWell}
 
 -- the item that waits for its answer
@@ -90,12 +90,12 @@ plainly s d k plain = record { kept = k; told = told_plain (IsOpen s) [] d.outs 
 -- from one that is as it was
 pub from_goes : (s t : Serving) (d : Done) → Kept s t → Goes t d → Goes s d
 from_goes s t d k g =
-    record { kept = then_kept s t d.state k g.kept; told = told_by (IsOpen t) (IsOpen s) k.items.waits [] d.outs g.told }
+    record { kept = then_kept s t d.state k g.kept; told = told_of (IsOpen t) (IsOpen s) k.items.waits [] d.outs g.told }
 
 pub then_goes : (s : Serving) (d x : Done) → Goes s d → Goes d.state x → Goes s (saying d.outs x)
 then_goes s d x a b = record {
   kept = then_kept s d.state x.state a.kept b.kept;
-  told = told_append (IsOpen s) [] d.outs x.outs a.told (told_by (IsOpen d.state) (IsOpen s) a.kept.items.waits [] x.outs b.told);
+  told = told_append (IsOpen s) [] d.outs x.outs a.told (told_of (IsOpen d.state) (IsOpen s) a.kept.items.waits [] x.outs b.told);
 }
 
 -- what is said first is plain

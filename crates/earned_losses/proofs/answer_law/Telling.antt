@@ -229,12 +229,12 @@ module _ (I J : ℕ → Type 0) (each : (item : ℕ) → I item → J item) wher
   fits_by said item (answer.Lost name) f = (each item f.0, f.1)
   fits_by said item _ f = tt
 
-  pub told_by : (said : List SegName) (outs : List Effect) → Told I said outs → Told J said outs
-  told_by said [] t = tt
-  told_by said (Send to b ∷ outs) t = told_by said outs t
-  told_by said (Answers item a ∷ outs) t = (fits_by said item a t.0, told_by said outs t.1)
-  told_by said (Lose name ∷ outs) t = told_by (name ∷ said) outs t
-  told_by said (Does a ∷ outs) t = (t.0, told_by said outs t.1)
+  pub told_of : (said : List SegName) (outs : List Effect) → Told I said outs → Told J said outs
+  told_of said [] t = tt
+  told_of said (Send to b ∷ outs) t = told_of said outs t
+  told_of said (Answers item a ∷ outs) t = (fits_by said item a t.0, told_of said outs t.1)
+  told_of said (Lose name ∷ outs) t = told_of (name ∷ said) outs t
+  told_of said (Does a ∷ outs) t = (t.0, told_of said outs t.1)
 
 -- ---- acts
 

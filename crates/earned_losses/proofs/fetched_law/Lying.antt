@@ -10,7 +10,7 @@ use Rattle.core_world.specs.AnyNode.{any_start, any_step}
 use Rattle.core_world.specs.declared.any_node.AnyNode.{AnyNode}
 use Rattle.core_world.specs.declared.any_node.AnyNode.TheVariants as any
 use Rattle.telling_ties.specs.entry_tie.ClientTells.{BlockTold, LiesTold, PhaseHolds, ReadingTold, ServingHolds}
-use Rattle.telling_ties.specs.entry_tie.Told.{Told, told_by}
+use Rattle.telling_ties.specs.entry_tie.Told.{Told, told_by_rows}
 use Rattle.earned_losses.specs.fetching_law.Fetchings.{serving_in, serving_of, what_is_read}
 use Rattle.run_laws.specs.index_reads.Ties.{ArePlain}
 use Rattle.index_tie.specs.Filed.{Filed, rows_at}
@@ -72,7 +72,7 @@ module _ (base : Setting) (e : Estate AnyNode) (run : IsRun any_step any_start e
   f = joint.idx.net.filed
 
   abbrev told : Told
-  told = told_by (rows_at f)
+  told = told_by_rows (rows_at f)
 
   -- ---- what is told of the place that it reads
 

@@ -5,7 +5,7 @@ use Rattle.std.proofs.lemmas.Bool.Decides.{nat_tests}
 use Rattle.core_world.specs.AnyNode.{any_start, any_step}
 use Rattle.core_world.specs.declared.any_node.AnyNode.{AnyNode}
 use Rattle.delta_index.specs.Join.{join}
-use Rattle.telling_ties.specs.entry_tie.Told.{BodyTold, told_by}
+use Rattle.telling_ties.specs.entry_tie.Told.{BodyTold, told_by_rows}
 use Rattle.run_laws.proofs.index_reads.Rows.{rows_are_entries}
 use Rattle.run_laws.specs.index_reads.Ties.{ArePlain}
 use Rattle.index_tie.proofs.Rows.{by_filed}
@@ -172,7 +172,7 @@ module _ (below : Below) (base : Setting) (apart : TellsApart base) (e : Estate 
     lies : LiesAt f then.tok.net.books m.block m.entry place place.seg.name.log.0 place.seg.name.seq
     lies =
         lies_there f then.tok.net.books m.block m.entry place filed then.books plain a.leads
-        (subst (BodyTold (told_by (rows_at f))) a.bears (then.entries.packets packet among))
+        (subst (BodyTold (told_by_rows (rows_at f))) a.bears (then.entries.packets packet among))
 
     named : is_filed_name f place.seg.name ≡ true
     named = subst (λ n. same_name place.seg.name n ≡ true) lies.name (same_itself place.seg.name)

@@ -124,12 +124,12 @@ module _ (base : Setting) (e : Estate AnyNode) (run : IsRun any_step any_start e
           (sends_as base e lines count (node_of event) t.place t.node (what_of event) placed stood) p late
 
       module _ (p : Packet) (m : Missing) (v : ℕ) (to : p.to ≡ reader) (tells : p.body ≡ body.Missing m) where
-        told_by : (x : AnyNode) → ServerThere (setting base e OfCleaner) OfCleaner ((lines OfCleaner tt).scene count) v x
+        told_there : (x : AnyNode) → ServerThere (setting base e OfCleaner) OfCleaner ((lines OfCleaner tt).scene count) v x
             → node_in (moment e count).nodes (place_of k_of (names.Server v)) ≡ Some x
             → In p (map (sent_at t.clock) (any_step x (what_of event)).packets) → Told (suc count) v m
-        told_by (any.Client node) h fact among = absurd h
-        told_by (any.Manager node) h fact among = absurd h
-        told_by (any.Server node) h fact among =
+        told_there (any.Client node) h fact among = absurd h
+        told_there (any.Manager node) h fact among = absurd h
+        told_there (any.Server node) h fact among =
             let so : MissingSo node (what_of event) p.to p.body =
             at_clock t.clock (λ q. MissingSo node (what_of event) q.to q.body) (λ q. MissingSo node (what_of event) q.to q.body) (λ q y. y)
             (any_step (any.Server node) (what_of event)).packets (misses_what_it_lacks node (what_of event)) p among in
@@ -149,15 +149,15 @@ module _ (base : Setting) (e : Estate AnyNode) (run : IsRun any_step any_start e
               in_generation = sym a.generation;
               nothing = a.nothing;
             }
-        told_by (any.Cleaner node) h fact among = absurd h
-        told_by (any.Registry node) h fact among = absurd h
+        told_there (any.Cleaner node) h fact among = absurd h
+        told_there (any.Registry node) h fact among = absurd h
 
         told_now : In p new → p.from ≡ names.Server v → Told (suc count) v m
         told_now late from =
             let name : node_of event ≡ names.Server v = sym (its_own p late) ∙ from in
             let there : node_in (moment e count).nodes (place_of k_of (names.Server v)) ≡ Some t.node =
             subst (λ n. node_in (moment e count).nodes (place_of k_of n) ≡ Some t.node) name stood in
-            told_by t.node (((lines OfCleaner tt).stands count).seen (names.Server v) t.node there) there late
+            told_there t.node (((lines OfCleaner tt).stands count).seen (names.Server v) t.node there) there late
 
       turn_good : Good (suc count)
       turn_good p m v among from to tells =

@@ -96,11 +96,11 @@ module _ (base : Setting) (e : Estate AnyNode) (run : IsRun any_step any_start e
 
       -- what a server misses
       module _ (p : Packet) (m : Missing) (v : ℕ) (late : In p new) (to : p.to ≡ owner_by r) (tells : p.body ≡ body.Missing m) where
-        told_by : (x : AnyNode) → ServerThere (setting base e r) r ((lines r is_there).scene count) v x
+        told_there : (x : AnyNode) → ServerThere (setting base e r) r ((lines r is_there).scene count) v x
             → In p (map (sent_at t.clock) (any_step x (what_of event)).packets) → Told base e lines r is_there keeps count m v
-        told_by (any.Client node) h among = absurd h
-        told_by (any.Manager node) h among = absurd h
-        told_by (any.Server node) h among =
+        told_there (any.Client node) h among = absurd h
+        told_there (any.Manager node) h among = absurd h
+        told_there (any.Server node) h among =
             let so : MissingSo node (what_of event) p.to p.body =
             at_clock t.clock (λ q. MissingSo node (what_of event) q.to q.body) (λ q. MissingSo node (what_of event) q.to q.body) (λ q y. y)
             (any_step (any.Server node) (what_of event)).packets (misses_what_it_lacks node (what_of event)) p among in
@@ -117,13 +117,13 @@ module _ (base : Setting) (e : Estate AnyNode) (run : IsRun any_step any_start e
                 nothing = subst (λ (s : ShelfState). held_at s.held a.fetch.name ≡ None) (sym h.shelf) a.nothing;
               };
             }
-        told_by (any.Cleaner node) h among = absurd h
-        told_by (any.Registry node) h among = absurd h
+        told_there (any.Cleaner node) h among = absurd h
+        told_there (any.Registry node) h among = absurd h
 
         told_so : p.from ≡ names.Server v → Told base e lines r is_there keeps count m v
         told_so from =
             let name : node_of event ≡ names.Server v = sym (its_own p late) ∙ from in
-            told_by t.node
+            told_there t.node
             (((lines r is_there).stands count).seen (names.Server v) t.node (subst (λ n. node_in w.nodes (place_of k_of n) ≡ Some t.node) name stood)) late
 
       other_turn : (owner_by r ≡ node_of event → ⊥) → Known (suc count)

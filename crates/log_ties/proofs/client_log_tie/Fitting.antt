@@ -20,6 +20,7 @@ use Rattle.xfs_base.proofs.Booleans.{and_first, and_second}
 use Rattle.xfs_base.specs.declared.block.BlockId.{BlockId}
 use Rattle.xfs_base.specs.declared.entry.Entry.{Entry}
 use Rattle.xfs_base.specs.Steps.{still}
+use Rattle.xfs_base.specs.Limits.{max_value}
 use Rattle.client_log.specs.declared.input.In.TheVariants.{Put}
 use Rattle.log_ties.specs.client_log_tie.Puts.{PutsOwn}
 use Rattle.log_ties.specs.client_log_tie.Texts.{PutFits}
@@ -37,7 +38,7 @@ block_is_fit block h = (
 )
 
 length_is_fit : (n : ℕ) → is_length second_version n ≡ true → IsLength second_version n
-length_is_fit n h = (up_to 1 n (and_first (nat_le 1 n) (nat_le n 8192) h), up_to n 8192 (and_second (nat_le 1 n) (nat_le n 8192) h))
+length_is_fit n h = (up_to 1 n (and_first (nat_le 1 n) (nat_le n max_value) h), up_to n max_value (and_second (nat_le 1 n) (nat_le n max_value) h))
 
 are_bytes : (bytes : List ℕ) → list_all is_byte bytes ≡ true → IsBytes bytes
 are_bytes [] h = All-nil (λ byte. byte < 256)

@@ -9,12 +9,9 @@ use Rattle.log_law.specs.Net.{Net, Owner, flown_with}
 use Rattle.log_law.specs.Net.Owner.{Down, Opening, Writing, Serving}
 use Rattle.segment_format.specs.declared.segment.Segment.{Segment}
 use Rattle.log_ties.specs.client_log_tie.Puts.{LogTook, flown_after}
+use Rattle.xfs_base.proofs.StepLoops.{steps_both}
 
 -- ---- lists of inputs
-
-after_both : (s : LogState) (first second : List Input) → state_after s (first ++ second) ≡ state_after (state_after s first) second
-after_both s [] second = refl
-after_both s (i ∷ first) second = after_both (transition s i).state first second
 
 flown_both : (s : LogState) (first second : List Input) (before : List Segment)
     → flown_after s (first ++ second) before ≡ flown_after (state_after s first) second (flown_after s first before)
@@ -50,7 +47,7 @@ pub took_both : (Puts : Input → Type 0) (n m o : Net) (s : LogState) (a : LogT
 took_both Puts n m o s a b = record {
   inputs = a.inputs ++ b.inputs;
   all = all_both Puts a.inputs b.inputs a.all b.all;
-  serves = b.serves ∙ ap (λ t. Serving t) (sym (after_both s a.inputs b.inputs));
+  serves = b.serves ∙ ap (λ t. Serving t) (sym (steps_both transition s a.inputs b.inputs));
   flown = b.flown ∙ ap (flown_after (state_after s a.inputs) b.inputs) a.flown ∙ sym (flown_both s a.inputs b.inputs n.flown);
 }
 

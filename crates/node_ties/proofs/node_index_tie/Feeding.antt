@@ -7,6 +7,7 @@ use Rattle.std.proofs.lemmas.Bool.Decides.{nat_tests}
 use Rattle.xfs_base.specs.Limits.{u32_end}
 use Rattle.xfs_base.specs.declared.block.BlockId.{BlockId}
 use Rattle.xfs_base.specs.declared.entry.Entry.{Entry}
+use Rattle.xfs_base.proofs.StepLoops.{steps_both}
 use Rattle.segment_format.specs.Rows.{rows_of}
 use Rattle.segment_format.specs.declared.segment.Segment.{Segment}
 use Rattle.delta_feed.specs.FeedState.{FeedState, started}
@@ -23,7 +24,6 @@ use Rattle.index_tie.proofs.Growth.{rows_stay, more_is_filed}
 use Rattle.index_tie.proofs.Tables.{at_same, at_other, first_of, second_of}
 use Rattle.node_ties.specs.node_index_tie.OwnerEvents.{FeedSeen, FeedsGrow}
 use Rattle.node_ties.specs.node_index_tie.Sight.{RowsFit}
-use Rattle.node_ties.proofs.node_index_tie.Owners.{one_more}
 
 -- ---- one more segment is settled
 
@@ -153,7 +153,7 @@ module _ (part : ℕ) (n : Net) (l : ℕ) (feed : FeedState) (k : FeedSeen part 
       base = k.base;
       inputs = k.inputs ++ Settled (suc head) (rows_of s) ∷ [];
       feed_is = ap (λ x. (transition x (Settled (suc head) (rows_of s))).state) k.feed_is
-          ∙ sym (one_more (started k.base) k.inputs (Settled (suc head) (rows_of s)));
+          ∙ sym (steps_both transition (started k.base) k.inputs (Settled (suc head) (rows_of s) ∷ []));
       fed = record {
         known = let a = k.fed.known in let h = new_head in omega arith;
         end = ap (greatest k.base) (numbers_more k.inputs (suc head) (rows_of s)) ∙ greatest_more k.base (settled_numbers k.inputs) (suc head)

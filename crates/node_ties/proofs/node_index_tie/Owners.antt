@@ -6,9 +6,9 @@ use Rattle.std.proofs.lemmas.List.Elements.{All-from_recursion}
 use Rattle.xfs_base.proofs.Booleans.{by_test}
 use Rattle.xfs_base.proofs.Members.{contains_first}
 use Rattle.xfs_base.specs.Blocks.{slot_of}
-use Rattle.xfs_base.specs.Steps.{steps}
 use Rattle.xfs_base.specs.declared.block.BlockId.{BlockId}
 use Rattle.xfs_base.specs.declared.entry.Entry.{Entry}
+use Rattle.xfs_base.proofs.StepLoops.{steps_both}
 use Rattle.delta_feed.specs.FeedState.{FeedState, started, acked_of}
 use Rattle.delta_feed.specs.History.{filed_by, settled_numbers, greatest}
 use Rattle.delta_feed.specs.Transition.{slot_rows, rows_after, pushed, transition}
@@ -116,10 +116,6 @@ IsQuiet (NewEpoch slot) = Unit {0}
 IsQuiet (Push slot) = Unit {0}
 IsQuiet Tick = Unit {0}
 
-pub one_more : (s : FeedState) (xs : List In) (i : In) → (steps transition s (xs ++ i ∷ [])).state ≡ (transition (steps transition s xs).state i).state
-one_more s [] i = refl
-one_more s (x ∷ xs) i = one_more (transition s x).state xs i
-
 quiet_numbers : (xs : List In) (i : In) → IsQuiet i → settled_numbers (xs ++ i ∷ []) ≡ settled_numbers xs
 unfolding IsQuiet
 quiet_numbers [] (Settled seq rows) q = absurd q
@@ -157,7 +153,7 @@ quiet_seen : (part : ℕ) (n : Net) (l : ℕ) (feed : FeedState) (i : In) → Is
 quiet_seen part n l feed i q k = record {
   base = k.base;
   inputs = k.inputs ++ i ∷ [];
-  feed_is = ap (λ s. (transition s i).state) k.feed_is ∙ sym (one_more (started k.base) k.inputs i);
+  feed_is = ap (λ s. (transition s i).state) k.feed_is ∙ sym (steps_both transition (started k.base) k.inputs (i ∷ []));
   fed = record {
     known = k.fed.known;
     end = ap (greatest k.base) (quiet_numbers k.inputs i q) ∙ k.fed.end;

@@ -15,6 +15,7 @@ use Rattle.version_model.specs.declared.act.Act.{Act}
 use Rattle.version_model.specs.declared.act.Act.TheVariants as act
 use Rattle.version_model.specs.Effects.{after_act, history_after}
 use Rattle.version_model.specs.History.{History, nothing_yet}
+use Rattle.version_model.proofs.Onward.{history_through}
 use Rattle.xfs_base.proofs.Booleans.{contrary}
 use Rattle.xfs_base.specs.declared.block.BlockId.{BlockId}
 use Rattle.xfs_base.specs.declared.segment.SegName.{SegName}
@@ -140,10 +141,6 @@ neutral_history : (done : List Act) → AllByRecursion IsNeutral done → (h : H
 neutral_history [] all h = refl
 neutral_history (a ∷ done) all h = ap (history_after done) (neutral_after a all.0 h) ∙ neutral_history done all.1 h
 
-history_on : (acts done : List Act) (h : History) → history_after (acts ++ done) h ≡ history_after done (history_after acts h)
-history_on [] done h = refl
-history_on (a ∷ acts) done h = history_on acts done (after_act a h)
-
 pub adopts_same : (acts done : List Act) → AllByRecursion IsNeutral done → (c : ℕ) (chain : List SegName) → adopts (acts ++ done) c chain ≡ adopts acts c chain
 adopts_same acts done all c chain =
-    ap (λ (h : History). is_adopted chain (h.told c)) (history_on acts done nothing_yet ∙ neutral_history done all (history_after acts nothing_yet))
+    ap (λ (h : History). is_adopted chain (h.told c)) (history_through acts done nothing_yet ∙ neutral_history done all (history_after acts nothing_yet))

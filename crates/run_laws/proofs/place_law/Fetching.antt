@@ -3,7 +3,7 @@ use Rattle.std.proofs.Common.{◌≡◌, ℕ, List, Option, None, Some, refl, sy
 use Rattle.client_parts.specs.Reads.{block_read, heard, reading_in, value_at}
 use Rattle.client_serving.specs.declared.serving.Serving.{Serving}
 use Rattle.telling_ties.specs.entry_tie.ClientTells.{FetchTold}
-use Rattle.telling_ties.specs.entry_tie.Told.{PlaceTold, told_by}
+use Rattle.telling_ties.specs.entry_tie.Told.{PlaceTold, told_by_rows}
 use Rattle.run_laws.specs.index_reads.Ties.{ArePlain, BooksAre}
 use Rattle.index_tie.specs.Filed.{Filed, rows_at}
 use Rattle.log_owner.specs.Sending.{server_in}
@@ -48,8 +48,8 @@ module _ (texts : Texts) (packets : List Packet) (to : NodeId) (cuts : Cuts) (f 
     read_there : (r : ReadingState) (at : BlockAt) (segment : Segment) → reading_in s.call ≡ Some r → r.target.block ≡ Some at
         → ReadsTarget (answered_in packets to) (cut_by cuts) r.target segment → ReadsThere k s.tokens at.block (value_at segment at.item)
     read_there r at segment fact block h x fetch =
-        let t : PlaceTold (told_by (rows_at f)) at.block x.ver x.place =
-        subst (FetchTold (told_by (rows_at f)) at.block) fetch (well.told.fetches at.block) in
+        let t : PlaceTold (told_by_rows (rows_at f)) at.block x.ver x.place =
+        subst (FetchTold (told_by_rows (rows_at f)) at.block) fetch (well.told.fetches at.block) in
         let e : Entry = record { ver = x.ver; hop = t.hop; place = Some x.place } in
         let lies : LiesAt f k at.block e x.place x.place.seg.name.log.0 x.place.seg.name.seq =
         lies_there f k at.block e x.place known.filed books plain refl t.place_told in

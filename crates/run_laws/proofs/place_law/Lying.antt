@@ -4,7 +4,7 @@ use Rattle.xfs_base.proofs.Booleans.{by_test}
 use Rattle.std.specs.Prelude.{Contains}
 use Rattle.std.proofs.lemmas.Bool.Decides.{nat_tests}
 use Rattle.client_parts.specs.Reads.{value_at}
-use Rattle.telling_ties.specs.entry_tie.Told.{told_by}
+use Rattle.telling_ties.specs.entry_tie.Told.{told_by_rows}
 use Rattle.run_laws.proofs.index_reads.Rows.{deltas_are_said, rows_are_entries}
 use Rattle.run_laws.specs.index_reads.Rows.{IsPlain, SaysSame}
 use Rattle.run_laws.specs.index_reads.Ties.{ArePlain, BooksAre}
@@ -84,7 +84,7 @@ module _ (f : Filed) (k : Books) (b : BlockId) (e : Entry) (place : Place) where
         let seq : q ≡ place.seg.name.seq = sym (ap (λ (n : SegName). n.seq) h.name ∙ its.seq) in
         subst (λ x. LiesAt x place.seg.name.seq) log (subst (LiesAt l) seq h)
 
-    pub lies_there : told_by (rows_at f) b e → LiesAt place.seg.name.log.0 place.seg.name.seq
+    pub lies_there : told_by_rows (rows_at f) b e → LiesAt place.seg.name.log.0 place.seg.name.seq
     lies_there (inr none) = absurd (nothing (sym (ap (λ (x : Entry). x.place) none) ∙ at))
       where
         nothing : None ≡ Some place → ⊥

@@ -37,6 +37,7 @@ use Rattle.version_model.specs.declared.work.Work.{Work}
 use Rattle.version_model.specs.declared.work.Work.TheVariants as work
 use Rattle.version_model.specs.Effects.{after_act, change, holds_flight, history_after, pin, settle}
 use Rattle.version_model.specs.History.{History, is_by_other, nothing_yet}
+use Rattle.version_model.proofs.Onward.{history_through}
 use Rattle.wire_msg.specs.declared.packet.Do.{Do}
 use Rattle.wire_msg.specs.declared.packet.Do.TheVariants.{Begin, Deliver, Tick}
 use Rattle.wire_msg.specs.declared.packet.Packet as wire
@@ -80,10 +81,6 @@ aside_told c (act.Answered node item answer) h aside = refl
 all_told : (c : ℕ) (more : List Act) (h : History) → AllByRecursion (IsAside c) more → (history_after more h).told c ≡ h.told c
 all_told c [] h aside = refl
 all_told c (a ∷ more) h aside = all_told c more (after_act a h) aside.1 ∙ aside_told c a h aside.0
-
-history_through : (acts more : List Act) (h : History) → history_after (acts ++ more) h ≡ history_after more (history_after acts h)
-history_through [] more h = refl
-history_through (a ∷ acts) more h = history_through acts more (after_act a h)
 
 pub falls_stay : FallsStay
 falls_stay acts more c flight aside fell = record {

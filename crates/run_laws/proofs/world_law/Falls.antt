@@ -23,6 +23,7 @@ use Rattle.version_model.specs.declared.act.Fall.{Fall}
 use Rattle.version_model.specs.declared.history.FallTold.{FallTold}
 use Rattle.version_model.specs.Effects.{after_act, change, cut_to, history_after, holds_flight, pin, settle, settle_falls}
 use Rattle.version_model.specs.History.{History, is_by_other, nothing_yet}
+use Rattle.version_model.proofs.Onward.{history_through}
 use Rattle.run_laws.proofs.world_law.OtherTurns.{equal_or_not}
 use Rattle.run_laws.proofs.world_law.Sent.{in_append}
 use Rattle.run_laws.specs.world_law.Fallen.{Names}
@@ -41,10 +42,6 @@ settle_told : (chain : List SegName) (told : List FallTold) (h : History) → (s
 settle_told chain [] h = refl
 settle_told chain (t ∷ ts) h =
     settle_told chain ts (settle_falls (holds_flight chain t.flight) t.falls h) ∙ settle_falls_told (holds_flight chain t.flight) t.falls h
-
-history_append : (xs ys : List Act) (h : History) → history_after (xs ++ ys) h ≡ history_after ys (history_after xs h)
-history_append [] ys h = refl
-history_append (x ∷ xs) ys h = history_append xs ys (after_act x h)
 
 itself : (n : ℕ) → (n == n) ≡ true
 itself n = grind (arith, nat_tests)
@@ -131,7 +128,7 @@ module _ (members : ℕ) where
   -- where no client changes, and no act is a fall
   pub falls_stay : (n m : Net) (acts more : List Act) → m.tokens ≡ n.tokens → m.up ≡ n.up → All IsNeutral more → FallsStand n acts → FallsStand m (acts ++ more)
   falls_stay n m acts more tokens up none st b c names =
-      let told = subst (λ (h : History). Names b (h.told c)) (history_append acts more nothing_yet) names in
+      let told = subst (λ (h : History). Names b (h.told c)) (history_through acts more nothing_yet) names in
       let old : Names b ((history_after acts nothing_yet).told c) =
       ⊎_elim (λ o. o) (λ f. absurd f)
       (all_told (λ c b. ⊥) more (history_after acts nothing_yet) c b (All-weaker IsNeutral (Falls (λ c b. ⊥)) no_falls more none) told) in
@@ -197,7 +194,7 @@ module _ (members : ℕ) where
         before = history_after acts nothing_yet
 
         told : Names b ((history_after (acts_of node outs) before).told d)
-        told = subst (λ (h : History). Names b (h.told d)) (history_append acts (acts_of node outs) nothing_yet) names
+        told = subst (λ (h : History). Names b (h.told d)) (history_through acts (acts_of node outs) nothing_yet) names
 
         here : IsAway q → is_dirty (held_of (n.tokens c).blocks b) ≡ true → WaitsDirty go.next b c
         here away dirty = record {

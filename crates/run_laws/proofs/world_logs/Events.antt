@@ -99,16 +99,16 @@ module _ (laws : NodeLaws) (base : Setting) (end : World AnyNode) (setup : Setup
     abbrev sent_by : AnyNode → List Packet
     sent_by x = sent ++ map (sent_at clock) (any_step x what).packets
 
-    abbrev told_by : NodeId → AnyNode → ℕ → List Act
-    told_by name x c = told c ++ (if owns c name then (any_step x what).acts else [])
+    abbrev told_after : NodeId → AnyNode → ℕ → List Act
+    told_after name x c = told c ++ (if owns c name then (any_step x what).acts else [])
 
     abbrev After : NodeId → AnyNode → Type 0
-    After name x = Known (nodes_at x) (sent_by x) (told_by name x)
-        → goods.Leads laws base end setup ok few nodes sent told good name (nodes_at x) (sent_by x) (told_by name x)
+    After name x = Known (nodes_at x) (sent_by x) (told_after name x)
+        → goods.Leads laws base end setup ok few nodes sent told good name (nodes_at x) (sent_by x) (told_after name x)
 
     -- the log of an owner stands after it
     abbrev Now : NodeId → AnyNode → Role → Type 0
-    Now name x r = goods.Led laws base end setup ok few nodes sent told good name (nodes_at x) (sent_by x) (told_by name x) r
+    Now name x r = goods.Led laws base end setup ok few nodes sent told good name (nodes_at x) (sent_by x) (told_after name x) r
 
     abbrev Gets : NodeId → Type 0
     Gets name = (q : Packet) → what ≡ Deliver q → In q sent × (q.to ≡ name)
@@ -168,7 +168,7 @@ module _ (laws : NodeLaws) (base : Setting) (end : World AnyNode) (setup : Setup
       apart : (r : Role) → (n ≡ log_by r → ⊥) → (owner_by r ≡ name → ⊥) → owns (log_by r) name ≡ (n == log_by r)
           → ((w : Scene) → Seen (g r) r w name (any_step x what).node) → Now name x r
       apart r other away counts there h =
-          next_so (g r) r l.0 l.1.moment name k (nodes_at x) (sent_by x) (told (log_by r) ++ []) (told_by name x (log_by r))
+          next_so (g r) r l.0 l.1.moment name k (nodes_at x) (sent_by x) (told (log_by r) ++ []) (told_after name x (log_by r))
           (ap (λ t. told (log_by r) ++ (if t then (any_step x what).acts else [])) (sym (counts ∙ unequal n (log_by r) other)))
           (turned (g r) r l.0 l.0 k nodes sent (told (log_by r)) l.1 name place clock at x (any_step x what).node fact (any_step x what).packets []
           (idle_turn (g r) r l.0 name (any_step x what).node (any_step x what).packets away (there l.0) sends))
@@ -254,10 +254,10 @@ module _ (laws : NodeLaws) (base : Setting) (end : World AnyNode) (setup : Setup
         go = laws.cleaner (g r) (asker_by r l.0) l.0.net node what no_log away its (heard what refl)
 
         cleaner_apart : Next (g r) r l.0 l.1.moment Cleaner k (nodes_at (any.Cleaner node)) (sent_by (any.Cleaner node))
-            (told_by Cleaner (any.Cleaner node) (log_by r))
+            (told_after Cleaner (any.Cleaner node) (log_by r))
         cleaner_apart =
             next_so (g r) r l.0 l.1.moment Cleaner k (nodes_at (any.Cleaner node)) (sent_by (any.Cleaner node)) (told (log_by r) ++ [])
-            (told_by Cleaner (any.Cleaner node) (log_by r))
+            (told_after Cleaner (any.Cleaner node) (log_by r))
             (ap (λ t. told (log_by r) ++ (if t then (cleaner_step node what).acts else [])) (sym (unequal cleaner_log.0 (log_by r) other)))
             (turned (g r) r l.0 (record l.0 { net = go.next }) k nodes sent (told (log_by r)) l.1 Cleaner place clock at (any.Cleaner node)
             (any.Cleaner (cleaner_step node what).node) fact (cleaner_step node what).packets []

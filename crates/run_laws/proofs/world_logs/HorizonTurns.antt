@@ -125,14 +125,14 @@ module _ (laws : tokens.NodeLaws) (below : Filing) (k : Cluster) (c : ℕ) where
     abbrev before : Reach
     before = owned c told acts
 
-    abbrev pub told_by : AnyNode → List Act
-    told_by x = told ++ (if owns c name then (any_step x what).acts else [])
+    abbrev pub told_after : AnyNode → List Act
+    told_after x = told ++ (if owns c name then (any_step x what).acts else [])
 
     abbrev later : AnyNode → Reach
-    later x = owned c (told_by x) (acts ++ (any_step x what).acts)
+    later x = owned c (told_after x) (acts ++ (any_step x what).acts)
 
     abbrev further : AnyNode → Reach
-    further x = wide c (told_by x) (acts ++ (any_step x what).acts)
+    further x = wide c (told_after x) (acts ++ (any_step x what).acts)
 
     rises : (x : AnyNode) → Rises before (later x)
     rises x = owned_rises c told (if owns c name then (any_step x what).acts else []) acts (any_step x what).acts
@@ -232,8 +232,8 @@ module _ (laws : tokens.NodeLaws) (below : Filing) (k : Cluster) (c : ℕ) where
       cleaner_other : (cleaner_log.0 ≡ c → ⊥) → Goes (any.Cleaner node)
       cleaner_other other =
           let x : AnyNode = any.Cleaner node in
-          let t = below.told.cleaner before (further x) node what (rises_wide x) (held x fact) tells (wide_acts c (told_by x) acts (any_step x what).acts) in
-          let less = narrow c (told_by x) (acts ++ (any_step x what).acts) cleaner_log.0 other in (
+          let t = below.told.cleaner before (further x) node what (rises_wide x) (held x fact) tells (wide_acts c (told_after x) acts (any_step x what).acts) in
+          let less = narrow c (told_after x) (acts ++ (any_step x what).acts) cleaner_log.0 other in (
             cleaner_lower (further x) (later x) cleaner_log.0 less (cleaner_step node what).node.phase refl t.node,
             lowered (further x) (later x) cleaner_log.0 less Cleaner refl clock (any_step x what).packets
                 (sent_from Cleaner (cleaners.takes node.peers node.phase what).outs) t.packets
@@ -275,8 +275,8 @@ module _ (laws : tokens.NodeLaws) (below : Filing) (k : Cluster) (c : ℕ) where
           let low : Reach = later (any.Client node) in
           let those : List Act = (client_step node what).acts in
           let t = below.told.client before high node what (rises_wide (any.Client node)) (held (any.Client node) fact) tells
-          (wide_acts c (told_by (any.Client node)) acts those) in
-          let less = narrow c (told_by (any.Client node)) (acts ++ those) d other in
+          (wide_acts c (told_after (any.Client node)) acts those) in
+          let less = narrow c (told_after (any.Client node)) (acts ++ those) d other in
           let first : (lasting_of node.phase).number ≡ d = numbered nodes sent acts tok d place at_client node fact in
           let set = get_set_same nodes place (any.Client (client_step node what).node) (any.Client node) fact in
           let last : (lasting_of (client_step node what).node.phase).number ≡ d =
@@ -314,7 +314,7 @@ module _ (laws : tokens.NodeLaws) (below : Filing) (k : Cluster) (c : ℕ) where
         by_name Registry e = registry_goes e x fact
 
     pub turn : (x : AnyNode) → slice_get nodes place ≡ Some x → GoodAfter x
-        → Told (told_by x) (acts ++ (any_step x what).acts) (slice_set nodes place (any_step x what).node)
+        → Told (told_after x) (acts ++ (any_step x what).acts) (slice_set nodes place (any_step x what).node)
         (sent ++ map (sent_at clock) (any_step x what).packets)
     turn x fact good =
         let g = goes x fact good in (

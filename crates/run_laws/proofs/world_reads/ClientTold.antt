@@ -12,7 +12,7 @@ use Rattle.client_serving.specs.declared.serving.Serving.{Serving as ServingClie
 use Rattle.core_world.specs.declared.any_node.AnyNode.{AnyNode}
 use Rattle.core_world.specs.declared.any_node.AnyNode.TheVariants as any
 use Rattle.telling_ties.specs.entry_tie.ClientTells as entries
-use Rattle.telling_ties.specs.entry_tie.Told.{told_by}
+use Rattle.telling_ties.specs.entry_tie.Told.{told_by_rows}
 use Rattle.index_tie.specs.Filed.{Filed, rows_at}
 use Rattle.log_law.specs.Events.{Runs}
 use Rattle.log_law.specs.Laws.{Moment}
@@ -169,7 +169,7 @@ module _ (base : Setting) (e : Estate AnyNode) (lines : HasLines base e) (texts 
   -- comes was sent to it.
   pub record Reading : Type 0 where
     pub known : FiledKnown texts.text (moment e count).sent (cuts_at e.world) filed
-    pub told : entries.ClientHolds (told_by (rows_at filed)) node
+    pub told : entries.ClientHolds (told_by_rows (rows_at filed)) node
     pub came : readers.ClientHolds (answered_in (moment e count).sent (Client c)) (cut_by (cuts_at e.world)) node
     pub its : PhaseReadsItsFetch node.phase
     pub brought : (p : Packet) → what ≡ Deliver p → In p (moment e count).sent × (p.to ≡ Client c)
@@ -182,7 +182,7 @@ module _ (base : Setting) (e : Estate AnyNode) (lines : HasLines base e) (texts 
       more.fetches texts.text (moment e count).sent (Client c) (cuts_at e.world) filed s packet part limit c t.net r.known x.joint.books
       (λ l q some upto from limit. (x.joint.tells l q from limit).plain)
       (record {
-        told = subst (entries.PhaseHolds (told_by (rows_at filed))) phase r.told;
+        told = subst (entries.PhaseHolds (told_by_rows (rows_at filed))) phase r.told;
         came = subst (readers.PhaseHolds (answered_in (moment e count).sent (Client c)) (cut_by (cuts_at e.world))) phase r.came;
         its = subst PhaseReadsItsFetch phase r.its;
       }) (r.brought packet fact).0 (r.brought packet fact).1

@@ -7,7 +7,7 @@ use Rattle.core_world.specs.declared.any_node.AnyNode.{AnyNode}
 use Rattle.telling_ties.proofs.entry_tie.Frames.{all_filter, all_filter_map}
 use Rattle.telling_ties.proofs.entry_tie.Rising.{rows_rise, told_more}
 use Rattle.telling_ties.specs.entry_tie.ManagerTells.{AnswerOwed, BodyOwed, DoOwed, ManagerOwed, PacketOwed, PartTold, SlotOwed}
-use Rattle.telling_ties.specs.entry_tie.Told.{AreMore, FiledRows, RowTold, RowsTold, Told as EntryTold, told_by}
+use Rattle.telling_ties.specs.entry_tie.Told.{AreMore, FiledRows, RowTold, RowsTold, Told as EntryTold, told_by_rows}
 use Rattle.index_tie.specs.Filed.{IsFiled, IsNoPart, rows_at}
 use Rattle.index_tie.specs.Net.{Net}
 use Rattle.log_owner.specs.Sending.{server_in}
@@ -125,7 +125,7 @@ module _ (base : Setting) (e : Estate AnyNode) (lines : HasLines base e) (texts 
 
   module _ (slot j : ℕ) (p : Phase) (what : Do) (k : SlotKnown slot j p what) where
     abbrev told : EntryTold
-    told = told_by later
+    told = told_by_rows later
 
     -- a part of a checkpoint tells rows that are told
     part_read : (part : SegRef) (s : Segment) (of : ℕ) → PartKnown base e lines count later part → s.name ≡ part.name → s ≡ texts.text s.name
@@ -140,7 +140,7 @@ module _ (base : Setting) (e : Estate AnyNode) (lines : HasLines base e) (texts 
     filed_read l q s of some limit named text =
         let same : k.net.filed.segment l q ≡ s = k.are_texts l q some limit ∙ (ap texts.text (sym named) ∙ sym text) in
         deltas_tell told of s (subst (λ (x : Segment). AllByRecursion IsNoPart x.items) same (k.filed.each l q some limit).no_parts)
-        (rows_rise (told_by (rows_at k.net.filed)) told (told_more (rows_at k.net.filed) later k.more) (rows_of s)
+        (rows_rise (told_by_rows (rows_at k.net.filed)) told (told_more (rows_at k.net.filed) later k.more) (rows_of s)
         (segment_told k.net.filed l q s some limit same))
 
     source_read : (epoch : ℕ) (take : TakeState) → TakingAgrees slot texts.text k.net epoch take
@@ -192,23 +192,23 @@ module _ (base : Setting) (e : Estate AnyNode) (lines : HasLines base e) (texts 
     -- an answer of a server is owed by each of its slots
     slots_owed : (ask server : ℕ) (answer : Answered)
         → ((q : ℕ) (less : q < 8) → Completes q j (managing.Serving s) (Deliver packet) (slots q less) (phase_at s.slots q) ask server answer)
-        → AllByRecursion (SlotOwed (told_by later) ask server answer) s.slots
-    slots_owed ask server answer completes = all_at (SlotOwed (told_by later) ask server answer) s.slots one
+        → AllByRecursion (SlotOwed (told_by_rows later) ask server answer) s.slots
+    slots_owed ask server answer completes = all_at (SlotOwed (told_by_rows later) ask server answer) s.slots one
       where
-        one : (q : ℕ) (x : SlotPhase) → slice_get s.slots q ≡ Some x → SlotOwed (told_by later) ask server answer x
+        one : (q : ℕ) (x : SlotPhase) → slice_get s.slots q ≡ Some x → SlotOwed (told_by_rows later) ask server answer x
         one q x fact =
             let within = slice_get_within s.slots q x fact in
             let size = eight in
             let less : q < 8 = omega arith in
             let at : phase_at s.slots q ≡ x = ap (λ (o : Option SlotPhase). unwrap_or o (phase.Away 0)) fact in
             let agrees = (slots q less).agrees.0 in
-            subst (SlotOwed (told_by later) ask server answer) at
+            subst (SlotOwed (told_by_rows later) ask server answer) at
             (slot_owed q j (managing.Serving s) (Deliver packet) (slots q less) (desk_of s agrees.given) (phase_at s.slots q) agrees.here
             (slots q less).parts ask server answer (completes q less))
 
     found_owed : (from : NodeId) (m : Found)
         → ((q : ℕ) (less : q < 8) → FoundGets q texts.text (slots q less).asked j (slots q less).net (phase_at s.slots q) from m)
-        → AnswerOwed (told_by later) s (server_in from) m.ask (answered.Held m.fragment)
+        → AnswerOwed (told_by_rows later) s (server_in from) m.ask (answered.Held m.fragment)
     found_owed (Server v) m gets = slots_owed m.ask v (answered.Held m.fragment) (λ q less t own x fact fetched done. gets q less t own x fact fetched done)
     found_owed (Client c) m gets = tt
     found_owed (Manager c) m gets = tt
@@ -217,7 +217,7 @@ module _ (base : Setting) (e : Estate AnyNode) (lines : HasLines base e) (texts 
 
     absent_owed : (from : NodeId) (m : Absent)
         → ((q : ℕ) (less : q < 8) → AbsentGets q texts.text (slots q less).asked j (slots q less).net (phase_at s.slots q) from m)
-        → AnswerOwed (told_by later) s (server_in from) m.ask (answered.Missing m.generation)
+        → AnswerOwed (told_by_rows later) s (server_in from) m.ask (answered.Missing m.generation)
     absent_owed (Server v) m gets =
         slots_owed m.ask v (answered.Missing m.generation) (λ q less t own x fact fetched done. gets q less t own x fact fetched done)
     absent_owed (Client c) m gets = tt
@@ -227,29 +227,29 @@ module _ (base : Setting) (e : Estate AnyNode) (lines : HasLines base e) (texts 
 
     body_owed : (from : NodeId) (m : Body)
         → ((q : ℕ) (less : q < 8) → BodyReads q texts.text (slots q less).asked j (slots q less).net (phase_at s.slots q) from m)
-        → BodyOwed (told_by later) s from m
+        → BodyOwed (told_by_rows later) s from m
     body_owed from (body.Fragment m) gets = found_owed from m gets
     body_owed from (body.Missing m) gets = absent_owed from m gets
     body_owed from _ gets = tt
 
-    pub packet_owed : PacketOwed (told_by later) (managing.Serving s) packet
+    pub packet_owed : PacketOwed (told_by_rows later) (managing.Serving s) packet
     packet_owed = body_owed packet.from packet.body (λ q less. (slots q less).reads)
 
   -- ---- an event
 
   -- What a manager is owed, where so much is known of each slot of the map.
   pub manager_owed : (j : ℕ) (manager : ManagerNode) (what : Do)
-      → ((q : ℕ) → q < 8 → SlotKnown q j manager.phase what) → ManagerOwed (told_by later) manager what (manager_step manager what).acts
+      → ((q : ℕ) → q < 8 → SlotKnown q j manager.phase what) → ManagerOwed (told_by_rows later) manager what (manager_step manager what).acts
   manager_owed j manager what slots = by what refl
     where
-      by_phase : (packet : Packet) → what ≡ Deliver packet → (p : Phase) → manager.phase ≡ p → PacketOwed (told_by later) p packet
+      by_phase : (packet : Packet) → what ≡ Deliver packet → (p : Phase) → manager.phase ≡ p → PacketOwed (told_by_rows later) p packet
       by_phase packet fact (managing.Serving s) serves =
           packet_owed j s packet
           (λ q less. subst (SlotKnown q j (managing.Serving s)) fact (subst (λ (p : Phase). SlotKnown q j p what) serves (slots q less)))
       by_phase packet fact (managing.Down kept) serves = tt
       by_phase packet fact (managing.Waiting kept hello) serves = tt
 
-      by : (d : Do) → what ≡ d → DoOwed (told_by later) manager.phase d
+      by : (d : Do) → what ≡ d → DoOwed (told_by_rows later) manager.phase d
       by Begin fact = tt
       by (Deliver packet) fact = by_phase packet fact manager.phase refl
       by Tick fact = tt

@@ -9,7 +9,7 @@ use Rattle.core_world.specs.AnyNode.{any_step}
 use Rattle.core_world.specs.declared.any_node.AnyNode.{AnyNode}
 use Rattle.telling_ties.proofs.entry_tie.Frames.{all_weaker, contains_all}
 use Rattle.telling_ties.specs.entry_tie.ClientTells.{FlightOwed, SegmentOwed}
-use Rattle.telling_ties.specs.entry_tie.Told.{RowTold, RowsTold, told_by}
+use Rattle.telling_ties.specs.entry_tie.Told.{RowTold, RowsTold, told_by_rows}
 use Rattle.index_tie.specs.Filed.{Filed, rows_at}
 use Rattle.log_flight.specs.Flights.{FlightState}
 use Rattle.log_law.specs.Held.{OwnerFlew, WhatFlewIsOfTheLog, WhatIsHeldFlew}
@@ -53,9 +53,9 @@ each_among P [] each = tt
 each_among P (x ∷ xs) each = (each x (inl refl), each_among P xs (λ y later. each y (inr later)))
 
 -- a segment that was filed says what is told
-pub segment_told : (h : Filed) (l q : ℕ) (s : Segment) → 0 < q → q ≤ h.head l → h.segment l q ≡ s → RowsTold (told_by (rows_at h)) (rows_of s)
+pub segment_told : (h : Filed) (l q : ℕ) (s : Segment) → 0 < q → q ≤ h.head l → h.segment l q ≡ s → RowsTold (told_by_rows (rows_at h)) (rows_of s)
 segment_told h l q s some limit fact =
-    all_weaker (Contains (rows_of s)) (RowTold (told_by (rows_at h)))
+    all_weaker (Contains (rows_of s)) (RowTold (told_by_rows (rows_at h)))
     (λ row says. inl (record {
       log = l;
       seq = q;
@@ -109,7 +109,7 @@ module _ (base : Setting) (e : Estate AnyNode) (lines : HasLines base e) (texts 
         ∙ x.sure.are_texts s ((grows base e r line count (suc count) (omega arith)).flown s flew))
 
     -- so it says what is told
-    pub acted_told : (s : Segment) → tables.In s net.flown → SegmentOwed (told_by (rows_at h)) acts s
+    pub acted_told : (s : Segment) → tables.In s net.flown → SegmentOwed (told_by_rows (rows_at h)) acts s
     acted_told s flew acted =
         let filed = filed_then s.name acted in
         let place = x.lined.all s.name filed in
@@ -119,7 +119,7 @@ module _ (base : Setting) (e : Estate AnyNode) (lines : HasLines base e) (texts 
     owner_flew = held g net (line.stands count).moment
 
     -- the flight of one that serves
-    pub flight_told : (log : LogId) → log ≡ record { 0 = l } → (s : LogState) → net.owner ≡ owner.Serving s → FlightOwed (told_by (rows_at h)) acts log s
+    pub flight_told : (log : LogId) → log ≡ record { 0 = l } → (s : LogState) → net.owner ≡ owner.Serving s → FlightOwed (told_by_rows (rows_at h)) acts log s
     flight_told log own s serves flight flies acted =
         acted_told flight.segment flew
         (subst (λ (name : SegName). Contains acts (ActsFiled name)) named acted)
@@ -134,7 +134,7 @@ module _ (base : Setting) (e : Estate AnyNode) (lines : HasLines base e) (texts 
 
     -- what one that opens its log has read back
     pub chain_told : (chain : List Segment) (s : LogState) → net.owner ≡ owner.Writing chain s
-        → AllByRecursion (SegmentOwed (told_by (rows_at h)) acts) chain
+        → AllByRecursion (SegmentOwed (told_by_rows (rows_at h)) acts) chain
     chain_told chain s writes =
-        each_among (SegmentOwed (told_by (rows_at h)) acts) chain
+        each_among (SegmentOwed (told_by_rows (rows_at h)) acts) chain
         (λ t among. acted_told t ((subst (OwnerFlew net.flown) writes owner_flew).read t among))

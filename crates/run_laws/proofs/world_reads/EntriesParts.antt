@@ -6,7 +6,7 @@ use Rattle.core_world.specs.declared.any_node.AnyNode.{AnyNode}
 use Rattle.telling_ties.proofs.entry_tie.Frames.{all_weaker}
 use Rattle.telling_ties.proofs.entry_tie.Rising.{rows_rise, told_more}
 use Rattle.telling_ties.specs.entry_tie.ManagerTells.{PartTold}
-use Rattle.telling_ties.specs.entry_tie.Told.{AreMore, FiledRows, told_by}
+use Rattle.telling_ties.specs.entry_tie.Told.{AreMore, FiledRows, told_by_rows}
 use Rattle.log_tie.specs.Setting.{Setting}
 use Rattle.segment_format.specs.declared.segment.Item.{Item}
 use Rattle.segment_format.specs.declared.segment.Item.TheVariants.{Block, Delta, Part}
@@ -35,13 +35,13 @@ in_contained [] x fact = absurd (contains_nothing x fact)
 in_contained (y ∷ xs) x fact = ⊎_elim (λ same. inl (sym same)) (λ later. inr (in_contained xs x later)) (contains_cases y x xs fact)
 
 module _ (rows later : FiledRows) (more : AreMore rows later) where
-  part_rises : (i : Item) → PartTold (told_by rows) i → PartTold (told_by later) i
+  part_rises : (i : Item) → PartTold (told_by_rows rows) i → PartTold (told_by_rows later) i
   part_rises (Block block value) told = absurd told
   part_rises (Delta block ver hop item) told = absurd told
-  part_rises (Part slot all) told = rows_rise (told_by rows) (told_by later) (told_more rows later more) all told
+  part_rises (Part slot all) told = rows_rise (told_by_rows rows) (told_by_rows later) (told_more rows later more) all told
 
-  parts_rise : (items : List Item) → AllByRecursion (PartTold (told_by rows)) items → AllByRecursion (PartTold (told_by later)) items
-  parts_rise items all = all_weaker (PartTold (told_by rows)) (PartTold (told_by later)) part_rises items all
+  parts_rise : (items : List Item) → AllByRecursion (PartTold (told_by_rows rows)) items → AllByRecursion (PartTold (told_by_rows later)) items
+  parts_rise items all = all_weaker (PartTold (told_by_rows rows)) (PartTold (told_by_rows later)) part_rises items all
 
   module _ (base : Setting) (e : Estate AnyNode) (lines : HasLines base e) where
     -- where more is filed

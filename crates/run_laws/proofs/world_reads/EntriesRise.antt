@@ -10,7 +10,7 @@ use Rattle.telling_ties.specs.entry_tie.CleanerTells.{CleanerHoldsRise, CleanerS
 use Rattle.telling_ties.specs.entry_tie.ClientTells.{ClientHoldsRise, ClientStartsTold, ClientsTellTold}
 use Rattle.telling_ties.specs.entry_tie.ManagerTells.{ManagerHoldsRise, ManagerStartsTold, ManagersTellTold}
 use Rattle.telling_ties.specs.entry_tie.OtherTells.{RegistryTellsNone, ServersTellNone}
-use Rattle.telling_ties.specs.entry_tie.Told.{AreMore, BodyTold, FiledRows, told_by}
+use Rattle.telling_ties.specs.entry_tie.Told.{AreMore, BodyTold, FiledRows, told_by_rows}
 use Rattle.index_tie.proofs.Rows.{by_filed}
 use Rattle.index_tie.proofs.Tables.{first_of}
 use Rattle.index_tie.specs.Filed.{Filed, rows_at}
@@ -70,9 +70,9 @@ module _ (f h : Filed) (more : IsMore f h) where
 
 -- what a packet tells it tells still
 module _ (rows later : FiledRows) (more : AreMore rows later) where
-  body_rises : (m : Body) → BodyTold (told_by rows) m → BodyTold (told_by later) m
+  body_rises : (m : Body) → BodyTold (told_by_rows rows) m → BodyTold (told_by_rows later) m
   body_rises (body.Grant m) fact = told_more rows later more m.block m.entry fact
-  body_rises (body.Deltas m) fact = rows_rise (told_by rows) (told_by later) (told_more rows later more) m.rows fact
+  body_rises (body.Deltas m) fact = rows_rise (told_by_rows rows) (told_by_rows later) (told_more rows later more) m.rows fact
   body_rises (body.Live m) fact = told_more rows later more m.block m.entry fact
   body_rises _ fact = tt
 

@@ -10,7 +10,7 @@ use Rattle.core_world.specs.declared.any_node.AnyNode.TheVariants as any
 use Rattle.telling_ties.specs.entry_tie.CleanerTells.{CleanerOwed}
 use Rattle.telling_ties.specs.entry_tie.ClientTells.{ClientOwed}
 use Rattle.telling_ties.specs.entry_tie.ManagerTells.{ManagerOwed}
-use Rattle.telling_ties.specs.entry_tie.Told.{DoTold, FiledRows, PacketTold, told_by}
+use Rattle.telling_ties.specs.entry_tie.Told.{DoTold, FiledRows, PacketTold, told_by_rows}
 use Rattle.manager_node.specs.Events.{manager_step}
 use Rattle.token_protocol.specs.Basics.{In}
 use Rattle.version_model.specs.declared.act.Act.{Act}
@@ -48,27 +48,27 @@ at_place (z ∷ xs) (suc place) x fact = inr (at_place xs place x fact)
 
 module _ (rows : FiledRows) where
   -- what a packet tells doesn't lie in its clock
-  sent_told : (clock : ℕ) (packets : List Packet) → AllByRecursion (PacketTold (told_by rows)) packets → (p : Packet) → In p (map (sent_at clock) packets)
-      → PacketTold (told_by rows) p
+  sent_told : (clock : ℕ) (packets : List Packet) → AllByRecursion (PacketTold (told_by_rows rows)) packets → (p : Packet) → In p (map (sent_at clock) packets)
+      → PacketTold (told_by_rows rows) p
   sent_told clock [] all p among = absurd among
-  sent_told clock (x ∷ packets) all p (inl fact) = subst (PacketTold (told_by rows)) (sym fact) all.0
+  sent_told clock (x ∷ packets) all p (inl fact) = subst (PacketTold (told_by_rows rows)) (sym fact) all.0
   sent_told clock (x ∷ packets) all p (inr later) = sent_told clock packets all.1 p later
 
   -- ---- one node
 
   -- what an event of a node is owed, of what it files and reads
   abbrev pub AnyOwed : AnyNode → Do → Type 0
-  AnyOwed (any.Client node) what = ClientOwed (told_by rows) node what (client_step node what).acts
-  AnyOwed (any.Manager node) what = ManagerOwed (told_by rows) node what (manager_step node what).acts
+  AnyOwed (any.Client node) what = ClientOwed (told_by_rows rows) node what (client_step node what).acts
+  AnyOwed (any.Manager node) what = ManagerOwed (told_by_rows rows) node what (manager_step node what).acts
   AnyOwed (any.Server node) what = Unit {0}
-  AnyOwed (any.Cleaner node) what = CleanerOwed (told_by rows) node what (cleaner_step node what).acts
+  AnyOwed (any.Cleaner node) what = CleanerOwed (told_by_rows rows) node what (cleaner_step node what).acts
   AnyOwed (any.Registry node) what = Unit {0}
 
   pub record AnyTells (x : AnyNode) (what : Do) : Type 0 where
     pub node : AnyTold rows (any_step x what).node
-    pub packets : AllByRecursion (PacketTold (told_by rows)) (any_step x what).packets
+    pub packets : AllByRecursion (PacketTold (told_by_rows rows)) (any_step x what).packets
 
-  any_tells : EntryKinds → (node : AnyNode) (what : Do) → AnyTold rows node → DoTold (told_by rows) what → AnyOwed node what → AnyTells node what
+  any_tells : EntryKinds → (node : AnyNode) (what : Do) → AnyTold rows node → DoTold (told_by_rows rows) what → AnyOwed node what → AnyTells node what
   any_tells kinds (any.Client node) what holds comes owed =
       (let t = kinds.client rows node what holds comes owed in record { node = t.node; packets = t.packets })
   any_tells kinds (any.Manager node) what holds comes owed =
@@ -85,10 +85,10 @@ module _ (rows : FiledRows) where
     abbrev next : World AnyNode
     next = next_world any_step w event
 
-    comes : DoTold (told_by rows) (what_of event)
+    comes : DoTold (told_by_rows rows) (what_of event)
     comes = by (what_of event) refl
       where
-        by : (what : Do) → what_of event ≡ what → DoTold (told_by rows) what
+        by : (what : Do) → what_of event ≡ what → DoTold (told_by_rows rows) what
         by Begin fact = tt
         by (Deliver p) fact = stand.packets p (came p fact)
         by Tick fact = tt

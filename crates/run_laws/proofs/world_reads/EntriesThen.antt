@@ -21,7 +21,7 @@ use Rattle.telling_ties.specs.entry_tie.CleanerTells.{CleanerOwed}
 use Rattle.telling_ties.specs.entry_tie.ClientTells as client_entries
 use Rattle.telling_ties.specs.entry_tie.ClientTells.{ClientOwed, StageOwed}
 use Rattle.telling_ties.specs.entry_tie.ManagerTells.{FlightHolds, ManagerOwed, PhaseHolds}
-use Rattle.telling_ties.specs.entry_tie.Told.{AreMore, Told, told_by}
+use Rattle.telling_ties.specs.entry_tie.Told.{AreMore, Told, told_by_rows}
 use Rattle.index_tie.proofs.Runs.{good_in}
 use Rattle.index_tie.specs.Filed.{Filed, rows_at}
 use Rattle.index_tie.specs.Growth.{IsMore}
@@ -126,7 +126,7 @@ module _ (base : Setting) (e : Estate AnyNode) (lines : HasLines base e) (texts 
     joint = x.joints part x.of_map
 
     abbrev told : Told
-    told = told_by (rows_at h)
+    told = told_by_rows (rows_at h)
 
     abbrev what : Do
     what = what_of event

@@ -6,7 +6,7 @@ use Rattle.cleaner_emptying.specs.declared.emptying.Emptying.{Emptying}
 use Rattle.cleaner_parts.specs.declared.job.Job.{Job}
 use Rattle.cleaner_parts.specs.Jobs.{check_of, hand_of}
 use Rattle.client_parts.specs.Reads.{value_at}
-use Rattle.telling_ties.specs.entry_tie.Told.{told_by}
+use Rattle.telling_ties.specs.entry_tie.Told.{told_by_rows}
 use Rattle.run_laws.specs.index_reads.Ties.{ArePlain, Tied}
 use Rattle.index_tie.specs.Cleaning.{is_filed_name, IsWithin}
 use Rattle.index_tie.specs.Filed.{Filed, row_at, rows_at}
@@ -128,4 +128,4 @@ abbrev pub LivesTellCopies : Type 0
 LivesTellCopies =
     (members part : ℕ) (holds : SegRef → Rows) (t : tokens.Net) (i : index.Net) (packets : List Packet) (e : Emptying) (p : Packet) (m : Live)
     → Tied members part holds t i → AreExact i.filed → HasJob i e → LivesAnswer packets → AsksOfHand packets e → In p packets → p.body ≡ body.Live m
-    → told_by (rows_at i.filed) m.block m.entry → LiveTold t.books e m
+    → told_by_rows (rows_at i.filed) m.block m.entry → LiveTold t.books e m

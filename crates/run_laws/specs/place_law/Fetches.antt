@@ -11,7 +11,7 @@ use Rattle.client_serving.specs.Flights.{held_at}
 use Rattle.core_world.specs.declared.any_node.AnyNode.{AnyNode}
 use Rattle.core_world.specs.declared.any_node.AnyNode.TheVariants as any
 use Rattle.telling_ties.specs.entry_tie.ClientTells.{ServingHolds}
-use Rattle.telling_ties.specs.entry_tie.Told.{told_by}
+use Rattle.telling_ties.specs.entry_tie.Told.{told_by_rows}
 use Rattle.run_laws.specs.index_reads.Ties.{BooksAre, ArePlain}
 use Rattle.index_tie.specs.Filed.{Filed, rows_at}
 use Rattle.log_protocol.specs.Tables.{In}
@@ -64,7 +64,7 @@ RunsReadTheirFetches =
 -- A client that serves, beside what logs filed: the place of each fetch and of its reading is what a filed segment says of the block, what it holds of the
 -- reading came, and the reading is the fetch's.
 pub record FetchesWell (packets : List Packet) (to : NodeId) (cuts : Cuts) (f : Filed) (s : Serving) : Type 0 where
-  pub told : ServingHolds (told_by (rows_at f)) s
+  pub told : ServingHolds (told_by_rows (rows_at f)) s
   pub came : ServesSo (answered_in packets to) (cut_by cuts) s
   pub its : ReadsItsFetch s
 

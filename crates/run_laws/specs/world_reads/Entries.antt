@@ -7,7 +7,7 @@ use Rattle.core_world.specs.declared.any_node.AnyNode.TheVariants as any
 use Rattle.telling_ties.specs.entry_tie.CleanerTells.{CleanerHolds}
 use Rattle.telling_ties.specs.entry_tie.ClientTells.{ClientHolds}
 use Rattle.telling_ties.specs.entry_tie.ManagerTells.{ManagerHolds, PartTold}
-use Rattle.telling_ties.specs.entry_tie.Told.{FiledRows, PacketTold, told_by}
+use Rattle.telling_ties.specs.entry_tie.Told.{FiledRows, PacketTold, told_by_rows}
 use Rattle.log_protocol.specs.Tables as tables
 use Rattle.log_tie.specs.Setting.{Setting}
 use Rattle.telling_ties.specs.part_tie.ManagerNames.{ManagerNames}
@@ -26,16 +26,16 @@ use Rattle.xfs_base.specs.declared.segment.SegRef.{SegRef}
 
 -- what a node holds of where blocks lie is what these rows say; servers and the registry hold nothing of it
 abbrev pub AnyTold : FiledRows → AnyNode → Type 0
-AnyTold rows (any.Client node) = ClientHolds (told_by rows) node
-AnyTold rows (any.Manager node) = ManagerHolds (told_by rows) node
+AnyTold rows (any.Client node) = ClientHolds (told_by_rows rows) node
+AnyTold rows (any.Manager node) = ManagerHolds (told_by_rows rows) node
 AnyTold rows (any.Server node) = Unit {0}
-AnyTold rows (any.Cleaner node) = CleanerHolds (told_by rows) node
+AnyTold rows (any.Cleaner node) = CleanerHolds (told_by_rows rows) node
 AnyTold rows (any.Registry node) = Unit {0}
 
 -- so it is of each node, and of each packet that was sent
 pub record EntriesStand (rows : FiledRows) (nodes : List AnyNode) (sent : List Packet) : Type 0 where
   pub holds : (node : AnyNode) → In node nodes → AnyTold rows node
-  pub packets : (p : Packet) → In p sent → PacketTold (told_by rows) p
+  pub packets : (p : Packet) → In p sent → PacketTold (told_by_rows rows) p
 
 -- what a node names of checkpoints are these segments; only managers and the registry name any
 abbrev pub AnyNames : Known → AnyNode → Type 0
@@ -61,4 +61,4 @@ module _ (base : Setting) (e : Estate AnyNode) (lines : HasLines base e) where
     pub named : segment.name ≡ ref.name
     pub group : segment.group ≡ ref.group
     pub acted : In (act.Filed ref.name) (did e (log_by (OfManager manager)) count)
-    pub told : AllByRecursion (PartTold (told_by rows)) segment.items
+    pub told : AllByRecursion (PartTold (told_by_rows rows)) segment.items

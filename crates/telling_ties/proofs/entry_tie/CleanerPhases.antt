@@ -47,7 +47,7 @@ use Rattle.cleaner_parts.specs.declared.lasting.Lasting.{Lasting}
 use Rattle.telling_ties.proofs.filed_tie.Frames.{all_append, all_before, all_behind}
 use Rattle.telling_ties.specs.entry_tie.CleanerTells.{MovedTold, WaitTold, ItemTold, FlightMoves, LogMoves, StageHolds, FateTold, CheckTold, CheckingTold, JobTold, PhaseHolds, CleanerHolds, PhaseOwed, CleanerOwed, CleanerStartsTold, CleanerHoldsRise, CleanerTellsTold}
 use Rattle.telling_ties.specs.entry_tie.ClientTells.{DeltasTold}
-use Rattle.telling_ties.specs.entry_tie.Told.{Told, BodyTold, DoTold, told_by, TellsTold}
+use Rattle.telling_ties.specs.entry_tie.Told.{Told, BodyTold, DoTold, told_by_rows, TellsTold}
 use Rattle.telling_ties.proofs.entry_tie.CleanerJobs as jobs
 use Rattle.telling_ties.proofs.entry_tie.CleanerServing.{cleaning_wished, packet_heard, time_passes}
 use Rattle.telling_ties.proofs.entry_tie.Feeds.{pushes_all_say}
@@ -217,7 +217,7 @@ any_cleaner_tells told cleaner what h fact owed =
     record { node = holds told done w.state went.0; packets = frames.packets_tell told done TheCleaner w.outs went.1 }
 
 pub cleaner_tells : CleanerTellsTold
-cleaner_tells rows cleaner what h fact owed = any_cleaner_tells (told_by rows) cleaner what h fact owed
+cleaner_tells rows cleaner what h fact owed = any_cleaner_tells (told_by_rows rows) cleaner what h fact owed
 
 pub cleaner_starts : CleanerStartsTold
 cleaner_starts rows setup works = record { job = tt; feed = tt; log = record { waits = tt; flight = tt } }
@@ -274,4 +274,4 @@ module _ (told later : Told) (more : (block : BlockId) (entry : Entry) → told 
   }
 
 pub cleaner_rises : CleanerHoldsRise
-cleaner_rises rows later cleaner more h = phase_rises (told_by rows) (told_by later) (told_more rows later more) cleaner.phase h
+cleaner_rises rows later cleaner more h = phase_rises (told_by_rows rows) (told_by_rows later) (told_more rows later more) cleaner.phase h

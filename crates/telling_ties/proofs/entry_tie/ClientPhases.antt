@@ -48,7 +48,7 @@ use Rattle.xfs_base.specs.declared.node.NodeId.TheVariants.{Client as AClient}
 use Rattle.xfs_base.specs.Steps.{still}
 use Rattle.telling_ties.proofs.filed_tie.Frames.{all_append, all_before, all_behind}
 use Rattle.telling_ties.specs.entry_tie.ClientTells.{FetchTold, BlockTold, ReadingTold, DeltasTold, FeedTold, PhaseHolds, ClientHolds, PhaseOwed, ClientOwed, ClientStartsTold, ClientHoldsRise, ClientsTellTold}
-use Rattle.telling_ties.specs.entry_tie.Told.{Told, BodyTold, DoTold, told_by, TellsTold}
+use Rattle.telling_ties.specs.entry_tie.Told.{Told, BodyTold, DoTold, told_by_rows, TellsTold}
 use Rattle.telling_ties.proofs.entry_tie.ClientReads.{CallTold, begun_told}
 use Rattle.telling_ties.proofs.entry_tie.Feeds.{pushes_all_say}
 use Rattle.telling_ties.proofs.entry_tie.Frames as frames
@@ -239,7 +239,7 @@ any_client_tells told client what h fact owed =
     record { node = holds told done w.state went.0; packets = frames.packets_tell told done (AClient (lasting_of client.phase).number) w.outs went.1 }
 
 pub clients_tell : ClientsTellTold
-clients_tell rows client what h fact owed = any_client_tells (told_by rows) client what h fact owed
+clients_tell rows client what h fact owed = any_client_tells (told_by_rows rows) client what h fact owed
 
 pub client_starts : ClientStartsTold
 client_starts rows number setup works = record { fetches = λ block. tt; feed = tt; reading = tt }
@@ -272,4 +272,4 @@ module _ (told later : Told) (more : (block : BlockId) (entry : Entry) → told 
   }
 
 pub client_rises : ClientHoldsRise
-client_rises rows later client more h = phase_rises (told_by rows) (told_by later) (told_more rows later more) client.phase h
+client_rises rows later client more h = phase_rises (told_by_rows rows) (told_by_rows later) (told_more rows later more) client.phase h

@@ -43,7 +43,7 @@ use Rattle.xfs_base.specs.declared.setup.Setup.{Setup}
 use Rattle.xfs_base.specs.Steps.{still}
 use Rattle.telling_ties.proofs.filed_tie.Frames.{all_append}
 use Rattle.telling_ties.specs.entry_tie.ManagerTells.{SlotHolds, WorkHolds, PartTold, FlightHolds, ServingHolds, PhaseHolds, ManagerHolds, PacketOwed, DoOwed, ManagerStartsTold, ManagerHoldsRise, ManagersTellTold}
-use Rattle.telling_ties.specs.entry_tie.Told.{Told, AllowsNothing, RowsTold, PacketTold, DoTold, told_by, TellsTold}
+use Rattle.telling_ties.specs.entry_tie.Told.{Told, AllowsNothing, RowsTold, PacketTold, DoTold, told_by_rows, TellsTold}
 use Rattle.telling_ties.proofs.entry_tie.Checkpointing.{checkpoint_on}
 use Rattle.telling_ties.proofs.entry_tie.Frames as frames
 use Rattle.telling_ties.proofs.entry_tie.Frames.{all_weaker}
@@ -209,10 +209,10 @@ any_manager_tells told nothing m what h fact owed =
     record { node = d.state; packets = frames.packets_tell told [] (AManager (lasting_of m.phase).number) (happens m what).outs d.outs }
 
 pub managers_tell : ManagersTellTold
-managers_tell rows m what h fact owed = any_manager_tells (told_by rows) (λ block. inr refl) m what h fact owed
+managers_tell rows m what h fact owed = any_manager_tells (told_by_rows rows) (λ block. inr refl) m what h fact owed
 
 pub manager_starts : ManagerStartsTold
-manager_starts rows number setup works = first_holds (told_by rows) number setup works
+manager_starts rows number setup works = first_holds (told_by_rows rows) number setup works
 
 module _ (told later : Told) (more : (block : BlockId) (entry : Entry) → told block entry → later block entry) where
   all_rise : (all : List (List (BlockId × Entry))) → AllByRecursion (RowsTold told) all → AllByRecursion (RowsTold later) all
@@ -249,4 +249,4 @@ module _ (told later : Told) (more : (block : BlockId) (entry : Entry) → told 
       }
 
 pub manager_rises : ManagerHoldsRise
-manager_rises rows later m more h = phase_rises (told_by rows) (told_by later) (told_more rows later more) m.phase h
+manager_rises rows later m more h = phase_rises (told_by_rows rows) (told_by_rows later) (told_more rows later more) m.phase h

@@ -26,7 +26,7 @@ use Rattle.xfs_base.specs.declared.node.NodeId.TheVariants.{Registry}
 use Rattle.xfs_base.specs.Steps.{still}
 use Rattle.telling_ties.proofs.filed_tie.Frames.{all_append, all_map}
 use Rattle.telling_ties.specs.entry_tie.OtherTells.{RegistryTellsNone}
-use Rattle.telling_ties.specs.entry_tie.Told.{Told, PacketTold, told_by}
+use Rattle.telling_ties.specs.entry_tie.Told.{Told, PacketTold, told_by_rows}
 use Rattle.telling_ties.proofs.entry_tie.Frames as frames
 use Rattle.telling_ties.proofs.entry_tie.Leaving.{all_flat_map}
 
@@ -112,4 +112,4 @@ pub any_registry_tells : (told : Told) (node : RegistryNode) (what : Do) → All
 any_registry_tells told node what = frames.packets_tell told [] Registry (takes node what).outs (takes_quietly told node what)
 
 pub registry_tells : RegistryTellsNone
-registry_tells rows node what = any_registry_tells (told_by rows) node what
+registry_tells rows node what = any_registry_tells (told_by_rows rows) node what

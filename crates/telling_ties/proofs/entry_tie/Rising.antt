@@ -3,7 +3,7 @@ use Rattle.std.proofs.Common.{◌≡◌, ◌⊎◌, inl, inr, List}
 use Rattle.delta_index.specs.Entries.{no_entry}
 use Rattle.xfs_base.specs.declared.block.BlockId.{BlockId}
 use Rattle.xfs_base.specs.declared.entry.Entry.{Entry}
-use Rattle.telling_ties.specs.entry_tie.Told.{Told, RowTold, RowsTold, FiledRows, IsFiled, told_by, AreMore}
+use Rattle.telling_ties.specs.entry_tie.Told.{Told, RowTold, RowsTold, FiledRows, IsFiled, told_by_rows, AreMore}
 use Rattle.telling_ties.proofs.entry_tie.Frames.{all_weaker}
 
 module _ (rows later : FiledRows) (more : AreMore rows later) where
@@ -11,7 +11,7 @@ module _ (rows later : FiledRows) (more : AreMore rows later) where
   by_case block entry (inl fact) = inl (more block entry fact)
   by_case block entry (inr nothing) = inr nothing
 
-  pub told_more : (block : BlockId) (entry : Entry) → told_by rows block entry → told_by later block entry
+  pub told_more : (block : BlockId) (entry : Entry) → told_by_rows rows block entry → told_by_rows later block entry
   told_more block entry fact = by_case block entry fact
 
 module _ (told later : Told) (more : (block : BlockId) (entry : Entry) → told block entry → later block entry) where

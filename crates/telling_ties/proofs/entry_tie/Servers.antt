@@ -46,7 +46,7 @@ use Rattle.store_nodes.specs.Rebuilds.{Done, lists_asked, fetch_asked, says, goe
 use Rattle.store_nodes.specs.ServerEvents.{server_step, on_store, found_or_missing, fence_told, on_fence, on_delete, takes_news, on_news, left_hello, on_welcome, asks_for_maps, tells, hears, hears_known, on_body, on_packet, on_lose, begins_rebuild, on_rebuild, on_wish, at_item, wish_of, on_begin, hello_again, on_tick, on_event, is_far_from_ends, takes}
 use Rattle.telling_ties.proofs.filed_tie.Frames.{all_append}
 use Rattle.telling_ties.specs.entry_tie.OtherTells.{ServersTellNone}
-use Rattle.telling_ties.specs.entry_tie.Told.{Told, PacketTold, told_by}
+use Rattle.telling_ties.specs.entry_tie.Told.{Told, PacketTold, told_by_rows}
 use Rattle.telling_ties.proofs.entry_tie.Frames as frames
 
 module _ (told : Told) where
@@ -233,4 +233,4 @@ pub any_server_tells : (told : Told) (node : nodes.Server) (what : Do) → AllBy
 any_server_tells told node what = frames.packets_tell told [] (Server node.number) (takes node what).outs (takes_quietly told node what)
 
 pub servers_tell : ServersTellNone
-servers_tell rows node what = any_server_tells (told_by rows) node what
+servers_tell rows node what = any_server_tells (told_by_rows rows) node what

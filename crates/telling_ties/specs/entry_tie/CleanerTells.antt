@@ -28,7 +28,7 @@ use Rattle.xfs_base.specs.declared.block.BlockId.{BlockId}
 use Rattle.xfs_base.specs.declared.entry.Entry.{Entry}
 use Rattle.xfs_base.specs.declared.setup.Setup.{Setup}
 use Rattle.telling_ties.specs.entry_tie.ClientTells.{FeedTold, FlightOwed, StageOwed}
-use Rattle.telling_ties.specs.entry_tie.Told.{Told, FiledRows, told_by, HoldsRise, EventsTellTold}
+use Rattle.telling_ties.specs.entry_tie.Told.{Told, FiledRows, told_by_rows, HoldsRise, EventsTellTold}
 
 -- ---- what it holds
 
@@ -122,7 +122,7 @@ CleanerOwed told cleaner what acts = PhaseOwed told acts cleaner.phase
 
 -- the cleaner at its start holds nothing
 abbrev pub CleanerStartsTold : Type 0
-CleanerStartsTold = (rows : FiledRows) (setup : Setup) (works : List Work) → CleanerHolds (told_by rows) (cleaner_start setup works)
+CleanerStartsTold = (rows : FiledRows) (setup : Setup) (works : List Work) → CleanerHolds (told_by_rows rows) (cleaner_start setup works)
 
 -- what filed segments said they say later too
 abbrev pub CleanerHoldsRise : Type 0

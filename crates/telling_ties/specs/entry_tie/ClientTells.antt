@@ -32,7 +32,7 @@ use Rattle.xfs_base.specs.declared.entry.Place.{Place}
 use Rattle.xfs_base.specs.declared.segment.LogId.{LogId}
 use Rattle.xfs_base.specs.declared.segment.SegRef.{SegRef}
 use Rattle.xfs_base.specs.declared.setup.Setup.{Setup}
-use Rattle.telling_ties.specs.entry_tie.Told.{Told, RowsTold, PlaceTold, FiledRows, told_by, HoldsRise, EventsTellTold}
+use Rattle.telling_ties.specs.entry_tie.Told.{Told, RowsTold, PlaceTold, FiledRows, told_by_rows, HoldsRise, EventsTellTold}
 
 -- ---- what it holds
 
@@ -103,7 +103,7 @@ ClientOwed told client what acts = PhaseOwed told acts client.phase
 
 -- a client at its start holds nothing
 abbrev pub ClientStartsTold : Type 0
-ClientStartsTold = (rows : FiledRows) (number : ℕ) (setup : Setup) (works : List Work) → ClientHolds (told_by rows) (first_client number setup works)
+ClientStartsTold = (rows : FiledRows) (number : ℕ) (setup : Setup) (works : List Work) → ClientHolds (told_by_rows rows) (first_client number setup works)
 
 -- what filed segments said they say later too
 abbrev pub ClientHoldsRise : Type 0

@@ -35,7 +35,7 @@ use Rattle.xfs_base.specs.declared.block.BlockId.{BlockId}
 use Rattle.xfs_base.specs.declared.entry.Entry.{Entry}
 use Rattle.xfs_base.specs.declared.node.NodeId.{NodeId}
 use Rattle.xfs_base.specs.declared.setup.Setup.{Setup}
-use Rattle.telling_ties.specs.entry_tie.Told.{Told, RowsTold, FiledRows, told_by, HoldsRise, EventsTellTold}
+use Rattle.telling_ties.specs.entry_tie.Told.{Told, RowsTold, FiledRows, told_by_rows, HoldsRise, EventsTellTold}
 
 -- ---- what it holds
 
@@ -134,7 +134,7 @@ ManagerOwed told manager what acts = DoOwed told manager.phase what
 
 -- a manager at its start holds nothing
 abbrev pub ManagerStartsTold : Type 0
-ManagerStartsTold = (rows : FiledRows) (number : ℕ) (setup : Setup) (works : List Work) → ManagerHolds (told_by rows) (first_manager number setup works)
+ManagerStartsTold = (rows : FiledRows) (number : ℕ) (setup : Setup) (works : List Work) → ManagerHolds (told_by_rows rows) (first_manager number setup works)
 
 -- what filed segments said they say later too
 abbrev pub ManagerHoldsRise : Type 0

@@ -5,12 +5,13 @@ use Rattle.store_nodes.specs.declared.server.Server.{Server}
 use Rattle.registry_node.specs.Events.{registry_step}
 use Rattle.store_nodes.specs.ServerEvents.{server_step}
 use Rattle.wire_msg.specs.declared.packet.Do.{Do}
-use Rattle.telling_ties.specs.entry_tie.Told.{PacketTold, FiledRows, told_by}
+use Rattle.telling_ties.specs.entry_tie.Told.{PacketTold, FiledRows, told_by_rows}
 
 -- whatever happens to a server, and whatever was filed
 abbrev pub ServersTellNone : Type 0
-ServersTellNone = (rows : FiledRows) (server : Server) (what : Do) → AllByRecursion (PacketTold (told_by rows)) (server_step server what).packets
+ServersTellNone = (rows : FiledRows) (server : Server) (what : Do) → AllByRecursion (PacketTold (told_by_rows rows)) (server_step server what).packets
 
 -- whatever happens to the registry, and whatever was filed
 abbrev pub RegistryTellsNone : Type 0
-RegistryTellsNone = (rows : FiledRows) (registry : RegistryNode) (what : Do) → AllByRecursion (PacketTold (told_by rows)) (registry_step registry what).packets
+RegistryTellsNone =
+    (rows : FiledRows) (registry : RegistryNode) (what : Do) → AllByRecursion (PacketTold (told_by_rows rows)) (registry_step registry what).packets

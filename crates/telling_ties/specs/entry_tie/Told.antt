@@ -63,8 +63,8 @@ pub record IsFiled (rows : FiledRows) (block : BlockId) (entry : Entry) : Type 0
   pub says : Contains (rows log seq) (block, entry)
 
 -- a filed segment says it of the block, or it is that nothing is known of the block
-abbrev pub told_by : FiledRows → Told
-told_by rows block entry = IsFiled rows block entry ⊎ (entry ≡ no_entry)
+abbrev pub told_by_rows : FiledRows → Told
+told_by_rows rows block entry = IsFiled rows block entry ⊎ (entry ≡ no_entry)
 
 -- no row is missing later
 abbrev pub AreMore : FiledRows → FiledRows → Type 0
@@ -79,11 +79,11 @@ pub record TellsTold {N : Type 0} (Holds : N → Type 0) (told : Told) (step : N
 
 -- what filed segments said they say later too
 abbrev pub HoldsRise : (N : Type 0) → (Told → N → Type 0) → Type 0
-HoldsRise N Holds = (rows later : FiledRows) (node : N) → AreMore rows later → Holds (told_by rows) node → Holds (told_by later) node
+HoldsRise N Holds = (rows later : FiledRows) (node : N) → AreMore rows later → Holds (told_by_rows rows) node → Holds (told_by_rows later) node
 
 -- Each event of a node of this kind: where what the node holds, what the packet that comes tells, and what the node itself files or reads back as filed in the
 -- event, is what filed segments tell, so is all that it holds then, and all that it sends.
 abbrev pub EventsTellTold : (N : Type 0) → (Told → N → Type 0) → (Told → N → Do → List Act → Type 0) → (N → Do → NodeStep N) → Type 0
 EventsTellTold N Holds Owed step =
-    (rows : FiledRows) (node : N) (what : Do) → Holds (told_by rows) node → DoTold (told_by rows) what → Owed (told_by rows) node what (step node what).acts
-    → TellsTold (Holds (told_by rows)) (told_by rows) (step node what)
+    (rows : FiledRows) (node : N) (what : Do) → Holds (told_by_rows rows) node → DoTold (told_by_rows rows) what
+    → Owed (told_by_rows rows) node what (step node what).acts → TellsTold (Holds (told_by_rows rows)) (told_by_rows rows) (step node what)

@@ -1,4 +1,4 @@
-use Rattle.std.proofs.Common.{◌≡◌, ◌+◌, ◌<◌, length, get_or, arith}
+use Rattle.std.proofs.Common.{◌<◌, length, get_or, arith}
 use Rattle.manager_parts.specs.SlotTable.{TableAsker, table_asker, asks}
 use Rattle.manager_parts.proofs.Turns.{table_asker_is, table_on, effects_on}
 use Rattle.manager_parts.proofs.slot_table.SlotTable.ask_each.Goals as goal

@@ -1,4 +1,4 @@
-use Rattle.std.proofs.Common.{◌≡◌, ◌+◌, ◌<◌, ◌++◌, length, ap, ◌∙◌, arith}
+use Rattle.std.proofs.Common.{◌+◌, ◌<◌, ◌++◌, length, ap, ◌∙◌, arith}
 use Rattle.manager_parts.specs.SlotTable.{TableAsker, table_asker, hearer, hears}
 use Rattle.manager_parts.proofs.Turns.{table_asker_is, table_on, effects_on}
 use Rattle.manager_parts.proofs.slot_table.SlotTable.hear_each.Goals as goal

@@ -1,4 +1,4 @@
-use Rattle.std.proofs.Common.{◌≡◌, IsTrue, sym, subst}
+use Rattle.std.proofs.Common.{IsTrue, sym, subst}
 use Rattle.std.specs.List.{AllByRecursion}
 use Rattle.version_model.specs.declared.act.Fall.{Fall}
 use Rattle.version_model.specs.Legal.{IsLegalIn, MayFall, NamesNoBlockTwice}
