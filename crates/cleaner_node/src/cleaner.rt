@@ -14,10 +14,16 @@ use wire_msg::{Actor, Do, Packet};
 use xfs_base::{Crosses, List, Mem, NodeId, Setup};
 
 /// The cleaner: it empties old segments, whose live blocks it moves to a log of its own.
-#[derive(Drop)]
 pub struct Cleaner {
     pub(crate) peers: Peers,
     pub(crate) phase: Phase,
+}
+
+// It is let go of here once, and not part by part wherever a node of any kind is held.
+impl Drop for Cleaner {
+    fn drop(self) {
+        let Cleaner { peers: _, phase: _ } = self;
+    }
 }
 
 /// What the cleaner has: in each phase what outlives a crash, and in each what exists in it alone.

@@ -25,11 +25,21 @@ use wire_msg::{Actor, Do, Packet};
 use xfs_base::{Crosses, List, Mem, NodeId, Setup};
 
 /// A client.
-#[derive(Drop)]
 pub struct Client {
     peers: Peers,
     cache: u16,
     phase: Phase,
+}
+
+// It is let go of here once, and not part by part wherever a node of any kind is held.
+impl Drop for Client {
+    fn drop(self) {
+        let Client {
+            peers: _,
+            cache: _,
+            phase: _,
+        } = self;
+    }
 }
 
 impl Actor for Client {

@@ -21,10 +21,16 @@ use wire_msg::{Body, Do, Packet, Welcome};
 use xfs_base::{List, Mem, NodeId, Setup};
 
 /// A manager: of each of its slots it has the tokens and the index.
-#[derive(Drop)]
 pub struct Manager {
     pub(crate) peers: Peers,
     pub(crate) phase: Phase,
+}
+
+// It is let go of here once, and not part by part wherever a node of any kind is held.
+impl Drop for Manager {
+    fn drop(self) {
+        let Manager { peers: _, phase: _ } = self;
+    }
 }
 
 impl Manager {

@@ -16,11 +16,21 @@ use xfs_base::{Crosses, List, Mem, NodeId, Setup};
 
 /// The registry: it gives out the maps, and changes them when a manager starts again, a server loses its
 /// disk, a slot is moved, or a checkpoint is written.
-#[derive(Drop)]
 pub struct RegistryNode {
     peers: Peers,
     items: Items,
     board: Board,
+}
+
+// It is let go of here once, and not part by part wherever a node of any kind is held.
+impl Drop for RegistryNode {
+    fn drop(self) {
+        let RegistryNode {
+            peers: _,
+            items: _,
+            board: _,
+        } = self;
+    }
 }
 
 impl Actor for RegistryNode {

@@ -20,7 +20,6 @@ use xfs_base::{Crosses, List, Mem, NodeId, Setup};
 
 /// A storage server: it keeps fragments of stripes on its shelf, and fills it again from the other servers
 /// once its disk was lost.
-#[derive(Drop)]
 pub struct Server {
     pub(crate) number: u8,
     pub(crate) peers: Peers,
@@ -30,6 +29,22 @@ pub struct Server {
     pub(crate) shelf: Shelf,
     pub(crate) hello: Option<u32>,
     pub(crate) rebuilding: Option<Rebuilding>,
+}
+
+// It is let go of here once, and not part by part wherever a node of any kind is held.
+impl Drop for Server {
+    fn drop(self) {
+        let Server {
+            number: _,
+            peers: _,
+            items: _,
+            maps: _,
+            questions: _,
+            shelf: _,
+            hello: _,
+            rebuilding: _,
+        } = self;
+    }
 }
 
 /// A rebuild that is under way: the question under which the lists are asked for, and that of the round
