@@ -1,4 +1,4 @@
-use Rattle.std.proofs.Common.{get_or, take, sym, ap, subst, ◌∙◌}
+use Rattle.std.proofs.Common.{[], ◌∷◌, get_or, take, sym, ap, subst, ◌∙◌}
 use Rattle.std.proofs.lemmas.List.{take_more}
 use Rattle.version_model.specs.Effects.{after_act, history_after}
 use Rattle.version_model.specs.History.{nothing_yet}
