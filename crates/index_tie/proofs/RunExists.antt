@@ -11,6 +11,7 @@ use Rattle.xfs_base.specs.declared.segment.LogId.{LogId}
 use Rattle.xfs_base.specs.declared.segment.SegRef.{SegRef}
 use Rattle.xfs_base.proofs.Booleans.{by_test}
 use Rattle.xfs_base.proofs.Members.{contains_first}
+use Rattle.xfs_base.specs.Nodes.{same_node}
 use Rattle.segment_format.specs.declared.segment.Item.TheVariants.{Delta}
 use Rattle.segment_format.specs.declared.segment.Segment.{Segment}
 use Rattle.segment_format.specs.Rows.{rows_of}
@@ -23,7 +24,7 @@ use Rattle.takeover.specs.declared.input.In.TheVariants.{Report}
 use Rattle.takeover.specs.declared.output.Out.TheVariants.{Active}
 use Rattle.takeover.specs.Course.{Course, course_of, after_input}
 use Rattle.takeover.specs.Reports as reports
-use Rattle.takeover.specs.Reports.{no_end, end_of, same_node, writer_of}
+use Rattle.takeover.specs.Reports.{no_end, end_of, writer_of}
 use Rattle.takeover.specs.Transition as takeover
 use Rattle.token_manager.specs.declared.input.In.TheVariants.{Deltas}
 use Rattle.token_manager.specs.Transition.{started, cleaned, transition}

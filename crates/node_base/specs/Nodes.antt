@@ -1,10 +1,10 @@
 -- The nodes of a run.
-use Rattle.std.specs.Prelude.{ℕ, ◌+◌, Bool, true, ◌==◌, ◌&&◌, not, nat_le, List, [], ◌∷◌, ◌++◌, Option, Some, None, map, filter}
+use Rattle.std.specs.Prelude.{ℕ, ◌+◌, Bool, true, ◌&&◌, not, nat_le, List, [], ◌∷◌, ◌++◌, Option, Some, None, map, filter}
 use Rattle.std.specs.List.{range_with_len}
 use Rattle.xfs_base.specs.declared.node.NodeId.{NodeId}
 use Rattle.xfs_base.specs.declared.node.NodeId.TheVariants.{Client, Manager, Server, Cleaner, Registry}
 use Rattle.xfs_base.specs.declared.setup.Setup.{Setup}
-use Rattle.xfs_base.specs.Nodes.{kind_rank, number_of}
+use Rattle.xfs_base.specs.Nodes.{same_node}
 use Rattle.node_base.specs.declared.peers.Peers.{Peers}
 
 -- the nodes of a setup
@@ -54,9 +54,6 @@ servers count = map nth_server (range_with_len 0 count)
 -- all nodes, in order
 abbrev pub all_nodes : Peers → List NodeId
 all_nodes peers = clients peers.clients ++ (managers peers.managers ++ (servers peers.servers ++ Cleaner ∷ Registry ∷ []))
-
-abbrev pub same_node : NodeId → NodeId → Bool
-same_node a b = (kind_rank a == kind_rank b) && (number_of a == number_of b)
 
 abbrev pub is_other : NodeId → NodeId → Bool
 is_other node other = not (same_node other node)

@@ -9,12 +9,13 @@ use Rattle.wire_msg.specs.declared.packet.Packet.{Packet}
 use Rattle.wire_msg.specs.NodeStep.{NodeStep}
 use Rattle.xfs_base.specs.declared.node.NodeId.{NodeId}
 use Rattle.xfs_base.specs.declared.setup.Setup.{Setup}
+use Rattle.xfs_base.specs.Nodes.{same_node}
 use Rattle.world_base.specs.declared.event.Event.{Event}
 use Rattle.world_base.specs.declared.event.Event.TheVariants as events
 use Rattle.world_base.specs.declared.schedule.Next.{Next}
 use Rattle.world_base.specs.declared.schedule.Next.TheVariants.{Deliver, Round, Done}
 use Rattle.world_base.specs.Cluster.{nodes_of}
-use Rattle.world_base.specs.Items.{actor_of, is_for, is_for_actor, items_of, same_node, works_of}
+use Rattle.world_base.specs.Items.{actor_of, is_for, is_for_actor, items_of, works_of}
 use Rattle.world_base.specs.Runs.{BeginsAll, begun_in}
 use Rattle.world_base.specs.Schedule.{goes, left}
 use Rattle.play.specs.declared.player.Player.{Player}

@@ -1,34 +1,15 @@
 -- The first crash that no later restart follows, from the last item to the first.
 use Rattle.std.proofs.Common.{◌≡◌, ℕ, suc, ◌+◌, ◌<◌, Bool, true, false, not, ◌||◌, List, [], ◌∷◌, ◌++◌, length, drop, get_or, refl, sym, ◌∙◌, ap, arith, Option, Some, None, if◌then◌else◌, add-one, drop-cons}
-use Rattle.std.proofs.lemmas.Bool.{eqb-true}
 use Rattle.std.specs.List.{list_any}
 use Rattle.std.proofs.lemmas.List.Folds.{list_any-append}
 use Rattle.xfs_base.specs.declared.node.NodeId.{NodeId}
-use Rattle.xfs_base.specs.declared.node.NodeId.TheVariants.{Client, Manager, Server, Cleaner, Registry}
+use Rattle.xfs_base.proofs.NodeOrder.{same_node_is}
+use Rattle.xfs_base.specs.Nodes.{same_node}
 use Rattle.version_model.specs.declared.work.Work.{Work}
 use Rattle.version_model.specs.declared.work.Work.TheVariants as works
 use Rattle.script_text.specs.declared.script.Line.{Line}
-use Rattle.script_text.specs.Script.{same_node, restarts, is_unclosed, unclosed}
+use Rattle.script_text.specs.Script.{restarts, is_unclosed, unclosed}
 use Rattle.script_text.specs.Reading.{with_node, after_work, crash_before, found_before}
-
-same_is : (a b : NodeId) → same_node a b ≡ true → a ≡ b
-same_is (Client k) (Client j) e = ap Client (eqb-true k j e)
-same_is (Manager k) (Manager j) e = ap Manager (eqb-true k j e)
-same_is Cleaner Cleaner e = refl
-same_is (Client k) (Manager j) e = absurd (grind (arith, e))
-same_is (Client k) (Server j) e = absurd (grind (arith, e))
-same_is (Client k) Cleaner e = absurd (grind (arith, e))
-same_is (Client k) Registry e = absurd (grind (arith, e))
-same_is (Manager k) (Client j) e = absurd (grind (arith, e))
-same_is (Manager k) (Server j) e = absurd (grind (arith, e))
-same_is (Manager k) Cleaner e = absurd (grind (arith, e))
-same_is (Manager k) Registry e = absurd (grind (arith, e))
-same_is (Server k) b e = absurd (grind (arith, e))
-same_is Cleaner (Client j) e = absurd (grind (arith, e))
-same_is Cleaner (Manager j) e = absurd (grind (arith, e))
-same_is Cleaner (Server j) e = absurd (grind (arith, e))
-same_is Cleaner Registry e = absurd (grind (arith, e))
-same_is Registry b e = absurd (grind (arith, e))
 
 or_true : (a : Bool) → (a || true) ≡ true
 or_true true = refl
@@ -52,7 +33,7 @@ any_same (n ∷ ns) m node e f = at_test (λ h. any_same ns m node h f) (same_no
     at_test : (list_any (λ x. same_node x m) ns ≡ true → list_any (λ x. same_node x node) ns ≡ true) → (t : Bool) → same_node n m ≡ t
         → (t || list_any (λ x. same_node x m) ns) ≡ true → (same_node n node || list_any (λ x. same_node x node) ns) ≡ true
     at_test i true g h =
-        let k : same_node n node ≡ true = ap (λ x. same_node x node) (same_is n m g) ∙ f in
+        let k : same_node n node ≡ true = ap (λ x. same_node x node) (same_node_is n m g) ∙ f in
         rw k refl
     at_test i false g h = ap (λ b. same_node n node || b) (i h) ∙ or_true (same_node n node)
 

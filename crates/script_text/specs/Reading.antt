@@ -11,6 +11,7 @@ use Rattle.xfs_base.specs.declared.setup.Setup.{Setup}
 use Rattle.xfs_base.specs.declared.setup.GroupSetup.{GroupSetup}
 use Rattle.xfs_base.specs.declared.node.NodeId.{NodeId}
 use Rattle.xfs_base.specs.Limits.{u32_end, max_value, max_text, max_lines, max_bytes}
+use Rattle.xfs_base.specs.Nodes.{same_node}
 use Rattle.version_model.specs.declared.work.Work.{Work}
 use Rattle.version_model.specs.declared.work.Work.TheVariants as works
 use Rattle.script_text.specs.declared.form.Form.{Form}
@@ -41,7 +42,7 @@ use Rattle.script_text.specs.Text.{is_plain}
 use Rattle.script_text.specs.Forms.{Meaning, Meanings, verb, parts, work_of, all_forms, is_net, has_words, piece_of, behind_part}
 use Rattle.script_text.specs.Outcome.{◌>>=◌, judge, or_fault, Fails}
 use Rattle.script_text.specs.Spelling.{Context, form_fault, limit_fault}
-use Rattle.script_text.specs.Script.{is_timed, untimed, is_setup_word, is_whole, is_silent, text_size, at_place, item_at, open_crash, start, same_node}
+use Rattle.script_text.specs.Script.{is_timed, untimed, is_setup_word, is_whole, is_silent, text_size, at_place, item_at, open_crash, start}
 
 -- the words that are left of a line
 abbrev pub left_of : Option (Bor (List ℕ)) → List (List ℕ)

@@ -6,8 +6,8 @@ use Rattle.std.specs.Str.{bytes_eq}
 use Rattle.std.specs.Fmt.{decimal}
 use Rattle.xfs_base.specs.declared.setup.GroupSetup.{GroupSetup}
 use Rattle.xfs_base.specs.declared.node.NodeId.{NodeId}
-use Rattle.xfs_base.specs.declared.node.NodeId.TheVariants.{Client, Manager, Cleaner}
 use Rattle.xfs_base.specs.Limits.{u32_end, max_lines, max_bytes}
+use Rattle.xfs_base.specs.Nodes.{same_node}
 use Rattle.version_model.specs.declared.work.Work.{Work}
 use Rattle.version_model.specs.declared.work.Work.TheVariants as works
 use Rattle.version_model.specs.declared.file_call.FileCall.TheVariants as calls
@@ -190,13 +190,6 @@ start = record {
   room = 67108864;
   items = [];
 }
-
--- two names of a node that may crash are the same
-abbrev pub same_node : NodeId → NodeId → Bool
-same_node (Client k) (Client j) = k == j
-same_node (Manager k) (Manager j) = k == j
-same_node Cleaner Cleaner = true
-same_node a b = false
 
 -- the work restarts this node
 abbrev pub restarts : NodeId → Work → Bool

@@ -1,7 +1,8 @@
 //! Crashes that no later restart follows.
 ghost use Rattle.std.specs.Prelude.{◌≡◌, IfOk, OnOk};
 ghost use Rattle.std.specs.List.{list_any};
-ghost use Rattle.script_text.specs.Script.{same_node, unclosed, open_crash};
+ghost use Rattle.xfs_base.specs.Nodes.{same_node};
+ghost use Rattle.script_text.specs.Script.{unclosed, open_crash};
 ghost use Rattle.script_text.specs.Reading.{with_node, after_work, found_before};
 
 use crate::Line;
@@ -9,42 +10,11 @@ use std::alloc::Global;
 use version_model::Work;
 use xfs_base::{List, Mem, NodeId};
 
-/// Whether two names are of one node that may crash.
-fn is_same(a: NodeId, b: NodeId) -> bool
-    ensures { result ≡ same_node a b }
-{
-    match a {
-        NodeId::Client(k) => match b {
-            NodeId::Client(j) => k == j,
-            NodeId::Manager(_) => false,
-            NodeId::Server(_) => false,
-            NodeId::Cleaner => false,
-            NodeId::Registry => false,
-        },
-        NodeId::Manager(k) => match b {
-            NodeId::Client(_) => false,
-            NodeId::Manager(j) => k == j,
-            NodeId::Server(_) => false,
-            NodeId::Cleaner => false,
-            NodeId::Registry => false,
-        },
-        NodeId::Server(_) => false,
-        NodeId::Cleaner => match b {
-            NodeId::Client(_) => false,
-            NodeId::Manager(_) => false,
-            NodeId::Server(_) => false,
-            NodeId::Cleaner => true,
-            NodeId::Registry => false,
-        },
-        NodeId::Registry => false,
-    }
-}
-
 /// Whether one of these nodes is this one.
 fn has(nodes: &[NodeId], node: NodeId) -> bool
     ensures { result ≡ list_any (λ n. same_node n node) nodes.now }
 {
-    nodes.iter().any(|n| is_same(*n, node))
+    nodes.iter().any(|other| other.order(node).is_eq())
 }
 
 /// Adds a node, unless it is one of these.

@@ -11,7 +11,7 @@ use Rattle.xfs_base.specs.declared.segment.SegName.{SegName}
 use Rattle.segment_format.specs.declared.head.Head.{Head}
 use Rattle.segment_format.specs.declared.seg_error.SegError.TheVariants.{BadMark, BadVersion, BadLength}
 use Rattle.segment_format.specs.Format.{most_items, is_mark, is_log, is_version, is_length}
-use Rattle.segment_format.specs.Reading.{Reader, gives, raw, number, checked}
+use Rattle.segment_format.specs.Reading.{Reader, ◌>>=◌, gives, raw, number, checked}
 
 unfoldable pub block_at : Reader BlockId
 block_at = do

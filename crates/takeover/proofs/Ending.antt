@@ -9,12 +9,12 @@ use Rattle.stripe_code.specs.declared.round.Told.TheVariants as told
 use Rattle.xfs_base.specs.declared.node.NodeId.{NodeId}
 use Rattle.xfs_base.specs.Steps.{still}
 use Rattle.xfs_base.proofs.Booleans.{contrary, by_test, and_second}
+use Rattle.xfs_base.specs.Nodes.{same_node}
 use Rattle.takeover.specs.declared.input.In.{In}
 use Rattle.takeover.specs.declared.input.In.TheVariants as input
 use Rattle.takeover.specs.declared.report.Report.{Report}
 use Rattle.takeover.specs.declared.source.Present.{Present}
 use Rattle.takeover.specs.Course.{IsOver}
-use Rattle.takeover.specs.Reports.{same_node}
 use Rattle.takeover.specs.TakeState.{TakeState}
 use Rattle.takeover.specs.Transition.{Done, awaited, awaits, can_ask, polls, told_at, on_told, begun_if_all, on_report, waiting, sought_again, on_maps, repeated, transition}
 

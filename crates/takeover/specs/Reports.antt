@@ -1,8 +1,7 @@
 -- What the clients and the cleaner report: what clients hold, and how far their logs reach.
 use Rattle.std.specs.Prelude.{ℕ, ◌+◌, ◌-◌, Bool, ◌==◌, not, List, [], ◌∷◌, ◌++◌, map, filter, max, slice_index, if◌then◌else◌}
 use Rattle.std.specs.List.{list_any, flat_map, range_with_len}
-use Rattle.std.specs.Ordering.{is_eq}
-use Rattle.xfs_base.specs.Nodes.{node_cmp}
+use Rattle.xfs_base.specs.Nodes.{same_node}
 use Rattle.xfs_base.specs.declared.block.BlockId.{BlockId}
 use Rattle.xfs_base.specs.declared.node.NodeId.{NodeId}
 use Rattle.xfs_base.specs.declared.node.NodeId.TheVariants.{Client, Manager, Server, Cleaner, Registry}
@@ -10,9 +9,6 @@ use Rattle.xfs_base.specs.declared.segment.End.{End}
 use Rattle.xfs_base.specs.declared.token.Mode.{Mode}
 use Rattle.takeover.specs.declared.report.Report.{Report}
 pub use Rattle.xfs_base.specs.Segments.{no_end}
-
-abbrev pub same_node : NodeId → NodeId → Bool
-same_node a b = is_eq (node_cmp a b)
 
 abbrev pub client_after : ℕ → NodeId
 client_after before = Client (before + 1)

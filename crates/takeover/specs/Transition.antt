@@ -19,6 +19,7 @@ use Rattle.xfs_base.specs.declared.node.NodeId.{NodeId}
 use Rattle.xfs_base.specs.declared.segment.SegName.{SegName}
 use Rattle.xfs_base.specs.Limits.{u32_end}
 use Rattle.xfs_base.specs.Steps.{Stepped, still}
+use Rattle.xfs_base.specs.Nodes.{same_node}
 use Rattle.takeover.specs.declared.input.In.{In}
 use Rattle.takeover.specs.declared.input.In.TheVariants as input
 use Rattle.takeover.specs.declared.output.Out.{Out}
@@ -26,7 +27,7 @@ use Rattle.takeover.specs.declared.output.Out.TheVariants.{Poll, Fetch, Active, 
 use Rattle.takeover.specs.declared.report.Report.{Report}
 use Rattle.takeover.specs.declared.source.Present.{Present}
 use Rattle.takeover.specs.declared.source.Source.{Source}
-use Rattle.takeover.specs.Reports.{same_node, awaited_of, applied_of, beliefs_of}
+use Rattle.takeover.specs.Reports.{awaited_of, applied_of, beliefs_of}
 use Rattle.takeover.specs.Rows.{told_of}
 use Rattle.takeover.specs.Sources.{sources_of, back_from}
 use Rattle.takeover.specs.TakeState.{TakeState}

@@ -1,7 +1,8 @@
 //! The reports of the clients and the cleaner.
 ghost use Rattle.std.specs.Prelude.{◌≡◌, ◌++◌, ◌+◌, ◌≤◌, IfOk, OnOk, map};
 ghost use Rattle.std.specs.List.{list_any};
-ghost use Rattle.takeover.specs.Reports.{same_node, polled, is_heard, unheard, awaited_of, writer_of, end_from, end_of, horizon_at, applied_at, applied_of, with_client, held_by, beliefs_of};
+ghost use Rattle.xfs_base.specs.Nodes.{same_node};
+ghost use Rattle.takeover.specs.Reports.{polled, is_heard, unheard, awaited_of, writer_of, end_from, end_of, horizon_at, applied_at, applied_of, with_client, held_by, beliefs_of};
 
 use std::alloc::Global;
 use xfs_base::{BlockId, End, List, Mem, Mode, NodeId, Pass};

@@ -15,7 +15,7 @@ use Rattle.xfs_base.specs.declared.node.NodeId.{NodeId}
 use Rattle.xfs_base.specs.Nodes.{node_cmp}
 use Rattle.xfs_base.proofs.BlockOrder.{lookup-insert_entry}
 use Rattle.xfs_base.specs.Limits.{u32_end}
-use Rattle.transcript.proofs.NodeOrder.{node_total, node_eq_swap, same_node_is}
+use Rattle.xfs_base.proofs.NodeOrder.{node_total, same_node_swap, same_node_is}
 use Rattle.transcript.specs.declared.replies.Reply.{Reply}
 use Rattle.transcript.specs.Numbers.{Numbers, last_of, next_of, behind_item, behind_line, AreOf}
 use Rattle.transcript.specs.Replies.{Table}
@@ -94,7 +94,7 @@ at_actor numbers node c None h = h ∙ ap (λ x. min x u32_end) (add_nothing c)
     add_nothing c = omega arith
 at_actor numbers node c (Some n) h =
     ap (λ x. unwrap_or x 0) (lookup-insert_entry node_total node n (next_of numbers n) numbers)
-    ∙ ap (λ t. unwrap_or (cond t (Some (next_of numbers n)) (lookup (is_at (node_cmp node)) numbers)) 0) (node_eq_swap node n)
+    ∙ ap (λ t. unwrap_or (cond t (Some (next_of numbers n)) (lookup (is_at (node_cmp node)) numbers)) 0) (same_node_swap node n)
     ∙ with_item numbers n node c (is_eq (node_cmp n node)) refl h
 
 pub numbers_kept : (numbers : Numbers) (before : List Line) (line : Line) → AreOf numbers before → AreOf (behind_line numbers line) (before ++ line ∷ [])

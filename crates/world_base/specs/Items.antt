@@ -1,9 +1,8 @@
 -- Which node a line of a script is for.
 use Rattle.std.specs.Prelude.{Bool, false, List, Option, Some, None, map, filter}
-use Rattle.std.specs.Ordering.{is_eq}
 use Rattle.xfs_base.specs.declared.node.NodeId.{NodeId}
 use Rattle.xfs_base.specs.declared.node.NodeId.TheVariants as nodes
-use Rattle.xfs_base.specs.Nodes.{node_cmp}
+use Rattle.xfs_base.specs.Nodes.{same_node}
 use Rattle.version_model.specs.declared.work.Work.{Work}
 use Rattle.version_model.specs.declared.work.Work.TheVariants as works
 use Rattle.script_text.specs.declared.script.Line.{Line}
@@ -22,10 +21,6 @@ actor_of (works.Rebuild server) = Some (nodes.Server server)
 actor_of (works.Move slot manager) = Some nodes.Registry
 actor_of (works.Clean count) = Some nodes.Cleaner
 actor_of work = None
-
--- whether two names are of one node
-abbrev pub same_node : NodeId → NodeId → Bool
-same_node a b = is_eq (node_cmp a b)
 
 abbrev pub is_for_actor : NodeId → Option NodeId → Bool
 is_for_actor node None = false

@@ -9,10 +9,11 @@ use Rattle.wire_msg.specs.declared.packet.Packet.{Packet}
 use Rattle.wire_msg.specs.NodeStep.{NodeStep}
 use Rattle.xfs_base.specs.declared.node.NodeId.{NodeId}
 use Rattle.xfs_base.specs.declared.setup.Setup.{Setup}
+use Rattle.xfs_base.specs.Nodes.{same_node}
 use Rattle.world_base.specs.declared.event.Event.{Event}
 use Rattle.world_base.specs.declared.event.Event.TheVariants.{Begin, Deliver, Tick}
 use Rattle.world_base.specs.declared.world.World.{World}
-use Rattle.world_base.specs.Items.{items_of, same_node}
+use Rattle.world_base.specs.Items.{items_of}
 use Rattle.world_base.specs.NextWorld.{next_world, start_world}
 
 -- a packet is one of those that were sent

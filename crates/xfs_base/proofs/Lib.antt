@@ -1,6 +1,7 @@
 pub mod BlockOrder
 pub mod Booleans
 pub mod Members
+pub mod NodeOrder
 pub mod Orders
 pub mod Pairs
 pub mod Sorted

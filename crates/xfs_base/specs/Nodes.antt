@@ -1,6 +1,6 @@
 -- The order of nodes.
-use Rattle.std.specs.Prelude.{ℕ}
-use Rattle.std.specs.Ordering.{nat_cmp, ordering_then}
+use Rattle.std.specs.Prelude.{ℕ, Bool}
+use Rattle.std.specs.Ordering.{is_eq, nat_cmp, ordering_then}
 use Rattle.std.specs.declared.cmp.Ordering.{Ordering}
 use Rattle.xfs_base.specs.declared.node.NodeId.{NodeId}
 use Rattle.xfs_base.specs.declared.node.NodeId.TheVariants.{Client, Manager, Server, Cleaner, Registry}
@@ -24,3 +24,7 @@ number_of Registry = 0
 -- by kind, then by number
 abbrev pub node_cmp : NodeId → NodeId → Ordering
 node_cmp a b = ordering_then (nat_cmp (kind_rank a) (kind_rank b)) (nat_cmp (number_of a) (number_of b))
+
+-- both name one node
+abbrev pub same_node : NodeId → NodeId → Bool
+same_node a b = is_eq (node_cmp a b)

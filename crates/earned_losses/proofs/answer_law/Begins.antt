@@ -1,32 +1,20 @@
 -- How many items of a node have begun after some events, and that each node knows of so many at most.
 use Rattle.std.proofs.Common.{◌≡◌, ◌⊎◌, ℕ, zero, suc, ◌+◌, ◌≤◌, true, false, cond, List, [], ◌∷◌, ◌++◌, Option, Some, None, filter, length, slice_get, take, inl, inr, refl, sym, ap, ◌∙◌, arith}
-use Rattle.std.specs.Ordering.{is_eq, nat_cmp}
-use Rattle.std.proofs.lemmas.Bool.Decides.{nat_tests}
 use Rattle.node_base.specs.Beginning.{is_left, next_item}
 use Rattle.node_base.specs.declared.items.Items.{Items}
 use Rattle.wire_msg.specs.declared.packet.Do.TheVariants as whats
 use Rattle.world_base.specs.declared.event.Event.{Event}
 use Rattle.world_base.specs.declared.event.Event.TheVariants.{Begin, Deliver, Tick}
 use Rattle.world_base.specs.Events.{node_of, what_of}
-use Rattle.world_base.specs.Items.{same_node}
 use Rattle.world_base.specs.Runs.{begins_of, begun_in}
 use Rattle.xfs_base.proofs.Booleans.{by_test}
 use Rattle.xfs_base.specs.declared.node.NodeId.{NodeId}
-use Rattle.xfs_base.specs.declared.node.NodeId.TheVariants.{Client, Manager, Server, Cleaner, Registry}
+use Rattle.xfs_base.specs.Nodes.{same_node}
+use Rattle.xfs_base.proofs.NodeOrder.{same_node_itself}
 use Rattle.earned_losses.proofs.answer_law.Items.{Goes}
 use Rattle.earned_losses.specs.answer_law.Answers.{IsBegunBy}
 
 -- ---- events
-
-same_number : (n : ℕ) → is_eq (nat_cmp n n) ≡ true
-same_number n = grind (arith, nat_tests)
-
-itself : (node : NodeId) → same_node node node ≡ true
-itself (Client n) = same_number n
-itself (Manager n) = same_number n
-itself (Server n) = same_number n
-itself Cleaner = refl
-itself Registry = refl
 
 more_begun : (es fs : List Event) → begun_in (es ++ fs) ≡ begun_in es ++ begun_in fs
 more_begun [] fs = refl
@@ -54,7 +42,7 @@ more_begins node es fs = ap (its node) (more_begun es fs) ∙ more_its node (beg
 -- an event that begins an item of the node is one more
 one_begins : (event : Event) → what_of event ≡ whats.Begin → begins_of (node_of event) (event ∷ []) ≡ 1
 one_begins (Begin node) fact =
-    ap (λ t. length (cond t (node ∷ []) [])) (itself node)
+    ap (λ t. length (cond t (node ∷ []) [])) (same_node_itself node)
 one_begins (Deliver packet) fact = absurd cc
 one_begins (Tick node) fact = absurd cc
 

@@ -14,6 +14,8 @@ use Rattle.xfs_base.specs.declared.node.NodeId.{NodeId}
 use Rattle.xfs_base.specs.declared.node.NodeId.TheVariants.{Client, Cleaner}
 use Rattle.xfs_base.specs.declared.segment.End.{End}
 use Rattle.xfs_base.specs.declared.token.Mode.{Mode}
+use Rattle.xfs_base.proofs.NodeOrder.{same_node_is}
+use Rattle.xfs_base.specs.Nodes.{same_node}
 use Rattle.checkpoint.specs.WriterState.{WorkState}
 use Rattle.node_ties.specs.node_index_tie.Pages.{Desk}
 use Rattle.group_map.specs.GroupMapState.{GroupMapState}
@@ -31,13 +33,13 @@ use Rattle.manager_parts.specs.declared.slot_phase.SlotPhase.TheVariants as phas
 use Rattle.manager_parts.specs.declared.slot_phase.Taking.{Taking}
 use Rattle.node_base.specs.declared.questions.Questions.{Questions as Numbers}
 use Rattle.node_ties.specs.node_tie.ManagerEvents.{HeldAt}
-use Rattle.node_ties.proofs.node_tie.ManagerTakes.{Hands, Brings, took, all_heard, same_node_is}
+use Rattle.node_ties.proofs.node_tie.ManagerTakes.{Hands, Brings, took, all_heard}
 use Rattle.segment_format.specs.declared.segment.Segment.{Segment}
 use Rattle.slot_beliefs.specs.Index.{nothing_indexed, pages_of, indexed_all}
 use Rattle.slot_beliefs.specs.Recalls.{applied_of as applied_in_slot}
 use Rattle.takeover.specs.Course.{Course, course_of, after_input, IsTakenOver}
 use Rattle.takeover.specs.ReadBack.{told_by_all}
-use Rattle.takeover.specs.Reports.{applied_of, applied_at, beliefs_of, same_node, is_heard, end_of, end_from, no_end, writer_of, polled, client_after, awaited_of, horizon_at}
+use Rattle.takeover.specs.Reports.{applied_of, applied_at, beliefs_of, is_heard, end_of, end_from, no_end, writer_of, polled, client_after, awaited_of, horizon_at}
 use Rattle.takeover.specs.TakeState.{TakeState, started}
 use Rattle.takeover.specs.Transition.{active, transition}
 use Rattle.takeover.specs.declared.input.In.{In as Input}

@@ -5,13 +5,15 @@ use Rattle.xfs_base.proofs.Booleans.{by_test}
 use Rattle.xfs_base.specs.declared.node.NodeId.{NodeId}
 use Rattle.xfs_base.specs.declared.segment.End.{End}
 use Rattle.xfs_base.specs.declared.segment.SegRef.{SegRef}
+use Rattle.xfs_base.proofs.NodeOrder.{same_node_is}
+use Rattle.xfs_base.specs.Nodes.{same_node}
 use Rattle.segment_format.specs.declared.segment.Segment.{Segment}
 use Rattle.segment_reading.specs.Reading.{ReadingState, on_answer}
 use Rattle.stripe_code.specs.declared.round.Told.{Told}
 use Rattle.stripe_code.specs.declared.round.Told.TheVariants.{Held, Missing as Lacks}
 use Rattle.takeover.specs.Course.{Course, segment_of, and_of, read_in, read_at, read_by, read_after, after_input, after_inputs}
 use Rattle.takeover.specs.ReadBack.{Read, and_read, told_along, told_by_all}
-use Rattle.takeover.specs.Reports.{same_node, no_end, end_from}
+use Rattle.takeover.specs.Reports.{no_end, end_from}
 use Rattle.takeover.specs.Rows.{told_of}
 use Rattle.takeover.specs.Sources.{goes_back}
 use Rattle.takeover.specs.TakeState.{TakeState}
@@ -25,7 +27,6 @@ use Rattle.index_tie.specs.Checkpoints.{TellsPart}
 use Rattle.index_tie.specs.Filed.{Filed}
 use Rattle.index_tie.specs.Takeovers.{IsItsText}
 use Rattle.token_protocol.specs.Basics.{In as Among}
-use Rattle.node_ties.proofs.node_tie.ManagerTakes.{same_node_is}
 use Rattle.node_ties.specs.node_index_tie.ManagerEvents.{completes_in, completes_at, completes}
 use Rattle.node_ties.specs.node_index_tie.Sight.{Texts, held_in, RowsFit, IsRead, AreTexts}
 use Rattle.node_ties.proofs.node_index_tie.Moves.{all_both, all_weaker}

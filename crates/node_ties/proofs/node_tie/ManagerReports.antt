@@ -13,9 +13,11 @@ use Rattle.xfs_base.specs.declared.node.NodeId.{NodeId}
 use Rattle.xfs_base.specs.declared.node.NodeId.TheVariants.{Client, Manager, Server, Cleaner, Registry}
 use Rattle.xfs_base.specs.declared.segment.End.{End}
 use Rattle.xfs_base.specs.declared.token.Mode.{Mode}
+use Rattle.xfs_base.proofs.NodeOrder.{same_node_itself, same_node_is}
+use Rattle.xfs_base.specs.Nodes.{same_node}
 use Rattle.slot_beliefs.specs.Recalls.{applied_of}
 use Rattle.takeover.specs.declared.report.Report.{Report as Heard}
-use Rattle.takeover.specs.Reports.{applied_of as applied_by, same_node, polled, client_after, end_from, held_by, beliefs_of}
+use Rattle.takeover.specs.Reports.{applied_of as applied_by, polled, client_after, end_from, held_by, beliefs_of}
 use Rattle.takeover.specs.TakeState.{TakeState}
 use Rattle.takeover.specs.Transition.{awaited}
 use Rattle.token_law.specs.Net.{Net, Happens, IsLatest}
@@ -28,7 +30,7 @@ use Rattle.token_protocol.specs.Premises.{Premise}
 use Rattle.token_tie.specs.Epochs.{reported, all_reported}
 use Rattle.node_ties.specs.node_tie.ManagerEvents.{ReportKnown, ends_of}
 use Rattle.node_ties.proofs.node_tie.ManagerMoves.{in_front, all_both}
-use Rattle.node_ties.proofs.node_tie.ManagerTakes.{IsOnce, heard_is, all_heard, same_node_itself, same_node_is}
+use Rattle.node_ties.proofs.node_tie.ManagerTakes.{IsOnce, heard_is, all_heard}
 
 -- ---- the reports, as the small world has them
 

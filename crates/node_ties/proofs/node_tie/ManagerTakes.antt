@@ -1,12 +1,7 @@
 -- What a takeover says at each input: polls, questions, that a segment is lost, or, once all have reported, that the slot is active, and then nothing else.
-use Rattle.std.proofs.Common.{◌≡◌, ℕ, ◌+◌, Bool, true, false, cond, not, ◌&&◌, ◌||◌, ◌==◌, List, [], ◌∷◌, ◌++◌, ◌⊎◌, inl, inr, ⊎_elim, length, filter, Option, Some, None, refl, sym, ap, subst, ◌∙◌, arith}
+use Rattle.std.proofs.Common.{◌≡◌, ℕ, ◌+◌, Bool, true, false, cond, not, ◌&&◌, ◌||◌, ◌==◌, List, [], ◌∷◌, ◌++◌, ◌⊎◌, inl, inr, ⊎_elim, length, filter, Option, Some, None, refl, sym, ap, subst, ◌∙◌}
 use Rattle.std.specs.List.{AllByRecursion, list_any}
-use Rattle.std.specs.Ordering.{is_eq, nat_cmp}
-use Rattle.std.proofs.lemmas.Bool.Decides.{nat_tests}
-use Rattle.std.specs.declared.cmp.Ordering.{Ordering}
-use Rattle.std.specs.declared.cmp.Ordering.TheVariants.{Less, Equal, Greater}
 use Rattle.std.proofs.lemmas.List.{nil_from_length}
-use Rattle.std.proofs.lemmas.Map.Lookups.{CmpEqualImpliesEq, exact_unsigned}
 use Rattle.std.proofs.lemmas.Bool.{eqb-true}
 use Rattle.group_map.specs.GroupMapState.{GroupMapState}
 use Rattle.group_map.specs.Groups.{group_of}
@@ -18,17 +13,17 @@ use Rattle.segment_reading.specs.declared.reading.Next.TheVariants as next
 use Rattle.stripe_code.specs.declared.round.Told.{Told}
 use Rattle.stripe_code.specs.declared.round.Told.TheVariants.{Held}
 use Rattle.stripe_code.specs.declared.round.Told.TheVariants as told
-use Rattle.xfs_base.specs.Nodes.{node_cmp}
+use Rattle.xfs_base.specs.Nodes.{same_node}
 use Rattle.xfs_base.specs.Steps.{still}
 use Rattle.xfs_base.specs.declared.block.BlockId.{BlockId}
 use Rattle.xfs_base.specs.declared.entry.Entry.{Entry}
 use Rattle.xfs_base.specs.declared.news.SlotNews.{SlotNews}
 use Rattle.xfs_base.specs.declared.node.NodeId.{NodeId}
-use Rattle.xfs_base.specs.declared.node.NodeId.TheVariants.{Client, Manager, Server, Cleaner, Registry}
 use Rattle.xfs_base.specs.declared.segment.End.{End}
 use Rattle.xfs_base.specs.declared.segment.SegName.{SegName}
 use Rattle.xfs_base.specs.declared.token.Mode.{Mode}
 use Rattle.xfs_base.proofs.Booleans.{contrary, by_test, and_second, or_first, or_second}
+use Rattle.xfs_base.proofs.NodeOrder.{same_node_itself, same_node_is}
 use Rattle.takeover.specs.declared.input.In.{In as Input}
 use Rattle.takeover.specs.declared.input.In.TheVariants as input
 use Rattle.takeover.specs.declared.output.Out.{Out}
@@ -36,7 +31,7 @@ use Rattle.takeover.specs.declared.output.Out.TheVariants.{Poll, Fetch, Active, 
 use Rattle.takeover.specs.declared.report.Report.{Report}
 use Rattle.takeover.specs.declared.source.Present.{Present}
 use Rattle.takeover.specs.declared.source.Source.{Source}
-use Rattle.takeover.specs.Reports.{same_node, is_heard, unheard, polled}
+use Rattle.takeover.specs.Reports.{is_heard, unheard, polled}
 use Rattle.takeover.specs.Sources.{sources_of, back_from}
 use Rattle.takeover.specs.Rows.{told_of}
 use Rattle.takeover.specs.TakeState.{TakeState}
@@ -218,62 +213,6 @@ begun_on s report ready awaits_it =
     (λ _. record { news = refl; clients = refl; reports = refl; ready = λ p fact. absurd (nobody s report.from (ready p fact) awaits_it); said = inl tt })
 
 -- ---- who has reported
-
-abbrev Differs : Ordering → Type 0
-Differs Less = Unit {0}
-Differs Equal = ⊥
-Differs Greater = Unit {0}
-
-less_differs : Less ≡ Equal → ⊥
-less_differs e = subst Differs e tt
-
-greater_differs : Greater ≡ Equal → ⊥
-greater_differs e = subst Differs e tt
-
-node_exact : CmpEqualImpliesEq node_cmp
-node_exact (Client n) (Client m) h = ap Client (exact_unsigned n m h)
-node_exact (Client n) (Manager m) h = absurd (less_differs h)
-node_exact (Client n) (Server m) h = absurd (less_differs h)
-node_exact (Client n) Cleaner h = absurd (less_differs h)
-node_exact (Client n) Registry h = absurd (less_differs h)
-node_exact (Manager n) (Client m) h = absurd (greater_differs h)
-node_exact (Manager n) (Manager m) h = ap Manager (exact_unsigned n m h)
-node_exact (Manager n) (Server m) h = absurd (less_differs h)
-node_exact (Manager n) Cleaner h = absurd (less_differs h)
-node_exact (Manager n) Registry h = absurd (less_differs h)
-node_exact (Server n) (Client m) h = absurd (greater_differs h)
-node_exact (Server n) (Manager m) h = absurd (greater_differs h)
-node_exact (Server n) (Server m) h = ap Server (exact_unsigned n m h)
-node_exact (Server n) Cleaner h = absurd (less_differs h)
-node_exact (Server n) Registry h = absurd (less_differs h)
-node_exact Cleaner (Client m) h = absurd (greater_differs h)
-node_exact Cleaner (Manager m) h = absurd (greater_differs h)
-node_exact Cleaner (Server m) h = absurd (greater_differs h)
-node_exact Cleaner Cleaner h = refl
-node_exact Cleaner Registry h = absurd (less_differs h)
-node_exact Registry (Client m) h = absurd (greater_differs h)
-node_exact Registry (Manager m) h = absurd (greater_differs h)
-node_exact Registry (Server m) h = absurd (greater_differs h)
-node_exact Registry Cleaner h = absurd (greater_differs h)
-node_exact Registry Registry h = refl
-
-is_tie : (o : Ordering) → is_eq o ≡ true → o ≡ Equal
-is_tie Less e = contrary e
-is_tie Equal e = refl
-is_tie Greater e = contrary e
-
-pub same_node_is : (a b : NodeId) → same_node a b ≡ true → a ≡ b
-same_node_is a b e = node_exact a b (is_tie (node_cmp a b) e)
-
-same_number : (n : ℕ) → is_eq (nat_cmp n n) ≡ true
-same_number n = grind (arith, nat_tests)
-
-pub same_node_itself : (a : NodeId) → same_node a a ≡ true
-same_node_itself (Client n) = same_number n
-same_node_itself (Manager n) = same_number n
-same_node_itself (Server n) = same_number n
-same_node_itself Cleaner = refl
-same_node_itself Registry = refl
 
 -- who is heard is heard
 heard_here : (reports : List Report) (node : NodeId) (r : Report) → In r reports → r.from ≡ node → is_heard reports node ≡ true

@@ -1,13 +1,9 @@
 -- That nothing is held and told but what was filed is a bound to which managers and the registry keep.
-use Rattle.std.proofs.Common.{◌≡◌, ℕ, suc, ◌-◌, ◌==◌, ◌≤◌, true, List, [], ◌∷◌, refl, sym, ap, subst, arith}
+use Rattle.std.proofs.Common.{◌≡◌, ℕ, suc, ◌-◌, ◌==◌, ◌≤◌, true, List, [], ◌∷◌, sym, ap, subst, arith}
 use Rattle.std.specs.Prelude.{Option, Some, None, nat_le}
 use Rattle.std.specs.List.{AllByRecursion}
-use Rattle.std.specs.declared.cmp.Ordering.{Ordering}
-use Rattle.std.specs.declared.cmp.Ordering.TheVariants.{Less, Equal, Greater}
-use Rattle.std.specs.Ordering.{is_eq, nat_cmp}
 use Rattle.std.proofs.lemmas.Bool.{eqb-true}
 use Rattle.std.proofs.lemmas.Bool.Decides.{nat_tests}
-use Rattle.std.proofs.lemmas.Map.Lookups.{exact_unsigned}
 use Rattle.manager_node.specs.declared.phase.Phase.{Phase}
 use Rattle.manager_node.specs.Events.{happens}
 use Rattle.manager_node.specs.Phases.{lasting_of}
@@ -19,18 +15,20 @@ use Rattle.slot_beliefs.specs.Recalls.{applied_of, is_followed}
 use Rattle.registry_node.specs.declared.node.RegistryNode.{RegistryNode}
 use Rattle.registry_node.specs.Events.{takes as registry_takes}
 use Rattle.takeover.specs.declared.report.Report.{Report}
-use Rattle.takeover.specs.Reports.{same_node, end_from, end_of, horizon_at, applied_at, applied_of as applied_from}
+use Rattle.takeover.specs.Reports.{end_from, end_of, horizon_at, applied_at, applied_of as applied_from}
 use Rattle.token_manager.specs.SlotState.{SlotState}
 use Rattle.wire_msg.specs.declared.body.Body.{Body}
 use Rattle.wire_msg.specs.declared.body.Body.TheVariants as body
 use Rattle.wire_msg.specs.declared.packet.Do.{Do}
 use Rattle.wire_msg.specs.declared.packet.Do.TheVariants.{Begin, Deliver, Tick}
 use Rattle.wire_msg.specs.declared.packet.Packet.{Packet}
-use Rattle.xfs_base.proofs.Booleans.{by_test, contrary, and_first}
+use Rattle.xfs_base.proofs.Booleans.{by_test, and_first}
 use Rattle.xfs_base.specs.declared.node.NodeId.{NodeId}
 use Rattle.xfs_base.specs.declared.node.NodeId.TheVariants.{Client, Manager as AManager, Cleaner, Registry}
 use Rattle.xfs_base.specs.declared.segment.End.{End}
 use Rattle.xfs_base.specs.declared.segment.LogId.{LogId}
+use Rattle.xfs_base.specs.Nodes.{same_node}
+use Rattle.xfs_base.proofs.NodeOrder.{same_node_is}
 use Rattle.telling_ties.proofs.filed_tie.Leaving.{all_weaker}
 use Rattle.telling_ties.specs.filed_tie.Bounds.{ReportBounded, KnownBounded, PhaseBounded, BodyBounded, PacketBounded, DoBounded}
 use Rattle.telling_ties.specs.filed_tie.ManagerReach.{filed, ManagerReachRises, ManagerStartsReaching, ManagersTellFiled, ManagersTellNoMore}
@@ -45,21 +43,6 @@ use Rattle.telling_ties.proofs.filed_tie.Weakening.{Weaker, phase_weaker}
 
 -- ---- who writes a log
 
-is_tie : (o : Ordering) → is_eq o ≡ true → o ≡ Equal
-is_tie Less h = contrary h
-is_tie Equal h = refl
-is_tie Greater h = contrary h
-
--- nodes that are the same write the same log
-fed_alike : (a b : NodeId) → same_node a b ≡ true → fed_log a ≡ fed_log b
-fed_alike (Client n) (Client m) h = ap (λ k. fed_log (Client k)) (exact_unsigned n m (is_tie (nat_cmp n m) h))
-fed_alike (Client n) _ h = contrary h
-fed_alike Cleaner Cleaner h = refl
-fed_alike Cleaner _ h = contrary h
-fed_alike _ (Client m) h = contrary h
-fed_alike _ Cleaner h = contrary h
-fed_alike _ _ h = refl
-
 module _ (reach : Reach) where
   nothing_reaches : (log : Option LogId) → LogReaches reach log 0
   nothing_reaches None = tt
@@ -71,7 +54,7 @@ module _ (reach : Reach) where
   end_from-reaches node [] all = nothing_reaches (fed_log node)
   end_from-reaches node (r ∷ reports) all =
       by_test (λ (end : End). LogReaches reach (fed_log node) end.seq) (same_node r.from node) r.end (end_from node reports)
-      (λ same. subst (λ (log : Option LogId). LogReaches reach log r.end.seq) (fed_alike r.from node same) all.0)
+      (λ same. subst (λ (log : Option LogId). LogReaches reach log r.end.seq) (ap fed_log (same_node_is r.from node same)) all.0)
       (λ _. end_from-reaches node reports all.1)
 
   end_of-reaches : (reports : List Report) (log : ℕ) → AllByRecursion (ReportBounded (filed reach)) reports → (end_of reports log).seq ≤ reach log
