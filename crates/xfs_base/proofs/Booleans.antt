@@ -1,6 +1,6 @@
 -- What a test says of its parts, and proofs by the two outcomes of a test.
-use Rattle.std.proofs.Common.{◌≡◌, Bool, true, false, cond, ◌&&◌, ◌||◌, not, refl, sym, subst}
-use Rattle.std.proofs.Common.{T}
+use Rattle.std.proofs.Common.{◌≡◌, ◌==◌, ℕ, Bool, T, true, false, cond, ◌&&◌, ◌||◌, not, refl, sym, subst}
+use Rattle.std.proofs.lemmas.Bool.{eq-eqb}
 
 -- a test has one outcome
 pub contrary : {A : Type 0} → false ≡ true → A
@@ -30,3 +30,6 @@ or_first false b h = contrary h
 pub or_second : (a b : Bool) → b ≡ true → (a || b) ≡ true
 or_second true b h = refl
 or_second false b h = h
+
+pub equal_itself : (n : ℕ) → (n == n) ≡ true
+equal_itself n = eq-eqb n n refl

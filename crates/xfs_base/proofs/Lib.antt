@@ -1,3 +1,4 @@
+pub mod Alls
 pub mod BlockOrder
 pub mod Booleans
 pub mod Members
