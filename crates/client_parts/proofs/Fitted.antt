@@ -1,7 +1,8 @@
 -- What the types of a program's numbers say of what is put: a segment can hold it.
-use Rattle.std.proofs.Common.{◌≡◌, ◌≤◌, ◌<◌, ℕ, suc, ◌+◌, ◌^◌, Bool, true, false, ◌&&◌, List, [], ◌∷◌, length, get_or, Option, Some, is_none, nat_lt, nat_le, refl, arith}
+use Rattle.std.proofs.Common.{◌≡◌, ◌<◌, ℕ, suc, ◌+◌, ◌^◌, Bool, true, false, ◌&&◌, List, [], ◌∷◌, length, get_or, Option, Some, is_none, nat_lt, nat_le, refl, arith}
 use Rattle.std.specs.List.{list_all}
 use Rattle.std.proofs.lemmas.Bool.Decides.{nat_tests}
+use Rattle.std.proofs.lemmas.Bool.{le-leb, lt-ltb}
 use Rattle.segment_format.specs.Format.{second_version, is_length}
 use Rattle.xfs_base.specs.declared.block.BlockId.{BlockId}
 use Rattle.xfs_base.specs.Modes.{is_own}
@@ -11,24 +12,18 @@ use Rattle.token_client.specs.declared.held.Held.{Held}
 use Rattle.token_client.specs.Held.{may_write}
 use Rattle.client_parts.specs.Fitting.{block_fits, is_byte, value_fits, put_fits}
 
-below : (n m : ℕ) → n < m → nat_lt n m ≡ true
-below n m h = grind (arith, nat_tests)
-
-up_to : (n m : ℕ) → n ≤ m → nat_le n m ≡ true
-up_to n m h = grind (arith, nat_tests)
-
 both : (a b : Bool) → a ≡ true → b ≡ true → (a && b) ≡ true
 both true b h k = k
 both false b h k = h
 
 pub all_bytes : (bytes : List ℕ) → ((i : ℕ) → get_or bytes i 0 < 256) → list_all is_byte bytes ≡ true
 all_bytes [] h = refl
-all_bytes (b ∷ bytes) h = both (is_byte b) (list_all is_byte bytes) (below b 256 (h 0)) (all_bytes bytes (λ i. h (suc i)))
+all_bytes (b ∷ bytes) h = both (is_byte b) (list_all is_byte bytes) (lt-ltb b 256 (h 0)) (all_bytes bytes (λ i. h (suc i)))
 
 pub value_fits_so : (bytes : List ℕ) → IsValue (Some bytes) → list_all is_byte bytes ≡ true → value_fits (Some bytes) ≡ true
 value_fits_so bytes h all =
     both (is_length second_version (length bytes)) (list_all is_byte bytes)
-    (both (nat_le 1 (length bytes)) (nat_le (length bytes) max_value) (up_to 1 (length bytes) h.0) (up_to (length bytes) max_value h.1)) all
+    (both (nat_le 1 (length bytes)) (nat_le (length bytes) max_value) (le-leb 1 (length bytes) h.0) (le-leb (length bytes) max_value h.1)) all
 
 -- a version that may be followed by another
 next_fits : (may : Bool) (ver : ℕ) → (may && nat_lt ver u64_end) ≡ true → nat_lt (ver + 1) (2 ^ 64) ≡ true

@@ -1,4 +1,3 @@
-pub mod Frames
 mod TakeReadings
 pub mod TakeTurns
 mod SlotSays

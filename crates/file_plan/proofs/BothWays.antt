@@ -7,13 +7,14 @@ use Rattle.std.specs.FinMap.Entries.{is_sorted}
 use Rattle.std.proofs.lemmas.Bool.Decides.{nat_tests}
 use Rattle.std.proofs.lemmas.List.{length-take-le, take-append-drop, get_or-drop}
 use Rattle.std.proofs.lemmas.Nat.{be_bytes_4, be_bytes_8, from_be_bytes-to_be_bytes_8}
+use Rattle.std.proofs.lemmas.Bool.{leb-true, le-leb}
+use Rattle.xfs_base.proofs.Booleans.{and_first, and_second}
 use Rattle.version_model.specs.History.{Content}
 use Rattle.file_plan.specs.Names.{Row, name_cmp, is_good}
 use Rattle.file_plan.specs.Format.{kind_byte, kind_of, is_kind_byte, content_of, row_text, rows_text, name_length, front_row, has_row, with_row, rows_from, in_order, read_bucket, read_size, file_end}
 use Rattle.file_plan.specs.Formats.{IsStored, IsRow, IsBucketOf, IsSizeOf, BucketsAreExact, SizesAreExact}
 use Rattle.file_plan.proofs.Buckets.{bucket_read}
-use Rattle.file_plan.proofs.Measuring.{at_most, size_bound}
-use Rattle.file_plan.proofs.Walks.{good_first, good_rest}
+use Rattle.file_plan.proofs.Measuring.{size_bound}
 use Rattle.file_plan.specs.declared.node.Kind.TheVariants as kind
 
 abbrev AreBytes : List ℕ → Type 0
@@ -60,15 +61,12 @@ six k a b c d l rest small within known good =
       row = record { good = good; ino = four_fit a b c d ha hb hc hd };
     }
 
-at_least : (n m : ℕ) → nat_le n m ≡ true → n ≤ m
-at_least n m h = grind (arith, nat_tests)
-
 front : (bytes : List ℕ) → AreBytes bytes → has_row bytes ≡ true → Front bytes
 unfolding has_row
 front bytes small has =
-    by bytes small (at_least (6 + name_length bytes) (length bytes) (good_first (nat_le (6 + name_length bytes) (length bytes)) _ has))
-    (good_first (is_kind_byte (get_or bytes 0 0)) _ (good_rest (nat_le (6 + name_length bytes) (length bytes)) _ has))
-    (good_rest (is_kind_byte (get_or bytes 0 0)) _ (good_rest (nat_le (6 + name_length bytes) (length bytes)) _ has))
+    by bytes small (leb-true (6 + name_length bytes) (length bytes) (and_first (nat_le (6 + name_length bytes) (length bytes)) _ has))
+    (and_first (is_kind_byte (get_or bytes 0 0)) _ (and_second (nat_le (6 + name_length bytes) (length bytes)) _ has))
+    (and_second (is_kind_byte (get_or bytes 0 0)) _ (and_second (nat_le (6 + name_length bytes) (length bytes)) _ has))
   where
     by : (bytes : List ℕ) → AreBytes bytes → 6 + name_length bytes ≤ length bytes → is_kind_byte (get_or bytes 0 0) ≡ true → is_good (front_row bytes).0 ≡ true
         → Front bytes
@@ -142,7 +140,7 @@ size_form : (bytes : List ℕ) (size : ℕ) (b c : Bool) → (length bytes == 8)
 size_form bytes size true true eight fit small e =
     let long : length bytes ≡ 8 = grind (arith, nat_tests) in
     let same : from_be_bytes w64 bytes ≡ size = cc in
-    inr (ap Some (sym (be_bytes_8 bytes size long small (sym same))), subst (λ (n : ℕ). n ≤ file_end) same (at_least (from_be_bytes w64 bytes) file_end fit))
+    inr (ap Some (sym (be_bytes_8 bytes size long small (sym same))), subst (λ (n : ℕ). n ≤ file_end) same (leb-true (from_be_bytes w64 bytes) file_end fit))
 size_form bytes size true false eight fit small e = let no' : ⊥ = cc in absurd no'
 size_form bytes size false c eight fit small e = let no' : ⊥ = cc in absurd no'
 
@@ -155,7 +153,7 @@ size_read : (value : Content) (size : ℕ) → IsSizeOf value size → read_size
 size_read value size (inl h) = ap read_size h.0 ∙ ap Some (sym h.1)
 size_read value size (inr h) =
     ap read_size h.0 ∙ ap (λ (m : ℕ). cond (nat_le m file_end) (Some m) None) (from_be_bytes-to_be_bytes_8 size (size_bound size h.1))
-    ∙ ap (λ (b : Bool). cond b (Some size) None) (at_most size file_end h.1)
+    ∙ ap (λ (b : Bool). cond b (Some size) None) (le-leb size file_end h.1)
 
 pub sizes_exact : SizesAreExact
 sizes_exact value size stored = (form_of_size value size stored, size_read value size)

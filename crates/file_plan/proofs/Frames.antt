@@ -21,13 +21,11 @@ use Rattle.file_plan.specs.Driving.{World, put_at, write, Served, serve}
 use Rattle.file_plan.proofs.Buckets.{rising-insert, all-insert, length-insert, one_name, rising-remove, all-remove, without, is_T, from_T}
 use Rattle.file_plan.proofs.Listing.{entries_are}
 use Rattle.xfs_base.specs.declared.block.Ino.{Ino}
+use Rattle.xfs_base.proofs.Booleans.{equal_itself}
 use Rattle.file_plan.specs.declared.node.Kind.{Kind}
 use Rattle.file_plan.specs.declared.node.Kind.TheVariants as kind
 use Rattle.file_plan.specs.Calls.{root}
 use Rattle.file_plan.specs.Names.{same_ino}
-
-pub same_true : (n : ℕ) → (n == n) ≡ true
-same_true n = grind (arith, nat_tests)
 
 pub differ_false : (n m : ℕ) → n ≢ m → (n == m) ≡ false
 differ_false n m h = grind (arith, nat_tests)
@@ -41,7 +39,7 @@ one_ino : (a b : Ino) → a.0 ≡ b.0 → a ≡ b
 one_ino a b e = λ i. record { 0 = e i }
 
 pub ino_itself : (a : Ino) → same_ino a a ≡ true
-ino_itself a = same_true a.0
+ino_itself a = equal_itself a.0
 
 pub ino_differs : (a b : Ino) → a ≢ b → same_ino a b ≡ false
 ino_differs a b h = differ_false a.0 b.0 (λ e. h (one_ino a b e))
@@ -73,7 +71,7 @@ nobody_file = nobody_some kind.File
 
 module _ {X : Type 0} (f : Ino → ℕ → X) (ino : Ino) (blk : ℕ) (x : X) where
   pub put_here : put_at f ino blk x ino blk ≡ x
-  put_here = ap (λ (b : Bool). cond (b && (blk == blk)) x (f ino blk)) (ino_itself ino) ∙ ap (λ (b : Bool). cond b x (f ino blk)) (same_true blk)
+  put_here = ap (λ (b : Bool). cond (b && (blk == blk)) x (f ino blk)) (ino_itself ino) ∙ ap (λ (b : Bool). cond b x (f ino blk)) (equal_itself blk)
 
   pub put_other : (i : Ino) (b : ℕ) → i ≢ ino → put_at f ino blk x i b ≡ f i b
   put_other i b h = ap (λ (t : Bool). cond (t && (b == blk)) x (f i b)) (ino_differs i ino h)
@@ -89,7 +87,7 @@ module _ {X : Type 0} (f : Ino → ℕ → X) (ino : Ino) (blk : ℕ) (x : X) wh
 pub written_at : (w : World) (ino : Ino) (blk ver : ℕ) (value : Content) (more : BlockAnswer → World → Type 0) → w.ver ino blk ≡ ver
     → more (Written (suc ver)) (write w ino blk value)
     → more (serve w (PutAt (block_at ino blk) ver value)).answer (serve w (PutAt (block_at ino blk) ver value)).world
-written_at w ino blk ver value more same h = by (w.ver ino blk == ver) (ap (λ (n : ℕ). n == ver) same ∙ same_true ver)
+written_at w ino blk ver value more same h = by (w.ver ino blk == ver) (ap (λ (n : ℕ). n == ver) same ∙ equal_itself ver)
   where
     by : (b : Bool) → b ≡ true
         → (λ (s : Served). more s.answer s.world)

@@ -5,8 +5,8 @@ use Rattle.std.specs.Int.{w64, from_be_bytes}
 use Rattle.std.specs.Map.{remove_entry}
 use Rattle.std.specs.BTreeMap.{is_at, insert_entry}
 use Rattle.std.specs.FinMap.Entries.{is_sorted}
-use Rattle.std.proofs.lemmas.Bool.Decides.{nat_tests}
 use Rattle.std.proofs.lemmas.List.{length-take, length-replicate}
+use Rattle.std.proofs.lemmas.Bool.{leb-true, ltb-false}
 use Rattle.xfs_base.specs.declared.block.Ino.{Ino}
 use Rattle.xfs_base.specs.Limits.{max_value}
 use Rattle.xfs_base.specs.Value.{IsValue}
@@ -93,10 +93,7 @@ size_short (Some (b ∷ bs)) = by (length (b ∷ bs) == 8) (from_be_bytes w64 (b
     by true n = le (nat_le n file_end) refl
       where
         le : (d : Bool) → nat_le n file_end ≡ d → IfSome (cond d (Some n) None) (λ size. size ≤ file_end)
-        le true e = at_most n file_end e
-          where
-            at_most : (a b : ℕ) → nat_le a b ≡ true → a ≤ b
-            at_most a b h = grind (arith, nat_tests)
+        le true e = leb-true n file_end e
         le false e = tt
     by false n = tt
 
@@ -158,10 +155,7 @@ in_putting ino offset bytes =
     in_filling ino (offset / block_size) (offset % block_size) bytes (end_of offset bytes) (omega arith) (λ some. omega (arith, le)))
   where
     at_most : (n : ℕ) → nat_lt file_end n ≡ false → n ≤ file_end
-    at_most n h = below file_end n h
-      where
-        below : (a b : ℕ) → nat_lt a b ≡ false → b ≤ a
-        below a b h = grind (arith, nat_tests)
+    at_most n h = ltb-false file_end n h
 
 -- ---- paths and entries
 
@@ -189,14 +183,11 @@ module _ (dir : Ino) (name : Name) (ver : ℕ) (rows : List Row) (short : length
   in_entering : (node : Node) (job : Job) → IsInRange (entering dir name ver rows node job)
   in_entering node job =
       either (fits now) (Enters dir name ver now node.ino job) (Ends (File DirFull))
-      (λ e. let le : length (rows_text now) ≤ block_size = at_most (length (rows_text now)) block_size e in is_value (rows_text now) (omega (arith, le)))
+      (λ e. let le : length (rows_text now) ≤ block_size = leb-true (length (rows_text now)) block_size e in is_value (rows_text now) (omega (arith, le)))
       (λ _. tt)
     where
       now : List Row
       now = insert_entry name_cmp rows name node
-
-      at_most : (a b : ℕ) → nat_le a b ≡ true → a ≤ b
-      at_most a b h = grind (arith, nat_tests)
 
   in_leaving : (ino : Ino) (job : Job) → IsInRange (leaving dir name ver rows ino job)
   in_leaving ino job = let le = without_shorter name rows in is_value (rows_text (remove_entry (is_at (name_cmp name)) rows)) (omega (arith, le, short))

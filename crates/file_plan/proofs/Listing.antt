@@ -5,7 +5,8 @@ use Rattle.std.specs.FinMap.Entries.{is_sorted, below_all}
 use Rattle.std.specs.Ordering.{eq_by_cmp}
 use Rattle.std.specs.BTreeMap.{insert_entry}
 use Rattle.std.specs.List.{list_all}
-use Rattle.std.proofs.lemmas.Bool.Decides.{nat_tests, leb_tells}
+use Rattle.std.proofs.lemmas.Bool.Decides.{leb_tells}
+use Rattle.std.proofs.lemmas.Bool.{le-ltb, lt-ltb}
 use Rattle.version_model.specs.declared.answer.Answer.TheVariants.{File}
 use Rattle.version_model.specs.declared.answer.FileFault.TheVariants.{NoEntry, IsDir, NotDir}
 use Rattle.version_model.specs.declared.file_call.FileCall.TheVariants as call
@@ -56,12 +57,6 @@ entries_are kinds t dir bucket rows fact name own =
     ap (λ (k : ℕ). named name (rows_of (t dir k))) own
     ∙ ap (λ (o : Option (List Row)). named name (unwrap_or o [])) (bucket_back kinds bucket (t dir bucket) rows fact)
 
-lt_true : (n m : ℕ) → n < m → nat_lt n m ≡ true
-lt_true n m h = grind (arith, nat_tests)
-
-lt_false : (n m : ℕ) → m ≤ n → nat_lt n m ≡ false
-lt_false n m h = grind (arith, nat_tests)
-
 three : (n m : ℕ) → (n < m) ⊎ ((n ≡ m) ⊎ (m < n))
 three n m = elim (leb_tells n m) as (λ _. (n < m) ⊎ ((n ≡ m) ⊎ (m < n))) [
   | inl h ↦ elim (leb_tells m n) as (λ _. (n < m) ⊎ ((n ≡ m) ⊎ (m < n))) [ inl g ↦ inr (inl (omega (arith, h.1, g.1))) | inr g ↦ inl g.1 ]
@@ -92,17 +87,17 @@ one_more kinds t dir blk rows more fact so_far name =
       | inl less ↦
           let l : b < blk + 1 = omega (arith, less) in
           ap (λ (o : Option Node). or_else o (named name rows)) (absent (named name more) (b ≡ blk) own (λ e. omega (arith, e, less)))
-          ∙ so_far name ∙ ap (λ (t : Bool). cond t E None) (lt_true b blk less) ∙ ap (λ (t : Bool). cond t E None) (sym (lt_true b (blk + 1) l))
+          ∙ so_far name ∙ ap (λ (t : Bool). cond t E None) (lt-ltb b blk less) ∙ ap (λ (t : Bool). cond t E None) (sym (lt-ltb b (blk + 1) l))
       | inr (inl same) ↦
           let l : b < blk + 1 = omega (arith, same) in
           let g : blk ≤ b = omega (arith, same) in
-          ap (λ (o : Option Node). or_else (named name more) o) (so_far name ∙ ap (λ (t : Bool). cond t E None) (lt_false b blk g)) ∙ or_none (named name more)
-          ∙ sym (entries_are kinds t dir blk more fact name same) ∙ ap (λ (t : Bool). cond t E None) (sym (lt_true b (blk + 1) l))
+          ap (λ (o : Option Node). or_else (named name more) o) (so_far name ∙ ap (λ (t : Bool). cond t E None) (le-ltb b blk g)) ∙ or_none (named name more)
+          ∙ sym (entries_are kinds t dir blk more fact name same) ∙ ap (λ (t : Bool). cond t E None) (sym (lt-ltb b (blk + 1) l))
       | inr (inr more') ↦
           let l : blk + 1 ≤ b = omega (arith, more') in
           let g : blk ≤ b = omega (arith, more') in
           ap (λ (o : Option Node). or_else o (named name rows)) (absent (named name more) (b ≡ blk) own (λ e. omega (arith, e, more')))
-          ∙ so_far name ∙ ap (λ (t : Bool). cond t E None) (lt_false b blk g) ∙ ap (λ (t : Bool). cond t E None) (sym (lt_false b (blk + 1) l))
+          ∙ so_far name ∙ ap (λ (t : Bool). cond t E None) (le-ltb b blk g) ∙ ap (λ (t : Bool). cond t E None) (sym (le-ltb b (blk + 1) l))
     ]
 
 bucket_small : (name : Name) → bucket_number name < 8
@@ -122,7 +117,7 @@ module _ (kinds later : Ino → Option Kind) (w : World) (sound : Sound kinds w.
         rising = rising;
         all = λ name. let l : bucket_number name < blk =
             omega (arith, eight, bucket_small name) in
-            so_far name ∙ ap (λ (t : Bool). cond t ((tree_of w.value).entries dir name) None) (lt_true (bucket_number name) blk l);
+            so_far name ∙ ap (λ (t : Bool). cond t ((tree_of w.value).entries dir name) None) (lt-ltb (bucket_number name) blk l);
       },
       refl,
     );
@@ -140,7 +135,7 @@ module _ (kinds later : Ino → Option Kind) (w : World) (sound : Sound kinds w.
 
   nothing_yet : (dir : Ino) → IsSoFar (tree_of w.value) dir 0 []
   nothing_yet dir name = let l : 0 ≤ bucket_number name =
-      omega arith in ap (λ (t : Bool). cond t ((tree_of w.value).entries dir name) None) (sym (lt_false (bucket_number name) 0 l))
+      omega arith in ap (λ (t : Bool). cond t ((tree_of w.value).entries dir name) None) (sym (le-ltb (bucket_number name) 0 l))
 
   gathers_all : (dir : Ino) → kinds dir ≡ Some kind.Directory → Comes 8 (gathering dir 0 8 []) w (Owes later w.value (shows dir))
   gathers_all dir fact = gathers dir fact 8 0 [] refl refl (nothing_yet dir)

@@ -2,10 +2,11 @@
 use Rattle.std.proofs.Common.{inl, inr, ◌≡◌, ℕ, zero, suc, ◌+◌, ◌-◌, ◌*◌, ◌/◌, ◌%◌, ◌^◌, ◌<◌, ◌≤◌, min, Bool, true, false, cond, List, [], ◌∷◌, ◌++◌, length, take, drop, get_or, replicate, map, Option, Some, None, refl, sym, ap, subst, ◌∙◌, arith, append_assoc, length-append}
 use Rattle.std.specs.Prelude.{IfSome, unwrap_or, nat_le, ◌⊎◌}
 use Rattle.std.specs.List.{range_with_len}
-use Rattle.std.proofs.lemmas.Bool.Decides.{nat_tests, leb_tells}
+use Rattle.std.proofs.lemmas.Bool.Decides.{leb_tells}
 use Rattle.std.proofs.lemmas.List.{append-nil, map-append, same_lists, length-take, length-drop, get_or-take, get_or-drop, length-replicate, get_or_default, take_all, drop_all, drop_at}
 use Rattle.std.proofs.lemmas.List.FromFn.{length-map-range_with_len, get_or-map-range_with_len, take-map-range_with_len}
 use Rattle.std.proofs.lemmas.Nat.{from_be_bytes-to_be_bytes_8}
+use Rattle.std.proofs.lemmas.Bool.{le-leb}
 use Rattle.version_model.specs.declared.answer.Answer.TheVariants.{Bytes, Size, File}
 use Rattle.version_model.specs.declared.answer.FileFault.TheVariants.{NoEntry, IsDir}
 use Rattle.version_model.specs.declared.file_call.FileCall.TheVariants as call
@@ -26,9 +27,6 @@ use Rattle.file_plan.proofs.Walks.{Owes, unchanged_as, by_path, looks, named_fir
 use Rattle.xfs_base.specs.declared.block.Ino.{Ino}
 use Rattle.file_plan.specs.declared.node.Kind.{Kind}
 
-pub at_most : (n m : ℕ) → n ≤ m → nat_le n m ≡ true
-at_most n m h = grind (arith, nat_tests)
-
 pub size_bound : (n : ℕ) → n ≤ file_end → n < 2 ^ 64
 size_bound n h = omega arith
 
@@ -37,7 +35,7 @@ pub size_back : (size : ℕ) → size ≤ file_end → read_size (size_content s
 size_back zero h = refl
 size_back (suc n) h =
     let e = from_be_bytes-to_be_bytes_8 (suc n) (size_bound (suc n) h) in
-    ap (λ (m : ℕ). cond (nat_le m file_end) (Some m) None) e ∙ ap (λ (b : Bool). cond b (Some (suc n)) None) (at_most (suc n) file_end h)
+    ap (λ (m : ℕ). cond (nat_le m file_end) (Some m) None) e ∙ ap (λ (b : Bool). cond b (Some (suc n)) None) (le-leb (suc n) file_end h)
 
 pub stored_size : (t : Table) (file : Ino) (size : ℕ) → IsFile t file size → read_size (t file size_block) ≡ Some size
 stored_size t file size fact = ap read_size fact.stored ∙ size_back size fact.bound

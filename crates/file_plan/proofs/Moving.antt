@@ -22,8 +22,9 @@ use Rattle.file_plan.proofs.Frames.{ino_itself, with_rows, bytes_same, file_besi
 use Rattle.file_plan.proofs.Listing.{entries_are}
 use Rattle.file_plan.proofs.Machine.{Post, Comes, replies}
 use Rattle.file_plan.proofs.Making.{enters}
-use Rattle.file_plan.proofs.Walks.{Owes, bucket_at, by_path, looks, named_first, refuses_with, good_first, good_rest}
+use Rattle.file_plan.proofs.Walks.{Owes, bucket_at, by_path, looks, named_first, refuses_with}
 use Rattle.xfs_base.specs.declared.block.Ino.{Ino}
+use Rattle.xfs_base.proofs.Booleans.{and_first, and_second}
 use Rattle.file_plan.specs.declared.node.Kind.{Kind}
 use Rattle.file_plan.specs.declared.node.Kind.TheVariants as kind
 use Rattle.file_plan.specs.Names.{same_ino, same_kind}
@@ -170,7 +171,7 @@ mv_meets from to kinds w number client sound fresh =
     by_path kinds kinds w sound sound (Moves to) n IsDir (does_move w.value (tree_of w.value) to) (λ dir name fact _.
     looks kinds kinds w sound sound (Moves to) n
     (of_file (tree_of w.value) (λ node. at_path (tree_of w.value) Exists (does_link w.value (tree_of w.value) dir name node) to)) dir name fact
-    (λ rows before o e entry. move_found kinds w sound to (good_rest (list_all is_good from) (list_all is_good to) good) dir fact name rows
+    (λ rows before o e entry. move_found kinds w sound to (and_second (list_all is_good from) (list_all is_good to) good) dir fact name rows
     (w.ver dir (bucket_number name)) o
     (entries_are kinds w.value dir (bucket_number name) rows before name refl ∙ e) entry))
-    from (good_first (list_all is_good from) (list_all is_good to) good)))
+    from (and_first (list_all is_good from) (list_all is_good to) good)))

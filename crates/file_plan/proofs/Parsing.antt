@@ -3,9 +3,11 @@ use Rattle.std.proofs.Common.{◌≡◌, ℕ, zero, suc, ◌+◌, ◌<◌, ◌�
 use Rattle.std.specs.Prelude.{nat_le, ◌==◌, ◌⊎◌}
 use Rattle.xfs_base.specs.Limits.{max_value}
 use Rattle.xfs_base.specs.Value.{IsValue}
+use Rattle.xfs_base.proofs.Booleans.{and_first, and_second}
 use Rattle.std.proofs.lemmas.Bool.Decides.{nat_tests}
 use Rattle.std.proofs.lemmas.List.{append-nil}
 use Rattle.std.specs.List.{list_all}
+use Rattle.std.proofs.lemmas.Bool.{le-leb, leb-true}
 use Rattle.file_plan.specs.Names.{Row, is_good, has_name_length, is_name_byte}
 use Rattle.file_plan.specs.Format.{content_of, is_kind_byte, name_length, front_row, has_row, rest_of_rows, with_row, rows_from}
 
@@ -15,10 +17,7 @@ pub has_row_long : (bytes : List ℕ) → 6 + name_length bytes ≤ length bytes
     → has_row bytes ≡ (is_kind_byte (get_or bytes 0 0) && is_good (take (name_length bytes) (drop 6 bytes)))
 unfolding has_row
 has_row_long bytes long =
-    ap (λ (b : Bool). b && (is_kind_byte (get_or bytes 0 0) && is_good (front_row bytes).0)) (at_most (6 + name_length bytes) (length bytes) long)
-  where
-    at_most : (n m : ℕ) → n ≤ m → nat_le n m ≡ true
-    at_most n m h = grind (arith, nat_tests)
+    ap (λ (b : Bool). b && (is_kind_byte (get_or bytes 0 0) && is_good (front_row bytes).0)) (le-leb (6 + name_length bytes) (length bytes) long)
 
 pub has_row_short : (bytes : List ℕ) → length bytes < 6 + name_length bytes → has_row bytes ≡ false
 unfolding has_row
@@ -28,25 +27,14 @@ has_row_short bytes short =
     too_long : (n m : ℕ) → m < n → nat_le n m ≡ false
     too_long n m h = grind (arith, nat_tests)
 
-first_true : (a b : Bool) → (a && b) ≡ true → a ≡ true
-first_true true b h = refl
-first_true false b h = h
-
-second_true : (a b : Bool) → (a && b) ≡ true → b ≡ true
-second_true true b h = h
-second_true false b h = let e : false ≡ true = h in cc
-
 -- an entry at the front has at least its six bytes and its name
 pub row_length : (bytes : List ℕ) → has_row bytes ≡ true → 6 + name_length bytes ≤ length bytes
 unfolding has_row
-row_length bytes has = by (6 + name_length bytes) (length bytes) (first_true (nat_le (6 + name_length bytes) (length bytes)) _ has)
-  where
-    by : (n m : ℕ) → nat_le n m ≡ true → n ≤ m
-    by n m h = grind (arith, nat_tests)
+row_length bytes has = leb-true (6 + name_length bytes) (length bytes) (and_first (nat_le (6 + name_length bytes) (length bytes)) _ has)
 
 pub row_name : (bytes : List ℕ) → has_row bytes ≡ true → is_good (take (name_length bytes) (drop 6 bytes)) ≡ true
 unfolding has_row
-row_name bytes has = second_true (is_kind_byte (get_or bytes 0 0)) _ (second_true (nat_le (6 + name_length bytes) (length bytes)) _ has)
+row_name bytes has = and_second (is_kind_byte (get_or bytes 0 0)) _ (and_second (nat_le (6 + name_length bytes) (length bytes)) _ has)
 
 -- the four bytes of an index number
 pub four_bytes : (bytes : List ℕ) → 6 ≤ length bytes → get_or bytes 1 0 ∷ get_or bytes 2 0 ∷ get_or bytes 3 0 ∷ get_or bytes 4 0 ∷ [] ≡ take 4 (drop 1 bytes)
@@ -137,8 +125,8 @@ pub good_short : (name : List ℕ) → is_good name ≡ true → length name ≤
 unfolding is_good
 good_short name good =
     by (length name)
-    (second_true (nat_le 1 (length name)) (nat_le (length name) 60)
-    (first_true (nat_le 1 (length name) && nat_le (length name) 60) _ (first_true (has_name_length name && list_all is_name_byte name) _ good)))
+    (and_second (nat_le 1 (length name)) (nat_le (length name) 60)
+    (and_first (nat_le 1 (length name) && nat_le (length name) 60) _ (and_first (has_name_length name && list_all is_name_byte name) _ good)))
   where
     by : (n : ℕ) → nat_le n 60 ≡ true → n ≤ 60
     by n h = grind (arith, nat_tests)

@@ -1,6 +1,6 @@
 -- Walking a path, and reading the bucket of its last name.
 use Rattle.std.proofs.Common.{◌≡◌, ℕ, suc, ◌+◌, ◌<◌, ◌≤◌, Bool, true, false, cond, List, [], ◌∷◌, length, Option, Some, None, refl, sym, subst, ap, ◌∙◌, arith}
-use Rattle.std.specs.Prelude.{IfSome, unwrap_or, ◌&&◌}
+use Rattle.std.specs.Prelude.{IfSome, unwrap_or}
 use Rattle.std.specs.List.{list_all}
 use Rattle.version_model.specs.declared.answer.Answer.{Answer}
 use Rattle.version_model.specs.declared.answer.Answer.TheVariants.{File}
@@ -18,6 +18,7 @@ use Rattle.file_plan.specs.Driving.{World}
 use Rattle.file_plan.proofs.Buckets.{bucket_back, named_each}
 use Rattle.file_plan.proofs.Machine.{Post, Comes, ended, over, over_is, more_steps}
 use Rattle.xfs_base.specs.declared.block.Ino.{Ino}
+use Rattle.xfs_base.proofs.Booleans.{and_first, and_second}
 use Rattle.file_plan.specs.declared.node.Kind.{Kind}
 use Rattle.file_plan.specs.declared.node.Kind.TheVariants as kind
 use Rattle.file_plan.specs.Calls.{root}
@@ -67,19 +68,11 @@ weaker : (P R : Node → Type 0) (o : Option Node) → ((node : Node) → P node
 weaker P R None f h = tt
 weaker P R (Some node) f h = f node h
 
-pub good_first : (a b : Bool) → (a && b) ≡ true → a ≡ true
-good_first true b h = refl
-good_first false b h = h
-
-pub good_rest : (a b : Bool) → (a && b) ≡ true → b ≡ true
-good_rest true b h = h
-good_rest false b h = let w : false ≡ true = h in cc
-
 -- a path is walked as the tree has it
 pub walks : (kinds : Ino → Option Kind) (w : World) → Sound kinds w.value → (job : Job) (n : ℕ) (Q : Post) (dir : Ino) (name : Name) (rest : List Name)
     → kinds dir ≡ Some kind.Directory → list_all is_good (name ∷ rest) ≡ true
     → Placed kinds w job n Q (place_of (tree_of w.value) dir name rest) → Comes (over rest n) (walking dir name rest job) w Q
-walks kinds w sound job n Q dir name [] fact good h = h fact (good_first (is_good name) true good)
+walks kinds w sound job n Q dir name [] fact good h = h fact (and_first (is_good name) true good)
 walks kinds w sound job n Q dir name (onto ∷ rest) fact good h =
     let b = bucket_at kinds w.value sound dir name fact in
     let e = bucket_back kinds (bucket_number name) (w.value dir (bucket_number name)) b.0 b.1 in
@@ -88,7 +81,7 @@ walks kinds w sound job n Q dir name (onto ∷ rest) fact good h =
     subst (λ (o : Option (List Row)). Placed kinds w job n Q (placed (λ ino. place_of (tree_of w.value) ino onto rest) (named name (unwrap_or o [])))
     → Comes (over rest n) (walked name onto rest job o) w Q) (sym e)
     (step_to kinds w job n (over rest n) Q onto rest (λ ino. place_of (tree_of w.value) ino onto rest)
-    (λ ino i p. walks kinds w sound job n Q ino onto rest i (good_rest (is_good name) (list_all is_good (onto ∷ rest)) good) p) (named name b.0) kept) h
+    (λ ino i p. walks kinds w sound job n Q ino onto rest i (and_second (is_good name) (list_all is_good (onto ∷ rest)) good) p) (named name b.0) kept) h
 
 -- what is owed at the end of a call
 abbrev pub Owes : (Ino → Option Kind) → Table → Outcome → Post

@@ -1,8 +1,9 @@
 -- A group once made never changes but for `current`.
-use Rattle.std.proofs.Common.{◌≡◌, ℕ, ◌+◌, Bool, true, false, cond, List, [], ◌∷◌, Some, length, map, refl, sym, ap, ◌∙◌, subst}
-use Rattle.std.specs.Prelude.{◌==◌, ◌&&◌, not, IsSomeAnd, find}
+use Rattle.std.proofs.Common.{◌≡◌, ℕ, ◌+◌, true, false, cond, List, [], ◌∷◌, Some, length, map, refl, sym, ap, ◌∙◌, subst}
+use Rattle.std.specs.Prelude.{◌==◌, not, IsSomeAnd, find}
 use Rattle.std.specs.Option.{option_or, option_map}
 use Rattle.std.proofs.lemmas.List.Folds.{find-append}
+use Rattle.xfs_base.proofs.Booleans.{and_first}
 use Rattle.group_map.specs.declared.group.Group.{Group}
 use Rattle.group_map.specs.GroupMapState.{GroupMapState}
 use Rattle.group_map.specs.Groups.{group_of, retired, has_server, lost, numbered, followers, generations_after}
@@ -26,17 +27,13 @@ group_of-lost state server generation id group e =
     find-append (λ (g : Group). g.id == id) (map (retired server) state.groups) new
     ∙ ap (λ o. option_or o (find (λ (g : Group). g.id == id) new)) (find-retired server id state.groups ∙ ap (option_map (retired server)) e)
 
-first_of_both : (a b : Bool) → (a && b) ≡ true → a ≡ true
-first_of_both true b e = refl
-first_of_both false b e = e
-
 IsLater-retired : (server : ℕ) (old new : Group) → IsLater old new → IsLater old (retired server new)
 IsLater-retired server old new l =
     record {
       id = l.id;
       members = l.members;
       parity = l.parity;
-      obsolete_for_ever = λ c. l.obsolete_for_ever (first_of_both new.current (not (has_server server new)) c);
+      obsolete_for_ever = λ c. l.obsolete_for_ever (and_first new.current (not (has_server server new)) c);
     }
 
 IsLater-after : (state : GroupMapState) (losses : List Loss) (id : ℕ) (old new : Group) → IsLater old new → group_of state id ≡ Some new

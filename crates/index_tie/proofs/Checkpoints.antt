@@ -2,6 +2,7 @@
 use Rattle.std.proofs.Common.{◌≡◌, ℕ, suc, ◌-◌, ◌<◌, ◌≤◌, ◌&&◌, ◌⊎◌, inl, inr, Bool, false, not, nat_lt, nat_le, get_or, List, [], ◌∷◌, ◌++◌, filter, Option, Some, None, unwrap_or, append-nil, refl, sym, ap, subst, ◌∙◌, arith}
 use Rattle.std.specs.List.{AllByRecursion, flat_map, filter_map}
 use Rattle.std.proofs.lemmas.Bool.Decides.{nat_tests}
+use Rattle.std.proofs.lemmas.Bool.{le-ltb}
 use Rattle.xfs_base.specs.declared.segment.SegRef.{SegRef}
 use Rattle.segment_format.specs.declared.segment.Segment.{Segment}
 use Rattle.segment_format.specs.Rows.{row_of}
@@ -23,7 +24,7 @@ use Rattle.index_tie.specs.Filed.{Names}
 use Rattle.index_tie.specs.Takeovers.{of_log, below}
 use Rattle.index_tie.specs.Checkpoints.{PartsCover, TellsPart, PartsAreRead, PartsTellTheirRows, horizon_seen, CheckpointsAreKept}
 use Rattle.index_tie.proofs.Takeovers.{by_log, of_log_in, of_log_out, joins_at}
-use Rattle.index_tie.proofs.Tables.{at_same, first_of, second_of, not_less_is}
+use Rattle.index_tie.proofs.Tables.{at_same, first_of, second_of}
 
 -- ---- parts cover
 
@@ -137,5 +138,5 @@ checkpoints_are_kept b f w horizon reached filed tells rises applied =
             (λ l some limit. let a = applied l some limit in let s = seen_in horizon l some limit in omega arith)
             (λ l out. let s = seen_out horizon l out in omega arith);
       });
-      floor = λ d l from some limit. sym (second_of (nat_lt d e) (w.floor d l) (h l) (not_less_is d e from) ∙ seen_in horizon l some limit);
+      floor = λ d l from some limit. sym (second_of (nat_lt d e) (w.floor d l) (h l) (le-ltb d e from) ∙ seen_in horizon l some limit);
     }

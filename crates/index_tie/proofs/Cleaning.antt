@@ -2,7 +2,7 @@
 use Rattle.std.proofs.Common.{◌≡◌, ℕ, ◌<◌, ◌≤◌, ◌⊎◌, inl, inr, Bool, true, false, cond, List, [], ◌∷◌, Option, Some, None, map, length, refl, sym, ap, subst, ◌∙◌, arith}
 use Rattle.std.specs.Prelude.{◌==◌, ◌&&◌, not, nat_lt}
 use Rattle.std.specs.List.{AllByRecursion, cons_option, list_any}
-use Rattle.std.proofs.lemmas.Bool.{false≢true}
+use Rattle.std.proofs.lemmas.Bool.{false≢true, ltb-true}
 use Rattle.std.proofs.lemmas.Bool.Decides.{nat_tests}
 use Rattle.std.proofs.lemmas.Map.Views.{tells_apart}
 use Rattle.group_map.specs.GroupMapState.{GroupMapState}
@@ -49,14 +49,11 @@ use Rattle.index_tie.proofs.Tables.{at_same}
 pub polled_at : (w : IndexState) (p e : ℕ) → ((promises w p).polled e ≡ w.polled e) ⊎ ((w.promised < e) × ((promises w p).polled e ≡ w.head w.cleaner))
 polled_at w p e = by (nat_lt w.promised e) (nat_lt p e) refl
   where
-    above : (x y : ℕ) → nat_lt x y ≡ true → x < y
-    above x y h = grind (arith, nat_tests)
-
     by : (t u : Bool) → nat_lt w.promised e ≡ t
         → (cond t (cond u (w.polled e) (w.head w.cleaner)) (w.polled e) ≡ w.polled e)
         ⊎ ((w.promised < e) × (cond t (cond u (w.polled e) (w.head w.cleaner)) (w.polled e) ≡ w.head w.cleaner))
     by true true fact = inl refl
-    by true false fact = inr (above w.promised e fact, refl)
+    by true false fact = inr (ltb-true w.promised e fact, refl)
     by false u fact = inl refl
 
 module _ (b : BlockId) (f : Filed) where

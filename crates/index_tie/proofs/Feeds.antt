@@ -3,6 +3,7 @@ use Rattle.std.proofs.Common.{◌≡◌, ℕ, zero, suc, ◌+◌, ◌-◌, ◌<�
 use Rattle.std.specs.List.{flat_map, range_with_len}
 use Rattle.std.proofs.lemmas.Bool.Decides.{nat_tests}
 use Rattle.std.proofs.lemmas.List.Elements.{All-contains}
+use Rattle.std.proofs.lemmas.Bool.{ltb-true}
 use Rattle.xfs_base.specs.declared.block.BlockId.{BlockId}
 use Rattle.delta_index.specs.Entries.{first_greatest}
 use Rattle.delta_index.specs.Join.{join}
@@ -39,9 +40,6 @@ from_before b f l first upto (suc n) at below some ends =
     outside : (first at upto : ℕ) → at < first → (nat_le first at && nat_le at upto) ≡ false
     outside first at upto less = grind (arith, nat_tests)
 
-    is_less : (at first : ℕ) → nat_lt at first ≡ true → at < first
-    is_less at first h = grind (arith, nat_tests)
-
     is_first : (at first : ℕ) → at ≤ first → nat_lt at first ≡ false → first ≡ at
     is_first at first limit h = grind (arith, nat_tests)
 
@@ -49,7 +47,7 @@ from_before b f l first upto (suc n) at below some ends =
         → (at < first → join (deltas_between first upto (map (fed_at f l) (range_with_len (at + 1) n))) b ≡ join (rows_between f l first upto) b)
         → join (deltas_between first upto (map (fed_at f l) (range_with_len at (suc n)))) b ≡ join (rows_between f l first upto) b
     by true before go =
-        let less = is_less at first before in
+        let less = ltb-true at first before in
         between_same first upto (fed_at f l at) (map (fed_at f l) (range_with_len (at + 1) n)) b (outside first at upto less) ∙ go less
     by false here go =
         let fact = is_first at first below here in

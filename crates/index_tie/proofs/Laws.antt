@@ -2,6 +2,7 @@
 use Rattle.std.proofs.Common.{◌≡◌, ℕ, zero, suc, ◌<◌, ◌≤◌, ◌==◌, ◌⊎◌, inl, inr, nat_lt, Bool, true, false, cond, List, [], ◌∷◌, Some, None, unwrap_or, refl, sym, ap, subst, ◌∙◌, arith}
 use Rattle.std.specs.List.{AllByRecursion, filter_map}
 use Rattle.std.proofs.lemmas.Bool.Decides.{nat_tests}
+use Rattle.std.proofs.lemmas.Bool.{ltb-false, ltb-true}
 use Rattle.xfs_base.specs.declared.entry.Entry.{Entry}
 use Rattle.xfs_base.specs.declared.entry.Place.{Place}
 use Rattle.xfs_base.specs.declared.segment.SegName.{SegName}
@@ -161,27 +162,22 @@ rank_above a e h = (grind (arith, nat_tests), λ same. grind (arith, nat_tests))
 one_log : (w : IndexState) (a x l q : ℕ) → RowsInPlace w → 0 < w.version a x → w.version a x ≡ w.version l q → w.hop a x ≡ w.hop l q → a ≡ l
 one_log w a x l q p some version hop = by (nat_lt a w.cleaner) (nat_lt l w.cleaner) refl refl
   where
-    below : (m n : ℕ) → nat_lt m n ≡ true → m < n
-    below m n h = grind (arith, nat_tests)
-
-    above : (m n : ℕ) → nat_lt m n ≡ false → n ≤ m
-    above m n h = grind (arith, nat_tests)
-
     last : (m r : ℕ) → w.cleaner ≤ m → 0 < w.version m r → m ≡ w.cleaner
     last m r least more = elim (nat_lt w.cleaner m) as (λ t. nat_lt w.cleaner m ≡ t → m ≡ w.cleaner) [
-      | true ↦ λ past. let none = p.no_other m r (below w.cleaner m past) in absurd (omega arith)
-      | false ↦ λ limit. let h = above w.cleaner m limit in omega arith
+      | true ↦ λ past. let none = p.no_other m r (ltb-true w.cleaner m past) in absurd (omega arith)
+      | false ↦ λ limit. let h = ltb-false w.cleaner m limit in omega arith
     ] refl
 
     copied : (m r : ℕ) → m ≡ w.cleaner → 0 < w.version m r → 0 < w.hop m r
     copied m r fact more = subst (λ k. 0 < w.version k r → 0 < w.hop k r) (sym fact) (p.copy_hop r) more
 
     by : (t u : Bool) → nat_lt a w.cleaner ≡ t → nat_lt l w.cleaner ≡ u → a ≡ l
-    by true true c d = (p.one_place a x l q (below a w.cleaner c) (below l w.cleaner d) some version).0
-    by true false c d = let n = p.client_hop a x (below a w.cleaner c) in let k =
-        copied l q (last l q (above l w.cleaner d) (omega arith)) (omega arith) in absurd (omega arith)
-    by false true c d = let n = p.client_hop l q (below l w.cleaner d) in let k = copied a x (last a x (above a w.cleaner c) some) some in absurd (omega arith)
-    by false false c d = last a x (above a w.cleaner c) some ∙ sym (last l q (above l w.cleaner d) (omega arith))
+    by true true c d = (p.one_place a x l q (ltb-true a w.cleaner c) (ltb-true l w.cleaner d) some version).0
+    by true false c d = let n = p.client_hop a x (ltb-true a w.cleaner c) in let k =
+        copied l q (last l q (ltb-false l w.cleaner d) (omega arith)) (omega arith) in absurd (omega arith)
+    by false true c d = let n = p.client_hop l q (ltb-true l w.cleaner d) in
+        let k = copied a x (last a x (ltb-false a w.cleaner c) some) some in absurd (omega arith)
+    by false false c d = last a x (ltb-false a w.cleaner c) some ∙ sym (last l q (ltb-false l w.cleaner d) (omega arith))
 
 pub newest_is_kept : NewestIsKept
 newest_is_kept b f w l q reached filed tells n dropped =

@@ -2,7 +2,7 @@
 use Rattle.std.proofs.Common.{◌≡◌, ℕ, zero, suc, ◌<◌, ◌≤◌, ◌⊎◌, ◌==◌, inl, inr, nat_lt, nat_le, Bool, true, false, cond, List, [], ◌∷◌, ◌++◌, map, take, length, Option, Some, None, refl, sym, ap, subst, ◌∙◌, arith}
 use Rattle.std.specs.Prelude.{Contains}
 use Rattle.std.specs.List.{AllByRecursion, flat_map, range_with_len}
-use Rattle.std.proofs.lemmas.Bool.{false≢true}
+use Rattle.std.proofs.lemmas.Bool.{false≢true, ltb-false, leb-false, leb-true}
 use Rattle.std.proofs.lemmas.Bool.Decides.{nat_tests}
 use Rattle.std.proofs.lemmas.List.{length-map}
 use Rattle.group_map.specs.GroupMapState.{GroupMapState}
@@ -55,7 +55,7 @@ use Rattle.index_tie.proofs.Events.{with_slot_good, not_zero}
 use Rattle.index_tie.proofs.Growth.{slots_stay, parts_stay}
 use Rattle.index_tie.proofs.Slots.{itself}
 use Rattle.index_tie.proofs.Takeovers.{takeovers_are_activations}
-use Rattle.index_tie.proofs.Tables.{at_same, first_of, second_of, within_is, past_is}
+use Rattle.index_tie.proofs.Tables.{at_same, first_of, second_of}
 use Rattle.index_tie.proofs.Views.{View, went, found, all_and, Sound, IsAsked, Good, same_filed, tells_same}
 
 -- a filed seq is one of a log 1 to 9
@@ -247,8 +247,8 @@ module _ (part : ℕ) (holds : SegRef → Rows) where
           let it : b ≡ k = same_block_exact k b same in
           subst (λ x. Sound part holds b n i.state (Checked number x place d) → slot.is_place (slot.entry_at s x).place place ≡ false
           → Sends b n i (AnsweredDead number x place.seg.name d e ∷ [])) it
-          (λ here there. tells_dead n e s number place d g at b i here there fact (within_is d e low)) known elsewhere
-      by known elsewhere true true false same fact late = untold known (λ _ _ low. let x = past_is d e late in omega arith)
+          (λ here there. tells_dead n e s number place d g at b i here there fact (leb-true d e low)) known elsewhere
+      by known elsewhere true true false same fact late = untold known (λ _ _ low. let x = leb-false d e late in omega arith)
       by known elsewhere true false v same twin low = untold known (λ _ fact _. false≢true (sym twin ∙ fact))
       by known elsewhere false u v other fact low = untold known (λ at_b _ _. false≢true (sym other ∙ ap (same_block k) (sym at_b) ∙ same_block_itself k))
 
@@ -359,7 +359,7 @@ module _ (part : ℕ) (holds : SegRef → Rows) where
             (λ (hs : List ℕ). (nat_lt e n.epoch ≡ true → hs ≡ n.horizon e) → (nat_lt e n.epoch ≡ false → hs ≡ horizon) → of_log hs l ≡ v.floor e l)
             (nat_lt e n.epoch) (n.horizon e) horizon
             (λ t _ _. i.horizon e l some limit ∙ sym (first_of (nat_lt e w.epoch) (w.floor e l) (horizon_seen horizon l) (ap (nat_lt e) same ∙ t)))
-            (λ t _ _. k.floor e l (let x = not_below e n.epoch t in omega arith) some limit)
+            (λ t _ _. k.floor e l (let x = ltb-false e n.epoch t in omega arith) some limit)
             (λ t. first_of (nat_lt e n.epoch) (n.horizon e) horizon t)
             (λ t. second_of (nat_lt e n.epoch) (n.horizon e) horizon t);
         parts = λ e. by_both e (nat_lt e n.epoch) (parts_stay b f f w v (n.horizon e) (rows_in holds (n.parts e)) (same_filed f) i.tells tells (i.parts e))
@@ -371,9 +371,6 @@ module _ (part : ℕ) (holds : SegRef → Rows) where
         sent = went_on.sent;
       }
     where
-      not_below : (x y : ℕ) → nat_lt x y ≡ false → y ≤ x
-      not_below x y h = grind (arith, nat_tests)
-
       by_both : {v : IndexState} (e : ℕ) (t : Bool) → Covers b n.filed v (n.horizon e) (rows_in holds (n.parts e))
           → Covers b n.filed v horizon (rows_in holds parts) → Covers b n.filed v (cond t (n.horizon e) horizon) (rows_in holds (cond t (n.parts e) parts))
       by_both e true before now = before

@@ -1,5 +1,5 @@
 -- Tables changed at one place.
-use Rattle.std.proofs.Common.{◌≡◌, ℕ, ◌<◌, ◌≤◌, ◌==◌, nat_lt, nat_le, Bool, true, false, cond, sym, refl, subst, arith}
+use Rattle.std.proofs.Common.{◌≡◌, ℕ, ◌==◌, Bool, true, false, cond, sym, refl, subst, arith}
 use Rattle.std.proofs.lemmas.Bool.Decides.{nat_tests}
 use Rattle.log_protocol.specs.Tables.{put}
 
@@ -33,16 +33,3 @@ first_of false x y fact = absurd (cc)
 pub second_of : {X : Type 0} (t : Bool) (x y : X) → t ≡ false → cond t x y ≡ y
 second_of true x y fact = absurd (cc)
 second_of false x y fact = refl
-
--- what tests say
-pub within_is : (a b : ℕ) → nat_le a b ≡ true → a ≤ b
-within_is a b fact = grind (arith, nat_tests)
-
-pub past_is : (a b : ℕ) → nat_le a b ≡ false → b < a
-past_is a b fact = grind (arith, nat_tests)
-
-pub less_is : (a b : ℕ) → a < b → nat_lt a b ≡ true
-less_is a b less = grind (arith, nat_tests)
-
-pub not_less_is : (a b : ℕ) → b ≤ a → nat_lt a b ≡ false
-not_less_is a b least = grind (arith, nat_tests)

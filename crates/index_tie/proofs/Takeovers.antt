@@ -12,6 +12,7 @@ use Rattle.std.proofs.lemmas.List.{take-append-drop}
 use Rattle.std.proofs.lemmas.List.{length-map}
 use Rattle.std.proofs.lemmas.List.FromFn.{get_or-map-range_with_len, length-map-range_with_len}
 use Rattle.std.proofs.Math.ListN.{get_or-eq_default}
+use Rattle.std.proofs.lemmas.Bool.{le-ltb, leb-false, leb-true, lt-ltb}
 use Rattle.xfs_base.specs.declared.block.BlockId.{BlockId}
 use Rattle.xfs_base.specs.declared.entry.Entry.{Entry}
 use Rattle.xfs_base.specs.declared.news.SlotNews.{SlotNews}
@@ -53,7 +54,7 @@ use Rattle.index_tie.specs.Takeovers.{of_log, below, Covers, IsEnd, Linked, IsIt
 use Rattle.index_tie.proofs.Chains.{log_tells}
 use Rattle.index_tie.proofs.Rows.{names_merged, ranged_between}
 use Rattle.index_tie.proofs.Slots.{rows-indexed_all, framed, shown}
-use Rattle.index_tie.proofs.Tables.{put_each, first_of, second_of, within_is, past_is, less_is, not_less_is}
+use Rattle.index_tie.proofs.Tables.{put_each, first_of, second_of}
 
 -- ---- the rows of an index say of each block what it holds
 
@@ -234,13 +235,13 @@ module _ (b : BlockId) (f : Filed) (w : IndexState) (slot epoch : ℕ) (horizon 
             → Gathered b f w (upto 10) (rows ++ told_by_all slot chains)
         by_source on true within [] read texts = absurd read
         by_source on true within (c ∷ cs) read texts =
-            let less : horizon_at horizon k ≤ (end_of rs k).seq = within_is (horizon_at horizon k) (end_of rs k).seq within in
+            let less : horizon_at horizon k ≤ (end_of rs k).seq = leb-true (horizon_at horizon k) (end_of rs k).seq within in
             let next : suc k ≡ k + 1 = omega arith in
             subst (Gathered b f w (upto 10)) (append_assoc rows (told_along slot c) (told_by_all slot cs))
             (on (rows ++ told_along slot c) cs
             (subst (λ j. Gathered b f w (upto j) (rows ++ told_along slot c)) next (adds k rows c some (omega arith) less g read.0 texts.0)) read.1 texts.1)
         by_source on false past cs read texts =
-            let more : (end_of rs k).seq < horizon_at horizon k = past_is (horizon_at horizon k) (end_of rs k).seq past in
+            let more : (end_of rs k).seq < horizon_at horizon k = leb-false (horizon_at horizon k) (end_of rs k).seq past in
             let next : suc k ≡ k + 1 = omega arith in
             on rows cs (subst (λ j. Gathered b f w (upto j) rows) next (skips k rows some (omega arith) more g)) read texts
 
@@ -251,11 +252,11 @@ module _ (b : BlockId) (f : Filed) (w : IndexState) (slot epoch : ℕ) (horizon 
     all_told parts chains covers read texts =
         let n = length parts in
         let start : (l : ℕ) → below horizon l ≡ upto 1 l = by_log (λ l. below horizon l ≡ upto 1 l)
-        (λ l some limit. sym (second_of (nat_lt l 1) (of_log applied l) (below horizon l) (not_less_is l 1 (omega arith))))
+        (λ l some limit. sym (second_of (nat_lt l 1) (of_log applied l) (below horizon l) (le-ltb l 1 (omega arith))))
         (λ l out. ap (λ m. m - 1) (of_log_out horizon l out)
         ∙ sym (either (nat_lt l 1) (of_log applied l) (below horizon l) (of_log_out applied l out) (ap (λ m. m - 1) (of_log_out horizon l out)))) in
         let end : (l : ℕ) → upto 10 l ≡ of_log applied l = by_log (λ l. upto 10 l ≡ of_log applied l)
-        (λ l some limit. first_of (nat_lt l 10) (of_log applied l) (below horizon l) (less_is l 10 (omega arith)))
+        (λ l some limit. first_of (nat_lt l 10) (of_log applied l) (below horizon l) (lt-ltb l 10 (omega arith)))
         (λ l out. either (nat_lt l 10) (of_log applied l) (below horizon l) (of_log_out applied l out) (ap (λ m. m - 1) (of_log_out horizon l out))
         ∙ sym (of_log_out applied l out)) in
         let g = gathers 9 1 (told_by_all slot (take n chains)) (drop n chains) refl (omega arith)

@@ -5,6 +5,7 @@ use Rattle.std.specs.List.{list_all, AllByRecursion}
 use Rattle.std.specs.Str.{bytes_eq}
 use Rattle.std.proofs.lemmas.Bool.Decides.{nat_tests}
 use Rattle.std.proofs.lemmas.Bool.{ne_eqb}
+use Rattle.xfs_base.proofs.Booleans.{equal_itself}
 use Rattle.script_text.specs.Words.{Lacks}
 use Rattle.script_text.proofs.Texts.{cut_there}
 use Rattle.script_print.proofs.Bytes.{all_join}
@@ -131,10 +132,7 @@ some_digits (x ∷ bs) b d = all_digits (x ∷ bs) d
 
 -- a letter and the text of a number
 pub numbered : (letter n : ℕ) → is_numbered letter (letter ∷ decimal n) ≡ true
-numbered letter n = and_true (same letter) (some_digits (decimal n) (decimal_begins n) (decimal_digits n))
-  where
-    same : (x : ℕ) → (x == x) ≡ true
-    same x = grind arith
+numbered letter n = and_true (equal_itself letter) (some_digits (decimal n) (decimal_begins n) (decimal_digits n))
 
 -- what begins with a digit is no word that begins with another byte
 pub no_word : (bs : List ℕ) (x : ℕ) (rest : List ℕ) → Begins bs → (IsDigit x → ⊥) → bytes_eq bs (x ∷ rest) ≡ false
@@ -161,11 +159,8 @@ count_none m (b ∷ bs) h = at_test (b == m) (ne_eqb b m h.0) (count_none m bs h
 
 -- one more where the mark comes
 pub count_cut : (m : ℕ) (a r : List ℕ) → Lacks m a → count_of m (a ++ m ∷ r) ≡ count_of m r + 1
-count_cut m [] r h = at_test (m == m) (same m)
+count_cut m [] r h = at_test (m == m) (equal_itself m)
   where
-    same : (x : ℕ) → (x == x) ≡ true
-    same x = grind arith
-
     at_test : (t : Bool) → t ≡ true → length (cond t (m ∷ filter (λ x. x == m) r) (filter (λ x. x == m) r)) ≡ count_of m r + 1
     at_test t e = rw e (omega arith)
 count_cut m (b ∷ a) r h = at_test (b == m) (ne_eqb b m h.0) (count_cut m a r h.1)

@@ -1,8 +1,8 @@
 -- The items that are written of changes have a text, and so have those that pass the test.
-use Rattle.std.proofs.Common.{◌≡◌, ℕ, suc, ◌+◌, ◌*◌, ◌<◌, ◌≤◌, Bool, true, false, List, [], ◌∷◌, ◌++◌, length, Option, Some, None, refl, sym, ap, subst, ◌∙◌, arith, length-append, append_assoc}
+use Rattle.std.proofs.Common.{◌≡◌, ℕ, suc, ◌+◌, ◌*◌, ◌≤◌, Bool, true, false, List, [], ◌∷◌, ◌++◌, length, Option, Some, None, refl, sym, ap, subst, ◌∙◌, arith, length-append, append_assoc}
 use Rattle.std.specs.Prelude.{◌==◌, ◌&&◌, nat_lt, nat_le}
 use Rattle.std.specs.List.{list_all, AllByRecursion}
-use Rattle.std.proofs.lemmas.Bool.{true≢false}
+use Rattle.std.proofs.lemmas.Bool.{true≢false, eqb-true, leb-true, ltb-true}
 use Rattle.std.proofs.lemmas.Bool.Decides.{nat_tests}
 use Rattle.xfs_base.specs.declared.block.BlockId.{BlockId}
 use Rattle.xfs_base.specs.declared.entry.Entry.{Entry}
@@ -10,6 +10,7 @@ use Rattle.xfs_base.specs.declared.entry.Place.{Place}
 use Rattle.xfs_base.specs.Blocks.{same_block}
 use Rattle.xfs_base.specs.Limits.{segment_blocks}
 use Rattle.xfs_base.proofs.BlockOrder.{same_block_exact}
+use Rattle.xfs_base.proofs.Booleans.{and_first, and_second}
 use Rattle.segment_format.specs.declared.segment.Item.{Item}
 use Rattle.segment_format.specs.declared.segment.Item.TheVariants.{Block, Delta, Part}
 use Rattle.segment_format.specs.Format.{most_items, second_version, longest, is_within, IsWithin, is_row_count}
@@ -94,31 +95,14 @@ written_have_text items cs few e each =
 
 -- ---- the test
 
-both_left : (a b : Bool) → (a && b) ≡ true → a ≡ true
-both_left true b h = refl
-both_left false b h = h
-
-both_right : (a b : Bool) → (a && b) ≡ true → b ≡ true
-both_right true b h = h
-both_right false b h = absurd (true≢false (sym h))
-
 false_is_not : {A : Type 0} → false ≡ true → A
 false_is_not h = absurd (true≢false (sym h))
-
-le_of : (m n : ℕ) → nat_le m n ≡ true → m ≤ n
-le_of m n h = grind (arith, nat_tests)
-
-lt_of : (m n : ℕ) → nat_lt m n ≡ true → m < n
-lt_of m n h = grind (arith, nat_tests)
-
-eq_of : (m n : ℕ) → (m == n) ≡ true → m ≡ n
-eq_of m n h = grind (arith, nat_tests)
 
 before_of : (m n : ℕ) → ((m + 1) == (n + 1)) ≡ true → m ≡ n
 before_of m n h = grind (arith, nat_tests)
 
 within_of : (lo hi n : ℕ) → is_within lo hi n ≡ true → IsWithin lo hi n
-within_of lo hi n h = (le_of lo n (both_left (nat_le lo n) (nat_le n hi) h), le_of n hi (both_right (nat_le lo n) (nat_le n hi) h))
+within_of lo hi n h = (leb-true lo n (and_first (nat_le lo n) (nat_le n hi) h), leb-true n hi (and_second (nat_le lo n) (nat_le n hi) h))
 
 placed : (p : Option Place) (block : BlockId) (ver hop : ℕ) → is_placed p ≡ true → IsRow (block, record { ver = ver; hop = hop; place = p })
 placed None block ver hop h = tt
@@ -127,8 +111,8 @@ placed (Some p) block ver hop h = within_of 1 13 p.seg.name.log.0 h
 all_placed : (rows : List (BlockId × Entry)) → list_all (λ r. is_placed r.1.place) rows ≡ true → AllByRecursion IsRow rows
 all_placed [] h = tt
 all_placed (r ∷ rs) h = (
-  placed r.1.place r.0 r.1.ver r.1.hop (both_left (is_placed r.1.place) (list_all (λ r. is_placed r.1.place) rs) h),
-  all_placed rs (both_right (is_placed r.1.place) (list_all (λ r. is_placed r.1.place) rs) h),
+  placed r.1.place r.0 r.1.ver r.1.hop (and_first (is_placed r.1.place) (list_all (λ r. is_placed r.1.place) rs) h),
+  all_placed rs (and_second (is_placed r.1.place) (list_all (λ r. is_placed r.1.place) rs) h),
 )
 
 item_of_test : (i : Item) → is_item i ≡ true → IsItem second_version i
@@ -137,15 +121,15 @@ item_of_test (Block block (Some bytes)) h = within_of 1 (longest second_version)
 item_of_test (Delta block ver hop item) h = tt
 item_of_test (Part slot rows) h =
     let rest : (is_row_count (length rows) && list_all (λ r. is_placed r.1.place) rows) ≡ true =
-    both_right (nat_lt slot 8) (is_row_count (length rows) && list_all (λ r. is_placed r.1.place) rows) h in (
-      lt_of slot 8 (both_left (nat_lt slot 8) (is_row_count (length rows) && list_all (λ r. is_placed r.1.place) rows) h),
-      within_of 1 128 (length rows) (both_left (is_row_count (length rows)) (list_all (λ r. is_placed r.1.place) rows) rest),
-      all_placed rows (both_right (is_row_count (length rows)) (list_all (λ r. is_placed r.1.place) rows) rest),
+    and_second (nat_lt slot 8) (is_row_count (length rows) && list_all (λ r. is_placed r.1.place) rows) h in (
+      ltb-true slot 8 (and_first (nat_lt slot 8) (is_row_count (length rows) && list_all (λ r. is_placed r.1.place) rows) h),
+      within_of 1 128 (length rows) (and_first (is_row_count (length rows)) (list_all (λ r. is_placed r.1.place) rows) rest),
+      all_placed rows (and_second (is_row_count (length rows)) (list_all (λ r. is_placed r.1.place) rows) rest),
     )
 
 all_items : (items : List Item) → list_all is_item items ≡ true → AllByRecursion (IsItem second_version) items
 all_items [] h = tt
-all_items (i ∷ rest) h = (item_of_test i (both_left (is_item i) (list_all is_item rest) h), all_items rest (both_right (is_item i) (list_all is_item rest) h))
+all_items (i ∷ rest) h = (item_of_test i (and_first (is_item i) (list_all is_item rest) h), all_items rest (and_second (is_item i) (list_all is_item rest) h))
 
 -- of the items from a number on, where no Delta is awaited, and where that of the item before is
 rules : (items : List Item)
@@ -155,15 +139,15 @@ rules [] = (λ n h. tt, λ block n h. false_is_not h)
 rules (Block b value ∷ rest) = (λ n h. (rules rest).1 b n h, λ block n h. false_is_not h)
 rules (Delta b ver hop item ∷ rest) = (
   λ n h. (
-    eq_of item no_item (both_left (item == no_item) (keeps_rule None (n + 1) rest) h),
-    (rules rest).0 (n + 1) (both_right (item == no_item) (keeps_rule None (n + 1) rest) h),
+    eqb-true item no_item (and_first (item == no_item) (keeps_rule None (n + 1) rest) h),
+    (rules rest).0 (n + 1) (and_second (item == no_item) (keeps_rule None (n + 1) rest) h),
   ),
   λ block n h.
       let here : (same_block b block && ((item + 1) == (n + 1))) ≡ true =
-      both_left (same_block b block && ((item + 1) == (n + 1))) (keeps_rule None ((n + 1) + 1) rest) h in (
-        sym (same_block_exact b block (both_left (same_block b block) ((item + 1) == (n + 1)) here)),
-        before_of item n (both_right (same_block b block) ((item + 1) == (n + 1)) here),
-        (rules rest).0 ((n + 1) + 1) (both_right (same_block b block && ((item + 1) == (n + 1))) (keeps_rule None ((n + 1) + 1) rest) h),
+      and_first (same_block b block && ((item + 1) == (n + 1))) (keeps_rule None ((n + 1) + 1) rest) h in (
+        sym (same_block_exact b block (and_first (same_block b block) ((item + 1) == (n + 1)) here)),
+        before_of item n (and_second (same_block b block) ((item + 1) == (n + 1)) here),
+        (rules rest).0 ((n + 1) + 1) (and_second (same_block b block && ((item + 1) == (n + 1))) (keeps_rule None ((n + 1) + 1) rest) h),
       ),
 )
 rules (Part slot rows ∷ rest) = (λ n h. (rules rest).0 (n + 1) h, λ block n h. false_is_not h)
@@ -174,11 +158,11 @@ tested_have_text items h =
     let others : Bool = nat_le (others_in items) most_items in
     let deltas : Bool = nat_le (deltas_in items) most_items in
     let rule : Bool = keeps_rule None 0 items in
-    let rest : (others && (deltas && rule)) ≡ true = both_right all (others && (deltas && rule)) h in
-    let few : (deltas && rule) ≡ true = both_right others (deltas && rule) rest in
+    let rest : (others && (deltas && rule)) ≡ true = and_second all (others && (deltas && rule)) h in
+    let few : (deltas && rule) ≡ true = and_second others (deltas && rule) rest in
     record {
-      each = all_items items (both_left all (others && (deltas && rule)) h);
-      others = le_of (others_in items) most_items (both_left others (deltas && rule) rest);
-      deltas = le_of (deltas_in items) most_items (both_left deltas rule few);
-      rule = (rules items).0 0 (both_right deltas rule few);
+      each = all_items items (and_first all (others && (deltas && rule)) h);
+      others = leb-true (others_in items) most_items (and_first others (deltas && rule) rest);
+      deltas = leb-true (deltas_in items) most_items (and_first deltas rule few);
+      rule = (rules items).0 0 (and_second deltas rule few);
     }

@@ -1,9 +1,8 @@
 -- The test passes just the items that a segment may have.
-use Rattle.std.proofs.Common.{◌≡◌, ℕ, ◌+◌, ◌<◌, ◌≤◌, Bool, true, List, [], ◌∷◌, length, Option, Some, None, refl, sym, ap, ◌∙◌, arith}
+use Rattle.std.proofs.Common.{◌≡◌, ℕ, ◌+◌, Bool, true, List, [], ◌∷◌, length, Option, Some, None, refl, sym, ap, ◌∙◌}
 use Rattle.std.specs.Prelude.{◌==◌, ◌&&◌, ◌↔◌, IsTrue, nat_lt, nat_le}
 use Rattle.std.specs.List.{list_all, AllByRecursion}
-use Rattle.std.proofs.lemmas.Bool.{and_from}
-use Rattle.std.proofs.lemmas.Bool.Decides.{nat_tests}
+use Rattle.std.proofs.lemmas.Bool.{and_from, eq-eqb, le-leb, lt-ltb}
 use Rattle.xfs_base.specs.declared.block.BlockId.{BlockId}
 use Rattle.xfs_base.specs.declared.entry.Entry.{Entry}
 use Rattle.xfs_base.specs.declared.entry.Place.{Place}
@@ -17,17 +16,8 @@ use Rattle.segment_format.specs.Text.{IsItem, IsRow}
 use Rattle.log_flight.specs.Texts.{HasText, is_placed, is_item, keeps_rule, has_text}
 use Rattle.log_flight.proofs.ItemTexts.{tested_have_text}
 
-le_tests : (m n : ℕ) → m ≤ n → nat_le m n ≡ true
-le_tests m n h = grind (arith, nat_tests)
-
-lt_tests : (m n : ℕ) → m < n → nat_lt m n ≡ true
-lt_tests m n h = grind (arith, nat_tests)
-
-eq_tests : (m n : ℕ) → m ≡ n → (m == n) ≡ true
-eq_tests m n h = grind (arith, nat_tests)
-
 within_tests : (lo hi n : ℕ) → IsWithin lo hi n → is_within lo hi n ≡ true
-within_tests lo hi n h = and_from (nat_le lo n) (nat_le n hi) (le_tests lo n h.0) (le_tests n hi h.1)
+within_tests lo hi n h = and_from (nat_le lo n) (nat_le n hi) (le-leb lo n h.0) (le-leb n hi h.1)
 
 place_tests : (p : Option Place) (block : BlockId) (ver hop : ℕ) → IsRow (block, record { ver = ver; hop = hop; place = p }) → is_placed p ≡ true
 place_tests None block ver hop h = refl
@@ -43,7 +33,7 @@ item_tests (Block block None) h = absurd h
 item_tests (Block block (Some bytes)) h = within_tests 1 (longest second_version) (length bytes) h
 item_tests (Delta block ver hop item) h = refl
 item_tests (Part slot rows) h =
-    and_from (nat_lt slot 8) (is_row_count (length rows) && list_all (λ r. is_placed r.1.place) rows) (lt_tests slot 8 h.0)
+    and_from (nat_lt slot 8) (is_row_count (length rows) && list_all (λ r. is_placed r.1.place) rows) (lt-ltb slot 8 h.0)
     (and_from (is_row_count (length rows)) (list_all (λ r. is_placed r.1.place) rows) (within_tests 1 128 (length rows) h.1) (rows_test rows h.2))
 
 items_test : (items : List Item) → AllByRecursion (IsItem second_version) items → list_all is_item items ≡ true
@@ -57,12 +47,12 @@ rule_tests : (items : List Item)
 rule_tests [] = (λ n h. refl, λ block n h. absurd h)
 rule_tests (Block b value ∷ rest) = (λ n h. (rule_tests rest).1 b n h, λ block n h. absurd h)
 rule_tests (Delta b ver hop item ∷ rest) = (
-  λ n h. and_from (item == no_item) (keeps_rule None (n + 1) rest) (eq_tests item no_item h.0) ((rule_tests rest).0 (n + 1) h.1),
+  λ n h. and_from (item == no_item) (keeps_rule None (n + 1) rest) (eq-eqb item no_item h.0) ((rule_tests rest).0 (n + 1) h.1),
   λ block n h.
       let next : item + 1 ≡ n + 1 = ap (λ k. k + 1) h.1 in
       let is_block : same_block b block ≡ true = ap (same_block b) (sym h.0) ∙ same_block_itself b in
       and_from (same_block b block && ((item + 1) == (n + 1))) (keeps_rule None ((n + 1) + 1) rest)
-      (and_from (same_block b block) ((item + 1) == (n + 1)) is_block (eq_tests (item + 1) (n + 1) next)) ((rule_tests rest).0 ((n + 1) + 1) h.2),
+      (and_from (same_block b block) ((item + 1) == (n + 1)) is_block (eq-eqb (item + 1) (n + 1) next)) ((rule_tests rest).0 ((n + 1) + 1) h.2),
 )
 rule_tests (Part slot rows ∷ rest) = (λ n h. (rule_tests rest).0 (n + 1) h, λ block n h. absurd h)
 
@@ -70,8 +60,8 @@ passes : (items : List Item) → HasText items → has_text items ≡ true
 passes items h =
     let few : Bool = nat_le (deltas_in items) most_items && keeps_rule None 0 items in
     and_from (list_all is_item items) (nat_le (others_in items) most_items && few) (items_test items h.each)
-    (and_from (nat_le (others_in items) most_items) few (le_tests (others_in items) most_items h.others)
-    (and_from (nat_le (deltas_in items) most_items) (keeps_rule None 0 items) (le_tests (deltas_in items) most_items h.deltas) ((rule_tests items).0 0 h.rule)))
+    (and_from (nat_le (others_in items) most_items) few (le-leb (others_in items) most_items h.others)
+    (and_from (nat_le (deltas_in items) most_items) (keeps_rule None 0 items) (le-leb (deltas_in items) most_items h.deltas) ((rule_tests items).0 0 h.rule)))
 
 pub tests_text : (items : List Item) (b : Bool) → b ≡ has_text items → (IsTrue b ↔ HasText items)
 tests_text items b e = (λ t. tested_have_text items (sym e ∙ t), λ h. e ∙ passes items h)

@@ -1,7 +1,7 @@
 -- What a reopening adopts: of what it reads back beyond what was filed, only what the last boot that served had in flight tells anything.
 use Rattle.log_law.proofs.Flights.{FlightOf}
 use Rattle.std.proofs.Common.{◌≡◌, ℕ, zero, suc, ◌+◌, ◌-◌, ◌≤◌, ◌<◌, ◌⊎◌, Bool, true, false, nat_lt, List, [], ◌∷◌, length, refl, sym, ap, subst, ◌∙◌, inl, inr, arith, Some}
-use Rattle.std.proofs.lemmas.Bool.Decides.{nat_tests}
+use Rattle.std.proofs.lemmas.Bool.{ltb-false, ltb-true}
 use Rattle.xfs_base.specs.declared.segment.SegName.{SegName}
 use Rattle.segment_format.specs.declared.segment.Segment.{Segment}
 use Rattle.log_flight.specs.Flights.{FlightState}
@@ -124,14 +124,8 @@ module _ (k : Below) (g : Setting) (none : g.doubts ≡ false) (first : Net) (se
           inr (attempt (a.flown p.number p.booked boot law.next))
 
       by : (b : Bool) → nat_lt h.w.head (h.w.seq_of p.number) ≡ b → IsAdopted g run n t
-      by true fact = inr (beyond (less (h.w.head) (h.w.seq_of p.number) fact) (h.w.content_of p.number) refl)
-        where
-          less : (x y : ℕ) → nat_lt x y ≡ true → x < y
-          less x y e = grind (arith, nat_tests)
-      by false fact = inl (no_further (more (h.w.head) (h.w.seq_of p.number) fact))
-        where
-          more : (x y : ℕ) → nat_lt x y ≡ false → y ≤ x
-          more x y e = grind (arith, nat_tests)
+      by true fact = inr (beyond (ltb-true (h.w.head) (h.w.seq_of p.number) fact) (h.w.content_of p.number) refl)
+      by false fact = inl (no_further (ltb-false (h.w.head) (h.w.seq_of p.number) fact))
 
 pub a_reopening_adopts : Below → AReopeningAdopts
 a_reopening_adopts k g n none m sure chain s e t among = adopted k g none (opening g m.map) refl n m.run (along_moment k g none n m sure) chain s e t among

@@ -1,7 +1,7 @@
 -- A serving owner's feed has each filed segment from the least horizon on: what was read back goes down to it.
 use Rattle.xfs_base.specs.declared.segment.Pass.{Pass}
 use Rattle.std.proofs.Common.{◌≡◌, ⊎_elim, ℕ, suc, ◌+◌, ◌-◌, ◌≤◌, ◌<◌, ◌⊎◌, ◌==◌, Bool, true, false, nat_lt, List, [], ◌∷◌, ◌++◌, length, Option, Some, None, refl, sym, ap, subst, ◌∙◌, inl, inr, arith, if◌then◌else◌}
-use Rattle.std.proofs.lemmas.Bool.Decides.{nat_tests}
+use Rattle.std.proofs.lemmas.Bool.{ltb-false, ltb-true}
 use Rattle.xfs_base.specs.declared.segment.End.{End}
 use Rattle.xfs_base.specs.declared.segment.LogId.{LogId}
 use Rattle.xfs_base.specs.declared.segment.SegName.{SegName}
@@ -189,19 +189,13 @@ module _ (k : Below) (g : Setting) (none : g.doubts ≡ false) (n : Net) (h : Vi
         here le = by (nat_lt name.seq (g.seq_of c.0)) refl
           where
             by : (p : Bool) → nat_lt name.seq (g.seq_of c.0) ≡ p → In name (b.name ∷ names_of bs) ⊎ (name.seq + suc (length bs) ≤ highest)
-            by true e = inr (let a = less_of name.seq (g.seq_of c.0) e in let q = c.4 in omega arith)
-              where
-                less_of : (p q : ℕ) → nat_lt p q ≡ true → p < q
-                less_of p q e = grind (arith, nat_tests)
+            by true e = inr (let a = ltb-true name.seq (g.seq_of c.0) e in let q = c.4 in omega arith)
             by false e =
-                let more = more_of name.seq (g.seq_of c.0) e in
+                let more = ltb-false name.seq (g.seq_of c.0) e in
                 let q = c.4 in
                 let a = z.seq in
                 let b_seq : u.seq_of c.0 ≡ g.seq_of c.0 = ap (λ f. f c.0) v.fixed.seq_of in
                 inl (inl (z.named ∙ (ap (name_of g) (line.no_two z.number c.0 z.filed mine.0 (omega arith)) ∙ sym mine.1)))
-              where
-                more_of : (p q : ℕ) → nat_lt p q ≡ false → q ≤ p
-                more_of p q e = grind (arith, nat_tests)
 
     some_seq : 0 < name.seq
     some_seq = let a = (k.protocol.book u v.reached).seq_some z.number z.booked in let b = z.seq in omega arith
@@ -224,14 +218,11 @@ module _ (k : Below) (g : Setting) (none : g.doubts ≡ false) (n : Net) (h : Vi
         lands e = by (nat_lt s.end.seq name.seq) refl
           where
             by : (p : Bool) → nat_lt s.end.seq name.seq ≡ p → In name (log_filed g.log d.outs ++ names_of chain)
-            by false q = of_chain (more_of s.end.seq name.seq q)
-              where
-                more_of : (x y : ℕ) → nat_lt x y ≡ false → y ≤ x
-                more_of x y q = grind (arith, nat_tests)
+            by false q = of_chain (ltb-false s.end.seq name.seq q)
             by true q =
                 let a = within in
                 let b = head_at in
-                let c = less_of s.end.seq name.seq q in
+                let c = ltb-true s.end.seq name.seq q in
                 let f = e.1 in
                 let zs = z.seq in
                 let head_some : 0 < u.head = omega arith in
@@ -244,9 +235,6 @@ module _ (k : Below) (g : Setting) (none : g.doubts ≡ false) (n : Net) (h : Vi
                 z.named ∙ (ap (name_of g) same ∙ (λ j. record { log = g.log; seq = after.0.end_seq j; pass = sym pass j })) in
                 in_left (log_filed g.log d.outs) (names_of chain) name
                 (subst (λ m. In m (log_filed g.log d.outs)) (sym its_name) (settled_filed g.log d.state.end d.outs e.0))
-              where
-                less_of : (x y : ℕ) → nat_lt x y ≡ true → x < y
-                less_of x y q = grind (arith, nat_tests)
 
 -- ---- over one event
 

@@ -1,6 +1,7 @@
 -- What a rebuild fills in is this server's fragment of the booked segment.
 use Rattle.std.proofs.Common.{◌≡◌, ℕ, ◌<◌, ◌⊎◌, is_some, List, [], ◌∷◌, None, length, sym, ap, subst, ◌∙◌, inl, inr, arith}
 use Rattle.std.specs.Prelude.{count_by}
+use Rattle.std.proofs.lemmas.Bool.{leb-true}
 use Rattle.xfs_base.specs.declared.fragment.FragMeta.{FragMeta}
 use Rattle.xfs_base.specs.declared.fragment.Fragment.{Fragment}
 use Rattle.segment_format.specs.Text.{text_of}
@@ -12,7 +13,6 @@ use Rattle.log_tie.specs.Setting.{Setting, name_of, server_of}
 use Rattle.log_tie.specs.Seen.{Page}
 use Rattle.log_tie.specs.Scans.{AllMetas}
 use Rattle.log_tie.specs.Shelves.{FillSeen}
-use Rattle.log_tie.proofs.Listings.{le_test}
 use Rattle.log_law.specs.Net.{Net}
 use Rattle.log_law.specs.Net.Packet.{FragmentSent, ListedSent}
 use Rattle.log_law.specs.Events.{AllCame, IsFilling}
@@ -68,7 +68,7 @@ module _ (g : Setting) (n : Net) (h : View g n) (v : ℕ) (f : Fragment) (i : Is
       by (inl none) = absurd (few none)
         where
           few : ((k : ℕ) → bytes_in k i.round.answers ≡ None) → ⊥
-          few none = let a = le_test (count_of i.round) (count_by is_some (parts_in i.round.n i.round.answers)) (gave i.round i.text i.read).enough in let b =
+          few none = let a = leb-true (count_of i.round) (count_by is_some (parts_in i.round.n i.round.answers)) (gave i.round i.text i.read).enough in let b =
               none_counted (λ k. bytes_in k i.round.answers) none 0 i.round.n in let c = i.is_round.cut.least in omega arith
       by (inr y) = y
 

@@ -1,6 +1,6 @@
 -- The line has no gap: each number from 1 up to the head is that of a filed segment.
 use Rattle.std.proofs.Common.{◌≡◌, ⊎_elim, ℕ, suc, ◌+◌, ◌<◌, ◌≤◌, Bool, true, false, nat_lt, List, [], ◌∷◌, ◌++◌, length, Option, Some, None, refl, sym, ap, subst, ◌∙◌, inl, inr, arith}
-use Rattle.std.proofs.lemmas.Bool.Decides.{nat_tests}
+use Rattle.std.proofs.lemmas.Bool.{ltb-false, ltb-true}
 use Rattle.xfs_base.specs.declared.segment.End.{End}
 use Rattle.xfs_base.specs.declared.segment.SegName.{SegName}
 use Rattle.xfs_base.proofs.Booleans.{contrary}
@@ -36,19 +36,13 @@ Has n q = (t : SegName) × In t n.filed × (t.seq ≡ q)
 abbrev pub Gapless : Net → ℕ → Type 0
 Gapless n head = (q : ℕ) → 0 < q → q ≤ head → Has n q
 
-less_of : (p q : ℕ) → nat_lt p q ≡ true → p < q
-less_of p q e = grind (arith, nat_tests)
-
-more_of : (p q : ℕ) → nat_lt p q ≡ false → q ≤ p
-more_of p q e = grind (arith, nat_tests)
-
 -- one more
 one_more : (n : Net) (highest head : ℕ) → head ≤ suc highest → Gapless n highest → Has n (suc highest) → Gapless n head
 one_more n highest head less before there q some up = by (nat_lt highest q) refl
   where
     by : (b : Bool) → nat_lt highest q ≡ b → Has n q
-    by true e = let a = less_of highest q e in (there.0, there.1, there.2 ∙ omega arith)
-    by false e = before q some (more_of highest q e)
+    by true e = let a = ltb-true highest q e in (there.0, there.1, there.2 ∙ omega arith)
+    by false e = before q some (ltb-false highest q e)
 
 -- ---- an owner that serves has its end at the head
 
@@ -72,9 +66,9 @@ module _ (k : Below) (g : Setting) (none : g.doubts ≡ false) (n : Net) (h : Vi
   reaches q highest x (b ∷ bs) more less c all = by (nat_lt highest (q + length bs)) refl (λ m. reaches q highest c.0 bs m less c.5 (λ z in_. all z (inr in_)))
     where
       by : (p : Bool) → nat_lt highest (q + length bs) ≡ p → (highest < q + length bs → Has o q) → Has o q
-      by true e down = down (less_of highest (q + length bs) e)
+      by true e down = down (ltb-true highest (q + length bs) e)
       by false e down =
-          let a = more_of highest (q + length bs) e in
+          let a = ltb-false highest (q + length bs) e in
           let seq : b.name.seq ≡ g.seq_of c.0 = ap (λ (z : Segment). z.name.seq) c.2 ∙ ap (λ (z : SegName). z.seq) (h.paged c.0 c.1).named in
           let d = c.4 in (b.name, all b.name (inl refl), omega arith)
 
@@ -96,18 +90,18 @@ module _ (k : Below) (g : Setting) (none : g.doubts ≡ false) (n : Net) (h : Vi
   to_top q some less = by (nat_lt h.w.head q) refl
     where
       by : (b : Bool) → nat_lt h.w.head q ≡ b → Has o q
-      by false e = let t = gapless q some (more_of h.w.head q e) in (t.0, in_old t.0 t.1, t.2)
+      by false e = let t = gapless q some (ltb-false h.w.head q e) in (t.0, in_old t.0 t.1, t.2)
       by true e = by_depth (nat_lt s.end.seq (q + length chain)) refl
         where
           above : o.low ≤ q
-          above = let a = less_of h.w.head q e in let b = head.low_head in let c = h.low in let d = low in omega arith
+          above = let a = ltb-true h.w.head q e in let b = head.low_head in let c = h.low in let d = low in omega arith
 
           by_depth : (b : Bool) → nat_lt s.end.seq (q + length chain) ≡ b → Has o q
           by_depth true f =
-              reaches q s.end.seq (before k g none n h chain s i fact o t serves files low).0.read.next chain (less_of s.end.seq (q + length chain) f) less
+              reaches q s.end.seq (before k g none n h chain s i fact o t serves files low).0.read.next chain (ltb-true s.end.seq (q + length chain) f) less
               (before k g none n h chain s i fact o t serves files low).0.read.chained
               (in_files k g none n h chain s i fact o t serves files low)
-          by_depth false f = absurd (not_below k g none n h chain s i fact o t serves files low q some above (more_of s.end.seq (q + length chain) f))
+          by_depth false f = absurd (not_below k g none n h chain s i fact o t serves files low q some above (ltb-false s.end.seq (q + length chain) f))
 
   pub ended : Gapless o t.view.w.head
   ended = ⊎_elim stays lands (rises k g none n h chain s i fact o t serves files low)

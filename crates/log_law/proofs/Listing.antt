@@ -3,7 +3,7 @@ use Rattle.std.proofs.Common.{◌≡◌, ℕ, ◌==◌, ◌||◌, ◌&&◌, Bool
 use Rattle.xfs_base.specs.declared.fragment.FragMeta.{FragMeta}
 use Rattle.xfs_base.specs.declared.fragment.Fragment.{Fragment}
 use Rattle.xfs_base.specs.declared.segment.SegName.{SegName}
-use Rattle.xfs_base.proofs.Booleans.{contrary}
+use Rattle.xfs_base.proofs.Booleans.{contrary, equal_itself}
 use Rattle.segment_format.specs.declared.segment.Segment.{Segment}
 use Rattle.stripe_code.specs.Fragments.{same_name as same_parts}
 use Rattle.fragment_store.specs.ShelfState.{same_name, held_at}
@@ -12,13 +12,14 @@ use Rattle.log_scan.specs.Pick.{has_name}
 use Rattle.log_tie.specs.Setting.{Setting}
 use Rattle.log_tie.specs.Shelves.{is_of_log, AllPieces}
 use Rattle.log_tie.specs.Scans.{AllMetas}
-use Rattle.log_tie.proofs.Names.{itself, one_name}
+use Rattle.log_tie.proofs.Names.{one_name}
 
 -- a name passes the one test where it passes the other
 itself_parts : (a : SegName) → same_parts a a ≡ true
 itself_parts a =
-    by (a.log.0 == a.log.0) (a.seq == a.seq) (a.pass.inc == a.pass.inc) (a.pass.att == a.pass.att) (itself a.log.0) (itself a.seq) (itself a.pass.inc)
-    (itself a.pass.att)
+    by (a.log.0 == a.log.0) (a.seq == a.seq) (a.pass.inc == a.pass.inc) (a.pass.att == a.pass.att)
+    (equal_itself a.log.0) (equal_itself a.seq) (equal_itself a.pass.inc)
+    (equal_itself a.pass.att)
   where
     by : (p q r t : Bool) → p ≡ true → q ≡ true → r ≡ true → t ≡ true → (p && (q && (r && t))) ≡ true
     by true true true true e f h i = refl

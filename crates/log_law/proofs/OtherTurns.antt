@@ -3,6 +3,7 @@ use Rattle.log_tie.specs.Shelves.{DropSeen}
 use Rattle.log_law.proofs.Next.{Next}
 use Rattle.std.proofs.Common.{◌≡◌, ℕ, suc, ◌==◌, ◌≤◌, ◌<◌, ◌⊎◌, Bool, true, false, cond, List, [], ◌∷◌, refl, sym, ap, ◌∙◌, inl, inr, arith}
 use Rattle.std.proofs.lemmas.Bool.Decides.{nat_tests}
+use Rattle.std.proofs.lemmas.Bool.{eqb-true}
 use Rattle.xfs_base.specs.declared.fragment.FragMeta.{FragMeta}
 use Rattle.xfs_base.specs.declared.news.SlotNews.{SlotNews}
 use Rattle.xfs_base.specs.declared.segment.SegName.{SegName}
@@ -14,7 +15,6 @@ use Rattle.log_protocol.specs.Step.Steps.{Done, More}
 use Rattle.log_protocol.specs.Tables.{put, In}
 use Rattle.log_tie.specs.Setting.{Setting, name_of}
 use Rattle.log_tie.specs.Scans.{AllMetas, WholeMap}
-use Rattle.log_tie.proofs.Names.{equal}
 use Rattle.log_law.specs.Net.{Net}
 use Rattle.log_law.specs.Net.Packet.{ListedSent, DeleteSent, MapSent, HelloSent, WelcomeSent}
 use Rattle.log_law.specs.Below.{Below}
@@ -54,7 +54,7 @@ module _ (k : Below) (g : Setting) (n : Net) (h : View g n) where
       rises y = by (y == v) refl
         where
           by : (t : Bool) → (y == v) ≡ t → h.w.registry_generation y ≤ cond t generation (h.w.registry_generation y)
-          by true e = let a = ap h.w.registry_generation (equal y v e) in let b = h.registry v in let c = up in omega arith
+          by true e = let a = ap h.w.registry_generation (eqb-true y v e) in let b = h.registry v in let c = up in omega arith
           by false e = omega arith
 
   -- ---- the least horizon rises
@@ -207,6 +207,6 @@ module _ (k : Below) (g : Setting) (n : Net) (h : View g n) where
             where
               by : (t : Bool) → (y == f.0) ≡ t → (h.w.dropped y ≡ 0) ⊎ In (name_of g y) n.dropped
                   → (cond t 1 (h.w.dropped y) ≡ 0) ⊎ In (name_of g y) (meta.name ∷ n.dropped)
-              by true e was = inr (inl (ap (name_of g) (equal y f.0 e) ∙ sym f.2))
+              by true e was = inr (inl (ap (name_of g) (eqb-true y f.0 e) ∙ sym f.2))
               by false e (inl was) = inl was
               by false e (inr was) = inr (inr was)

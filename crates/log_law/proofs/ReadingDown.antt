@@ -1,7 +1,7 @@
 -- What a reopening reads back goes down to the horizon that it took last, and all that was filed lies before its opening segment.
 use Rattle.std.proofs.Common.{◌≡◌, ⊎_elim, ◌+◌, ◌<◌, ◌≤◌, ℕ, Bool, true, false, nat_lt, List, [], ◌∷◌, ◌++◌, length, Option, Some, None, refl, sym, ap, subst, ◌∙◌, arith}
-use Rattle.std.proofs.lemmas.Bool.Decides.{nat_tests}
 use Rattle.std.specs.Prelude.{IfSome}
+use Rattle.std.proofs.lemmas.Bool.{ltb-false, ltb-true}
 use Rattle.client_log.specs.declared.input.In.{In as Input}
 use Rattle.client_log.specs.History.{settled_ends, EndRisesByOne}
 use Rattle.client_log.specs.LogState.{LogState}
@@ -227,16 +227,10 @@ module _ (k : Below) (g : Setting) (none : g.doubts ≡ false) (n : Net) (m : Mo
             → name.seq ≤ s.end.seq
         ends e = by (nat_lt s.end.seq name.seq) refl
           where
-            not_more : (x y : ℕ) → nat_lt x y ≡ false → y ≤ x
-            not_more x y t = grind (arith, nat_tests)
-
-            more : (x y : ℕ) → nat_lt x y ≡ true → x < y
-            more x y t = grind (arith, nat_tests)
-
             by : (t : Bool) → nat_lt s.end.seq name.seq ≡ t → name.seq ≤ s.end.seq
-            by false t = not_more s.end.seq name.seq t
+            by false t = ltb-false s.end.seq name.seq t
             by true t =
-                let x = more s.end.seq name.seq t in
+                let x = ltb-true s.end.seq name.seq t in
                 let a = high in
                 let z = seq in
                 let b = head_at in

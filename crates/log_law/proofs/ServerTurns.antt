@@ -4,11 +4,12 @@ use Rattle.xfs_base.specs.Stamps.{is_greater}
 use Rattle.xfs_base.specs.Segments.{pass_cmp}
 use Rattle.std.specs.BTreeMap.{insert_entry}
 use Rattle.std.proofs.Common.{◌≡◌, ℕ, ◌==◌, ◌&&◌, ◌<◌, ◌⊎◌, Bool, true, false, cond, [], ◌∷◌, Option, Some, None, refl, sym, ap, subst, ◌∙◌, arith, ◌++◌, inl, inr}
+use Rattle.std.proofs.lemmas.Bool.{eqb-true}
 use Rattle.xfs_base.specs.declared.fragment.Fragment.{Fragment}
 use Rattle.xfs_base.specs.declared.segment.LogId.{LogId}
 use Rattle.xfs_base.specs.declared.segment.Pass.{Pass}
 use Rattle.xfs_base.specs.declared.segment.SegName.{SegName}
-use Rattle.xfs_base.proofs.Booleans.{contrary, by_test, and_first, and_second}
+use Rattle.xfs_base.proofs.Booleans.{contrary, by_test, and_first, and_second, equal_itself}
 use Rattle.fragment_store.specs.ShelfState.{ShelfState, held_at, fence_of, log_cmp, is_marked, is_held}
 use Rattle.fragment_store.specs.Calls.{on_fence, kept, with_fragment}
 use Rattle.log_protocol.specs.Packets.{FencedPacket}
@@ -19,7 +20,6 @@ use Rattle.log_tie.specs.Setting.{Setting, name_of}
 use Rattle.log_tie.specs.Scans.{FencedSeen}
 use Rattle.log_tie.specs.Shelves.{flag, Shelved, ShelfShown, Deed, is_of_log, is_stored, shelf_after, Owes, Tells, ByServer, Did, AllPieces}
 use Rattle.log_tie.specs.Shelves.Deed.{Stores, Fetches, Fences, Deletes, Fills, Loses}
-use Rattle.log_tie.proofs.Names.{equal, itself}
 use Rattle.log_law.specs.Net.{Net, listed, answers, fragment_told}
 use Rattle.log_law.specs.Net.Packet.{StoreSent, StoredSent, FenceSent, ListedSent, DeleteSent}
 use Rattle.log_law.specs.Events.{CameToServer}
@@ -80,7 +80,7 @@ module _ (k : Below) (g : Setting) (n : Net) (h : View g n) where
     listed = t.0.listed;
     sent = subst (λ (p : FencedPacket). In p u.fenceds)
         (λ i. record { from = t.2 i; incarnation = t.3 i; generation = t.4 i; low = t.0.low; listed = t.0.listed }) t.1;
-    lists = λ x. t.5 x ∙ ap flag (sym (names_listed g (n.shelves v).held (name_of g x) (itself g.log.0)));
+    lists = λ x. t.5 x ∙ ap flag (sym (names_listed g (n.shelves v).held (name_of g x) (equal_itself g.log.0)));
     whole = metas_listed g h.book u.booked (n.shelves v).held (subst (λ b. AllPieces g h.book b (n.shelves v).held) (sym booked) (h.shelves v).each);
   }
 
@@ -128,8 +128,8 @@ module _ (k : Below) (g : Setting) (n : Net) (h : View g n) where
       }
 
       pick : (t : Bool) → (y == v) ≡ t → ShelfShown g u h.book y (cond t s (n.shelves y))
-      pick true e = subst (λ z. ShelfShown g u h.book z s) (sym (equal y v e)) shows
-      pick false e = subst (Seen (n.shelves y)) (sym (others (λ same. contrary (sym e ∙ (ap (λ z. y == z) (sym same) ∙ itself y))))) (h.shelves y)
+      pick true e = subst (λ z. ShelfShown g u h.book z s) (sym (eqb-true y v e)) shows
+      pick false e = subst (Seen (n.shelves y)) (sym (others (λ same. contrary (sym e ∙ (ap (λ z. y == z) (sym same) ∙ equal_itself y))))) (h.shelves y)
 
   -- the generation rises only by a loss, and then nothing is held
   abbrev Stays : (v y : ℕ) → State → Type 0
@@ -165,8 +165,9 @@ module _ (k : Below) (g : Setting) (n : Net) (h : View g n) where
   servers_after v deed d y = pick (y == v) refl
     where
       pick : (t : Bool) → (y == v) ≡ t → Stays v y d.world
-      pick true e = subst (λ z. Stays v z d.world) (sym (equal y v e)) (same_generation v deed d.world d.shows (ap (λ (z : State). z.dropped) d.frame.others))
-      pick false e = inl (d.frame.generation y (λ same. contrary (sym e ∙ (ap (λ z. y == z) (sym same) ∙ itself y))))
+      pick true e = subst (λ z. Stays v z d.world) (sym (eqb-true y v e))
+          (same_generation v deed d.world d.shows (ap (λ (z : State). z.dropped) d.frame.others))
+      pick false e = inl (d.frame.generation y (λ same. contrary (sym e ∙ (ap (λ z. y == z) (sym same) ∙ equal_itself y))))
 
   pub serves_view : (v : ℕ) (deed : Deed) → 0 < v → CameToServer g n v deed
       → Next g n h (record n { shelves = put n.shelves v (shelf_after g (n.shelves v) deed); sent = answers g v (n.shelves v) deed ++ n.sent })

@@ -1,7 +1,7 @@
 -- Where a restart ends, the flight of the last boot that served is filed, or never will be.
 use Rattle.std.proofs.Common.{◌≡◌, ⊎_elim, ℕ, suc, ◌<◌, ◌≤◌, ◌⊎◌, ◌==◌, Bool, true, false, nat_lt, Option, Some, None, List, ◌++◌, refl, sym, ap, subst, ◌∙◌, inl, inr, arith}
 use Rattle.std.specs.Prelude.{IfSome}
-use Rattle.std.proofs.lemmas.Bool.Decides.{nat_tests}
+use Rattle.std.proofs.lemmas.Bool.{eqb-false, ltb-false, ltb-true, eqb-true}
 use Rattle.xfs_base.specs.declared.segment.SegName.{SegName}
 use Rattle.xfs_base.proofs.Booleans.{contrary}
 use Rattle.segment_format.specs.declared.segment.Segment.{Segment}
@@ -16,7 +16,6 @@ use Rattle.log_protocol.specs.Tables.{In}
 use Rattle.log_tie.specs.Setting.{Setting, name_of}
 use Rattle.log_tie.specs.Seen.{log_filed}
 use Rattle.log_tie.specs.Openings.{WritingShown}
-use Rattle.log_tie.proofs.Names.{equal}
 use Rattle.log_law.specs.Net.{Owner, Net, opening, names_of, after_flight, after_writing}
 use Rattle.log_law.specs.Net.Owner.{Down, Opening, Writing, Serving}
 use Rattle.log_law.specs.Events.{Happens, CameToWriter}
@@ -131,14 +130,8 @@ module _ (k : Below) (g : Setting) (none : g.doubts ≡ false) (n : Net) (h : Vi
             let a = opens_later ends.0 in let b = past.incarnation in let c = served in omega arith
 
         by : (b : Bool) → nat_lt h.w.head u.head ≡ b → h.w.head < u.head
-        by true e = less_of h.w.head u.head e
-          where
-            less_of : (p q : ℕ) → nat_lt p q ≡ true → p < q
-            less_of p q e = grind (arith, nat_tests)
-        by false e = absurd (stays (more_of h.w.head u.head e))
-          where
-            more_of : (p q : ℕ) → nat_lt p q ≡ false → q ≤ p
-            more_of p q e = grind (arith, nat_tests)
+        by true e = ltb-true h.w.head u.head e
+        by false e = absurd (stays (ltb-false h.w.head u.head e))
 
     -- what is filed of the last boot that served was booked
     pub old_boot : (x : ℕ) → u.booked x ≡ 1 → u.incarnation_of x ≡ h.w.served → h.w.booked x ≡ 1
@@ -218,11 +211,8 @@ module _ (k : Below) (g : Setting) (n o : Net) (none : g.doubts ≡ false) (m : 
   tail_of = by (there.0.pass.inc == f.segment.name.pass.inc) refl
     where
       by : (b : Bool) → (there.0.pass.inc == f.segment.name.pass.inc) ≡ b → IsTailAdopted g o f ⊎ IsTailDiscarded (On m.run happens) f
-      by true e = inl (adopted (equal there.0.pass.inc f.segment.name.pass.inc e))
-      by false e = inr (discarded (other there.0.pass.inc f.segment.name.pass.inc e))
-        where
-          other : (p q : ℕ) → (p == q) ≡ false → p ≡ q → ⊥
-          other p q e = grind (arith, nat_tests)
+      by true e = inl (adopted (eqb-true there.0.pass.inc f.segment.name.pass.inc e))
+      by false e = inr (discarded (eqb-false there.0.pass.inc f.segment.name.pass.inc e))
 
 pub a_tail_is_filed_or_never : Below → ATailIsFiledOrNever
 a_tail_is_filed_or_never k g n o none m happens calm ends f fact = tail_of k g n o none m happens calm ends f fact

@@ -18,6 +18,7 @@ use Rattle.xfs_base.specs.declared.segment.LogId.{LogId}
 use Rattle.xfs_base.specs.declared.segment.SegName.{SegName}
 use Rattle.xfs_base.proofs.Booleans.{by_test}
 use Rattle.xfs_base.proofs.StepLoops.{steps_keep}
+use Rattle.xfs_base.proofs.Alls.{all_append}
 use Rattle.log_scan.specs.declared.input.In.{In}
 use Rattle.log_scan.specs.declared.input.In.TheVariants.{Welcome, Fenced, Got, Missing, Maps, Tick}
 use Rattle.log_scan.specs.declared.listing.Listing.{Listing}
@@ -54,10 +55,6 @@ none_above log highest e [] le linked = tt
 none_above log highest e (s ∷ ss) le linked =
     let number : s.name.seq ≡ e.seq = ap (λ (n : SegName). n.seq) linked.0 in
     (omega (arith, number, le), none_above log highest (end_below s) ss (omega (arith, number, le)) linked.2)
-
-all_append : {X : Type 0} (P : X → Type 0) (xs ys : List X) → AllByRecursion P xs → AllByRecursion P ys → AllByRecursion P (xs ++ ys)
-all_append P [] ys all more = more
-all_append P (x ∷ xs) ys all more = (all.0, all_append P xs ys all.1 more)
 
 all_reverse : {X : Type 0} (P : X → Type 0) (xs : List X) → AllByRecursion P xs → AllByRecursion P (reverse xs)
 all_reverse P [] all = tt

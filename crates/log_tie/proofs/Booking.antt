@@ -1,5 +1,6 @@
 -- A name that is booked: its page is that of the segment that is launched, and the others stay.
 use Rattle.std.proofs.Common.{◌≡◌, ◌⊎◌, inl, inr, ℕ, suc, ◌-◌, ◌<◌, ◌==◌, Bool, true, false, cond, if◌then◌else◌, length, refl, sym, ap, subst, ◌∙◌}
+use Rattle.std.proofs.lemmas.Bool.{eqb-true}
 use Rattle.log_protocol.specs.State.{State}
 use Rattle.log_protocol.specs.Tables.{put}
 use Rattle.log_protocol.specs.OwnerSteps.{Group, books}
@@ -9,15 +10,14 @@ use Rattle.group_map.specs.declared.group.Group as groups
 use Rattle.group_map.specs.GroupMapState.{GroupMapState}
 use Rattle.log_tie.specs.Setting.{Setting, Stripe, stripe_of_group, server_of, generation_of, present_at, name_of, point, IsStripe}
 use Rattle.log_tie.specs.Seen.{Page, Book}
-use Rattle.xfs_base.proofs.Booleans.{contrary}
-use Rattle.log_tie.proofs.Names.{equal, itself}
+use Rattle.xfs_base.proofs.Booleans.{contrary, equal_itself}
 
 -- the book with a segment at a name
 abbrev pub with_page : (ℕ → Segment) → ℕ → Segment → ℕ → Segment
 with_page book x s y = if y == x then s else book y
 
 pub page_here : (book : ℕ → Segment) (x : ℕ) (s : Segment) → with_page book x s x ≡ s
-page_here book x s = by (x == x) (itself x)
+page_here book x s = by (x == x) (equal_itself x)
   where
     by : (t : Bool) → t ≡ true → cond t s (book x) ≡ s
     by true e = refl
@@ -28,14 +28,14 @@ pub books_one : (w : State) (x y : ℕ) → put w.booked x 1 y ≡ 1 → (w.book
 books_one w x y = by (y == x) refl
   where
     by : (t : Bool) → (y == x) ≡ t → cond t 1 (w.booked y) ≡ 1 → (w.booked y ≡ 1) ⊎ (y ≡ x)
-    by true e h = inr (equal y x e)
+    by true e h = inr (eqb-true y x e)
     by false e h = inl h
 
 pub page_there : (w : State) (book : ℕ → Segment) (x : ℕ) (s : Segment) → (w.booked x ≡ 1 → ⊥) → (y : ℕ) → w.booked y ≡ 1 → with_page book x s y ≡ book y
 page_there w book x s new y booked = by (y == x) refl
   where
     by : (t : Bool) → (y == x) ≡ t → cond t s (book y) ≡ book y
-    by true e = absurd (new (subst (λ z. w.booked z ≡ 1) (equal y x e) booked))
+    by true e = absurd (new (subst (λ z. w.booked z ≡ 1) (eqb-true y x e) booked))
     by false e = refl
 
 module _ (g : Setting) (w : State) (book : ℕ → Segment) (x : ℕ) (s : Segment) (group : groups.Group) (m : GroupMapState) (prior content : ℕ) where
@@ -62,7 +62,7 @@ module _ (g : Setting) (w : State) (book : ℕ → Segment) (x : ℕ) (s : Segme
           (λ i. cond t (w.owner_generation (server_of group.members i)) (w.member_generation y i)) (cond t prior (w.prior_of y))
           (cond t content (w.content_of y))
       by true e h = record {
-        named = named ∙ ap (name_of g) (sym (equal y x e));
+        named = named ∙ ap (name_of g) (sym (eqb-true y x e));
         boot = boot;
         spelled = refl;
         counted = ap (λ (z : Stripe). length z.members) (sym stripe);

@@ -3,9 +3,10 @@ use Rattle.std.proofs.Common.{◌≡◌, ℕ, zero, suc, ◌+◌, ◌<◌, ◌�
 use Rattle.std.specs.Prelude.{Contains, filter}
 use Rattle.std.specs.List.{list_any, range_with_len}
 use Rattle.std.proofs.lemmas.Bool.Decides.{nat_tests}
+use Rattle.std.proofs.lemmas.Bool.{le-leb, leb-true, eqb-true}
 use Rattle.xfs_base.specs.declared.fragment.FragMeta.{FragMeta}
 use Rattle.xfs_base.specs.declared.segment.SegName.{SegName}
-use Rattle.xfs_base.proofs.Booleans.{contrary, and_first, and_second, not_true, or_first, or_second}
+use Rattle.xfs_base.proofs.Booleans.{contrary, and_first, and_second, not_true, or_first, or_second, equal_itself}
 use Rattle.xfs_base.proofs.Members.{contains_nothing, contains_first, contains_rest, contains_cases}
 use Rattle.group_map.specs.declared.group.Member.{Member}
 use Rattle.stripe_code.specs.Fragments.{same_name}
@@ -13,7 +14,7 @@ use Rattle.log_protocol.specs.Tables.{In}
 use Rattle.log_scan.specs.declared.listing.Listing.{Listing}
 use Rattle.log_scan.specs.Pick.{above, counting, has_name, has_list, lacks, is_torn}
 use Rattle.log_tie.specs.Setting.{server_of, generation_of}
-use Rattle.log_tie.proofs.Names.{equal, itself, one_name}
+use Rattle.log_tie.proofs.Names.{one_name}
 
 -- ---- two words for membership
 
@@ -83,16 +84,10 @@ filtered_in p (y ∷ ys) x fact h = by (p y) refl fact (λ k. filtered_in p ys x
 
 -- ---- what counts
 
-pub le_test : (a b : ℕ) → nat_le a b ≡ true → a ≤ b
-le_test a b h = grind (arith, nat_tests)
-
-pub test_le : (a b : ℕ) → a ≤ b → nat_le a b ≡ true
-test_le a b h = grind (arith, nat_tests)
-
 pub counted_listed : (low : ℕ) (ls : List Listing) (x : FragMeta) → In x (counting low ls) → (l : Listing) × In l ls × In x l.held × (low ≤ x.name.seq)
 counted_listed low [] x fact = absurd fact
 counted_listed low (l ∷ ls) x fact = elim (in_either x (above low l.held) (counting low ls) fact) [
-  | inl a ↦ (let h = in_filtered (λ m. nat_le low m.name.seq) l.held x a in (l, inl refl, h.0, le_test low x.name.seq h.1))
+  | inl a ↦ (let h = in_filtered (λ m. nat_le low m.name.seq) l.held x a in (l, inl refl, h.0, leb-true low x.name.seq h.1))
   | inr b ↦ (let h = counted_listed low ls x b in (h.0, inr h.1, h.2, h.3))
 ]
 
@@ -100,7 +95,7 @@ pub listed_counted : (low : ℕ) (ls : List Listing) (l : Listing) (x : FragMeta
 listed_counted low [] l x of fact up = absurd of
 listed_counted low (k ∷ ks) l x (inl e) fact up =
     in_front x (above low k.held) (counting low ks)
-    (filtered_in (λ m. nat_le low m.name.seq) k.held x (subst (λ (z : Listing). In x z.held) e fact) (test_le low x.name.seq up))
+    (filtered_in (λ m. nat_le low m.name.seq) k.held x (subst (λ (z : Listing). In x z.held) e fact) (le-leb low x.name.seq up))
 listed_counted low (k ∷ ks) l x (inr of) fact up = in_back x (above low k.held) (counting low ks) (listed_counted low ks l x of fact up)
 
 -- ---- names
@@ -126,7 +121,7 @@ its_list (l ∷ ls) v h = by (l.server == v) refl h (λ k. its_list ls v k)
   where
     by : (t : Bool) → (l.server == v) ≡ t → (t || has_list v ls) ≡ true → (has_list v ls ≡ true → In (listing_of ls v) ls × ((listing_of ls v).server ≡ v))
         → In (cond t l (listing_of ls v)) (l ∷ ls) × ((cond t l (listing_of ls v)).server ≡ v)
-    by true e k more = (inl refl, equal l.server v e)
+    by true e k more = (inl refl, eqb-true l.server v e)
     by false e k more = let x = more k in (inr x.0, x.1)
 
 pub no_list : (ls : List Listing) (v : ℕ) → has_list v ls ≡ false → (listing_of ls v).held ≡ []
@@ -138,14 +133,14 @@ no_list (l ∷ ls) v h = by (l.server == v) h (λ k. no_list ls v k)
     by false k more = more k
 
 pub has_in : (ls : List Listing) (l : Listing) → In l ls → has_list l.server ls ≡ true
-has_in ls l fact = it_passes (λ k. k.server == l.server) ls l fact (itself l.server)
+has_in ls l fact = it_passes (λ k. k.server == l.server) ls l fact (equal_itself l.server)
 
 -- one more list, of another server
 pub has_more : (ls : List Listing) (l : Listing) (v : ℕ) → has_list v ls ≡ false → (l.server ≡ v → ⊥) → has_list v (ls ++ l ∷ []) ≡ false
 has_more [] l v none other = by (l.server == v) refl
   where
     by : (t : Bool) → (l.server == v) ≡ t → (t || false) ≡ false
-    by true e = absurd (other (equal l.server v e))
+    by true e = absurd (other (eqb-true l.server v e))
     by false e = refl
 has_more (k ∷ ks) l v none other = by (k.server == v) none (λ h. has_more ks l v h other)
   where
@@ -163,7 +158,7 @@ range_has from (suc n) v low high = by (from == v) refl (λ up. range_has (from 
     next e = grind (arith, nat_tests)
 
     by : (t : Bool) → (from == v) ≡ t → (from + 1 ≤ v → In v (range_with_len (from + 1) n)) → In v (from ∷ range_with_len (from + 1) n)
-    by true e more = inl (sym (equal from v e))
+    by true e more = inl (sym (eqb-true from v e))
     by false e more = inr (more (next e))
 
 pub none_filtered : (p : ℕ → Bool) (xs : List ℕ) (v : ℕ) → length (filter p xs) ≡ 0 → In v xs → p v ≡ false
@@ -200,8 +195,8 @@ torn_lacks ls name (m ∷ ms) h = by (list_any (lacks name m) ls) refl h (λ k. 
       member = omega arith;
       list = l.0;
       among = l.1;
-      at_server = equal _ _ (and_first (l.0.server == m.server) _ l.2);
-      original = equal _ _ (and_first (l.0.generation == m.generation) _ (and_second (l.0.server == m.server) _ l.2));
+      at_server = eqb-true _ _ (and_first (l.0.server == m.server) _ l.2);
+      original = eqb-true _ _ (and_first (l.0.generation == m.generation) _ (and_second (l.0.server == m.server) _ l.2));
       lacking = not_true _ (and_second (l.0.generation == m.generation) _ (and_second (l.0.server == m.server) _ l.2));
     }
     by false e k more = let x = more k in let b =
@@ -219,12 +214,12 @@ torn_lacks ls name (m ∷ ms) h = by (list_any (lacks name m) ls) refl h (λ k. 
 whole_member : (l : Listing) (name : SegName) (m : Member) → lacks name m l ≡ false → l.server ≡ m.server
     → (has_name name l.held ≡ true) ⊎ (l.generation ≡ m.generation → ⊥)
 whole_member l name m h same =
-    by (l.server == m.server) (l.generation == m.generation) (has_name name l.held) (ap (λ z. z == m.server) same ∙ itself m.server) refl refl h
+    by (l.server == m.server) (l.generation == m.generation) (has_name name l.held) (ap (λ z. z == m.server) same ∙ equal_itself m.server) refl refl h
   where
     by : (p s t : Bool) → p ≡ true → (l.generation == m.generation) ≡ s → has_name name l.held ≡ t → (p && (s && not t)) ≡ false
         → (has_name name l.held ≡ true) ⊎ (l.generation ≡ m.generation → ⊥)
     by p s true a e f k = inl f
-    by p false false a e f k = inr (λ alike. contrary (sym e ∙ (ap (λ z. z == m.generation) alike ∙ itself m.generation)))
+    by p false false a e f k = inr (λ alike. contrary (sym e ∙ (ap (λ z. z == m.generation) alike ∙ equal_itself m.generation)))
     by true true false a e f k = contrary (sym k)
     by false true false a e f k = contrary a
 

@@ -1,30 +1,21 @@
 -- Names and their numbers.
 use Rattle.std.proofs.Common.{◌≡◌, ℕ, zero, suc, ◌==◌, ◌<◌, Bool, true, false, cond, ◌&&◌, refl, sym, ap, arith}
-use Rattle.std.proofs.lemmas.Bool.Decides.{nat_tests}
+use Rattle.std.proofs.lemmas.Bool.{eqb-true, ne_eqb}
 use Rattle.xfs_base.specs.declared.segment.Pass.{Pass}
 use Rattle.xfs_base.specs.declared.segment.SegName.{SegName}
 use Rattle.xfs_base.proofs.Booleans.{contrary, and_first, and_second}
 use Rattle.stripe_code.specs.Fragments.{same_pass, same_name}
 use Rattle.log_tie.specs.Setting.{Setting, name_of, point}
 
-pub equal : (n m : ℕ) → (n == m) ≡ true → n ≡ m
-equal n m h = grind (arith, nat_tests)
-
-pub itself : (n : ℕ) → (n == n) ≡ true
-itself n = grind (arith, nat_tests)
-
-pub unequal : (n m : ℕ) → (n ≡ m → ⊥) → (n == m) ≡ false
-unequal n m h = grind (arith, nat_tests)
-
 -- a name that is tested equal is the name
 pub one_name : (a b : SegName) → same_name a b ≡ true → a ≡ b
 one_name a b h =
-    let log = equal a.log.0 b.log.0 (and_first (a.log.0 == b.log.0) ((a.seq == b.seq) && same_pass a.pass b.pass) h) in
+    let log = eqb-true a.log.0 b.log.0 (and_first (a.log.0 == b.log.0) ((a.seq == b.seq) && same_pass a.pass b.pass) h) in
     let rest = and_second (a.log.0 == b.log.0) ((a.seq == b.seq) && same_pass a.pass b.pass) h in
-    let seq = equal a.seq b.seq (and_first (a.seq == b.seq) (same_pass a.pass b.pass) rest) in
+    let seq = eqb-true a.seq b.seq (and_first (a.seq == b.seq) (same_pass a.pass b.pass) rest) in
     let pass = and_second (a.seq == b.seq) (same_pass a.pass b.pass) rest in
-    let inc = equal a.pass.inc b.pass.inc (and_first (a.pass.inc == b.pass.inc) (a.pass.att == b.pass.att) pass) in
-    let att = equal a.pass.att b.pass.att (and_second (a.pass.inc == b.pass.inc) (a.pass.att == b.pass.att) pass) in
+    let inc = eqb-true a.pass.inc b.pass.inc (and_first (a.pass.inc == b.pass.inc) (a.pass.att == b.pass.att) pass) in
+    let att = eqb-true a.pass.att b.pass.att (and_second (a.pass.inc == b.pass.inc) (a.pass.att == b.pass.att) pass) in
     λ i. record { log = record { 0 = log i }; seq = seq i; pass = record { inc = inc i; att = att i } }
 
 module _ (g : Setting) where
@@ -47,7 +38,7 @@ module _ (g : Setting) where
 
   -- a point with a pass
   pub point_some : (seq : ℕ) (pass : Pass) → 0 < pass.inc → point g seq pass ≡ g.code seq pass.inc pass.att
-  point_some seq pass some = by (pass.inc == 0) (unequal pass.inc 0 (λ e. let h = some in omega arith))
+  point_some seq pass some = by (pass.inc == 0) (ne_eqb pass.inc 0 (λ e. let h = some in omega arith))
     where
       by : (t : Bool) → t ≡ false → cond t 0 (g.code seq pass.inc pass.att) ≡ g.code seq pass.inc pass.att
       by false e = refl

@@ -1,11 +1,12 @@
 -- A log is opened again: its opening segment is written, and once it is settled the owner serves.
 use Rattle.std.proofs.Common.{◌≡◌, ⊎_elim, ℕ, zero, suc, ◌+◌, ◌-◌, ◌<◌, ◌≤◌, ◌==◌, Bool, true, false, cond, ◌&&◌, nat_lt, nat_le, if◌then◌else◌, List, [], ◌∷◌, Some, None, length, refl, sym, ap, subst, ◌∙◌, arith, inl, inr}
 use Rattle.std.proofs.lemmas.Bool.Decides.{nat_tests}
+use Rattle.std.proofs.lemmas.Bool.{le-ltb, lt-ltb}
 use Rattle.xfs_base.specs.declared.segment.End.{End}
 use Rattle.xfs_base.specs.declared.segment.SegName.{SegName}
 use Rattle.xfs_base.specs.Limits.{segment_blocks}
 use Rattle.xfs_base.specs.Steps.{still, saying}
-use Rattle.xfs_base.proofs.Booleans.{contrary, and_first, by_test as pick}
+use Rattle.xfs_base.proofs.Booleans.{contrary, and_first, by_test as pick, equal_itself}
 use Rattle.segment_format.specs.declared.segment.Segment.{Segment}
 use Rattle.segment_format.specs.Rows.{rows_of}
 use Rattle.group_map.specs.declared.group.Group as groups
@@ -37,7 +38,7 @@ use Rattle.log_tie.specs.Setting.{Setting, stripe_of_group, server_of, present_a
 use Rattle.log_tie.specs.Seen.{Book, Flying, Serves, ByOwner, Goes, Fixed, Standing}
 use Rattle.log_tie.specs.Inputs.{StoredSeen, MapSeen}
 use Rattle.log_tie.specs.Openings.{Chained, AllFrom, ChainShown, ReadShown, WritingShown, AllFiled, OpeningShown, OpensByStep, OpeningTakes}
-use Rattle.log_tie.proofs.Names.{itself, one_name, one_number, some_number, name_coded}
+use Rattle.log_tie.proofs.Names.{one_name, one_number, some_number, name_coded}
 use Rattle.log_tie.proofs.Booking.{books_one, with_page, page_here, page_there, booked_state, stripe_group, booked_pages}
 use Rattle.log_tie.proofs.Sending.{sent_all}
 use Rattle.log_tie.proofs.Sealing.{launch, nothing_noted}
@@ -108,15 +109,9 @@ module _ (g : Setting) where
   serves_files : (w : State) (lowest sure y : ℕ) → lowest ≤ w.seq_of y → w.seq_of y < w.opening_seq → path w (w.seq_of y) ≡ y
       → (serves w (path w) lowest sure).filed y ≡ 1
   serves_files w lowest sure y above below fact =
-      by (y == w.flight) (nat_lt (w.seq_of y) lowest) (nat_lt (w.seq_of y) w.opening_seq) (path w (w.seq_of y) == y) (more (w.seq_of y) lowest above)
-      (less (w.seq_of y) w.opening_seq below) (ap (λ z. z == y) fact ∙ itself y)
+      by (y == w.flight) (nat_lt (w.seq_of y) lowest) (nat_lt (w.seq_of y) w.opening_seq) (path w (w.seq_of y) == y) (le-ltb (w.seq_of y) lowest above)
+      (lt-ltb (w.seq_of y) w.opening_seq below) (ap (λ z. z == y) fact ∙ equal_itself y)
     where
-      less : (a b : ℕ) → a < b → nat_lt a b ≡ true
-      less a b h = grind (arith, nat_tests)
-
-      more : (a b : ℕ) → b ≤ a → nat_lt a b ≡ false
-      more a b h = grind (arith, nat_tests)
-
       by : (p q r t : Bool) → q ≡ false → r ≡ true → t ≡ true
           → (if p then 1 else if q then w.filed y else if r then (if t then 1 else w.filed y) else w.filed y) ≡ 1
       by true q r t a b c = refl
@@ -291,7 +286,7 @@ module _ (g : Setting) (w : State) (book : ℕ → Segment) (fixed : Fixed g w) 
           by false false true false = fact
 
       here : (serves w (path w) lowest sure).filed w.flight ≡ 1
-      here = by (w.flight == w.flight) (itself w.flight)
+      here = by (w.flight == w.flight) (equal_itself w.flight)
         where
           by : (p : Bool) → p ≡ true
               → (if p then 1 else if nat_lt (w.seq_of w.flight) lowest then w.filed w.flight else if nat_lt (w.seq_of w.flight) w.opening_seq then

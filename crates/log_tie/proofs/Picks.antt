@@ -1,8 +1,9 @@
 -- The pick: the lists that an opening kept, and the Welcome that counts, are what the abstract pick asks.
 use Rattle.std.proofs.Common.{◌≡◌, ℕ, zero, suc, ◌<◌, ◌≤◌, ◌⊎◌, ◌==◌, Bool, true, false, cond, List, [], ◌∷◌, Some, None, length, refl, sym, ap, subst, ◌∙◌, inl, inr, arith}
+use Rattle.std.proofs.lemmas.Bool.{eqb-true}
 use Rattle.xfs_base.specs.declared.fragment.FragMeta.{FragMeta}
 use Rattle.xfs_base.specs.declared.segment.SegName.{SegName}
-use Rattle.xfs_base.proofs.Booleans.{contrary}
+use Rattle.xfs_base.proofs.Booleans.{contrary, equal_itself}
 use Rattle.segment_format.specs.declared.segment.Segment.{Segment}
 use Rattle.group_map.specs.declared.group.Group.{Group}
 use Rattle.group_map.specs.GroupMapState.{GroupMapState}
@@ -23,7 +24,6 @@ use Rattle.log_tie.specs.Setting.{Setting, Stripe, server_of, generation_of, nam
 use Rattle.log_tie.specs.Seen.{Book, Fixed, members_of}
 use Rattle.log_tie.specs.Shelves.{flag}
 use Rattle.log_tie.specs.Scans.{WholeMap, AllMetas, FencedSeen, AllListed, Phantom}
-use Rattle.log_tie.proofs.Names.{equal, itself}
 use Rattle.log_tie.proofs.Listings.{in_contained, contained_in, counted_listed, listed_counted, named_in, in_named, listing_of, its_list, no_list, has_in, Lacks, whole_lists}
 
 module _ (g : Setting) (w : State) (book : ℕ → Segment) (bound : ℕ) where
@@ -41,11 +41,11 @@ module _ (g : Setting) (w : State) (book : ℕ → Segment) (bound : ℕ) where
   -- and it is the one of its server
   pub its_own : (ls : List Listing) (l : Listing) → AllListed g w book bound ls → In l ls → listing_of ls l.server ≡ l
   its_own [] l all fact = absurd fact
-  its_own (k ∷ ls) l all (inl e) = ap (λ t. cond t k (listing_of ls l.server)) (ap (λ (z : Listing). k.server == z.server) e ∙ itself k.server) ∙ sym e
+  its_own (k ∷ ls) l all (inl e) = ap (λ t. cond t k (listing_of ls l.server)) (ap (λ (z : Listing). k.server == z.server) e ∙ equal_itself k.server) ∙ sym e
   its_own (k ∷ ls) l all (inr fact) = by (k.server == l.server) refl (its_own ls l all.1 fact)
     where
       by : (t : Bool) → (k.server == l.server) ≡ t → listing_of ls l.server ≡ l → cond t k (listing_of ls l.server) ≡ l
-      by true e more = contrary (sym all.0.only ∙ (ap (λ z. has_list z ls) (equal k.server l.server e) ∙ has_in ls l fact))
+      by true e more = contrary (sym all.0.only ∙ (ap (λ z. has_list z ls) (eqb-true k.server l.server e) ∙ has_in ls l fact))
       by false e more = more
 
 -- a meta that is listed is of a booked segment

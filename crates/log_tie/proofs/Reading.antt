@@ -2,8 +2,7 @@
 use Rattle.std.proofs.Common.{◌≡◌, ℕ, suc, ◌+◌, ◌-◌, ◌<◌, ◌≤◌, true, false, nat_lt, List, [], ◌∷◌, ◌++◌, map, Option, Some, None, length, refl, sym, ap, subst, ◌∙◌, inl, inr, arith, ◌⊎◌, ◌==◌, ◌&&◌, ◌||◌, cond, Bool}
 use Rattle.std.specs.Prelude.{reverse}
 use Rattle.std.specs.List.{AllByRecursion}
-use Rattle.std.proofs.lemmas.Bool.{or_parts}
-use Rattle.std.proofs.lemmas.Bool.Decides.{nat_tests}
+use Rattle.std.proofs.lemmas.Bool.{or_parts, ltb-false, ltb-true}
 use Rattle.std.proofs.lemmas.List.{reverse-append}
 use Rattle.xfs_base.specs.declared.segment.End.{End}
 use Rattle.xfs_base.specs.declared.segment.LogId.{LogId}
@@ -224,12 +223,9 @@ module _ (g : Setting) (v : State) (book : ℕ → Segment) (hellos : List Asked
       → (point g b.next.seq b.next.pass ≡ 0) ⊎ (b.start.seq < v.read_low + length (reverse b.chain))
   bottom_told o b h t = by (nat_lt b.next.seq o.low) refl t
     where
-      less : (x y : ℕ) → nat_lt x y ≡ true → x < y
-      less x y e = grind (arith, nat_tests)
-
       by : (p : Bool) → nat_lt b.next.seq o.low ≡ p → (p || names_none b.next) ≡ true
           → (point g b.next.seq b.next.pass ≡ 0) ⊎ (b.start.seq < v.read_low + length (reverse b.chain))
-      by true e k = inr (let a = less b.next.seq o.low e in let c = h.seq in let d = h.low in omega arith)
+      by true e k = inr (let a = ltb-true b.next.seq o.low e in let c = h.seq in let d = h.low in omega arith)
       by false e k =
           inl (ap (λ z. cond z 0 (g.code b.next.seq b.next.pass.inc b.next.pass.att))
           (and_first (b.next.pass.inc == 0) ((b.next.pass.att == 0) && (b.next.group == 0)) k))
@@ -343,10 +339,7 @@ module _ (g : Setting) (v : State) (book : ℕ → Segment) (hellos : List Asked
 
         above : v.pick_low ≤ s.name.seq
         above = let a = h.low in let c = h.past in let d = seq in let e =
-            not_below b.next.seq o.low (or_parts (nat_lt b.next.seq o.low) _ more).0 in omega arith
-          where
-            not_below : (n m : ℕ) → nat_lt n m ≡ false → m ≤ n
-            not_below n m e = grind (arith, nat_tests)
+            ltb-false b.next.seq o.low (or_parts (nat_lt b.next.seq o.low) _ more).0 in omega arith
 
     goes_shown : (o : Opening) (b : Backward) (r : ReadingState) (n : Next) → Framed o → ReadingShown g v book o b → is_bottom o.low b.next ≡ false
         → r.target ≡ target_at g.log b.next → RoundShown g book v.booked b.next r.round → ReadsName r.target.seg.name n → AsksLater o.ask r.ask n

@@ -5,9 +5,10 @@ use Rattle.std.specs.List.{range_with_len}
 use Rattle.std.proofs.lemmas.List.{length-append}
 use Rattle.std.proofs.lemmas.List.Elements.{All-nil}
 use Rattle.std.proofs.lemmas.List.FromFn.{length-map-range_with_len}
+use Rattle.std.proofs.lemmas.Bool.{eqb-true, leb-true}
 use Rattle.xfs_base.specs.declared.fragment.Fragment.{Fragment}
 use Rattle.xfs_base.specs.declared.segment.End.{End}
-use Rattle.xfs_base.proofs.Booleans.{contrary, by_test, and_first, and_second}
+use Rattle.xfs_base.proofs.Booleans.{contrary, by_test, and_first, and_second, equal_itself}
 use Rattle.segment_format.specs.declared.seg_error.SegError.{SegError}
 use Rattle.segment_format.specs.declared.segment.Segment.{Segment}
 use Rattle.segment_format.specs.ReadingItems.{answer_of}
@@ -36,8 +37,7 @@ use Rattle.log_tie.specs.Setting.{Setting, fragment_of}
 use Rattle.log_tie.specs.Seen.{Book}
 use Rattle.log_tie.specs.Shelves.{is_of_log, IsPiece}
 use Rattle.log_tie.specs.Rounds.{IsSpelled, IsGrouped, ToldPiece, AllTold, RoundShown}
-use Rattle.log_tie.proofs.Names.{equal, itself, one_name, one_number}
-use Rattle.log_tie.proofs.Listings.{le_test}
+use Rattle.log_tie.proofs.Names.{one_name, one_number}
 
 -- ---- a stripe has as many fragments as there are members
 
@@ -127,7 +127,7 @@ module _ (g : Setting) (w : State) (book : ℕ → Segment) (paged : Book g w bo
                   → IfSome (bytes_in i (record { server = a.server; told = t } ∷ rest)) (λ bs. bs ≡ fragment_at stripe i)
               here (Held f) told =
                   by_test (λ (o : Option (List ℕ)). IfSome o (λ bs. bs ≡ fragment_at stripe i)) (f.meta.index == i) (Some f.bytes) (bytes_in i rest)
-                  (λ t. bytes_here f told.0 told.1 ∙ ap (fragment_at stripe) (equal f.meta.index i t)) (λ t. more)
+                  (λ t. bytes_here f told.0 told.1 ∙ ap (fragment_at stripe) (eqb-true f.meta.index i t)) (λ t. more)
               here (Missing generation) told = more
 
       abbrev parts : List (Option (List ℕ))
@@ -149,7 +149,7 @@ module _ (g : Setting) (w : State) (book : ℕ → Segment) (paged : Book g w bo
           let cut = round_cut r parts shown.is_round refl in
           gives_back parts (text_of (book y)) (spelled.bytes y fact) r.parity cut are
           (few_missing r.parity cut.some cut.few (missing_from 0 parts)
-          (enough_in r parts shown.is_round refl (le_test (count_of r) (count_by is_some parts) enough)))
+          (enough_in r parts shown.is_round refl (leb-true (count_of r) (count_by is_some parts) enough)))
 
   -- ---- what enough fragments say
 
@@ -163,7 +163,7 @@ module _ (g : Setting) (w : State) (book : ℕ → Segment) (paged : Book g w bo
   enough_reads r shown grouped enough = by (held_first r.answers shown.told)
     where
       few : ((i : ℕ) → bytes_in i r.answers ≡ None) → ⊥
-      few none = let a = le_test (count_of r) (count_by is_some (parts_in r.n r.answers)) enough in let b =
+      few none = let a = leb-true (count_of r) (count_by is_some (parts_in r.n r.answers)) enough in let b =
           none_counted (λ index. bytes_in index r.answers) none 0 r.n in let c = shown.is_round.cut.least in omega arith
 
       by : ((i : ℕ) → bytes_in i r.answers ≡ None) ⊎ FirstHeld r.answers → Reads r
@@ -236,7 +236,7 @@ module _ (g : Setting) (w : State) (book : ℕ → Segment) (paged : Book g w bo
   counted_piece : (r : ReadingState) (t : Told) → r.target.seg.name ≡ name_at g.log e → name_fits r.target t ≡ true → ToldSeen t → ToldPiece g book w.booked e t
   counted_piece r (Held f) looks fits seen =
       let named : f.meta.name ≡ name_at g.log e = one_name f.meta.name r.target.seg.name fits ∙ looks in
-      (seen (ap (λ n. is_of_log g n) named ∙ itself g.log.0), named)
+      (seen (ap (λ n. is_of_log g n) named ∙ equal_itself g.log.0), named)
   counted_piece r (Missing generation) looks fits seen = tt
 
   last_two : (a b c d f : Bool) → (a && b && c && (d && f)) ≡ true → (d && f) ≡ true

@@ -2,12 +2,13 @@
 use Rattle.std.proofs.Common.{◌≡◌, ℕ, suc, ◌+◌, ◌-◌, ◌<◌, ◌≤◌, ◌==◌, ◌&&◌, ◌||◌, Bool, true, false, not, nat_le, max, List, [], ◌∷◌, ◌++◌, Option, Some, None, length, refl, sym, ap, subst, ◌∙◌, inl, inr, arith}
 use Rattle.std.specs.List.{range_with_len}
 use Rattle.std.specs.Option.{option_map}
+use Rattle.std.proofs.lemmas.Bool.{eqb-true, le-leb, leb-true}
 use Rattle.xfs_base.specs.declared.fragment.FragMeta.{FragMeta}
 use Rattle.xfs_base.specs.declared.news.SlotNews.{SlotNews}
 use Rattle.xfs_base.specs.declared.segment.End.{End}
 use Rattle.xfs_base.specs.declared.segment.LogId.{LogId}
 use Rattle.xfs_base.specs.declared.segment.SegName.{SegName}
-use Rattle.xfs_base.proofs.Booleans.{contrary, by_test, and_first, and_second, not_true}
+use Rattle.xfs_base.proofs.Booleans.{contrary, by_test, and_first, and_second, not_true, equal_itself}
 use Rattle.segment_format.specs.declared.segment.Segment.{Segment}
 use Rattle.group_map.specs.declared.group.Group.{Group}
 use Rattle.group_map.specs.GroupMapState.{GroupMapState}
@@ -39,8 +40,8 @@ use Rattle.log_tie.specs.Seen.{Page, Book, Fixed, ByOwner, Goes}
 use Rattle.log_tie.specs.Openings.{Chained}
 use Rattle.log_tie.specs.Rounds.{IsSpelled, IsGrouped}
 use Rattle.log_tie.specs.Scans.{Asked, WholeMap, Answered, FencedSeen, ListKept, AllListed, Phantom, Mapped, Gathering, Asking, LooksFor, ReadingShown, StageShown, ScanShown, Scanned, BooksNothing, PicksAtHorizon, ScanTakes, ScanStarts}
-use Rattle.log_tie.proofs.Names.{equal, itself, one_number, coded, point_some}
-use Rattle.log_tie.proofs.Listings.{range_has, none_filtered, has_more, torn_lacks, le_test, test_le}
+use Rattle.log_tie.proofs.Names.{one_number, coded, point_some}
+use Rattle.log_tie.proofs.Listings.{range_has, none_filtered, has_more, torn_lacks}
 use Rattle.log_tie.proofs.Picks.{list_of, picks_nothing, Best, the_best, keeps_it, discards_it, nothing_newest}
 use Rattle.log_tie.proofs.Reading.{Sees, Framed, sees_still, sees_fences, sees_fetches, sees_again, asks_new, chain_told, round_shown, follows_shown, answer_seen, confirm_seen}
 use Rattle.log_tie.proofs.Rounds.{ToldSeen}
@@ -63,7 +64,7 @@ all_more g w book bound (x ∷ xs) l all k fresh = (
     first false h = refl
 
     other : l.server ≡ x.server → ⊥
-    other e = contrary (sym (first (x.server == l.server) fresh) ∙ (ap (λ z. x.server == z) e ∙ itself x.server))
+    other e = contrary (sym (first (x.server == l.server) fresh) ∙ (ap (λ z. x.server == z) e ∙ equal_itself x.server))
 
 module _ (g : Setting) (w : State) (book : ℕ → Segment) (hellos : List Asked) (fixed : Fixed g w) (reached : Reached w) (paged : Book g w book)
     (spelled : IsSpelled g book w.booked) where
@@ -424,7 +425,7 @@ module _ (g : Setting) (w : State) (book : ℕ → Segment) (hellos : List Asked
     welcome_goes o stage ask news h a =
         by_test To ((ask == o.ask) && (can_ask o && awaits_welcome stage)) (welcomed (record o { groups = Some m }) stage (least_horizon o.log.0 news))
         (stays o stage)
-        (λ t. welcomed_goes o stage ask news h a (equal ask o.ask (and_first (ask == o.ask) (can_ask o && awaits_welcome stage) t)))
+        (λ t. welcomed_goes o stage ask news h a (eqb-true ask o.ask (and_first (ask == o.ask) (can_ask o && awaits_welcome stage) t)))
         (λ t. goes_still (stays o stage) (sees_still g w book hellos o stage (framed_of o stage h) h.stage))
 
   -- ---- nothing happens
@@ -455,7 +456,7 @@ module _ (g : Setting) (w : State) (book : ℕ → Segment) (hellos : List Asked
 
       exists : l.server < suc g.servers
       exists = let a =
-          le_test l.server (server_count o.groups) (and_first (nat_le l.server (server_count o.groups)) (not (has_list l.server lists)) second) in let b =
+          leb-true l.server (server_count o.groups) (and_first (nat_le l.server (server_count o.groups)) (not (has_list l.server lists)) second) in let b =
           count in omega arith
 
       fresh : has_list l.server lists ≡ false
@@ -472,8 +473,8 @@ module _ (g : Setting) (w : State) (book : ℕ → Segment) (hellos : List Asked
 
       every_one : length (awaited o.groups longer) ≡ 0 → (u : ℕ) → 0 < u → u < suc g.servers → has_list u longer ≡ true
       every_one none u some highest =
-          listed_then (nat_le 1 u) (nat_le u (server_count o.groups)) (has_list u longer) (test_le 1 u (omega arith))
-          (test_le u (server_count o.groups) (let b = count in omega arith))
+          listed_then (nat_le 1 u) (nat_le u (server_count o.groups)) (has_list u longer) (le-leb 1 u (omega arith))
+          (le-leb u (server_count o.groups) (let b = count in omega arith))
           (none_filtered (awaits o.groups longer) (range_with_len 1 (server_count o.groups)) u none
           (range_has 1 (server_count o.groups) u (omega arith) (let b = count in omega arith)))
 
@@ -481,7 +482,7 @@ module _ (g : Setting) (w : State) (book : ℕ → Segment) (hellos : List Asked
       unfolding with_list
       with_list_goes = by_test To (length (awaited o.groups longer) == 0) (asks_anew o (Asks longer)) (stays o (Gathers longer))
           (λ t. goes_still (asks_anew o (Asks longer))
-          (asks_new g w book hellos o longer w.low (framed_of o (Gathers lists) h) gathering_more (every_one (equal (length (awaited o.groups longer)) 0 t))
+          (asks_new g w book hellos o longer w.low (framed_of o (Gathers lists) h) gathering_more (every_one (eqb-true (length (awaited o.groups longer)) 0 t))
           (omega arith) (always w reached).shelf.horizons.begin_past))
           (λ t. goes_still (stays o (Gathers longer)) (sees_still g w book hellos o (Gathers longer) (framed_of o (Gathers lists) h) gathering_more))
 

@@ -2,6 +2,7 @@
 use Rattle.group_map.specs.Groups.{generation_at}
 use Rattle.std.proofs.Common.{◌≡◌, ℕ, zero, suc, ◌+◌, ◌-◌, ◌<◌, ◌⊎◌, Bool, true, false, cond, ◌||◌, nat_lt, List, [], ◌∷◌, None, length, refl, sym, ap, subst, ◌∙◌, inl, inr, arith}
 use Rattle.std.proofs.lemmas.Bool.Decides.{nat_tests}
+use Rattle.std.proofs.lemmas.Bool.{ltb-true}
 use Rattle.xfs_base.specs.declared.segment.SegName.{SegName}
 use Rattle.segment_format.specs.declared.segment.Segment.{Segment}
 use Rattle.log_protocol.specs.State.{State}
@@ -50,16 +51,13 @@ either : (a b : Bool) → (a || b) ≡ true → (a ≡ true) ⊎ (b ≡ true)
 either true b h = inl refl
 either false b h = inr h
 
-below : (n m : ℕ) → nat_lt n m ≡ true → n < m
-below n m h = grind (arith, nat_tests)
-
 -- a lost member is of an earlier generation than the map has
 lost_below : (m : GroupMapState) (member : Member) → is_lost m member ≡ true → member.generation < present_at m member.server
 lost_below m member h = by (has_server m member.server) refl (and_second (has_server m member.server) _ h)
   where
     by : (t : Bool) → has_server m member.server ≡ t → nat_lt member.generation (generation_at m.generations member.server) ≡ true
         → member.generation < cond t (generation_at m.generations member.server) 0
-    by true e less = below member.generation (generation_at m.generations member.server) less
+    by true e less = ltb-true member.generation (generation_at m.generations member.server) less
     by false e less = contrary (sym e ∙ and_first (has_server m member.server) _ h)
 
 -- each member from a place on is noted or lost

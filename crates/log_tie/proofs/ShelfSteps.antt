@@ -6,8 +6,9 @@ use Rattle.xfs_base.specs.declared.segment.SegName.{SegName}
 use Rattle.xfs_base.specs.Limits.{u32_end}
 use Rattle.xfs_base.specs.Segments.{pass_cmp}
 use Rattle.xfs_base.specs.Stamps.{is_greater}
-use Rattle.xfs_base.proofs.Booleans.{contrary, by_test}
+use Rattle.xfs_base.proofs.Booleans.{contrary, by_test, equal_itself}
 use Rattle.std.specs.BTreeMap.{insert_entry}
+use Rattle.std.proofs.lemmas.Bool.{eqb-true}
 use Rattle.segment_format.specs.declared.segment.Segment.{Segment}
 use Rattle.segment_format.specs.Text.{text_of}
 use Rattle.fragment_store.specs.declared.store_error.StoreError.TheVariants.{WrongGeneration, Marked, Fenced}
@@ -26,12 +27,11 @@ use Rattle.log_tie.specs.Setting.{Setting, name_of, fragment_of}
 use Rattle.log_tie.specs.Seen.{Book, StoreSeen}
 use Rattle.log_tie.specs.Shelves.{flag, Kept, IsPiece, AllPieces, is_of_log, Shelved, ShelfShown, Deed, is_stored, shelf_after, Owes, Tells, Did, TakesDeeds}
 use Rattle.log_tie.specs.Shelves.Deed.{Stores, Fetches, Fences, Deletes, Fills, Loses}
-use Rattle.log_tie.proofs.Names.{equal, itself}
 use Rattle.log_tie.proofs.Shelves.{shelf_with, shelf_foreign, shelf_without, shelf_without_foreign, shelf_lost, absent_there, present_there, unmarked_there}
 
 -- a table at one place, and at another
 at_place : (f : ℕ → ℕ → ℕ) (v x n : ℕ) → put_at f v x n v ≡ (λ y. if y == x then n else f v y)
-at_place f v x n = λ i y. by y (v == v) (itself v) i
+at_place f v x n = λ i y. by y (v == v) (equal_itself v) i
   where
     by : (y : ℕ) (t : Bool) → t ≡ true → cond t (if y == x then n else f v y) (f v y) ≡ (if y == x then n else f v y)
     by y true e = refl
@@ -41,7 +41,7 @@ elsewhere : (f : ℕ → ℕ → ℕ) (v x n k y : ℕ) → (k ≡ v → ⊥) �
 elsewhere f v x n k y other = by (k == v) refl
   where
     by : (t : Bool) → (k == v) ≡ t → cond t (if y == x then n else f k y) (f k y) ≡ f k y
-    by true e = absurd (other (equal k v e))
+    by true e = absurd (other (eqb-true k v e))
     by false e = refl
 
 module _ (g : Setting) (w : State) (book : ℕ → Segment) (v : ℕ) (s : ShelfState) (reached : Reached w) (h : ShelfShown g w book v s) where
@@ -331,7 +331,7 @@ module _ (g : Setting) (w : State) (book : ℕ → Segment) (v : ℕ) (s : Shelf
       fragments = λ p fact. fact;
       fenceds = λ p fact. fact;
     };
-    shows = by (v == v) (itself v);
+    shows = by (v == v) (equal_itself v);
     tells = tt;
   }
     where
@@ -339,7 +339,7 @@ module _ (g : Setting) (w : State) (book : ℕ → Segment) (v : ℕ) (s : Shelf
       there m n k other = pick (k == v) refl
         where
           pick : (t : Bool) → (k == v) ≡ t → cond t m n ≡ n
-          pick true e = absurd (other (equal k v e))
+          pick true e = absurd (other (eqb-true k v e))
           pick false e = refl
 
       by : (t : Bool) → t ≡ true

@@ -1,12 +1,13 @@
 -- How a shelf is seen after one more fragment, after a deletion, after the loss of its disk.
 use Rattle.std.proofs.Common.{◌≡◌, ℕ, suc, ◌==◌, Bool, true, false, cond, not, ◌||◌, if◌then◌else◌, is_some, min, List, [], ◌∷◌, filter, Option, Some, None, refl, sym, ap, subst, ◌∙◌, ◌<◌, ◌+◌, arith}
 use Rattle.std.proofs.lemmas.Bool.Decides.{nat_tests}
+use Rattle.std.proofs.lemmas.Bool.{eqb-true}
 use Rattle.xfs_base.specs.declared.fragment.Fragment.{Fragment}
 use Rattle.xfs_base.specs.declared.segment.SegName.{SegName}
 use Rattle.xfs_base.specs.Limits.{u32_end}
 use Rattle.xfs_base.specs.Segments.{seg_cmp}
 use Rattle.xfs_base.specs.Stamps.{is_greater}
-use Rattle.xfs_base.proofs.Booleans.{contrary}
+use Rattle.xfs_base.proofs.Booleans.{contrary, equal_itself}
 use Rattle.segment_format.specs.declared.segment.Segment.{Segment}
 use Rattle.fragment_store.specs.ShelfState.{ShelfState, same_name, held_at, is_held, is_marked}
 use Rattle.fragment_store.specs.Calls.{with_fragment, on_delete, on_lose}
@@ -14,7 +15,7 @@ use Rattle.fragment_store.proofs.Names.{one_name, same_itself}
 use Rattle.fragment_store.proofs.Tables.{held-with, held-without, is_marked-with}
 use Rattle.log_tie.specs.Setting.{Setting, name_of, fragment_of}
 use Rattle.log_tie.specs.Shelves.{Kept, IsPiece, AllPieces, Shelved, flag, is_of_log}
-use Rattle.log_tie.proofs.Names.{equal, itself, one_number}
+use Rattle.log_tie.proofs.Names.{one_number}
 
 pub none_held : (o : Option Fragment) → is_some o ≡ false → o ≡ None
 none_held None e = refl
@@ -47,8 +48,8 @@ module _ (g : Setting) where
       by : (s t : Bool) → (x == y) ≡ s → same_name (name_of g x) (name_of g y) ≡ t → t ≡ s
       by true true e f = refl
       by false false e f = refl
-      by true false e f = contrary (sym f ∙ (ap (λ z. same_name (name_of g x) (name_of g z)) (sym (equal x y e)) ∙ same_itself (name_of g x)))
-      by false true e f = contrary (sym e ∙ (ap (λ z. x == z) (sym (one_number g x y (one_name (name_of g x) (name_of g y) f))) ∙ itself x))
+      by true false e f = contrary (sym f ∙ (ap (λ z. same_name (name_of g x) (name_of g z)) (sym (eqb-true x y e)) ∙ same_itself (name_of g x)))
+      by false true e f = contrary (sym e ∙ (ap (λ z. x == z) (sym (one_number g x y (one_name (name_of g x) (name_of g y) f))) ∙ equal_itself x))
 
 module _ (g : Setting) (book : ℕ → Segment) (booked : ℕ → ℕ) (generation : ℕ) (holds index marked : ℕ → ℕ) (s : ShelfState)
     (h : Shelved g book booked generation holds index marked s) where
@@ -67,7 +68,7 @@ module _ (g : Setting) (book : ℕ → Segment) (booked : ℕ → ℕ) (generati
           (by (y == x) refl)
         where
           by : (t : Bool) → (y == x) ≡ t → Kept g (book y) (cond t (Some f) (held_at s.held (name_of g y))) (booked y) (cond t 1 (holds y)) (cond t i (index y))
-          by true a = let same = equal y x a in (refl, ap booked same ∙ known, fact ∙ ap (λ z. fragment_of g (book z) i) (sym same))
+          by true a = let same = eqb-true y x a in (refl, ap booked same ∙ known, fact ∙ ap (λ z. fragment_of g (book z) i) (sym same))
           by false a = h.keeps y
 
   -- a fragment of another log is kept
@@ -83,7 +84,7 @@ module _ (g : Setting) (book : ℕ → Segment) (booked : ℕ → ℕ) (generati
   }
     where
       differs : (y : ℕ) (t : Bool) → same_name (name_of g y) f.meta.name ≡ t → t ≡ false
-      differs y true e = contrary (sym other ∙ (ap (λ (z : SegName). is_of_log g z) (sym (one_name (name_of g y) f.meta.name e)) ∙ itself g.log.0))
+      differs y true e = contrary (sym other ∙ (ap (λ (z : SegName). is_of_log g z) (sym (one_name (name_of g y) f.meta.name e)) ∙ equal_itself g.log.0))
       differs y false e = refl
 
   -- a name is deleted
@@ -101,8 +102,8 @@ module _ (g : Setting) (book : ℕ → Segment) (booked : ℕ → ℕ) (generati
               → Kept g (book y) (cond t None (held_at s.held (name_of g y))) (booked y) (cond u 0 (holds y)) (index y)
           by true true a b = refl
           by false false a b = h.keeps y
-          by true false a b = contrary (sym b ∙ (ap (λ z. y == z) (equal x y a) ∙ itself y))
-          by false true a b = contrary (sym a ∙ (ap (λ z. x == z) (equal y x b) ∙ itself x))
+          by true false a b = contrary (sym b ∙ (ap (λ z. y == z) (eqb-true x y a) ∙ equal_itself y))
+          by false true a b = contrary (sym a ∙ (ap (λ z. x == z) (eqb-true y x b) ∙ equal_itself x))
 
       marks : (y : ℕ) → (if y == x then 1 else marked y) ≡ flag (is_marked (on_delete s name).marks (name_of g y))
       marks y = by (y == x) (h.marks y) ∙ ap (λ t. flag (t || is_marked s.marks (name_of g y))) (sym (ap (same_name (name_of g y)) named ∙ number_test g y x))
@@ -125,11 +126,11 @@ module _ (g : Setting) (book : ℕ → Segment) (booked : ℕ → ℕ) (generati
   }
     where
       differs : (y : ℕ) (t : Bool) → same_name name (name_of g y) ≡ t → t ≡ false
-      differs y true e = contrary (sym other ∙ (ap (λ (z : SegName). is_of_log g z) (one_name name (name_of g y) e) ∙ itself g.log.0))
+      differs y true e = contrary (sym other ∙ (ap (λ (z : SegName). is_of_log g z) (one_name name (name_of g y) e) ∙ equal_itself g.log.0))
       differs y false e = refl
 
       differs_back : (y : ℕ) (t : Bool) → same_name (name_of g y) name ≡ t → same_name (name_of g y) name ≡ false
-      differs_back y true e = contrary (sym other ∙ (ap (λ (z : SegName). is_of_log g z) (sym (one_name (name_of g y) name e)) ∙ itself g.log.0))
+      differs_back y true e = contrary (sym other ∙ (ap (λ (z : SegName). is_of_log g z) (sym (one_name (name_of g y) name e)) ∙ equal_itself g.log.0))
       differs_back y false e = e
 
   -- the disk is lost, while there is a generation after this one

@@ -1,6 +1,5 @@
 mod Spelled
 mod Written
-mod Leaving
 pub mod Rows
 mod Slots
 mod Taking

@@ -4,6 +4,7 @@ use Rattle.std.specs.List.{count_by, list_any}
 use Rattle.std.specs.Prelude.{slice_index_or}
 use Rattle.std.proofs.lemmas.List.Recursion.{is_count_by}
 use Rattle.std.proofs.lemmas.Bool.Decides.{nat_tests}
+use Rattle.std.proofs.lemmas.Bool.{eqb-true}
 use Rattle.xfs_base.proofs.Booleans.{contrary, or_second}
 use Rattle.group_map.specs.declared.group.Member.{Member}
 use Rattle.log_flight.specs.Flights.{no_member}
@@ -65,9 +66,6 @@ pub all_pass : (f h : Member → Bool) → ((m : Member) → f m ≡ true → h 
 all_pass f h up [] = omega arith
 all_pass f h up (m ∷ ms) = no_less (f m) (h m) (number f ms) (number h ms) (up m) (all_pass f h up ms)
 
-same_way : (a b : ℕ) → (a == b) ≡ true → a ≡ b
-same_way a b e = grind (arith, nat_tests)
-
 turned : (a b : ℕ) → (a == b) ≡ true → (b == a) ≡ true
 turned a b e = grind (arith, nat_tests)
 
@@ -84,7 +82,7 @@ strict p ps (m ∷ ms) fresh among = by (strict p ps ms fresh) (m.server == p.0)
     by : (Among (servers_of ms) p → suc (number (marked ps) ms) ≤ number (marked (p ∷ ps)) ms) → (t : Bool) → (m.server == p.0) ≡ t
         → (t || list_any (λ s. s == p.0) (servers_of ms)) ≡ true → suc (number (marked ps) (m ∷ ms)) ≤ number (marked (p ∷ ps)) (m ∷ ms)
     by further true e rest = one_in (marked ps m) (marked (p ∷ ps) m) (number (marked ps) ms) (number (marked (p ∷ ps)) ms)
-        (ap (λ v. is_in v ps) (same_way m.server p.0 e) ∙ fresh)
+        (ap (λ v. is_in v ps) (eqb-true m.server p.0 e) ∙ fresh)
         (left_true (p.0 == m.server) (marked ps m) (turned m.server p.0 e))
         (all_pass (marked ps) (marked (p ∷ ps)) (λ k t. or_second (p.0 == k.server) (marked ps k) t) ms)
     by further false e rest = one_on (marked ps m) (marked (p ∷ ps) m) (number (marked ps) ms) (number (marked (p ∷ ps)) ms)
@@ -100,7 +98,7 @@ marked_lacks lack [] each v fact = contrary fact
 marked_lacks lack (p ∷ ps) each v fact = by (marked_lacks lack ps each.1 v) (p.0 == v) refl fact
   where
     by : (is_in v ps ≡ true → lack v ≡ true) → (t : Bool) → (p.0 == v) ≡ t → (t || is_in v ps) ≡ true → lack v ≡ true
-    by further true e rest = ap lack (sym (same_way p.0 v e)) ∙ each.0
+    by further true e rest = ap lack (sym (eqb-true p.0 v e)) ∙ each.0
     by further false e rest = further rest
 
 pub counted : (lack : ℕ → Bool) (ps : List (ℕ × ℕ)) (ms : List Member) → Apart ps → Each (Among (servers_of ms)) ps → Each (λ p. lack p.0 ≡ true) ps

@@ -3,7 +3,7 @@
 use Rattle.std.proofs.Common.{◌≡◌, ℕ, ◌<◌, ◌⊎◌, Bool, true, nat_lt, is_none, is_some, Option, Some, None, length, inl, inr, arith, sym, subst}
 use Rattle.std.specs.List.{count_by}
 use Rattle.std.specs.Prelude.{slice_index_or}
-use Rattle.std.proofs.lemmas.Bool.Decides.{nat_tests}
+use Rattle.std.proofs.lemmas.Bool.{lt-ltb}
 use Rattle.xfs_base.specs.declared.fragment.Fragment.{Fragment}
 use Rattle.xfs_base.specs.declared.segment.SegRef.{SegRef}
 use Rattle.xfs_base.proofs.Booleans.{contrary}
@@ -29,9 +29,6 @@ lacks_none : (o : Option Fragment) (f : Fragment) → o ≡ Some f → is_none o
 lacks_none None f e none = absurd cc
 lacks_none (Some h) f e none = contrary none
 
-is_less : (a b : ℕ) → a < b → nat_lt a b ≡ true
-is_less a b less = grind (arith, nat_tests)
-
 module _ (g : Setting) (n : Net) (s : Segment)
     (each : (place : ℕ) → place < length (members_of g s) → Holds g n s place ⊎ IsLater g n s place) (torn : IsTorn g (ref_of s) n) where
   abbrev lack : Member → Bool
@@ -48,7 +45,7 @@ module _ (g : Setting) (n : Net) (s : Segment)
     where
       by : Holds g n s place ⊎ IsLater g n s place → later (at place) ≡ true
       by (inl holds) = absurd (lacks_none (held_at (n.shelves (at place).server).held s.name) (fragment_of g s place) holds lacks)
-      by (inr less) = is_less (at place).generation (n.shelves (at place).server).generation less
+      by (inr less) = lt-ltb (at place).generation (n.shelves (at place).server).generation less
 
   lost_disks : (g.stripe s.group).parity < count_by later (members_of g s)
   lost_disks = let a = counted_places lack later (members_of g s) each_later in let b = torn.torn in omega arith

@@ -1,5 +1,6 @@
 -- Whatever happens, what is known of packets and of an opening stays so.
 use Rattle.std.proofs.Common.{◌≡◌, ℕ, suc, ◌<◌, ◌≤◌, ◌⊎◌, ◌==◌, ◌&&◌, List, [], ◌∷◌, ◌++◌, Option, Some, None, refl, sym, ap, subst, ◌∙◌, inl, inr, arith}
+use Rattle.std.proofs.lemmas.Bool.{eqb-true}
 use Rattle.xfs_base.specs.declared.fragment.Fragment.{Fragment}
 use Rattle.xfs_base.specs.declared.segment.SegName.{SegName}
 use Rattle.xfs_base.proofs.Booleans.{by_test}
@@ -21,7 +22,6 @@ use Rattle.log_protocol.specs.Tables.{In}
 use Rattle.log_tie.specs.Setting.{Setting}
 use Rattle.log_tie.specs.Shelves.{Deed, is_of_log, is_stored, shelf_after}
 use Rattle.log_tie.specs.Shelves.Deed.{Stores, Fetches, Fences, Deletes, Fills, Loses}
-use Rattle.log_tie.proofs.Names.{equal}
 use Rattle.log_law.specs.Net.{Packet, Net, Told, opening, log_packets, scan_packets, chain_in, first_write, after_log, fragment_told, answers, after_flight, after_told, after_scan, scans_on, listed}
 use Rattle.log_law.specs.Net.Packet.{StoredSent, ListedSent, DeleteSent, MapSent, WelcomeSent}
 use Rattle.log_law.specs.Net.Owner.{Opening}
@@ -180,7 +180,7 @@ grows g n o base (Serves v deed some came) = record {
   sends = refl;
   fresh = answers_say g n o v (n.shelves v) deed;
   shelves = λ u. by_test (ShelfOn g n (n.shelves u)) (u == v) (shelf_after g (n.shelves v) deed) (n.shelves u)
-      (λ t. subst (λ z. ShelfOn g n (n.shelves z) (shelf_after g (n.shelves v) deed)) (sym (equal u v t)) (deed_on g n v deed came))
+      (λ t. subst (λ z. ShelfOn g n (n.shelves z) (shelf_after g (n.shelves v) deed)) (sym (eqb-true u v t)) (deed_on g n v deed came))
       (λ t. shelf_same g n (n.shelves u));
   low = omega arith;
   stays = λ name fact. fact;
@@ -192,7 +192,7 @@ grows g n o base (Bars v l pass) = record {
   sends = refl;
   fresh = tt;
   shelves = λ u. by_test (ShelfOn g n (n.shelves u)) (u == v) (on_fence (n.shelves v) l pass) (n.shelves u)
-      (λ t. subst (λ z. ShelfOn g n (n.shelves z) (on_fence (n.shelves v) l pass)) (sym (equal u v t)) (fence_on g n (n.shelves v) l pass))
+      (λ t. subst (λ z. ShelfOn g n (n.shelves z) (on_fence (n.shelves v) l pass)) (sym (eqb-true u v t)) (fence_on g n (n.shelves v) l pass))
       (λ t. shelf_same g n (n.shelves u));
   low = omega arith;
   stays = λ name fact. fact;

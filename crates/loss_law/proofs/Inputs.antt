@@ -1,5 +1,6 @@
 -- Each input of an opening keeps what is known of it, and what it says is lost then is earned.
 use Rattle.std.proofs.Common.{◌≡◌, ℕ, ◌≤◌, ◌==◌, ◌&&◌, true, max, List, [], ◌∷◌, ◌++◌, Option, Some, None, length, refl, sym, ap, subst, arith}
+use Rattle.std.proofs.lemmas.Bool.{eqb-true}
 use Rattle.xfs_base.specs.declared.fragment.Fragment.{Fragment}
 use Rattle.xfs_base.specs.declared.news.SlotNews.{SlotNews}
 use Rattle.xfs_base.specs.declared.segment.SegRef.{SegRef}
@@ -32,7 +33,7 @@ use Rattle.loss_law.proofs.Pairs.{ToldSo}
 use Rattle.loss_law.proofs.Growing.{AreNamed, Base, Grows}
 use Rattle.loss_law.proofs.Interval.{Between}
 use Rattle.loss_law.proofs.Kept.{WasTorn, Asks_on, Doubts, ReadingKept, ReadKept, StageKept, stage_on}
-use Rattle.loss_law.proofs.Readings.{Loses, fetches_lose, fences_lose, same_ask, Goes, Like, round_goes, picks_goes, over_goes, confirmed, answered}
+use Rattle.loss_law.proofs.Readings.{Loses, fetches_lose, fences_lose, Goes, Like, round_goes, picks_goes, over_goes, confirmed, answered}
 
 at_least : (a b : ℕ) → b ≤ max a b
 at_least a b = omega arith
@@ -104,7 +105,7 @@ module _ (g : Setting) (Was Now : SegRef → Type 0) (start n o : Net) (run : Ru
       (λ t. welcomed_goes news m (base.packets (MapSent m) came.1) (
         came.0.0,
         subst (λ z. In (WelcomeSent n.inc z news came.0.0) n.sent)
-            (same_ask ask s.opening.ask (and_first (ask == s.opening.ask) (scan.can_ask s.opening && scan.awaits_welcome s.stage) t)) came.0.1,
+            (eqb-true ask s.opening.ask (and_first (ask == s.opening.ask) (scan.can_ask s.opening && scan.awaits_welcome s.stage) t)) came.0.1,
       ) s.stage refl k)
       (λ t. still s.opening s.stage [] refl k tt)
 

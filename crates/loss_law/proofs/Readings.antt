@@ -1,6 +1,6 @@
 -- What an opening does at an input keeps what is known of it, and where it says that a segment is lost, that is earned.
 use Rattle.std.proofs.Common.{◌≡◌, ℕ, ◌+◌, ◌<◌, ◌≤◌, ◌⊎◌, ◌==◌, ◌&&◌, true, false, nat_lt, nat_le, map, List, [], ◌∷◌, Option, Some, None, length, refl, sym, ap, subst, ◌∙◌, inl, inr, arith}
-use Rattle.std.proofs.lemmas.Bool.{or_parts}
+use Rattle.std.proofs.lemmas.Bool.{or_parts, eqb-true, ltb-true}
 use Rattle.std.proofs.lemmas.Bool.Decides.{nat_tests}
 use Rattle.xfs_base.specs.declared.news.SlotNews.{SlotNews}
 use Rattle.xfs_base.specs.declared.segment.End.{End}
@@ -71,9 +71,6 @@ not_drawn ask last less e = grind (arith, nat_tests)
 no_lower : (low seq : ℕ) → nat_lt seq low ≡ false → low ≤ seq
 no_lower low seq e = grind (arith, nat_tests)
 
-more_than : (a b : ℕ) → nat_lt a b ≡ true → a < b
-more_than a b e = grind (arith, nat_tests)
-
 -- where no round has ended yet, nothing was missing twice
 none_twice : (now : List (ℕ × ℕ)) → length (missing_twice [] now) ≡ 0
 none_twice [] = refl
@@ -82,9 +79,6 @@ none_twice (p ∷ ps) = none_twice ps
 kept_some : (parity : ℕ) (now before : List (ℕ × ℕ)) → parity < length (missing_twice before now) → before ≡ [] → ⊥
 kept_some parity now before many none =
     let a = ap (λ ps. length (missing_twice ps now)) none in let b = none_twice now in let c = many in omega arith
-
-pub same_ask : (a b : ℕ) → (a == b) ≡ true → a ≡ b
-same_ask a b e = grind (arith, nat_tests)
 
 module _ (g : Setting) (Was Now : SegRef → Type 0) (start n o : Net) (run : Runs g start n) (e : Happens g n o) (grows : Grows g n o) (boot : o.inc ≡ n.inc)
     (base : Base g n) (s : ScanState) (fact : n.owner ≡ Opening s) (up : is_opening o.owner ≡ true → (seg : SegRef) → Was seg → Now seg)
@@ -274,11 +268,11 @@ module _ (g : Setting) (Was Now : SegRef → Type 0) (start n o : Net) (run : Ru
         doubted t opens = record {
           bound = n.low;
           torn = λ above. up opens seg
-              (a.middle.known (kept_some now.parity pairs r.kept (more_than now.parity (length (missing_twice r.kept pairs)) t))
+              (a.middle.known (kept_some now.parity pairs r.kept (ltb-true now.parity (length (missing_twice r.kept pairs)) t))
               (is_torn g seg k.of_log a.middle.net n a.middle.base a.middle.later
               (λ dropped. (let z = base.below seg.name dropped in let y = above in absurd (omega arith))) r.kept pairs now.servers now.parity
               (so.its_servers ∙ k.servers) (so.its_parity ∙ k.parity) a.middle.pairs each apart among
-              (more_than now.parity (length (missing_twice r.kept pairs)) t)));
+              (ltb-true now.parity (length (missing_twice r.kept pairs)) t)));
           past = grows.low;
           heard = heard;
         }
@@ -336,5 +330,5 @@ module _ (g : Setting) (Was Now : SegRef → Type 0) (start n o : Net) (run : Ru
             judged like a asking (taken r.round server t)
             (taken_so (Between g r.target.seg.name a.middle.net n) r.round.servers r.round.parity r.round server t
             (record { its_servers = refl; its_parity = refl; single = k.single; asked = k.asked; told = a.told }) c.third
-            (true_then a (same_ask ask r.ask c.second)))
+            (true_then a (eqb-true ask r.ask c.second)))
             groups (state_of (taken r.round server t)) refl

@@ -7,7 +7,7 @@ use Rattle.xfs_base.specs.declared.segment.SegName.{SegName}
 use Rattle.xfs_base.specs.Limits.{u32_end}
 use Rattle.xfs_base.specs.Segments.{pass_cmp}
 use Rattle.xfs_base.specs.Stamps.{is_greater}
-use Rattle.xfs_base.proofs.Booleans.{contrary, by_test}
+use Rattle.xfs_base.proofs.Booleans.{contrary, by_test, equal_itself}
 use Rattle.std.specs.BTreeMap.{insert_entry}
 use Rattle.fragment_store.specs.ShelfState.{ShelfState, same_name, log_cmp, held_at, is_held, is_marked, fence_of}
 use Rattle.fragment_store.specs.Calls.{with_fragment, kept, on_fence, on_delete}
@@ -17,7 +17,6 @@ use Rattle.log_protocol.specs.Tables.{In}
 use Rattle.log_tie.specs.Setting.{Setting}
 use Rattle.log_tie.specs.Shelves.{Deed, is_of_log, is_stored, shelf_after}
 use Rattle.log_tie.specs.Shelves.Deed.{Stores, Fetches, Fences, Deletes, Fills, Loses}
-use Rattle.log_tie.proofs.Names.{itself}
 use Rattle.log_law.specs.Net.{Net}
 use Rattle.log_law.specs.Net.Packet.{DeleteSent}
 use Rattle.log_law.specs.Events.{CameToServer}
@@ -68,7 +67,7 @@ delete_on g n s name came = record { up = omega arith; holds = holds }
         by : (t : Bool) → same_name name q ≡ t → (is_held (on_delete s name) q ≡ true) ⊎ ((s.generation < s.generation) ⊎ In (DeleteSent q) n.sent)
         by true e =
             let same : name ≡ q = one_name name q e in
-            let of : is_of_log g name ≡ true = ap (is_of_log g) same ∙ (ap (λ (l : LogId). l.0 == g.log.0) own ∙ itself g.log.0) in
+            let of : is_of_log g name ≡ true = ap (is_of_log g) same ∙ (ap (λ (l : LogId). l.0 == g.log.0) own ∙ equal_itself g.log.0) in
             inr (inr (subst (λ z. In (DeleteSent z) n.sent) same (came of)))
         by false e = inl (ap is_some (held-without name s.held q ∙ ap (λ t. cond t None (held_at s.held q)) e) ∙ fact)
 

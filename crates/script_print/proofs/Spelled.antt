@@ -3,6 +3,7 @@ use Rattle.std.proofs.Common.{◌≡◌, ◌≢◌, ℕ, ◌<◌, ◌^◌, ◌==
 use Rattle.std.specs.Str.{bytes_eq}
 use Rattle.std.specs.Fmt.{decimal}
 use Rattle.std.proofs.lemmas.Slice.Eq.{bytes_eq-Decides}
+use Rattle.xfs_base.proofs.Booleans.{equal_itself}
 use Rattle.script_text.specs.declared.form.Part.{Part}
 use Rattle.script_text.specs.declared.form.Part.TheVariants as part
 use Rattle.script_text.specs.Words.{Lacks, words, first, behind}
@@ -56,11 +57,8 @@ same_word w = (bytes_eq-Decides w w).1 refl
 
 numbered_word : (letter n : ℕ) → n < 2 ^ 32 → is_numbered letter (letter ∷ decimal n) ≡ true
 numbered_word letter n h =
-    let a : (letter == letter) ≡ true = same letter in
+    let a : (letter == letter) ≡ true = equal_itself letter in
     rw (a, decimal_digits n h) refl
-  where
-    same : (x : ℕ) → (x == x) ≡ true
-    same x = grind arith
 
 -- the spelling looks like the part
 pub looks_spelling : (c : Context) (p : Part) (verb : List ℕ) (v : Meaning p) → Fits c p v → looks p verb (spelling p verb v) ≡ true

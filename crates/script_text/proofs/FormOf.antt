@@ -1,5 +1,5 @@
 -- The form of a line: its first two words tell it.
-use Rattle.std.proofs.Common.{◌≡◌, ℕ, ◌<◌, ◌≤◌, ◌==◌, Bool, true, false, not, ◌&&◌, List, [], ◌∷◌, length, drop, codes, get_or, refl, sym, ◌∙◌, ap, arith, Option, Some, None, if◌then◌else◌, nat_lt}
+use Rattle.std.proofs.Common.{◌≡◌, ℕ, ◌<◌, ◌==◌, Bool, true, false, not, ◌&&◌, List, [], ◌∷◌, length, drop, codes, get_or, refl, sym, ◌∙◌, ap, arith, Option, Some, None, if◌then◌else◌, nat_lt}
 use Rattle.std.proofs.lemmas.Bool.Decides.{nat_tests}
 use Rattle.std.specs.List.{position, position_or_len, slice_get}
 use Rattle.std.specs.Str.{bytes_eq}
@@ -7,6 +7,8 @@ use Rattle.std.proofs.lemmas.Slice.Eq.{bytes_eq-Decides}
 use Rattle.std.proofs.lemmas.List.Sums.{fails_before_first}
 use Rattle.std.proofs.lemmas.Option.{slice_get-get_or}
 use Rattle.std.proofs.lemmas.List.Quantifiers.{position-Some}
+use Rattle.std.proofs.lemmas.Bool.{ltb-false}
+use Rattle.xfs_base.proofs.Booleans.{and_first, and_second}
 use Rattle.script_text.specs.declared.form.Form.{Form}
 use Rattle.script_text.specs.declared.form.Form.TheVariants.{Bput, Bget, Sync, Mk, Mkdir, Put, Get, Size, Ls, Rm, Mv, ClientCrash, ClientRestart, CleanerCrash, CleanerRestart, Clean, ManagerCrash, ManagerRestart, Checkpoint, Lose, Rebuild, ServerStop, ServerStart, Move, BoardStop, BoardStart, NetLose, NetAgain, NetMix, NetHold, NetGo, NetStep}
 use Rattle.script_text.specs.declared.form.Part.{Part}
@@ -61,19 +63,11 @@ kind_of NetHold = 6
 kind_of NetGo = 6
 kind_of NetStep = 6
 
-and_left : (a b : Bool) → (a && b) ≡ true → a ≡ true
-and_left true b e = refl
-and_left false b e = absurd (grind (arith, e))
-
-and_right : (a b : Bool) → (a && b) ≡ true → b ≡ true
-and_right true b e = e
-and_right false b e = absurd (grind (arith, e))
-
 -- a word with one letter before its number has no other
 other_letter : (l m : ℕ) (w : List ℕ) → (l == m) ≡ false → is_numbered l w ≡ true → is_numbered m w ≡ false
 other_letter l m [] n e = refl
 other_letter l m (b ∷ ds) n e =
-    let f : (b == l) ≡ true = and_left (b == l) (are_digits ds) e in
+    let f : (b == l) ≡ true = and_first (b == l) (are_digits ds) e in
     ap (λ t. t && are_digits ds) (differ b l m f n)
   where
     differ : (b l m : ℕ) → (b == l) ≡ true → (l == m) ≡ false → (b == m) ≡ false
@@ -98,16 +92,16 @@ fixed_kind w t e = ap kind_of_word ((bytes_eq-Decides w t).0 e)
 words_verb : (v : List ℕ) (p : Part) (rest : List Part) (ws : List (List ℕ)) → behind_part p ws ≡ behind ws → has_words v (p ∷ part.Verb ∷ rest) ws ≡ true
     → first (behind ws) ≡ v
 words_verb v p rest ws h e =
-    let a = and_right (not (is_end ws) && looks p v (piece_of p ws)) (has_words v (part.Verb ∷ rest) (behind_part p ws)) e in
+    let a = and_second (not (is_end ws) && looks p v (piece_of p ws)) (has_words v (part.Verb ∷ rest) (behind_part p ws)) e in
     let b : has_words v (part.Verb ∷ rest) (behind ws) ≡ true = rw h at a in
-    let c = and_left (not (is_end (behind ws)) && bytes_eq (first (behind ws)) v) _ b in
-    let d = and_right (not (is_end (behind ws))) (bytes_eq (first (behind ws)) v) c in
+    let c = and_first (not (is_end (behind ws)) && bytes_eq (first (behind ws)) v) _ b in
+    let d = and_second (not (is_end (behind ws))) (bytes_eq (first (behind ws)) v) c in
     (bytes_eq-Decides (first (behind ws)) v).0 d
 
 words_first : (v : List ℕ) (p : Part) (rest : List Part) (ws : List (List ℕ)) → has_words v (p ∷ rest) ws ≡ true → looks p v (piece_of p ws) ≡ true
 words_first v p rest ws e =
-    let c = and_left (not (is_end ws) && looks p v (piece_of p ws)) (has_words v rest (behind_part p ws)) e in
-    and_right (not (is_end ws)) (looks p v (piece_of p ws)) c
+    let c = and_first (not (is_end ws) && looks p v (piece_of p ws)) (has_words v rest (behind_part p ws)) e in
+    and_second (not (is_end ws)) (looks p v (piece_of p ws)) c
 
 form_verb : (f : Form) (ws : List (List ℕ)) → has_words (verb f) (parts f) ws ≡ true → first (behind ws) ≡ verb f
 form_verb Bput ws e = words_verb (verb Bput) part.Client (drop 2 (parts Bput)) ws refl e
@@ -333,13 +327,10 @@ not_found : (t : Bool) (n : ℕ) → (if t then Some n else None) ≡ None → t
 not_found true n e = absurd cc
 not_found false n e = refl
 
-lt_false : (a b : ℕ) → nat_lt a b ≡ false → b ≤ a
-lt_false a b e = grind (arith, nat_tests, e)
-
 none_at : {X : Type 0} (p : X → Bool) (xs : List X) (i : ℕ) (d : X) → position p xs ≡ None → i < length xs → p (get_or xs i d) ≡ false
 none_at p xs i d e l =
     let f = not_found (nat_lt (position_or_len p xs) (length xs)) (position_or_len p xs) e in
-    let m = lt_false (position_or_len p xs) (length xs) f in
+    let m = ltb-false (position_or_len p xs) (length xs) f in
     fails_before_first p xs i d (omega (arith, l, m))
 
 true_false : (t : Bool) → t ≡ true → t ≡ false → ⊥

@@ -2,6 +2,7 @@
 use Rattle.std.proofs.Common.{◌≡◌, ℕ, ◌==◌, Bool, true, false, List, [], ◌∷◌, ◌++◌, refl, sym, ◌∙◌, ap, arith, if◌then◌else◌, Option, Some, None, Bor, not, is_some}
 use Rattle.std.specs.List.{onto_first}
 use Rattle.std.proofs.lemmas.Bool.{ne_eqb, eqb-true}
+use Rattle.xfs_base.proofs.Booleans.{equal_itself}
 use Rattle.script_text.specs.Reading.{left_of}
 use Rattle.script_text.specs.Words.{Lacks, parted, joined, first, behind, is_end, or_empty, words}
 
@@ -10,11 +11,8 @@ onto x a t ps qs e f = rw (e, f) refl
 
 -- the first piece ends before the first such byte
 pub parted_cut : (m : ℕ) (a r : List ℕ) → Lacks m a → parted m (a ++ m ∷ r) ≡ a ∷ parted m r
-parted_cut m [] r h = at_mark (m == m) (same m)
+parted_cut m [] r h = at_mark (m == m) (equal_itself m)
   where
-    same : (m : ℕ) → (m == m) ≡ true
-    same m = grind arith
-
     at_mark : (t : Bool) → t ≡ true → (if t then [] ∷ parted m r else onto_first m (parted m r)) ≡ [] ∷ parted m r
     at_mark t e = rw e refl
 parted_cut m (x ∷ a) r h = onto x a (x == m) (parted m (a ++ m ∷ r)) (parted m r) (ne_eqb x m h.0) (parted_cut m a r h.1)

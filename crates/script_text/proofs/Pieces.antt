@@ -1,7 +1,7 @@
 -- What a part spells is what is read of it.
 use Rattle.std.proofs.Common.{◌≡◌, ◌≢◌, ℕ, ◌<◌, ◌≤◌, ◌==◌, min, nat_lt, nat_le, Bool, true, false, not, ◌&&◌, List, [], ◌∷◌, ◌++◌, length, refl, sym, ◌∙◌, ap, arith, inl, inr, ◌⊎◌, Option, Some, None, Ok, Err, if◌then◌else◌, append-nil}
 use Rattle.std.proofs.lemmas.Bool.Decides.{nat_tests}
-use Rattle.std.proofs.lemmas.Bool.{eqb-true, eqb-false}
+use Rattle.std.proofs.lemmas.Bool.{eqb-true, eqb-false, le-leb, leb-true}
 use Rattle.std.specs.List.{repeat, AllByRecursion, onto_first}
 use Rattle.xfs_base.specs.Blocks.{IsRaw, creator_of}
 use Rattle.xfs_base.specs.Limits.{max_value, max_text}
@@ -243,12 +243,6 @@ one_of_test count n (l, u) =
     let s : nat_le n count ≡ true = grind (arith, nat_tests, u) in
     rw (t, s) refl
 
-le_true : (a b : ℕ) → nat_le a b ≡ true → a ≤ b
-le_true a b e = grind (arith, nat_tests, e)
-
-le_test : (a b : ℕ) → a ≤ b → nat_le a b ≡ true
-le_test a b e = grind (arith, nat_tests, e)
-
 pub within_true : (c : Context) (p : Part) (v : Meaning p) → is_within c p v ≡ true → IsWithin c p v
 within_true c part.Cleaner v e = tt
 within_true c part.Registry v e = tt
@@ -260,9 +254,9 @@ within_true c part.Server v e = one_of_true c.setup.servers v e
 within_true c part.Board v e = one_of_true 3 v e
 within_true c (part.Number a b) v e = tt
 within_true c part.Raw v e = tt
-within_true c part.Path v e = le_true (length v) 16 e
-within_true c part.BlockText v e = le_true (length v) (min max_value c.room) e
-within_true c part.FileText v e = le_true (length v) (min max_text c.room) e
+within_true c part.Path v e = leb-true (length v) 16 e
+within_true c part.BlockText v e = leb-true (length v) (min max_value c.room) e
+within_true c part.FileText v e = leb-true (length v) (min max_text c.room) e
 
 pub within_test : (c : Context) (p : Part) (v : Meaning p) → IsWithin c p v → is_within c p v ≡ true
 within_test c part.Cleaner v e = refl
@@ -275,9 +269,9 @@ within_test c part.Server v e = one_of_test c.setup.servers v e
 within_test c part.Board v e = one_of_test 3 v e
 within_test c (part.Number a b) v e = refl
 within_test c part.Raw v e = refl
-within_test c part.Path v e = le_test (length v) 16 e
-within_test c part.BlockText v e = le_test (length v) (min max_value c.room) e
-within_test c part.FileText v e = le_test (length v) (min max_text c.room) e
+within_test c part.Path v e = le-leb (length v) 16 e
+within_test c part.BlockText v e = le-leb (length v) (min max_value c.room) e
+within_test c part.FileText v e = le-leb (length v) (min max_text c.room) e
 
 not_within : (c : Context) (p : Part) (v : Meaning p) → (IsWithin c p v → ⊥) → is_within c p v ≡ false
 not_within c p v h = at_test (is_within c p v) refl

@@ -1,6 +1,6 @@
 -- What is read is the script of the grammar, and where reading stops is the first bad line.
-use Rattle.std.proofs.Common.{◌≡◌, ℕ, ◌+◌, ◌<◌, nat_lt, Bool, true, false, not, ◌&&◌, ◌||◌, List, [], ◌∷◌, length, refl, sym, ◌∙◌, ap, subst, arith, inl, inr, ◌⊎◌, Option, Some, None, Result, Ok, Err, if◌then◌else◌}
-use Rattle.std.proofs.lemmas.Bool.Decides.{nat_tests}
+use Rattle.std.proofs.Common.{◌≡◌, ℕ, ◌+◌, nat_lt, Bool, true, false, not, ◌&&◌, ◌||◌, List, [], ◌∷◌, length, refl, sym, ◌∙◌, ap, subst, arith, inl, inr, ◌⊎◌, Option, Some, None, Result, Ok, Err, if◌then◌else◌}
+use Rattle.std.proofs.lemmas.Bool.{lt-ltb, ltb-true}
 use Rattle.xfs_base.specs.Limits.{max_lines, max_bytes}
 use Rattle.script_text.specs.declared.item.Item.{Item}
 use Rattle.script_text.specs.declared.refusal.Kind.{Kind}
@@ -155,25 +155,19 @@ line_bad n l p k (f, h, b) = ap (λ t. if t then Ok p else read_words n p (words
 past_true : (total n end : ℕ) → is_past total n end ≡ true → IsPast (record { total = total; number = n; end = end })
 past_true total n end e = at_tests (nat_lt max_lines n) (nat_lt max_bytes total) (nat_lt max_bytes end) refl refl refl e
   where
-    lt_true : (a b : ℕ) → nat_lt a b ≡ true → a < b
-    lt_true a b e = grind (arith, nat_tests, e)
-
     at_tests : (a b c : Bool) → nat_lt max_lines n ≡ a → nat_lt max_bytes total ≡ b → nat_lt max_bytes end ≡ c → (a || b && c) ≡ true
         → IsPast (record { total = total; number = n; end = end })
-    at_tests true b c f g h e = inl (lt_true _ _ f)
-    at_tests false true true f g h e = inr (lt_true _ _ g, lt_true _ _ h)
+    at_tests true b c f g h e = inl (ltb-true _ _ f)
+    at_tests false true true f g h e = inr (ltb-true _ _ g, ltb-true _ _ h)
     at_tests false true false f g h e = absurd (grind (arith, e))
     at_tests false false c f g h e = absurd (grind (arith, e))
 
 past_false : (total n end : ℕ) → is_past total n end ≡ false → IsPast (record { total = total; number = n; end = end }) → ⊥
 past_false total n end e p = at_tests p
   where
-    lt_test : (a b : ℕ) → a < b → nat_lt a b ≡ true
-    lt_test a b e = grind (arith, nat_tests, e)
-
     at_tests : IsPast (record { total = total; number = n; end = end }) → ⊥
-    at_tests (inl l) = true_false (is_past total n end) (rw (lt_test _ _ l) refl) e
-    at_tests (inr (l, m)) = true_false (is_past total n end) (or_right (nat_lt max_lines n) _ (rw (lt_test _ _ l, lt_test _ _ m) refl)) e
+    at_tests (inl l) = true_false (is_past total n end) (rw (lt-ltb _ _ l) refl) e
+    at_tests (inr (l, m)) = true_false (is_past total n end) (or_right (nat_lt max_lines n) _ (rw (lt-ltb _ _ l, lt-ltb _ _ m) refl)) e
       where
         or_right : (a b : Bool) → b ≡ true → (a || b) ≡ true
         or_right true b e = refl

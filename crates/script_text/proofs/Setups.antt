@@ -1,7 +1,6 @@
 -- A line of the setup is read as it is spelled.
 use Rattle.std.proofs.Common.{◌≡◌, ◌≢◌, ℕ, ◌+◌, ◌<◌, ◌≤◌, ◌^◌, ◌==◌, nat_lt, nat_le, Bool, true, false, not, ◌&&◌, ◌||◌, List, [], ◌∷◌, ◌++◌, length, map, codes, refl, sym, ◌∙◌, ap, subst, arith, inl, inr, ◌⊎◌, Option, Some, None, if◌then◌else◌, append_assoc, append-nil}
-use Rattle.std.proofs.lemmas.Bool.Decides.{nat_tests}
-use Rattle.std.proofs.lemmas.Bool.{eqb-false, ne_eqb}
+use Rattle.std.proofs.lemmas.Bool.{eqb-false, ne_eqb, le-leb, leb-true, lt-ltb, ltb-true}
 use Rattle.std.specs.List.{list_any, AllByRecursion}
 use Rattle.std.specs.Str.{bytes_eq}
 use Rattle.std.specs.Fmt.{decimal}
@@ -152,9 +151,6 @@ enough_read : (parity : ℕ) (o : Option (List ℕ)) (g : GroupSetup) → enough
 enough_read parity None g e = absurd (grind (arith, e))
 enough_read parity (Some group) g e = at_tests (nat_le (parity + 2) (length group)) (nat_le (length group) 8) refl refl e
   where
-    le_true : (a b : ℕ) → nat_le a b ≡ true → a ≤ b
-    le_true a b e = grind (arith, nat_tests, e)
-
     at_tests : (t u : Bool) → nat_le (parity + 2) (length group) ≡ t → nat_le (length group) 8 ≡ u
         → (if t && u then Some (record { servers = group; parity = parity }) else None) ≡ Some g
         → (Some group ≡ Some g.servers) × (g.parity ≡ parity) × (parity + 2 ≤ length g.servers) × (length g.servers ≤ 8)
@@ -162,7 +158,7 @@ enough_read parity (Some group) g e = at_tests (nat_le (parity + 2) (length grou
         let made : GroupSetup = record { servers = group; parity = parity } in
         let q : made ≡ g = some_same made g h in
         let P : GroupSetup → Type 0 = λ x. (Some group ≡ Some x.servers) × (x.parity ≡ parity) × (parity + 2 ≤ length x.servers) × (length x.servers ≤ 8) in
-        subst P q (refl, refl, le_true _ _ a, le_true _ _ b)
+        subst P q (refl, refl, leb-true _ _ a, leb-true _ _ b)
       where
         some_same : (x y : GroupSetup) → Some x ≡ Some y → x ≡ y
         some_same x y e = cc
@@ -206,12 +202,9 @@ group_read servers ws g e = at_tests (bytes_eq (first ws) (codes "group")) (byte
 enough_given : (parity : ℕ) (g : GroupSetup) → g.parity ≡ parity → parity + 2 ≤ length g.servers → length g.servers ≤ 8
     → enough_for parity (Some g.servers) ≡ Some g
 enough_given parity g e l u =
-    let t : nat_le (parity + 2) (length g.servers) ≡ true = le_test _ _ l in
-    let s : nat_le (length g.servers) 8 ≡ true = le_test _ _ u in
+    let t : nat_le (parity + 2) (length g.servers) ≡ true = le-leb _ _ l in
+    let s : nat_le (length g.servers) 8 ≡ true = le-leb _ _ u in
     rw (t, s) (ap (λ p. Some (record { servers = g.servers; parity = p })) (sym e))
-  where
-    le_test : (a b : ℕ) → a ≤ b → nat_le a b ≡ true
-    le_test a b e = grind (arith, nat_tests, e)
 
 servers_given : (servers parity : ℕ) (g : GroupSetup) → g.parity ≡ parity → IsGroup servers g.parity g.servers
     → enough_for parity (servers_from servers [] (map decimal g.servers)) ≡ Some g
@@ -234,23 +227,17 @@ saying_some f (Some x) s e = (x, refl, same (f x) s e)
 group_said_read : (p : Place) (ws : List (List ℕ)) (s : Said) → group_said p.setup ws ≡ Some s → AddsGroup p ws (behind_said p s)
 group_said_read p ws s e = at_test (nat_lt (length p.setup.groups) 8) refl e
   where
-    lt_true : (a b : ℕ) → nat_lt a b ≡ true → a < b
-    lt_true a b e = grind (arith, nat_tests, e)
-
     at_test : (t : Bool) → nat_lt (length p.setup.groups) 8 ≡ t → (if t then said_as said.Group (group_of p.setup.servers ws) else None) ≡ Some s
         → AddsGroup p ws (behind_said p s)
     at_test true f g =
         let a = saying_some said.Group (group_of p.setup.servers ws) s g in
-        (a.0, group_read p.setup.servers ws a.0 a.1, lt_true _ _ f, ap (behind_said p) a.2)
+        (a.0, group_read p.setup.servers ws a.0 a.1, ltb-true _ _ f, ap (behind_said p) a.2)
     at_test false f g = absurd (grind (arith, g))
 
 group_said_given : (p q : Place) (ws : List (List ℕ)) → AddsGroup p ws q → (s : Said) × (group_said p.setup ws ≡ Some s) × (q ≡ behind_said p s)
 group_said_given p q ws (g, n, few, e) =
-    let t : nat_lt (length p.setup.groups) 8 ≡ true = lt_test _ _ few in
+    let t : nat_lt (length p.setup.groups) 8 ≡ true = lt-ltb _ _ few in
     (said.Group g, rw t (ap (λ o. said_as said.Group o) (group_given p.setup.servers ws g n)), e)
-  where
-    lt_test : (a b : ℕ) → a < b → nat_lt a b ≡ true
-    lt_test a b e = grind (arith, nat_tests, e)
 
 one_word : (ws : List (List ℕ)) (w : List ℕ) → first ws ≡ w → 0 < length w → is_end (behind ws) ≡ true → ws ≡ w ∷ []
 one_word [] w e l f = absurd (omega (arith, ap length e, l))

@@ -1,6 +1,6 @@
 -- What an answer of a server leaves alone.
-use Rattle.std.proofs.Common.{◌≡◌, ℕ, ◌==◌, ◌&&◌, Bool, true, false, Option, Some, None, refl, arith}
-use Rattle.std.proofs.lemmas.Bool.Decides.{nat_tests}
+use Rattle.std.proofs.Common.{◌≡◌, ℕ, ◌==◌, ◌&&◌, Bool, true, false, Option, Some, None, refl}
+use Rattle.std.proofs.lemmas.Bool.{eqb-true}
 use Rattle.group_map.specs.GroupMapState.{GroupMapState}
 use Rattle.segment_format.specs.declared.segment.Segment.{Segment}
 use Rattle.segment_format.specs.ReadingItems.{answer_of}
@@ -38,12 +38,9 @@ second_of a true c d h = refl
 second_of true false c d h = contrary h
 second_of false false c d h = contrary h
 
-same_number : (a b : ℕ) → (a == b) ≡ true → a ≡ b
-same_number a b e = grind (arith, nat_tests)
-
 of_the_round : (r : ReadingState) (ask server : ℕ) (told : Told) → counts r ask server told ≡ true → ask ≡ r.ask
 of_the_round r ask server told h =
-    same_number ask r.ask
+    eqb-true ask r.ask
     (second_of (is_asking r.stage) (ask == r.ask) (asks r.round server) (name_fits r.target told && told_fits r.round told) h)
 
 pub change_nothing : OtherAnswersChangeNothing

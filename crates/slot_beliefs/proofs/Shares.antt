@@ -5,12 +5,12 @@ use Rattle.std.specs.Cmp.{IsTotalOrder, IsEquivalence}
 use Rattle.std.specs.List.Sorted.{IsStrictlySortedBy}
 use Rattle.std.specs.Map.{lookup, keys_of, remove_entry, set_value}
 use Rattle.std.specs.BTreeMap.{is_at, insert_entry}
-use Rattle.std.proofs.lemmas.Bool.Decides.{nat_tests}
 use Rattle.std.proofs.lemmas.Cmp.{on_total, then_total, nat_cmp_total, eq_by_cmp_equiv}
 use Rattle.std.proofs.lemmas.Map.{lookup-set_value, lookup-remove_entry}
 use Rattle.std.proofs.lemmas.Map.Keys.{IsDistinct-from_sorted}
 use Rattle.std.proofs.lemmas.Map.Views.{tells_apart}
 use Rattle.std.proofs.lemmas.Map.Lookups.{CmpEqualImpliesEq, exact_unsigned, exact_pairs}
+use Rattle.std.proofs.lemmas.Bool.{ne_eqb}
 use Rattle.xfs_base.specs.declared.block.BlockId.{BlockId}
 use Rattle.xfs_base.specs.declared.token.Mode.{Mode}
 use Rattle.xfs_base.specs.Blocks.{block_cmp, same_block}
@@ -200,9 +200,6 @@ all_pass true false false p q r = absurd (cc)
 all_pass true true z p q r = absurd (cc)
 all_pass false y z p q r = absurd (cc)
 
-other_number : (c d : ℕ) → (c ≡ d → ⊥) → (c == d) ≡ false
-other_number c d apart = elim (c == d) as (λ t. (c == d) ≡ t → t ≡ false) [ true ↦ λ same. absurd (apart (grind (arith, nat_tests))) | false ↦ λ _. refl ] refl
-
 found_first : (t : Bool) (c : ℕ) (cs : List ℕ) → t ≡ true → Contains (cond t (c ∷ cs) cs) c
 found_first true c cs p = contains_first c cs
 found_first false c cs p = absurd (cc)
@@ -229,7 +226,7 @@ others_found (e ∷ es) block asking c owners apart gives =
     → Contains (cond (test e.0) (e.0.client ∷ rest) rest) c) [
       | true ↦ λ same way. subst (λ k. Contains (cond (test k) (k.client ∷ rest) rest) c) (tells_apart holder_cmp_exact h e.0 same)
           (found_first (test h) c rest
-          (all_pass (same_block block block) (c == asking) (e.1 || not owners) (same_block_itself block) (other_number c asking apart) way))
+          (all_pass (same_block block block) (c == asking) (e.1 || not owners) (same_block_itself block) (ne_eqb c asking apart) way))
       | false ↦ λ _ way. found_later (test e.0) e.0.client c rest (others_found es block asking c owners apart way)
     ]
     in

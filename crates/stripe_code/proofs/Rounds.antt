@@ -1,5 +1,5 @@
 -- What is true of every round: it stays true, and gives what joining asks.
-use Rattle.std.proofs.Common.{◌≡◌, ℕ, ◌+◌, ◌-◌, ◌≤◌, zero, suc, Bool, true, false, cond, ◌&&◌, List, [], ◌∷◌, ◌++◌, Option, Some, None, length, map, refl, sym, ◌∙◌, ap, subst, arith}
+use Rattle.std.proofs.Common.{◌≡◌, ℕ, ◌+◌, ◌-◌, ◌≤◌, zero, suc, true, false, cond, ◌&&◌, List, [], ◌∷◌, ◌++◌, Option, Some, None, length, map, refl, sym, ◌∙◌, ap, subst, arith}
 use Rattle.std.proofs.lemmas.Bool.{eqb-true, ltb-true}
 use Rattle.std.proofs.lemmas.List.Elements.{All-nil, All-cons, All-head, All-tail, All-append}
 use Rattle.std.proofs.lemmas.List.FromFn.{length-map-range_with_len}
@@ -10,17 +10,10 @@ use Rattle.stripe_code.specs.declared.round.Answer.{Answer}
 use Rattle.stripe_code.specs.declared.round.Told.{Told}
 use Rattle.stripe_code.specs.declared.round.Told.TheVariants.{Held, Missing}
 use Rattle.xfs_base.specs.declared.fragment.Fragment.{Fragment}
+use Rattle.xfs_base.proofs.Booleans.{and_first, and_second}
 use Rattle.stripe_code.specs.Round.{RoundSoFar, IsRound, IsPart, TellsPart, count_of, bytes_in, bytes_told, len_in, len_told, parts_in, told_fits, says_as_before}
 use Rattle.stripe_code.specs.Joined.{HasLengths, excess, missing_from}
 use Rattle.stripe_code.specs.Stripe.{IsCut, part_of}
-
-both_left : (a b : Bool) → (a && b) ≡ true → a ≡ true
-both_left true b h = refl
-both_left false b h = h
-
-both_right : (a b : Bool) → (a && b) ≡ true → b ≡ true
-both_right true b h = h
-both_right false b h = cc
 
 -- ---- the parts that are in are as long as joining asks
 
@@ -79,19 +72,19 @@ new_part : (n count : ℕ) (before : Option ℕ) (f : Fragment)
     → IsPart n count (unwrap_or (or_else before (Some f.meta.len)) 0) f
 unfolding or_else
 new_part n count None f h =
-    let front = both_left (nat_lt f.meta.index n && true) _ h in
+    let front = and_first (nat_lt f.meta.index n && true) _ h in
     record {
-      index = ltb-true f.meta.index n (both_left (nat_lt f.meta.index n) _ front);
+      index = ltb-true f.meta.index n (and_first (nat_lt f.meta.index n) _ front);
       says = refl;
-      long = eqb-true (length f.bytes) (part_of f.meta.len count) (both_right (nat_lt f.meta.index n && true) _ h);
+      long = eqb-true (length f.bytes) (part_of f.meta.len count) (and_second (nat_lt f.meta.index n && true) _ h);
     }
 new_part n count (Some len) f h =
-    let front = both_left (nat_lt f.meta.index n && (f.meta.len == len)) _ h in
-    let same : f.meta.len ≡ len = eqb-true f.meta.len len (both_right (nat_lt f.meta.index n) _ front) in
+    let front = and_first (nat_lt f.meta.index n && (f.meta.len == len)) _ h in
+    let same : f.meta.len ≡ len = eqb-true f.meta.len len (and_second (nat_lt f.meta.index n) _ front) in
     record {
-      index = ltb-true f.meta.index n (both_left (nat_lt f.meta.index n) _ front);
+      index = ltb-true f.meta.index n (and_first (nat_lt f.meta.index n) _ front);
       says = same;
-      long = eqb-true (length f.bytes) (part_of f.meta.len count) (both_right (nat_lt f.meta.index n && (f.meta.len == len)) _ h)
+      long = eqb-true (length f.bytes) (part_of f.meta.len count) (and_second (nat_lt f.meta.index n && (f.meta.len == len)) _ h)
           ∙ ap (λ (k : ℕ). part_of k count) same;
     }
 

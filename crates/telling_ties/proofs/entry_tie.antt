@@ -10,7 +10,6 @@ mod ServingCalls
 mod ServingPackets
 pub mod Openings
 pub mod ClientPhases
-mod Leaving
 pub mod Rows
 pub mod Slots
 mod Taking

@@ -14,7 +14,6 @@ mod CleanerJobs
 mod CleanerServing
 mod CleanerPhases
 mod Servers
-mod Leaving
 mod LogNumbers
 mod Bounding
 mod Taking

@@ -1,4 +1,3 @@
-pub mod Leaving
 pub mod Effects
 pub mod Taking
 pub mod SlotPhases

@@ -1,7 +1,8 @@
 -- Reads, syncs and acts that change no history: the world is seen as before.
 use Rattle.std.specs.Prelude.{if◌then◌else◌, slice_get}
-use Rattle.std.proofs.Common.{◌≡◌, ℕ, suc, ◌+◌, ◌==◌, ◌≤◌, ◌<◌, max, Bool, true, false, nat_lt, List, [], ◌∷◌, ◌++◌, length, Option, Some, refl, sym, ap, subst, ◌∙◌, append-nil, arith}
+use Rattle.std.proofs.Common.{◌≡◌, ℕ, suc, ◌+◌, ◌==◌, ◌<◌, max, Bool, true, false, nat_lt, List, [], ◌∷◌, ◌++◌, length, Option, Some, refl, sym, ap, subst, ◌∙◌, append-nil, arith}
 use Rattle.std.proofs.lemmas.Bool.Decides.{nat_tests}
+use Rattle.std.proofs.lemmas.Bool.{ltb-false}
 use Rattle.xfs_base.specs.declared.block.BlockId.{BlockId}
 use Rattle.xfs_base.specs.Blocks.{same_block}
 use Rattle.xfs_base.specs.Modes.{is_held}
@@ -192,9 +193,6 @@ syncs_true members part b n v apart c pos less up clean = go (nat_lt 0 version) 
     matches : Matches (block.history (acts_of b n.acts)) v.world
     matches = subst (λ acts. Matches (block.history acts) v.world) v.acts (acts_match members v.world v.steps)
 
-    upto : (m k : ℕ) → nat_lt m k ≡ false → k ≤ m
-    upto m k h = grind (arith, nat_tests)
-
     some : nat_lt 0 version ≡ true → 0 < version
     some h = positive version h
       where
@@ -207,7 +205,7 @@ syncs_true members part b n v apart c pos less up clean = go (nat_lt 0 version) 
         let fact : version ≡ suc g.place = let e = g.greatest in omega arith in
         let settles = shown.settled in
         let known = shown.version in
-        let limit = upto (held_of (n.tokens c).blocks b).settled (held_of (n.tokens c).blocks b).ver (clean b) in
+        let limit = ltb-false (held_of (n.tokens c).blocks b).settled (held_of (n.tokens c).blocks b).ver (clean b) in
         record {
           serving = shown.serving;
           clean = omega arith;

@@ -1,9 +1,9 @@
 -- Falls are apart in every run: while a client serves no fall of it waits, and it falls only then.
 use Rattle.std.specs.Prelude.{if◌then◌else◌}
-use Rattle.std.proofs.Common.{◌≡◌, ℕ, ◌==◌, Bool, true, false, List, [], ◌∷◌, ◌++◌, Option, refl, sym, ap, subst, ◌∙◌, append-nil, arith}
-use Rattle.std.proofs.lemmas.Bool.Decides.{nat_tests}
+use Rattle.std.proofs.Common.{◌≡◌, ℕ, ◌==◌, Bool, true, false, List, [], ◌∷◌, ◌++◌, Option, refl, sym, ap, subst, ◌∙◌, append-nil}
+use Rattle.std.proofs.lemmas.Bool.{ne_eqb}
 use Rattle.xfs_base.specs.declared.segment.SegName.{SegName}
-use Rattle.xfs_base.proofs.Booleans.{contrary, by_test}
+use Rattle.xfs_base.proofs.Booleans.{contrary, by_test, equal_itself}
 use Rattle.version_model.specs.declared.act.Act.{Act}
 use Rattle.version_model.specs.declared.act.Act.TheVariants as act
 use Rattle.version_model.specs.declared.act.Fall.{Fall}
@@ -79,25 +79,16 @@ fell_kept up acts c flight falls serves once i =
     let t : FallTold = record { flight = flight; falls = falls } in
     kept_on up (put up c false) acts (act.Fell c flight falls) i (i.waits c serves, once)
     (put_each (λ d y. y ≡ true → (if d == c then h.told d ++ t ∷ [] else h.told d) ≡ []) up c false contrary
-    (λ d other up_. ap (λ (y : Bool). if y then h.told d ++ t ∷ [] else h.told d) (differs d c other) ∙ i.waits d up_))
-  where
-    differs : (d e : ℕ) → (d ≡ e → ⊥) → (d == e) ≡ false
-    differs d e other = grind (arith, nat_tests)
+    (λ d other up_. ap (λ (y : Bool). if y then h.told d ++ t ∷ [] else h.told d) (ne_eqb d c other) ∙ i.waits d up_))
 
 back_kept : (up : ℕ → Bool) (acts : List Act) (c : ℕ) (chain : List SegName) → FallsKept up acts → FallsKept (put up c true) (acts ++ act.Back c chain ∷ [])
 back_kept up acts c chain i =
     let h = history_after acts nothing_yet in
     let g = settle chain (h.told c) h in
     kept_on up (put up c true) acts (act.Back c chain) i tt
-    (put_each (λ d y. y ≡ true → (if d == c then [] else g.told d) ≡ []) up c true (λ _. ap (λ (y : Bool). if y then [] else g.told c) (itself c))
-    (λ d other up_. ap (λ (y : Bool). if y then [] else g.told d) (differs d c other) ∙ ap (λ (f : ℕ → List FallTold). f d) (settle_told chain (h.told c) h)
+    (put_each (λ d y. y ≡ true → (if d == c then [] else g.told d) ≡ []) up c true (λ _. ap (λ (y : Bool). if y then [] else g.told c) (equal_itself c))
+    (λ d other up_. ap (λ (y : Bool). if y then [] else g.told d) (ne_eqb d c other) ∙ ap (λ (f : ℕ → List FallTold). f d) (settle_told chain (h.told c) h)
     ∙ i.waits d up_))
-  where
-    itself : (d : ℕ) → (d == d) ≡ true
-    itself d = grind (arith, nat_tests)
-
-    differs : (d e : ℕ) → (d ≡ e → ⊥) → (d == e) ≡ false
-    differs d e other = grind (arith, nat_tests)
 
 pub falls_keep : (logs : Bool) (members part : ℕ) (n m : Net) → Happens logs members part n m → FallsKept n.up n.acts → FallsKept m.up m.acts
 falls_keep logs members part n m (Acts c end x serves own) i = wrote_kept n.up n.acts c (n.tokens c) x i

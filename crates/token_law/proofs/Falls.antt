@@ -1,7 +1,7 @@
 -- Clients that fall and return, and clients that serve a Forward: the world is seen as before.
 use Rattle.std.specs.Prelude.{if◌then◌else◌}
 use Rattle.std.proofs.Common.{◌≡◌, ℕ, suc, ◌≤◌, ◌<◌, max, Bool, true, false, nat_lt, List, [], ◌∷◌, ◌++◌, ⊎_elim, Option, Some, None, refl, sym, ap, subst, ◌∙◌, arith}
-use Rattle.std.proofs.lemmas.Bool.Decides.{nat_tests}
+use Rattle.std.proofs.lemmas.Bool.{ltb-false, ltb-true, eqb-true}
 use Rattle.xfs_base.specs.declared.block.BlockId.{BlockId}
 use Rattle.xfs_base.specs.declared.entry.Entry.{Entry}
 use Rattle.xfs_base.specs.declared.segment.SegName.{SegName}
@@ -38,7 +38,6 @@ use Rattle.token_protocol.proofs.Refining.{put_each, put_each_two}
 use Rattle.token_tie.specs.Managed.{JobShown, Manages}
 use Rattle.token_tie.specs.Seen.{Shows, SentOffer, local_of, entry_seen}
 use Rattle.token_tie.proofs.Frames.{put_here, put_there}
-use Rattle.token_tie.proofs.SmallFacts.{equal_numbers}
 use Rattle.token_tie.proofs.TakingOver.{supplies_newest}
 use Rattle.token_law.specs.Books.{Books, said, filed, discarded, reopened}
 use Rattle.token_law.specs.Owed.{FallsSo, fall_from, adopts}
@@ -165,7 +164,7 @@ module _ (logs : Bool) (members part : ℕ) (b : BlockId) (n : Net) (v : View lo
       (λ t. nat_lt (w.client c).settled (w.client c).version ≡ t → View logs members part b (acted (record n { up = put n.up c false }) (a ∷ []))) [
         | true ↦ λ fact.
             let u = crashes_dirty w c in
-            let step : Step logs w u = CrashesDirty c (record { dirty = below _ _ fact }) in
+            let step : Step logs w u = CrashesDirty c (record { dirty = ltb-true _ _ fact }) in
             fall c u a pos less up step refl refl refl (same_manager u refl refl (λ d. refl) (λ d. refl) refl v.manages.job)
             (all_same u refl refl refl refl refl refl (More Done step)) v.kept
             (λ k other. put_there w.fallen c 1 k other) (λ _. put_here w.fallen c 1)
@@ -173,7 +172,7 @@ module _ (logs : Bool) (members part : ℕ) (b : BlockId) (n : Net) (v : View lo
             (λ kept f. tells_dirty c falls shown (sym (shown_dirty shown) ∙ fact) kept (f.each b)) v.kept so)
         | false ↦ λ fact.
             let u = crashes_clean w c in
-            let step : Step logs w u = CrashesClean c (record { clean = above _ _ fact }) in
+            let step : Step logs w u = CrashesClean c (record { clean = ltb-false _ _ fact }) in
             fall c u a pos less up step refl refl refl (same_manager u refl refl (λ d. refl) (λ d. refl) refl v.manages.job)
             (all_same u refl refl refl refl refl refl (More Done step)) v.kept
             (λ k other. refl) (λ dirty. contrary (sym fact ∙ (shown_dirty shown ∙ dirty)))
@@ -190,12 +189,6 @@ module _ (logs : Bool) (members part : ℕ) (b : BlockId) (n : Net) (v : View lo
       shown_dirty : Shows (setting b c (n.tokens c).inc) w.epoch (local_of (n.tokens c) b) (w.client c)
           → nat_lt (w.client c).settled (w.client c).version ≡ is_dirty (held c)
       shown_dirty shown = ap (λ k. nat_lt k (w.client c).version) shown.settled ∙ ap (λ k. nat_lt (held c).settled k) shown.version
-
-      below : (m k : ℕ) → nat_lt m k ≡ true → m < k
-      below m k h = grind (arith, nat_tests)
-
-      above : (m k : ℕ) → nat_lt m k ≡ false → k ≤ m
-      above m k h = grind (arith, nat_tests)
 
   -- ---- a client returns
 
@@ -285,7 +278,7 @@ module _ (logs : Bool) (members part : ℕ) (b : BlockId) (n : Net) (v : View lo
 
       may : MayRestart w c inc promised
       may =
-          let same : slot_of b.ino.0 ≡ part = equal_numbers (slot_of b.ino.0) part inside in
+          let same : slot_of b.ino.0 ≡ part = eqb-true (slot_of b.ino.0) part inside in
           let was = gone.promised ∙ ap (epoch_of (n.tokens c).epochs) same in
           let will : promised ≡ epoch_of epochs part = ap (epoch_of epochs) same in
           let boot = gone.incarnation in

@@ -1,6 +1,7 @@
 -- Segments that are sealed, filed and reopened, and versions that are settled: the world is seen as before.
-use Rattle.std.proofs.Common.{◌≡◌, ℕ, zero, suc, ◌≤◌, ◌<◌, Bool, true, false, nat_lt, List, [], ◌++◌, inl, ⊎_elim, refl, sym, ap, subst, ◌∙◌, append-nil, arith}
+use Rattle.std.proofs.Common.{◌≡◌, ℕ, zero, suc, ◌≤◌, ◌<◌, Bool, true, false, List, [], ◌++◌, inl, ⊎_elim, refl, sym, ap, subst, ◌∙◌, append-nil, arith}
 use Rattle.std.proofs.lemmas.Bool.Decides.{nat_tests}
+use Rattle.std.proofs.lemmas.Bool.{ltb-true}
 use Rattle.xfs_base.specs.declared.block.BlockId.{BlockId}
 use Rattle.xfs_base.proofs.Booleans.{contrary}
 use Rattle.act_tie.specs.BlockActs.{acts_of}
@@ -175,7 +176,7 @@ seals_view true members part b n v c rows pos less up free newest whole =
     let x = w.client c in
     let ver = shown.version ∙ sym h.1 in
     let value : x.value ≡ number (row_in rows b).value = subst (λ o. ValueShown number o x.value) h.2 shown.value in
-    let dirty : x.settled < x.version = let s = shown.settled in let m = shown.version in let d = below _ _ h.0 in omega arith in
+    let dirty : x.settled < x.version = let s = shown.settled in let m = shown.version in let d = ltb-true _ _ h.0 in omega arith in
     rebooked true members part b n v (sealed n.books c rows) w.end (put w.flight c 1)
     (put w.rows c (put (w.rows c) (suc (w.end c)) (record { version = x.version; value = x.value })))
     (SealsWith c (record { dirty = dirty })) refl
@@ -188,9 +189,6 @@ seals_view true members part b n v c rows pos less up free newest whole =
 
     shown : Shows (setting b c (n.tokens c).inc) v.world.epoch (local_of (n.tokens c) b) (v.world.client c)
     shown = shown_up true members part b n v c pos less up
-
-    below : (m k : ℕ) → nat_lt m k ≡ true → m < k
-    below m k h = grind (arith, nat_tests)
 
 -- ---- a client's segment is filed
 

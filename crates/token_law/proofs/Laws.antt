@@ -1,5 +1,6 @@
 -- The laws are read off how each block of a run is seen in the abstract token protocol.
 use Rattle.std.proofs.Common.{◌≡◌, ℕ, zero, suc, ◌≤◌, ◌<◌, Bool, true, false, List, [], ◌∷◌, ◌++◌, refl, sym, ap, subst, ◌∙◌, arith}
+use Rattle.std.proofs.lemmas.Bool.{eqb-true}
 use Rattle.xfs_base.specs.declared.block.BlockId.{BlockId}
 use Rattle.xfs_base.specs.declared.token.Mode.{Mode}
 use Rattle.xfs_base.specs.declared.token.Mode.TheVariants.{Nothing, Copy, Own}
@@ -18,7 +19,6 @@ use Rattle.token_protocol.proofs.Invariant.{Owned, owned, always as invariant}
 use Rattle.token_protocol.proofs.Laws.{single_owner, epoch_promised, beliefs_cover, acceptable_believed, no_holder_after_fall, flights_new, join_is_join, acceptable_joins}
 use Rattle.token_tie.specs.Seen.{mode_number, local_of, entry_seen}
 use Rattle.token_tie.proofs.Leaves.{taking}
-use Rattle.token_tie.proofs.SmallFacts.{equal_numbers}
 use Rattle.token_law.specs.Laws.{Moment, IsClient, Reigns, OneOwner, ActiveEpochsPromised, HoldingsBelieved, GrantsBelieved, NobodyHoldsAfterFall, ActsAreLegal, FallsAreApart, FlightsAreNewer, GrantsAreOfTheNewest}
 use Rattle.token_law.specs.Net.{Net, Happens, Runs, opening}
 use Rattle.token_law.specs.Net.Happens.{Acts, Elsewhere, Reports, GetsCopy, GetsOwn, Declines, GetsRecall, GetsForward, GetsSupply, Fetches, Reads, Syncs, Seals, Files, GetsDeltas, GetsWant, GetsGave, Ticks, Crashes, Returns, SealsCopies, FilesCopies, Reopens, Activates, Says}
@@ -82,7 +82,7 @@ active_promised logs members part n b m e s active c fact =
     let below = (v.past e s active).0 in
     let high = promised_by logs members part n b m v c fact in
     let same = promised_is logs members part n b m v c (n.up c) (v.clients c fact.some fact.within)
-    ∙ ap (epoch_of (n.tokens c).epochs) (equal_numbers (slot_of b.ino.0) part m.inside) in
+    ∙ ap (epoch_of (n.tokens c).epochs) (eqb-true (slot_of b.ino.0) part m.inside) in
     omega arith
 
 pub holdings_believed : HoldingsBelieved

@@ -2,6 +2,7 @@
 use Rattle.std.specs.Prelude.{All, Contains, length}
 use Rattle.std.proofs.Common.{◌≡◌, ℕ, ◌+◌, ◌-◌, ◌≤◌, ◌<◌, Bool, true, false, nat_lt, List, [], ◌∷◌, ⊎_elim, Option, Some, None, refl, sym, ap, subst, ◌∙◌, arith}
 use Rattle.std.proofs.lemmas.Bool.Decides.{nat_tests}
+use Rattle.std.proofs.lemmas.Bool.{ltb-false, ltb-true}
 use Rattle.xfs_base.specs.declared.block.BlockId.{BlockId}
 use Rattle.xfs_base.specs.declared.entry.Entry.{Entry}
 use Rattle.xfs_base.specs.declared.segment.LogId.{LogId}
@@ -87,15 +88,12 @@ module _ (logs : Bool) (members part : ℕ) (n : Net) (i : Good logs members par
         | true ↦ λ h.
             let p = v.past e s fact in
             let of_slot = p.1 in
-            let old : e < v.world.epoch = below e v.world.epoch h in
+            let old : e < v.world.epoch = ltb-true e v.world.epoch h in
             stale_view logs members part b n v e s (slot_packets (all_sent s.jobs)) old p.1
             (λ q new. told_carried logs members part b n v v.world (all_sent s.jobs) (tick_stale b v.world s (i.ran e s fact) (omega arith)) q new)
         | false ↦ λ h. slot_event b v e s told.Tick fact (λ _. tt) (λ old. absurd (not_below e v.world.epoch h old)) refl
       ] refl
     where
-      below : (a c : ℕ) → nat_lt a c ≡ true → a < c
-      below a c h = grind (arith, nat_tests)
-
       not_below : (a c : ℕ) → nat_lt a c ≡ false → a < c → ⊥
       not_below a c h less = absurd (grind (arith, nat_tests))
 
@@ -137,12 +135,6 @@ module _ (logs : Bool) (members part : ℕ) (n : Net) (i : Good logs members par
         views = λ b inside. at b inside (i.views b inside) (nat_lt (i.views b inside).world.epoch epoch) refl;
       }
     where
-      less : (a c : ℕ) → nat_lt a c ≡ true → a < c
-      less a c h = grind (arith, nat_tests)
-
-      limit : (a c : ℕ) → nat_lt a c ≡ false → c ≤ a
-      limit a c h = grind (arith, nat_tests)
-
       below : (a c : ℕ) → a ≤ c → (a ≡ c → ⊥) → a < c
       below a c p other =
           elim (nat_lt a c) as (λ t. nat_lt a c ≡ t → a < c)
@@ -184,13 +176,13 @@ module _ (logs : Bool) (members part : ℕ) (n : Net) (i : Good logs members par
       at : (b : BlockId) → is_in_slot part b ≡ true → (v : View logs members part b n) (t : Bool) → nat_lt v.world.epoch epoch ≡ t
           → View logs members part b (record n { slots = put n.slots epoch (Some (slot.started epoch index (all_reported rows order) applied)) })
       at b inside v true h =
-          let later = less v.world.epoch epoch h in
+          let later = ltb-true v.world.epoch epoch h in
           later_view logs members part b n v epoch index applied rows ends none order all each reports_sent later inside (gathered_at b inside v later)
           (sound-start epoch index (all_reported rows order) applied (alone b v later))
       at b inside v false h =
           let other : epoch ≡ v.world.epoch → ⊥ = λ same. taken v.slot none v.slot (ap n.slots same ∙ v.reigns) in
           stale_view logs members part b n v epoch (slot.started epoch index (all_reported rows order) applied) []
-          (below epoch v.world.epoch (limit v.world.epoch epoch h) other) refl (λ p fact. absurd fact)
+          (below epoch v.world.epoch (ltb-false v.world.epoch epoch h) other) refl (λ p fact. absurd fact)
 
   -- a client returns, with empty segments behind what it found
   pub returned_view : (b : BlockId) → is_in_slot part b ≡ true → Premise logs (BooksWhole members n.books)

@@ -42,6 +42,7 @@ use Rattle.token_tie.proofs.Frames.{put_here, put_there}
 use Rattle.token_tie.proofs.TakingOver.{one_numbers, activation_shows, activation_manages, reports_believed, reports_most}
 use Rattle.token_client.proofs.Tables.{InOrder}
 use Rattle.std.specs.Prelude.{All, Contains}
+use Rattle.std.proofs.lemmas.Bool.{ltb-true}
 use Rattle.token_law.specs.Owed.{Gathered}
 use Rattle.token_law.proofs.Premises.{owed, owed_both}
 use Rattle.token_law.proofs.Logged.{Kept}
@@ -147,9 +148,6 @@ module _ (logs : Bool) (members part : ℕ) (b : BlockId) (n : Net) (v : View lo
       old_mode = (old.client 0).mode
   hears (suc k) = at (suc k) (omega arith)
     where
-      less : (c n : ℕ) → nat_lt c n ≡ true → c < n
-      less c n h = grind (arith, nat_tests)
-
       no_less : (c n : ℕ) → nat_lt c n ≡ false → c < n → ⊥
       no_less c n h l = grind (arith, nat_tests)
 
@@ -157,7 +155,7 @@ module _ (logs : Bool) (members part : ℕ) (b : BlockId) (n : Net) (v : View lo
       at c pos =
           elim (nat_lt c members) as (λ t. nat_lt c members ≡ t → Told members part b now epoch rows ends c) [
             | true ↦ λ fact.
-                let h = v.sent _ (reports_sent c pos (less c members fact)) in
+                let h = v.sent _ (reports_sent c pos (ltb-true c members fact)) in
                 record {
                   blocks = h.0;
                   report = record { client = c; epoch = epoch; mode = mode_number (held_of h.0 b).mode; end = ends c };
@@ -168,7 +166,7 @@ module _ (logs : Bool) (members part : ℕ) (b : BlockId) (n : Net) (v : View lo
                   asked = λ _. refl;
                   mode = λ _. refl;
                   end = λ _ _. refl;
-                  nothing = λ no. absurd (no (less c members fact));
+                  nothing = λ no. absurd (no (ltb-true c members fact));
                 }
             | false ↦ λ fact. record {
               blocks = [];
@@ -318,12 +316,9 @@ module _ (logs : Bool) (members part : ℕ) (b : BlockId) (n : Net) (v : View lo
       let e = reports_most part b d blocks order (λ k. (hears k).sorted) in
       subst (λ xs. share_of (all_believed [] xs) b c + share_of (all_believed [] xs) b d ≤ 2) (sym beliefs_are) (omega arith)
     where
-      less : (c n : ℕ) → nat_lt c n ≡ true → c < n
-      less c n h = grind (arith, nat_tests)
-
       no_less : (c n : ℕ) → nat_lt c n ≡ false → c < n → ⊥
       no_less c n h l = grind (arith, nat_tests)
 
       belief_is : (k : ℕ) (t : Bool) → nat_lt k now.members ≡ t → cond t (report k).mode 0 ≡ mode_number (held_of (blocks k) b).mode
-      belief_is k true fact = (hears k).mode (let m = v.many in let l = less k now.members fact in omega arith)
+      belief_is k true fact = (hears k).mode (let m = v.many in let l = ltb-true k now.members fact in omega arith)
       belief_is k false fact = sym ((hears k).nothing (λ l. no_less k now.members fact (let m = v.many in omega arith)))

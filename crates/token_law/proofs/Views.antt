@@ -33,7 +33,7 @@ use Rattle.token_tie.specs.Managed.{want_seen, JobShown, Manages}
 use Rattle.token_law.specs.Net.{Packet, Net, client_packets, after_client}
 use Rattle.token_law.specs.Net.Packet.{WantSent, GrantSent, RecallSent, GaveSent, ForwardSent, SupplySent, ReportSent}
 use Rattle.std.proofs.Common.{unwrap_or}
-use Rattle.token_tie.proofs.SmallFacts.{equal_numbers}
+use Rattle.std.proofs.lemmas.Bool.{eqb-true}
 use Rattle.token_client.specs.declared.held.Held.{Held}
 use Rattle.token_client.specs.State.{held_in, is_in_slot, epoch_of}
 use Rattle.token_protocol.specs.Takeover as takeover
@@ -297,7 +297,7 @@ module _ (logs : Bool) (members part : ℕ) (b : BlockId) (n : Net) (v : View lo
       let shown : Shows (setting b c (n.tokens c).inc) w.epoch (local_of (n.tokens c) b) (w.client c) =
       subst (λ u. ClientShown u b c (n.tokens c) w.epoch (w.client c)) up (v.clients c pos less) in
       let u = takeover.reports w c end in
-      let same : slot_of b.ino.0 ≡ part = equal_numbers (slot_of b.ino.0) part inside in
+      let same : slot_of b.ino.0 ≡ part = eqb-true (slot_of b.ino.0) part inside in
       record {
         world = u;
         steps = More v.steps (ReportsStep c end (record { serving = shown.serving }) (end_owed c end ends));

@@ -6,7 +6,7 @@ use Rattle.std.specs.List.{list_any, AllByRecursion}
 use Rattle.std.specs.List.Sorted.{IsStrictlySortedBy}
 use Rattle.std.specs.Map.{keys_of, set_value}
 use Rattle.std.specs.BTreeMap.{is_at, insert_entry}
-use Rattle.std.proofs.lemmas.Bool.{false≢true}
+use Rattle.std.proofs.lemmas.Bool.{false≢true, eqb-true}
 use Rattle.std.proofs.lemmas.Bool.Decides.{nat_tests}
 use Rattle.std.proofs.lemmas.Map.Views.{tells_apart}
 use Rattle.xfs_base.specs.declared.block.BlockId.{BlockId}
@@ -33,7 +33,7 @@ use Rattle.token_manager.specs.Transition.{started, want_of, finished, given, ga
 use Rattle.token_manager.specs.Laws.{OwnsAlone, Awaits, MustGiveWay, IsGuarded, state_after}
 use Rattle.token_manager.proofs.Cases.{recalled_from, by_want, all_given, by_gave_answered, by_deltas, let_go, by_finished_at}
 use Rattle.token_manager.proofs.JobsBarGrants.{Waiting, block_laws, waiting-removed, after_removal, was_there, gone, not_waiting}
-use Rattle.token_manager.proofs.Guarded.{Sound, sound-transition, sound-answered, sound-start, ReadyAt, ready_finds, jobs_fewer, equal_numbers}
+use Rattle.token_manager.proofs.Guarded.{Sound, sound-transition, sound-answered, sound-start, ReadyAt, ready_finds, jobs_fewer}
 
 -- ---- what changes keep
 
@@ -204,7 +204,7 @@ noted-once (a ∷ rest) client stamp end once = (
 
 -- an answer is to an unanswered recall of the client
 pub answered : (client : ℕ) (stamp : Stamp) (a : Awaited) → answers client stamp a ≡ true → (a.client ≡ client) × (a.end ≡ None)
-answered client stamp a h = (equal_numbers a.client client (grind (arith, nat_tests)), unnamed a.end (grind (arith, nat_tests)))
+answered client stamp a h = (eqb-true a.client client (grind (arith, nat_tests)), unnamed a.end (grind (arith, nat_tests)))
   where
     unnamed : (o : Option ℕ) → is_some o ≡ false → o ≡ None
     unnamed None none = refl

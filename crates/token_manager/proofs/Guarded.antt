@@ -7,7 +7,7 @@ use Rattle.std.specs.List.{filter, AllByRecursion}
 use Rattle.std.specs.List.Sorted.{IsStrictlySortedBy}
 use Rattle.std.specs.Map.{keys_of, set_value}
 use Rattle.std.specs.BTreeMap.{is_at, insert_entry}
-use Rattle.std.proofs.lemmas.Bool.{false≢true}
+use Rattle.std.proofs.lemmas.Bool.{false≢true, eqb-true}
 use Rattle.std.proofs.lemmas.Bool.Decides.{nat_tests}
 use Rattle.std.proofs.lemmas.Map.{keys-set_value}
 use Rattle.std.proofs.lemmas.Map.Views.{tells_apart}
@@ -145,9 +145,6 @@ awaits-recalls : (epoch turn : ℕ) (keep : Bool) (cs : List ℕ) (c : ℕ) → 
 awaits-recalls epoch turn keep [] c has = contains_nothing c has
 awaits-recalls epoch turn keep (x ∷ xs) c has = ⊎_elim (λ p. inl (p, refl)) (λ r. inr (awaits-recalls epoch (turn + 1) keep xs c r)) (contains_cases x c xs has)
 
-pub equal_numbers : (c d : ℕ) → (c == d) ≡ true → c ≡ d
-equal_numbers c d same = grind (arith, nat_tests)
-
 -- an answer notes no recall of another client
 pub awaits-noted : (awaited : List Awaited) (client : ℕ) (stamp : Stamp) (end c : ℕ) → (c ≡ client → ⊥) → Awaits awaited c
     → Awaits (noted awaited client stamp end) c
@@ -156,7 +153,7 @@ awaits-noted (a ∷ rest) client stamp end c apart waits =
     ⊎_elim
     (λ here. inl (elim (answers client stamp a) as
     (λ t. answers client stamp a ≡ t → ((cond t (record a { end = Some end }) a).client ≡ c) × ((cond t (record a { end = Some end }) a).end ≡ None)) [
-      | true ↦ λ answered. absurd (apart (sym here.0 ∙ equal_numbers a.client client (of_client answered)))
+      | true ↦ λ answered. absurd (apart (sym here.0 ∙ eqb-true a.client client (of_client answered)))
       | false ↦ λ _. here
     ] refl))
     (λ there. inr (awaits-noted rest client stamp end c apart there))
@@ -181,7 +178,7 @@ not_more n limit =
 
 pub no_first : (cs : List ℕ) (c : ℕ) → (length cs == 0) ≡ true → Contains cs c → ⊥
 no_first [] c none has = contains_nothing c has
-no_first (x ∷ xs) c none has = let zero_long : length (x ∷ xs) ≡ 0 = equal_numbers (length (x ∷ xs)) 0 none in absurd (omega arith)
+no_first (x ∷ xs) c none has = let zero_long : length (x ∷ xs) ≡ 0 = eqb-true (length (x ∷ xs)) 0 none in absurd (omega arith)
 
 more_before : (r' r w : ℕ) → r' ≤ r → 2 < r' + w → 2 < r + w
 more_before r' r w less more = omega arith

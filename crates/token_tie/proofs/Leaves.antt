@@ -1,6 +1,7 @@
 -- What each change of a block is by a step of the abstract protocol: one lemma for each change.
 use Rattle.std.proofs.Common.{◌≡◌, ℕ, ◌+◌, ◌==◌, ◌≤◌, ◌<◌, Bool, true, false, ◌&&◌, List, [], ◌∷◌, Option, Some, None, is_none, refl, sym, ap, subst, ◌∙◌, inl, inr, arith, min}
 use Rattle.std.proofs.lemmas.Bool.Decides.{nat_tests}
+use Rattle.std.proofs.lemmas.Bool.{eqb-true}
 use Rattle.xfs_base.specs.declared.entry.Place.{Place}
 use Rattle.xfs_base.specs.declared.token.Mode.{Mode}
 use Rattle.xfs_base.specs.declared.token.Mode.TheVariants.{Nothing, Copy, Own}
@@ -31,7 +32,7 @@ use Rattle.token_tie.proofs.Frames.{acts_by, goes_saying}
 use Rattle.xfs_base.specs.Modes.{is_held, is_own}
 use Rattle.xfs_base.specs.Stamps.{is_later}
 use Rattle.xfs_base.proofs.Booleans.{and_first, and_second, by_test}
-use Rattle.token_tie.proofs.SmallFacts.{put_back, some_rank, most_rank, own_rank, equal_numbers, later_exceeds, wanted_rank, restamped, given_rank, unfetching}
+use Rattle.token_tie.proofs.SmallFacts.{put_back, some_rank, most_rank, own_rank, later_exceeds, wanted_rank, restamped, given_rank, unfetching}
 
 module _ (logs : Bool) (g : Setting) (end : ℕ) (w : World) where
   abbrev here : Client
@@ -166,8 +167,8 @@ module _ (logs : Bool) (g : Setting) (end : ℕ) (w : World) where
   taking l stamp inc req mode entry s high sent t =
       let two = and_first ((l.promised == stamp.epoch) && (inc == l.inc)) (is_answer l.held stamp req mode) t in
       let answer = and_second ((l.promised == stamp.epoch) && (inc == l.inc)) (is_answer l.held stamp req mode) t in
-      let same : stamp.epoch ≡ l.promised = sym (equal_numbers l.promised stamp.epoch (and_first (l.promised == stamp.epoch) (inc == l.inc) two)) in
-      let boot : inc ≡ l.inc = equal_numbers inc l.inc (and_second (l.promised == stamp.epoch) (inc == l.inc) two) in
+      let same : stamp.epoch ≡ l.promised = sym (eqb-true l.promised stamp.epoch (and_first (l.promised == stamp.epoch) (inc == l.inc) two)) in
+      let boot : inc ≡ l.inc = eqb-true inc l.inc (and_second (l.promised == stamp.epoch) (inc == l.inc) two) in
       let named = and_first (is_wanted l.held.want req mode) (is_later stamp l.held.stamp) answer in
       let above = later_exceeds stamp l.held.stamp (and_second (is_wanted l.held.want req mode) (is_later stamp l.held.stamp) answer) in
       let seen = taken (node_seen l.promised l.held.stamp) here w.epoch (stamp_seen stamp) s.stamps high sent.low sent.some same above in

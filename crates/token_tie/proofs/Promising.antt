@@ -1,10 +1,11 @@
 -- Promises and ticks: inputs that go through many blocks.
-use Rattle.std.proofs.Common.{◌≡◌, ℕ, ◌+◌, ◌-◌, ◌==◌, ◌≤◌, ◌<◌, Bool, true, false, cond, ◌&&◌, List, [], ◌∷◌, length, is_some, refl, sym, ap, subst, ◌∙◌, arith, nat_lt, nat_le}
+use Rattle.std.proofs.Common.{◌≡◌, ℕ, ◌+◌, ◌-◌, ◌≤◌, Bool, true, false, cond, ◌&&◌, List, [], ◌∷◌, length, is_some, refl, sym, ap, subst, ◌∙◌, arith, nat_lt, nat_le}
 use Rattle.std.proofs.Common.{slice_set, set, zero, suc}
 use Rattle.std.specs.List.{list_any}
 use Rattle.std.specs.Map.{values_of}
 use Rattle.std.proofs.lemmas.Bool.Decides.{nat_tests}
 use Rattle.std.proofs.lemmas.List.{get_or-set_other, get_or-set_same}
+use Rattle.std.proofs.lemmas.Bool.{eqb-false, ltb-false, ltb-true, eqb-true}
 use Rattle.xfs_base.specs.declared.block.BlockId.{BlockId}
 use Rattle.xfs_base.specs.declared.token.Mode.TheVariants.{Copy}
 use Rattle.xfs_base.specs.Blocks.{slot_of}
@@ -23,7 +24,6 @@ use Rattle.token_tie.specs.Taken.{Goes, Took}
 use Rattle.token_tie.specs.Inputs as laws
 use Rattle.token_tie.proofs.Frames.{goes_nowhere, goes_through, shown_on, end_on}
 use Rattle.token_tie.proofs.Leaves.{promises-goes, drops_promised-goes}
-use Rattle.token_tie.proofs.SmallFacts.{equal_numbers}
 use Rattle.token_tie.proofs.Elsewhere.{apart_took, ask-apart, ask_again-apart}
 use Rattle.token_tie.proofs.Takes.{at_block, unheld_rank, ask-there, ask_again-there}
 use Rattle.xfs_base.specs.Modes.{is_held}
@@ -110,7 +110,7 @@ module _ (logs : Bool) (g : Setting) (end : ℕ) where
           | true ↦ λ fact. inside (nat_lt slot (length s.epochs)) refl fact
           | false ↦ λ fact.
               let now : epoch_of (slice_set s.epochs slot epoch) (slot_of g.block.ino.0) ≡ l.promised =
-              get_or-set_other s.epochs slot (slot_of g.block.ino.0) epoch 0 (apart (slot_of g.block.ino.0) slot fact) in
+              get_or-set_other s.epochs slot (slot_of g.block.ino.0) epoch 0 (eqb-false (slot_of g.block.ino.0) slot fact) in
               let kept_ : held_of (all_dropped_in slot s.blocks) g.block ≡ h = dropped-known s slot g.block ∙ ap (λ t. cond t (promise_dropped h) h) fact in
               subst (λ (m : Local). Goes logs g end w m []) (λ i. record l { promised = sym now i; held = sym kept_ i }) stays
         ] refl
@@ -118,20 +118,11 @@ module _ (logs : Bool) (g : Setting) (end : ℕ) where
         lower : (a b e : ℕ) → a ≡ b → nat_le b e ≡ true → a ≤ e
         lower a b e same le = grind (arith, nat_tests)
 
-        apart : (n m : ℕ) → (n == m) ≡ false → n ≡ m → ⊥
-        apart n m f fact = grind (arith, nat_tests)
-
-        less : (n m : ℕ) → nat_lt n m ≡ true → n < m
-        less n m f = grind (arith, nat_tests)
-
-        past : (n m : ℕ) → nat_lt n m ≡ false → m ≤ n
-        past n m f = grind (arith, nat_tests)
-
         inside : (t : Bool) → nat_lt slot (length s.epochs) ≡ t → is_in_slot slot g.block ≡ true → At (still (raised s slot epoch))
         inside true known fact =
-            let same : slot_of g.block.ino.0 ≡ slot = equal_numbers (slot_of g.block.ino.0) slot fact in
+            let same : slot_of g.block.ino.0 ≡ slot = eqb-true (slot_of g.block.ino.0) slot fact in
             let now : epoch_of (slice_set s.epochs slot epoch) (slot_of g.block.ino.0) ≡ epoch =
-            ap (λ n. epoch_of (slice_set s.epochs slot epoch) n) same ∙ get_or-set_same s.epochs slot epoch 0 (less slot (length s.epochs) known) in
+            ap (λ n. epoch_of (slice_set s.epochs slot epoch) n) same ∙ get_or-set_same s.epochs slot epoch 0 (ltb-true slot (length s.epochs) known) in
             let dropped : held_of (all_dropped_in slot s.blocks) g.block ≡ promise_dropped h =
             dropped-known s slot g.block ∙ ap (λ t. cond t (promise_dropped h) h) fact in
             let before : l.promised ≡ epoch_of s.epochs slot = ap (epoch_of s.epochs) same in
@@ -139,7 +130,7 @@ module _ (logs : Bool) (g : Setting) (end : ℕ) where
             (promises-goes logs g end w l epoch r.shows (lower l.promised (epoch_of s.epochs slot) epoch before rises))
         inside false unknown_ fact =
             let now : epoch_of (slice_set s.epochs slot epoch) (slot_of g.block.ino.0) ≡ l.promised =
-            ap (λ xs. epoch_of xs (slot_of g.block.ino.0)) (set_past s.epochs slot epoch (past slot (length s.epochs) unknown_)) in
+            ap (λ xs. epoch_of xs (slot_of g.block.ino.0)) (set_past s.epochs slot epoch (ltb-false slot (length s.epochs) unknown_)) in
             let dropped : held_of (all_dropped_in slot s.blocks) g.block ≡ promise_dropped h =
             dropped-known s slot g.block ∙ ap (λ t. cond t (promise_dropped h) h) fact in
             subst (λ (m : Local). Goes logs g end w m []) (λ i. record l { promised = sym now i; held = sym dropped i })

@@ -1,5 +1,6 @@
 -- A Recall of this block.
 use Rattle.std.proofs.Common.{◌≡◌, ℕ, ◌+◌, ◌==◌, ◌≤◌, Bool, true, false, ◌&&◌, ◌||◌, [], ◌∷◌, Option, Some, None, is_some, is_none, refl, sym, ap, subst, ◌∙◌, arith, nat_lt}
+use Rattle.std.proofs.lemmas.Bool.{eqb-true}
 use Rattle.xfs_base.specs.declared.token.Mode.TheVariants.{Copy}
 use Rattle.xfs_base.specs.declared.token.Stamp.{Stamp}
 use Rattle.xfs_base.specs.Steps.{still, saying}
@@ -17,7 +18,6 @@ use Rattle.token_tie.specs.Taken.{ByClient, Goes, Took}
 use Rattle.token_tie.specs.Inputs as laws
 use Rattle.token_tie.proofs.Frames.{goes_nowhere, goes_through, shown_on, epoch_on, end_on}
 use Rattle.token_tie.proofs.Leaves.{drops_fetch-goes, put_off-goes, gives-goes, gives_again-goes, asks-goes}
-use Rattle.token_tie.proofs.SmallFacts.{equal_numbers}
 use Rattle.token_tie.proofs.Takes.{unheld_rank, lifted}
 use Rattle.xfs_base.specs.Stamps.{is_later}
 use Rattle.xfs_base.proofs.Booleans.{and_first, and_second, by_test, contrary}
@@ -45,8 +45,8 @@ none_by (Some x) h = contrary (sym h)
 
 one_stamp : (s t : Stamp) → ((s.epoch == t.epoch) && (s.turn == t.turn)) ≡ true → stamp_seen s ≡ stamp_seen t
 one_stamp s t h =
-    let e = equal_numbers s.epoch t.epoch (and_first (s.epoch == t.epoch) (s.turn == t.turn) h) in
-    let q = equal_numbers s.turn t.turn (and_second (s.epoch == t.epoch) (s.turn == t.turn) h) in
+    let e = eqb-true s.epoch t.epoch (and_first (s.epoch == t.epoch) (s.turn == t.turn) h) in
+    let q = eqb-true s.turn t.turn (and_second (s.epoch == t.epoch) (s.turn == t.turn) h) in
     λ i. record { epoch = e i; turn = q i }
 
 module _ (logs : Bool) (g : Setting) (end : ℕ) where
@@ -119,7 +119,7 @@ module _ (logs : Bool) (g : Setting) (end : ℕ) where
     unfolding on_recalled recalled recalled_again
     on_recalled-here stamp keep sent =
         by_test At (is_promised s g.block stamp) (recalled s g.block stamp keep) (still s)
-        (λ same. let epoch : stamp.epoch ≡ l.promised = sym (equal_numbers l.promised stamp.epoch same) in
+        (λ same. let epoch : stamp.epoch ≡ l.promised = sym (eqb-true l.promised stamp.epoch same) in
         by_test At (is_later stamp h.stamp) (recalled_above s g.block stamp keep) (recalled_again s g.block stamp)
         (λ later. recalled_above-here stamp keep sent epoch later)
         (λ _. by_test At (was_answered h stamp) (record { state = s; outs = Gave g.block stamp ∷ [] }) (still s)

@@ -1,6 +1,7 @@
 -- Small facts of modes as ranks, of stamps, and of open wants and fetches.
 use Rattle.std.proofs.Common.{◌≡◌, ℕ, ◌==◌, ◌≤◌, ◌<◌, Bool, true, false, cond, ◌&&◌, Option, Some, None, is_none, refl, sym, ◌∙◌, arith, min}
 use Rattle.std.proofs.lemmas.Bool.Decides.{nat_tests}
+use Rattle.std.proofs.lemmas.Bool.{eqb-true}
 use Rattle.xfs_base.specs.declared.token.Mode.{Mode}
 use Rattle.xfs_base.specs.declared.token.Mode.TheVariants.{Nothing, Copy, Own}
 use Rattle.xfs_base.specs.declared.token.Stamp.{Stamp}
@@ -48,9 +49,6 @@ same_rank Own Nothing h = contrary h
 same_rank Own Copy h = contrary h
 same_rank Own Own h = refl
 
-pub equal_numbers : (n m : ℕ) → (n == m) ≡ true → n ≡ m
-equal_numbers n m h = grind (arith, nat_tests)
-
 -- a stamp that is later exceeds
 pub later_exceeds : (s t : Stamp) → is_later s t ≡ true → Exceeds (stamp_seen s) (stamp_seen t)
 later_exceeds s t h = grind (arith, nat_tests)
@@ -62,7 +60,7 @@ wanted_rank None req mode want request named shown = contrary named
 wanted_rank (Some v) req mode want request named shown =
     let same : mode_number v.mode ≡ mode_number mode = same_rank v.mode mode (and_second (v.req == req) (same_mode v.mode mode) named) in
     let some : 0 < mode_number v.mode = some_rank v.mode shown.2 in
-    (shown.0 ∙ same, shown.1 ∙ equal_numbers v.req req (and_first (v.req == req) (same_mode v.mode mode) named), omega arith)
+    (shown.0 ∙ same, shown.1 ∙ eqb-true v.req req (and_first (v.req == req) (same_mode v.mode mode) named), omega arith)
 
 -- the same stamp and promise are seen of a client that differs elsewhere
 pub restamped : (n : Node) (x y : Client) (e : ℕ) → y.promised ≡ x.promised → y.stamp ≡ x.stamp → Seen n x e → Seen n y e

@@ -25,11 +25,11 @@ use Rattle.token_client.proofs.Promises.{Agrees, agrees-itself}
 use Rattle.token_protocol.proofs.StampsSeen.{activated}
 use Rattle.token_tie.specs.Seen.{ValueShown, mode_number, node_seen}
 use Rattle.token_tie.specs.Epochs.{SuppliesNewest, RestartShows, ActivationShows, ActivationManages, reported, all_reported, ReportsBelieved}
-use Rattle.token_tie.proofs.SmallFacts.{equal_numbers}
 use Rattle.xfs_base.specs.Modes.{is_held, is_nothing, is_own, same_mode}
 use Rattle.token_client.proofs.Tables.{InOrder}
 use Rattle.xfs_base.proofs.Booleans.{and_first, and_second, by_test, contrary}
 use Rattle.std.specs.Prelude.{Contains}
+use Rattle.std.proofs.lemmas.Bool.{eqb-true}
 
 -- ---- forwards
 
@@ -42,7 +42,7 @@ pub supplies_newest : SuppliesNewest
 supplies_newest g w s stamp ver value shows newest t fact =
     let h = held_of s.blocks g.block in
     let two = and_first (is_promised s g.block stamp && same_mode h.mode Copy) (h.ver == ver) t in
-    let same : h.ver ≡ ver = equal_numbers h.ver ver (and_second (is_promised s g.block stamp && same_mode h.mode Copy) (h.ver == ver) t) in
+    let same : h.ver ≡ ver = eqb-true h.ver ver (and_second (is_promised s g.block stamp && same_mode h.mode Copy) (h.ver == ver) t) in
     let holds = copy_held h.mode (and_second (is_promised s g.block stamp) (same_mode h.mode Copy) two) in
     let mode = shows.mode in
     let n = newest (omega arith) in
@@ -94,9 +94,6 @@ activation_manages b w epoch index beliefs applied report upto covers same = rec
   job = record { nothing = λ d. refl; paid = λ d. omega arith };
 }
   where
-    less : (c n : ℕ) → nat_lt c n ≡ true → c < n
-    less c n h = grind (arith, nat_tests)
-
     at : (c : ℕ) (t : Bool) → (t ≡ true → (report c).mode ≤ share_of (all_believed [] beliefs) b c)
         → cond t (report c).mode 0 ≤ share_of (all_believed [] beliefs) b c
     at c true h = h refl
@@ -105,7 +102,7 @@ activation_manages b w epoch index beliefs applied report upto covers same = rec
 pub one_numbers : (n m : ℕ) → (n ≡ m) ⊎ (n ≡ m → ⊥)
 one_numbers n m =
     elim (n == m) as (λ t. (n == m) ≡ t → (n ≡ m) ⊎ (n ≡ m → ⊥))
-    [ true ↦ λ h. inl (equal_numbers n m h) | false ↦ λ h. inr (λ e. grind (arith, nat_tests)) ] refl
+    [ true ↦ λ h. inl (eqb-true n m h) | false ↦ λ h. inr (λ e. grind (arith, nat_tests)) ] refl
 
 -- ---- reports
 

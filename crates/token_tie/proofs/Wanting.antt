@@ -1,9 +1,8 @@
 -- Wants and Gaves of a slot.
-use Rattle.std.proofs.Common.{◌≡◌, ℕ, ◌+◌, ◌≤◌, ◌<◌, Bool, true, false, cond, ◌||◌, not, length, List, [], ◌∷◌, Option, Some, None, is_some, refl, sym, subst, ◌∙◌, arith, nat_lt}
+use Rattle.std.proofs.Common.{◌≡◌, ℕ, ◌+◌, ◌<◌, Bool, true, false, cond, ◌||◌, not, length, List, [], ◌∷◌, Option, Some, None, is_some, refl, sym, subst, ◌∙◌, arith, nat_lt}
 use Rattle.std.specs.Ordering.{eq_by_cmp}
 use Rattle.std.specs.BTreeMap.{insert_entry}
-use Rattle.std.proofs.lemmas.Bool.{false≢true}
-use Rattle.std.proofs.lemmas.Bool.Decides.{nat_tests}
+use Rattle.std.proofs.lemmas.Bool.{false≢true, ltb-false}
 use Rattle.std.proofs.lemmas.Map.Views.{tells_apart}
 use Rattle.xfs_base.specs.declared.block.BlockId.{BlockId}
 use Rattle.xfs_base.specs.declared.token.Mode.{Mode}
@@ -55,9 +54,6 @@ pub none_is : {A : Type 0} (o : Option A) → is_some o ≡ false → o ≡ None
 none_is None h = refl
 none_is (Some x) h = contrary (sym h)
 
-pub not_below : (m n : ℕ) → nat_lt m n ≡ false → n ≤ m
-not_below m n h = grind (arith, nat_tests)
-
 module _ (logs : Bool) where
   pub answer_quiet : (b : BlockId) (v : World) (s : SlotState) (ask : Wanted) (from : List ℕ) → (ask.block ≡ b → ⊥) → AllTold b v (answer s ask from ∷ [])
   answer_quiet b v s ask [] other = (λ same. absurd (other same), tt)
@@ -92,11 +88,11 @@ module _ (logs : Bool) where
   want-here w s ask end sound m some asked =
       by_want (Runs logs ask.block w) s ask end (runs_nowhere logs ask.block w s m)
       (λ going none. let k = kept_all (is_nothing ask.mode) (is_some (job_at s.jobs ask.block)) (nat_lt (applied_of s.applied ask.client) end) going in
-      let a = not_below (applied_of s.applied ask.client) end k.2 in let q = m.applied ask.client some in
+      let a = ltb-false (applied_of s.applied ask.client) end k.2 in let q = m.applied ask.client some in
       finished-runs logs w s ask end m (none_is (job_at s.jobs ask.block) k.1) k.0
       (λ c apart. not_more _ (λ more. no_first (recalled_from s ask) c none (found_by s.beliefs ask c apart more))) asked (omega arith))
       (λ going. let k = kept_all (is_nothing ask.mode) (is_some (job_at s.jobs ask.block)) (nat_lt (applied_of s.applied ask.client) end) going in
-      let a = not_below (applied_of s.applied ask.client) end k.2 in let q = m.applied ask.client some in
+      let a = ltb-false (applied_of s.applied ask.client) end k.2 in let q = m.applied ask.client some in
       recalled-runs logs w s ask end (recalled_from s ask) m (none_is (job_at s.jobs ask.block) k.1) k.0
       (others_once s.beliefs ask.block ask.client (not (is_own ask.mode)) sound.sorted) asked (omega arith))
 

@@ -1,6 +1,7 @@
 pub mod Alls
 pub mod BlockOrder
 pub mod Booleans
+pub mod Leaving
 pub mod Members
 pub mod NodeOrder
 pub mod Orders

@@ -44,9 +44,10 @@ use Rattle.xfs_base.specs.declared.news.SlotNews.{SlotNews}
 use Rattle.xfs_base.specs.declared.node.NodeId.{NodeId}
 use Rattle.xfs_base.specs.declared.node.NodeId.TheVariants as node
 use Rattle.xfs_base.specs.Steps.{saying, steps, still}
+use Rattle.xfs_base.proofs.Alls.{all_flat_map, all_map}
 use Rattle.earned_losses.proofs.answer_law.Following.{Goes, Kept, IsOpen, ends_kept, first_goes, follows_go, from_goes, hands_go, itself, loses_go, plainly, reading_kept, stays, steps_go, takes_back_goes, then_goes, then_kept, writes_go}
 use Rattle.earned_losses.proofs.answer_law.Items.{same}
-use Rattle.earned_losses.proofs.answer_law.Telling.{AllPlain, IsPlain, all_flat_map, all_map, all_pushed_plain, told_append, told_plain}
+use Rattle.earned_losses.proofs.answer_law.Telling.{AllPlain, IsPlain, all_pushed_plain, told_append, told_plain}
 
 -- ---- promises
 

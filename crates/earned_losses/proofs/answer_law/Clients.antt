@@ -33,13 +33,14 @@ use Rattle.wire_msg.specs.declared.packet.Packet.{Packet}
 use Rattle.xfs_base.proofs.Booleans.{by_test}
 use Rattle.xfs_base.specs.declared.node.NodeId.TheVariants as nodes
 use Rattle.xfs_base.specs.Steps.{saying, still}
+use Rattle.xfs_base.proofs.Alls.{all_append}
 use Rattle.earned_losses.proofs.answer_law.Arriving.{packet_goes, tick_goes}
 use Rattle.earned_losses.proofs.answer_law.Calling.{opens_go, runs_go}
 use Rattle.earned_losses.proofs.answer_law.Following.{Goes, IsOpen, then_goes}
 use Rattle.earned_losses.proofs.answer_law.Items as counting
 use Rattle.earned_losses.proofs.answer_law.Openings as openly
 use Rattle.earned_losses.proofs.answer_law.Settling.{UnlessScans, packet_settles, tick_settles, unless_scans, unless_then}
-use Rattle.earned_losses.proofs.answer_law.Telling.{AllPlain, AllQuiet, IsNoLoss, IsPlain, IsQuiet, NoLosses, Told, all_append, all_pushed_plain, answers_no_loss, answers_plain, answers_quiet, items_so, losses_said, pushed_no_loss, quiet_no_loss, quiet_plain, told_behind, told_of, told_plain}
+use Rattle.earned_losses.proofs.answer_law.Telling.{AllPlain, AllQuiet, IsNoLoss, IsPlain, IsQuiet, NoLosses, Told, all_pushed_plain, answers_no_loss, answers_plain, answers_quiet, items_so, losses_said, pushed_no_loss, quiet_no_loss, quiet_plain, told_behind, told_of, told_plain}
 use Rattle.earned_losses.specs.answer_law.Answers.{IsBegunBy}
 use Rattle.earned_losses.specs.answer_law.Calls.{CallsWell, ClientsSay, ClientsStartWell, GoesWell}
 

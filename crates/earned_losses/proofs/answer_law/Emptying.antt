@@ -61,8 +61,9 @@ use Rattle.xfs_base.specs.declared.segment.End.{End}
 use Rattle.xfs_base.specs.declared.segment.SegName.{SegName}
 use Rattle.xfs_base.specs.declared.segment.SegRef.{SegRef}
 use Rattle.xfs_base.specs.Steps.{saying, steps, still}
+use Rattle.xfs_base.proofs.Alls.{all_append, all_flat_map, all_map}
 use Rattle.earned_losses.proofs.answer_law.Items.{Same, same, same_answered, same_then}
-use Rattle.earned_losses.proofs.answer_law.Telling.{AllQuiet, IsQuiet, all_append, all_flat_map, all_map, all_pushed_quiet, answers_quiet}
+use Rattle.earned_losses.proofs.answer_law.Telling.{AllQuiet, IsQuiet, all_pushed_quiet, answers_quiet}
 
 abbrev items_of : Emptying → Items
 items_of e = e.lasting.items

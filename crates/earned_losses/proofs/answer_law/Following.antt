@@ -52,8 +52,9 @@ use Rattle.xfs_base.specs.declared.token.Mode.TheVariants.{Copy}
 use Rattle.xfs_base.specs.declared.token.Stamp.{Stamp}
 use Rattle.xfs_base.specs.Modes.{is_held, is_nothing, same_mode}
 use Rattle.xfs_base.specs.Steps.{saying, steps, still}
+use Rattle.xfs_base.proofs.Alls.{all_append, all_flat_map, all_map}
 use Rattle.earned_losses.proofs.answer_law.Items.{Same, same, same_answered, same_then}
-use Rattle.earned_losses.proofs.answer_law.Telling.{AllPlain, IsPlain, Told, all_append, all_flat_map, all_map, all_pushed_plain, pushed_plain, told_append, told_of, told_plain, told_then}
+use Rattle.earned_losses.proofs.answer_law.Telling.{AllPlain, IsPlain, Told, all_pushed_plain, pushed_plain, told_append, told_of, told_plain, told_then}
 use Rattle.earned_losses.specs.answer_law.Calls.{CallsWell}
 
 -- the item that waits for its answer

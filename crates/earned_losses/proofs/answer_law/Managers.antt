@@ -57,8 +57,9 @@ use Rattle.xfs_base.specs.declared.node.NodeId.{NodeId}
 use Rattle.xfs_base.specs.declared.node.NodeId.TheVariants as nodes
 use Rattle.xfs_base.specs.declared.segment.LogId.{LogId}
 use Rattle.xfs_base.specs.Steps.{Stepped, still}
+use Rattle.xfs_base.proofs.Alls.{all_append, all_flat_map}
 use Rattle.earned_losses.proofs.answer_law.Slots.{table_asks, table_check, table_deltas, table_gave, table_hears, table_recalls, table_regroups, table_report, table_takes, table_usage, table_want}
-use Rattle.earned_losses.proofs.answer_law.Telling.{AllPlain, IsPlain, all_append, all_flat_map, all_steps, answers_plain, none_lost}
+use Rattle.earned_losses.proofs.answer_law.Telling.{AllPlain, IsPlain, all_steps, answers_plain, none_lost}
 use Rattle.earned_losses.specs.answer_law.Answers.{NoneIsLost}
 
 -- no item is answered so

@@ -31,7 +31,8 @@ use Rattle.wire_msg.specs.declared.storage.Stored.{Stored}
 use Rattle.xfs_base.proofs.Booleans.{by_test}
 use Rattle.xfs_base.specs.declared.node.NodeId.{NodeId}
 use Rattle.xfs_base.specs.declared.segment.End.{End}
-use Rattle.earned_losses.proofs.answer_law.Telling.{IsNoLoss, NoLosses, all_append, all_map, all_steps}
+use Rattle.xfs_base.proofs.Alls.{all_append, all_map}
+use Rattle.earned_losses.proofs.answer_law.Telling.{IsNoLoss, NoLosses, all_steps}
 
 -- it reads its log still, or none of these says that a segment is lost
 abbrev pub UnlessScans : Stage → List Effect → Type 0

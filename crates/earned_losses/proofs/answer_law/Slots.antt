@@ -33,7 +33,8 @@ use Rattle.xfs_base.specs.declared.node.NodeId.{NodeId}
 use Rattle.xfs_base.specs.declared.segment.LogId.{LogId}
 use Rattle.xfs_base.specs.declared.segment.SegName.{SegName}
 use Rattle.xfs_base.specs.Steps.{Stepped, still}
-use Rattle.earned_losses.proofs.answer_law.Telling.{AllPlain, IsPlain, all_flat_map, all_steps}
+use Rattle.xfs_base.proofs.Alls.{all_flat_map}
+use Rattle.earned_losses.proofs.answer_law.Telling.{AllPlain, IsPlain, all_steps}
 
 -- ---- one slot
 

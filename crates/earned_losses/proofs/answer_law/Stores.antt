@@ -51,7 +51,8 @@ use Rattle.xfs_base.specs.declared.node.NodeId.TheVariants as nodes
 use Rattle.xfs_base.specs.declared.segment.SegName.{SegName}
 use Rattle.xfs_base.specs.Segments.{pass_cmp}
 use Rattle.xfs_base.specs.Steps.{still}
-use Rattle.earned_losses.proofs.answer_law.Telling.{AllQuiet, IsQuiet, all_append, all_flat_map, all_map, all_steps, answers_quiet, none_lost, quiet_plain}
+use Rattle.xfs_base.proofs.Alls.{all_append, all_flat_map, all_map}
+use Rattle.earned_losses.proofs.answer_law.Telling.{AllQuiet, IsQuiet, all_steps, answers_quiet, none_lost, quiet_plain}
 use Rattle.earned_losses.specs.answer_law.Answers.{NoneIsLost}
 
 -- ---- servers

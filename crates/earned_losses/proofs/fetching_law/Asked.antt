@@ -1,6 +1,5 @@
 -- A Grant that was sent to a client by a moment, in its incarnation and of no earlier epoch than it has promised then, answers a want that it had sent by then.
-use Rattle.std.proofs.Common.{◌≡◌, ℕ, ◌≤◌, ◌<◌, ◌==◌, Bool, false, true, Some, refl, sym, ap, subst, ◌∙◌, arith}
-use Rattle.std.proofs.lemmas.Bool.Decides.{nat_tests}
+use Rattle.std.proofs.Common.{◌≡◌, ℕ, ◌≤◌, ◌<◌, Bool, false, true, Some, refl, sym, ap, subst, ◌∙◌, arith}
 use Rattle.core_world.specs.AnyNode.{any_start, any_step}
 use Rattle.core_world.specs.declared.any_node.AnyNode.{AnyNode}
 use Rattle.node_base.specs.Setups.{IsSetup}
@@ -39,6 +38,7 @@ use Rattle.xfs_base.specs.declared.node.NodeId.{NodeId}
 use Rattle.xfs_base.specs.declared.node.NodeId.TheVariants.{Client}
 use Rattle.xfs_base.specs.declared.token.Mode.{Mode}
 use Rattle.xfs_base.specs.declared.token.Stamp.{Stamp}
+use Rattle.xfs_base.proofs.Booleans.{equal_itself}
 
 -- ---- in the small world of a slot
 
@@ -71,9 +71,6 @@ module _ (laws : NodeLaws) (e : Estate AnyNode) (setup : IsSetup e.script.setup)
   of_eight : slot_of b.ino.0 < 8
   of_eight = slot_below b.ino.0
 
-  itself : (n : ℕ) → (n == n) ≡ true
-  itself n = grind (arith, nat_tests)
-
   abbrev w : World AnyNode
   w = moment e count
 
@@ -102,7 +99,7 @@ module _ (laws : NodeLaws) (e : Estate AnyNode) (setup : IsSetup e.script.setup)
       → packet.to ≡ Client c → packet.body ≡ body.Grant m → m.block ≡ b → m.inc ≡ t.inc → epoch_of t.epochs (slot_of b.ino.0) ≤ m.stamp.epoch → m.req ≤ t.req
   grants_are_asked c t there packet m sent to fact block life heard =
       let y : ServesThere laws k (slot_of b.ino.0) of_eight now c t = served c t there in
-      let inside : is_in_slot (slot_of b.ino.0) b ≡ true = itself (slot_of b.ino.0) in
+      let inside : is_in_slot (slot_of b.ino.0) b ≡ true = equal_itself (slot_of b.ino.0) in
       let told : In (GrantSent c b m.stamp m.inc m.req m.mode m.entry) now.net.sent =
       subst (λ (x : BlockId). is_in_slot (slot_of b.ino.0) x ≡ true → In (GrantSent c x m.stamp m.inc m.req m.mode m.entry) now.net.sent) block
       (granted c packet m sent to fact) inside in

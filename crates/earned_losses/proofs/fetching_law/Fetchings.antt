@@ -1,6 +1,6 @@
 -- What a client says is lost while it reads a block for its open call was torn, in every run.
 use Rattle.std.proofs.Common.{◌≡◌, ◌⊎◌, ⊎_elim, ℕ, suc, ◌≤◌, ◌==◌, ◌&&◌, true, List, [], ◌∷◌, ◌++◌, Option, Some, None, drop, length, slice_get, refl, sym, ap, subst, ◌∙◌, inl, inr, arith}
-use Rattle.log_tie.proofs.Names.{equal}
+use Rattle.std.proofs.lemmas.Bool.{eqb-true}
 use Rattle.xfs_base.proofs.Booleans.{and_first, and_second, contrary}
 use Rattle.xfs_base.specs.Blocks.{slot_of}
 use Rattle.xfs_base.specs.declared.block.BlockId.{BlockId}
@@ -100,14 +100,14 @@ not_both b life highest epoch s l g taken before here =
     and_first (is_wanted (held_of s.blocks g.block).want g.req g.mode) (is_later g.stamp (held_of s.blocks g.block).stamp)
     (and_second (is_promised s g.block g.stamp && (g.inc == s.inc)) (is_answer (held_of s.blocks g.block) g.stamp g.req g.mode) taken) in
     later_wants (held_of s.blocks g.block).want (l.want g.block (sym here)) wanted
-    (before (equal g.inc s.inc same_life ∙ l.life)
-    (let at = equal (epoch_of s.epochs (slot_of g.block.ino.0)) g.stamp.epoch promised in
+    (before (eqb-true g.inc s.inc same_life ∙ l.life)
+    (let at = eqb-true (epoch_of s.epochs (slot_of g.block.ino.0)) g.stamp.epoch promised in
     let low = subst (λ (x : BlockId). epoch ≤ epoch_of s.epochs (slot_of x.ino.0)) here l.promised in omega arith))
   where
     later_wants : (o : Option Wanted) → Above b life highest epoch o → is_wanted o g.req g.mode ≡ true → g.req ≤ highest → ⊥
     later_wants None above none low = contrary none
     later_wants (Some w) above same low =
-        let number = equal w.req g.req (and_first (w.req == g.req) (same_mode w.mode g.mode) same) in
+        let number = eqb-true w.req g.req (and_first (w.req == g.req) (same_mode w.mode g.mode) same) in
         let less = above in
         absurd (omega arith)
 

@@ -13,7 +13,6 @@ use Rattle.group_map.specs.declared.group.Group.{Group}
 use Rattle.log_owner.specs.Sending.{fetch}
 use Rattle.node_base.specs.Asking.{next_ask}
 use Rattle.node_base.specs.Room.{has_long_room}
-use Rattle.node_ties.proofs.node_tie.StoreFrames.{all_append, all_map}
 use Rattle.run_laws.proofs.place_law.Aims.{target_exact}
 use Rattle.segment_reading.specs.declared.reading.Stage.{Stage}
 use Rattle.segment_reading.specs.declared.reading.Stage.TheVariants.{Asking, Between, Doubted, Over}
@@ -38,6 +37,7 @@ use Rattle.xfs_base.specs.declared.block.BlockId.{BlockId}
 use Rattle.xfs_base.specs.declared.entry.Place.{Place}
 use Rattle.xfs_base.specs.Modes.{is_own}
 use Rattle.xfs_base.specs.Steps.{still}
+use Rattle.xfs_base.proofs.Alls.{all_append, all_map}
 use Rattle.earned_losses.specs.fetching_law.Fetchings.{Confirms}
 use Rattle.earned_losses.proofs.fetching_law.Quiet.{Less, Rests, answered_quiet, follows_go, from_goes, stays, took_rests}
 use Rattle.earned_losses.proofs.fetching_law.Wants.{granted_on, same_wants, takes_on}

@@ -21,7 +21,6 @@ use Rattle.earned_losses.proofs.missing_law.Readings.{answer_keeps_target}
 use Rattle.node_base.specs.Asking.{next_ask}
 use Rattle.node_base.specs.Known.{names_known}
 use Rattle.node_base.specs.Maps.{fits, is_older, taken}
-use Rattle.node_ties.proofs.node_tie.StoreFrames.{all_append, all_flat_map}
 use Rattle.run_laws.proofs.place_law.Aims.{reads_nothing}
 use Rattle.telling_ties.specs.reading_tie.Arrivals.{Tells}
 use Rattle.segment_reading.specs.declared.reading.Next.{Next}
@@ -52,6 +51,7 @@ use Rattle.xfs_base.specs.declared.node.NodeId.{NodeId}
 use Rattle.xfs_base.specs.declared.node.NodeId.TheVariants as node
 use Rattle.xfs_base.specs.Limits.{u32_end}
 use Rattle.xfs_base.specs.Steps.{still, saying, steps}
+use Rattle.xfs_base.proofs.Alls.{all_append, all_flat_map}
 use Rattle.earned_losses.proofs.fetching_law.Quiet.{AllQuiet, Goes, IsQuiet, Rests, all_pushed_quiet, answered_quiet, asks_again, ends_rest, first_goes, follows_go, from_goes, hands_go, itself, stays, steps_go, takes_back_goes, then_rests}
 use Rattle.earned_losses.proofs.fetching_law.Wants.{Anew, same_wants, takes_on}
 use Rattle.earned_losses.proofs.fetching_law.Working.{writes_go}

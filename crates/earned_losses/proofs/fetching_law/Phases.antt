@@ -25,7 +25,6 @@ use Rattle.node_base.specs.declared.peers.Peers.{Peers}
 use Rattle.node_base.specs.declared.questions.Questions.{Questions}
 use Rattle.node_base.specs.Room.{has_room}
 use Rattle.node_base.specs.Shape.{is_well_formed}
-use Rattle.node_ties.proofs.node_tie.StoreFrames.{all_append}
 use Rattle.run_laws.proofs.place_law.AimsReads.{AnyGoingNew, GoingNew, begun_new}
 use Rattle.segment_reading.specs.Reading.{ReadingState}
 use Rattle.version_model.specs.declared.answer.Answer.TheVariants as answer
@@ -35,6 +34,7 @@ use Rattle.wire_msg.specs.declared.packet.Do.{Do}
 use Rattle.wire_msg.specs.declared.packet.Do.TheVariants.{Begin, Deliver, Tick}
 use Rattle.wire_msg.specs.declared.packet.Packet.{Packet}
 use Rattle.xfs_base.specs.Steps.{still, saying}
+use Rattle.xfs_base.proofs.Alls.{all_append}
 use Rattle.earned_losses.proofs.fetching_law.Packets.{packet_turns, time_turns}
 use Rattle.earned_losses.proofs.fetching_law.Quiet.{AllQuiet, IsQuiet, answered_quiet}
 use Rattle.earned_losses.proofs.fetching_law.Turning.{AllSay, Comes, Draws, NewMaps, Turns, all_quiet_say, itself_turns}

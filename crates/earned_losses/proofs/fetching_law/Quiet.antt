@@ -27,7 +27,6 @@ use Rattle.node_base.specs.Beginning.{answers_unanswered}
 use Rattle.node_base.specs.declared.effects.Effect.{Effect}
 use Rattle.node_base.specs.declared.effects.Effect.TheVariants.{Send, Answer, Lose, Does}
 use Rattle.log_ties.proofs.node_log_tie.Lists.{answers_send}
-use Rattle.node_ties.proofs.node_tie.StoreFrames.{all_append, all_flat_map, all_map}
 use Rattle.run_laws.proofs.place_law.Aims.{NoGrant, Nowhere, reads_nothing}
 use Rattle.segment_reading.specs.declared.target.BlockAt.{BlockAt}
 use Rattle.segment_reading.specs.Reading.{ReadingState}
@@ -50,6 +49,7 @@ use Rattle.xfs_base.specs.declared.token.Stamp.{Stamp}
 use Rattle.xfs_base.specs.Limits.{u32_end}
 use Rattle.xfs_base.specs.Modes.{is_nothing, same_mode}
 use Rattle.xfs_base.specs.Steps.{still, saying, steps}
+use Rattle.xfs_base.proofs.Alls.{all_append, all_flat_map, all_map}
 use Rattle.earned_losses.proofs.fetching_law.Wants.{Anew, Lasts, asked_anew, same_wants, takes_on}
 
 -- ---- what is said

@@ -16,7 +16,6 @@ use Rattle.node_base.specs.declared.effects.Effect.{Effect}
 use Rattle.node_base.specs.declared.effects.Effect.TheVariants.{Send, Answer, Lose, Does}
 use Rattle.node_base.specs.declared.questions.Questions.{Questions}
 use Rattle.node_base.specs.Maps.{taken}
-use Rattle.node_ties.proofs.node_tie.StoreFrames.{all_append, all_weaker}
 use Rattle.telling_ties.specs.reading_tie.Arrivals.{Tells}
 use Rattle.segment_reading.specs.declared.reading.Next.TheVariants.{Again}
 use Rattle.segment_reading.specs.declared.reading.Stage.TheVariants.{Between, Doubted}
@@ -36,6 +35,7 @@ use Rattle.xfs_base.specs.Blocks.{slot_of}
 use Rattle.xfs_base.specs.declared.node.NodeId.TheVariants as node
 use Rattle.xfs_base.specs.declared.segment.SegName.{SegName}
 use Rattle.xfs_base.specs.Steps.{still, saying}
+use Rattle.xfs_base.proofs.Alls.{all_append, all_weaker}
 use Rattle.earned_losses.specs.fetching_law.Fetchings.{BringsGone, Confirms}
 use Rattle.earned_losses.proofs.fetching_law.Quiet.{AllQuiet, Goes, IsQuiet, Less, NotLost, NoFetch, itself}
 use Rattle.earned_losses.proofs.fetching_law.Wants.{Anew, Lasts}

@@ -4,7 +4,7 @@ use Rattle.std.proofs.Common.{◌≡◌, ℕ, ◌+◌, ◌<◌, ◌≤◌, ◌&&
 use Rattle.std.specs.List.{list_any}
 use Rattle.std.specs.Map.{values_of}
 use Rattle.std.specs.Prelude.{length, slice_set, ◌-◌}
-use Rattle.std.proofs.lemmas.Bool.Decides.{nat_tests}
+use Rattle.std.proofs.lemmas.Bool.{leb-true}
 use Rattle.token_client.proofs.Tables.{held_of-changed, held_of-put_itself, put_each}
 use Rattle.token_client.specs.declared.held.Fetch.{Fetch}
 use Rattle.token_client.specs.declared.held.Held.{Held}
@@ -26,9 +26,6 @@ use Rattle.xfs_base.specs.Limits.{u32_end}
 use Rattle.xfs_base.specs.Modes.{is_own, is_held}
 use Rattle.xfs_base.specs.Stamps.{is_later}
 use Rattle.xfs_base.specs.Steps.{still, saying, steps}
-
-at_most : (a b : ℕ) → nat_le a b ≡ true → a ≤ b
-at_most a b h = grind (arith, nat_tests)
 
 -- a promise that is raised is no lower, and others stay
 epoch_rises : (epochs : List ℕ) (slot epoch other : ℕ) → epoch_of epochs slot ≤ epoch → epoch_of epochs other ≤ epoch_of (slice_set epochs slot epoch) other
@@ -226,7 +223,7 @@ module _ (b : BlockId) (inc highest epoch : ℕ) where
   promise_so s slot at l =
       by_test Keeps (may_promise s slot at) (steps ask_copy (raised s slot at) (fetched_in slot s.blocks)) (still s)
       (λ t. steps_so ask_copy ask_copy_so (raised s slot at) (fetched_in slot s.blocks)
-      (raised_so s slot at (at_most (epoch_of s.epochs slot) at (and_second (nat_lt slot 8) (nat_le (epoch_of s.epochs slot) at)
+      (raised_so s slot at (leb-true (epoch_of s.epochs slot) at (and_second (nat_lt slot 8) (nat_le (epoch_of s.epochs slot) at)
       (and_first (nat_lt slot 8 && nat_le (epoch_of s.epochs slot) at) (nat_le (length (fetched_in slot s.blocks)) (u32_end - s.req)) t))) l)) (λ t. l)
 
   repeated_so : (s : TokensState) (block : BlockId) (want : Option Wanted) → (held_of s.blocks block).want ≡ want → Later s → Keeps (repeated s block want)

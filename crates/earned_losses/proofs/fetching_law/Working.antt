@@ -29,7 +29,6 @@ use Rattle.file_plan.specs.declared.block_call.BlockCall.TheVariants.{Get, Put, 
 use Rattle.log_owner.specs.Sending.{name_of, pushes_all}
 use Rattle.node_base.specs.declared.effects.Effect.{Effect}
 use Rattle.node_base.specs.declared.effects.Effect.TheVariants.{Does}
-use Rattle.node_ties.proofs.node_tie.StoreFrames.{all_append}
 use Rattle.run_laws.proofs.place_law.AimsReads.{GoingNew, next_new}
 use Rattle.token_client.specs.declared.held.Giving.{Giving}
 use Rattle.token_client.specs.declared.input.In.TheVariants as input
@@ -43,6 +42,7 @@ use Rattle.xfs_base.specs.declared.segment.End.{End}
 use Rattle.xfs_base.specs.declared.token.Mode.TheVariants.{Copy, Own}
 use Rattle.xfs_base.specs.Modes.{is_held, is_nothing}
 use Rattle.xfs_base.specs.Steps.{still, saying, steps}
+use Rattle.xfs_base.proofs.Alls.{all_append}
 use Rattle.earned_losses.proofs.fetching_law.Wants.{Lasts, same_wants, takes_on}
 use Rattle.earned_losses.proofs.fetching_law.Quiet.{AllQuiet, Goes, IsQuiet, Less, Rests, all_pushed_quiet, answered_quiet, first_goes, fold_rests, from_goes, hands_go, itself, less_then, notes_clean_rests, notes_gone_rests, seals_go, stays, steps_go, takes_back_goes, then_goes, then_rests}
 

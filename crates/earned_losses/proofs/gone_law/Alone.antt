@@ -20,11 +20,11 @@ use Rattle.takeover.specs.Rows.{told_of}
 use Rattle.takeover.specs.Sources.{back_from, sources_of}
 use Rattle.takeover.specs.TakeState.{TakeState}
 use Rattle.takeover.specs.Transition.{Done, active, again, awaited, awaits, begun_if_all, can_ask, confirmed_as, fetches, go_on, goes_on_from, has_read, is_index, judged_as, next_of, on_maps, on_report, on_tick, on_told, polls, repeated, sought, sought_again, sought_over, target_of, told_at, told_in, transition, unanswered, waiting, with_chain}
-use Rattle.earned_losses.proofs.taking_law.Frames.{all_append, all_map}
 use Rattle.earned_losses.proofs.taking_law.TakeTurns.{Heard, heard_in}
 use Rattle.xfs_base.proofs.Booleans.{by_test}
 use Rattle.xfs_base.specs.declared.segment.SegName.{SegName}
 use Rattle.xfs_base.specs.Steps.{still}
+use Rattle.xfs_base.proofs.Alls.{all_append, all_map}
 
 abbrev pub NotLost : Out → Type 0
 NotLost (out.Poll to) = Unit {0}

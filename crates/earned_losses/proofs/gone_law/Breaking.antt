@@ -37,10 +37,10 @@ use Rattle.wire_msg.specs.declared.tokens.Want.{Want}
 use Rattle.xfs_base.specs.Blocks.{slot_of}
 use Rattle.xfs_base.specs.declared.segment.SegName.{SegName}
 use Rattle.xfs_base.specs.Steps.{still}
+use Rattle.xfs_base.proofs.Alls.{all_weaker}
 use Rattle.earned_losses.proofs.gone_law.Alone.{says_alone}
 use Rattle.earned_losses.proofs.gone_law.Slots.{AllPlain, IsPlain, PlainBody, TableRests, here_is, put_by, put_rests, same_slot, same_table, taken_rests, tokens_rest}
 use Rattle.earned_losses.specs.gone_law.Gones.{IfGone}
-use Rattle.earned_losses.proofs.taking_law.Frames.{all_weaker}
 use Rattle.earned_losses.proofs.taking_law.ServingTurns.{AnswerBrought, Fine, own_is}
 use Rattle.earned_losses.proofs.taking_law.SlotReads.{LostFrom, lost_of}
 use Rattle.earned_losses.proofs.taking_law.TakeTurns.{Heard, InputNamed, IsLost, Says, heard_in, take_turn}

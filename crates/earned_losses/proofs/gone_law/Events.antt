@@ -35,11 +35,11 @@ use Rattle.xfs_base.proofs.Booleans.{by_test}
 use Rattle.xfs_base.specs.declared.node.NodeId.TheVariants as names
 use Rattle.xfs_base.specs.declared.segment.SegName.{SegName}
 use Rattle.xfs_base.specs.Steps.{still}
+use Rattle.xfs_base.proofs.Alls.{all_append}
 use Rattle.earned_losses.proofs.gone_law.Breaking.{BrokenFrom, EffectGone, Ends, plain_go, rests_go}
 use Rattle.earned_losses.proofs.gone_law.Serving.{answers_plain, checkpoint_rests, news_rest, packet_goes, tick_rests}
 use Rattle.earned_losses.proofs.gone_law.Slots.{AllPlain, IsPlain, TableRests}
 use Rattle.earned_losses.specs.gone_law.Gones.{GonesAreOfBroken, IfGone, IsOfBroken}
-use Rattle.earned_losses.proofs.taking_law.Frames.{all_append}
 use Rattle.earned_losses.proofs.taking_law.ManagerTurns.{DoBrought, PhaseFine}
 
 away_whole : (other epoch : ℕ) (name : SegName) → phase.Away other ≡ phase.Broken epoch name → ⊥

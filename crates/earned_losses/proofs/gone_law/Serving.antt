@@ -46,9 +46,9 @@ use Rattle.xfs_base.specs.declared.news.SlotNews.{SlotNews}
 use Rattle.xfs_base.specs.declared.node.NodeId.{NodeId}
 use Rattle.xfs_base.specs.declared.segment.LogId.{LogId}
 use Rattle.xfs_base.specs.Steps.{Stepped, saying, steps, still}
+use Rattle.xfs_base.proofs.Alls.{all_append, all_flat_map}
 use Rattle.earned_losses.proofs.gone_law.Breaking.{Ends, found_goes, missing_goes, rests_go, want_goes}
 use Rattle.earned_losses.proofs.gone_law.Slots.{AllPlain, IsPlain, TableKept, TableRests, asked_plain, asks_rest, check_rests, cleaned_kept, deltas_rest, gaves_rest, heard_rest, named_kept, recalls_rest, regroups_rest, reports_rest, same_table}
-use Rattle.earned_losses.proofs.taking_law.Frames.{all_append, all_flat_map}
 use Rattle.earned_losses.proofs.taking_law.ServingTurns.{BodyBrought, Fine}
 
 -- a part of an event breaks no slot, and says of none that it is gone

@@ -45,8 +45,8 @@ use Rattle.xfs_base.specs.declared.segment.LogId.{LogId}
 use Rattle.xfs_base.specs.declared.segment.SegName.{SegName}
 use Rattle.xfs_base.specs.declared.segment.SegRef.{SegRef}
 use Rattle.xfs_base.specs.Steps.{Stepped, steps, still}
+use Rattle.xfs_base.proofs.Alls.{all_append, all_filter, all_flat_map}
 use Rattle.earned_losses.proofs.gone_law.Alone.{NoneLost, NotLost, calm_none}
-use Rattle.earned_losses.proofs.taking_law.Frames.{all_append, all_filter, all_flat_map}
 use Rattle.earned_losses.proofs.taking_law.TakeTurns.{heard_in}
 
 -- ---- what is sent

@@ -1,7 +1,7 @@
 -- What a client says is lost because a manager said that it is gone, that manager said was lost while it took the slot over, in the epoch that the client has
 -- promised.
-use Rattle.std.proofs.Common.{◌≡◌, ℕ, ◌<◌, ◌==◌, true, false, Option, Some, slice_get, refl, sym, subst, arith}
-use Rattle.std.proofs.lemmas.Bool.Decides.{nat_tests}
+use Rattle.std.proofs.Common.{◌≡◌, ℕ, ◌<◌, ◌==◌, false, Option, Some, slice_get, refl, sym, subst, arith}
+use Rattle.std.proofs.lemmas.Bool.{eqb-true}
 use Rattle.client_serving.specs.declared.serving.Serving.{Serving}
 use Rattle.core_world.specs.AnyNode.{any_start, any_step}
 use Rattle.core_world.specs.declared.any_node.AnyNode.{AnyNode}
@@ -33,9 +33,6 @@ use Rattle.xfs_base.specs.declared.node.NodeId.{NodeId}
 use Rattle.xfs_base.specs.declared.node.NodeId.TheVariants as names
 use Rattle.xfs_base.specs.declared.segment.SegName.{SegName}
 use Rattle.earned_losses.specs.gone_law.Gones.{GonesWereLost, SaidLost, ToldLost, promised_in}
-
-same_number : (a b : ℕ) → (a == b) ≡ true → a ≡ b
-same_number a b e = grind (arith, nat_tests)
 
 -- ---- a Gone is a manager's
 
@@ -74,7 +71,7 @@ module _ (laws : NodeLaws) (e : Estate AnyNode) (setup : IsSetup e.script.setup)
     (fact : slice_get e.events count ≡ Some event) (s : Serving) (serves : serving_at e c count ≡ Some s) (name : SegName)
     (b : BringsGone s (what_of event) name) where
   promised : epoch_of s.tokens.epochs (slot_of b.gone.block.ino.0) ≡ b.gone.epoch
-  promised = same_number _ _ (and_first (epoch_of s.tokens.epochs (slot_of b.gone.block.ino.0) == b.gone.epoch) _ b.meant)
+  promised = eqb-true _ _ (and_first (epoch_of s.tokens.epochs (slot_of b.gone.block.ino.0) == b.gone.epoch) _ b.meant)
 
   was_sent : In b.packet (moment e count).sent
   was_sent = (brought (moment e count) event (may_happen e run count event fact) b.packet b.delivers).0

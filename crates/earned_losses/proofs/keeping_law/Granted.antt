@@ -2,7 +2,6 @@
 use Rattle.std.proofs.Common.{◌≡◌, ℕ, Bool, true, false, cond, not, List, [], ◌∷◌, is_some, refl, sym, subst, ◌∙◌}
 use Rattle.std.specs.List.{AllByRecursion}
 use Rattle.delta_index.specs.Index.{entry_of}
-use Rattle.log_ties.proofs.node_log_tie.Lists.{all_append}
 use Rattle.slot_beliefs.specs.declared.job.Awaited.{Awaited}
 use Rattle.slot_beliefs.specs.declared.job.Job.{Job}
 use Rattle.slot_beliefs.specs.declared.job.Wanted.{Wanted}
@@ -20,6 +19,7 @@ use Rattle.xfs_base.specs.Modes.{is_own}
 use Rattle.xfs_base.specs.Steps.{steps}
 use Rattle.xfs_base.specs.declared.block.BlockId.{BlockId}
 use Rattle.xfs_base.specs.declared.entry.Entry.{Entry}
+use Rattle.xfs_base.proofs.Alls.{all_append}
 
 -- a Grant is of this epoch, and tells what these rows say of its block
 abbrev pub Granted : ℕ → List (BlockId × Entry) → Out → Type 0

@@ -4,12 +4,13 @@ use Rattle.std.specs.List.{AllByRecursion}
 use Rattle.node_base.specs.Beginning.{answers_unanswered}
 use Rattle.node_base.specs.declared.effects.Effect.{Effect}
 use Rattle.node_base.specs.declared.effects.Effect.TheVariants.{Send, Answer, Lose, Does}
-use Rattle.log_ties.proofs.node_log_tie.Lists.{all_append, all_weaker, answers_send}
+use Rattle.log_ties.proofs.node_log_tie.Lists.{answers_send}
 use Rattle.version_model.specs.declared.answer.Answer.{Answer as Answered}
 use Rattle.wire_msg.specs.declared.body.Body.{Body}
 use Rattle.wire_msg.specs.declared.body.Body.TheVariants as body
 use Rattle.wire_msg.specs.declared.tokens.Grant.{Grant}
 use Rattle.xfs_base.specs.Steps.{Stepped, steps}
+use Rattle.xfs_base.proofs.Alls.{all_append, all_weaker}
 use Rattle.earned_losses.specs.keeping_law.Grants.{IfGrant}
 
 module _ (A : Grant → Type 0) where

@@ -11,7 +11,6 @@ use Rattle.manager_parts.specs.SlotTable.{Table}
 use Rattle.manager_parts.specs.Tokens as tokens
 use Rattle.manager_serving.specs.declared.serving.Serving.{Serving}
 use Rattle.node_base.specs.declared.effects.Effect.{Effect}
-use Rattle.log_ties.proofs.node_log_tie.Lists.{all_append}
 use Rattle.node_ties.proofs.node_tie.ManagerJobs.{AllSpeakOf, IsInputOf, SpeaksOf, takes_of}
 use Rattle.node_ties.specs.node_tie.ManagerEvents.{OtherAgrees, phase_at}
 use Rattle.token_manager.specs.declared.input.In.{In}
@@ -29,6 +28,7 @@ use Rattle.run_laws.specs.world_law.Managers.{active_in}
 use Rattle.xfs_base.specs.Blocks.{slot_of}
 use Rattle.xfs_base.specs.declared.segment.LogId.{LogId}
 use Rattle.xfs_base.specs.Steps.{Stepped}
+use Rattle.xfs_base.proofs.Alls.{all_append}
 use Rattle.earned_losses.proofs.keeping_law.Granted.{Granted, slot_grants}
 use Rattle.earned_losses.proofs.keeping_law.Saying.{AllSay, Says, say_more}
 use Rattle.earned_losses.specs.keeping_law.Grants.{GrantTells, WaitsInPlace}

@@ -19,7 +19,6 @@ use Rattle.manager_parts.specs.Takeovers.{Asker}
 use Rattle.manager_parts.specs.Tokens as tokens
 use Rattle.node_base.specs.declared.effects.Effect.{Effect}
 use Rattle.node_base.specs.declared.questions.Questions.{Questions}
-use Rattle.log_ties.proofs.node_log_tie.Lists.{all_append, all_flat_map}
 use Rattle.takeover.specs.declared.input.In.{In as Given}
 use Rattle.takeover.specs.declared.input.In.TheVariants as given_in
 use Rattle.takeover.specs.declared.output.Out.{Out as Told}
@@ -35,6 +34,7 @@ use Rattle.xfs_base.specs.declared.news.SlotNews.{SlotNews}
 use Rattle.xfs_base.specs.declared.node.NodeId.{NodeId}
 use Rattle.xfs_base.specs.declared.segment.SegName.{SegName}
 use Rattle.xfs_base.specs.Steps.{Stepped}
+use Rattle.xfs_base.proofs.Alls.{all_append, all_flat_map}
 use Rattle.earned_losses.proofs.keeping_law.Saying.{AllSay, Says, steps_say}
 
 -- of each Grant that is sent this is so

@@ -15,7 +15,6 @@ use Rattle.index_tie.specs.Filed.{Filed, IsFiled, rows_at}
 use Rattle.index_tie.specs.Laws.{IsOutdated}
 use Rattle.index_tie.specs.NetLaws.{ReigningIsOutdated}
 use Rattle.log_protocol.specs.Tables as tables
-use Rattle.log_tie.proofs.Names.{itself}
 use Rattle.log_tie.specs.Setting.{Setting}
 use Rattle.node_base.specs.Setups.{IsSetup}
 use Rattle.node_ties.specs.node_index_tie.Sight.{held_in}
@@ -60,6 +59,7 @@ use Rattle.xfs_base.specs.declared.entry.Place.{Place}
 use Rattle.xfs_base.specs.declared.node.NodeId.{NodeId}
 use Rattle.xfs_base.specs.declared.node.NodeId.TheVariants.{Client, Manager, Server, Cleaner, Registry}
 use Rattle.xfs_base.specs.declared.segment.SegName.{SegName}
+use Rattle.xfs_base.proofs.Booleans.{equal_itself}
 use Rattle.earned_losses.proofs.keeping_law.Blocks.{block_there}
 use Rattle.earned_losses.proofs.keeping_law.Granting.{GrantedAt, granted_then}
 use Rattle.earned_losses.proofs.keeping_law.Holding.{managed_there, was_to_be_deleted}
@@ -153,7 +153,7 @@ module _ (below : Below) (base : Setting) (apart : TellsApart base) (e : Estate 
         let low : d ≤ epoch_of a.tokens.epochs part =
         promised_later below.nodes below.promised e run part (slot_below m.block.ino.0) after count limit then.tok
         (unlogged part cl (moment e after).nodes (moment e after).sent (moment e after).acts then.tok then.tokens_stand) d
-        (λ free. nobody (then.slots d free)) m.block (itself part) c a.tokens a.serves in
+        (λ free. nobody (then.slots d free)) m.block (equal_itself part) c a.tokens a.serves in
         let same = promised_is in
         let its = granted.tells.epoch in
         omega arith
@@ -195,7 +195,7 @@ module _ (below : Below) (base : Setting) (apart : TellsApart base) (e : Estate 
         grant_seen cl part now.tok c m packet.from
         (subst (λ b. SentBy cl part now.tok packet.from (Client c) b) a.bears
         (subst (λ n. SentBy cl part now.tok packet.from n packet.body) a.to (now.tokens_stand.facts packet a.sent)))
-        (itself part)
+        (equal_itself part)
 
     -- ---- a newer version that is filed
 
@@ -217,7 +217,8 @@ module _ (below : Below) (base : Setting) (apart : TellsApart base) (e : Estate 
       told_newest : (said now.tok.net.books l q m.block).version ≤ m.entry.ver
       told_newest =
           let x : ServesThere below.nodes cl part (slot_below m.block.ino.0) now.tok c a.tokens = serving in
-          below.newest (members cl part) part (with_promise 1 now.tok.net) m.block (record { run = now.tokens_stand.runs; inside = itself part }) c x.client
+          below.newest (members cl part) part (with_promise 1 now.tok.net) m.block
+          (record { run = now.tokens_stand.runs; inside = equal_itself part }) c x.client
           x.up m.stamp m.inc m.req m.mode m.entry granted_there
           (subst (λ (t : TokensState). accepts t m.block m.stamp m.inc m.req m.mode ≡ true) (sym x.tokens) a.accepted) l q
           (let end = now.books.end l nine.0 nine.1 in let within = still.limit in omega arith)

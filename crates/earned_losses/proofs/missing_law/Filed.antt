@@ -1,9 +1,9 @@
 -- Where each member of a segment's group holds its fragment or has lost its disk, and the segment is torn, more have lost their disk than the parity makes
 -- good.
-use Rattle.std.proofs.Common.{◌≡◌, ℕ, ◌<◌, Bool, true, nat_lt, Option, Some, None, is_none, length, sym, subst, ◌∙◌, inl, inr, arith}
-use Rattle.std.proofs.lemmas.Bool.Decides.{nat_tests}
+use Rattle.std.proofs.Common.{◌≡◌, ℕ, ◌<◌, Bool, true, Option, Some, None, is_none, length, sym, subst, ◌∙◌, inl, inr, arith}
 use Rattle.std.specs.List.{count_by}
 use Rattle.std.specs.Prelude.{slice_index_or}
+use Rattle.std.proofs.lemmas.Bool.{lt-ltb}
 use Rattle.core_world.specs.declared.any_node.AnyNode.{AnyNode}
 use Rattle.fragment_store.specs.ShelfState.{ShelfState, held_at}
 use Rattle.group_map.specs.declared.group.Group.{Group}
@@ -24,9 +24,6 @@ lacks_none : (o : Option Fragment) (f : Fragment) → o ≡ Some f → is_none o
 lacks_none None f fact none = absurd cc
 lacks_none (Some h) f fact none = contrary none
 
-is_less : (a b : ℕ) → a < b → nat_lt a b ≡ true
-is_less a b less = grind (arith, nat_tests)
-
 same_group : (a b : Group) → Some a ≡ Some b → a ≡ b
 same_group a b e = cc
 
@@ -46,7 +43,7 @@ module _ (e : Estate AnyNode) (count : ℕ) (s : Segment) (group : Group) (kept 
       by : (o : Option ShelfState) → HoldsOrLost s group place o → lacks o s.name ≡ true → has_lost_disk (at place) o ≡ true
       by None h none = absurd h
       by (Some shelf) (inl holds) none = absurd (lacks_none (held_at shelf.held s.name) (piece s group place) holds none)
-      by (Some shelf) (inr less) none = is_less (at place).generation shelf.generation less
+      by (Some shelf) (inr less) none = lt-ltb (at place).generation shelf.generation less
 
   -- where the segment is torn, more members have lost their disk than the parity makes good
   pub disks_of : group_at e.world s.group ≡ Some group → IsTornAt e count (ref_of s) → group.parity < disks_lost (moment e count) group

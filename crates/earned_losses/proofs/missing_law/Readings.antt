@@ -1,6 +1,7 @@
 -- What is true of a reading over the counts of a run, and what each step of it makes of that.
 use Rattle.std.proofs.Common.{◌≡◌, ◌⊎◌, ⊎_elim, ℕ, suc, ◌==◌, ◌&&◌, ◌<◌, ◌≤◌, true, false, nat_lt, List, [], ◌∷◌, ◌++◌, Option, Some, None, length, refl, sym, ap, subst, ◌∙◌, inl, inr, arith}
 use Rattle.std.proofs.lemmas.Bool.Decides.{nat_tests}
+use Rattle.std.proofs.lemmas.Bool.{eqb-true, ltb-true}
 use Rattle.core_world.specs.AnyNode.{any_start, any_step}
 use Rattle.core_world.specs.declared.any_node.AnyNode.{AnyNode}
 use Rattle.group_map.specs.declared.group.Group.{Group}
@@ -40,12 +41,6 @@ use Rattle.xfs_base.specs.declared.segment.SegName.{SegName}
 use Rattle.xfs_base.specs.declared.segment.SegRef.{SegRef}
 use Rattle.earned_losses.proofs.missing_law.Twice.{torn_at}
 use Rattle.earned_losses.specs.missing_law.Missed.{Answers, FetchesDrawn, MissedIn, last_at}
-
-same_ask : (a b : ℕ) → (a == b) ≡ true → a ≡ b
-same_ask a b e = grind (arith, nat_tests)
-
-more_than : (a b : ℕ) → nat_lt a b ≡ true → a < b
-more_than a b e = grind (arith, nat_tests)
 
 -- no pair was missing before
 fewer : (parity : ℕ) (pairs : List (ℕ × ℕ)) → are_gone parity [] pairs ≡ false
@@ -286,7 +281,7 @@ module _ (e : Estate AnyNode) where
             torn = λ kept.
                 torn_at e run r.target.seg 0 t.middle t.drawn count r.kept pairs t.kept each t.until kept t.middle (omega arith) t.follows now.servers
                 now.parity (told.its_servers ∙ so.servers) (told.its_parity ∙ so.parity) apart among
-                (more_than now.parity (length (missing_twice r.kept pairs)) many);
+                (ltb-true now.parity (length (missing_twice r.kept pairs)) many);
           }
 
           between : KeptTrue since count ended
@@ -341,7 +336,7 @@ module _ (e : Estate AnyNode) where
               is_judged asking on (taken r.round server t)
               (taken_so (λ v generation. MissedIn e on.drawn count v generation r.target.seg.name) r.round.servers r.round.parity r.round server t
               (record { its_servers = refl; its_parity = refl; single = on.single; asked = on.asked; told = on.told }) c.third
-              (true_then on (same_ask ask r.ask c.second)))
+              (true_then on (eqb-true ask r.ask c.second)))
               groups (state_of (taken r.round server t)) refl
 
       -- ---- the reader's own question was answered alike

@@ -14,7 +14,6 @@ use Rattle.log_law.specs.Held.{WhatFlewIsOfTheLog}
 use Rattle.log_law.specs.Laws.{Holds, IsLater, LogsStayWhole, LogsWhole, OneNameOneText, OneText}
 use Rattle.log_law.specs.Net.{Net}
 use Rattle.log_protocol.specs.Tables as tables
-use Rattle.log_tie.proofs.Names.{itself}
 use Rattle.log_tie.specs.Seen.{members_of}
 use Rattle.log_tie.specs.Setting.{Setting, Stripe, fragment_of, fragment_over, generation_of, server_of, stripe_of_group}
 use Rattle.log_tie.specs.Shelves.{is_of_log}
@@ -52,6 +51,7 @@ use Rattle.xfs_base.specs.declared.node.NodeId.{NodeId}
 use Rattle.xfs_base.specs.declared.node.NodeId.TheVariants as names
 use Rattle.xfs_base.specs.declared.segment.LogId.{LogId}
 use Rattle.xfs_base.specs.declared.segment.SegName.{SegName}
+use Rattle.xfs_base.proofs.Booleans.{equal_itself}
 use Rattle.earned_losses.proofs.missing_law.Filed.{disks_of}
 use Rattle.earned_losses.proofs.missing_law.Moments.{ShelfAt, here_is, k_of, shelf_on}
 use Rattle.earned_losses.specs.missing_law.Stored.{IsStored, IsStoredAs, WhatIsFiledIsStored}
@@ -164,7 +164,7 @@ module _ (e : Estate AnyNode) (run : IsRun any_step any_start e.script e.events 
         ours : (name : SegName) → name ≡ s.name → is_of_log (setting base e r) name ≡ true
         ours name same =
             subst (λ (z : SegName). is_of_log (setting base e r) z ≡ true) (sym same)
-            (subst (λ (l : LogId). (l.0 == (setting base e r).log.0) ≡ true) (sym own) (itself (setting base e r).log.0))
+            (subst (λ (l : LogId). (l.0 == (setting base e r).log.0) ≡ true) (sym own) (equal_itself (setting base e r).log.0))
 
         said : (packet : Packet) (m : Body) (to : NodeId) → WasSent (moment e count).sent packet → packet.to ≡ to → packet.body ≡ m
             → BodySeen (setting base e r) (asker_by r ((lines r is_there).scene count)) net packet.from to m

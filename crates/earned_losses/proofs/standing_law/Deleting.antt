@@ -9,7 +9,6 @@ use Rattle.log_law.specs.Net.Packet.{DeleteSent}
 use Rattle.log_law.specs.Written.{WhatFlewIsWritten}
 use Rattle.log_protocol.specs.Tables as tables
 use Rattle.log_scan.specs.Transition.{horizon_of, least_horizon}
-use Rattle.log_tie.proofs.Names.{itself}
 use Rattle.log_tie.specs.Setting.{Setting}
 use Rattle.log_tie.specs.Shelves.{is_of_log}
 use Rattle.loss_law.proofs.Events.{first_base}
@@ -33,6 +32,7 @@ use Rattle.run_laws.specs.world_logs.Roles.{IsThere, Role, asker_by, log_by}
 use Rattle.run_laws.specs.world_logs.Roles.Role.{OfManager}
 use Rattle.xfs_base.specs.declared.segment.LogId.{LogId}
 use Rattle.xfs_base.specs.declared.segment.SegName.{SegName}
+use Rattle.xfs_base.proofs.Booleans.{equal_itself}
 
 -- ---- a log above 9
 
@@ -85,7 +85,7 @@ module _ (base : Setting) (e : Estate AnyNode) (lines : HasLines base e) (r : Ro
       let deletes : DeleteSeen (setting base e r) (asker_by r ((lines r there).scene count)) ((lines r there).scene count).net d =
       subst (λ x. BodySeen (setting base e r) (asker_by r ((lines r there).scene count)) ((lines r there).scene count).net p.from p.to x) fact told in
       let of : is_of_log (setting base e r) d.name ≡ true =
-      ap (is_of_log (setting base e r)) same ∙ (ap (λ (l : LogId). l.0 == log_by r) own ∙ itself (log_by r)) in
+      ap (is_of_log (setting base e r)) same ∙ (ap (λ (l : LogId). l.0 == log_by r) own ∙ equal_itself (log_by r)) in
       let dropped : tables.In name ((lines r there).scene count).net.dropped =
       subst (λ x. tables.In x ((lines r there).scene count).net.dropped) same (base_now.packets (DeleteSent d.name) (deletes of)) in
       subst (λ x. name.seq < x) seen.low (base_now.below name dropped)

@@ -1,6 +1,7 @@
 -- An epoch in which a manager broke a slot has lapsed: nobody manages the slot in it, then or later, and the horizons with which it began stay as they were.
 use Rattle.std.proofs.Common.{◌≡◌, ◌⊎◌, ⊎_elim, ℕ, zero, suc, ◌<◌, ◌≤◌, ◌==◌, Bool, true, false, Option, None, Some, slice_get, inl, inr, refl, sym, ap, subst, ◌∙◌, arith}
 use Rattle.std.proofs.lemmas.Bool.Decides.{nat_tests}
+use Rattle.std.proofs.lemmas.Bool.{eqb-true}
 use Rattle.core_world.specs.AnyNode.{any_start, any_step}
 use Rattle.core_world.specs.declared.any_node.AnyNode.{AnyNode}
 use Rattle.core_world.specs.declared.any_node.AnyNode.TheVariants as any
@@ -53,9 +54,6 @@ same_manager a b fact = cc
 
 not_both : {X : Type 0} (o : Option X) (x : X) → o ≡ Some x → o ≡ None → ⊥
 not_both o x some none = absurd (let clash : None ≡ Some x = sym none ∙ some in cc)
-
-same_count : (a b : ℕ) → (a == b) ≡ true → a ≡ b
-same_count a b fact = grind (arith, nat_tests, fact)
 
 earlier_count : (a b : ℕ) → (a == b) ≡ false → a < suc b → a < b
 earlier_count a b fact less = grind (arith, nat_tests, fact, less)
@@ -301,7 +299,7 @@ module _ (law : ManagerEventGoes) (base : Setting) (e : Estate AnyNode) (run : I
               (λ x y g. lapses at x y g (free x) (begun x) (low x) name was broken)
 
           by : (t : Bool) → (at == count) ≡ t → Lapsed (suc count) d
-          by true fact = first_so count (same_count at count fact) b d f
+          by true fact = first_so count (eqb-true at count fact) b d f
           by false fact = goes_on count b d f (before (earlier_count at count fact less))
 
       pub lapsed : (count : ℕ) → at < count → (d : Joint base e lines texts part first count) → Comes base e lines texts part first count d

@@ -7,7 +7,6 @@ use Rattle.index_tie.specs.Net.{Net}
 use Rattle.index_tie.specs.Takeovers.{of_log}
 use Rattle.node_ties.specs.node_index_tie.ManagerEvents.{TakingAgrees}
 use Rattle.node_ties.specs.node_index_tie.Sight.{Texts}
-use Rattle.telling_ties.proofs.reading_tie.Readings.{all_append}
 use Rattle.segment_format.specs.declared.segment.Segment.{Segment}
 use Rattle.takeover.specs.Course.{course_of}
 use Rattle.takeover.specs.declared.report.Report.{Report}
@@ -23,6 +22,7 @@ use Rattle.xfs_base.proofs.Booleans.{by_test}
 use Rattle.xfs_base.specs.declared.news.SlotNews.{SlotNews}
 use Rattle.xfs_base.specs.declared.segment.SegName.{SegName}
 use Rattle.xfs_base.specs.declared.segment.SegRef.{SegRef}
+use Rattle.xfs_base.proofs.Alls.{all_append}
 
 none_below : (low seq : ℕ) (t : Bool) → low ≡ seq → (nat_lt low seq && t) ≡ true → ⊥
 none_below low seq t same back = grind (arith, nat_tests)

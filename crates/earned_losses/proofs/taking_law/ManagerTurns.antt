@@ -44,7 +44,7 @@ use Rattle.xfs_base.specs.declared.segment.SegName.{SegName}
 use Rattle.xfs_base.specs.declared.setup.Setup.{Setup}
 use Rattle.xfs_base.specs.Limits.{u32_end}
 use Rattle.xfs_base.specs.Steps.{still}
-use Rattle.earned_losses.proofs.taking_law.Frames.{all_append, all_weaker}
+use Rattle.xfs_base.proofs.Alls.{all_append, all_weaker}
 use Rattle.earned_losses.proofs.taking_law.Quiet.{AllQuiet, IsQuiet, NotLost, QuietBody, answers_quiet}
 use Rattle.earned_losses.proofs.taking_law.ServingTurns.{BodyBrought, Fine, ServesSo, begins, checkpoint_goes, from_start, news_go, packet_goes, quiet_goes, tick_goes}
 use Rattle.earned_losses.proofs.taking_law.SlotReads.{LostFrom, PresentFrom, TakingFrom}

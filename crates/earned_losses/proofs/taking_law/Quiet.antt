@@ -37,7 +37,7 @@ use Rattle.xfs_base.specs.Blocks.{slot_of}
 use Rattle.xfs_base.specs.declared.segment.LogId.{LogId}
 use Rattle.xfs_base.specs.declared.segment.SegRef.{SegRef}
 use Rattle.xfs_base.specs.Steps.{Stepped, steps, still}
-use Rattle.earned_losses.proofs.taking_law.Frames.{all_append, all_flat_map}
+use Rattle.xfs_base.proofs.Alls.{all_append, all_flat_map}
 
 -- ---- what is done
 

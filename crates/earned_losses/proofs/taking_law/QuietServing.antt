@@ -35,7 +35,7 @@ use Rattle.manager_parts.specs.SlotTable.{Table, begin_at, cleaned_at, next_acti
 use Rattle.manager_serving.specs.Serving.{asks_for_maps, on_check, on_deltas, on_gave, on_usage_ask, on_want, recalls_again, with_slots}
 use Rattle.node_base.specs.declared.effects.Effect.TheVariants.{Answer as Answers}
 use Rattle.xfs_base.specs.Steps.{Stepped, saying, steps, still}
-use Rattle.earned_losses.proofs.taking_law.Frames.{all_append, all_flat_map}
+use Rattle.xfs_base.proofs.Alls.{all_append, all_flat_map}
 use Rattle.earned_losses.proofs.taking_law.Quiet.{Alike, AllQuiet, IsQuiet, TableRests, answers_quiet, checks_alone, cleaned_alike, deltas_alone, gaves_alone, named_alike, recalls_alone, usage_alone, wants_alone}
 
 -- a part of an event leaves the takeovers and the maps alone, asks for no fragment, and says of nothing that it is lost

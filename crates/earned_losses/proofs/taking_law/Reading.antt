@@ -3,6 +3,7 @@ use Rattle.std.proofs.Common.{◌≡◌, ⊎_elim, ℕ, zero, suc, ◌-◌, ◌�
 use Rattle.std.specs.List.{AllByRecursion, flat_map, range_with_len}
 use Rattle.std.specs.Prelude.{Contains}
 use Rattle.std.proofs.lemmas.Bool.Decides.{nat_tests}
+use Rattle.std.proofs.lemmas.Bool.{leb-true}
 use Rattle.core_world.specs.AnyNode.{any_start, any_step}
 use Rattle.core_world.specs.declared.any_node.AnyNode.{AnyNode}
 use Rattle.core_world.specs.declared.any_node.AnyNode.TheVariants as any
@@ -39,8 +40,8 @@ use Rattle.xfs_base.proofs.Members.{contains_cases, contains_nothing}
 use Rattle.xfs_base.specs.declared.news.SlotNews.{SlotNews}
 use Rattle.xfs_base.specs.declared.node.NodeId.TheVariants as names
 use Rattle.xfs_base.specs.declared.segment.End.{End}
+use Rattle.xfs_base.proofs.Alls.{all_append, all_flat_map, all_map}
 use Rattle.earned_losses.proofs.taking_law.Always.{phase_fine}
-use Rattle.earned_losses.proofs.taking_law.Frames.{all_append, all_flat_map, all_map}
 use Rattle.earned_losses.proofs.taking_law.ManagerCounts.{IsNamed, NodeFine, all_good, named_is}
 use Rattle.earned_losses.proofs.taking_law.SlotReads.{at_source}
 use Rattle.earned_losses.proofs.taking_law.SlotTurns.{PresentFine, ReadFine, TakingFine}
@@ -58,9 +59,6 @@ all_contains P (y ∷ xs) x all among =
 abbrev IsAbove : Source → Type 0
 IsAbove source = source.low ≤ source.seg.name.seq
 
-le_of : (a b : ℕ) → nat_le a b ≡ true → a ≤ b
-le_of a b fact = grind (arith, nat_tests)
-
 below_prior : (a b : ℕ) → nat_lt a b ≡ true → a ≤ b - 1
 below_prior a b fact = grind (arith, nat_tests)
 
@@ -68,7 +66,7 @@ end_above : (log low : ℕ) (end : End) → AllByRecursion IsAbove (from_end log
 end_above log low end = by (nat_le low end.seq) refl
   where
     by : (t : Bool) → nat_le low end.seq ≡ t → AllByRecursion IsAbove (cond t (log_source log low end ∷ []) [])
-    by true fact = (le_of low end.seq fact, tt)
+    by true fact = (leb-true low end.seq fact, tt)
     by false fact = tt
 
 sources_above : (news : SlotNews) (reports : List Report) → AllByRecursion IsAbove (sources_of news reports)

@@ -1,6 +1,6 @@
 -- What each packet, and the time, make of what a manager that serves takes over.
 use Rattle.std.proofs.Common.{◌≡◌, ℕ, ◌+◌, ◌==◌, ◌&&◌, ◌<◌, Bool, true, false, cond, not, List, [], ◌++◌, Option, Some, None, inl, inr, refl, sym, subst, ◌∙◌, append_assoc, arith}
-use Rattle.std.proofs.lemmas.Bool.Decides.{nat_tests}
+use Rattle.std.proofs.lemmas.Bool.{eqb-true}
 use Rattle.client_log.specs.declared.input.In.TheVariants as log_input
 use Rattle.group_map.specs.declared.group.Group.{Group}
 use Rattle.group_map.specs.GroupMapState.{GroupMapState}
@@ -48,9 +48,6 @@ use Rattle.earned_losses.proofs.taking_law.TakeTurns.{Heard, InputNamed, MapName
 
 -- ---- the number that is answered
 
-same_number : (a b : ℕ) → (a == b) ≡ true → a ≡ b
-same_number a b e = grind (arith, nat_tests)
-
 same_own : (a b : ℕ) → Some a ≡ Some b → a ≡ b
 same_own a b e = cc
 
@@ -62,7 +59,7 @@ pub own_is : (f : Asked) (ask own : ℕ) → own_of f ask ≡ Some own → (own 
 own_is f ask own = by (not (f.own == 0) && (ask == f.ask)) refl
   where
     by : (b : Bool) → (not (f.own == 0) && (ask == f.ask)) ≡ b → cond b (Some f.own) None ≡ Some own → (own ≡ f.own) × (ask ≡ f.ask)
-    by true fact e = (sym (same_own f.own own e), same_number ask f.ask (and_second (not (f.own == 0)) (ask == f.ask) fact))
+    by true fact e = (sym (same_own f.own own e), eqb-true ask f.ask (and_second (not (f.own == 0)) (ask == f.ask) fact))
     by false fact e = absurd cc
 
 module _ (Named : ℕ → Group → Type 0) where

@@ -3,6 +3,7 @@
 use Rattle.std.proofs.Common.{◌≡◌, ◌⊎◌, ⊎_elim, ℕ, ◌+◌, ◌==◌, ◌<◌, ◌≤◌, Bool, true, false, cond, nat_lt, List, [], ◌∷◌, Option, Some, None, inl, inr, refl, sym, ap, subst, ◌∙◌, arith}
 use Rattle.std.specs.List.{AllByRecursion}
 use Rattle.std.proofs.lemmas.Bool.Decides.{nat_tests}
+use Rattle.std.proofs.lemmas.Bool.{eqb-false, eqb-true}
 use Rattle.manager_parts.specs.declared.slot_phase.SlotPhase.{SlotPhase}
 use Rattle.manager_parts.specs.declared.slot_phase.SlotPhase.TheVariants as phase
 use Rattle.manager_parts.specs.declared.slot_phase.Taking.{Taking}
@@ -26,14 +27,8 @@ use Rattle.xfs_base.specs.declared.node.NodeId.{NodeId}
 use Rattle.xfs_base.specs.declared.node.NodeId.TheVariants.{Server}
 use Rattle.xfs_base.specs.declared.segment.SegName.{SegName}
 use Rattle.xfs_base.specs.Limits.{u32_end}
-use Rattle.earned_losses.proofs.taking_law.Frames.{all_weaker}
+use Rattle.xfs_base.proofs.Alls.{all_weaker}
 use Rattle.earned_losses.proofs.taking_law.TakeTurns.{AsksAs, AsksFor, NotFetch}
-
-same_number : (a b : ℕ) → (a == b) ≡ true → a ≡ b
-same_number a b e = grind (arith, nat_tests)
-
-other_number : (a b : ℕ) → (a == b) ≡ false → a ≡ b → ⊥
-other_number a b e = grind (arith, nat_tests)
 
 drawn_one : (k : ℕ) → k < u32_end → cond (nat_lt k u32_end) (k + 1) k ≡ k + 1
 drawn_one k room = grind (arith, nat_tests)
@@ -169,9 +164,9 @@ module _ (L : SegName → Type 0) where
     settled_so f q (out.Fetch server name n ∷ outs) own ask at all =
         let fact : n ≡ b.own = same name n all.0 in
         let number : number_for f q n ≡ b.ask =
-        by_test (λ (k : ℕ). k ≡ b.ask) (n == f.own) f.ask (next_ask q) (λ _. ask) (λ e. absurd (other_number n f.own e (fact ∙ sym own))) in
+        by_test (λ (k : ℕ). k ≡ b.ask) (n == f.own) f.ask (next_ask q) (λ _. ask) (λ e. absurd (eqb-false n f.own e (fact ∙ sym own))) in
         let now : (drawn_for f q n).last ≡ last =
-        by_test (λ (k : Questions). k.last ≡ last) (n == f.own) q (drawn q) (λ _. at) (λ e. absurd (other_number n f.own e (fact ∙ sym own))) in
+        by_test (λ (k : Questions). k.last ≡ last) (n == f.own) q (drawn q) (λ _. at) (λ e. absurd (eqb-false n f.own e (fact ∙ sym own))) in
         let h = settled_so (asked_as f q n) (drawn_for f q n) outs fact number now all.1 in
         record { phase = h.phase; last_is = h.last_is; does = (((n, all.0), number), h.does) }
     settled_so f q (out.Active epoch index beliefs applied ∷ outs) own ask at all =
@@ -273,11 +268,11 @@ module _ (L : SegName → Type 0) where
         where
           by : (b : Bool) → (own == t.fetches.own) ≡ b
               → Goes (record { own = own; ask = cond b t.fetches.ask (next_ask q) }) (cond b q (drawn q))
-          by true fact = let e = same_number own t.fetches.own fact in
+          by true fact = let e = eqb-true own t.fetches.own fact in
               by_settled (record { own = own; ask = t.fetches.ask }) q refl (omega arith) (omega arith) low (inl (e, refl))
           by false fact = let e = drawn_one q.last room in
               by_settled (record { own = own; ask = next_ask q }) (drawn q) refl (omega arith) (omega arith) (omega arith)
-              (inr (other_number own t.fetches.own fact, omega arith))
+              (inr (eqb-false own t.fetches.own fact, omega arith))
 
     -- a poll asks for nothing
     polled : (to : NodeId) (outs : List Out) (last : ℕ) (x : SlotPhase) → PhaseSaid t q outs last x → PhaseSaid t q (out.Poll to ∷ outs) last x

@@ -29,7 +29,7 @@ use Rattle.xfs_base.specs.declared.node.NodeId.{NodeId}
 use Rattle.xfs_base.specs.declared.segment.SegName.{SegName}
 use Rattle.xfs_base.specs.Limits.{u32_end}
 use Rattle.xfs_base.specs.Steps.{still}
-use Rattle.earned_losses.proofs.taking_law.Frames.{all_weaker}
+use Rattle.xfs_base.proofs.Alls.{all_weaker}
 use Rattle.earned_losses.proofs.taking_law.SlotReads.{LostFrom, TakingFrom, from_now, lost_of}
 use Rattle.earned_losses.proofs.taking_law.SlotSays.{EffectSo, NumberSo, PhaseSaid, Said, SaysSo, TakingSaid, says_so}
 use Rattle.earned_losses.proofs.taking_law.SlotTurns.{FetchFor, FetchOf, TakingFine, asked_of, asks_last, fetched_before, is_number, present_fine, still_fine}

@@ -30,7 +30,7 @@ use Rattle.xfs_base.specs.declared.news.SlotNews.{SlotNews}
 use Rattle.xfs_base.specs.declared.node.NodeId.{NodeId}
 use Rattle.xfs_base.specs.Limits.{u32_end}
 use Rattle.xfs_base.specs.Steps.{steps}
-use Rattle.earned_losses.proofs.taking_law.Frames.{all_append, all_weaker}
+use Rattle.xfs_base.proofs.Alls.{all_append, all_weaker}
 use Rattle.earned_losses.proofs.taking_law.Quiet.{Alike, IsQuiet, NotLost, QuietBody}
 use Rattle.earned_losses.proofs.taking_law.SlotReads.{LostFrom, TakingFrom}
 use Rattle.earned_losses.proofs.taking_law.SlotSteps.{SlotSo, SlotStep, StepBody, StepEffect, StepFetch, asks_step, hears_rests, hears_step, report_step, takes_step}

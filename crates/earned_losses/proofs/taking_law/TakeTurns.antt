@@ -4,7 +4,6 @@ use Rattle.std.specs.List.{AllByRecursion}
 use Rattle.group_map.specs.declared.group.Group.{Group}
 use Rattle.group_map.specs.Groups.{group_of}
 use Rattle.group_map.specs.GroupMapState.{GroupMapState}
-use Rattle.earned_losses.proofs.taking_law.Frames.{all_append, all_filter, all_map}
 use Rattle.earned_losses.proofs.taking_law.TakeReadings.{IsEnded, NextSo, all_asked, next_so, to_ask_none}
 use Rattle.segment_format.specs.declared.segment.Segment.{Segment}
 use Rattle.segment_reading.specs.declared.reading.Next.{Next}
@@ -28,6 +27,7 @@ use Rattle.takeover.specs.Rows.{told_of}
 use Rattle.xfs_base.proofs.Booleans.{by_test}
 use Rattle.xfs_base.specs.declared.segment.SegName.{SegName}
 use Rattle.xfs_base.specs.Steps.{still}
+use Rattle.xfs_base.proofs.Alls.{all_append, all_filter, all_map}
 
 -- ---- what an input tells
 

@@ -9,6 +9,7 @@ use Rattle.xfs_base.specs.declared.news.SlotNews.{SlotNews}
 use Rattle.xfs_base.specs.declared.node.NodeId.{NodeId}
 use Rattle.xfs_base.specs.declared.node.NodeId.TheVariants as node
 use Rattle.xfs_base.specs.declared.segment.End.{End}
+use Rattle.xfs_base.proofs.Alls.{all_append}
 use Rattle.cleaner_emptying.specs.declared.emptying.Emptying.{Emptying}
 use Rattle.cleaner_emptying.specs.EmptyingEvents.{promises_slot, promises_all, with_new_job, begins_job, on_clean, fed, settles, writes_one, writes, on_ack, renews, promises, reports, polled, on_poll, hears_slot, hears_slots, job_regrouped, log_regrouped, takes_news, on_news, welcomes_over, welcomes, on_welcome, on_body, asks_for_maps, on_packet, on_tick}
 use Rattle.cleaner_emptying.specs.Jobs.{Done, cleans}
@@ -42,7 +43,6 @@ use Rattle.node_base.specs.declared.peers.Peers.{Peers}
 use Rattle.node_base.specs.Known.{names_known}
 use Rattle.node_base.specs.Maps.{fits, is_older, taken}
 use Rattle.node_base.specs.Shape.{is_well_formed}
-use Rattle.node_ties.proofs.node_tie.StoreFrames.{all_append}
 use Rattle.stripe_cleaner.specs.declared.input.In.TheVariants as input
 use Rattle.stripe_code.specs.declared.round.Told.TheVariants as answered
 use Rattle.version_model.specs.declared.act.Act.TheVariants.{Filed}

@@ -7,6 +7,7 @@ use Rattle.xfs_base.specs.declared.entry.Entry.{Entry}
 use Rattle.xfs_base.specs.declared.entry.Place.{Place}
 use Rattle.xfs_base.specs.declared.segment.SegName.{SegName}
 use Rattle.xfs_base.specs.declared.segment.SegRef.{SegRef}
+use Rattle.xfs_base.proofs.Alls.{all_append, all_flat_map, all_map}
 use Rattle.cleaner_emptying.specs.declared.emptying.Emptying.{Emptying}
 use Rattle.cleaner_emptying.specs.Jobs.{Done, with_questions, with_job, asks_maps, asks_list, asks_usage, checked_in, checks_block, check_sent, asks_check, holds_in, holds, reads, puts, puts_block, moves, deletes, says, takes_in, job_takes, cleans, on_listed, on_usage, on_live, on_dead, on_deleted, ends_reading, told_in, told_by, confirmed_in, confirmed, after_confirmed, reads_again, after_told, on_told}
 use Rattle.cleaner_parts.specs.declared.hand.Hand.{Hand}
@@ -25,7 +26,6 @@ use Rattle.log_owner.specs.Sending.{fetch}
 use Rattle.node_base.specs.Asking.{drawn, next_ask}
 use Rattle.node_base.specs.declared.effects.Effect.{Effect}
 use Rattle.node_base.specs.declared.questions.Questions.{Questions}
-use Rattle.node_ties.proofs.node_tie.StoreFrames.{all_append, all_flat_map, all_map}
 use Rattle.segment_format.specs.declared.segment.Segment.{Segment}
 use Rattle.segment_reading.specs.declared.reading.Next.{Next}
 use Rattle.segment_reading.specs.declared.reading.Next.TheVariants as next

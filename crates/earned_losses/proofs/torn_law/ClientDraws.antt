@@ -2,6 +2,7 @@
 use Rattle.std.proofs.Common.{ℕ, ◌≤◌, [], ◌∷◌, ◌++◌, Option, Some, None, is_some, arith}
 use Rattle.xfs_base.proofs.Booleans.{by_test}
 use Rattle.xfs_base.specs.Steps.{still, saying}
+use Rattle.xfs_base.proofs.Alls.{all_append}
 use Rattle.client_node.specs.declared.client.Client.{Client}
 use Rattle.client_node.specs.declared.phase.Phase.TheVariants.{Down, Opening, Serving as Serves}
 use Rattle.client_node.specs.declared.phase.Phase.{Phase}
@@ -24,7 +25,6 @@ use Rattle.log_owner.specs.Sending.{pushes_all}
 use Rattle.node_base.specs.Beginning.{next_item, begun, waiting, answers_unanswered, work_at}
 use Rattle.node_base.specs.declared.effects.Effect.TheVariants.{Answer}
 use Rattle.node_base.specs.Shape.{is_well_formed}
-use Rattle.node_ties.proofs.node_tie.StoreFrames.{all_append}
 use Rattle.version_model.specs.declared.answer.Answer.TheVariants as answer
 use Rattle.version_model.specs.declared.work.Work.{Work}
 use Rattle.version_model.specs.declared.work.Work.TheVariants as work

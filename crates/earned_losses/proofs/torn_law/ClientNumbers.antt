@@ -46,7 +46,6 @@ use Rattle.node_base.specs.Asking.{drawn}
 use Rattle.node_base.specs.Known.{names_known}
 use Rattle.node_base.specs.Maps.{fits, is_older, taken}
 use Rattle.node_base.specs.Room.{has_long_room}
-use Rattle.node_ties.proofs.node_tie.StoreFrames.{all_append, all_flat_map, all_map}
 use Rattle.segment_format.specs.ReadingItems.{answer_of}
 use Rattle.segment_format.specs.declared.segment.Segment.{Segment}
 use Rattle.segment_reading.specs.declared.reading.Next.{Next}
@@ -86,6 +85,7 @@ use Rattle.xfs_base.specs.declared.segment.End.{End}
 use Rattle.xfs_base.specs.declared.token.Mode.TheVariants.{Copy, Own}
 use Rattle.xfs_base.specs.Modes.{is_held, is_nothing, is_own}
 use Rattle.xfs_base.specs.Steps.{still, saying, steps}
+use Rattle.xfs_base.proofs.Alls.{all_append, all_flat_map, all_map}
 use Rattle.earned_losses.proofs.torn_law.ClientFetches.{AllUpTo, At, Goes, ReadsUpTo, Stays, UpTo, all_more, all_pushed_none, answered_none, ends_so, first_goes, follows_so, hands_so, last_in, last_up, loses_so, notes_clean_so, notes_gone_so, read_so, rests, says, seals_so, stays_at, steps_go, takes_back_so, then_goes}
 
 still_so : (s : Serving) → At s → Goes (last_in s) (still s)

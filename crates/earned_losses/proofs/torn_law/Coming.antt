@@ -1,6 +1,7 @@
 -- What comes to a scan of the owner's node came in the small world of its log.
 use Rattle.std.proofs.Common.{◌≡◌, ◌⊎◌, ℕ, ◌==◌, ◌&&◌, not, true, Option, Some, None, refl, sym, subst, ◌∙◌, inl, inr, arith}
 use Rattle.std.proofs.lemmas.Bool.Decides.{nat_tests}
+use Rattle.std.proofs.lemmas.Bool.{eqb-true}
 use Rattle.xfs_base.proofs.Booleans.{by_test, and_first, and_second}
 use Rattle.xfs_base.specs.declared.node.NodeId.{NodeId}
 use Rattle.xfs_base.specs.declared.segment.LogId.{LogId}
@@ -16,7 +17,6 @@ use Rattle.log_scan.specs.declared.input.In.{In as Input}
 use Rattle.log_scan.specs.declared.input.In.TheVariants as input
 use Rattle.log_scan.specs.declared.stage.Stage.{Stage}
 use Rattle.log_scan.specs.declared.stage.Stage.TheVariants.{Hails, Gathers, Asks, Reads, Over}
-use Rattle.log_tie.proofs.Names.{equal}
 use Rattle.log_tie.specs.Setting.{Setting}
 use Rattle.log_tie.specs.Shelves.{is_of_log}
 use Rattle.node_base.specs.Asking.{own_of}
@@ -49,7 +49,7 @@ own_parts a ask own =
     (λ t e. record {
       own_is = same e;
       some = not_zero a.own (and_first (not (a.own == 0)) (ask == a.ask) t);
-      ask_is = equal ask a.ask (and_second (not (a.own == 0)) (ask == a.ask) t);
+      ask_is = eqb-true ask a.ask (and_second (not (a.own == 0)) (ask == a.ask) t);
     })
     (λ t e. absurd cc)
   where
@@ -94,7 +94,7 @@ module _ (g : Setting) (w : Scene) (owner : NodeId) where
         of_registry s.asked s.scan.opening.ask m p.some answered s.scan.stage sees.asks in
         let sent : In (WelcomeSent m.inc s.scan.opening.ask m.news.slots m.news.groups) w.net.sent =
         subst (AnsweredBy g asks w.net m) r.number answered in
-        let boot : m.inc ≡ w.net.inc = equal m.inc k.owner.inc (and_first (m.inc == k.owner.inc) (fits k.maps m.news) meant) ∙ sees.inc in
+        let boot : m.inc ≡ w.net.inc = eqb-true m.inc k.owner.inc (and_first (m.inc == k.owner.inc) (fits k.maps m.news) meant) ∙ sees.inc in
         subst (λ n. In (WelcomeSent n own m.news.slots m.news.groups) w.net.sent) boot
         (subst (λ n. In (WelcomeSent m.inc n m.news.slots m.news.groups) w.net.sent) (sym r.own ∙ sym p.own_is) sent)
 
@@ -117,7 +117,7 @@ module _ (g : Setting) (w : Scene) (owner : NodeId) where
         let hears : FencedSeen g asks w.net packet.from m = subst (λ b. BodySeen g asks w.net packet.from owner b) by.bears seen in
         let says = subst (λ n. FencedSeen g asks w.net n m) by.from hears in
         let of_it : (m.log.0 == g.log.0) ≡ true = subst (λ (l : LogId). (m.log.0 == l.0) ≡ true) sees.log by.log in
-        let boot : m.pass.inc ≡ w.net.inc = equal m.pass.inc k.owner.inc by.boot ∙ sees.inc in
+        let boot : m.pass.inc ≡ w.net.inc = eqb-true m.pass.inc k.owner.inc by.boot ∙ sees.inc in
         subst (λ x. In (FencedSent server w.net.inc x held) w.net.sent) (sym same)
         (subst (λ x. In (FencedSent server w.net.inc m.generation x) w.net.sent) (sym list)
         (subst (λ n. In (FencedSent server n m.generation m.held) w.net.sent) boot (says of_it)))

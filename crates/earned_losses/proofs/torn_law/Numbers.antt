@@ -2,6 +2,7 @@
 use Rattle.std.proofs.Common.{◌≡◌, ◌⊎◌, ℕ, ◌+◌, ◌==◌, ◌<◌, ◌≤◌, true, cond, nat_lt, List, [], ◌∷◌, ap, ◌∙◌, inl, inr, arith}
 use Rattle.std.specs.List.{AllByRecursion}
 use Rattle.std.proofs.lemmas.Bool.Decides.{nat_tests}
+use Rattle.std.proofs.lemmas.Bool.{eqb-true}
 use Rattle.xfs_base.proofs.Booleans.{by_test}
 use Rattle.xfs_base.specs.declared.node.NodeId.{NodeId}
 use Rattle.xfs_base.specs.declared.node.NodeId.TheVariants.{Registry, Server}
@@ -30,9 +31,6 @@ drawn_later start k room more = grind (arith, nat_tests)
 last_rises : (k : ℕ) → k ≤ cond (nat_lt k u32_end) (k + 1) k
 last_rises k = grind (arith, nat_tests)
 
-same_number : (a b : ℕ) → (a == b) ≡ true → a ≡ b
-same_number a b e = grind (arith, nat_tests)
-
 for_more : (a : Asked) (q : Questions) (own : ℕ) → q.last ≤ (drawn_for a q own).last
 for_more a q own = by_test (λ (p : Questions). q.last ≤ p.last) (own == a.own) q (drawn q) (λ t. omega arith) (λ t. last_rises q.last)
 
@@ -44,7 +42,7 @@ module _ (start : ℕ) (room : has_room start ≡ true) (first : Asked) where
   asked_so : (a : Asked) (q : Questions) (own : ℕ) → start ≤ q.last → StaysOut start first a → StaysOut start first (asked_as a q own)
   asked_so a q own more out =
       by_test (λ (n : ℕ). StaysOut start first (record { own = own; ask = n })) (own == a.own) a.ask (next_ask q)
-      (λ t. same (same_number own a.own t) out) (λ t. inr (drawn_later start q.last room more))
+      (λ t. same (eqb-true own a.own t) out) (λ t. inr (drawn_later start q.last room more))
     where
       same : own ≡ a.own → StaysOut start first a → StaysOut start first (record { own = own; ask = a.ask })
       same e (inl fact) = inl (ap (λ (n : ℕ). record { own = n; ask = a.ask }) e ∙ fact)

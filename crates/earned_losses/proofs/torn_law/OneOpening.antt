@@ -1,6 +1,6 @@
 -- Along a run in one boot an opening stays one, what it drew stays drawn, and what is known of what it reads stays so.
-use Rattle.std.proofs.Common.{◌≡◌, ⊎_elim, ℕ, ◌≤◌, true, nat_le, List, [], Option, Some, None, refl, sym, ap, subst, ◌∙◌, inl, inr, arith}
-use Rattle.std.proofs.lemmas.Bool.Decides.{nat_tests}
+use Rattle.std.proofs.Common.{◌≡◌, ⊎_elim, ℕ, ◌≤◌, true, List, [], Option, Some, None, refl, sym, ap, subst, ◌∙◌, inl, inr, arith}
+use Rattle.std.proofs.lemmas.Bool.{le-leb, leb-true}
 use Rattle.client_log.specs.Transition as log
 use Rattle.log_law.specs.Events.{CameToScan, Happens, Runs}
 use Rattle.log_law.specs.Events.Happens.{Acts, Writes, Opens, Crashes, Restarts, Renews, Serves, Bars, Lists, Hears, Raises, Publishes, Welcomes, Drops}
@@ -32,21 +32,15 @@ use Rattle.xfs_base.specs.declared.segment.SegRef.{SegRef}
 
 -- ---- questions that are drawn
 
-at_most : (a b : ℕ) → nat_le a b ≡ true → a ≤ b
-at_most a b e = grind (arith, nat_tests)
-
-is_most : (a b : ℕ) → a ≤ b → nat_le a b ≡ true
-is_most a b e = grind (arith, nat_tests)
-
 pub asked_of : (ask : ℕ) (owner : Owner) → has_drawn ask owner ≡ true → AskedBy ask owner
 asked_of ask Down e = tt
-asked_of ask (Opening s) e = at_most ask s.opening.ask e
+asked_of ask (Opening s) e = leb-true ask s.opening.ask e
 asked_of ask (Writing chain s) e = tt
 asked_of ask (Serving s) e = tt
 
 pub drawn_of : (ask : ℕ) (owner : Owner) → is_opening owner ≡ true → AskedBy ask owner → has_drawn ask owner ≡ true
 drawn_of ask Down opens asked = opens
-drawn_of ask (Opening s) opens asked = is_most ask s.opening.ask asked
+drawn_of ask (Opening s) opens asked = le-leb ask s.opening.ask asked
 drawn_of ask (Writing chain s) opens asked = opens
 drawn_of ask (Serving s) opens asked = opens
 

@@ -7,6 +7,7 @@ use Rattle.xfs_base.specs.declared.node.NodeId.TheVariants.{Client, Manager, Ser
 use Rattle.xfs_base.specs.declared.segment.End.{End}
 use Rattle.xfs_base.specs.declared.segment.SegName.{SegName}
 use Rattle.xfs_base.specs.Steps.{steps, still}
+use Rattle.xfs_base.proofs.Alls.{all_append, all_map}
 use Rattle.group_map.specs.GroupMapState.{GroupMapState}
 use Rattle.client_log.specs.declared.input.In.{In as LogIn}
 use Rattle.client_log.specs.declared.input.In.TheVariants as log_in
@@ -41,7 +42,7 @@ use Rattle.node_base.specs.declared.questions.Questions.{Questions}
 use Rattle.node_base.specs.Known.{names_known}
 use Rattle.node_base.specs.Maps.{fits, is_older, taken}
 use Rattle.node_base.specs.Shape.{is_log}
-use Rattle.node_ties.proofs.node_tie.StoreFrames.{all_append, all_map, all_steps}
+use Rattle.node_ties.proofs.node_tie.StoreFrames.{all_steps}
 use Rattle.version_model.specs.declared.act.Act.TheVariants.{Filed}
 use Rattle.wire_msg.specs.declared.body.Body.{Body}
 use Rattle.wire_msg.specs.declared.body.Body.TheVariants as body

@@ -46,8 +46,9 @@ use Rattle.xfs_base.specs.declared.node.NodeId.TheVariants.{Server}
 use Rattle.xfs_base.specs.declared.segment.SegName.{SegName}
 use Rattle.xfs_base.specs.Segments.{pass_cmp}
 use Rattle.xfs_base.specs.Steps.{still}
+use Rattle.xfs_base.proofs.Alls.{all_append, all_weaker}
 use Rattle.node_ties.specs.node_tie.StoreEvents.{Says, AllSay}
-use Rattle.node_ties.proofs.node_tie.StoreFrames.{all_append, all_steps, all_weaker, answers_say, packets_do}
+use Rattle.node_ties.proofs.node_tie.StoreFrames.{all_steps, answers_say, packets_do}
 
 -- it says of nothing that it misses it
 abbrev NotMissing : Body → Type 0

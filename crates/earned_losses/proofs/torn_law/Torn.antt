@@ -2,7 +2,7 @@
 use Rattle.std.proofs.Common.{◌≡◌, ⊎_elim, ℕ, suc, ◌<◌, ◌==◌, true, false, List, [], ◌∷◌, ◌++◌, Option, Some, None, drop, length, is_some, slice_get, refl, sym, ap, subst, ◌∙◌, inl, inr, arith}
 use Rattle.std.specs.List.{AllByRecursion, count_by}
 use Rattle.std.specs.Prelude.{is_none}
-use Rattle.xfs_base.proofs.Booleans.{contrary}
+use Rattle.xfs_base.proofs.Booleans.{contrary, equal_itself}
 use Rattle.xfs_base.specs.declared.node.NodeId.{NodeId}
 use Rattle.xfs_base.specs.declared.node.NodeId.TheVariants as names
 use Rattle.xfs_base.specs.declared.segment.LogId.{LogId}
@@ -23,7 +23,6 @@ use Rattle.log_protocol.specs.Tables as tables
 use Rattle.log_scan.specs.declared.input.In.{In as Input}
 use Rattle.log_scan.specs.declared.stage.Stage.{Stage}
 use Rattle.log_scan.specs.ScanState.{ScanState}
-use Rattle.log_tie.proofs.Names.{itself}
 use Rattle.log_tie.specs.Setting.{Setting}
 use Rattle.log_tie.specs.Shelves.{is_of_log}
 use Rattle.loss_law.proofs.Counting.{counted_places}
@@ -125,7 +124,7 @@ module _ (base : Setting) (e : Estate AnyNode) (run : IsRun any_step any_start e
       let deletes : DeleteSeen (setting base e r) (asker_by r ((lines r is_there).scene count)) (small count) m =
       subst (λ b. BodySeen (setting base e r) (asker_by r ((lines r is_there).scene count)) (small count) packet.from packet.to b) fact seen in
       let of : is_of_log (setting base e r) m.name ≡ true =
-      ap (is_of_log (setting base e r)) same ∙ (ap (λ (l : LogId). l.0 == (setting base e r).log.0) own ∙ itself (setting base e r).log.0) in
+      ap (is_of_log (setting base e r)) same ∙ (ap (λ (l : LogId). l.0 == (setting base e r).log.0) own ∙ equal_itself (setting base e r).log.0) in
       kept (subst (λ n. tables.In n (small count).dropped) same
       ((base_at base e lines r is_there keeps count).packets (DeleteSent m.name) (deletes of)))
 

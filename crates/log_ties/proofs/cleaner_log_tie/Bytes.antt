@@ -7,6 +7,7 @@ use Rattle.std.specs.List.{AllByRecursion, concat, flat_map, range_with_len}
 use Rattle.std.proofs.lemmas.List.Elements.{All-from_recursion, recursion_from_All}
 use Rattle.std.proofs.lemmas.Nat.{xor_of_8}
 use Rattle.xfs_base.proofs.Booleans.{by_test}
+use Rattle.xfs_base.proofs.Alls.{all_take}
 use Rattle.parity_kernel.specs.Bytewise.{xor_of, times}
 use Rattle.parity_kernel.specs.Field.{doubled, product_of, product, inverse_of}
 use Rattle.segment_format.specs.declared.segment.Item.{Item}
@@ -56,11 +57,6 @@ behind (x ∷ xs) ys all = behind xs ys all.1
 before : (xs ys : List ℕ) → Bytes (xs ++ ys) → Bytes xs
 before [] ys all = tt
 before (x ∷ xs) ys all = (all.0, before xs ys all.1)
-
-take_all : {X : Type 0} (P : X → Type 0) (count : ℕ) (xs : List X) → AllByRecursion P xs → AllByRecursion P (take count xs)
-take_all P zero xs all = tt
-take_all P (suc count) [] all = tt
-take_all P (suc count) (x ∷ xs) all = (all.0, take_all P count xs all.1)
 
 each_below : (xs : List ℕ) → Bytes xs → (i : ℕ) → get_or xs i 0 < 256
 each_below [] all i = omega arith
@@ -155,8 +151,8 @@ joined_bytes : (ps : List (Option (List ℕ))) (parity len : ℕ) → AllParts p
 unfolding joined
 joined_bytes ps parity len all =
     let count : ℕ = length ps - parity in
-    let known : AllParts (take count ps) = take_all PartBytes count ps all in
-    take_all (λ (byte : ℕ). byte < 256) len (concat (filled (take count ps) (recovered ps count)))
+    let known : AllParts (take count ps) = all_take PartBytes count ps all in
+    all_take (λ (byte : ℕ). byte < 256) len (concat (filled (take count ps) (recovered ps count)))
     (concat_bytes (filled (take count ps) (recovered ps count))
     (filled_bytes (take count ps) (recovered ps count) known
     (recovered_bytes (missing_from 0 (take count ps)) (take count ps) (part_at ps count) (part_at ps (count + 1)) known (at_place ps count all)

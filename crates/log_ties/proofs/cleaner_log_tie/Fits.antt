@@ -12,6 +12,7 @@ use Rattle.xfs_base.specs.declared.segment.SegName.{SegName}
 use Rattle.xfs_base.specs.declared.segment.SegRef.{SegRef}
 use Rattle.xfs_base.specs.Limits.{u32_end}
 use Rattle.xfs_base.specs.Steps.{still}
+use Rattle.xfs_base.proofs.Alls.{all_map}
 use Rattle.segment_format.specs.declared.segment.Item.{Item}
 use Rattle.segment_format.specs.declared.segment.Item.TheVariants.{Block, Delta, Part}
 use Rattle.segment_format.specs.declared.segment.Segment.{Segment}
@@ -35,7 +36,6 @@ use Rattle.stripe_cleaner.specs.Listing.{ListingState, begun, is_among, without}
 use Rattle.stripe_cleaner.specs.Promises.{is_promised, is_above, promised_with}
 use Rattle.stripe_cleaner.specs.Transition as cleaning
 use Rattle.stripe_cleaner.specs.Transition.{Done, turned, is_greeting, welcomed, on_welcome, forgotten, forgetting, on_promise, mapped, usage_asks, listed, heard, on_list, usage_with, listed_in, counted_in, read_in, answered_in, moved_in, deleted_in, awaits, on_usage, is_heard, may_move, on_live, on_dead, transition}
-use Rattle.log_ties.proofs.node_log_tie.Lists.{all_map}
 use Rattle.log_ties.specs.client_log_tie.Texts.{PutFits}
 use Rattle.log_ties.specs.cleaner_log_tie.Fitting.{ItemFits, SegmentFits, FateFits, CheckFits, PhaseFits}
 

@@ -17,6 +17,7 @@ use Rattle.xfs_base.specs.declared.node.NodeId.{NodeId}
 use Rattle.xfs_base.specs.declared.node.NodeId.TheVariants.{Client, Manager, Server, Cleaner, Registry}
 use Rattle.xfs_base.specs.declared.segment.SegName.{SegName}
 use Rattle.xfs_base.specs.Steps.{still, saying, steps}
+use Rattle.xfs_base.proofs.Alls.{all_append, all_weaker}
 use Rattle.cleaner_emptying.specs.declared.emptying.Emptying.{Emptying}
 use Rattle.cleaner_emptying.specs.Jobs.{Done}
 use Rattle.cleaner_parts.specs.declared.job.Job.{Job}
@@ -34,7 +35,7 @@ use Rattle.log_ties.specs.node_log_tie.Sight.{Asker, Question, AskedBy, Answered
 use Rattle.log_ties.specs.node_log_tie.Sight.Question.{Unasked, OfMaps, OfOpening}
 use Rattle.log_ties.proofs.node_log_tie.Emptied.{OnlyOrdered, emptying_later, ordered_then}
 use Rattle.log_ties.proofs.node_log_tie.Going.{run_later, runs_on}
-use Rattle.log_ties.proofs.node_log_tie.Lists.{all_append, all_weaker, if_some}
+use Rattle.log_ties.proofs.node_log_tie.Lists.{if_some}
 use Rattle.log_ties.specs.client_log_tie.ClientEvents.{Grown, IsOnce}
 use Rattle.log_ties.specs.client_log_tie.Owner.{Scene}
 use Rattle.log_ties.specs.client_log_tie.Texts.{InputFits}

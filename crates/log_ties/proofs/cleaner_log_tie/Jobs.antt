@@ -10,6 +10,7 @@ use Rattle.xfs_base.specs.declared.node.NodeId.TheVariants as node
 use Rattle.xfs_base.specs.declared.segment.SegName.{SegName}
 use Rattle.xfs_base.specs.declared.segment.SegRef.{SegRef}
 use Rattle.xfs_base.specs.Steps.{still, steps}
+use Rattle.xfs_base.proofs.Alls.{all_append, all_map}
 use Rattle.segment_format.specs.declared.segment.Segment.{Segment}
 use Rattle.segment_format.specs.Ranges.{FitsRow}
 use Rattle.group_map.specs.declared.group.Group.{Group}
@@ -64,7 +65,7 @@ use Rattle.log_ties.specs.node_log_tie.Sight.Question.{OfMaps}
 use Rattle.log_ties.proofs.node_log_tie.Cleaning.{OutDrops, CleaningSent, CleanOn, cleaning_takes}
 use Rattle.log_ties.proofs.node_log_tie.Emptied.{out_later}
 use Rattle.log_ties.proofs.node_log_tie.Going.{in_after}
-use Rattle.log_ties.proofs.node_log_tie.Lists.{all_append, all_map, answers_send}
+use Rattle.log_ties.proofs.node_log_tie.Lists.{answers_send}
 use Rattle.log_ties.proofs.node_log_tie.RebuildEvents.{all_listed}
 use Rattle.log_ties.specs.client_log_tie.Owner.{Scene, Lasts}
 use Rattle.log_ties.specs.client_log_tie.Texts as texts

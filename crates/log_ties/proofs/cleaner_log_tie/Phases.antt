@@ -7,6 +7,7 @@ use Rattle.xfs_base.proofs.Booleans.{by_test, and_first, and_second, contrary}
 use Rattle.xfs_base.specs.declared.node.NodeId.TheVariants.{Cleaner as TheCleaner}
 use Rattle.xfs_base.specs.Limits.{u32_end}
 use Rattle.xfs_base.specs.Steps.{still, saying}
+use Rattle.xfs_base.proofs.Alls.{all_append, all_weaker}
 use Rattle.log_owner.specs.declared.opened.Progress.{Progress}
 use Rattle.log_owner.specs.declared.opened.Progress.TheVariants as progress
 use Rattle.log_owner.specs.declared.opening.Opening as openings
@@ -54,7 +55,7 @@ use Rattle.log_law.specs.Tails.{then_on}
 use Rattle.log_ties.specs.node_log_tie.Sight.{AskedBy, BodySeen, PacketSeen, EffectSeen}
 use Rattle.log_ties.specs.node_log_tie.Sight.Question.{OfOpening}
 use Rattle.log_ties.proofs.node_log_tie.Emptied.{OnlyOrdered, only_deleted}
-use Rattle.log_ties.proofs.node_log_tie.Lists.{all_append, all_weaker, answers_send, packets_all}
+use Rattle.log_ties.proofs.node_log_tie.Lists.{answers_send, packets_all}
 use Rattle.log_ties.specs.client_log_tie.ClientEvents.{FliesInBoot, NeverServes, ServesStraight}
 use Rattle.log_ties.specs.client_log_tie.Owner.{Scene, SeesLog}
 use Rattle.client_log.specs.LogState.{LogState}

@@ -12,6 +12,7 @@ use Rattle.xfs_base.specs.declared.segment.End.{End}
 use Rattle.xfs_base.specs.declared.segment.LogId.{LogId}
 use Rattle.xfs_base.specs.declared.segment.SegName.{SegName}
 use Rattle.xfs_base.specs.Steps.{still, saying, steps}
+use Rattle.xfs_base.proofs.Alls.{all_map}
 use Rattle.group_map.specs.GroupMapState.{GroupMapState}
 use Rattle.client_log.specs.declared.input.In.TheVariants as log_in
 use Rattle.client_log.specs.declared.output.Out.{Out as LogOut}
@@ -59,7 +60,6 @@ use Rattle.log_law.specs.Net.Packet.{StoreSent, MapSent}
 use Rattle.log_law.specs.Events.Runs.{Begun}
 use Rattle.log_ties.specs.node_log_tie.Sight.{AskedBy, BodySeen, WelcomeSeen}
 use Rattle.log_ties.specs.node_log_tie.Sight.Question.{OfMaps}
-use Rattle.log_ties.proofs.node_log_tie.Lists.{all_map}
 use Rattle.log_ties.specs.client_log_tie.Owner.{Scene}
 use Rattle.log_ties.specs.client_log_tie.Texts.{MapFits}
 use Rattle.log_ties.proofs.client_log_tie.Questions.{ask_rises, put_here, put_keeps, put_fresh}

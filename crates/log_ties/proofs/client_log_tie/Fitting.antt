@@ -1,9 +1,9 @@
 -- What a client puts fits the format of a segment, by the test that it puts by.
-use Rattle.std.proofs.Common.{◌≡◌, ◌<◌, ◌≤◌, ℕ, ◌+◌, ◌^◌, ◌&&◌, Bool, true, List, [], ◌∷◌, length, Option, Some, None, nat_lt, nat_le, cond, refl, sym, ap, subst, ◌∙◌, arith}
+use Rattle.std.proofs.Common.{◌≡◌, ◌<◌, ℕ, ◌+◌, ◌^◌, ◌&&◌, Bool, true, List, [], ◌∷◌, length, Option, Some, None, nat_lt, nat_le, cond, refl, sym, ap, subst, ◌∙◌, arith}
 use Rattle.std.specs.Prelude.{IfSome}
 use Rattle.std.specs.List.{list_all}
-use Rattle.std.proofs.lemmas.Bool.Decides.{nat_tests}
 use Rattle.std.proofs.lemmas.List.Elements.{All-nil, All-cons}
+use Rattle.std.proofs.lemmas.Bool.{leb-true, ltb-true}
 use Rattle.client_parts.specs.Fitting.{block_fits, is_byte, value_fits, put_fits}
 use Rattle.client_calls.specs.Blocks.{wrote}
 use Rattle.client_serving.specs.declared.serving.Serving.{Serving}
@@ -25,25 +25,19 @@ use Rattle.client_log.specs.declared.input.In.TheVariants.{Put}
 use Rattle.log_ties.specs.client_log_tie.Puts.{PutsOwn}
 use Rattle.log_ties.specs.client_log_tie.Texts.{PutFits}
 
-below : (n m : ℕ) → nat_lt n m ≡ true → n < m
-below n m h = grind (arith, nat_tests)
-
-up_to : (n m : ℕ) → nat_le n m ≡ true → n ≤ m
-up_to n m h = grind (arith, nat_tests)
-
 block_is_fit : (block : BlockId) → block_fits block ≡ true → FitsBlock block
 block_is_fit block h = (
-  below block.ino.0 (2 ^ 32) (and_first (nat_lt block.ino.0 (2 ^ 32)) (nat_lt block.blk (2 ^ 32)) h),
-  below block.blk (2 ^ 32) (and_second (nat_lt block.ino.0 (2 ^ 32)) (nat_lt block.blk (2 ^ 32)) h),
+  ltb-true block.ino.0 (2 ^ 32) (and_first (nat_lt block.ino.0 (2 ^ 32)) (nat_lt block.blk (2 ^ 32)) h),
+  ltb-true block.blk (2 ^ 32) (and_second (nat_lt block.ino.0 (2 ^ 32)) (nat_lt block.blk (2 ^ 32)) h),
 )
 
 length_is_fit : (n : ℕ) → is_length second_version n ≡ true → IsLength second_version n
-length_is_fit n h = (up_to 1 n (and_first (nat_le 1 n) (nat_le n max_value) h), up_to n max_value (and_second (nat_le 1 n) (nat_le n max_value) h))
+length_is_fit n h = (leb-true 1 n (and_first (nat_le 1 n) (nat_le n max_value) h), leb-true n max_value (and_second (nat_le 1 n) (nat_le n max_value) h))
 
 are_bytes : (bytes : List ℕ) → list_all is_byte bytes ≡ true → IsBytes bytes
 are_bytes [] h = All-nil (λ byte. byte < 256)
 are_bytes (b ∷ bytes) h =
-    All-cons (λ byte. byte < 256) b bytes (below b 256 (and_first (is_byte b) (list_all is_byte bytes) h))
+    All-cons (λ byte. byte < 256) b bytes (ltb-true b 256 (and_first (is_byte b) (list_all is_byte bytes) h))
     (are_bytes bytes (and_second (is_byte b) (list_all is_byte bytes) h))
 
 value_has_length : (value : Option (List ℕ)) → value_fits value ≡ true → IfSome value (λ bytes. IsLength second_version (length bytes))
@@ -71,7 +65,7 @@ entry_fits : (block : BlockId) (e : Entry) (ver : ℕ) (value : Option (List ℕ
     → nat_lt ver (2 ^ 64) ≡ true → value_fits value ≡ true → PutFits block e value
 entry_fits block e ver value fact in_range next fits =
     subst (λ (x : Entry). PutFits block x value) (sym fact) (record {
-      row = (block_is_fit block in_range, below ver (2 ^ 64) next, omega arith, tt);
+      row = (block_is_fit block in_range, ltb-true ver (2 ^ 64) next, omega arith, tt);
       length = value_has_length value fits;
       bytes = value_has_bytes value fits;
     })

@@ -3,6 +3,7 @@ use Rattle.std.proofs.Common.{◌≡◌, ◌<◌, ℕ, ◌==◌, ◌&&◌, not, 
 use Rattle.std.specs.Prelude.{IfSome}
 use Rattle.std.proofs.lemmas.Bool.Decides.{nat_tests}
 use Rattle.std.proofs.lemmas.List.Elements.{All-nil, All-cons}
+use Rattle.std.proofs.lemmas.Bool.{eqb-true}
 use Rattle.xfs_base.proofs.Booleans.{by_test, and_first, and_second}
 use Rattle.xfs_base.specs.declared.node.NodeId.{NodeId}
 use Rattle.xfs_base.specs.declared.node.NodeId.TheVariants.{Client, Manager, Server, Cleaner, Registry}
@@ -49,7 +50,6 @@ use Rattle.wire_msg.specs.declared.storage.Stored.{Stored}
 use Rattle.log_protocol.specs.Tables.{In, put}
 use Rattle.log_tie.specs.Setting.{Setting}
 use Rattle.log_tie.specs.Shelves.{is_of_log}
-use Rattle.log_tie.proofs.Names.{equal}
 use Rattle.log_law.specs.Net.{Net, Told, chain_in, first_write}
 use Rattle.log_law.specs.ReadBack.{ReadsDown}
 use Rattle.log_law.specs.Net.{Owner as owner}
@@ -249,7 +249,7 @@ module _ (g : Setting) (c : ℕ) (small : is_log g.log.0 ≡ true) (w : Scene) (
       by_test (λ (x : Went). Goes x) (is_fenced (record o { stage = stage.Scanning s }) f) (scans_on o.known q s i) (stays (at_scan o.known s) q)
       (λ t.
       let log : (f.log.0 == o.known.owner.log.0) ≡ true = and_first (f.log.0 == o.known.owner.log.0) _ t in
-      let inc : f.pass.inc ≡ w.net.inc = equal f.pass.inc o.known.owner.inc
+      let inc : f.pass.inc ≡ w.net.inc = eqb-true f.pass.inc o.known.owner.inc
       (and_first (f.pass.inc == o.known.owner.inc) (f.pass.att == 0)
       (and_second (f.log.0 == o.known.owner.log.0) ((f.pass.inc == o.known.owner.inc) && (f.pass.att == 0)) t)) ∙ h.sees.inc in
       scans_so o.known s i h.sees.owner
@@ -390,7 +390,7 @@ module _ (g : Setting) (c : ℕ) (small : is_log g.log.0 ≡ true) (w : Scene) (
 
     answered_so : m.inc ≡ w.net.inc → (not (s.asked.own == 0) && (m.ask == s.asked.ask)) ≡ true → Goes (welcomed k q s m.news s.asked.own)
     answered_so inc t =
-        let same : m.ask ≡ s.asked.ask = equal m.ask s.asked.ask (and_second (not (s.asked.own == 0)) (m.ask == s.asked.ask) t) in
+        let same : m.ask ≡ s.asked.ask = eqb-true m.ask s.asked.ask (and_second (not (s.asked.own == 0)) (m.ask == s.asked.ask) t) in
         let told : AnsweredBy g (asker c w) w.net m (w.asked s.asked.ask) = subst (λ n. AnsweredBy g (asker c w) w.net m (w.asked n)) same (seen.own refl) in
         let awaited : Awaited w.asked s.asked s.scan.opening.ask s.scan.stage =
         is_awaited g c w s.asked s.scan.opening.ask m
@@ -404,7 +404,7 @@ module _ (g : Setting) (c : ℕ) (small : is_log g.log.0 ≡ true) (w : Scene) (
     welcome_scan =
         by_test (λ (x : Went). Goes x) (is_meant k m) (welcomed_as k q s m.news (own_of s.asked m.ask)) (stays (at_scan k s) q)
         (λ t. by_test (λ x. Goes (welcomed_as k q s m.news x)) (not (s.asked.own == 0) && (m.ask == s.asked.ask)) (Some s.asked.own) None
-        (λ u. answered_so (equal m.inc k.owner.inc (and_first (m.inc == k.owner.inc) (fits k.maps m.news) t) ∙ h.sees.inc) u)
+        (λ u. answered_so (eqb-true m.inc k.owner.inc (and_first (m.inc == k.owner.inc) (fits k.maps m.news) t) ∙ h.sees.inc) u)
         (λ u. rests_so k (stage.Scanning s) h))
         (λ t. rests_so k (stage.Scanning s) h)
 

@@ -1,13 +1,13 @@
 -- A question that is drawn anew, among those that a client asked.
 use Rattle.std.proofs.Common.{◌≡◌, ◌<◌, ◌≤◌, ℕ, ◌+◌, ◌==◌, true, cond, nat_lt, refl, ap, ◌∙◌, arith}
 use Rattle.std.proofs.lemmas.Bool.Decides.{nat_tests}
+use Rattle.std.proofs.lemmas.Bool.{eqb-true}
 use Rattle.node_base.specs.Asking.{next_ask}
 use Rattle.node_base.specs.declared.questions.Questions.{Questions}
 use Rattle.node_base.specs.Room.{has_room}
-use Rattle.xfs_base.proofs.Booleans.{by_test}
+use Rattle.xfs_base.proofs.Booleans.{by_test, equal_itself}
 use Rattle.xfs_base.specs.Limits.{u32_end}
 use Rattle.log_protocol.specs.Tables.{put}
-use Rattle.log_tie.proofs.Names.{equal}
 use Rattle.log_ties.specs.node_log_tie.Sight.{Question}
 use Rattle.log_ties.specs.node_log_tie.Sight.Question.{Unasked}
 
@@ -24,21 +24,18 @@ ask_no_lower q = last_rises q.last
 pub ask_rises : (q : Questions) → has_room q.last ≡ true → q.last < next_ask q
 ask_rises q room = rises q.last room
 
-itself : (n : ℕ) → (n == n) ≡ true
-itself n = grind (arith, nat_tests)
-
 pub put_here : {X : Type 0} (f : ℕ → X) (n : ℕ) (x : X) → put f n x n ≡ x
-put_here f n x = ap (λ t. cond t x (f n)) (itself n)
+put_here f n x = ap (λ t. cond t x (f n)) (equal_itself n)
 
 module _ (f : ℕ → Question) (n : ℕ) (x : Question) where
   -- nothing was asked by the number before
   pub put_keeps : f n ≡ Unasked → (k : ℕ) → (f k ≡ Unasked → ⊥) → put f n x k ≡ f k
-  put_keeps none k some = by_test (λ y. y ≡ f k) (k == n) x (f k) (λ t. absurd (some (ap f (equal k n t) ∙ none))) (λ t. refl)
+  put_keeps none k some = by_test (λ y. y ≡ f k) (k == n) x (f k) (λ t. absurd (some (ap f (eqb-true k n t) ∙ none))) (λ t. refl)
 
   pub put_fresh : (last : ℕ) → last < n → ((k : ℕ) → last < k → f k ≡ Unasked) → (k : ℕ) → n < k → put f n x k ≡ Unasked
   put_fresh last less fresh k later =
-      by_test (λ y. y ≡ Unasked) (k == n) x (f k) (λ t. (let e = equal k n t in absurd (omega arith))) (λ t. fresh k (omega arith))
+      by_test (λ y. y ≡ Unasked) (k == n) x (f k) (λ t. (let e = eqb-true k n t in absurd (omega arith))) (λ t. fresh k (omega arith))
 
   -- and what was asked by lower numbers stays so
   pub put_below : (k : ℕ) → k < n → put f n x k ≡ f k
-  put_below k less = by_test (λ y. y ≡ f k) (k == n) x (f k) (λ t. (let e = equal k n t in absurd (omega arith))) (λ t. refl)
+  put_below k less = by_test (λ y. y ≡ f k) (k == n) x (f k) (λ t. (let e = eqb-true k n t in absurd (omega arith))) (λ t. refl)

@@ -4,6 +4,7 @@ use Rattle.std.specs.Prelude.{All, IfSome}
 use Rattle.std.specs.List.{AllByRecursion}
 use Rattle.std.proofs.lemmas.Bool.Decides.{nat_tests}
 use Rattle.std.proofs.lemmas.List.Elements.{All-nil, All-cons, All-append}
+use Rattle.std.proofs.lemmas.Bool.{eqb-true}
 use Rattle.xfs_base.specs.declared.segment.End.{End}
 use Rattle.xfs_base.specs.declared.segment.LogId.{LogId}
 use Rattle.xfs_base.specs.declared.segment.Prior.{Prior}
@@ -34,7 +35,6 @@ use Rattle.node_base.specs.Shape.{is_log}
 use Rattle.log_protocol.specs.Tables.{In, put}
 use Rattle.log_tie.specs.Seen.{log_filed}
 use Rattle.log_tie.specs.Setting.{Setting}
-use Rattle.log_tie.proofs.Names.{equal}
 use Rattle.log_law.specs.ReadBack.{ReadsDown}
 use Rattle.log_law.specs.Net.{Packet, Told, log_packets, scan_packets, chain_in, first_write, scans_on, after_told, after_scan}
 use Rattle.log_law.specs.Net.Packet.{HelloSent, FenceSent}
@@ -163,7 +163,7 @@ module _ (g : Setting) (c : ℕ) where
         by_outcome (λ b. Rests limit (record { own = own; ask = cond b a.ask (next_ask p) }) (cond b p (drawn p)))
         (own == a.own)
         (λ t. record {
-          asks = ⊎_elim (λ e. inl (equal own a.own t ∙ e)) (λ e. inr e) r.asks;
+          asks = ⊎_elim (λ e. inl (eqb-true own a.own t ∙ e)) (λ e. inr e) r.asks;
           past = small;
           number = r.number;
           more = r.more;

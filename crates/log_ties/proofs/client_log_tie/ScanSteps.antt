@@ -2,6 +2,7 @@
 use Rattle.std.proofs.Common.{◌≡◌, ◌<◌, ◌≤◌, ℕ, ◌+◌, ◌==◌, ◌&&◌, not, Bool, true, false, cond, List, [], ◌∷◌, ◌++◌, map, length, Option, Some, None, refl, sym, subst, inl, arith}
 use Rattle.std.specs.List.{AllByRecursion}
 use Rattle.std.proofs.lemmas.Bool.Decides.{nat_tests}
+use Rattle.std.proofs.lemmas.Bool.{eq-eqb}
 use Rattle.xfs_base.proofs.Booleans.{by_test, contrary}
 use Rattle.xfs_base.specs.declared.news.SlotNews.{SlotNews}
 use Rattle.xfs_base.specs.declared.segment.End.{End}
@@ -278,11 +279,8 @@ module _ (g : Setting) (c : ℕ) (w : Scene) (its life : ℕ) (k : Known) (q : Q
         (scan.welcomed (record o { groups = Some groups }) st (scan.least_horizon o.log.0 news)) (scan.stays o st)
         (λ t. welcomed_so (record o { groups = Some groups }) st (scan.least_horizon o.log.0 news) table a
         (record { groups = known; past = (let e = none in omega arith); some = some }) awaits asks)
-        (λ t. absurd (taken_so (ask == o.ask) (scan.can_ask o) (scan.awaits_welcome st) (same ask o.ask fact) can awaits t))
+        (λ t. absurd (taken_so (ask == o.ask) (scan.can_ask o) (scan.awaits_welcome st) (eq-eqb ask o.ask fact) can awaits t))
       where
-        same : (n m : ℕ) → n ≡ m → (n == m) ≡ true
-        same n m e = grind (arith, nat_tests)
-
         taken_so : (x y z : Bool) → x ≡ true → y ≡ true → z ≡ true → (x && (y && z)) ≡ false → ⊥
         taken_so true true true a b c t = contrary (sym t)
         taken_so true true false a b c t = contrary c

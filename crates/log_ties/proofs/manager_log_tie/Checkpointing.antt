@@ -31,6 +31,7 @@ use Rattle.xfs_base.specs.declared.segment.End.{End}
 use Rattle.xfs_base.specs.declared.segment.LogId.{LogId}
 use Rattle.xfs_base.specs.declared.segment.SegName.{SegName}
 use Rattle.xfs_base.specs.Steps.{Stepped, still, steps}
+use Rattle.xfs_base.proofs.Leaving.{Leaves}
 use Rattle.log_protocol.specs.Tables.{In}
 use Rattle.log_tie.specs.Seen.{log_filed}
 use Rattle.log_tie.specs.Setting.{Setting}
@@ -43,7 +44,6 @@ use Rattle.log_ties.specs.client_log_tie.Texts.{MapFits}
 use Rattle.log_ties.specs.manager_log_tie.Fitting.{PartFits, PagesFit, WriterFits}
 use Rattle.log_ties.specs.manager_log_tie.Owner.{Stands}
 use Rattle.log_ties.proofs.manager_log_tie.Frames.{AllDone, Goes, all_aside, at_once, stays, goes_on, goes_after, goes_from, goes_each}
-use Rattle.log_ties.proofs.manager_log_tie.Leaving.{Leaves}
 use Rattle.log_ties.proofs.manager_log_tie.Logs as logs
 use Rattle.log_ties.proofs.manager_log_tie.SlotPhases.{answers_aside}
 use Rattle.log_ties.proofs.manager_log_tie.Tables.{WriterInFits, begin_fits, table_cleaned, table_named}

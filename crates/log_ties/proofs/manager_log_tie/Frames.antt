@@ -13,8 +13,8 @@ use Rattle.wire_msg.specs.declared.storage.Store as stores
 use Rattle.xfs_base.specs.declared.node.NodeId.{NodeId}
 use Rattle.xfs_base.specs.declared.node.NodeId.TheVariants.{Client, Manager, Server, Cleaner, Registry}
 use Rattle.xfs_base.specs.Steps.{still, saying, steps}
+use Rattle.xfs_base.proofs.Alls.{all_append, all_weaker}
 use Rattle.log_tie.specs.Setting.{Setting}
-use Rattle.log_ties.proofs.node_log_tie.Lists.{all_append, all_weaker}
 use Rattle.log_ties.specs.node_log_tie.Sight.{AskedBy, BodySeen, StoreSeen}
 use Rattle.log_ties.specs.node_log_tie.Sight.Question.{OfMaps}
 use Rattle.log_ties.proofs.client_log_tie.Frames.{grown_still, grown_on}

@@ -15,6 +15,8 @@ use Rattle.xfs_base.specs.declared.segment.SegName.{SegName}
 use Rattle.xfs_base.specs.Segments.{pass_cmp, seg_cmp}
 use Rattle.xfs_base.specs.Stamps.{is_greater}
 use Rattle.xfs_base.specs.Steps.{Stepped, still}
+use Rattle.xfs_base.proofs.Alls.{all_append, all_filter, all_map}
+use Rattle.xfs_base.proofs.Leaving.{Leaves, goes_after, leaves_each, stays}
 use Rattle.fragment_store.specs.Calls.{barred, kept, on_fence as fenced_at, store_refused, with_fragment}
 use Rattle.fragment_store.specs.ShelfState.{ShelfState, fence_of, held_at, is_held, is_marked, same_name}
 use Rattle.group_map.specs.GroupMapState.{GroupMapState}
@@ -69,8 +71,7 @@ use Rattle.wire_msg.specs.declared.storage.Found.{Found}
 use Rattle.wire_msg.specs.declared.storage.Listed.{Listed}
 use Rattle.wire_msg.specs.declared.storage.Missing.{Missing as Absent}
 use Rattle.wire_msg.specs.declared.storage.Store.{Store}
-use Rattle.log_ties.proofs.node_log_tie.Lists.{all_append, all_map, answers_send}
-use Rattle.log_ties.proofs.manager_log_tie.Leaving.{Leaves, all_filter, goes_after, leaves_each, stays}
+use Rattle.log_ties.proofs.node_log_tie.Lists.{answers_send}
 use Rattle.log_ties.specs.manager_log_tie.Listing.{CarriesOf, ComesOf, EntryOf, FragmentOf, MetasOf, NameOf, PresentOf, ReadsOf, RebuildOf, RebuildingOf, ServerHolds, ServersListWhatWasStored, ServersStartBare, WantedOf}
 
 all_cons : {X : Type 0} (P : X → Type 0) (o : Option X) (xs : List X) → IfSome o P → AllByRecursion P xs → AllByRecursion P (cons_option o xs)

@@ -40,6 +40,7 @@ use Rattle.xfs_base.specs.declared.node.NodeId.{NodeId}
 use Rattle.xfs_base.specs.declared.node.NodeId.TheVariants as nodes
 use Rattle.xfs_base.specs.declared.segment.LogId.{LogId}
 use Rattle.xfs_base.specs.Steps.{still}
+use Rattle.xfs_base.proofs.Alls.{all_append}
 use Rattle.log_protocol.specs.Tables.{In}
 use Rattle.log_tie.specs.Setting.{Setting}
 use Rattle.log_law.specs.Net.{Net, no_end}
@@ -47,7 +48,7 @@ use Rattle.log_law.specs.Net.{Owner as owner}
 use Rattle.log_law.specs.Net.Packet.{MapSent}
 use Rattle.log_law.specs.Events.{Runs}
 use Rattle.log_law.specs.Events.Runs.{Begun, On}
-use Rattle.log_ties.proofs.node_log_tie.Lists.{all_append, packets_all}
+use Rattle.log_ties.proofs.node_log_tie.Lists.{packets_all}
 use Rattle.log_ties.specs.node_log_tie.Sight.{AllSeen, BodySeen, PacketSeen}
 use Rattle.log_ties.specs.node_log_tie.Sight.Question.{OfMaps}
 use Rattle.log_ties.proofs.client_log_tie.Frames.{grown_still, grown_on}

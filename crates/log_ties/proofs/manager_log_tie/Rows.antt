@@ -15,6 +15,7 @@ use Rattle.xfs_base.specs.declared.block.BlockId.{BlockId}
 use Rattle.xfs_base.specs.declared.entry.Entry.{Entry}
 use Rattle.xfs_base.specs.declared.entry.Place.{Place}
 use Rattle.xfs_base.specs.declared.segment.SegRef.{SegRef}
+use Rattle.xfs_base.proofs.Alls.{all_append}
 use Rattle.segment_format.specs.declared.segment.Item.{Item}
 use Rattle.segment_format.specs.declared.segment.Item.TheVariants.{Block, Delta, Part}
 use Rattle.segment_format.specs.declared.segment.Segment.{Segment}
@@ -36,7 +37,6 @@ use Rattle.takeover.specs.Rows.{is_of, part_rows, told_of}
 use Rattle.token_manager.specs.declared.output.Out.{Out}
 use Rattle.token_manager.specs.declared.output.Out.TheVariants.{Live, Dead}
 use Rattle.token_manager.specs.Transition.{is_place, found}
-use Rattle.log_ties.proofs.node_log_tie.Lists.{all_append}
 use Rattle.log_ties.specs.manager_log_tie.Fitting.{IsRowInRange, PagesFit, RowsFit, RowsInRange}
 
 -- ---- what is merged

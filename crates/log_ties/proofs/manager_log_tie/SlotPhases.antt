@@ -37,10 +37,11 @@ use Rattle.xfs_base.specs.declared.node.NodeId.{NodeId}
 use Rattle.xfs_base.specs.declared.segment.SegName.{SegName}
 use Rattle.xfs_base.specs.declared.segment.SegRef.{SegRef}
 use Rattle.xfs_base.specs.Steps.{Stepped, still}
-use Rattle.log_ties.proofs.node_log_tie.Lists.{all_append, answers_send}
+use Rattle.xfs_base.proofs.Alls.{all_append, all_filter}
+use Rattle.xfs_base.proofs.Leaving.{Leaves, leaves_each}
+use Rattle.log_ties.proofs.node_log_tie.Lists.{answers_send}
 use Rattle.log_ties.specs.manager_log_tie.Fitting.{IsRowInRange, SlotFits}
 use Rattle.log_ties.proofs.manager_log_tie.Rows.{LiveFits, placed_fits}
-use Rattle.log_ties.proofs.manager_log_tie.Leaving.{Leaves, leaves_each, all_filter}
 use Rattle.log_ties.proofs.manager_log_tie.Slots.{GrantFits, SlotInFits, slot_goes, slot_starts}
 use Rattle.log_ties.proofs.manager_log_tie.Taking.{TakeInFits, OutFits, take_goes}
 

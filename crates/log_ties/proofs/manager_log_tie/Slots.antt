@@ -23,9 +23,9 @@ use Rattle.xfs_base.specs.declared.segment.LogId.{LogId}
 use Rattle.xfs_base.specs.declared.token.Stamp.{Stamp}
 use Rattle.xfs_base.specs.Modes.{is_own}
 use Rattle.xfs_base.specs.Steps.{still, steps}
-use Rattle.log_ties.proofs.node_log_tie.Lists.{all_append}
+use Rattle.xfs_base.proofs.Alls.{all_append}
+use Rattle.xfs_base.proofs.Leaving.{Leaves, goes_after, stays}
 use Rattle.log_ties.specs.manager_log_tie.Fitting.{IsRowInRange, RowsFit, RowsInRange}
-use Rattle.log_ties.proofs.manager_log_tie.Leaving.{Leaves, goes_after, stays}
 use Rattle.log_ties.proofs.manager_log_tie.Rows.{all_indexed_fit, entry_in_range, rows_in_range}
 
 abbrev pub IndexFits : SlotState → Type 0

@@ -28,8 +28,9 @@ use Rattle.xfs_base.specs.declared.node.NodeId.{NodeId}
 use Rattle.xfs_base.specs.declared.segment.LogId.{LogId}
 use Rattle.xfs_base.specs.declared.segment.SegRef.{SegRef}
 use Rattle.xfs_base.specs.Steps.{Stepped}
+use Rattle.xfs_base.proofs.Alls.{all_each, all_read, all_put}
+use Rattle.xfs_base.proofs.Leaving.{Leaves, leaves_each}
 use Rattle.log_ties.specs.manager_log_tie.Fitting.{PagesFit, RowsInRange, SlotFits, TableFits}
-use Rattle.log_ties.proofs.manager_log_tie.Leaving.{Leaves, leaves_each, all_each, all_read, all_put}
 use Rattle.log_ties.proofs.manager_log_tie.Rows.{planned_fit}
 use Rattle.log_ties.proofs.manager_log_tie.SlotPhases.{IsAside, AllAside, PhaseGoes, AskerFits, AskerGoes, phase_takes, phase_wants, phase_checks, phase_tells_usage, asker_takes, asker_asks, asker_reports, asker_hears, cleaned_fits, named_fits}
 use Rattle.log_ties.proofs.manager_log_tie.Taking.{TakeInFits}

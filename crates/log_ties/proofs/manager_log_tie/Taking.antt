@@ -29,11 +29,11 @@ use Rattle.xfs_base.proofs.Booleans.{by_test}
 use Rattle.xfs_base.specs.declared.node.NodeId.{NodeId}
 use Rattle.xfs_base.specs.declared.segment.SegName.{SegName}
 use Rattle.xfs_base.specs.Steps.{still}
-use Rattle.log_ties.proofs.node_log_tie.Lists.{all_append, all_map}
+use Rattle.xfs_base.proofs.Alls.{all_append, all_map}
+use Rattle.xfs_base.proofs.Leaving.{Leaves}
 use Rattle.log_ties.specs.cleaner_log_tie.Fitting.{ToldFits, RoundFits}
 use Rattle.log_ties.specs.manager_log_tie.Fitting.{RowsFit, PagesFit, PresentFits, TakeFits}
 use Rattle.log_ties.proofs.cleaner_log_tie.Bytes.{NextFits, StepFits, answered_fits, confirmed_fits}
-use Rattle.log_ties.proofs.manager_log_tie.Leaving.{Leaves}
 use Rattle.log_ties.proofs.manager_log_tie.Rows.{all_joined_fit, told_fit}
 
 -- the index of a slot that is handed out fits

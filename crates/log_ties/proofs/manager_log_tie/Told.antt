@@ -5,6 +5,7 @@ use Rattle.std.specs.List.{AllByRecursion}
 use Rattle.std.proofs.lemmas.List.Elements.{All-from_recursion, recursion_from_All}
 use Rattle.xfs_base.proofs.Booleans.{by_test}
 use Rattle.xfs_base.specs.declared.fragment.Fragment.{Fragment}
+use Rattle.xfs_base.proofs.Alls.{all_append}
 use Rattle.segment_format.specs.declared.segment.Segment.{Segment}
 use Rattle.segment_format.specs.Text.{text_of}
 use Rattle.group_map.specs.GroupMapState.{GroupMapState}
@@ -23,7 +24,6 @@ use Rattle.log_law.specs.Events.{IsWritten, WritesText, StartsWith, Happens, Run
 use Rattle.log_law.specs.Events.Happens.{Acts, Writes, Opens, Crashes, Restarts, Renews, Serves, Bars, Lists, Hears, Raises, Publishes, Welcomes, Drops}
 use Rattle.log_law.specs.Events.Runs.{Begun, On}
 use Rattle.log_law.specs.Laws.{OneText, OneNameOneText}
-use Rattle.log_ties.proofs.node_log_tie.Lists.{all_append}
 use Rattle.log_ties.specs.manager_log_tie.Told.{WhatIsToldIsInRange}
 use Rattle.log_ties.proofs.cleaner_log_tie.Bytes.{Bytes, xor_bytes, times_bytes}
 

@@ -3,6 +3,7 @@ use Rattle.std.proofs.Common.{◌≡◌, ◌≢◌, ℕ, ◌-◌, ◌==◌, ◌<
 use Rattle.std.specs.Prelude.{nat_le, nat_lt}
 use Rattle.std.proofs.lemmas.Bool.Decides.{nat_tests}
 use Rattle.std.proofs.lemmas.List.{get_or-set_same, get_or-set_other}
+use Rattle.std.proofs.lemmas.Bool.{eqb-true}
 use Rattle.xfs_base.proofs.Booleans.{by_test, and_second}
 use Rattle.xfs_base.specs.declared.node.NodeId.TheVariants.{Client, Manager, Server, Cleaner, Registry}
 use Rattle.xfs_base.specs.declared.segment.SegRef.{SegRef}
@@ -21,7 +22,6 @@ use Rattle.registry.specs.Slots.{entry_of}
 use Rattle.registry.proofs.Losses.{loss_exists, loss_newer, loss_kept, loss_heard}
 use Rattle.log_protocol.specs.Tables.{put}
 use Rattle.log_tie.specs.Setting.{Setting}
-use Rattle.log_tie.proofs.Names.{equal}
 use Rattle.log_law.specs.Net.{Net}
 use Rattle.log_law.specs.Events.{Runs}
 use Rattle.log_law.specs.Events.Happens.{Hears, Raises}
@@ -83,7 +83,7 @@ module _ (g : Setting) (owner : Asker) (n : Net) (b : BoardState) (before : Regi
     known_then : (u : ℕ) → has_server b.groups u ≡ true → put n.registry v generation u ≡ generation_at (generations_after b.groups.generations v generation) u
     known_then u has =
         by_test (λ k. k ≡ generation_at (generations_after b.groups.generations v generation) u) (u == v) generation (n.registry u)
-        (λ t. sym (ap (λ w. generation_at (generations_after b.groups.generations v generation) w) (equal u v t)
+        (λ t. sym (ap (λ w. generation_at (generations_after b.groups.generations v generation) w) (eqb-true u v t)
         ∙ get_or-set_same b.groups.generations (v - 1) generation 0 (let l = before.map.each_server in let e = exists.0 in let f = exists.1 in omega arith)))
         (λ t. before.known u has
         ∙ sym (get_or-set_other b.groups.generations (v - 1) (u - 1) generation 0

@@ -2,6 +2,7 @@
 use Rattle.std.proofs.Common.{◌≡◌, ◌⊎◌, ⊎_elim, ℕ, Bool, true, false, List, [], ◌∷◌, Option, Some, None, refl, sym, ap, ◌∙◌, inl, inr, arith}
 use Rattle.std.specs.Prelude.{IfSome}
 use Rattle.std.specs.List.{AllByRecursion, flat_map}
+use Rattle.std.proofs.lemmas.Bool.{eqb-true}
 use Rattle.xfs_base.proofs.Booleans.{by_test, contrary}
 use Rattle.xfs_base.specs.declared.block.BlockId.{BlockId}
 use Rattle.xfs_base.specs.declared.entry.Entry.{Entry}
@@ -10,6 +11,7 @@ use Rattle.xfs_base.specs.declared.node.NodeId.TheVariants.{Cleaner, Server}
 use Rattle.xfs_base.specs.declared.segment.SegName.{SegName}
 use Rattle.xfs_base.specs.declared.segment.SegRef.{SegRef}
 use Rattle.xfs_base.specs.Steps.{still, steps}
+use Rattle.xfs_base.proofs.Alls.{all_append, all_map}
 use Rattle.segment_format.specs.declared.segment.Segment.{Segment}
 use Rattle.group_map.specs.GroupMapState.{GroupMapState}
 use Rattle.client_log.specs.declared.input.In.{In as LogIn}
@@ -48,7 +50,6 @@ use Rattle.cleaner_parts.specs.Starting.{cleaner_log}
 use Rattle.log_protocol.specs.Tables.{In}
 use Rattle.log_tie.specs.Setting.{Setting}
 use Rattle.log_tie.specs.Shelves.{is_of_log}
-use Rattle.log_tie.proofs.Names.{equal}
 use Rattle.log_law.specs.Net.{Net}
 use Rattle.log_law.specs.Net.Packet.{DeleteSent}
 use Rattle.log_law.specs.Events.Happens.{Drops}
@@ -58,7 +59,7 @@ use Rattle.log_ties.specs.node_log_tie.CleanerEvents.{DropOfLog, JobSeen, Emptyi
 use Rattle.log_ties.proofs.node_log_tie.Cleaning.{OutDrops, CleaningSent, CleanOn, cleaning_takes}
 use Rattle.log_ties.proofs.node_log_tie.Emptied.{out_later, emptying_later, not_ours, CleanerDoes, Dropping, no_drop, Emptied, at_once, stays, and_then, all_steps}
 use Rattle.log_ties.proofs.node_log_tie.Going.{in_after, run_later}
-use Rattle.log_ties.proofs.node_log_tie.Lists.{all_append, all_map, answers_send}
+use Rattle.log_ties.proofs.node_log_tie.Lists.{answers_send}
 use Rattle.log_ties.proofs.node_log_tie.OwnLogs.{SendsOwn, OwnDone, own_log}
 use Rattle.log_ties.proofs.node_log_tie.RebuildEvents.{all_listed}
 
@@ -176,7 +177,7 @@ module _ (g : Setting) (owner : Asker) (other : g.log ≡ cleaner_log → ⊥) (
               runs = On Begun (Drops m.lists m.meta m.sent m.among (let e = ap (λ (s : SegName). s.seq) m.named in let b = m.below in omega arith));
               dropped = λ x fact. inr fact;
               rest = refl;
-              none = λ high. (let same : name.log.0 ≡ g.log.0 = equal name.log.0 g.log.0 own in let some = m.cleaned in absurd (omega arith));
+              none = λ high. (let same : name.log.0 ≡ g.log.0 = eqb-true name.log.0 g.log.0 own in let some = m.cleaned in absurd (omega arith));
             };
             said = λ its. inl (ap DeleteSent (sym m.named));
             acted = λ its. inl (sym m.named);

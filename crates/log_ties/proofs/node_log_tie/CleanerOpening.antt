@@ -1,11 +1,13 @@
 -- A cleaner that opens its own log has no part in a client's log.
 use Rattle.std.proofs.Common.{◌≡◌, ℕ, ◌&&◌, List, [], ◌∷◌, Option, Some, None, sym, ◌∙◌}
 use Rattle.std.specs.List.{AllByRecursion}
+use Rattle.std.proofs.lemmas.Bool.{eqb-true}
 use Rattle.xfs_base.proofs.Booleans.{by_test}
 use Rattle.xfs_base.specs.declared.node.NodeId.{NodeId}
 use Rattle.xfs_base.specs.declared.node.NodeId.TheVariants.{Cleaner}
 use Rattle.xfs_base.specs.declared.segment.End.{End}
 use Rattle.xfs_base.specs.Steps.{steps, still}
+use Rattle.xfs_base.proofs.Alls.{all_append, all_map}
 use Rattle.segment_format.specs.declared.segment.Segment.{Segment}
 use Rattle.group_map.specs.GroupMapState.{GroupMapState}
 use Rattle.client_log.specs.declared.input.In.{In as LogIn}
@@ -49,12 +51,10 @@ use Rattle.wire_msg.specs.declared.storage.Missing.{Missing}
 use Rattle.wire_msg.specs.declared.storage.Stored.{Stored}
 use Rattle.cleaner_parts.specs.Starting.{cleaner_log}
 use Rattle.log_tie.specs.Setting.{Setting}
-use Rattle.log_tie.proofs.Names.{equal}
 use Rattle.log_law.specs.Net.{Net}
 use Rattle.log_ties.specs.node_log_tie.Sight.{Asker}
 use Rattle.log_ties.specs.node_log_tie.CleanerEvents.{IsOfLog, StageSeen, OpeningSeen}
 use Rattle.log_ties.proofs.node_log_tie.Emptied.{not_ours, CleanerDoes}
-use Rattle.log_ties.proofs.node_log_tie.Lists.{all_append, all_map}
 use Rattle.log_ties.proofs.node_log_tie.OwnLogs.{SendsOwn, OwnDone, own_log}
 
 -- an opening that goes on is the cleaner's, and so is a log that is open
@@ -92,7 +92,7 @@ module _ (g : Setting) (owner : Asker) (other : g.log ≡ cleaner_log → ⊥) (
   one_said : (its : Owner) (low : ℕ) → its.log ≡ cleaner_log → (s : _) (o : Out) → Does_all (said its low s o).outs
   unfolding said
   one_said its low fact s (out.Hello own) = (record { own = λ e. absurd (away (sym e)); reached = tt }, tt)
-  one_said its low fact s (out.Fence server) = (λ e. absurd (other ((λ i. record { 0 = sym (equal its.log.0 g.log.0 e) i }) ∙ fact)), tt)
+  one_said its low fact s (out.Fence server) = (λ e. absurd (other ((λ i. record { 0 = sym (eqb-true its.log.0 g.log.0 e) i }) ∙ fact)), tt)
   one_said its low fact s (out.Fetch server name own) = (tt, tt)
   one_said its low fact s (out.Chain segments end prior) = tt
   one_said its low fact s (out.Lost name) = tt

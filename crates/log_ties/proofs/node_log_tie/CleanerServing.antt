@@ -11,6 +11,7 @@ use Rattle.xfs_base.specs.declared.node.NodeId.{NodeId}
 use Rattle.xfs_base.specs.declared.node.NodeId.TheVariants as node
 use Rattle.xfs_base.specs.declared.segment.End.{End}
 use Rattle.xfs_base.specs.Steps.{still, saying}
+use Rattle.xfs_base.proofs.Alls.{all_map}
 use Rattle.group_map.specs.GroupMapState.{GroupMapState}
 use Rattle.client_log.specs.declared.input.In.{In as LogIn}
 use Rattle.client_log.specs.declared.input.In.TheVariants as log_in
@@ -49,7 +50,6 @@ use Rattle.log_ties.specs.node_log_tie.CleanerEvents.{JobSeen, EmptyingSeen}
 use Rattle.log_ties.proofs.node_log_tie.CleanerJobs.{job_goes_on, list_came, usage_came, live_came, dead_came, deleted_came, told_came}
 use Rattle.log_ties.proofs.node_log_tie.Emptied.{not_ours, CleanerDoes, Emptied, at_once, stays, and_then, after_these, all_steps}
 use Rattle.log_ties.proofs.node_log_tie.Going.{run_later}
-use Rattle.log_ties.proofs.node_log_tie.Lists.{all_map}
 use Rattle.log_ties.proofs.node_log_tie.OwnLogs.{SendsOwn, OwnDone, own_log}
 
 module _ (g : Setting) (owner : Asker) (other : g.log ≡ cleaner_log → ⊥) (away : owner.node ≡ node.Cleaner → ⊥) where

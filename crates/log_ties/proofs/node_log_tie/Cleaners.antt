@@ -6,6 +6,7 @@ use Rattle.xfs_base.proofs.Booleans.{by_test}
 use Rattle.xfs_base.specs.declared.node.NodeId.TheVariants.{Cleaner as TheCleaner}
 use Rattle.xfs_base.specs.declared.setup.Setup.{Setup}
 use Rattle.xfs_base.specs.Steps.{still}
+use Rattle.xfs_base.proofs.Alls.{all_append}
 use Rattle.log_owner.specs.declared.opened.Progress.{Progress}
 use Rattle.log_owner.specs.declared.opened.Progress.TheVariants as progress
 use Rattle.log_owner.specs.declared.opening.Opening as openings
@@ -40,7 +41,7 @@ use Rattle.log_ties.proofs.node_log_tie.CleanerOpening.{ProgressSeen, WentOn, ti
 use Rattle.log_ties.proofs.node_log_tie.CleanerServing.{deltas_pushed, cleaning_wished, packet_heard, time_passes}
 use Rattle.log_ties.proofs.node_log_tie.Emptied.{CleanerDoes, Dropping, no_drop, Emptied, OnlyOrdered, ordered_then, only_deleted, all_does_later, all_own, as_seen, all_acts}
 use Rattle.log_ties.specs.node_log_tie.CleanerStores.{StoresItsOwn}
-use Rattle.log_ties.proofs.node_log_tie.Lists.{all_append, answers_send, packets_all}
+use Rattle.log_ties.proofs.node_log_tie.Lists.{answers_send, packets_all}
 
 module _ (g : Setting) (owner : Asker) (other : g.log ≡ cleaner_log → ⊥) (away : owner.node ≡ TheCleaner → ⊥) (n : Net) where
   -- The cleaner goes on, and so does the small world, by drops alone.

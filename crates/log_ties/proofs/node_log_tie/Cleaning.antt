@@ -7,6 +7,7 @@ use Rattle.std.specs.declared.cmp.Ordering.TheVariants.{Less, Equal, Greater}
 use Rattle.std.specs.List.{AllByRecursion, cons_option}
 use Rattle.std.specs.Ordering.{match_ordering}
 use Rattle.std.proofs.lemmas.Bool.Decides.{nat_tests}
+use Rattle.std.proofs.lemmas.Bool.{eqb-true}
 use Rattle.xfs_base.proofs.Booleans.{by_test, and_first, and_second}
 use Rattle.xfs_base.specs.declared.fragment.FragMeta.{FragMeta}
 use Rattle.xfs_base.specs.declared.news.SlotNews.{SlotNews}
@@ -15,6 +16,7 @@ use Rattle.xfs_base.specs.declared.segment.SegRef.{SegRef}
 use Rattle.xfs_base.specs.Limits.{u32_end}
 use Rattle.xfs_base.specs.Segments.{seg_cmp}
 use Rattle.xfs_base.specs.Steps.{still}
+use Rattle.xfs_base.proofs.Alls.{all_take, all_map}
 use Rattle.segment_format.specs.declared.segment.Segment.{Segment}
 use Rattle.group_map.specs.GroupMapState.{GroupMapState}
 use Rattle.stripe_cleaner.specs.Candidates.{horizon_at, least_horizon, is_cleaned, is_candidate, candidates_with_one, candidates_with}
@@ -38,11 +40,9 @@ use Rattle.stripe_cleaner.specs.Transition.{Done, turned, lists, usage_asks, is_
 use Rattle.log_scan.specs.Transition as scan
 use Rattle.log_scan.specs.Transition.{horizon_of}
 use Rattle.log_tie.specs.Setting.{Setting}
-use Rattle.log_tie.proofs.Names.{equal}
 use Rattle.log_law.specs.Net.{Net}
 use Rattle.log_ties.specs.node_log_tie.CleanerEvents.{DropOfLog, AllDrop, Candidates, JobPhaseSeen}
 use Rattle.log_ties.specs.node_log_tie.ServerEvents.{ListedOfLog}
-use Rattle.log_ties.proofs.node_log_tie.Lists.{all_map}
 
 -- ---- horizons
 
@@ -76,11 +76,6 @@ module _ {K V : Type 0} (P : K × V → Type 0) where
         | Equal ↦ (keep e.0 e.1 all.0, all.1)
         | Greater ↦ (all.0, all_put cmp es k v here keep all.1)
       ]
-
-all_take : {X : Type 0} (P : X → Type 0) (count : ℕ) (xs : List X) → AllByRecursion P xs → AllByRecursion P (take count xs)
-all_take P zero xs all = tt
-all_take P (suc count) [] all = tt
-all_take P (suc count) (x ∷ xs) all = (all.0, all_take P count xs all.1)
 
 module _ (g : Setting) (n : Net) where
   -- what a job deletes of the log may be dropped
@@ -155,7 +150,7 @@ module _ (g : Setting) (n : Net) where
       → is_candidate slots meta.name ≡ true → DropOfLog g n meta.name
   candidate_seen slots low meta was fact own =
       let at = was own in
-      let log : meta.name.log.0 ≡ g.log.0 = equal meta.name.log.0 g.log.0 own in
+      let log : meta.name.log.0 ≡ g.log.0 = eqb-true meta.name.log.0 g.log.0 own in
       let less : nat_lt meta.name.seq (least_horizon slots meta.name.log.0) ≡ true =
       and_second (is_cleaned meta.name.log.0) (nat_lt meta.name.seq (least_horizon slots meta.name.log.0)) fact in
       let below : meta.name.seq < least_horizon slots meta.name.log.0 = grind (arith, nat_tests) in

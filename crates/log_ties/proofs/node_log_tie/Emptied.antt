@@ -3,11 +3,13 @@ use Rattle.std.proofs.Common.{◌≡◌, ◌<◌, ◌⊎◌, ⊎_elim, ℕ, true
 use Rattle.std.specs.Prelude.{All}
 use Rattle.std.specs.List.{AllByRecursion}
 use Rattle.std.proofs.lemmas.List.Elements.{All-nil, All-cons, All-append}
+use Rattle.std.proofs.lemmas.Bool.{eqb-true}
 use Rattle.xfs_base.specs.declared.node.NodeId.{NodeId}
 use Rattle.xfs_base.specs.declared.node.NodeId.TheVariants.{Cleaner}
 use Rattle.xfs_base.specs.declared.segment.SegName.{SegName}
 use Rattle.xfs_base.specs.declared.segment.SegRef.{SegRef}
 use Rattle.xfs_base.specs.Steps.{still, saying, steps}
+use Rattle.xfs_base.proofs.Alls.{all_append, all_weaker}
 use Rattle.node_base.specs.declared.effects.Effect.{Effect}
 use Rattle.node_base.specs.declared.effects.Effect.TheVariants.{Send, Answer, Lose, Does}
 use Rattle.node_base.specs.Effects.{act_of, acts_of, packet_of, packets_of}
@@ -27,7 +29,6 @@ use Rattle.cleaner_parts.specs.Starting.{cleaner_log}
 use Rattle.log_protocol.specs.Tables.{In}
 use Rattle.log_tie.specs.Setting.{Setting}
 use Rattle.log_tie.specs.Shelves.{is_of_log}
-use Rattle.log_tie.proofs.Names.{equal}
 use Rattle.log_law.specs.Net.{Net}
 use Rattle.log_law.specs.Events.{Runs}
 use Rattle.log_law.specs.Events.Runs.{Begun}
@@ -35,7 +36,7 @@ use Rattle.log_ties.specs.node_log_tie.Sight.{Asker, BodySeen, EffectSeen, Later
 use Rattle.log_ties.specs.node_log_tie.CleanerEvents.{DropOfLog, AllDrop, Candidates, JobPhaseSeen, JobSeen, EmptyingSeen, DropActed, OnlyDeleted, all_but_drops}
 use Rattle.log_ties.proofs.node_log_tie.Cleaning.{OutDrops}
 use Rattle.log_ties.proofs.node_log_tie.Going.{in_after, in_before, run_later, runs_on}
-use Rattle.log_ties.proofs.node_log_tie.Lists.{all_append, all_weaker, if_some, packets_all}
+use Rattle.log_ties.proofs.node_log_tie.Lists.{if_some, packets_all}
 use Rattle.log_ties.specs.node_log_tie.CleanerStores.{StoresItsOwn}
 use Rattle.log_ties.proofs.node_log_tie.Sights.{seen_later}
 
@@ -80,7 +81,7 @@ module _ (g : Setting) (n next : Net) (later : Later n next) where
 
 -- a name of the cleaner's log is none of another log
 pub not_ours : (g : Setting) → (g.log ≡ cleaner_log → ⊥) → (name : SegName) → name.log ≡ cleaner_log → is_of_log g name ≡ true → ⊥
-not_ours g other name its own = let same : name.log.0 ≡ g.log.0 = equal name.log.0 g.log.0 own in other ((λ i. record { 0 = sym same i }) ∙ its)
+not_ours g other name its own = let same : name.log.0 ≡ g.log.0 = eqb-true name.log.0 g.log.0 own in other ((λ i. record { 0 = sym same i }) ∙ its)
 
 module _ (g : Setting) (owner : Asker) where
   -- what the cleaner says is seen, and what it stores is of its own log

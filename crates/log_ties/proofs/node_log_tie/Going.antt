@@ -1,5 +1,6 @@
 -- Each run of the small world goes on: what was sent stays sent, and no generation and no horizon falls.
 use Rattle.std.proofs.Common.{◌≡◌, ℕ, ◌==◌, ◌≤◌, ◌<◌, List, [], ◌∷◌, ◌++◌, Option, Some, None, refl, sym, ap, subst, inl, inr, arith}
+use Rattle.std.proofs.lemmas.Bool.{eqb-true}
 use Rattle.xfs_base.proofs.Booleans.{by_test}
 use Rattle.xfs_base.specs.declared.fragment.Fragment.{Fragment}
 use Rattle.xfs_base.specs.declared.segment.LogId.{LogId}
@@ -19,7 +20,6 @@ use Rattle.log_protocol.specs.Tables.{put, In}
 use Rattle.log_tie.specs.Setting.{Setting}
 use Rattle.log_tie.specs.Shelves.{is_stored, Deed, shelf_after}
 use Rattle.log_tie.specs.Shelves.Deed.{Stores, Fetches, Fences, Deletes, Fills, Loses}
-use Rattle.log_tie.proofs.Names.{equal}
 use Rattle.log_law.specs.Net.{Net, Packet, Told, log_packets, scan_packets, chain_in, first_write, answers, after_flight, after_told}
 use Rattle.log_law.specs.Events.{CameToServer, Happens, Runs}
 use Rattle.log_law.specs.Events.Happens.{Acts, Writes, Opens, Crashes, Restarts, Renews, Serves, Bars, Lists, Hears, Raises, Publishes, Welcomes, Drops}
@@ -40,7 +40,7 @@ in_before (y ∷ xs) ys x (inr fact) = inr (in_before xs ys x fact)
 
 -- what holds of the new entry, and of the old ones, holds of each
 pub put_each : {X : Type 0} (P : ℕ → X → Type 0) (f : ℕ → X) (a : ℕ) (y : X) → P a y → ((u : ℕ) → P u (f u)) → (u : ℕ) → P u (put f a y u)
-put_each P f a y new old u = by_test (P u) (u == a) y (f u) (λ t. subst (λ b. P b y) (sym (equal u a t)) new) (λ t. old u)
+put_each P f a y new old u = by_test (P u) (u == a) y (f u) (λ t. subst (λ b. P b y) (sym (eqb-true u a t)) new) (λ t. old u)
 
 -- ---- a shelf
 

@@ -4,6 +4,7 @@ use Rattle.std.specs.Prelude.{slice_index, slice_set, unwrap_or}
 use Rattle.std.specs.List.{AllByRecursion}
 use Rattle.std.proofs.lemmas.Grind.{get_or_default_zero}
 use Rattle.std.proofs.lemmas.Option.{unwrap_or-slice_get}
+use Rattle.std.proofs.lemmas.Bool.{eqb-true}
 use Rattle.xfs_base.proofs.Booleans.{and_first, contrary}
 use Rattle.registry.specs.Board.{slot_news, transition}
 use Rattle.registry.specs.BoardState.{BoardState}
@@ -13,7 +14,6 @@ use Rattle.registry.specs.declared.input.In.{In}
 use Rattle.registry.specs.Slots.{all_slots}
 use Rattle.registry.proofs.Later.{later_all}
 use Rattle.log_scan.specs.Transition.{horizon_of, least_horizon}
-use Rattle.log_tie.proofs.Names.{equal}
 
 -- each slot has nine numbers
 abbrev pub HasHorizons : BoardState → Type 0
@@ -31,7 +31,7 @@ set_nine (x ∷ xs) (suc at) (suc slot) c new old = set_nine xs at slot c new ol
 
 covered_nine : (cs : List Checkpoint) (slot : ℕ) (horizon : List ℕ) → covers_kept cs slot horizon ≡ true → length horizon ≡ 9
 covered_nine [] slot horizon h = contrary h
-covered_nine (c ∷ cs) zero horizon h = equal (length horizon) 9 (and_first (length horizon == 9) (none_lower c.horizon horizon) h)
+covered_nine (c ∷ cs) zero horizon h = eqb-true (length horizon) 9 (and_first (length horizon == 9) (none_lower c.horizon horizon) h)
 covered_nine (c ∷ cs) (suc slot) horizon h = covered_nine cs slot horizon h
 
 pub kept_nine : (cs : List Checkpoint) (at : ℕ) (c : Checkpoint) → covers_kept cs at c.horizon ≡ true

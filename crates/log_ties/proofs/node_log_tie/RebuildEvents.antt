@@ -10,6 +10,7 @@ use Rattle.xfs_base.specs.declared.fragment.FragMeta.{FragMeta}
 use Rattle.xfs_base.specs.declared.segment.SegName.{SegName}
 use Rattle.xfs_base.specs.Segments.{seg_cmp}
 use Rattle.xfs_base.specs.Steps.{Stepped, still}
+use Rattle.xfs_base.proofs.Alls.{all_map, all_weaker}
 use Rattle.stripe_code.specs.declared.round.Told.{Told}
 use Rattle.stripe_code.specs.declared.round.Told.TheVariants.{Held, Missing}
 use Rattle.stripe_code.specs.Round.{unanswered}
@@ -29,7 +30,7 @@ use Rattle.log_law.specs.Net.{Net}
 use Rattle.log_law.specs.Net.Packet.{ListedSent}
 use Rattle.log_ties.specs.node_log_tie.Sight.{Later}
 use Rattle.log_ties.specs.node_log_tie.ServerEvents.{NamesStripes, ListedOfLog, WantedSeen, ReadsSeen, RebuildSeen}
-use Rattle.log_ties.proofs.node_log_tie.Lists.{all_map, all_weaker, all_insert, all_remove, if_some, in_filter}
+use Rattle.log_ties.proofs.node_log_tie.Lists.{all_insert, all_remove, if_some, in_filter}
 use Rattle.log_ties.proofs.node_log_tie.Rebuilding.{listed_later, reads_later, all_wanted, OutSeen, ReadOn, goes_on_seen, TellsSent, answer_seen}
 
 abbrev Entry : Type 0

@@ -5,11 +5,13 @@ use Rattle.std.specs.List.{AllByRecursion, cons_option}
 use Rattle.std.proofs.lemmas.List.Elements.{All-nil}
 use Rattle.std.proofs.lemmas.List.Quantifiers.{position-Some}
 use Rattle.std.proofs.lemmas.Option.{unwrap_or-slice_get}
+use Rattle.std.proofs.lemmas.Bool.{eqb-true}
 use Rattle.xfs_base.proofs.Booleans.{by_test, and_first, and_second}
 use Rattle.xfs_base.specs.declared.fragment.FragMeta.{FragMeta}
 use Rattle.xfs_base.specs.declared.fragment.Fragment.{Fragment}
 use Rattle.xfs_base.specs.declared.segment.SegName.{SegName}
 use Rattle.xfs_base.specs.Steps.{Stepped, still}
+use Rattle.xfs_base.proofs.Alls.{all_map, all_weaker}
 use Rattle.group_map.specs.declared.group.Group.{Group}
 use Rattle.group_map.specs.declared.group.Member.{Member}
 use Rattle.group_map.specs.GroupMapState.{GroupMapState}
@@ -34,13 +36,12 @@ use Rattle.group_rebuild.specs.Wanted.{in_group, of_group, wanted_of, wanted_in,
 use Rattle.log_protocol.specs.Tables.{In}
 use Rattle.log_tie.specs.Setting.{Setting, server_of, Stripe, stripe_of_group}
 use Rattle.log_tie.specs.Shelves.{is_of_log}
-use Rattle.log_tie.proofs.Names.{equal}
 use Rattle.log_law.specs.Net.{Net}
 use Rattle.log_law.specs.Net.Packet.{FragmentSent}
 use Rattle.log_law.specs.Events.{ToldCame, AllCame, IsFilling}
 use Rattle.log_ties.specs.node_log_tie.Sight.{Later}
 use Rattle.log_ties.specs.node_log_tie.ServerEvents.{NamesStripes, ListedOfLog, WantedSeen, RoundSeen, PresentSeen, ReadsSeen}
-use Rattle.log_ties.proofs.node_log_tie.Lists.{all_map, all_weaker, if_some}
+use Rattle.log_ties.proofs.node_log_tie.Lists.{if_some}
 
 -- ---- while the small world goes on
 
@@ -96,7 +97,7 @@ module _ (g : Setting) (n next : Net) (later : Later n next) where
 module _ (g : Setting) (n : Net) (v : ℕ) where
   at_place : (members : List Member) (place : ℕ) → position (λ (m : Member). m.server == v) members ≡ Some place
       → (place < length members) × (server_of members place ≡ v)
-  at_place members place fact = let p = position-Some (λ (m : Member). m.server == v) members place no_member fact in (p.0, equal _ v p.1)
+  at_place members place fact = let p = position-Some (λ (m : Member). m.server == v) members place no_member fact in (p.0, eqb-true _ v p.1)
 
   wanted_at : (group : Group) (meta : FragMeta) (place : Option ℕ) → g.stripe meta.group ≡ stripe_of_group group → IsCut (length group.members) group.parity
       → ListedOfLog g n meta

@@ -9,6 +9,7 @@ use Rattle.xfs_base.specs.declared.node.NodeId.TheVariants.{Registry}
 use Rattle.xfs_base.specs.declared.setup.Setup.{Setup}
 use Rattle.xfs_base.specs.Limits.{u32_end}
 use Rattle.xfs_base.specs.Steps.{still}
+use Rattle.xfs_base.proofs.Alls.{all_append, all_flat_map, all_map}
 use Rattle.group_map.proofs.WellFormedMaps.{IsGroupMap-started}
 use Rattle.registry.specs.Board.{transition, all_news}
 use Rattle.registry.specs.BoardState.{BoardState}
@@ -47,7 +48,7 @@ use Rattle.log_ties.specs.node_log_tie.Sight.{Asker, Question, AskedBy, Answered
 use Rattle.log_ties.specs.node_log_tie.RegistryEvents.{NamesGroups, RegistrySeen, Hears, all_but_known, RegistryGoes, RegistryEventGoes, RegistryGoesAbove}
 use Rattle.log_ties.proofs.node_log_tie.Boards.{MayKeep, MadeSeen, board_goes}
 use Rattle.log_ties.proofs.node_log_tie.Going.{run_later}
-use Rattle.log_ties.proofs.node_log_tie.Lists.{all_append, all_map, all_flat_map, packets_all}
+use Rattle.log_ties.proofs.node_log_tie.Lists.{packets_all}
 use Rattle.log_ties.proofs.node_log_tie.Others.{same_or_other}
 use Rattle.log_ties.proofs.node_log_tie.WholeMaps.{whole_map}
 

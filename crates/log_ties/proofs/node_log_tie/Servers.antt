@@ -11,6 +11,7 @@ use Rattle.xfs_base.specs.declared.segment.SegName.{SegName}
 use Rattle.xfs_base.specs.declared.setup.Setup.{Setup}
 use Rattle.xfs_base.specs.Limits.{u32_end}
 use Rattle.xfs_base.specs.Steps.{still, steps}
+use Rattle.xfs_base.proofs.Alls.{all_append, all_weaker}
 use Rattle.group_map.specs.GroupMapState.{GroupMapState}
 use Rattle.fragment_store.specs.Calls.{barred, on_lose as lost}
 use Rattle.fragment_store.specs.ShelfState.{ShelfState, new_shelf}
@@ -50,7 +51,7 @@ use Rattle.log_law.specs.Net.{Net}
 use Rattle.log_ties.specs.node_log_tie.Sight.{Asker, BodySeen, PacketSeen, EffectSeen, ListedSeen, FragmentSeen, NewsSeen, WelcomeSeen, Later}
 use Rattle.log_ties.specs.node_log_tie.ServerEvents.{NamesStripes, RebuildSeen, ServerSeen, MapsName, ServerOwed, ServerGoes}
 use Rattle.log_ties.proofs.node_log_tie.Going.{run_later}
-use Rattle.log_ties.proofs.node_log_tie.Lists.{all_append, all_weaker, answers_send, packets_all}
+use Rattle.log_ties.proofs.node_log_tie.Lists.{answers_send, packets_all}
 use Rattle.log_ties.proofs.node_log_tie.Rebuilding.{OutSeen, filling_later}
 use Rattle.log_ties.proofs.node_log_tie.RebuildEvents.{all_listed, RebuildOn, InputSent, rebuild_takes}
 use Rattle.log_ties.proofs.node_log_tie.Shelving.{Went, went_still, stays, went_then, went_after, stores_went, fetches_went, fences_went, lists_went, deletes_went, fills_went, loses_went}

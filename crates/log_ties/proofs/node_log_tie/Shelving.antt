@@ -3,7 +3,8 @@ use Rattle.std.proofs.Common.{◌≡◌, ℕ, ◌==◌, ◌&&◌, ◌<◌, Bool,
 use Rattle.std.specs.Option.{is_none, is_some}
 use Rattle.std.specs.Ordering.{is_eq}
 use Rattle.std.specs.List.{AllByRecursion}
-use Rattle.xfs_base.proofs.Booleans.{by_test, contrary}
+use Rattle.std.proofs.lemmas.Bool.{eqb-true}
+use Rattle.xfs_base.proofs.Booleans.{by_test, contrary, equal_itself}
 use Rattle.xfs_base.specs.declared.fragment.FragMeta.{FragMeta}
 use Rattle.xfs_base.specs.declared.fragment.Fragment.{Fragment}
 use Rattle.xfs_base.specs.declared.node.NodeId.{NodeId}
@@ -15,6 +16,7 @@ use Rattle.xfs_base.specs.Limits.{u32_end}
 use Rattle.xfs_base.specs.Segments.{pass_cmp}
 use Rattle.xfs_base.specs.Stamps.{is_greater}
 use Rattle.xfs_base.specs.Steps.{still, saying}
+use Rattle.xfs_base.proofs.Alls.{all_append, all_weaker}
 use Rattle.fragment_store.proofs.Names.{one_name}
 use Rattle.fragment_store.specs.Calls.{store_refused, kept, on_fence as fenced_at, on_delete as without, on_fill, on_lose as lost, on_list as listed_on}
 use Rattle.fragment_store.specs.declared.store_error.StoreError.{StoreError}
@@ -35,7 +37,6 @@ use Rattle.log_protocol.specs.Tables.{put, In}
 use Rattle.log_tie.specs.Setting.{Setting}
 use Rattle.log_tie.specs.Shelves.{is_of_log, is_stored, Deed, shelf_after}
 use Rattle.log_tie.specs.Shelves.Deed.{Stores, Fetches, Fences, Deletes, Fills, Loses}
-use Rattle.log_tie.proofs.Names.{equal, itself}
 use Rattle.log_law.specs.Net.{Net, Packet, answers, fragment_told, listed}
 use Rattle.log_law.specs.Net.Packet.{StoredSent, FragmentSent, FencedSent, ListedSent}
 use Rattle.log_law.specs.Events.{CameToServer, Runs}
@@ -44,15 +45,15 @@ use Rattle.log_law.specs.Events.Runs.{Begun, On}
 use Rattle.log_ties.specs.node_log_tie.Sight.{Asker, EffectSeen, FenceSeen, Later}
 use Rattle.log_ties.specs.node_log_tie.ServerEvents.{RebuildSeen, ServerSeen, all_but_shelves}
 use Rattle.log_ties.proofs.node_log_tie.Going.{run_later, runs_on}
-use Rattle.log_ties.proofs.node_log_tie.Lists.{all_append, all_weaker, if_some}
+use Rattle.log_ties.proofs.node_log_tie.Lists.{if_some}
 use Rattle.log_ties.proofs.node_log_tie.RebuildEvents.{rebuild_later}
 use Rattle.log_ties.proofs.node_log_tie.Sights.{seen_later}
 
 pub put_here : {X : Type 0} (f : ℕ → X) (a : ℕ) (y : X) → put f a y a ≡ y
-put_here f a y = ap (λ t. cond t y (f a)) (itself a)
+put_here f a y = ap (λ t. cond t y (f a)) (equal_itself a)
 
 pub put_there : {X : Type 0} (f : ℕ → X) (a : ℕ) (y : X) (b : ℕ) → (b ≡ a → ⊥) → put f a y b ≡ f b
-put_there f a y b other = by_test (λ z. z ≡ f b) (b == a) y (f b) (λ t. absurd (other (equal b a t))) (λ t. refl)
+put_there f a y b other = by_test (λ z. z ≡ f b) (b == a) y (f b) (λ t. absurd (other (eqb-true b a t))) (λ t. refl)
 
 -- what is found passes the test
 found_named : (held : List Fragment) (name : SegName) (f : Fragment) → held_at held name ≡ Some f → name ≡ f.meta.name
@@ -207,13 +208,13 @@ module _ (g : Setting) (owner : Asker) (v : ℕ) where
     -- ---- a Fence
 
     of_the_log : (m : Fence) → (m.log.0 == g.log.0) ≡ true → m.log ≡ g.log
-    of_the_log m own = λ i. record { 0 = equal m.log.0 g.log.0 own i }
+    of_the_log m own = λ i. record { 0 = eqb-true m.log.0 g.log.0 own i }
 
     -- what is listed for the log is what the small world lists
     same_list : (m : Fence) → (m.log.0 == g.log.0) ≡ true → of_log m.log (listed_on (fenced_at node.shelf m.log m.pass)) ≡ listed g (n.shelves v)
     same_list m own =
         ap (λ held. of_log m.log (map (λ (f : Fragment). f.meta) held)) (fence_held node.shelf m.log m.pass)
-        ∙ (ap (λ log. filter (λ (x : FragMeta). x.name.log.0 == log) (listed_on node.shelf)) (equal m.log.0 g.log.0 own)
+        ∙ (ap (λ log. filter (λ (x : FragMeta). x.name.log.0 == log) (listed_on node.shelf)) (eqb-true m.log.0 g.log.0 own)
         ∙ ap (λ t. listed g t) (sym seen.shelf))
 
     same_generation : (m : Fence) → (fenced_at node.shelf m.log m.pass).generation ≡ (n.shelves v).generation

@@ -5,6 +5,7 @@ use Rattle.std.proofs.lemmas.Bool.Decides.{Decides-eqb, nat_tests}
 use Rattle.std.proofs.lemmas.List.{get_or-map, length-map}
 use Rattle.std.proofs.lemmas.List.Elements.{All-head, All-tail}
 use Rattle.std.proofs.lemmas.Map.Made.{AllPairs-from_IsDistinct}
+use Rattle.std.proofs.lemmas.Bool.{eqb-true}
 use Rattle.xfs_base.proofs.Booleans.{by_test}
 use Rattle.group_map.specs.declared.group.Group.{Group}
 use Rattle.group_map.specs.declared.group.Member.{Member}
@@ -21,7 +22,6 @@ use Rattle.log_flight.specs.Fate.{has_server}
 use Rattle.log_flight.specs.Flights.{no_group, no_member, group_for}
 use Rattle.log_tie.specs.Setting.{Setting, server_of, present_at, IsStripe, IsMap}
 use Rattle.log_tie.specs.Scans.{WholeMap}
-use Rattle.log_tie.proofs.Names.{equal}
 use Rattle.log_ties.specs.node_log_tie.RegistryEvents.{NamesGroups}
 
 -- ---- what is found
@@ -41,7 +41,7 @@ found_passes test (x ∷ xs) g fact =
 
 -- a group that an id names has that id
 pub has_its_id : (m : GroupMapState) (id : ℕ) (group : Group) → group_of m id ≡ Some group → group.id ≡ id
-has_its_id m id group fact = equal group.id id (found_passes (λ (x : Group). x.id == id) m.groups group fact)
+has_its_id m id group fact = eqb-true group.id id (found_passes (λ (x : Group). x.id == id) m.groups group fact)
 
 module _ (m : GroupMapState) (ok : IsGroupMap m) where
   abbrev HasStripe : Group → Type 0

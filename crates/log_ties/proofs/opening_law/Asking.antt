@@ -2,6 +2,7 @@
 use Rattle.std.proofs.Common.{⊎_elim, ◌≡◌, ◌≤◌, ◌<◌, ℕ, ◌+◌, ◌==◌, ◌&&◌, true, cond, List, [], ◌∷◌, Option, Some, None, nat_lt, sym, subst, inl, inr, arith}
 use Rattle.std.specs.List.{AllByRecursion}
 use Rattle.std.proofs.lemmas.Bool.Decides.{nat_tests}
+use Rattle.std.proofs.lemmas.Bool.{lt-ltb}
 use Rattle.xfs_base.proofs.Booleans.{by_test}
 use Rattle.xfs_base.specs.declared.node.NodeId.{NodeId}
 use Rattle.xfs_base.specs.declared.segment.End.{End}
@@ -307,13 +308,10 @@ starts_few owner servers q room = record { few = inl (let m = last_drawn q.last 
 below_end : (k : ℕ) → has_room k ≡ true → k + 1 < u32_end
 below_end k room = grind (arith, nat_tests)
 
-is_below : (n m : ℕ) → n < m → nat_lt n m ≡ true
-is_below n m less = grind (arith, nat_tests)
-
 pub some_left : QuestionsAreLeft
 some_left s last room few =
     let b = below_end last room in
-    is_below s.opening.ask u32_end (⊎_elim (λ small. (let x : s.opening.ask ≤ last = small in omega arith)) (λ v. (let x = v.1 in omega arith)) few)
+    lt-ltb s.opening.ask u32_end (⊎_elim (λ small. (let x : s.opening.ask ≤ last = small in omega arith)) (λ v. (let x = v.1 in omega arith)) few)
 
 pub groups_come : GroupsCome
 groups_come s i past =

@@ -31,11 +31,11 @@ use Rattle.xfs_base.specs.Modes.{is_held, is_nothing}
 use Rattle.xfs_base.specs.Steps.{steps, still}
 use Rattle.xfs_base.proofs.Booleans.{by_test, contrary}
 use Rattle.xfs_base.proofs.Members.{contains_cases, contains_first, contains_nothing, contains_rest}
+use Rattle.xfs_base.proofs.Alls.{all_weaker}
 use Rattle.node_ties.specs.client_law.Caching.{CachesJustWhatIsClean, CachesOnlyClean, CachesWhatIsClean, CopiesOnlyClean, EvictsOnlyClean, SettlesOnlyClean}
 use Rattle.node_ties.proofs.client_law.Giving.{any_reopens, AnyLog, AnyOpening}
 use Rattle.node_ties.proofs.client_law.Happening.{AnyBlock, AnyMap, after_weaker, always, Starts}
 use Rattle.node_ties.proofs.client_law.Caching.{C, CachesBut, clean-caches, clean_evicts, clean_victims, dirty_stays, gone-caches, settled_clean, takes-cache}
-use Rattle.node_ties.proofs.client_law.Effects.{all_weaker}
 use Rattle.node_ties.proofs.client_law.Keeping.{At, IsCopied, Keeps, Sound, notes_gone-keeps, takes_back-keeps}
 use Rattle.node_ties.proofs.client_law.Orders.{has, in_take, in_used, once_used, to_used}
 

@@ -11,6 +11,7 @@ use Rattle.xfs_base.specs.Steps.{still, steps}
 use Rattle.xfs_base.proofs.Booleans.{by_test, contrary}
 use Rattle.xfs_base.proofs.Orders.{not_later_itself, not_later_through}
 use Rattle.xfs_base.specs.Limits.{u32_end}
+use Rattle.xfs_base.proofs.Alls.{all_append}
 use Rattle.token_client.specs.declared.held.Held.{Held}
 use Rattle.token_client.specs.declared.held.Wanted.{Wanted}
 use Rattle.token_client.specs.declared.output.Out.{Out}
@@ -20,7 +21,6 @@ use Rattle.token_client.specs.State.{TokensState, held_of, is_in_slot, with_held
 use Rattle.token_client.specs.Transition.{Done, new_want, ask_again, ask_copy, dropped_in, fetched_in, is_spent, may_promise, on_forwarded, on_need, on_promise, on_quit, on_reask, on_tick, raised, refetch, repeated, serves, supplies, wanted_in}
 use Rattle.token_client.proofs.Promises.{dropped-known}
 use Rattle.token_client.proofs.Tables.{put_each, put_same}
-use Rattle.node_ties.proofs.client_law.Effects.{all_append}
 
 -- the same mode and the same versions, a stamp that didn't fall, and no recall put off that was not
 pub record IsSame (h g : Held) : Type 0 where

@@ -35,8 +35,9 @@ use Rattle.xfs_base.specs.declared.node.NodeId.{NodeId}
 use Rattle.xfs_base.specs.declared.node.NodeId.TheVariants.{Client as AClient}
 use Rattle.xfs_base.specs.Steps.{still}
 use Rattle.xfs_base.proofs.Booleans.{by_test, contrary}
+use Rattle.xfs_base.proofs.Alls.{all_append, all_weaker}
 use Rattle.node_ties.specs.client_law.Unserving.{IsUnmoved, SaysNothingOfTokens, TakesNothingOfTokens, asks_for_maps, is_about_tokens, serves, tells_of_tokens, with_question}
-use Rattle.node_ties.proofs.client_law.Effects.{AllSay, Says, all_append, all_weaker, answers_say, packets_say, pushes_say}
+use Rattle.node_ties.proofs.client_law.Effects.{AllSay, Says, answers_say, packets_say, pushes_say}
 
 -- ---- what it says
 

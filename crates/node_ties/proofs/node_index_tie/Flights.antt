@@ -9,6 +9,7 @@ use Rattle.xfs_base.specs.Steps.{still, saying}
 use Rattle.xfs_base.specs.declared.block.BlockId.{BlockId}
 use Rattle.xfs_base.specs.declared.entry.Entry.{Entry}
 use Rattle.xfs_base.specs.declared.segment.SegName.{SegName}
+use Rattle.xfs_base.proofs.Alls.{all_append}
 use Rattle.group_map.specs.GroupMapState.{GroupMapState}
 use Rattle.group_map.specs.declared.group.Member.{Member}
 use Rattle.segment_format.specs.declared.segment.Item.{Item}
@@ -24,7 +25,7 @@ use Rattle.client_log.specs.declared.output.Out.{Out}
 use Rattle.client_log.specs.declared.output.Out.TheVariants.{Send, Settled}
 use Rattle.client_log.specs.LogState.{LogState}
 use Rattle.client_log.specs.Transition.{Done, send_at, sends, all_sends, launched, writes, has_next, is_idle, is_full, sealed, if_full, on_parts, restriped, end_from, landed, settled, can_follow, followed, looked_at, on_acked, on_maps, on_tick, transition}
-use Rattle.node_ties.proofs.node_index_tie.Moves.{some_none, all_both}
+use Rattle.node_ties.proofs.node_index_tie.Moves.{some_none}
 
 -- a fragment is sent
 abbrev pub IsSend : Out → Type 0
@@ -33,7 +34,7 @@ IsSend (Settled end rows) = ⊥
 
 sends_send : (f : FlightState) (ms : List Member) (place : ℕ) → AllByRecursion IsSend (sends f ms place)
 sends_send f [] place = tt
-sends_send f (m ∷ ms) place = all_both IsSend (send_at f m place) (sends f ms (place + 1))
+sends_send f (m ∷ ms) place = all_append IsSend (send_at f m place) (sends f ms (place + 1))
     (by_test (AllByRecursion IsSend) (is_noted f.noted place) [] _ (λ _. tt) (λ _. (tt, tt))) (sends_send f ms (place + 1))
 
 all_send : (f : FlightState) → AllByRecursion IsSend (all_sends f)

@@ -2,7 +2,7 @@
 use Rattle.std.proofs.Common.{◌≡◌, ℕ, ◌-◌, ◌<◌, ◌≤◌, ◌==◌, ◌⊎◌, inl, inr, ⊎_elim, nat_lt, max, Bool, true, false, cond, List, [], ◌∷◌, ◌++◌, map, length, Some, None, refl, sym, ap, subst, ◌∙◌, arith}
 use Rattle.std.specs.Prelude.{Contains, ◌||◌}
 use Rattle.std.specs.List.{range_with_len}
-use Rattle.std.proofs.lemmas.Bool.{eqb-true}
+use Rattle.std.proofs.lemmas.Bool.{eqb-true, ltb-true}
 use Rattle.std.proofs.lemmas.Bool.Decides.{nat_tests}
 use Rattle.xfs_base.proofs.Booleans.{by_test, contrary}
 use Rattle.xfs_base.proofs.Members.{contains_first}
@@ -408,13 +408,10 @@ module _ (part : ℕ) (texts : Texts) (asked : Questions) (brought : Brought) (d
       by_test (λ (d : Done). Rose n one.phase d.state.phase) (nat_lt (epoch_of one.phase) news.epoch)
       (takes (record one { phase = begun }) news.slot input.Tick) (still one)
       (λ less.
-      let later : epoch_of one.phase < news.epoch = is_less (epoch_of one.phase) news.epoch less in
+      let later : epoch_of one.phase < news.epoch = ltb-true (epoch_of one.phase) news.epoch less in
       let b = begins j n h.ears.number news h.groups h.ears.clients is_j of (λ ours. known ours later) named_ in
       let t = stays_ticks part texts asked desk n news.slot begun one.questions b.agrees in
       let first = b.epoch in
       let last = t.epoch in
       record { agrees = t.agrees; held = λ e at. inr (b.held e (t.held e at)); rises = omega arith })
       (λ _. record { agrees = agrees; held = λ e at. inl at; rises = omega arith })
-    where
-      is_less : (a b : ℕ) → nat_lt a b ≡ true → a < b
-      is_less a b h = grind (arith, nat_tests)

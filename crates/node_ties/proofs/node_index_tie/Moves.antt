@@ -5,6 +5,7 @@ use Rattle.xfs_base.specs.declared.news.SlotNews.{SlotNews}
 use Rattle.xfs_base.specs.declared.node.NodeId.{NodeId}
 use Rattle.xfs_base.specs.declared.node.NodeId.TheVariants.{Client, Manager, Server, Cleaner, Registry}
 use Rattle.xfs_base.specs.declared.segment.End.{End}
+use Rattle.xfs_base.proofs.Alls.{all_append, all_weaker}
 use Rattle.index_tie.specs.Net.{Net, Packet, Happens, Runs, with_slot}
 use Rattle.index_tie.specs.Net.Runs.{Begun, On}
 use Rattle.index_tie.specs.Takeovers.{of_log, IsEnd, Linked}
@@ -23,14 +24,6 @@ use Rattle.node_ties.specs.node_index_tie.ManagerEvents.{ManagedAt, rest}
 use Rattle.node_ties.specs.node_index_tie.Sight.{Texts, Questions, held_in, EndKnown, ReportKnown, NewsKnown, ManagerSends, ManagerDoes}
 
 -- ---- lists
-
-pub all_both : {X : Type 0} (P : X → Type 0) (xs ys : List X) → AllByRecursion P xs → AllByRecursion P ys → AllByRecursion P (xs ++ ys)
-all_both P [] ys all more = more
-all_both P (x ∷ xs) ys all more = (all.0, all_both P xs ys all.1 more)
-
-pub all_weaker : {X : Type 0} (P Q : X → Type 0) → ((x : X) → P x → Q x) → (xs : List X) → AllByRecursion P xs → AllByRecursion Q xs
-all_weaker P Q f [] all = tt
-all_weaker P Q f (x ∷ xs) all = (f x all.0, all_weaker P Q f xs all.1)
 
 pub in_more : {X : Type 0} (x : X) (xs ys : List X) → In x ys → In x (xs ++ ys)
 in_more x [] ys fact = fact
@@ -255,7 +248,7 @@ module _ (part : ℕ) (texts : Texts) (asked : Questions) where
           stays = λ ends e at. k.stays ends e (h.stays ends e at);
           held = λ e at. ⊎_elim (λ x. h.held e x) (λ x. inr x) (k.held e at);
           rises = let a = h.rises in let b = k.rises in omega arith;
-          does = all_both (DoesAt k.next) outs more (done_on h.next k.next k.grows outs h.does) k.does;
+          does = all_append (DoesAt k.next) outs more (done_on h.next k.next k.grows outs h.does) k.does;
           agrees = k.agrees;
         }
 

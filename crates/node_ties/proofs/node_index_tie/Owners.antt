@@ -9,6 +9,7 @@ use Rattle.xfs_base.specs.Blocks.{slot_of}
 use Rattle.xfs_base.specs.declared.block.BlockId.{BlockId}
 use Rattle.xfs_base.specs.declared.entry.Entry.{Entry}
 use Rattle.xfs_base.proofs.StepLoops.{steps_both}
+use Rattle.xfs_base.proofs.Alls.{all_append}
 use Rattle.delta_feed.specs.FeedState.{FeedState, started, acked_of}
 use Rattle.delta_feed.specs.History.{filed_by, settled_numbers, greatest}
 use Rattle.delta_feed.specs.Transition.{slot_rows, rows_after, pushed, transition}
@@ -26,7 +27,6 @@ use Rattle.log_owner.specs.Sending.{range, pushes, pushes_all}
 use Rattle.log_owner.specs.declared.promised.Managers.{Managers}
 use Rattle.node_ties.specs.node_index_tie.OwnerEvents.{FeedSeen, OwnerDoes, OwnersTell, FeedsStay}
 use Rattle.node_ties.specs.node_index_tie.Sight.{RowsFit, DeltasKnown}
-use Rattle.node_ties.proofs.node_index_tie.Moves.{all_both}
 
 -- ---- rows fit
 
@@ -41,7 +41,7 @@ fit_slot slot (row ∷ rows) fit = by (slot_of row.0.ino.0 == slot) (fit_slot sl
 fit_after : (slot number : ℕ) (fs : List FiledDeltas) → AllByRecursion (λ (f : FiledDeltas). RowsFit f.rows) fs → RowsFit (rows_after slot number fs)
 fit_after slot number [] all = tt
 fit_after slot number (f ∷ fs) all =
-    all_both (λ row. row.0.blk < 2 ^ 32) (cond (nat_lt number f.seq) (slot_rows slot f.rows) []) (rows_after slot number fs)
+    all_append (λ row. row.0.blk < 2 ^ 32) (cond (nat_lt number f.seq) (slot_rows slot f.rows) []) (rows_after slot number fs)
     (by_test RowsFit (nat_lt number f.seq) (slot_rows slot f.rows) [] (λ _. fit_slot slot f.rows all.0) (λ _. tt))
     (fit_after slot number fs all.1)
 
@@ -98,7 +98,7 @@ module _ (part : ℕ) (n : Net) (l : ℕ) (some : 0 < l) (limit : l ≤ 9) (feed
   told_each : (slots : List ℕ) → AllByRecursion (OwnerDoes part n l) (map (range managers) (flat_map (pushed feed) slots))
   told_each [] = tt
   told_each (slot ∷ slots) = subst (AllByRecursion (OwnerDoes part n l)) (sym (map_both (pushed feed slot) (flat_map (pushed feed) slots)))
-      (all_both (OwnerDoes part n l) (pushes managers feed slot) (map (range managers) (flat_map (pushed feed) slots)) (told slot) (told_each slots))
+      (all_append (OwnerDoes part n l) (pushes managers feed slot) (map (range managers) (flat_map (pushed feed) slots)) (told slot) (told_each slots))
 
 pub owners_tell : OwnersTell
 owners_tell part n l feed managers some limit k = record {

@@ -1,6 +1,7 @@
 -- Rows that are put onto pages: what a slot's index has after Deltas, and how its pages stand to its last checkpoint then.
 use Rattle.std.proofs.Common.{◌≡◌, ◌^◌, ◌<◌, ℕ, List, [], ◌∷◌, ◌++◌, Some, refl, sym, ap, ◌∙◌}
 use Rattle.xfs_base.specs.declared.segment.SegRef.{SegRef}
+use Rattle.xfs_base.proofs.Alls.{all_append}
 use Rattle.checkpoint.specs.Laws.{Event, Checkpointed, nothing_checkpointed, after_event, after_events, slot_after, AllMayCome}
 use Rattle.checkpoint.specs.Laws.Event.{Merged}
 use Rattle.checkpoint.specs.WriterState.{Rows, WorkState}
@@ -11,7 +12,7 @@ use Rattle.slot_beliefs.proofs.Counting.{pages-indexed}
 use Rattle.node_ties.specs.node_index_tie.Pages.{put_all, checkpointed, Desk, IsWork, Paged, WorkSeen}
 use Rattle.node_ties.specs.node_index_tie.Pages.Paged.{Covered, Written, Ended}
 use Rattle.node_ties.specs.node_index_tie.Sight.{Texts, held_in, RowsFit}
-use Rattle.node_ties.proofs.node_index_tie.Moves.{Grows, all_both}
+use Rattle.node_ties.proofs.node_index_tie.Moves.{Grows}
 
 -- ---- the pages of an index
 
@@ -57,7 +58,7 @@ module _ (part : ℕ) (texts : Texts) where
       (after_both nothing_checkpointed events (merges rows) ∙ after_merges (slot_after events) rows ∙ ap
       (λ (k : Checkpointed). checkpointed (put_all k.pages rows) k.parts) fact) none
   paged_put n desk epoch pages parts rows fit (Written events w before there of at work fits fact) =
-      Written events w (before ++ rows) there of at work (all_both (λ row. row.0.blk < 2 ^ 32) before rows fits fit)
+      Written events w (before ++ rows) there of at work (all_append (λ row. row.0.blk < 2 ^ 32) before rows fits fit)
       (ap (λ (p : PagesState). put_all p rows) fact ∙ sym (put_all-append (cleaned (slot_after events).pages) before rows))
   paged_put n desk epoch pages parts rows fit (Ended number none) = Ended number none
 

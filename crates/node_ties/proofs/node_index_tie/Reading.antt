@@ -1,5 +1,5 @@
 -- What a takeover has read once it took one more input, and that what it hands out then is what the small world needs to know.
-use Rattle.std.proofs.Common.{◌^◌, ◌≡◌, ℕ, ◌<◌, inl, inr, List, [], ◌∷◌, ◌++◌, take, Option, Some, None, refl, sym, ap, ◌∙◌, zero, suc}
+use Rattle.std.proofs.Common.{◌^◌, ◌≡◌, ℕ, ◌<◌, inl, inr, List, [], ◌∷◌, ◌++◌, take, Option, Some, None, refl, sym, ap, ◌∙◌}
 use Rattle.std.specs.List.{AllByRecursion}
 use Rattle.xfs_base.proofs.Booleans.{by_test}
 use Rattle.xfs_base.specs.declared.node.NodeId.{NodeId}
@@ -7,6 +7,7 @@ use Rattle.xfs_base.specs.declared.segment.End.{End}
 use Rattle.xfs_base.specs.declared.segment.SegRef.{SegRef}
 use Rattle.xfs_base.proofs.NodeOrder.{same_node_is}
 use Rattle.xfs_base.specs.Nodes.{same_node}
+use Rattle.xfs_base.proofs.Alls.{all_take, all_append, all_weaker}
 use Rattle.segment_format.specs.declared.segment.Segment.{Segment}
 use Rattle.segment_reading.specs.Reading.{ReadingState, on_answer}
 use Rattle.stripe_code.specs.declared.round.Told.{Told}
@@ -29,7 +30,6 @@ use Rattle.index_tie.specs.Takeovers.{IsItsText}
 use Rattle.token_protocol.specs.Basics.{In as Among}
 use Rattle.node_ties.specs.node_index_tie.ManagerEvents.{completes_in, completes_at, completes}
 use Rattle.node_ties.specs.node_index_tie.Sight.{Texts, held_in, RowsFit, IsRead, AreTexts}
-use Rattle.node_ties.proofs.node_index_tie.Moves.{all_both, all_weaker}
 
 -- ---- one input more
 
@@ -49,7 +49,7 @@ module _ (part : ℕ) (texts : Texts) where
       by_test AllRead (goes_back source s) (record { whole = r.whole; present = s ∷ r.present })
       (record { whole = r.whole ++ (s ∷ r.present) ∷ []; present = [] })
       (λ _. record { whole = all.whole; present = (one, all.present) })
-      (λ _. record { whole = all_both (AllByRecursion (IsRead part texts)) r.whole ((s ∷ r.present) ∷ []) all.whole ((one, all.present), tt); present = tt })
+      (λ _. record { whole = all_append (AllByRecursion (IsRead part texts)) r.whole ((s ∷ r.present) ∷ []) all.whole ((one, all.present), tt); present = tt })
 
   abbrev Completes : Option Segment → Type 0
   Completes o = (s : Segment) → o ≡ Some s → IsRead part texts s
@@ -87,11 +87,6 @@ module _ (part : ℕ) (texts : Texts) where
   tells_part [] s read = tt
   tells_part (ref ∷ refs) s read = ((λ same. ap (told_of part) (read.text ∙ ap texts same)), tells_part refs s read)
 
-  all_take : {X : Type 0} (P : X → Type 0) (k : ℕ) (xs : List X) → AllByRecursion P xs → AllByRecursion P (take k xs)
-  all_take P zero xs all = tt
-  all_take P (suc k) [] all = tt
-  all_take P (suc k) (x ∷ xs) all = (all.0, all_take P k xs all.1)
-
   pub tells_parts : (parts : List SegRef) (k : ℕ) (chains : List (List Segment)) → AllByRecursion (AllByRecursion (IsRead part texts)) chains
       → AllByRecursion (AllByRecursion (TellsPart part (held_in part texts) parts)) (take k chains)
   tells_parts parts k chains all =
@@ -110,11 +105,11 @@ module _ (part : ℕ) (texts : Texts) where
 
   fit_along : (chain : List Segment) → AllByRecursion (IsRead part texts) chain → RowsFit (told_along part chain)
   fit_along [] all = tt
-  fit_along (s ∷ ss) all = all_both (λ row. row.0.blk < 2 ^ 32) (told_of part s) (told_along part ss) all.0.fits (fit_along ss all.1)
+  fit_along (s ∷ ss) all = all_append (λ row. row.0.blk < 2 ^ 32) (told_of part s) (told_along part ss) all.0.fits (fit_along ss all.1)
 
   pub fit_by_all : (chains : List (List Segment)) → AllByRecursion (AllByRecursion (IsRead part texts)) chains → RowsFit (told_by_all part chains)
   fit_by_all [] all = tt
-  fit_by_all (c ∷ cs) all = all_both (λ row. row.0.blk < 2 ^ 32) (told_along part c) (told_by_all part cs) (fit_along c all.0) (fit_by_all cs all.1)
+  fit_by_all (c ∷ cs) all = all_append (λ row. row.0.blk < 2 ^ 32) (told_along part c) (told_by_all part cs) (fit_along c all.0) (fit_by_all cs all.1)
 
 -- ---- the end that was reported of a log
 

@@ -2,7 +2,7 @@
 use Rattle.std.proofs.Common.{◌≡◌, ℕ, zero, suc, ◌+◌, ◌-◌, ◌<◌, ◌≤◌, ◌==◌, ◌⊎◌, inl, inr, ⊎_elim, nat_lt, nat_le, Bool, true, false, cond, List, [], ◌∷◌, map, length, length-set, get_or, get_or-set_same, get_or-set_other, Option, Some, None, refl, sym, ap, subst, ◌∙◌, arith}
 use Rattle.std.specs.Prelude.{unwrap_or, slice_index}
 use Rattle.std.specs.List.{slice_get, slice_set, list_all}
-use Rattle.std.proofs.lemmas.Bool.{eqb-true}
+use Rattle.std.proofs.lemmas.Bool.{eqb-true, eqb-false, leb-true, ltb-true, le-ltb, lt-ltb}
 use Rattle.std.proofs.lemmas.Bool.Decides.{nat_tests}
 use Rattle.std.proofs.lemmas.Option.{unwrap_or-slice_get}
 use Rattle.xfs_base.proofs.Booleans.{by_test, contrary, and_first, and_second}
@@ -17,7 +17,7 @@ use Rattle.index_tie.specs.Net.Packet.{CheckpointDone}
 use Rattle.log_protocol.specs.Tables.{In}
 use Rattle.index_tie.specs.Net.Runs.{Begun, On}
 use Rattle.index_tie.specs.Takeovers.{of_log}
-use Rattle.index_tie.proofs.Tables.{first_of, second_of, not_less_is, less_is}
+use Rattle.index_tie.proofs.Tables.{first_of, second_of}
 use Rattle.index_tie.proofs.Takeovers.{of_log_in, of_log_out, by_log}
 use Rattle.manager_map.specs.Slots.{after_move, entry_at}
 use Rattle.node_base.specs.Beginning.{begun, next_item, work_at}
@@ -146,9 +146,6 @@ module _ (part : ℕ) (below : part < 8) (b : BoardState) (eight : length b.chec
           parts = parts_is put_in part ∙ ap (λ (c : Checkpoint). c.parts) there ∙ sym (parts_is b.checkpoints part);
         }
 
-    apart : (x y : ℕ) → (x == y) ≡ false → x ≡ y → ⊥
-    apart x y h = grind (arith, nat_tests)
-
     keep_goes : is_kept b m.slot m.epoch m.horizon ≡ true → Went part b (keep b m.slot m.epoch m.parts m.horizon).state what
     unfolding keep
     keep_goes fact =
@@ -164,7 +161,7 @@ module _ (part : ℕ) (below : part < 8) (b : BoardState) (eight : length b.chec
         by_slot : (t : Bool) → (m.slot == part) ≡ t
             → Kept_so part b (checkpointed b m.slot m.parts m.horizon) ⊎ KeptOne part b (checkpointed b m.slot m.parts m.horizon) what
         by_slot true same = inr (kept_here (eqb-true m.slot part same) fact)
-        by_slot false other = inl (kept_there (apart m.slot part other))
+        by_slot false other = inl (kept_there (eqb-false m.slot part other))
 
     done_goes : Went part b (done b m.slot m.epoch m.parts m.horizon).state what
     unfolding done
@@ -247,11 +244,8 @@ rises_by kept horizon fact l some limit =
     let one = each_place (λ place. nat_le (slice_index kept place) (slice_index horizon place)) all (l - 1) (omega arith) in
     let a = of_log_at kept l some limit in
     let b = of_log_at horizon l some limit in
-    let c : slice_index kept (l - 1) ≤ slice_index horizon (l - 1) = within (slice_index kept (l - 1)) (slice_index horizon (l - 1)) one in
+    let c : slice_index kept (l - 1) ≤ slice_index horizon (l - 1) = leb-true (slice_index kept (l - 1)) (slice_index horizon (l - 1)) one in
     omega arith
-  where
-    within : (x y : ℕ) → nat_le x y ≡ true → x ≤ y
-    within x y h = grind (arith, nat_tests)
 
 module _ (part : ℕ) (below : part < 8) (texts : Texts) (n : Net) (r : RegistryNode) (what : Do) (sound : RegistrySound r) (agrees : RegistryAgrees part n r)
     (owed : RegistryOwed part n what) where
@@ -344,8 +338,8 @@ module _ (part : ℕ) (below : part < 8) (texts : Texts) (n : Net) (r : Registry
       let rises : (l : ℕ) → 0 < l → l ≤ 9 → of_log (n.horizon n.epoch) l ≤ of_log h l = λ l some limit. subst (λ (k : List ℕ). of_log k l ≤ of_log h l)
       agrees.horizon (rises_by (horizon_at r.board.checkpoints part) h one.covers l some limit) in
       let m : Net = record n { horizon = λ e. cond (nat_lt e n.epoch) (n.horizon e) h; parts = λ e. cond (nat_lt e n.epoch) (n.parts e) ps } in
-      let now : (e : ℕ) → n.epoch ≤ e → m.horizon e ≡ h = λ e from. second_of (nat_lt e n.epoch) (n.horizon e) h (not_less_is e n.epoch from) in
-      let now_parts : (e : ℕ) → n.epoch ≤ e → m.parts e ≡ ps = λ e from. second_of (nat_lt e n.epoch) (n.parts e) ps (not_less_is e n.epoch from) in
+      let now : (e : ℕ) → n.epoch ≤ e → m.horizon e ≡ h = λ e from. second_of (nat_lt e n.epoch) (n.horizon e) h (le-ltb e n.epoch from) in
+      let now_parts : (e : ℕ) → n.epoch ≤ e → m.parts e ≡ ps = λ e from. second_of (nat_lt e n.epoch) (n.parts e) ps (le-ltb e n.epoch from) in
       let at : m.horizon n.epoch ≡ h = now n.epoch (omega arith) in
       let at_parts : m.parts n.epoch ≡ ps = now_parts n.epoch (omega arith) in
       let k : RegistryAgrees part m later = record {
@@ -373,22 +367,19 @@ module _ (part : ℕ) (below : part < 8) (texts : Texts) (n : Net) (r : Registry
         number = refl;
         deleted = refl;
         epoch = omega arith;
-        horizon = λ e none low. before e none low sent (λ past. first_of (nat_lt e n.epoch) (n.horizon e) h (less_is e n.epoch past));
-        parts = λ e none low. before e none low sent (λ past. first_of (nat_lt e n.epoch) (n.parts e) ps (less_is e n.epoch past));
+        horizon = λ e none low. before e none low sent (λ past. first_of (nat_lt e n.epoch) (n.horizon e) h (lt-ltb e n.epoch past));
+        parts = λ e none low. before e none low sent (λ past. first_of (nat_lt e n.epoch) (n.parts e) ps (lt-ltb e n.epoch past));
         tells = told m k;
       }
     where
       before : {X : Type 0} (e : ℕ) → n.slots e ≡ None → e ≤ n.epoch → In (CheckpointDone n.epoch one.m.horizon one.m.parts) n.sent → (e < n.epoch → X) → X
       before {X = X} e none low sent f = by (nat_lt e n.epoch) refl
         where
-          is_less : (a b : ℕ) → nat_lt a b ≡ true → a < b
-          is_less a b h = grind (arith, nat_tests)
-
           not_less : (a b : ℕ) → nat_lt a b ≡ false → a ≤ b → a ≡ b
           not_less a b h low = grind (arith, nat_tests)
 
           by : (t : Bool) → nat_lt e n.epoch ≡ t → X
-          by true past = f (is_less e n.epoch past)
+          by true past = f (ltb-true e n.epoch past)
           by false now = absurd (owed.managed one.m.horizon one.m.parts sent (sym (ap n.slots (not_less e n.epoch now low)) ∙ none))
 
   registry_event : RegistryGoes part texts n r what

@@ -10,6 +10,7 @@ use Rattle.xfs_base.specs.Steps.{Stepped, steps}
 use Rattle.xfs_base.specs.declared.news.SlotNews.{SlotNews}
 use Rattle.xfs_base.specs.declared.node.NodeId.{NodeId}
 use Rattle.xfs_base.specs.declared.segment.LogId.{LogId}
+use Rattle.xfs_base.proofs.Alls.{all_append}
 use Rattle.node_ties.specs.node_index_tie.Pages.{Desk}
 use Rattle.group_map.specs.GroupMapState.{GroupMapState}
 use Rattle.index_tie.specs.Net.{Net}
@@ -38,7 +39,7 @@ use Rattle.node_ties.specs.node_index_tie.ManagerEvents.{PhaseAgrees}
 use Rattle.node_ties.specs.node_index_tie.Sight.{Texts, Questions, AreTexts, DeltasKnown, ReportKnown, CheckKnown, NewsKnown}
 use Rattle.node_ties.proofs.node_index_tie.Active.{Event, slot_takes, slot_wants, slot_deltas, slot_checks, other_checks, other_takes, other_wants, usage_done}
 use Rattle.node_ties.proofs.node_index_tie.Handing.{Busy, OwesAt, AskEvent, event_staying, slot_hears, slot_regroups, slot_reports, slot_hears_of}
-use Rattle.node_ties.proofs.node_index_tie.Moves.{Brought, Grows, AllDone, DoesAt, Sees, managed_as, some_none, sees_same, sees_then, all_both}
+use Rattle.node_ties.proofs.node_index_tie.Moves.{Brought, Grows, AllDone, DoesAt, Sees, managed_as, some_none, sees_same, sees_then}
 use Rattle.node_ties.proofs.node_index_tie.Taking.{takes_done, asks_done, reports_done, hears_done, stays_asks, asks_managed}
 
 -- ---- one slot of a table
@@ -368,5 +369,5 @@ module _ (part : ℕ) (texts : Texts) (asked : Questions) (exists : part < 8) (b
         agrees = more.agrees;
         held = λ e at. ⊎_elim (λ x. one.held e x) (λ x. inr x) (more.held e at);
         rises = let b = more.rises in omega arith;
-        does = all_both (DoesAt part texts asked n) d.outs (table.hears_all h d.state slots).outs one.does more.does;
+        does = all_append (DoesAt part texts asked n) d.outs (table.hears_all h d.state slots).outs one.does more.does;
       }

@@ -12,6 +12,7 @@ use Rattle.xfs_base.specs.declared.entry.Entry.{Entry}
 use Rattle.xfs_base.specs.declared.news.SlotNews.{SlotNews}
 use Rattle.xfs_base.specs.declared.node.NodeId.{NodeId}
 use Rattle.xfs_base.specs.declared.segment.SegName.{SegName}
+use Rattle.xfs_base.proofs.Alls.{all_append}
 use Rattle.checkpoint.specs.WriterState.{Rows}
 use Rattle.node_ties.specs.node_index_tie.Pages.{Desk}
 use Rattle.delta_index.specs.Entries.{is_newer}
@@ -40,7 +41,7 @@ use Rattle.takeover.specs.declared.output.Out.TheVariants as out
 use Rattle.wire_msg.specs.declared.deltas.Report.{Report}
 use Rattle.node_ties.specs.node_index_tie.ManagerEvents.{ManagedAt, PhaseAgrees}
 use Rattle.node_ties.specs.node_index_tie.Sight.{Texts, Questions, RowsFit}
-use Rattle.node_ties.proofs.node_index_tie.Moves.{all_both, DoesAt, AllDone}
+use Rattle.node_ties.proofs.node_index_tie.Moves.{DoesAt, AllDone}
 
 -- ---- newer groups
 
@@ -107,7 +108,7 @@ module _ (part : ℕ) (texts : Texts) (asked : Questions) where
   each_done : (n : Net) (k : ℕ) (a : Asker) (outs : List Out) → AllDone part texts asked n (says_each k a outs).outs
   unfolding says_each
   each_done n k a [] = tt
-  each_done n k a (o ∷ os) = all_both (DoesAt part texts asked n) (says k a o).outs _ (says_done n k a o) (each_done n k (says k a o).state os)
+  each_done n k a (o ∷ os) = all_append (DoesAt part texts asked n) (says k a o).outs _ (says_done n k a o) (each_done n k (says k a o).state os)
 
   pub takes_done : (n : Net) (k : ℕ) (a : Asker) (given : Input) → AllDone part texts asked n (takes a k given).outs
   unfolding takes

@@ -1,9 +1,8 @@
 -- How the writing of a checkpoint goes on: each segment that is settled holds what was given out for it, and once all is written the small world has the
 -- checkpoint.
-use Rattle.std.proofs.Common.{◌≡◌, ℕ, ◌<◌, ◌==◌, inl, false, List, [], ◌∷◌, ◌++◌, take, drop, length, Option, Some, None, refl, sym, ap, subst, ◌∙◌, append_assoc, arith}
+use Rattle.std.proofs.Common.{◌≡◌, ℕ, ◌<◌, ◌==◌, inl, List, [], ◌∷◌, ◌++◌, take, drop, length, Option, Some, None, refl, sym, ap, subst, ◌∙◌, append_assoc, arith}
 use Rattle.std.specs.List.{flat_map}
-use Rattle.std.proofs.lemmas.Bool.{eqb-true}
-use Rattle.std.proofs.lemmas.Bool.Decides.{nat_tests}
+use Rattle.std.proofs.lemmas.Bool.{eqb-true, eqb-false}
 use Rattle.std.proofs.lemmas.List.{append-nil, take-append-drop, nil_from_length}
 use Rattle.xfs_base.proofs.Booleans.{by_test}
 use Rattle.xfs_base.specs.Steps.{Stepped, saying, steps}
@@ -177,11 +176,8 @@ module _ (part : ℕ) (texts : Texts) (questions : Questions) (exists : part < 8
             nine = k.nine;
             short = k.short;
             pages = paged_still m a.slot.epoch (pages_of a.slot.index)
-                a.parts (λ _ at. apart a.slot.epoch w.epoch no (sym at)) k.pages;
+                a.parts (λ _ at. eqb-false a.slot.epoch w.epoch no (sym at)) k.pages;
           })
-        where
-          apart : (x y : ℕ) → (x == y) ≡ false → x ≡ y → ⊥
-          apart x y h = grind (arith, nat_tests)
       named_on m g same ours (phase.Taking t) k = phase_on part texts n m g desk (phase.Taking t) (λ e _. same e) k
       named_on m g same ours (phase.Away e) k = tt
       named_on m g same ours (phase.Broken e seg) k = tt

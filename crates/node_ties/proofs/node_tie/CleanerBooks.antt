@@ -18,6 +18,7 @@ use Rattle.xfs_base.specs.Blocks.{same_block}
 use Rattle.xfs_base.specs.declared.block.BlockId.{BlockId}
 use Rattle.xfs_base.specs.Limits.{segment_blocks}
 use Rattle.xfs_base.specs.Steps.{still}
+use Rattle.xfs_base.proofs.Alls.{all_weaker}
 use Rattle.token_law.specs.Books.{Row, Books, row_in, nothing_said, said, sealed, filed, reopened, with_empty}
 use Rattle.token_law.specs.Net.{Net, Runs}
 use Rattle.token_law.specs.Net.Happens.{SealsCopies, FilesCopies, Reopens}
@@ -31,7 +32,6 @@ use Rattle.node_ties.proofs.node_tie.BooksLast.{Lasts, up_to, same_log, same_thr
 use Rattle.node_ties.proofs.node_tie.LogRows.{rows_told_of, take_within}
 use Rattle.node_ties.proofs.node_tie.LogTurns.{IsFlown, flown_in, flies_seen, seal_seen, file_seen, restripe_seen}
 use Rattle.node_ties.proofs.node_tie.SmallWorld.{runs_through}
-use Rattle.node_ties.proofs.node_tie.StoreFrames.{all_weaker}
 
 -- rows that are copies stay so
 pub copy_grown : (k m : Books) → Lasts k m → (b : BlockId) (row : Row) → IsCopy k b row → IsCopy m b row

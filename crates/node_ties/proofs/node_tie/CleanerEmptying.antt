@@ -5,6 +5,7 @@ use Rattle.std.specs.Prelude.{◌==◌, nat_lt}
 use Rattle.std.specs.List.{AllByRecursion, range_with_len}
 use Rattle.std.proofs.lemmas.Bool.Decides.{nat_tests}
 use Rattle.std.proofs.lemmas.Option.{unwrap_or-slice_get}
+use Rattle.std.proofs.lemmas.Bool.{ltb-false}
 use Rattle.client_log.specs.declared.input.In.{In as LogIn}
 use Rattle.client_log.specs.declared.input.In.TheVariants as log_in
 use Rattle.client_log.specs.declared.output.Out.{Out as LogOut}
@@ -47,12 +48,12 @@ use Rattle.xfs_base.specs.declared.node.NodeId.{NodeId}
 use Rattle.xfs_base.specs.declared.node.NodeId.TheVariants as node
 use Rattle.xfs_base.specs.declared.segment.End.{End}
 use Rattle.xfs_base.specs.Steps.{saying, still, steps}
+use Rattle.xfs_base.proofs.Alls.{all_append, all_map, all_weaker}
 use Rattle.node_ties.specs.node_tie.Sight.{CleanerSends}
 use Rattle.node_ties.specs.node_tie.StoreEvents.{Says, AllSay}
 use Rattle.node_ties.specs.node_tie.CleanerEvents.{Bounded}
 use Rattle.node_ties.proofs.node_tie.CleanerJob.{JobDoes, JobSends, job_from, job_steps, job_still, job_then, job_goes_on, list_came, usage_came, live_came, dead_came, deleted_came, told_came}
 use Rattle.node_ties.proofs.node_tie.ClientOpening.{promise_here, promise_keeps}
-use Rattle.node_ties.proofs.node_tie.StoreFrames.{all_append, all_map, all_weaker}
 
 up_to : (a b c : ℕ) → a ≤ b → b ≤ c → a ≤ c
 up_to a b c h g = omega arith
@@ -267,15 +268,12 @@ module _ (part limit : ℕ) (small : part < 8) where
       (record { says = ((λ same. promise_is e (news_of manager m) b same (within same).1), tt); inc = k.inc; rises = k.rises; bears = k.bears })
       (λ c. serves_same f (cleans f (input.Promise m.slot m.epoch)) c (job_goes_on f (input.Promise m.slot m.epoch)))
 
-  not_below : (k n : ℕ) → nat_lt k n ≡ false → n ≤ k
-  not_below k n t = grind (arith, nat_tests)
-
   poll_taken : (e : Emptying) (manager : ℕ) (m : Poll) → Bears e → (m.slot ≡ part → m.epoch ≤ limit) → ServesOn e (polled e manager m)
   poll_taken e manager m b within =
       by_test (ServesOn e) (nat_lt m.epoch (epoch_of e.promised m.slot)) (still e) (reports e manager m) (λ t. serves_still e b)
       (λ t. reported e manager m b (λ same. (
         subst (λ k. k ≤ m.epoch) (one_epoch e.promised part)
-            (subst (λ x. epoch_of e.promised x ≤ m.epoch) same (not_below m.epoch (epoch_of e.promised m.slot) t)),
+            (subst (λ x. epoch_of e.promised x ≤ m.epoch) same (ltb-false m.epoch (epoch_of e.promised m.slot) t)),
         within same,
       )))
 

@@ -3,6 +3,7 @@ use Rattle.std.proofs.Common.{◌≡◌, ◌⊎◌, ℕ, zero, suc, ◌+◌, ◌
 use Rattle.std.specs.List.{AllByRecursion, list_all}
 use Rattle.std.proofs.lemmas.Bool.Decides.{nat_tests}
 use Rattle.std.proofs.lemmas.List.Elements.{All-from_recursion, recursion_from_All}
+use Rattle.std.proofs.lemmas.Bool.{eqb-true}
 use Rattle.log_owner.proofs.Behaving as behaving
 use Rattle.log_owner.proofs.Promising as promising
 use Rattle.log_owner.specs.Behaves.{IsOf}
@@ -46,6 +47,7 @@ use Rattle.xfs_base.proofs.Booleans.{by_test, and_first, and_second}
 use Rattle.xfs_base.specs.declared.news.SlotNews.{SlotNews}
 use Rattle.xfs_base.specs.Limits.{u32_end}
 use Rattle.xfs_base.specs.Steps.{saying, still}
+use Rattle.xfs_base.proofs.Alls.{all_append, all_weaker}
 use Rattle.node_ties.specs.node_tie.CleanerEvents.{Bounded, CleanerDoes, CleanerGets, CleanerGoes, CleanerOwed, CleanerStands, CleanerStarts, CleanerTakes, OpensLater, OpensSo, ServesSo}
 use Rattle.node_ties.specs.node_tie.ClientEvents.{AwaitsFirst}
 use Rattle.node_ties.specs.node_tie.Sight.{CleanerSends}
@@ -54,10 +56,6 @@ use Rattle.node_ties.proofs.node_tie.CleanerEmptying as emptying
 use Rattle.node_ties.proofs.node_tie.CleanerTurns.{cleaner_runs}
 use Rattle.node_ties.proofs.node_tie.ClientOpening as client_opening
 use Rattle.node_ties.proofs.node_tie.OpeningSends.{start_does, packet_does, tick_does, cleaner_opening}
-use Rattle.node_ties.proofs.node_tie.StoreFrames.{all_append, all_weaker}
-
-same : (n m : ℕ) → (n == m) ≡ true → n ≡ m
-same n m t = grind (arith, nat_tests)
 
 -- the next incarnation is a later one
 raised : (l : Lasting) (number : ℕ) → has_room l.inc ≡ true → l.inc < (next_life l number).inc
@@ -224,9 +222,9 @@ module _ (part promised limit : ℕ) (small : part < 8) (low : promised ≤ limi
     brings_so (body.Welcome w) gets logs = λ meant.
         let formed : (are_from 0 w.news.slots && list_all is_slot_news w.news.slots) ≡ true = and_second (length w.news.slots == 8)
         (are_from 0 w.news.slots && list_all is_slot_news w.news.slots) logs in
-        let incs : w.inc ≡ l.inc = same w.inc o.known.owner.inc (and_first (w.inc == o.known.owner.inc) (fits o.known.maps w.news) meant) ∙ stands.owner in
+        let incs : w.inc ≡ l.inc = eqb-true w.inc o.known.owner.inc (and_first (w.inc == o.known.owner.inc) (fits o.known.maps w.news) meant) ∙ stands.owner in
         client_opening.welcome_promises part promised limit small w.news.slots
-        (same (length w.news.slots) 8 (and_first (length w.news.slots == 8) (are_from 0 w.news.slots && list_all is_slot_news w.news.slots) logs))
+        (eqb-true (length w.news.slots) 8 (and_first (length w.news.slots == 8) (are_from 0 w.news.slots && list_all is_slot_news w.news.slots) logs))
         (and_first (are_from 0 w.news.slots) (list_all is_slot_news w.news.slots) formed)
         (each w.news.slots (recursion_from_All (λ (x : SlotNews). x.slot ≡ part → promised ≤ x.epoch) w.news.slots (gets.1 incs))
         (recursion_from_All (λ (x : SlotNews). x.slot ≡ part → x.epoch ≤ limit) w.news.slots gets.0))

@@ -39,9 +39,10 @@ use Rattle.xfs_base.specs.declared.entry.Place.{Place}
 use Rattle.xfs_base.specs.declared.segment.SegName.{SegName}
 use Rattle.xfs_base.specs.declared.segment.SegRef.{SegRef}
 use Rattle.xfs_base.specs.Steps.{saying, still, steps}
+use Rattle.xfs_base.proofs.Alls.{all_append, all_flat_map, all_map}
 use Rattle.node_ties.specs.node_tie.Sight.{CleanerSends}
 use Rattle.node_ties.specs.node_tie.StoreEvents.{Says, AllSay}
-use Rattle.node_ties.proofs.node_tie.StoreFrames.{all_append, all_map, all_flat_map, answers_say}
+use Rattle.node_ties.proofs.node_tie.StoreFrames.{answers_say}
 
 -- what the job sends: a Hello in this incarnation at most
 abbrev pub JobSends : ℕ → Body → Type 0

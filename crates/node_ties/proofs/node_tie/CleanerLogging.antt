@@ -9,6 +9,7 @@ use Rattle.xfs_base.specs.declared.entry.Place.{Place}
 use Rattle.xfs_base.specs.declared.segment.SegName.{SegName}
 use Rattle.xfs_base.specs.declared.segment.SegRef.{SegRef}
 use Rattle.xfs_base.specs.Steps.{still, steps}
+use Rattle.xfs_base.proofs.Alls.{all_weaker}
 use Rattle.client_log.specs.declared.input.In.{In as LogIn}
 use Rattle.client_log.specs.declared.input.In.TheVariants as log_in
 use Rattle.client_log.specs.Transition as log
@@ -38,7 +39,6 @@ use Rattle.node_ties.specs.node_tie.CleanerLogs.{its_log, PhaseCopies, ServesCop
 use Rattle.node_ties.proofs.node_tie.BooksLast.{Lasts}
 use Rattle.node_ties.proofs.node_tie.CleanerBooks.{BooksGo, books_stay, books_through, copy_grown, PutCopies, log_goes}
 use Rattle.node_ties.proofs.node_tie.CleanerMoves.{MoveCopies, OutCopies, InputTold, phase_grown, cleaning_copies}
-use Rattle.node_ties.proofs.node_tie.StoreFrames.{all_weaker}
 
 abbrev pub JobCopies : Books → Option Job → Type 0
 JobCopies k job = IfSome job (λ (j : Job). PhaseCopies k j.cleaning.phase)

@@ -11,6 +11,7 @@ use Rattle.xfs_base.specs.declared.news.SlotNews.{SlotNews}
 use Rattle.xfs_base.specs.declared.segment.SegName.{SegName}
 use Rattle.xfs_base.specs.declared.segment.SegRef.{SegRef}
 use Rattle.xfs_base.specs.Steps.{still}
+use Rattle.xfs_base.proofs.Alls.{all_map, all_weaker}
 use Rattle.segment_format.specs.declared.segment.Item.{Item}
 use Rattle.segment_format.specs.declared.segment.Item.TheVariants.{Block, Delta, Part}
 use Rattle.segment_format.specs.declared.segment.Segment.{Segment}
@@ -37,7 +38,6 @@ use Rattle.token_law.specs.Books.{Books}
 use Rattle.node_ties.specs.node_tie.CleanerLogs.{IsCopy, FateCopies, PhaseCopies, FateTold, PhaseTold}
 use Rattle.node_ties.proofs.node_tie.BooksLast.{Lasts}
 use Rattle.node_ties.proofs.node_tie.CleanerBooks.{copy_grown}
-use Rattle.node_ties.proofs.node_tie.StoreFrames.{all_map, all_weaker}
 
 module _ (k : Books) where
   abbrev CheckCopies : Check → Type 0

@@ -1,9 +1,10 @@
 -- The books of one log, changed by one thing that happens to it: what of them stays.
 use Rattle.std.proofs.Common.{◌≡◌, ◌≤◌, ◌<◌, ℕ, suc, ◌==◌, Bool, true, false, cond, refl, sym, ap, subst, ◌∙◌, arith}
 use Rattle.std.proofs.lemmas.Bool.Decides.{nat_tests}
+use Rattle.std.proofs.lemmas.Bool.{eqb-true, ne_eqb}
 use Rattle.token_law.specs.Books.{Books, sealed, filed}
 use Rattle.token_protocol.specs.Basics.{put}
-use Rattle.xfs_base.proofs.Booleans.{contrary}
+use Rattle.xfs_base.proofs.Booleans.{contrary, equal_itself}
 use Rattle.node_ties.specs.node_tie.ClientLogs.{NothingBeyond}
 use Rattle.node_ties.specs.node_tie.Sight.{SameLog}
 use Rattle.node_ties.proofs.node_tie.ClientRows.{Rows}
@@ -11,16 +12,10 @@ use Rattle.node_ties.proofs.node_tie.ClientRows.{Rows}
 -- ---- a function changed at one place
 
 pub put_here : {X : Type 0} (f : ℕ → X) (c : ℕ) (x : X) → put f c x c ≡ x
-put_here f c x = ap (λ t. cond t x (f c)) (itself c)
-  where
-    itself : (n : ℕ) → (n == n) ≡ true
-    itself n = grind (arith, nat_tests)
+put_here f c x = ap (λ t. cond t x (f c)) (equal_itself c)
 
 pub put_there : {X : Type 0} (f : ℕ → X) (c : ℕ) (x : X) (d : ℕ) → (d ≡ c → ⊥) → put f c x d ≡ f d
-put_there f c x d other = ap (λ t. cond t x (f d)) (apart d c other)
-  where
-    apart : (n m : ℕ) → (n ≡ m → ⊥) → (n == m) ≡ false
-    apart n m h = grind (arith, nat_tests)
+put_there f c x d other = ap (λ t. cond t x (f d)) (ne_eqb d c other)
 
 -- ---- what stays
 
@@ -95,15 +90,12 @@ onward_on k m o c p q = record {
     between : (a b d : ℕ) → a ≤ b → b ≤ d → d ≡ a → b ≡ a
     between a b d h i e = omega (arith, h, i, e)
 
-    same : (a b : ℕ) → (a == b) ≡ true → a ≡ b
-    same a b t = grind (arith, nat_tests)
-
     above : (a b : ℕ) → (b == a) ≡ false → a ≤ b → suc a ≤ b
     above a b t h = grind (arith, nat_tests)
 
     by_end : k.flying c ≡ true → (t : Bool) → (m.end c == k.end c) ≡ t → o.rows c (suc (k.end c)) ≡ k.rows c (suc (k.end c))
     by_end flies true t =
-        let e : m.end c ≡ k.end c = same (m.end c) (k.end c) t in
+        let e : m.end c ≡ k.end c = eqb-true (m.end c) (k.end c) t in
         subst (λ x. o.rows c (suc x) ≡ m.rows c (suc x)) e (q.flown (p.lands flies e)) ∙ p.flown flies
     by_end flies false t = q.past (suc (k.end c)) (above (k.end c) (m.end c) t p.rises) ∙ p.flown flies
 

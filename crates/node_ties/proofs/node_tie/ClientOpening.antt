@@ -6,6 +6,7 @@ use Rattle.std.proofs.lemmas.Bool.Decides.{nat_tests}
 use Rattle.std.proofs.lemmas.List.{get_or-set_same, get_or-set_other}
 use Rattle.std.proofs.lemmas.List.Elements.{All-from_recursion, All-weaker}
 use Rattle.std.proofs.Math.ListN.{length-set}
+use Rattle.std.proofs.lemmas.Bool.{eqb-true}
 use Rattle.log_owner.specs.Behaves.{MayAct, MaySay, MayDo}
 use Rattle.log_owner.specs.declared.ended.Owner.{Owner}
 use Rattle.log_owner.specs.declared.opening.Stage.{Stage}
@@ -103,9 +104,6 @@ module _ (part low high : ℕ) (small : part < 8) where
   abbrev pub Says : SlotNews → Type 0
   Says news = news.slot ≡ part → (low ≤ news.epoch) × (news.epoch ≤ high)
 
-  same : (n m : ℕ) → (n == m) ≡ true → n ≡ m
-  same n m t = grind (arith, nat_tests)
-
   apart : (n m : ℕ) → (n == m) ≡ false → m ≡ n → ⊥
   apart n m t = grind (arith, nat_tests)
 
@@ -153,7 +151,7 @@ module _ (part low high : ℕ) (small : part < 8) where
   promise_keeps p news says h = by_slot (news.slot == part) refl
     where
       by_slot : (t : Bool) → (news.slot == part) ≡ t → Bounded part low high (promise p news)
-      by_slot true fact = promise_here p news h.eight (same news.slot part fact) says
+      by_slot true fact = promise_here p news h.eight (eqb-true news.slot part fact) says
       by_slot false fact = promise_there p news (apart news.slot part fact) h
 
   all_keep : (p : Promised) (slots : List SlotNews) → AllByRecursion Says slots → Bounded part low high p → Bounded part low high (fold promise p slots)
@@ -170,7 +168,7 @@ module _ (part low high : ℕ) (small : part < 8) where
       (next_above above) (promise_eight p news e) says.1)
     where
       here : news.slot ≡ number
-      here = same news.slot number (and_first (news.slot == number) (are_from (number + 1) slots) ordered)
+      here = eqb-true news.slot number (and_first (news.slot == number) (are_from (number + 1) slots) ordered)
 
       next_below : (part ≡ number → ⊥) → number + 1 ≤ part
       next_below other = omega arith
@@ -180,7 +178,7 @@ module _ (part low high : ℕ) (small : part < 8) where
 
       by_slot : (t : Bool) → (number == part) ≡ t → ((part ≡ number → ⊥) → Bounded part low high (fold promise (promise p news) slots))
           → Bounded part low high (fold promise (promise p news) slots)
-      by_slot true fact rest = all_keep (promise p news) slots says.1 (promise_here p news e (here ∙ same number part fact) says.0)
+      by_slot true fact rest = all_keep (promise p news) slots says.1 (promise_here p news e (here ∙ eqb-true number part fact) says.0)
       by_slot false fact rest = rest (apart number part fact)
 
   pub welcome_promises : (slots : List SlotNews) → length slots ≡ 8 → are_from 0 slots ≡ true → AllByRecursion Says slots

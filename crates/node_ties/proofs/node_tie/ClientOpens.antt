@@ -1,8 +1,8 @@
 -- A client that opens its log again, in each event as the small world sees it.
 use Rattle.std.proofs.Common.{◌≡◌, ◌≤◌, ◌<◌, ◌⊎◌, ℕ, ◌==◌, ◌&&◌, Bool, true, false, List, [], ◌∷◌, ◌++◌, Option, Some, None, length, refl, sym, ap, subst, ◌∙◌, arith, inl, inr, append_assoc}
 use Rattle.std.specs.List.{AllByRecursion, list_all}
-use Rattle.std.proofs.lemmas.Bool.Decides.{nat_tests}
 use Rattle.std.proofs.lemmas.List.Elements.{All-nil, All-cons, All-append, recursion_from_All}
+use Rattle.std.proofs.lemmas.Bool.{eqb-true}
 use Rattle.client_node.specs.declared.phase.Phase.TheVariants.{Down, Opening, Serving as Serves}
 use Rattle.client_node.specs.declared.phase.Phase.{Phase}
 use Rattle.client_node.specs.Phases.{Went_to, crashed, served, back, after_opening, opened_on, answers, wish_of, opening_begins}
@@ -62,9 +62,6 @@ use Rattle.node_ties.proofs.node_tie.ClientTokens as tokens
 use Rattle.node_ties.proofs.node_tie.SmallWorld.{premise, premise_by, runs_through, says_all}
 
 -- ---- tests
-
-same : (n m : ℕ) → (n == m) ≡ true → n ≡ m
-same n m t = grind (arith, nat_tests)
 
 -- ---- how an opening ends
 
@@ -283,9 +280,9 @@ module _ (logs : Bool) (members part limit c : ℕ) (small : part < 8) (pos : 0 
     brings_so (body.Welcome w) gets known = λ meant.
         let formed : (are_from 0 w.news.slots && list_all is_slot_news w.news.slots) ≡ true = and_second (length w.news.slots == 8)
         (are_from 0 w.news.slots && list_all is_slot_news w.news.slots) known in
-        let incs : w.inc ≡ l.inc = same w.inc o.known.owner.inc (and_first (w.inc == o.known.owner.inc) (fits o.known.maps w.news) meant) ∙ sees.owner in
+        let incs : w.inc ≡ l.inc = eqb-true w.inc o.known.owner.inc (and_first (w.inc == o.known.owner.inc) (fits o.known.maps w.news) meant) ∙ sees.owner in
         welcome_promises part (epoch_of (n.tokens c).epochs part) limit small w.news.slots
-        (same (length w.news.slots) 8 (and_first (length w.news.slots == 8) (are_from 0 w.news.slots && list_all is_slot_news w.news.slots) known))
+        (eqb-true (length w.news.slots) 8 (and_first (length w.news.slots == 8) (are_from 0 w.news.slots && list_all is_slot_news w.news.slots) known))
         (and_first (are_from 0 w.news.slots) (list_all is_slot_news w.news.slots) formed)
         (each w.news.slots (recursion_from_All (λ (x : SlotNews). x.slot ≡ part → epoch_of (n.tokens c).epochs part ≤ x.epoch) w.news.slots (gets.1 incs))
         (recursion_from_All (λ (x : SlotNews). x.slot ≡ part → x.epoch ≤ limit) w.news.slots gets.0))

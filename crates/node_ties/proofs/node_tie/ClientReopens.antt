@@ -3,6 +3,7 @@
 use Rattle.std.proofs.Common.{◌≡◌, ℕ, zero, suc, ◌<◌, ◌==◌, Bool, true, false, List, [], ◌∷◌, ◌++◌, Option, None, inl, refl, sym, ap, subst, ◌∙◌, arith}
 use Rattle.std.specs.List.{AllByRecursion}
 use Rattle.std.proofs.lemmas.Bool.Decides.{nat_tests}
+use Rattle.std.proofs.lemmas.Bool.{eqb-true}
 use Rattle.act_tie.specs.BlockActs.{is_adopted}
 use Rattle.client_log.specs.LogState.{LogState}
 use Rattle.log_flight.specs.declared.dirty.Change.{Change}
@@ -46,9 +47,6 @@ discarded_rests k c h = record { flying = put_here k.flying c false; blank = λ 
     row : (q : ℕ) → (discarded k c).rows c q ≡ put (k.rows c) (suc (k.end c)) [] q
     row q = ap (λ (f : ℕ → Rows). f q) (put_here k.rows c (put (k.rows c) (suc (k.end c)) []))
 
-    fact : (a b : ℕ) → (a == b) ≡ true → a ≡ b
-    fact a b t = grind (arith, nat_tests)
-
     further : (q e : ℕ) → (q == suc e) ≡ false → e < q → suc e < q
     further q e t past = grind (arith, nat_tests)
 
@@ -57,7 +55,7 @@ discarded_rests k c h = record { flying = put_here k.flying c false; blank = λ 
 
     by_next : (q : ℕ) → k.end c < q → (t : Bool) → (q == suc (k.end c)) ≡ t → (discarded k c).rows c q ≡ []
     by_next q past true t =
-        row q ∙ ap (put (k.rows c) (suc (k.end c)) []) (fact q (suc (k.end c)) t) ∙ put_here (k.rows c) (suc (k.end c)) []
+        row q ∙ ap (put (k.rows c) (suc (k.end c)) []) (eqb-true q (suc (k.end c)) t) ∙ put_here (k.rows c) (suc (k.end c)) []
     by_next q past false t =
         row q ∙ put_there (k.rows c) (suc (k.end c)) [] q (apart q (k.end c) (further q (k.end c) t past)) ∙ h q (further q (k.end c) t past)
 

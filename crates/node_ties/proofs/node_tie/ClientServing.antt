@@ -3,6 +3,7 @@ use Rattle.std.proofs.Common.{◌≡◌, ◌≤◌, ◌<◌, ℕ, ◌+◌, Bool,
 use Rattle.std.specs.Prelude.{All}
 use Rattle.std.proofs.lemmas.Bool.Decides.{nat_tests}
 use Rattle.std.proofs.lemmas.List.Elements.{All-nil, All-cons}
+use Rattle.std.proofs.lemmas.Bool.{leb-true}
 use Rattle.client_log.specs.declared.input.In.TheVariants as log_in
 use Rattle.client_node.specs.declared.phase.Phase.TheVariants.{Serving as Serves}
 use Rattle.client_parts.specs.declared.call.Going.{Going}
@@ -171,14 +172,11 @@ filed_stay k m c flight on flies low = record { rises = on.rises; upto = low; ro
     below : (q a b : ℕ) → q ≤ a → a ≤ b → q ≤ b
     below q a b h i = omega (arith, h, i)
 
-    within : (q e : ℕ) → nat_le q e ≡ true → q ≤ e
-    within q e t = grind (arith, nat_tests)
-
     next : (q e end : ℕ) → nat_le q e ≡ false → q ≤ end → end ≤ e + 1 → suc e ≡ q
     next q e end t h i = grind (arith, nat_tests)
 
     by_end : k.flying c ≡ true → m.end c ≤ k.end c + 1 → (q : ℕ) → q ≤ m.end c → (t : Bool) → nat_le q (k.end c) ≡ t → m.rows c q ≡ k.rows c q
-    by_end flies low q upto true t = on.past q (within q (k.end c) t)
+    by_end flies low q upto true t = on.past q (leb-true q (k.end c) t)
     by_end flies low q upto false t = subst (λ x. m.rows c x ≡ k.rows c x) (next q (k.end c) (m.end c) t upto low) (on.flown flies)
 
     by_flight : (o : Option FlightState) → k.flying c ≡ is_some o → m.end c ≤ end_upto (k.end c) o → (q : ℕ) → q ≤ m.end c → m.rows c q ≡ k.rows c q

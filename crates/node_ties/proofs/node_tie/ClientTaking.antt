@@ -4,6 +4,7 @@ use Rattle.std.specs.List.{AllByRecursion}
 use Rattle.std.proofs.lemmas.Bool.Decides.{nat_tests}
 use Rattle.std.proofs.lemmas.List.{get_or-set_same, get_or-set_other}
 use Rattle.std.proofs.Math.ListN.{length-set}
+use Rattle.std.proofs.lemmas.Bool.{eqb-true}
 use Rattle.client_log.specs.LogState.{LogState}
 use Rattle.xfs_base.specs.declared.block.BlockId.{BlockId}
 use Rattle.xfs_base.specs.Modes.{is_held}
@@ -207,15 +208,12 @@ module _ (logs : Bool) (members part limit c life room highest : ℕ) where
       → Promised part limit (slice_set epochs slot epoch)
   promise_may small slot epoch fits epochs h = record { eight = length-set epochs slot epoch ∙ h.eight; within = by_slot (slot == part) refl }
     where
-      same : (n m : ℕ) → (n == m) ≡ true → n ≡ m
-      same n m t = grind (arith, nat_tests)
-
       apart : (n m : ℕ) → (n == m) ≡ false → m ≡ n → ⊥
       apart n m t = grind (arith, nat_tests)
 
       by_slot : (t : Bool) → (slot == part) ≡ t → epoch_of (slice_set epochs slot epoch) part ≤ limit
       by_slot true fact =
-          let here : slot ≡ part = same slot part fact in
+          let here : slot ≡ part = eqb-true slot part fact in
           let inside : part < length epochs = (let e : length epochs ≡ 8 = h.eight in omega arith) in
           subst (λ k. epoch_of (slice_set epochs k epoch) part ≤ limit) (sym here)
           (subst (λ m. m ≤ limit) (sym (get_or-set_same epochs part epoch 0 inside)) (fits here))

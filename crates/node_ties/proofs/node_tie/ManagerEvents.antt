@@ -8,6 +8,7 @@ use Rattle.std.proofs.lemmas.List.Elements.{All-from_recursion}
 use Rattle.xfs_base.proofs.Booleans.{by_test, contrary, and_first, and_second}
 use Rattle.xfs_base.specs.Steps.{still}
 use Rattle.xfs_base.specs.declared.node.NodeId.TheVariants.{Manager}
+use Rattle.xfs_base.proofs.Alls.{all_append}
 use Rattle.node_base.specs.Beginning.{next_item, work_at, answers_unanswered}
 use Rattle.node_base.specs.Maps.{fits, forgotten}
 use Rattle.node_base.specs.Room.{has_room}
@@ -48,7 +49,7 @@ use Rattle.node_ties.proofs.node_tie.ManagerActive.{some_none}
 use Rattle.node_ties.proofs.node_tie.ManagerCheckpoints.{answers_done, quiet_checkpoint}
 use Rattle.node_ties.proofs.node_tie.SmallWorld.{neutral_acts, runs_through, says_all}
 use Rattle.node_ties.proofs.node_tie.ManagerFrames.{manager_on}
-use Rattle.node_ties.proofs.node_tie.ManagerMoves.{AllDone, DoesAt, stays_same, all_both}
+use Rattle.node_ties.proofs.node_tie.ManagerMoves.{AllDone, DoesAt, stays_same}
 use Rattle.node_ties.proofs.node_tie.ManagerHears.{WentOf, went_serving, went_opening, went_hears}
 use Rattle.node_ties.proofs.node_tie.ManagerServes.{Of, serves_quiet, serves_tick}
 
@@ -180,7 +181,7 @@ module _ (logs : Bool) (members part limit j : ℕ) (exists : part < 8) (n : Net
   unfolding crashes
   crash_goes p what kept number is_j later =
       to_down logs members part limit j n p what (with_answer kept) _ is_j later
-      (all_both (DoesAt logs members part limit kept.inc n) (answers_unanswered kept.items.unanswered answer.Cut) (Answers number answer.Done ∷ [])
+      (all_append (DoesAt logs members part limit kept.inc n) (answers_unanswered kept.items.unanswered answer.Cut) (Answers number answer.Done ∷ [])
       (answers_done logs members part limit kept.inc exists n kept.items.unanswered answer.Cut) (tt, tt))
 
   rises_by_one : (inc : ℕ) → has_room inc ≡ true → inc < risen inc

@@ -7,6 +7,7 @@ use Rattle.wire_msg.specs.declared.body.Body.{Body}
 use Rattle.wire_msg.specs.declared.body.Body.TheVariants as body
 use Rattle.xfs_base.specs.declared.node.NodeId.{NodeId}
 use Rattle.xfs_base.specs.declared.node.NodeId.TheVariants.{Client, Manager, Server, Cleaner, Registry}
+use Rattle.xfs_base.proofs.Alls.{all_append, all_weaker}
 use Rattle.manager_parts.specs.Slots.{epoch_of}
 use Rattle.manager_parts.specs.declared.slot_phase.SlotPhase.{SlotPhase}
 use Rattle.manager_parts.specs.declared.slot_phase.SlotPhase.TheVariants as phase
@@ -26,14 +27,6 @@ pub in_front : {X : Type 0} (x : X) (xs ys : List X) → In x xs → In x (xs ++
 in_front x [] ys fact = absurd fact
 in_front x (z ∷ zs) ys (inl same) = inl same
 in_front x (z ∷ zs) ys (inr fact) = inr (in_front x zs ys fact)
-
-pub all_both : {X : Type 0} (P : X → Type 0) (xs ys : List X) → AllByRecursion P xs → AllByRecursion P ys → AllByRecursion P (xs ++ ys)
-all_both P [] ys all more = more
-all_both P (x ∷ xs) ys all more = (all.0, all_both P xs ys all.1 more)
-
-pub all_weaker : {X : Type 0} (P Q : X → Type 0) → ((x : X) → P x → Q x) → (xs : List X) → AllByRecursion P xs → AllByRecursion Q xs
-all_weaker P Q f [] all = tt
-all_weaker P Q f (x ∷ xs) all = (f x all.0, all_weaker P Q f xs all.1)
 
 -- what is held is held at the epoch of the slot
 pub held_is : (p : SlotPhase) (e : ℕ) → HeldAt p e → epoch_of p ≡ e
@@ -134,7 +127,7 @@ module _ (logs : Bool) (members part limit life : ℕ) where
     epoch = u.epoch ∙ t.epoch;
     taking = λ e h. t.taking e (u.taking e h);
     held = λ e h. t.held e (u.held e h);
-    does = all_both (DoesAt n) outs more t.does u.does;
+    does = all_append (DoesAt n) outs more t.does u.does;
   }
 
   pub moves_then : (n m o : Net) (p q r : SlotPhase) (outs more : List Effect) → Moves n m p q outs → Moves m o q r more → Moves n o p r (outs ++ more)
@@ -150,7 +143,7 @@ module _ (logs : Bool) (members part limit life : ℕ) where
     taking = λ e h. t.taking e (u.taking e h);
     held = λ e h. t.held e (u.held e h);
     grows = λ x fact. u.grows x (t.grows x fact);
-    does = all_both (DoesAt o) outs more (done_on m o u.grows outs t.does) u.does;
+    does = all_append (DoesAt o) outs more (done_on m o u.grows outs t.does) u.does;
   }
     where
       by : (e : ℕ) (z : SlotState) (o_ : Option SlotState) → m.slots e ≡ o_ → o.slots e ≡ Some z → n.slots e ≡ None → TakingAt p e × (e ≤ n.promised)
@@ -172,7 +165,7 @@ module _ (logs : Bool) (members part limit life : ℕ) where
   rises_then named n p q r outs more t u = record {
     rises = let a = t.rises in let b = u.rises in omega arith;
     held = λ e h. ⊎_elim (λ k. t.held e k) (λ k. let a = t.rises in let b = k.1 in inr (k.0, omega arith)) (u.held e h);
-    does = all_both (DoesAt n) outs more t.does u.does;
+    does = all_append (DoesAt n) outs more t.does u.does;
   }
 
   -- ---- the slot moves, and then rises
@@ -203,7 +196,7 @@ module _ (logs : Bool) (members part limit life : ℕ) where
     entered = t.entered;
     held = λ e h. ⊎_elim (λ k. inl (t.held e k)) (λ k. let a = t.epoch in let b = k.1 in inr (k.0, omega arith)) (u.held e h);
     grows = t.grows;
-    does = all_both (DoesAt m) outs more t.does u.does;
+    does = all_append (DoesAt m) outs more t.does u.does;
   }
 
   pub goes_moving : (named : ℕ → Type 0) (n m : Net) (p q : SlotPhase) (outs : List Effect) → Moves n m p q outs → Goes named n m p q outs
@@ -237,5 +230,5 @@ module _ (logs : Bool) (members part limit life : ℕ) where
     entered = t.entered;
     held = λ e h. t.held e (u.held e h);
     grows = t.grows;
-    does = all_both (DoesAt m) outs more t.does u.does;
+    does = all_append (DoesAt m) outs more t.does u.does;
   }

@@ -15,6 +15,7 @@ use Rattle.xfs_base.specs.declared.segment.End.{End}
 use Rattle.xfs_base.specs.declared.token.Mode.{Mode}
 use Rattle.xfs_base.proofs.NodeOrder.{same_node_itself, same_node_is}
 use Rattle.xfs_base.specs.Nodes.{same_node}
+use Rattle.xfs_base.proofs.Alls.{all_append}
 use Rattle.slot_beliefs.specs.Recalls.{applied_of}
 use Rattle.takeover.specs.declared.report.Report.{Report as Heard}
 use Rattle.takeover.specs.Reports.{applied_of as applied_by, polled, client_after, end_from, held_by, beliefs_of}
@@ -29,7 +30,7 @@ use Rattle.token_protocol.specs.Basics.{put, In}
 use Rattle.token_protocol.specs.Premises.{Premise}
 use Rattle.token_tie.specs.Epochs.{reported, all_reported}
 use Rattle.node_ties.specs.node_tie.ManagerEvents.{ReportKnown, ends_of}
-use Rattle.node_ties.proofs.node_tie.ManagerMoves.{in_front, all_both}
+use Rattle.node_ties.proofs.node_tie.ManagerMoves.{in_front}
 use Rattle.node_ties.proofs.node_tie.ManagerTakes.{IsOnce, heard_is, all_heard}
 
 -- ---- the reports, as the small world has them
@@ -157,7 +158,7 @@ module _ (members part : ℕ) (n : Net) where
   are_clients : (e : ℕ) (reports : List Heard) → ((r : Heard) → In r reports → ReportKnown members part n e r.from r.held r.end)
       → AllByRecursion IsClient (order_of reports)
   are_clients e [] known = tt
-  are_clients e (r ∷ rs) known = all_both IsClient (client_of r.from) (order_of rs) (one r.from r.held r.end (known r (inl refl)))
+  are_clients e (r ∷ rs) known = all_append IsClient (client_of r.from) (order_of rs) (one r.from r.held r.end (known r (inl refl)))
       (are_clients e rs (λ q fact. known q (inr fact)))
     where
       one : (node : NodeId) (held : List (BlockId × Mode)) (end : End) → ReportKnown members part n e node held end → AllByRecursion IsClient (client_of node)

@@ -1,7 +1,6 @@
 -- What a takeover makes of its inputs in the small world: nothing, or in the end that the slot is active there.
-use Rattle.std.proofs.Common.{◌≡◌, ℕ, ◌+◌, ◌==◌, ◌≤◌, ◌<◌, nat_lt, Bool, true, false, List, [], ◌∷◌, inl, inr, ⊎_elim, filter, Some, None, refl, sym, ap, subst, ◌∙◌, arith}
-use Rattle.std.proofs.lemmas.Bool.{eqb-true}
-use Rattle.std.proofs.lemmas.Bool.Decides.{nat_tests}
+use Rattle.std.proofs.Common.{◌≡◌, ℕ, ◌+◌, ◌==◌, ◌≤◌, ◌<◌, nat_lt, Bool, List, [], ◌∷◌, inl, inr, ⊎_elim, filter, Some, None, refl, sym, ap, subst, ◌∙◌, arith}
+use Rattle.std.proofs.lemmas.Bool.{eqb-true, ltb-false, ltb-true}
 use Rattle.std.proofs.lemmas.List.Elements.{All-nil}
 use Rattle.xfs_base.proofs.Booleans.{by_test}
 use Rattle.xfs_base.specs.Blocks.{slot_of}
@@ -12,6 +11,7 @@ use Rattle.xfs_base.specs.declared.node.NodeId.{NodeId}
 use Rattle.xfs_base.specs.declared.node.NodeId.TheVariants.{Client, Manager, Server, Cleaner, Registry}
 use Rattle.xfs_base.specs.declared.segment.SegName.{SegName}
 use Rattle.xfs_base.specs.Steps.{still}
+use Rattle.xfs_base.proofs.Alls.{all_append}
 use Rattle.group_map.specs.GroupMapState.{GroupMapState}
 use Rattle.node_base.specs.declared.effects.Effect.{Effect}
 use Rattle.node_base.specs.declared.questions.Asked.{Asked}
@@ -43,7 +43,7 @@ use Rattle.manager_parts.specs.Takeovers.{Asker, asker, Done, fetches, says, say
 use Rattle.node_ties.specs.node_tie.ManagerEvents.{HeldAt, ReportKnown, TakingAgrees, PhaseAgrees, OtherAgrees, ReportGets, NewsGets, HasGathered, Completes, TakeoverGets, LastReportGets}
 use Rattle.node_ties.proofs.node_tie.SmallWorld.{premise, premise_by}
 use Rattle.node_ties.proofs.node_tie.ManagerActive.{put_here, put_there, some_none, Event, event_staying, event_same, Other}
-use Rattle.node_ties.proofs.node_tie.ManagerMoves.{held_is, DoesAt, Stays, Rises, stays_same, stays_then, rises_of, all_both}
+use Rattle.node_ties.proofs.node_tie.ManagerMoves.{held_is, DoesAt, Stays, Rises, stays_same, stays_then, rises_of}
 use Rattle.node_ties.proofs.node_tie.ManagerPlain.{plain_hands_nothing, maps_said}
 use Rattle.node_ties.proofs.node_tie.ManagerReports.{activates, cleaner_promised}
 use Rattle.node_ties.proofs.node_tie.ManagerTakes.{IsPlain, ArePlain, Hands, Brings, took, tick_said, kept_plain}
@@ -271,7 +271,7 @@ module _ (logs : Bool) (members part limit life : ℕ) where
   other_each n k a (o ∷ os) other agrees =
       let one = other_says n k a o other agrees in
       let rest = other_each n k (says k a o).state os other one.agrees in
-      record { agrees = rest.agrees; does = all_both (DoesAt logs members part limit life n) (says k a o).outs _ one.does rest.does }
+      record { agrees = rest.agrees; does = all_append (DoesAt logs members part limit life n) (says k a o).outs _ one.does rest.does }
 
   abbrev pub OtherAsks : Net → ℕ → Done → Type 0
   OtherAsks n k d = Other logs members part limit life n k d.state.phase d.outs
@@ -341,7 +341,7 @@ module _ (logs : Bool) (members part limit life : ℕ) where
       let begun = phase_of h.ears.number news h.groups h.ears.clients in
       by_test (Rose named n one.phase news) (nat_lt (epoch_of one.phase) news.epoch) (takes (record one { phase = begun }) news.slot input.Tick) (still one)
       (λ less.
-      let later : epoch_of one.phase < news.epoch = is_less (epoch_of one.phase) news.epoch less in
+      let later : epoch_of one.phase < news.epoch = ltb-true (epoch_of one.phase) news.epoch less in
       let b = begins named j n h.ears.number news h.groups h.ears.clients (epoch_of one.phase) is_j many of later gets named_ in
       let in_bound = gets.within in
       let first : epoch_of begun ≡ news.epoch = b.epoch in
@@ -363,14 +363,8 @@ module _ (logs : Bool) (members part limit life : ℕ) where
             (stays_same logs members part limit life n one.phase [] tt);
         agrees = agrees;
         within = low;
-        above = not_less (epoch_of one.phase) news.epoch no;
+        above = ltb-false (epoch_of one.phase) news.epoch no;
       })
-    where
-      is_less : (a b : ℕ) → nat_lt a b ≡ true → a < b
-      is_less a b h = grind (arith, nat_tests)
-
-      not_less : (a b : ℕ) → nat_lt a b ≡ false → b ≤ a
-      not_less a b h = grind (arith, nat_tests)
 
   pub other_hears_of : (n : Net) (h : Hearer) (news : SlotNews) (one : Asker) → (news.slot ≡ part → ⊥) → OtherAgrees news.slot one.phase
       → OtherAsks n news.slot (hears_of h news one)

@@ -23,9 +23,9 @@ use Rattle.wire_msg.specs.declared.storage.Store.{Store}
 use Rattle.xfs_base.specs.declared.node.NodeId.{NodeId}
 use Rattle.xfs_base.specs.declared.node.NodeId.TheVariants.{Client, Manager, Server, Cleaner, Registry}
 use Rattle.xfs_base.specs.declared.segment.SegName.{SegName}
+use Rattle.xfs_base.proofs.Alls.{all_weaker}
 use Rattle.node_ties.specs.node_tie.CleanerEvents.{CleanerDoes}
 use Rattle.node_ties.specs.node_tie.Sight.{ClientDoes}
-use Rattle.node_ties.proofs.node_tie.StoreFrames.{all_weaker}
 
 -- what an opening of this owner may do has the property
 pub record OpeningMay (owner : Owner) (D : Effect → Type 0) : Type 0 where

@@ -32,10 +32,11 @@ use Rattle.xfs_base.specs.declared.node.NodeId.TheVariants.{Client, Manager, Ser
 use Rattle.xfs_base.specs.declared.setup.Setup.{Setup}
 use Rattle.xfs_base.specs.Steps.{still}
 use Rattle.xfs_base.specs.Limits.{u32_end}
+use Rattle.xfs_base.proofs.Alls.{all_append, all_flat_map, all_map}
 use Rattle.node_ties.specs.node_tie.RegistryEvents.{manager_in, inc_in, RegistrySound, HearsHello, RegistrySends, RegistryDoes, BoardGoes, RegistryGoes, RegistryBegins}
 use Rattle.node_ties.proofs.node_tie.RegistryBoard.{goes_still, goes_manager, manager_heard, goes_server, goes_reassigned, goes_done}
 use Rattle.node_ties.proofs.node_tie.RegistryNews.{news_are}
-use Rattle.node_ties.proofs.node_tie.StoreFrames.{all_append, all_map, all_flat_map, all_neutral, packets_do, packets_from}
+use Rattle.node_ties.proofs.node_tie.StoreFrames.{all_neutral, packets_do, packets_from}
 
 -- the incarnations that the event has managers tell of
 abbrev ToldIn : Do → ℕ → ℕ → Type 0

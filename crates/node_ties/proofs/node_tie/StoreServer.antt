@@ -43,9 +43,10 @@ use Rattle.xfs_base.specs.declared.node.NodeId.TheVariants.{Server}
 use Rattle.xfs_base.specs.declared.segment.SegName.{SegName}
 use Rattle.xfs_base.specs.Segments.{pass_cmp}
 use Rattle.xfs_base.specs.Steps.{still}
+use Rattle.xfs_base.proofs.Alls.{all_append}
 use Rattle.node_ties.specs.node_tie.Sight.{ServerSends}
 use Rattle.node_ties.specs.node_tie.StoreEvents.{AllNeutral, Says, AllSay, PacketsSay}
-use Rattle.node_ties.proofs.node_tie.StoreFrames.{all_append, all_steps, answers_say, all_neutral, packets_say, packets_from}
+use Rattle.node_ties.proofs.node_tie.StoreFrames.{all_steps, answers_say, all_neutral, packets_say, packets_from}
 
 -- each effect of the step is no packet, or one that a server sends
 abbrev ServerDoes : Done → Type 0

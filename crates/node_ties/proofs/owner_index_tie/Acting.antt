@@ -1,6 +1,5 @@
 -- What an owner that serves acts to be filed was in flight: with texts of which that alone bears its name, nothing else could be filed.
 use Rattle.std.proofs.Common.{◌≡◌, ◌<◌, ◌==◌, ℕ, suc, Bool, true, false, cond, List, [], Option, Some, None, refl, sym, ap, subst, ◌∙◌, arith}
-use Rattle.std.proofs.lemmas.Bool.Decides.{nat_tests}
 use Rattle.cleaner_emptying.specs.declared.emptying.Emptying.{Emptying}
 use Rattle.cleaner_node.specs.CleanerEvents as cleaners
 use Rattle.cleaner_node.specs.declared.cleaner.Phase as cleaner_phases
@@ -15,7 +14,6 @@ use Rattle.index_tie.specs.Net.{Net}
 use Rattle.log_flight.specs.Flights.{FlightState}
 use Rattle.node_base.specs.declared.effects.Effect.{Effect}
 use Rattle.node_base.specs.declared.effects.Effect.TheVariants.{Send, Answer, Lose, Does}
-use Rattle.node_ties.proofs.node_index_tie.Moves.{all_weaker}
 use Rattle.node_ties.specs.node_index_tie.Pages.{FlightIsText}
 use Rattle.node_ties.specs.node_index_tie.Sight.{RowsFit, Texts}
 use Rattle.segment_format.specs.Rows.{rows_of}
@@ -27,6 +25,8 @@ use Rattle.wire_msg.specs.declared.body.Body.TheVariants as body
 use Rattle.wire_msg.specs.declared.packet.Do.{Do}
 use Rattle.wire_msg.specs.declared.packet.Do.TheVariants.{Begin, Deliver, Tick}
 use Rattle.xfs_base.specs.declared.segment.SegName.{SegName}
+use Rattle.xfs_base.proofs.Booleans.{equal_itself}
+use Rattle.xfs_base.proofs.Alls.{all_weaker}
 use Rattle.node_ties.specs.owner_index_tie.Acting.{ActSo, AllSo, CleanerFilesFlights, ClientsFileFlights, EffectSo, IsFlight, MayLand}
 use Rattle.node_ties.specs.owner_index_tie.CleanerEvents as cleaner_owed
 use Rattle.node_ties.specs.owner_index_tie.ClientEvents as client_owed
@@ -90,10 +90,7 @@ module _ (s : LogState) where
   its_texts = text_in s.flight
 
   are_texts : FlightIsText its_texts s
-  are_texts f fact = ap (λ o. text_in o f.segment.name) fact ∙ ap (λ t. cond t f.segment (another f.segment.name)) (itself f.segment.name.seq)
-    where
-      itself : (q : ℕ) → (q == q) ≡ true
-      itself q = grind (arith, nat_tests)
+  are_texts f fact = ap (λ o. text_in o f.segment.name) fact ∙ ap (λ t. cond t f.segment (another f.segment.name)) (equal_itself f.segment.name.seq)
 
   is_flight : (name : SegName) → IsNamed its_texts name → IsFlight s name
   is_flight name named = (let k = flies s.flight name named in (k.flight, k.flying, k.named))

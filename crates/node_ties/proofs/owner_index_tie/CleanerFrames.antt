@@ -23,7 +23,7 @@ use Rattle.log_protocol.specs.Tables.{In}
 use Rattle.node_base.specs.declared.effects.Effect.{Effect}
 use Rattle.node_base.specs.declared.effects.Effect.TheVariants.{Send, Answer as Answers, Lose, Does}
 use Rattle.node_ties.specs.node_index_tie.Sight.{Texts, Questions, held_in, CheckKnown}
-use Rattle.node_ties.proofs.node_index_tie.Moves.{all_both, all_weaker, runs_through}
+use Rattle.node_ties.proofs.node_index_tie.Moves.{runs_through}
 use Rattle.segment_format.specs.declared.segment.Segment.{Segment}
 use Rattle.version_model.specs.declared.act.Act.{Act}
 use Rattle.version_model.specs.declared.act.Act.TheVariants.{Filed as ActsFiled, Dropped}
@@ -32,6 +32,7 @@ use Rattle.wire_msg.specs.declared.body.Body.TheVariants as body
 use Rattle.wire_msg.specs.declared.cleaning.Check.{Check}
 use Rattle.xfs_base.specs.Steps.{Stepped, saying, steps}
 use Rattle.xfs_base.specs.declared.segment.SegName.{SegName}
+use Rattle.xfs_base.proofs.Alls.{all_append, all_weaker}
 use Rattle.node_ties.specs.owner_index_tie.CleanerEvents.{JobAgrees, EmptyingSeen, IsMoved, MayAsk, SaysOwed, EffectOwed, CleanerSays, CleanerActs, CleanerDoes}
 use Rattle.node_ties.specs.owner_index_tie.Acting.{ActSo, AllSo, EffectSo}
 use Rattle.node_ties.specs.owner_index_tie.Filing.{IsSameLog, filing, after_act, after_effect, filed_after, FilesNext, FilesOwed}
@@ -228,7 +229,7 @@ module _ (New : Filed → Segment → Type 0) (part : ℕ) (texts : Texts) (sinc
               questions = two.questions;
               kept = λ x fact. two.kept x (one.kept x fact);
               stands = two.stands;
-              says = all_both (CleanerDoes part two.questions two.next since) d.outs e.outs
+              says = all_append (CleanerDoes part two.questions two.next since) d.outs e.outs
                   (all_weaker (CleanerDoes part one.questions one.next since) (CleanerDoes part two.questions two.next since)
                   (does_later part since one.questions two.questions two.kept one.next two.next two.grows) d.outs one.says)
                   two.says;
@@ -239,7 +240,7 @@ module _ (New : Filed → Segment → Type 0) (part : ℕ) (texts : Texts) (sinc
             let first = all_before (EffectOwed part n) d.outs e.outs asks in
             let these = p.1 first may in
             let one = p.0 (record { files = owed_named New texts 9 may n.filed d.outs these; asks = first }) in
-            all_both (EffectSo (IsNamed texts)) d.outs e.outs these
+            all_append (EffectSo (IsNamed texts)) d.outs e.outs these
             ((k one).1 (all_owed_later part n one.next one.grows e.outs (all_behind (EffectOwed part n) d.outs e.outs asks)) may)
 
   pub went_on : (asked : Questions) (n : Net) (d e : Stepped Emptying Effect) → Goes asked n d
@@ -345,7 +346,7 @@ module _ (New : Filed → Segment → Type 0) (part : ℕ) (texts : Texts) (sinc
       → Goes asked n (saying outs d)
   went_behind asked n outs d all p = (
     λ owed. behind owed,
-    λ asks may. all_both (EffectSo (IsNamed texts)) outs d.outs (plain_named asked n outs all) (p.1 (all_behind (EffectOwed part n) outs d.outs asks) may),
+    λ asks may. all_append (EffectSo (IsNamed texts)) outs d.outs (plain_named asked n outs all) (p.1 (all_behind (EffectOwed part n) outs d.outs asks) may),
   )
     where
       behind : Owed n (outs ++ d.outs) → Went asked n At d.state (outs ++ d.outs)
@@ -364,7 +365,7 @@ module _ (New : Filed → Segment → Type 0) (part : ℕ) (texts : Texts) (sinc
             questions = w.questions;
             kept = w.kept;
             stands = w.stands;
-            says = all_both (CleanerDoes part w.questions w.next since) outs d.outs
+            says = all_append (CleanerDoes part w.questions w.next since) outs d.outs
                 (all_weaker (Plain asked n) (CleanerDoes part w.questions w.next since)
                 (λ e k. does_later part since asked w.questions w.kept n w.next w.grows e (plain_does asked n e k)) outs all)
                 w.says;

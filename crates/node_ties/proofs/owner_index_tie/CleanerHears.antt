@@ -1,7 +1,7 @@
 -- What each packet that is for its job, and a Poll, make of a cleaner that serves.
 use Rattle.index_tie.specs.Filed.{Filed}
 use Rattle.std.proofs.Common.{◌≡◌, ◌≤◌, ◌<◌, ◌==◌, ℕ, Bool, true, false, List, [], Option, Some, None, nat_lt, refl, subst, arith}
-use Rattle.std.proofs.lemmas.Bool.{eqb-true}
+use Rattle.std.proofs.lemmas.Bool.{eqb-true, ltb-false}
 use Rattle.std.proofs.lemmas.Bool.Decides.{nat_tests}
 use Rattle.cleaner_emptying.specs.declared.emptying.Emptying.{Emptying}
 use Rattle.cleaner_emptying.specs.EmptyingEvents.{on_ack, reports, polled, on_poll}
@@ -195,16 +195,13 @@ module _ (New : Filed → Segment → Type 0) (part : ℕ) (texts : Texts) (sinc
 
   -- ---- a Poll
 
-  no_later : (a b : ℕ) → nat_lt a b ≡ false → b ≤ a
-  no_later a b fact = grind (arith, nat_tests)
-
   polled_by : (e : Emptying) (manager : ℕ) (p : Poll) → At e → PollGets part n e p → Goes (polled e manager p)
   polled_by e manager p h gets =
       by_test Goes (nat_lt p.epoch (epoch_of e.promised p.slot)) (still e) (reports e manager p) (λ _. still_so e h)
       (λ fact. polled_so New part texts since answered small asked n p.slot p.epoch manager e h (late fact) (λ same. gets same (late fact same)))
     where
       late : nat_lt p.epoch (epoch_of e.promised p.slot) ≡ false → p.slot ≡ part → epoch_of e.promised part ≤ p.epoch
-      late fact same = subst (λ k. epoch_of e.promised k ≤ p.epoch) same (no_later p.epoch (epoch_of e.promised p.slot) fact)
+      late fact same = subst (λ k. epoch_of e.promised k ≤ p.epoch) same (ltb-false p.epoch (epoch_of e.promised p.slot) fact)
 
   pub poll_so : (e : Emptying) (from : NodeId) (p : Poll) → At e → PollGets part n e p → Goes (on_poll e from p)
   unfolding on_poll

@@ -4,6 +4,7 @@ use Rattle.segment_format.specs.declared.segment.Segment.{Segment}
 use Rattle.std.proofs.Common.{◌≡◌, ◌≤◌, ◌<◌, ◌==◌, ◌&&◌, ℕ, Bool, true, false, List, [], ◌∷◌, Option, Some, None, nat_lt, refl, sym, subst, ◌∙◌, arith}
 use Rattle.std.specs.List.{AllByRecursion}
 use Rattle.std.proofs.lemmas.Bool.Decides.{nat_tests}
+use Rattle.std.proofs.lemmas.Bool.{ltb-false}
 use Rattle.cleaner_emptying.specs.declared.emptying.Emptying.{Emptying}
 use Rattle.cleaner_emptying.specs.EmptyingEvents.{promises, hears_slot, hears_slots, job_regrouped, log_regrouped, takes_news, on_news, welcomes_over, welcomes, on_welcome}
 use Rattle.cleaner_emptying.specs.Jobs.{Done, asks_usage, says, takes_in, job_takes, cleans}
@@ -172,9 +173,6 @@ module _ (New : Filed → Segment → Type 0) (part : ℕ) (texts : Texts) (sinc
   no_higher_later [] u v g all = tt
   no_higher_later (news ∷ slots) u v g all = (λ same. let a = all.0 same in let b = g.promised in omega arith, no_higher_later slots u v g all.1)
 
-  no_later : (a b : ℕ) → nat_lt a b ≡ false → b ≤ a
-  no_later a b fact = grind (arith, nat_tests)
-
   later_is : (a b : ℕ) → nat_lt a b ≡ true → a ≤ b
   later_is a b fact = grind (arith, nat_tests)
 
@@ -189,7 +187,7 @@ module _ (New : Filed → Segment → Type 0) (part : ℕ) (texts : Texts) (sinc
       (λ fact. frames.went_quiet New part texts since answered asked n (UpTo New part texts since answered small news.slot news.epoch) e [] (
         h,
         λ same. let a = subst (λ k. news.epoch ≤ epoch_of e.promised k) same
-            (no_later (epoch_of e.promised news.slot) news.epoch fact) in let b = h.seen.promised in omega arith,
+            (ltb-false (epoch_of e.promised news.slot) news.epoch fact) in let b = h.seen.promised in omega arith,
       ) tt)
 
   all_hear : (asked : Questions) (n : Net) (e : Emptying) (slots : List SlotNews) → At n e → Goes_to (Heard slots) asked n (steps hears_slot e slots)

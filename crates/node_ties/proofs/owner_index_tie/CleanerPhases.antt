@@ -37,7 +37,6 @@ use Rattle.node_ties.specs.node_index_tie.Sight.{Texts, Questions, held_in}
 use Rattle.log_protocol.specs.Tables.{In}
 use Rattle.stripe_cleaner.specs.CleaningState.{CleaningState}
 use Rattle.stripe_cleaner.specs.Promises.{promised_at}
-use Rattle.node_ties.proofs.node_index_tie.Moves.{all_both, all_weaker}
 use Rattle.version_model.specs.declared.act.Act.{Act}
 use Rattle.version_model.specs.declared.act.Act.TheVariants as act
 use Rattle.version_model.specs.declared.answer.Answer.{Answer}
@@ -50,6 +49,7 @@ use Rattle.wire_msg.specs.declared.packet.Packet.{Packet as Sent}
 use Rattle.xfs_base.proofs.Booleans.{by_test}
 use Rattle.xfs_base.specs.declared.node.NodeId.{NodeId}
 use Rattle.xfs_base.specs.Steps.{still}
+use Rattle.xfs_base.proofs.Alls.{all_append, all_weaker}
 use Rattle.node_ties.specs.owner_index_tie.CleanerEvents.{CleanerRests, IsAway, PhaseAgrees, IsMoved, CleanerSays, CleanerActs, CleanerDoes, EventGets, PacketGets, ReopensOn, WritesTexts}
 use Rattle.node_ties.specs.owner_index_tie.CleanerMoves.{CleanerMoves}
 use Rattle.node_ties.specs.owner_index_tie.Filing.{filing, filed_after}
@@ -136,7 +136,7 @@ module _ (New : Filed → Segment → Type 0) (part : ℕ) (texts : Texts) (n : 
   crash_plain : (asked : Questions) (v : Net) (l : Lasting) (number : ℕ)
       → frames.AllPlain New part texts since n.sent asked v (answers_unanswered l.items.unanswered answer.Cut ++ Answers number answer.Done ∷ [])
   crash_plain asked v l number =
-      all_both (frames.Plain New part texts since n.sent asked v) (answers_unanswered l.items.unanswered answer.Cut) (Answers number answer.Done ∷ [])
+      all_append (frames.Plain New part texts since n.sent asked v) (answers_unanswered l.items.unanswered answer.Cut) (Answers number answer.Done ∷ [])
       (answers_plain New part texts since n.sent asked v l.items.unanswered answer.Cut) (tt, tt)
 
   crashes_so : (asked : Questions) (v : Net) (l : Lasting) (number : ℕ) → Rests v → Goes asked v (crashes l number)
@@ -250,7 +250,7 @@ module _ (New : Filed → Segment → Type 0) (part : ℕ) (texts : Texts) (n : 
         frames.went_after New part texts since n.sent PhaseSo asked asked v m (back l o) (On Begun (Promises epoch low (none_in v k.only_files))) grows refl
         (λ x fact. fact)
         (quiet asked m (back l o).state (back l o).outs at
-        (all_both (frames.Plain New part texts since n.sent asked m) (pushes_all o.promised.managers o.feed) _
+        (all_append (frames.Plain New part texts since n.sent asked m) (pushes_all o.promised.managers o.feed) _
         (pushes_plain New part texts since n.sent asked m o.promised.managers o.feed owner.feed)
         (answers_plain New part texts since n.sent asked m l.items.unanswered answer.Done)))
 

@@ -31,7 +31,6 @@ use Rattle.node_base.specs.declared.effects.Effect.{Effect}
 use Rattle.node_base.specs.declared.effects.Effect.TheVariants.{Send, Does}
 use Rattle.node_base.specs.declared.questions.Questions.{Questions as Asker}
 use Rattle.node_ties.specs.node_index_tie.Sight.{Texts, Questions}
-use Rattle.node_ties.proofs.node_index_tie.Moves.{all_both, all_weaker}
 use Rattle.segment_reading.specs.Reading.{ReadingState, to_ask}
 use Rattle.stripe_cleaner.specs.CleaningState.{CleaningState, started}
 use Rattle.stripe_cleaner.specs.declared.output.Out.{Out}
@@ -51,12 +50,13 @@ use Rattle.xfs_base.specs.declared.segment.End.{End}
 use Rattle.xfs_base.specs.declared.segment.SegName.{SegName}
 use Rattle.xfs_base.specs.declared.segment.SegRef.{SegRef}
 use Rattle.xfs_base.specs.Steps.{steps}
+use Rattle.xfs_base.proofs.Alls.{all_append, all_map, all_weaker}
 use Rattle.node_ties.specs.owner_index_tie.CleanerEvents.{JobAgrees, MayAsk}
 use Rattle.node_ties.specs.owner_index_tie.Owners.{LogNext}
 use Rattle.node_ties.proofs.owner_index_tie.CleanerFrames as frames
 use Rattle.node_ties.proofs.owner_index_tie.CleanerFrames.{Grows, Stands}
 use Rattle.node_ties.proofs.owner_index_tie.Feeds.{same_owner}
-use Rattle.node_ties.proofs.owner_index_tie.Frames.{all_map, more_itself}
+use Rattle.node_ties.proofs.owner_index_tie.Frames.{more_itself}
 use Rattle.node_ties.proofs.owner_index_tie.Turns.{put_stays, seal_stays}
 
 -- a job that has begun was told nothing
@@ -271,7 +271,7 @@ module _ (New : Filed → Segment → Type 0) (part : ℕ) (texts : Texts) (sinc
       quiet asked n (deletes e (Some job) server name).state (deletes e (Some job) server name).outs
       (rejobbed n e.log e.feed e.promised e.job (deletes e (Some job) server name).state.job
       (λ k. subst (JobAgrees part n (epoch_of e.promised part)) same k) h)
-      (all_both (frames.Plain New part texts since answered asked n) (drops (is_whole job.hand) name)
+      (all_append (frames.Plain New part texts since answered asked n) (drops (is_whole job.hand) name)
       (Send (Server server) (body.Delete (record { name = name })) ∷ [])
       (by_test (AllPlain asked n) (is_whole job.hand) (Does (Dropped name) ∷ []) [] (λ _. (dead, tt)) (λ _. tt)) (dead, tt))
 

@@ -32,7 +32,6 @@ use Rattle.node_base.specs.declared.effects.Effect.TheVariants.{Answer as Answer
 use Rattle.node_base.specs.declared.peers.Peers.{Peers}
 use Rattle.node_base.specs.Shape.{is_well_formed}
 use Rattle.node_ties.specs.node_index_tie.Sight.{Texts, held_in}
-use Rattle.node_ties.proofs.node_index_tie.Moves.{all_both}
 use Rattle.version_model.specs.declared.answer.Answer.{Answer}
 use Rattle.version_model.specs.declared.answer.Answer.TheVariants as answer
 use Rattle.version_model.specs.declared.work.Work.{Work}
@@ -44,6 +43,7 @@ use Rattle.wire_msg.specs.declared.packet.Do.TheVariants.{Begin, Deliver, Tick}
 use Rattle.wire_msg.specs.declared.packet.Packet.{Packet}
 use Rattle.xfs_base.proofs.Booleans.{by_test}
 use Rattle.xfs_base.specs.Steps.{still, saying}
+use Rattle.xfs_base.proofs.Alls.{all_append}
 use Rattle.segment_format.specs.declared.segment.Segment.{Segment}
 use Rattle.node_ties.specs.owner_index_tie.ClientEvents.{RestingSeen, ClientAgrees, IsNewerAtSlot, BodyGets, PacketGets, EventGets, ReopensOn, WritesTexts, ClientEventGoes}
 use Rattle.node_ties.specs.owner_index_tie.Filing.{filing, filed_after}
@@ -105,7 +105,7 @@ module _ (New : Filed → Segment → Type 0) (part : ℕ) (texts : Texts) (n : 
       quiet f (back l capacity o).state (back l capacity o).outs
       (record { late = h.late; seen = record { number_is = own; log = h.seen.log; end = h.seen.end; feed = h.seen.feed } }) (
         tt,
-        all_both (frames.Plain part n c since f) (pushes_all o.promised.managers o.feed) _
+        all_append (frames.Plain part n c since f) (pushes_all o.promised.managers o.feed) _
             (pushes_all_plain part n c since f some limit o.promised.managers o.feed h.seen.feed)
             (frames.answers_plain part n c since f l.items.unanswered answer.Done),
       )
@@ -139,7 +139,7 @@ module _ (New : Filed → Segment → Type 0) (part : ℕ) (texts : Texts) (n : 
       let p = calls.goes_on_so part n c since some limit f t x h in
       let q = calls.runs_so part n c since some limit f d.state p.stands in
       quiet f (Serves (runs d.state).state) (d.outs ++ (runs d.state).outs) q.stands
-      (all_both (frames.Plain part n c since f) d.outs (runs d.state).outs p.plain q.plain)
+      (all_append (frames.Plain part n c since f) d.outs (runs d.state).outs p.plain q.plain)
 
   opens_so : (f : Filed) (s : Serving) (number : ℕ) → Stood f s → Goes f (serves_on (opens s number))
   unfolding opens

@@ -1,5 +1,5 @@
 -- What an owner does step by step: steps that file nothing, and steps that file.
-use Rattle.std.proofs.Common.{◌≡◌, ◌≤◌, ◌<◌, ◌==◌, ℕ, suc, List, [], ◌∷◌, ◌++◌, map, Option, Some, None, refl, sym, ap, subst, ◌∙◌, arith}
+use Rattle.std.proofs.Common.{◌≡◌, ◌≤◌, ◌<◌, ◌==◌, ℕ, suc, List, [], ◌∷◌, ◌++◌, Option, Some, None, refl, sym, ap, subst, ◌∙◌, arith}
 use Rattle.std.specs.List.{AllByRecursion}
 use Rattle.index_tie.specs.Filed.{Filed}
 use Rattle.index_tie.specs.Growth.{IsMore, with_segment}
@@ -10,7 +10,6 @@ use Rattle.node_base.specs.Beginning.{answers_unanswered}
 use Rattle.node_base.specs.declared.effects.Effect.{Effect}
 use Rattle.node_base.specs.declared.effects.Effect.TheVariants.{Send, Answer as Answers, Lose, Does}
 use Rattle.node_ties.specs.node_index_tie.Sight.{Texts, DeltasKnown, EndKnown}
-use Rattle.node_ties.proofs.node_index_tie.Moves.{all_both, all_weaker}
 use Rattle.segment_format.specs.declared.segment.Segment.{Segment}
 use Rattle.version_model.specs.declared.act.Act.{Act}
 use Rattle.version_model.specs.declared.act.Act.TheVariants.{Filed as ActsFiled}
@@ -22,13 +21,10 @@ use Rattle.xfs_base.proofs.Booleans.{by_test}
 use Rattle.xfs_base.specs.Steps.{Stepped, still, saying, steps}
 use Rattle.xfs_base.specs.declared.segment.End.{End}
 use Rattle.xfs_base.specs.declared.segment.SegName.{SegName}
+use Rattle.xfs_base.proofs.Alls.{all_append, all_weaker}
 use Rattle.node_ties.specs.owner_index_tie.Acting.{ActSo, AllSo, EffectSo}
 use Rattle.node_ties.specs.owner_index_tie.Filing.{filing, with_name, after_act, after_effect, filed_after, FilesNext, OwedAct, OwedEffect, FilesOwed}
 use Rattle.node_ties.specs.owner_index_tie.Owners.{EndTold, OwnerSays, OwnerDoes}
-
-pub all_map : {X Y : Type 0} (P : Y → Type 0) (f : X → Y) → ((x : X) → P (f x)) → (xs : List X) → AllByRecursion P (map f xs)
-all_map P f each [] = tt
-all_map P f each (x ∷ xs) = (each x, all_map P f each xs)
 
 -- ---- what is said stays said while more is filed
 
@@ -200,7 +196,7 @@ module _ (part : ℕ) (n : Net) (l since : ℕ) (f : Filed) where
 
   pub both_plain : (item : Option ℕ) (first : Answer) (number : ℕ) (second : Answer)
       → AllPlain (answers_unanswered item first ++ Answers number second ∷ [])
-  both_plain item first number second = all_both Plain (answers_unanswered item first) (Answers number second ∷ []) (answers_plain item first) (tt, tt)
+  both_plain item first number second = all_append Plain (answers_unanswered item first) (Answers number second ∷ []) (answers_plain item first) (tt, tt)
 
   module _ {S : Type 0} (At : S → Type 0) where
     pub record Quiet (d : Stepped S Effect) : Type 0 where
@@ -215,15 +211,15 @@ module _ (part : ℕ) (n : Net) (l since : ℕ) (f : Filed) where
 
     -- one thing follows another
     pub quiet_on : (d e : Stepped S Effect) → Quiet d → (At d.state → Quiet e) → Quiet (saying d.outs e)
-    quiet_on d e p k = (let q = k p.stands in record { stands = q.stands; plain = all_both Plain d.outs e.outs p.plain q.plain })
+    quiet_on d e p k = (let q = k p.stands in record { stands = q.stands; plain = all_append Plain d.outs e.outs p.plain q.plain })
 
     pub quiet_after : (outs : List Effect) (d : Stepped S Effect) → AllPlain outs → Quiet d → Quiet (saying outs d)
-    quiet_after outs d all p = record { stands = p.stands; plain = all_both Plain outs d.outs all p.plain }
+    quiet_after outs d all p = record { stands = p.stands; plain = all_append Plain outs d.outs all p.plain }
 
     -- another state that stands so too, and more is said
     pub quiet_gives : (d : Stepped S Effect) (s : S) (outs : List Effect) → Quiet d → (At d.state → At s) → (At d.state → AllPlain outs)
         → Quiet (record { state = s; outs = d.outs ++ outs })
-    quiet_gives d s outs p k all = record { stands = k p.stands; plain = all_both Plain d.outs outs p.plain (all p.stands) }
+    quiet_gives d s outs p k all = record { stands = k p.stands; plain = all_append Plain d.outs outs p.plain (all p.stands) }
 
     pub quiet_steps : {A : Type 0} (step : S → A → Stepped S Effect) → ((s : S) (x : A) → At s → Quiet (step s x)) → (s : S) (xs : List A) → At s
         → Quiet (steps step s xs)
@@ -255,7 +251,7 @@ module _ (New : Filed → Segment → Type 0) (part : ℕ) (texts : Texts) (n : 
   -- what files nothing goes before
   pub goes_behind : (f : Filed) (outs : List Effect) (d : Stepped S Effect) → AllPlain part n l since f outs → Goes f d → Goes f (saying outs d)
   goes_behind f outs d all p =
-      (λ owed. behind owed, λ may. all_both (EffectSo (IsNamed texts)) outs d.outs (plain_so part n l since f (IsNamed texts) outs all) (p.1 may))
+      (λ owed. behind owed, λ may. all_append (EffectSo (IsNamed texts)) outs d.outs (plain_so part n l since f (IsNamed texts) outs all) (p.1 may))
     where
       behind : FilesOwed New texts l f (outs ++ d.outs) → Ends (filed_after texts l f (outs ++ d.outs)) d.state (outs ++ d.outs)
       behind owed =
@@ -264,7 +260,7 @@ module _ (New : Filed → Segment → Type 0) (part : ℕ) (texts : Texts) (n : 
           let g = filed_after texts l f d.outs in
           subst (λ h. Ends h d.state (outs ++ d.outs)) (sym (after_both texts l f outs d.outs ∙ ap (λ h. filed_after texts l h d.outs) same)) (record {
             stands = two.stands;
-            says = all_both (Says g) outs d.outs
+            says = all_append (Says g) outs d.outs
                 (all_weaker (Says f) (Says g) (does_on part (filing n f) (filing n g) l since (more_after texts l f d.outs) refl) outs
                 (all_do part n l since f outs all)) two.says;
           })
@@ -289,7 +285,7 @@ module _ (New : Filed → Segment → Type 0) (part : ℕ) (texts : Texts) (n : 
       → Goes New part texts n l since Bt f (record { state = e.state; outs = d.outs ++ e.outs })
   goes_through f d e p k = (
     λ owed. through owed,
-    λ may. all_both (EffectSo (IsNamed texts)) d.outs e.outs (p.1 may) ((k (p.0 (owed_named New texts l may f d.outs (p.1 may))).stands).1 may),
+    λ may. all_append (EffectSo (IsNamed texts)) d.outs e.outs (p.1 may) ((k (p.0 (owed_named New texts l may f d.outs (p.1 may))).stands).1 may),
   )
     where
       through : FilesOwed New texts l f (d.outs ++ e.outs)
@@ -301,7 +297,7 @@ module _ (New : Filed → Segment → Type 0) (part : ℕ) (texts : Texts) (n : 
           let two = (k one.stands).0 (owed_behind New texts l f d.outs e.outs owed) in
           subst (λ x. Ends New part texts n l since Bt x e.state (d.outs ++ e.outs)) (sym (after_both texts l f d.outs e.outs)) (record {
             stands = two.stands;
-            says = all_both (OwnerDoes part (filing n h) l since) d.outs e.outs
+            says = all_append (OwnerDoes part (filing n h) l since) d.outs e.outs
                 (all_weaker (OwnerDoes part (filing n g) l since) (OwnerDoes part (filing n h) l since)
                 (does_on part (filing n g) (filing n h) l since (more_after texts l g e.outs) refl) d.outs one.says)
                 two.says;

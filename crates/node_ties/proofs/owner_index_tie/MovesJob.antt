@@ -34,8 +34,8 @@ use Rattle.stripe_cleaner.specs.Transition as cleaning
 use Rattle.stripe_cleaner.specs.Transition.{Done, turned, is_greeting, welcomed, on_welcome, forgotten, forgetting, on_promise, mapped, usage_asks, listed, heard, on_list, usage_with, listed_in, counted_in, read_in, answered_in, moved_in, deleted_in, awaits, on_usage, is_heard, may_move, on_live, on_dead, transition}
 use Rattle.index_tie.specs.Net.{Packet}
 use Rattle.xfs_base.proofs.BlockOrder.{same_block_exact}
+use Rattle.xfs_base.proofs.Alls.{all_map}
 use Rattle.node_ties.specs.owner_index_tie.CleanerMoves.{WasLive, IsMovedOnce, FateMoves, CheckMoves, PhaseMoves}
-use Rattle.node_ties.proofs.owner_index_tie.Frames.{all_map}
 
 module _ (part : ℕ) (sent : List Packet) where
   -- a block that is moved was answered

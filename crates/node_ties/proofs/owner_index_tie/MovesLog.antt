@@ -21,7 +21,7 @@ use Rattle.log_flight.specs.Texts.{has_text}
 use Rattle.node_ties.specs.node_index_tie.Pages.{FlightIsText}
 use Rattle.node_ties.specs.node_index_tie.Sight.{Texts}
 use Rattle.indexmap.specs.IndexMap.{insert_entry}
-use Rattle.node_ties.proofs.node_index_tie.Moves.{all_both, some_none}
+use Rattle.node_ties.proofs.node_index_tie.Moves.{some_none}
 use Rattle.segment_format.specs.declared.segment.Item.{Item}
 use Rattle.segment_format.specs.declared.segment.Item.TheVariants.{Block, Delta, Part}
 use Rattle.segment_format.specs.declared.segment.Segment.{Segment}
@@ -36,6 +36,7 @@ use Rattle.xfs_base.specs.declared.segment.Prior.{Prior}
 use Rattle.xfs_base.specs.declared.segment.SegName.{SegName}
 use Rattle.xfs_base.specs.Limits.{segment_blocks}
 use Rattle.xfs_base.specs.Steps.{still}
+use Rattle.xfs_base.proofs.Alls.{all_append}
 use Rattle.node_ties.specs.owner_index_tie.CleanerMoves.{IsMovedOnce, ItemMoves, LogMoves, FlightsAreMoves}
 use Rattle.node_ties.proofs.owner_index_tie.Turns.{some_is}
 
@@ -71,7 +72,7 @@ module _ (part : ℕ) (sent : List Packet) where
   items_move : (before : ℕ) (cs : List (BlockId × Change)) → AllByRecursion ChangeMoves cs → AllMove (items_of before cs)
   items_move before [] all = tt
   items_move before (c ∷ cs) all =
-      all_both (ItemMoves part sent) (change_items before c.0 c.1) (items_of (before + length (change_items before c.0 c.1)) cs)
+      all_append (ItemMoves part sent) (change_items before c.0 c.1) (items_of (before + length (change_items before c.0 c.1)) cs)
       (change_moves before c.0 c.1 all.0) (items_move (before + length (change_items before c.0 c.1)) cs all.1)
 
   taken : (n : ℕ) (cs : List (BlockId × Change)) → AllByRecursion ChangeMoves cs → AllByRecursion ChangeMoves (take n cs)

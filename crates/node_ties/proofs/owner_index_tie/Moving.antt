@@ -29,12 +29,13 @@ use Rattle.log_owner.specs.Opening as opening
 use Rattle.node_base.specs.Beginning.{next_item}
 use Rattle.node_base.specs.declared.peers.Peers.{Peers}
 use Rattle.node_base.specs.Shape.{is_well_formed}
-use Rattle.node_ties.proofs.node_index_tie.Moves.{some_none, all_weaker}
+use Rattle.node_ties.proofs.node_index_tie.Moves.{some_none}
 use Rattle.wire_msg.specs.declared.packet.Do.{Do}
 use Rattle.wire_msg.specs.declared.packet.Do.TheVariants.{Begin, Deliver, Tick}
 use Rattle.wire_msg.specs.declared.packet.Packet as packets
 use Rattle.xfs_base.proofs.Booleans.{by_test}
 use Rattle.xfs_base.specs.Steps.{still}
+use Rattle.xfs_base.proofs.Alls.{all_weaker}
 use Rattle.node_ties.specs.owner_index_tie.CleanerMoves.{IsMovedOnce, ItemMoves, LogMoves, FateMoves, CheckMoves, PhaseMoves, JobMoves, StageMoves, CleanerMoves, BodyAnswers, DoAnswers, CleanerStartsMoving, CleanerMovesAnswered}
 use Rattle.node_ties.proofs.owner_index_tie.MovesOpening as opens
 use Rattle.node_ties.proofs.owner_index_tie.MovesServing as serving

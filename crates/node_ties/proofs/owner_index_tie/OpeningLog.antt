@@ -44,12 +44,12 @@ use Rattle.node_ties.specs.node_index_tie.Pages.{FlightIsText}
 use Rattle.node_ties.specs.node_index_tie.Sight.{Texts, RowsFit}
 use Rattle.node_ties.proofs.node_index_tie.Flights.{IsSend, IsNoWrite, GoesOn, Went as LogWent, log_went, parts_went}
 use Rattle.node_ties.proofs.node_index_tie.Flights as flights
-use Rattle.node_ties.proofs.node_index_tie.Moves.{all_both}
 use Rattle.segment_format.specs.Rows.{row_of, rows_of}
 use Rattle.std.specs.List.{filter_map}
 use Rattle.version_model.specs.declared.act.Act.TheVariants.{Filed as ActsFiled}
 use Rattle.xfs_base.specs.declared.segment.LogId.{LogId}
 use Rattle.xfs_base.specs.declared.segment.SegName.{SegName}
+use Rattle.xfs_base.proofs.Alls.{all_append, all_map}
 use Rattle.node_ties.specs.owner_index_tie.Acting.{AllSo, EffectSo}
 use Rattle.node_ties.specs.owner_index_tie.Filing.{filing, with_name, filed_after, FilesOwed}
 use Rattle.node_ties.specs.owner_index_tie.Owners.{LogNext, LogFits, SettlingSeen, StageSeen, OpeningSeen, ReadBack, EndOwed, OwnerDoes}
@@ -170,7 +170,7 @@ module _ (New : Filed → Segment → Type 0) (part : ℕ) (texts : Texts) (n : 
           (subst (λ (x : Segment). RowsFit (rows_of x)) text_is next_owed.fits) next_owed.short next a.end at_next))
 
       filed_says : (x : Filed) (chain : List Segment) → AllByRecursion (OwnerDoes part (filing n x) l since) (map filed chain)
-      filed_says x chain = frames.all_map (OwnerDoes part (filing n x) l since) filed (λ s. tt) chain
+      filed_says x chain = all_map (OwnerDoes part (filing n x) l since) filed (λ s. tt) chain
 
       chain_named : (chain : List Segment) → AllByRecursion (λ s. s ≡ texts s.name) chain → AllSo (frames.IsNamed texts) (map filed chain)
       chain_named [] all = tt
@@ -189,13 +189,13 @@ module _ (New : Filed → Segment → Type 0) (part : ℕ) (texts : Texts) (n : 
           (sym (frames.after_both texts l f chained (Does (ActsFiled its_name) ∷ [])))
           (record {
             stands = opens_at owed;
-            says = all_both (OwnerDoes part (filing n x) l since) chained (Does (ActsFiled its_name) ∷ []) (filed_says x s.chain) (tt, tt);
+            says = all_append (OwnerDoes part (filing n x) l since) chained (Does (ActsFiled its_name) ∷ []) (filed_says x s.chain) (tt, tt);
           })
 
       opened_goes : Moves (opens k (record s { log = r.state }) (Some (log_steps.end_from old)))
       opened_goes = (
         opened_ends,
-        λ may. all_both (EffectSo (frames.IsNamed texts)) chained (Does (ActsFiled its_name) ∷ []) (chain_named s.chain back.named) (its_named, tt),
+        λ may. all_append (EffectSo (frames.IsNamed texts)) chained (Does (ActsFiled its_name) ∷ []) (chain_named s.chain back.named) (its_named, tt),
       )
 
     -- the opening segment stays in flight
@@ -280,7 +280,7 @@ module _ (New : Filed → Segment → Type 0) (part : ℕ) (texts : Texts) (n : 
     scanned_plain : (low : ℕ) (st : _) (outs : List Out) → AllPlain (steps (said k.owner low) st outs).outs
     scanned_plain low st [] = tt
     scanned_plain low st (o ∷ outs) =
-        all_both (frames.Plain part n l since f) (said k.owner low st o).outs (steps (said k.owner low) (said k.owner low st o).state outs).outs
+        all_append (frames.Plain part n l since f) (said k.owner low st o).outs (steps (said k.owner low) (said k.owner low st o).state outs).outs
         (one_plain low st o) (scanned_plain low (said k.owner low st o).state outs)
 
     stepped_so : (q : Questions) (s : Scanning) (r : scan.Done) → So (stepped k q s r)

@@ -10,6 +10,7 @@ use Rattle.xfs_base.specs.declared.node.NodeId.{NodeId}
 use Rattle.xfs_base.specs.declared.segment.SegName.{SegName}
 use Rattle.xfs_base.specs.Segments.{pass_cmp}
 use Rattle.xfs_base.specs.Steps.{still, steps}
+use Rattle.xfs_base.proofs.Alls.{all_append}
 use Rattle.group_map.specs.GroupMapState.{GroupMapState}
 use Rattle.fragment_store.specs.Calls.{barred, store_refused, on_fence as fenced_at}
 use Rattle.fragment_store.specs.ShelfState.{ShelfState, held_at, fence_of}
@@ -46,7 +47,6 @@ use Rattle.store_nodes.specs.declared.server.Wish.TheVariants.{Lose, Rebuild, Ot
 use Rattle.store_nodes.specs.Rebuilds.{Done, lists_asked, fetch_asked, says, goes_on, rebuilds, server_in, awaits_list, fetch_of, on_listed, found_for, on_found, missing_for, on_missing}
 use Rattle.store_nodes.specs.ServerEvents.{on_store, found_or_missing, fence_told, on_fence, on_delete, takes_news, on_news, left_hello, on_welcome, asks_for_maps, tells, hears, hears_known, on_body, on_packet, on_lose, begins_rebuild, on_rebuild, on_wish, at_item, wish_of, on_begin, hello_again, on_tick, on_event, is_far_from_ends, takes}
 use Rattle.node_ties.specs.owner_index_tie.ServerEvents.{DoesNothing, ServerEventGoes}
-use Rattle.node_ties.proofs.node_index_tie.Moves.{all_both}
 
 abbrev AllSay : List Effect → Type 0
 AllSay outs = AllByRecursion DoesNothing outs
@@ -78,7 +78,7 @@ one_says node (out.Finished filled gone) = answers_say node.items.unanswered (an
 all_say : (node : nodes.Server) (outs : List Out) → Quiet (steps says node outs)
 all_say node [] = tt
 all_say node (o ∷ outs) =
-    all_both DoesNothing (says node o).outs (steps says (says node o).state outs).outs (one_says node o)
+    all_append DoesNothing (says node o).outs (steps says (says node o).state outs).outs (one_says node o)
     (all_say (says node o).state outs)
 
 goes_on_says : (node : nodes.Server) (r : Option Rebuilding) (given : Input) → Quiet (goes_on node r given)
@@ -183,7 +183,7 @@ packet_heard node packet =
 lose_says : (node : nodes.Server) (number : ℕ) → Quiet (on_lose node number)
 unfolding on_lose
 lose_says node number =
-    all_both DoesNothing (answers_unanswered node.items.unanswered answers.Cut) _
+    all_append DoesNothing (answers_unanswered node.items.unanswered answers.Cut) _
     (answers_say node.items.unanswered answers.Cut)
     (tt, (tt, tt))
 
@@ -219,7 +219,7 @@ hello_says node (Some ask) = (tt, tt)
 ticks : (node : nodes.Server) → Quiet (on_tick node)
 unfolding on_tick
 ticks node =
-    all_both DoesNothing (hello_again node node.hello) (rebuilds node input.Tick).outs (hello_says node node.hello)
+    all_append DoesNothing (hello_again node node.hello) (rebuilds node input.Tick).outs (hello_says node node.hello)
     (rebuild_says node input.Tick)
 
 happens : (node : nodes.Server) (what : Do) → Quiet (on_event node what)

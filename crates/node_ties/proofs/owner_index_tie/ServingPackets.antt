@@ -15,7 +15,6 @@ use Rattle.node_base.specs.Known.{names_known}
 use Rattle.node_base.specs.Maps.{fits, is_older, taken}
 use Rattle.node_ties.specs.node_index_tie.Pages.{FlightIsText}
 use Rattle.node_ties.specs.node_index_tie.Sight.{Texts}
-use Rattle.node_ties.proofs.node_index_tie.Moves.{all_both}
 use Rattle.segment_format.specs.declared.segment.Segment.{Segment}
 use Rattle.stripe_code.specs.declared.round.Told.TheVariants as told
 use Rattle.token_client.specs.declared.output.Out.{Out}
@@ -33,6 +32,7 @@ use Rattle.xfs_base.specs.declared.news.SlotNews.{SlotNews}
 use Rattle.xfs_base.specs.declared.node.NodeId.{NodeId}
 use Rattle.xfs_base.specs.Limits.{u32_end}
 use Rattle.xfs_base.specs.Steps.{still, saying, steps}
+use Rattle.xfs_base.proofs.Alls.{all_append}
 use Rattle.node_ties.specs.owner_index_tie.Filing.{filed_after}
 use Rattle.node_ties.proofs.owner_index_tie.Frames as frames
 use Rattle.node_ties.proofs.owner_index_tie.ServingCalls as calls
@@ -56,7 +56,7 @@ one_want s b = by_test (λ (d : TokensDone). AllByRecursion IsWant d.outs) (nat_
 
 new_wants : (s : TokensState) (blocks : List BlockId) → AllByRecursion IsWant (steps ask_copy s blocks).outs
 new_wants s [] = tt
-new_wants s (b ∷ blocks) = all_both IsWant (ask_copy s b).outs (steps ask_copy (ask_copy s b).state blocks).outs (one_want s b)
+new_wants s (b ∷ blocks) = all_append IsWant (ask_copy s b).outs (steps ask_copy (ask_copy s b).state blocks).outs (one_want s b)
     (new_wants (ask_copy s b).state blocks)
 
 promise_wants : (s : TokensState) (slot epoch : ℕ) → AllByRecursion IsWant (on_promise s slot epoch).outs

@@ -36,6 +36,7 @@ use Rattle.xfs_base.specs.declared.entry.Place.{Place}
 use Rattle.xfs_base.specs.declared.segment.SegName.{SegName}
 use Rattle.xfs_base.specs.declared.token.Stamp.{Stamp}
 use Rattle.xfs_base.specs.Steps.{still}
+use Rattle.xfs_base.proofs.Alls.{all_map}
 use Rattle.node_ties.proofs.owner_index_tie.Caching as cache
 use Rattle.node_ties.proofs.owner_index_tie.Frames as frames
 use Rattle.node_ties.proofs.owner_index_tie.Standing.{Stands, rested, pushes_plain, end_told, stored_plain}
@@ -58,7 +59,7 @@ module _ (part : ℕ) (n : Net) (l since : ℕ) (some : 0 < l) (limit : l ≤ 9)
   plain_so s outs h says = frames.quiet_plain part n l since f At s outs h says
 
   pub fetches_plain : (r : ReadingState) → AllPlain (fetches r)
-  fetches_plain r = frames.all_map (frames.Plain part n l since f) (fetch r.target.seg.name r.ask) (λ server. tt) (to_ask r)
+  fetches_plain r = all_map (frames.Plain part n l since f) (fetch r.target.seg.name r.ask) (λ server. tt) (to_ask r)
 
   -- ---- the log
 

@@ -2,6 +2,7 @@
 -- which somebody is.
 use Rattle.std.proofs.Common.{◌≡◌, ◌⊎◌, inl, inr, ⊎_elim, ℕ, suc, ◌<◌, ◌≤◌, true, false, nat_lt, cond, List, None, Some, refl, sym, subst, ◌∙◌, mod-eq_of_lt, arith}
 use Rattle.std.proofs.lemmas.Bool.Decides.{nat_tests}
+use Rattle.std.proofs.lemmas.Bool.{lt-ltb}
 use Rattle.checkpoint.specs.WriterState.{Rows}
 use Rattle.index_tie.proofs.Tables.{first_of, put_each}
 use Rattle.index_tie.specs.Net.{Net, Happens, Runs, opening}
@@ -47,13 +48,10 @@ holds_keeps : (n : Net) (horizon : List ℕ) → (n.slots n.epoch ≡ None → �
 holds_keeps n horizon managed h e less absent =
     elim (nat_lt (suc e) n.epoch) as
     (λ x. nat_lt (suc e) n.epoch ≡ x → cond x (n.horizon (suc e)) horizon ≡ cond (nat_lt e n.epoch) (n.horizon e) horizon) [
-      | true ↦ λ low. h e less absent ∙ sym (first_of (nat_lt e n.epoch) (n.horizon e) horizon (is_less e n.epoch less))
+      | true ↦ λ low. h e less absent ∙ sym (first_of (nat_lt e n.epoch) (n.horizon e) horizon (lt-ltb e n.epoch less))
       | false ↦ λ past. absurd (managed (subst (λ x. n.slots x ≡ None) (last e n.epoch less past) absent))
     ] refl
   where
-    is_less : (a b : ℕ) → a < b → nat_lt a b ≡ true
-    is_less a b less = grind (arith, nat_tests)
-
     last : (a b : ℕ) → a < b → nat_lt (suc a) b ≡ false → suc a ≡ b
     last a b less past = grind (arith, nat_tests)
 

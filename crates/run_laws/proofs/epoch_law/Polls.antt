@@ -38,6 +38,7 @@ use Rattle.xfs_base.specs.declared.block.BlockId.{BlockId}
 use Rattle.xfs_base.specs.declared.news.SlotNews.{SlotNews}
 use Rattle.xfs_base.specs.declared.node.NodeId.{NodeId}
 use Rattle.xfs_base.specs.declared.node.NodeId.TheVariants.{Client, Manager, Server, Cleaner, Registry}
+use Rattle.xfs_base.proofs.Booleans.{equal_itself}
 use Rattle.run_laws.proofs.epoch_law.Horizons.{horizons_stay}
 use Rattle.run_laws.proofs.epoch_law.Nodes.{one_registry}
 use Rattle.run_laws.specs.epoch_law.Polls.{CleanerPollsAreLow, ClientPollsAreLow, IsLow, PollSent}
@@ -113,10 +114,7 @@ module _ (managed : CheckpointsHaveManagers) (promised : ActiveEpochsPromised) (
   some_block = record { ino = record { 0 = part }; blk = 0 }
 
   of_slot : is_in_slot part some_block ≡ true
-  of_slot = ap (λ n. n == part) (mod-eq_of_lt of_eight) ∙ itself part
-    where
-      itself : (n : ℕ) → (n == n) ≡ true
-      itself n = grind (arith, nat_tests)
+  of_slot = ap (λ n. n == part) (mod-eq_of_lt of_eight) ∙ equal_itself part
 
   -- the epoch of the registry
   epoch : owners.epoch_now k part t ≡ i.net.epoch

@@ -1,7 +1,8 @@
 -- How far logs are filed rises with the acts, reaches each of them, and is what was filed.
 use Rattle.std.proofs.Common.{◌≡◌, ◌⊎◌, ℕ, ◌≤◌, ◌==◌, max, Bool, true, false, List, [], ◌∷◌, ◌++◌, refl, sym, subst, ◌∙◌, inl, inr, nat_le, arith}
 use Rattle.std.proofs.lemmas.Bool.Decides.{nat_tests}
-use Rattle.xfs_base.proofs.Booleans.{by_test, contrary}
+use Rattle.std.proofs.lemmas.Bool.{eqb-true}
+use Rattle.xfs_base.proofs.Booleans.{by_test, contrary, equal_itself}
 use Rattle.xfs_base.specs.declared.segment.SegName.{SegName}
 use Rattle.version_model.specs.declared.act.Act.{Act}
 use Rattle.version_model.specs.declared.act.Act.TheVariants.{Filed}
@@ -27,12 +28,9 @@ pub acts_rise : (reach later : Reach) → Rises reach later → (acts : List Act
 acts_rise reach later rises [] all = tt
 acts_rise reach later rises (act ∷ acts) all = (act_rises reach later rises act all.0, acts_rise reach later rises acts all.1)
 
-itself : (n : ℕ) → (n == n) ≡ true
-itself n = grind (arith, nat_tests)
-
 own_number : (name : SegName) → name.seq ≤ filed_number name.log.0 (Filed name)
 own_number name =
-    by_test (λ (n : ℕ). name.seq ≤ n) (name.log.0 == name.log.0) name.seq 0 (λ t. omega arith) (λ t. contrary (sym t ∙ itself name.log.0))
+    by_test (λ (n : ℕ). name.seq ≤ n) (name.log.0 == name.log.0) name.seq 0 (λ t. omega arith) (λ t. contrary (sym t ∙ equal_itself name.log.0))
 
 first_reached : (act : Act) (acts : List Act) → ActReached (filed_upto (act ∷ acts)) act
 first_reached (Filed name) acts = (let a = own_number name in omega (arith, a))
@@ -57,14 +55,11 @@ either a b = by (nat_le a b) refl
     by true t = inr (grind (arith, nat_tests))
     by false t = inl (grind (arith, nat_tests))
 
-equal : (a b : ℕ) → (a == b) ≡ true → a ≡ b
-equal a b t = grind (arith, nat_tests)
-
 module _ (log : ℕ) (acts : List Act) where
   first_filed : (act : Act) → (filed_number log act ≡ 0) ⊎ FiledAt (act ∷ acts) log (filed_number log act)
   first_filed (Filed name) =
       by_test (λ (n : ℕ). (n ≡ 0) ⊎ FiledAt (Filed name ∷ acts) log n) (name.log.0 == log) name.seq 0
-      (λ t. inr (record { name = name; among = inl refl; own = equal name.log.0 log t; numbered = refl })) (λ t. inl refl)
+      (λ t. inr (record { name = name; among = inl refl; own = eqb-true name.log.0 log t; numbered = refl })) (λ t. inl refl)
   first_filed _ = inl refl
 
   later_filed : (act : Act) (number : ℕ) → FiledAt acts log number → FiledAt (act ∷ acts) log number

@@ -3,6 +3,7 @@ use Rattle.std.proofs.Common.{◌≡◌, ℕ, ◌<◌, ◌≤◌, ◌==◌, Bool
 use Rattle.std.specs.Prelude.{Contains}
 use Rattle.std.specs.List.{AllByRecursion, filter_map, list_any, slice_get}
 use Rattle.std.proofs.lemmas.Bool.Decides.{nat_tests}
+use Rattle.std.proofs.lemmas.Bool.{eqb-true}
 use Rattle.xfs_base.proofs.BlockOrder.{same_block_exact, same_block_itself}
 use Rattle.xfs_base.proofs.Booleans.{contrary, or_first, or_second}
 use Rattle.xfs_base.proofs.Members.{contains_nothing, contains_cases}
@@ -80,15 +81,12 @@ module _ (s : Segment) where
         here : Place
         here = record { seg = record { name = s.name; group = s.group }; item = item }
 
-        is_none : (a b : ℕ) → (a == b) ≡ true → a ≡ b
-        is_none a b h = grind (arith, nat_tests)
-
         by : (t : Bool) → (item == no_item) ≡ t
             → SaysSame s (record { version = ver; value = value_in (slice_get s.items item) })
             (record { ver = ver; hop = hop; place = cond t None (Some here) })
         by true fact = record {
           version = refl;
-          absent = λ _. ap value_in (ap (slice_get s.items) (is_none item no_item fact) ∙ get_past s.items no_item few);
+          absent = λ _. ap value_in (ap (slice_get s.items) (eqb-true item no_item fact) ∙ get_past s.items no_item few);
           place = λ place lies. absurd (nowhere place lies);
         }
         by false fact = record {

@@ -1,13 +1,14 @@
 -- A reading of the place of a fetch: it stays so while the reading is of the same target, and no fetch begins.
 use Rattle.std.proofs.Common.{◌≡◌, ◌==◌, ◌&&◌, ℕ, Bool, true, Option, None, Some, refl, sym, ap, subst, ◌∙◌}
 use Rattle.std.specs.List.{AllByRecursion}
+use Rattle.std.proofs.lemmas.Bool.{eqb-true}
 use Rattle.client_parts.specs.Reads.{heard, is_fetched, kept_while, same_at, same_target, target_of}
 use Rattle.telling_ties.proofs.entry_tie.ClientReads.{OutTold, tokens_say}
 use Rattle.telling_ties.proofs.entry_tie.ClientTokens.{FetchesTold, InputTold, tokens_so}
 use Rattle.telling_ties.specs.entry_tie.ClientTells.{FetchTold}
 use Rattle.telling_ties.specs.entry_tie.Told.{PlaceTold, Told}
 use Rattle.group_map.specs.GroupMapState.{GroupMapState}
-use Rattle.log_tie.proofs.Names.{equal, one_name}
+use Rattle.log_tie.proofs.Names.{one_name}
 use Rattle.segment_format.specs.declared.segment.Segment.{Segment}
 use Rattle.segment_reading.specs.declared.reading.Next.TheVariants as next
 use Rattle.segment_reading.specs.declared.reading.Stage.{Stage}
@@ -111,7 +112,7 @@ at_exact : (o : Option BlockAt) (item : ℕ) (block : BlockId) → same_at o (So
     → o ≡ Some (record { item = item; block = block })
 at_exact None item block h = contrary h
 at_exact (Some at) item block h =
-    let its_item : at.item ≡ item = equal at.item item (and_first (at.item == item) (same_block at.block block) h) in
+    let its_item : at.item ≡ item = eqb-true at.item item (and_first (at.item == item) (same_block at.block block) h) in
     let its_block : at.block ≡ block = sym (same_block_exact at.block block (and_second (at.item == item) (same_block at.block block) h)) in
     λ i. Some (record { item = its_item i; block = its_block i })
 
@@ -123,7 +124,7 @@ target_exact a block place h =
     let at : Bool = same_at a.block (target_of block place).block in
     let segment : (names && groups) ≡ true = and_first (names && groups) at h in
     let name : a.seg.name ≡ place.seg.name = one_name a.seg.name place.seg.name (and_first names groups segment) in
-    let group : a.seg.group ≡ place.seg.group = equal a.seg.group place.seg.group (and_second names groups segment) in
+    let group : a.seg.group ≡ place.seg.group = eqb-true a.seg.group place.seg.group (and_second names groups segment) in
     let its : a.block ≡ (target_of block place).block = at_exact a.block place.item block (and_second (names && groups) at h) in
     λ i. record { seg = record { name = name i; group = group i }; block = its i }
 

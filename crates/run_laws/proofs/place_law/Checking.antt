@@ -6,7 +6,6 @@ use Rattle.std.proofs.lemmas.Map.Views.{tells_apart}
 use Rattle.std.proofs.lemmas.Option.{slice_get_within}
 use Rattle.segment_format.specs.Rule.{no_item}
 use Rattle.checkpoint.specs.WriterState.{Rows}
-use Rattle.telling_ties.proofs.filed_tie.Frames.{all_append}
 use Rattle.group_map.specs.GroupMapState.{GroupMapState}
 use Rattle.index_tie.proofs.Growth.{more_is_filed}
 use Rattle.index_tie.specs.Cleaning.{ReadFor}
@@ -44,6 +43,7 @@ use Rattle.xfs_base.specs.declared.fragment.FragMeta.{FragMeta}
 use Rattle.xfs_base.specs.declared.segment.SegName.{SegName}
 use Rattle.xfs_base.specs.declared.segment.SegRef.{SegRef}
 use Rattle.xfs_base.specs.Steps.{still}
+use Rattle.xfs_base.proofs.Alls.{all_append}
 use Rattle.run_laws.specs.place_law.Copies.{CheckLies, ChecksLie, FateLies, JobsChecksLie, PhaseLies}
 
 -- ---- one check

@@ -1,8 +1,9 @@
 -- A Live that answers the cleaner's question tells a copy of what a filed segment says.
-use Rattle.std.proofs.Common.{◌≡◌, ℕ, true, ◌==◌, List, [], ◌∷◌, Option, None, Some, refl, sym, ap, subst, ◌∙◌, arith}
+use Rattle.std.proofs.Common.{◌≡◌, ℕ, true, List, [], ◌∷◌, Option, None, Some, refl, sym, ap, subst, ◌∙◌, arith}
 use Rattle.std.specs.Prelude.{IfSome}
 use Rattle.std.specs.List.{AllByRecursion}
 use Rattle.std.proofs.lemmas.Bool.Decides.{nat_tests}
+use Rattle.std.proofs.lemmas.Bool.{eqb-true}
 use Rattle.cleaner_parts.specs.declared.job.Job.{Job}
 use Rattle.cleaner_parts.specs.Jobs.{check_of, hand_of, is_out}
 use Rattle.run_laws.proofs.index_reads.Worlds.{good}
@@ -37,10 +38,7 @@ itself name = grind (arith, nat_tests)
 -- what is out is what is awaited
 awaited : (o : Option ℕ) (ask : ℕ) → is_out o ask ≡ true → o ≡ Some ask
 awaited None ask h = absurd (cc)
-awaited (Some x) ask h = ap Some (same x ask h)
-  where
-    same : (x y : ℕ) → (x == y) ≡ true → x ≡ y
-    same x y t = grind (arith, nat_tests)
+awaited (Some x) ask h = ap Some (eqb-true x ask h)
 
 module _ (k : Books) (f : Filed) (exact : AreExact f) (b : BlockId) (e : Entry) (place : Place) (at : e.place ≡ Some place)
     (lies : LiesAt f k b e place place.seg.name.log.0 place.seg.name.seq) where

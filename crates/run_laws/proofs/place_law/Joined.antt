@@ -8,7 +8,6 @@ use Rattle.log_law.specs.Laws.{OneNameOneText, OneText}
 use Rattle.log_law.specs.Net.Packet.{FragmentSent}
 use Rattle.log_law.specs.Places.{APlaceNamesOneContent, Brings, IsReading}
 use Rattle.log_protocol.specs.Tables.{In}
-use Rattle.log_tie.proofs.Names.{itself}
 use Rattle.log_tie.specs.Shelves.{is_of_log}
 use Rattle.node_ties.specs.node_index_tie.Sight.{Texts}
 use Rattle.telling_ties.specs.reading_tie.Arrivals.{Cuts, cut_by}
@@ -22,7 +21,7 @@ use Rattle.stripe_code.specs.declared.round.Told.TheVariants.{Held, Missing}
 use Rattle.stripe_code.specs.Round.{RoundSoFar, IsRound, bytes_in, bytes_told, count_of, have_answered, is_enough, len_in, missing_in, parts_in, state_of}
 use Rattle.stripe_code.specs.Joined as joins
 use Rattle.wire_msg.specs.declared.packet.Packet.{Packet}
-use Rattle.xfs_base.proofs.Booleans.{by_test}
+use Rattle.xfs_base.proofs.Booleans.{by_test, equal_itself}
 use Rattle.xfs_base.specs.declared.fragment.Fragment.{Fragment}
 use Rattle.xfs_base.specs.declared.segment.LogId.{LogId}
 use Rattle.xfs_base.specs.declared.segment.SegName.{SegName}
@@ -93,7 +92,7 @@ module _ (one : OneNameOneText) (place : APlaceNamesOneContent) (texts : Texts) 
   its_log : (name : SegName) → name ≡ seg.name → is_of_log l.setting name ≡ true
   its_log name fact =
       subst (λ (n : SegName). (n.log.0 == l.setting.log.0) ≡ true) (sym fact)
-      (subst (λ (x : LogId). (seg.name.log.0 == x.0) ≡ true) (sym l.own) (itself seg.name.log.0))
+      (subst (λ (x : LogId). (seg.name.log.0 == x.0) ≡ true) (sym l.own) (equal_itself seg.name.log.0))
 
   answers_came : (s : Segment) (ask : ℕ) → s.name ≡ seg.name → (answers : List Answer) → AllByRecursion (AnswerCame came ask seg.name) answers
       → AllCame l.net s.name answers

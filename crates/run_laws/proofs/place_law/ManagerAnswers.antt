@@ -30,7 +30,6 @@ use Rattle.node_base.specs.declared.effects.Effect.{Effect}
 use Rattle.node_base.specs.Known.{names_known}
 use Rattle.node_base.specs.Maps.{fits, forgotten, is_older, taken}
 use Rattle.node_base.specs.Shape.{is_well_formed}
-use Rattle.log_ties.proofs.node_log_tie.Lists.{all_append, all_flat_map}
 use Rattle.segment_format.specs.declared.segment.Item.{Item}
 use Rattle.version_model.specs.declared.answer.Answer.TheVariants as answer
 use Rattle.version_model.specs.declared.work.Work.{Work}
@@ -55,6 +54,7 @@ use Rattle.node_base.specs.declared.effects.Effect.TheVariants.{Send, Answer, Lo
 use Rattle.node_base.specs.Effects.{packet_of, packets_of}
 use Rattle.wire_msg.specs.declared.cleaning.Live.{Live}
 use Rattle.xfs_base.specs.Steps.{saying}
+use Rattle.xfs_base.proofs.Alls.{all_append, all_flat_map}
 use Rattle.run_laws.specs.place_law.Answers.{AnswersBody, AnswersDo, IfLive, ManagersAnswer}
 use Rattle.run_laws.proofs.place_law.Saying.{AllSay, Says, answers_say, steps_say}
 use Rattle.run_laws.proofs.place_law.SlotAnswers.{asks_say, checks_say, deltas_say, gaves_say, hears_say, recalls_say, regroups_say, reports_say, takes_say, usages_say, wants_say}

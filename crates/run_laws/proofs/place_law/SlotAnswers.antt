@@ -3,6 +3,7 @@ use Rattle.std.proofs.Common.{◌≡◌, ℕ, Bool, true, false, cond, ◌&&◌,
 use Rattle.std.specs.List.{flat_map}
 use Rattle.std.specs.Ordering.{is_eq}
 use Rattle.std.proofs.lemmas.Map.Views.{tells_apart}
+use Rattle.std.proofs.lemmas.Bool.{eqb-true}
 use Rattle.token_manager.specs.Transition as slot
 use Rattle.token_manager.specs.Transition.{entry_at, is_place, transition}
 use Rattle.xfs_base.proofs.Booleans.{and_first, and_second, by_test, contrary}
@@ -10,7 +11,6 @@ use Rattle.xfs_base.proofs.Orders.{seg_cmp_exact}
 use Rattle.xfs_base.specs.Segments.{seg_cmp}
 use Rattle.xfs_base.specs.declared.entry.Entry.{Entry}
 use Rattle.xfs_base.specs.declared.entry.Place.{Place}
-use Rattle.log_tie.proofs.Names.{equal}
 use Rattle.group_map.specs.GroupMapState.{GroupMapState}
 use Rattle.manager_parts.specs.declared.slot_phase.SlotPhase.{SlotPhase}
 use Rattle.manager_parts.specs.declared.slot_phase.SlotPhase.TheVariants as phase
@@ -22,7 +22,6 @@ use Rattle.manager_parts.specs.Takeovers.{Asker}
 use Rattle.manager_parts.specs.Tokens as tokens
 use Rattle.node_base.specs.declared.effects.Effect.{Effect}
 use Rattle.node_base.specs.declared.questions.Questions.{Questions}
-use Rattle.log_ties.proofs.node_log_tie.Lists.{all_flat_map}
 use Rattle.takeover.specs.declared.input.In.{In as Given}
 use Rattle.takeover.specs.declared.input.In.TheVariants as given_in
 use Rattle.takeover.specs.declared.output.Out.{Out as Told}
@@ -42,6 +41,7 @@ use Rattle.xfs_base.specs.declared.node.NodeId.{NodeId}
 use Rattle.xfs_base.specs.declared.segment.LogId.{LogId}
 use Rattle.xfs_base.specs.declared.segment.SegName.{SegName}
 use Rattle.xfs_base.specs.Steps.{Stepped}
+use Rattle.xfs_base.proofs.Alls.{all_flat_map}
 use Rattle.run_laws.proofs.place_law.Saying.{AllSay, Says, steps_say}
 use Rattle.run_laws.specs.place_law.Answers.{AnswersCheck}
 use Rattle.wire_msg.specs.declared.cleaning.Live.{Live}
@@ -54,8 +54,8 @@ is_at (Some at) place h =
     let groups : Bool = at.seg.group == place.seg.group in
     let both : (names && groups) ≡ true = and_first (names && groups) (at.item == place.item) h in
     let name : at.seg.name ≡ place.seg.name = tells_apart seg_cmp_exact at.seg.name place.seg.name (and_first names groups both) in
-    let group : at.seg.group ≡ place.seg.group = equal at.seg.group place.seg.group (and_second names groups both) in
-    let item : at.item ≡ place.item = equal at.item place.item (and_second (names && groups) (at.item == place.item) h) in
+    let group : at.seg.group ≡ place.seg.group = eqb-true at.seg.group place.seg.group (and_second names groups both) in
+    let item : at.item ≡ place.item = eqb-true at.item place.item (and_second (names && groups) (at.item == place.item) h) in
     λ i. Some (record { seg = record { name = name i; group = group i }; item = item i })
 
 -- of each Live that is sent this is so

@@ -2,8 +2,7 @@
 use Rattle.std.proofs.Common.{◌≡◌, ◌<◌, ◌^◌, ℕ, true, ◌==◌, List, [], ◌∷◌, filter, Option, None, Some, refl, sym, subst}
 use Rattle.std.specs.Prelude.{IfSome}
 use Rattle.std.specs.List.{AllByRecursion, flat_map}
-use Rattle.telling_ties.proofs.filed_tie.Frames.{all_append}
-use Rattle.telling_ties.proofs.entry_tie.Frames.{all_filter, all_filter_map, all_weaker}
+use Rattle.telling_ties.proofs.entry_tie.Frames.{all_filter_map}
 use Rattle.log_law.specs.Laws.{OneNameOneText}
 use Rattle.log_law.specs.Net.Packet.{FragmentSent}
 use Rattle.log_law.specs.Places.{APlaceNamesOneContent}
@@ -31,6 +30,7 @@ use Rattle.xfs_base.specs.declared.block.BlockId.{BlockId}
 use Rattle.xfs_base.specs.declared.entry.Entry.{Entry}
 use Rattle.xfs_base.specs.declared.fragment.Fragment.{Fragment}
 use Rattle.xfs_base.specs.declared.segment.SegRef.{SegRef}
+use Rattle.xfs_base.proofs.Alls.{all_append, all_filter, all_weaker}
 use Rattle.run_laws.specs.place_law.Reads.{LogKnown, TakeoversReadTexts, WhatIsReadIsTheText}
 use Rattle.run_laws.proofs.place_law.Joined.{CameOf, IsFlown, joined}
 

@@ -51,8 +51,8 @@ use Rattle.xfs_base.specs.declared.node.NodeId.{NodeId}
 use Rattle.xfs_base.specs.declared.node.NodeId.TheVariants.{Client, Manager, Server, Cleaner, Registry}
 use Rattle.xfs_base.specs.declared.setup.Setup.{Setup}
 use Rattle.xfs_base.specs.Steps.{still}
+use Rattle.xfs_base.proofs.Alls.{all_flat_map, all_map, all_append}
 use Rattle.run_laws.specs.reading_law.Readings.{cut_of, cuts_at}
-use Rattle.telling_ties.proofs.reading_tie.Readings.{all_append}
 use Rattle.telling_ties.specs.reading_tie.Arrivals.{Cuts, cut_by, BodyMaps}
 use Rattle.telling_ties.specs.reading_tie.Came.{MapStriped}
 
@@ -80,14 +80,6 @@ map_so end m ok stays id group fact =
     }
 
 -- ---- what is sent
-
-all_map : {X Y : Type 0} (P : Y → Type 0) (f : X → Y) → ((x : X) → P (f x)) → (xs : List X) → AllByRecursion P (map f xs)
-all_map P f each [] = tt
-all_map P f each (x ∷ xs) = (each x, all_map P f each xs)
-
-all_flat_map : {X Y : Type 0} (P : Y → Type 0) (f : X → List Y) → ((x : X) → AllByRecursion P (f x)) → (xs : List X) → AllByRecursion P (flat_map f xs)
-all_flat_map P f each [] = tt
-all_flat_map P f each (x ∷ xs) = all_append P (f x) (flat_map f xs) (each x) (all_flat_map P f each xs)
 
 -- what is so of each effect is so of each packet
 module _ (node : NodeId) (clock : ℕ) (D : Effect → Type 0) (F : Packet → Type 0)

@@ -1,6 +1,6 @@
 -- The books of a log that is opened again: its end, what is said up to it, and that nothing is said behind what was there before.
 use Rattle.std.proofs.Common.{◌≡◌, ◌≤◌, ◌<◌, ◌+◌, ℕ, zero, suc, Bool, true, false, [], nat_le, refl, sym, ap, ◌∙◌, arith}
-use Rattle.std.proofs.lemmas.Bool.Decides.{nat_tests}
+use Rattle.std.proofs.lemmas.Bool.{leb-false, leb-true}
 use Rattle.node_ties.proofs.node_tie.ClientBooks.{filed_end, put_here, put_there, said_now, said_still}
 use Rattle.token_law.specs.Books.{Books, filed, reopened, sealed, with_empty}
 use Rattle.token_protocol.specs.Basics.{put}
@@ -31,21 +31,15 @@ pub empty_says : (count : ℕ) (k : Books) (l q : ℕ) → k.end l < q → q ≤
 empty_says zero k l q new within = absurd (omega arith)
 empty_says (suc count) k l q new within = by (nat_le q (suc (k.end l))) refl (empty_says count (one k l) l q)
   where
-    is_le : (a b : ℕ) → nat_le a b ≡ true → a ≤ b
-    is_le a b t = grind (arith, nat_tests)
-
-    is_not : (a b : ℕ) → nat_le a b ≡ false → b < a
-    is_not a b t = grind (arith, nat_tests)
-
     by : (t : Bool) → nat_le q (suc (k.end l)) ≡ t
         → ((one k l).end l < q → q ≤ count + (one k l).end l → (with_empty (suc count) k l).rows l q ≡ []) → (with_empty (suc count) k l).rows l q ≡ []
     by true t rest =
-        let low = is_le q (suc (k.end l)) t in
+        let low = leb-true q (suc (k.end l)) t in
         let same : suc (k.end l) ≡ q = omega arith in
         empty_keeps count (one k l) l q (let e = one_end k l in omega arith)
         ∙ (ap ((one k l).rows l) (sym same) ∙ said_now k l [])
     by false t rest =
-        let high = is_not q (suc (k.end l)) t in
+        let high = leb-false q (suc (k.end l)) t in
         let e = one_end k l in
         rest (omega arith) (omega arith)
 

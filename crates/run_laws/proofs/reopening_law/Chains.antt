@@ -1,7 +1,7 @@
 -- Chains of segments: their names, their numbers, and whether one has the number and the boot of a flight.
 use Rattle.std.proofs.Common.{◌≡◌, ⊎_elim, ◌⊎◌, ◌≤◌, ◌+◌, ◌==◌, ◌&&◌, ◌||◌, ℕ, suc, Bool, true, false, List, [], ◌∷◌, ◌++◌, length, Some, refl, sym, ap, ◌∙◌, inl, inr, arith}
-use Rattle.std.proofs.lemmas.Bool.Decides.{nat_tests}
 use Rattle.std.specs.List.{AllByRecursion}
+use Rattle.std.proofs.lemmas.Bool.{eq-eqb, eqb-true}
 use Rattle.client_parts.specs.Crash.{flight_of}
 use Rattle.log_flight.specs.Flights.{FlightState}
 use Rattle.log_law.specs.Net.{names_of}
@@ -70,12 +70,6 @@ pub record Holds (chain : List Segment) (flight : FlightState) : Type 0 where
   pub seq : segment.name.seq ≡ flight.segment.name.seq
   pub boot : segment.name.pass.inc ≡ flight.segment.name.pass.inc
 
-equal : (a b : ℕ) → (a == b) ≡ true → a ≡ b
-equal a b t = grind (arith, nat_tests)
-
-same : (a b : ℕ) → a ≡ b → (a == b) ≡ true
-same a b e = grind (arith, nat_tests)
-
 or_either : (a b : Bool) → (a || b) ≡ true → (a ≡ true) ⊎ (b ≡ true)
 or_either true b t = inl refl
 or_either false b t = inr t
@@ -89,8 +83,8 @@ holds (s ∷ chain) f t =
     here u = record {
       segment = s;
       among = inl refl;
-      seq = equal s.name.seq f.segment.name.seq (and_first (s.name.seq == f.segment.name.seq) (s.name.pass.inc == f.segment.name.pass.inc) u);
-      boot = equal s.name.pass.inc f.segment.name.pass.inc
+      seq = eqb-true s.name.seq f.segment.name.seq (and_first (s.name.seq == f.segment.name.seq) (s.name.pass.inc == f.segment.name.pass.inc) u);
+      boot = eqb-true s.name.pass.inc f.segment.name.pass.inc
           (and_second (s.name.seq == f.segment.name.seq) (s.name.pass.inc == f.segment.name.pass.inc) u);
     }
 
@@ -116,7 +110,7 @@ found [] f t fact seq boot = absurd fact
 found (s ∷ chain) f t (inl e) seq boot =
     left ((s.name.seq == f.segment.name.seq) && (s.name.pass.inc == f.segment.name.pass.inc)) _
     (both (s.name.seq == f.segment.name.seq) (s.name.pass.inc == f.segment.name.pass.inc)
-    (same s.name.seq f.segment.name.seq (ap (λ (z : Segment). z.name.seq) (sym e) ∙ seq))
-    (same s.name.pass.inc f.segment.name.pass.inc (ap (λ (z : Segment). z.name.pass.inc) (sym e) ∙ boot)))
+    (eq-eqb s.name.seq f.segment.name.seq (ap (λ (z : Segment). z.name.seq) (sym e) ∙ seq))
+    (eq-eqb s.name.pass.inc f.segment.name.pass.inc (ap (λ (z : Segment). z.name.pass.inc) (sym e) ∙ boot)))
 found (s ∷ chain) f t (inr fact) seq boot =
     right ((s.name.seq == f.segment.name.seq) && (s.name.pass.inc == f.segment.name.pass.inc)) _ (found chain f t fact seq boot)

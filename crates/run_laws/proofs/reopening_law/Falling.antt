@@ -1,8 +1,8 @@
 -- From the crash of a client until its log is open again one fall of it waits, told with what was in flight when it served last.
-use Rattle.std.proofs.Common.{arith, ◌≡◌, ℕ, ◌==◌, Bool, true, false, List, [], ◌∷◌, ◌++◌, map, Option, Some, None, refl, sym, ap, ◌∙◌}
+use Rattle.std.proofs.Common.{◌≡◌, ℕ, Bool, List, [], ◌∷◌, ◌++◌, map, Option, Some, None, refl, sym, ap, ◌∙◌}
 use Rattle.std.specs.List.{AllByRecursion}
 use Rattle.std.specs.Prelude.{if◌then◌else◌}
-use Rattle.std.proofs.lemmas.Bool.Decides.{nat_tests}
+use Rattle.std.proofs.lemmas.Bool.{ne_eqb}
 use Rattle.act_tie.proofs.Falling.{settled_told}
 use Rattle.client_node.specs.declared.client.Client.{Client as AClient}
 use Rattle.client_node.specs.declared.phase.Phase.TheVariants.{Down, Opening, Serving as Serves}
@@ -41,19 +41,13 @@ use Rattle.version_model.proofs.Onward.{history_through}
 use Rattle.wire_msg.specs.declared.packet.Do.{Do}
 use Rattle.wire_msg.specs.declared.packet.Do.TheVariants.{Begin, Deliver, Tick}
 use Rattle.wire_msg.specs.declared.packet.Packet as wire
-use Rattle.xfs_base.proofs.Booleans.{by_test}
+use Rattle.xfs_base.proofs.Booleans.{by_test, equal_itself}
 use Rattle.xfs_base.specs.declared.node.NodeId.TheVariants.{Client}
 use Rattle.xfs_base.specs.declared.segment.SegName.{SegName}
 use Rattle.xfs_base.specs.Steps.{saying, still}
 use Rattle.run_laws.specs.reopening_law.Falls.{FallKnown, FallTells, FallsGoOn, FallsStay, FellWith, IsAside}
 
 -- ---- acts
-
-differs : (d e : ℕ) → (d ≡ e → ⊥) → (d == e) ≡ false
-differs d e other = grind (arith, nat_tests)
-
-itself : (d : ℕ) → (d == d) ≡ true
-itself d = grind (arith, nat_tests)
 
 settle_told : (chain : List SegName) (ts : List FallTold) (h : History) → (settle chain ts h).told ≡ h.told
 settle_told chain [] h = refl
@@ -69,9 +63,9 @@ aside_told c (act.Read client block ver value) h aside =
     by_test (λ (x : History). x.told c ≡ h.told c) (is_by_other client ver (h.of_block block).versions) (change block (pin ver) h) h (λ t. refl) (λ t. refl)
 aside_told c (act.Synced client) h aside = refl
 aside_told c (act.Fell client flight fs) h aside =
-    ap (λ (y : Bool). if y then h.told c ++ record { flight = flight; falls = fs } ∷ [] else h.told c) (differs c client (flip c client aside))
+    ap (λ (y : Bool). if y then h.told c ++ record { flight = flight; falls = fs } ∷ [] else h.told c) (ne_eqb c client (flip c client aside))
 aside_told c (act.Back client chain) h aside =
-    ap (λ (y : Bool). if y then [] else (settle chain (h.told client) h).told c) (differs c client (flip c client aside))
+    ap (λ (y : Bool). if y then [] else (settle chain (h.told client) h).told c) (ne_eqb c client (flip c client aside))
     ∙ ap (λ (f : ℕ → List FallTold). f c) (settle_told chain (h.told client) h)
 aside_told c (act.Lost node seg) h aside = refl
 aside_told c (act.Filed seg) h aside = refl
@@ -192,7 +186,7 @@ module _ (acts : List Act) (c : ℕ) (flight : Option FlightState) where
         ∙ (all_told c (acts_of (Client c) (crashed s.lasting number).outs) (after_act its_act (history_after acts nothing_yet))
         (quiet_acts c (crashed s.lasting number).outs (crash_quiet s.lasting number))
         ∙ (ap (λ (d : ℕ). (after_act (act.Fell d told.flight told.falls) (history_after acts nothing_yet)).told c) its
-        ∙ (ap (λ (y : Bool). if y then (history_after acts nothing_yet).told c ++ told ∷ [] else (history_after acts nothing_yet).told c) (itself c)
+        ∙ (ap (λ (y : Bool). if y then (history_after acts nothing_yet).told c ++ told ∷ [] else (history_after acts nothing_yet).told c) (equal_itself c)
         ∙ ap (λ (ts : List FallTold). ts ++ told ∷ []) known.0)));
     with_flight = ap flight_of (sym known.1);
   }

@@ -1,7 +1,7 @@
 -- The books of a log that is opened again: they go on to its end, and have what is filed then.
 use Rattle.std.proofs.Common.{⊎_elim, ◌≡◌, ◌⊎◌, ◌≤◌, ◌<◌, ◌+◌, ◌-◌, ℕ, zero, suc, Bool, true, false, List, [], ◌++◌, Option, Some, None, is_some, nat_le, refl, sym, ap, subst, ◌∙◌, inl, inr, arith}
-use Rattle.std.proofs.lemmas.Bool.Decides.{nat_tests}
 use Rattle.std.specs.Prelude.{IfSome}
+use Rattle.std.proofs.lemmas.Bool.{leb-false, leb-true}
 use Rattle.client_log.specs.LogState.{LogState}
 use Rattle.client_log.specs.Transition as log
 use Rattle.client_parts.specs.Crash.{flight_of}
@@ -32,12 +32,6 @@ use Rattle.run_laws.proofs.reopening_law.Books.{adopted_end, empty_end, empty_fl
 use Rattle.run_laws.proofs.reopening_law.Chains.{Holds, found, holds, in_either, its_segment}
 use Rattle.run_laws.proofs.reopening_law.Reopened as then
 use Rattle.run_laws.proofs.reopening_law.Steps.{landed}
-
-is_le : (a b : ℕ) → nat_le a b ≡ true → a ≤ b
-is_le a b t = grind (arith, nat_tests)
-
-is_not : (a b : ℕ) → nat_le a b ≡ false → b < a
-is_not a b t = grind (arith, nat_tests)
 
 -- the flight that the chain has
 pub record HasFlight (chain : List Segment) (flight : Option FlightState) : Type 0 where
@@ -251,21 +245,21 @@ module _ (k : Below) (g : Setting) (n o : Net) (chain : List Segment) (s r : Log
 
               by_next : (t : Bool) → nat_le q (suc (f.head l)) ≡ t → after.rows l q ≡ rows_told (later.segment l q).items
               by_next false t =
-                  nothing_more q (let a = end_there in let c = is_not q (suc (f.head l)) t in omega arith) within
-                  ∙ sym (ap rows_told (further q some within new x (is_not q (suc (f.head l)) t)))
+                  nothing_more q (let a = end_there in let c = leb-false q (suc (f.head l)) t in omega arith) within
+                  ∙ sym (ap rows_told (further q some within new x (leb-false q (suc (f.head l)) t)))
               by_next true t =
-                  let next : q ≡ suc (f.head l) = (let a = is_le q (suc (f.head l)) t in omega arith) in
+                  let next : q ≡ suc (f.head l) = (let a = leb-true q (suc (f.head l)) t in omega arith) in
                   empty_keeps count (reopened b l adopted_is) l q (let a = end_there in omega arith)
                   ∙ (ap (λ y. (reopened b l y).rows l q) same
                   ∙ (ap (b.rows l) (next ∙ ap suc (sym h.books.end)) ∙ ((adopts x).rows ∙ sym (ap rows_told (adopted q some within new x next)))))
 
           by : (t : Bool) → nat_le q (f.head l) ≡ t → after.rows l q ≡ rows_told (later.segment l q).items
           by true t =
-              let upto = is_le q (f.head l) t in
+              let upto = leb-true q (f.head l) t in
               empty_keeps count (reopened b l adopted_is) l q (let a = reopened_rises b l adopted_is in let c = h.books.end in omega arith)
               ∙ (reopened_keeps b l adopted_is q (let c = h.books.end in omega arith)
               ∙ (h.books.rows q some upto ∙ ap (λ (z : Segment). rows_told z.items) (old q some upto within)))
-          by false t = by_flight (is_not q (f.head l) t) adopted_is fact refl
+          by false t = by_flight (leb-false q (f.head l) t) adopted_is fact refl
 
       pub follows : BooksAfter after l later
       follows = record {

@@ -12,7 +12,6 @@ use Rattle.log_law.specs.Net.{Net}
 use Rattle.log_law.specs.Net.Owner.{Serving}
 use Rattle.log_law.specs.Restarts.{IsDoubtful, IsSureRun, LackedInSpan, is_serving, is_writing}
 use Rattle.log_protocol.specs.Tables as tables
-use Rattle.log_tie.proofs.Names.{itself}
 use Rattle.log_tie.specs.Setting.{Setting, Stripe, fragment_of, fragment_over, server_of}
 use Rattle.log_tie.specs.Shelves.{is_of_log}
 use Rattle.log_ties.specs.node_log_tie.Sight.{BodySeen}
@@ -31,7 +30,7 @@ use Rattle.run_laws.specs.world_logs.Logs.{IsText, NotDeleted}
 use Rattle.run_laws.specs.world_logs.Roles.{IsThere, Role, asker_by, renews}
 use Rattle.run_laws.specs.world_logs.Settings.{stripe_by}
 use Rattle.run_laws.specs.world_logs.Shelves.{group_at, piece, shelf_at}
-use Rattle.xfs_base.proofs.Booleans.{contrary}
+use Rattle.xfs_base.proofs.Booleans.{contrary, equal_itself}
 use Rattle.xfs_base.specs.declared.fragment.Fragment.{Fragment}
 use Rattle.xfs_base.specs.declared.node.NodeId.{NodeId}
 use Rattle.xfs_base.specs.declared.node.NodeId.TheVariants.{Server}
@@ -83,7 +82,7 @@ module _ (b : Below) (base : Setting) (e : Estate AnyNode) (r : Role) (is_there 
       subst (λ t. BodySeen g (asker_by r (line.scene count)) (small count) packet.from t m) at (said count packet m was fact)
 
   of_log : (name : SegName) → name.log ≡ g.log → is_of_log g name ≡ true
-  of_log name own = subst (λ (l : LogId). (l.0 == g.log.0) ≡ true) (sym own) (itself g.log.0)
+  of_log name own = subst (λ (l : LogId). (l.0 == g.log.0) ≡ true) (sym own) (equal_itself g.log.0)
 
   held_there : (count v : ℕ) (shelf : ShelfState) → shelf_at (moment e count) v ≡ Some shelf → (small count).shelves v ≡ shelf
   held_there count v shelf fact = subst (ShelfIs g (line.scene count) v) fact (shelf_is base e r is_there keeps line count v)

@@ -14,7 +14,6 @@ use Rattle.client_log.specs.declared.output.Out.TheVariants as log_out
 use Rattle.client_log.specs.Transition as log
 use Rattle.delta_feed.specs.Transition as feed
 use Rattle.telling_ties.specs.entry_tie.CleanerTells.{JobTold}
-use Rattle.telling_ties.proofs.entry_tie.Frames.{all_each}
 use Rattle.group_map.specs.GroupMapState.{GroupMapState}
 use Rattle.log_owner.specs.Promised.{epoch_of}
 use Rattle.log_owner.specs.Sending.{server_in}
@@ -39,6 +38,7 @@ use Rattle.xfs_base.specs.declared.node.NodeId.{NodeId}
 use Rattle.xfs_base.specs.declared.node.NodeId.TheVariants as node
 use Rattle.xfs_base.specs.declared.segment.End.{End}
 use Rattle.xfs_base.specs.Steps.{still, saying, steps}
+use Rattle.xfs_base.proofs.Alls.{all_each}
 use Rattle.run_laws.specs.segment_tie.Cleaners.{versions, TellsVersion}
 use Rattle.run_laws.specs.segment_tie.Segments.{IsCopies, IsMoved, WritesCopies}
 use Rattle.run_laws.proofs.segment_tie.CleanerJobs.{At, Goes, goes_each, job_goes_on, list_came, usage_came, live_came, dead_came, deleted_came, told_came}

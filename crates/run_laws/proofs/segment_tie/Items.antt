@@ -1,7 +1,6 @@
 -- The items that are written of changes tell of blocks once, each of a version that waited; and what a segment tells of blocks is said by its items alone.
 use Rattle.std.proofs.Common.{◌≡◌, ℕ, ◌+◌, ◌<◌, ◌≤◌, List, [], ◌∷◌, ◌++◌, length, map, Option, Some, None, refl, sym, subst, arith}
 use Rattle.std.specs.List.{AllByRecursion, filter_map}
-use Rattle.telling_ties.proofs.filed_tie.Frames.{all_append}
 use Rattle.index_tie.specs.Filed.{IsNoPart}
 use Rattle.log_flight.specs.declared.dirty.Change.{Change}
 use Rattle.log_flight.specs.Items.{change_items, items_of}
@@ -16,6 +15,7 @@ use Rattle.token_law.specs.Books.{AreOnce}
 use Rattle.xfs_base.specs.declared.block.BlockId.{BlockId}
 use Rattle.xfs_base.specs.declared.entry.Entry.{Entry}
 use Rattle.xfs_base.specs.Limits.{segment_blocks}
+use Rattle.xfs_base.proofs.Alls.{all_append}
 use Rattle.run_laws.specs.segment_tie.Segments.{TellsOnce, IsOriginal, IsCopies, IsPart, NothingIsAnyKind, AttemptsAreAlike, IsFirstHand, IsMoved, IsWaiting}
 
 -- ---- what items say

@@ -5,7 +5,6 @@ use Rattle.std.specs.List.{AllByRecursion}
 use Rattle.checkpoint.specs.WriterState.{WorkState}
 use Rattle.telling_ties.specs.entry_tie.ManagerTells.{AnswerOwed, BodyOwed, DoOwed, FlightHolds, PacketOwed, PartTold, PhaseHolds, SlotHolds, SlotOwed, WorkHolds}
 use Rattle.telling_ties.specs.entry_tie.Told.{Told, BodyTold, DoTold, RowsTold}
-use Rattle.telling_ties.proofs.entry_tie.Frames.{all_each, all_weaker}
 use Rattle.telling_ties.proofs.entry_tie.Managers.{any_manager_tells}
 use Rattle.log_flight.specs.Flights.{FlightState}
 use Rattle.log_owner.specs.Sending.{server_in}
@@ -28,6 +27,7 @@ use Rattle.wire_msg.specs.declared.packet.Packet.{Packet}
 use Rattle.xfs_base.specs.declared.block.BlockId.{BlockId}
 use Rattle.xfs_base.specs.declared.entry.Entry.{Entry}
 use Rattle.xfs_base.specs.declared.node.NodeId.{NodeId}
+use Rattle.xfs_base.proofs.Alls.{all_each, all_weaker}
 use Rattle.run_laws.specs.segment_tie.Managers.{ManagerWrites, ManagersStartWriting, ManagersWritePages}
 use Rattle.run_laws.specs.segment_tie.Segments.{IsPages, IsPart}
 

@@ -6,7 +6,7 @@ use Rattle.client_log.specs.Transition.{Done, launched, writes, has_next, is_idl
 use Rattle.telling_ties.specs.entry_tie.ClientTells as tells
 use Rattle.telling_ties.specs.entry_tie.Told.{Told, RowsTold}
 use Rattle.telling_ties.proofs.entry_tie.Frames as frames
-use Rattle.telling_ties.proofs.entry_tie.Frames.{all_each, contains_all}
+use Rattle.telling_ties.proofs.entry_tie.Frames.{contains_all}
 use Rattle.telling_ties.proofs.entry_tie.Openings as events
 use Rattle.group_map.specs.GroupMapState.{GroupMapState}
 use Rattle.log_flight.specs.declared.dirty.Change.{Change}
@@ -36,6 +36,7 @@ use Rattle.xfs_base.specs.declared.node.NodeId.TheVariants.{Cleaner}
 use Rattle.xfs_base.specs.declared.segment.SegName.{SegName}
 use Rattle.xfs_base.specs.Limits.{segment_blocks}
 use Rattle.xfs_base.specs.Steps.{still}
+use Rattle.xfs_base.proofs.Alls.{all_each}
 use Rattle.run_laws.specs.segment_tie.Clients.{StageWrites}
 use Rattle.run_laws.specs.segment_tie.Segments.{IsOriginal, IsCopies, IsFirstHand, IsMoved, WritesSo, WritesOnly, WritesNothing, WritesOriginals, WritesCopies}
 use Rattle.run_laws.proofs.segment_tie.Items.{nothing_is}

@@ -1,5 +1,5 @@
 -- What an input of its job has the cleaner do, and what the cleaner awaits then.
-use Rattle.std.proofs.Common.{◌≡◌, ◌==◌, ◌&&◌, ℕ, Bool, true, false, List, [], ◌∷◌, Option, None, Some, inl, inr, refl, sym, ap, subst, ◌∙◌, arith}
+use Rattle.std.proofs.Common.{◌≡◌, ◌==◌, ℕ, Bool, true, false, List, [], ◌∷◌, Option, None, Some, inl, inr, refl, sym, ap, subst, ◌∙◌, arith}
 use Rattle.std.proofs.lemmas.Bool.Decides.{nat_tests}
 use Rattle.std.specs.List.{AllByRecursion, flat_map}
 use Rattle.cleaner_emptying.specs.declared.emptying.Emptying.{Emptying}
@@ -19,8 +19,6 @@ use Rattle.log_owner.specs.Sending.{fetch}
 use Rattle.node_base.specs.Beginning.{answers_unanswered}
 use Rattle.node_base.specs.declared.effects.Effect.TheVariants.{Send}
 use Rattle.node_base.specs.declared.questions.Questions.{Questions}
-use Rattle.node_ties.proofs.node_index_tie.Moves.{all_both}
-use Rattle.node_ties.proofs.owner_index_tie.Frames.{all_map}
 use Rattle.segment_reading.specs.Reading.{ReadingState, to_ask}
 use Rattle.stripe_cleaner.specs.declared.input.In.{In}
 use Rattle.stripe_cleaner.specs.declared.output.Out.{Out}
@@ -36,13 +34,14 @@ use Rattle.run_laws.proofs.world_index.Asking.{drawn_more}
 use Rattle.run_laws.specs.world_index.Asking.{AsksSo, Book, HandAsks, HandIn, HandSeen, IsDrawn, IsOfJob, JobAsks}
 use Rattle.run_laws.proofs.world_index.AskingJobs.{CalmSo, ChecksSo, DoneSo, Follows, IsCalm, ReadsSo, transition_so}
 use Rattle.run_laws.proofs.world_index.AskingSays.{AllSilent, At, Kept, SegIn, all_checks, all_steps, below_next, list_so, maps_so, quiet, usage_so, went_on}
-use Rattle.xfs_base.proofs.Booleans.{by_test}
+use Rattle.xfs_base.proofs.Booleans.{by_test, and_first}
 use Rattle.xfs_base.specs.declared.block.BlockId.{BlockId}
 use Rattle.xfs_base.specs.declared.entry.Entry.{Entry}
 use Rattle.xfs_base.specs.declared.node.NodeId.TheVariants.{Server}
 use Rattle.xfs_base.specs.declared.segment.SegName.{SegName}
 use Rattle.xfs_base.specs.declared.segment.SegRef.{SegRef}
 use Rattle.xfs_base.specs.Steps.{still, steps}
+use Rattle.xfs_base.proofs.Alls.{all_append, all_map}
 
 -- ---- what it stores, fetches and answers
 
@@ -72,10 +71,6 @@ same_name_exact a b h =
     let inc : b.pass.inc ≡ a.pass.inc = grind (arith, nat_tests) in
     let att : b.pass.att ≡ a.pass.att = grind (arith, nat_tests) in
     λ i. record { log = record { 0 = log i }; seq = seq i; pass = record { inc = inc i; att = att i } }
-
-first_true : (a b : Bool) → (a && b) ≡ true → a ≡ true
-first_true true b h = refl
-first_true false b h = absurd (cc)
 
 nothing_asked : (ask : ℕ) → None ≡ Some ask → ⊥
 nothing_asked ask same = absurd (cc)
@@ -116,7 +111,7 @@ module _ (book : Book) (q : Questions) (drawn_so : IsDrawn book q) (j : JobState
   held_so None h fact = tt
   held_so (Some hand) h fact = record {
     asks = h;
-    job = same_name_exact hand.seg.name segment.name (first_true (same_name hand.seg.name segment.name) (hand.seg.group == segment.group) fact);
+    job = same_name_exact hand.seg.name segment.name (and_first (same_name hand.seg.name segment.name) (hand.seg.group == segment.group) fact);
   }
 
   takes_so : (groups : _) (o : Option Hand) → HandOnly book q o → TakenSo (takes_in_hand groups q o segment)
@@ -185,7 +180,7 @@ deletes_so : (book : Book) (e : Emptying) (o : Option Job) (server : ℕ) (name 
 deletes_so book e None server name same h = quiet book e [] tt h
 deletes_so book e (Some job) server name same h =
     quiet book (deletes e (Some job) server name).state (deletes e (Some job) server name).outs
-    (all_both _ (drops (is_whole job.hand) name) (Send (Server server) (body.Delete (record { name = name })) ∷ []) (drops_silent (is_whole job.hand) name)
+    (all_append _ (drops (is_whole job.hand) name) (Send (Server server) (body.Delete (record { name = name })) ∷ []) (drops_silent (is_whole job.hand) name)
     (tt, tt))
     (record {
       drawn = h.drawn;

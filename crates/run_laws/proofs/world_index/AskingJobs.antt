@@ -2,7 +2,6 @@
 use Rattle.std.proofs.Common.{◌≡◌, ◌⊎◌, ◌==◌, ◌&&◌, not, ℕ, Bool, List, [], ◌∷◌, Option, None, Some, length, map, inl, inr, refl}
 use Rattle.std.specs.List.{AllByRecursion, cons_option}
 use Rattle.group_map.specs.GroupMapState.{GroupMapState}
-use Rattle.node_ties.proofs.owner_index_tie.Frames.{all_map}
 use Rattle.segment_format.specs.declared.segment.Segment.{Segment}
 use Rattle.stripe_cleaner.specs.Checks.{all_dead, any_asked, checks_from, dead_at, is_awaited, live_at, place_in, questions}
 use Rattle.stripe_cleaner.specs.CleaningState.{CleaningState}
@@ -25,6 +24,7 @@ use Rattle.xfs_base.specs.declared.fragment.FragMeta.{FragMeta}
 use Rattle.xfs_base.specs.declared.segment.SegName.{SegName}
 use Rattle.xfs_base.specs.declared.segment.SegRef.{SegRef}
 use Rattle.xfs_base.specs.Steps.{still}
+use Rattle.xfs_base.proofs.Alls.{all_map}
 use Rattle.run_laws.specs.world_index.Asking.{IsOfJob}
 
 -- ---- what is said

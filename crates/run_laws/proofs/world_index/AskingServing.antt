@@ -27,7 +27,6 @@ use Rattle.node_base.specs.declared.effects.Effect.TheVariants.{Send, Answer, Do
 use Rattle.node_base.specs.declared.questions.Questions.{Questions}
 use Rattle.node_base.specs.Known.{names_known}
 use Rattle.node_base.specs.Maps.{fits, is_older, taken}
-use Rattle.node_ties.proofs.owner_index_tie.Frames.{all_map}
 use Rattle.segment_format.specs.declared.segment.Segment.{Segment}
 use Rattle.segment_reading.specs.declared.reading.Next.{Next}
 use Rattle.segment_reading.specs.declared.reading.Next.TheVariants as next
@@ -58,6 +57,7 @@ use Rattle.xfs_base.specs.declared.node.NodeId.{NodeId}
 use Rattle.xfs_base.specs.declared.node.NodeId.TheVariants as node
 use Rattle.xfs_base.specs.declared.segment.End.{End}
 use Rattle.xfs_base.specs.Steps.{saying, still, steps}
+use Rattle.xfs_base.proofs.Alls.{all_map}
 
 -- ---- what it tells of its log
 

@@ -24,7 +24,6 @@ use Rattle.node_base.specs.declared.effects.Effect.{Effect}
 use Rattle.node_base.specs.declared.effects.Effect.TheVariants.{Send, Answer as Answers, Lose, Does}
 use Rattle.node_base.specs.declared.peers.Peers.{Peers}
 use Rattle.node_base.specs.Shape.{is_well_formed}
-use Rattle.node_ties.proofs.node_index_tie.Moves.{all_both, all_weaker}
 use Rattle.version_model.specs.declared.answer.Answer.{Answer}
 use Rattle.version_model.specs.declared.answer.Answer.TheVariants as answer
 use Rattle.wire_msg.specs.declared.body.Body.{Body}
@@ -42,6 +41,7 @@ use Rattle.run_laws.proofs.world_index.AskingServing.{pushes_silent}
 use Rattle.xfs_base.proofs.Booleans.{by_test}
 use Rattle.xfs_base.specs.declared.node.NodeId.{NodeId}
 use Rattle.xfs_base.specs.Steps.{still}
+use Rattle.xfs_base.proofs.Alls.{all_append, all_weaker}
 
 -- ---- what an opening does
 
@@ -67,7 +67,7 @@ PhaseKept book w = CleanerAsks (book_with book w.outs) w.state
 
 crash_silent : (l : Lasting) (number : ℕ) → AllSilent (answers_unanswered l.items.unanswered answer.Cut ++ Answers number answer.Done ∷ [])
 crash_silent l number =
-    all_both IsSilent (answers_unanswered l.items.unanswered answer.Cut) (Answers number answer.Done ∷ [])
+    all_append IsSilent (answers_unanswered l.items.unanswered answer.Cut) (Answers number answer.Done ∷ [])
     (answers_silent l.items.unanswered answer.Cut) (tt, tt)
 
 crashes_so : (book : Book) (l : Lasting) (number : ℕ) → IsDrawn book l.questions → PhaseKept book (crashes l number)
@@ -100,10 +100,10 @@ serves_so book d h = h
 
 module _ (book : Book) (l : Lasting) (h : IsDrawn book l.questions) (before : List Effect) (silent : AllSilent before) where
   both : (es : List Effect) → AllSilent es → AllSilent (before ++ es)
-  both es more = all_both IsSilent before es silent more
+  both es more = all_append IsSilent before es silent more
 
   back_silent : (o : Opened) → AllSilent (back l o).outs
-  back_silent o = all_both IsSilent (pushes_all o.promised.managers o.feed) _ (pushes_silent o.promised.managers o.feed)
+  back_silent o = all_append IsSilent (pushes_all o.promised.managers o.feed) _ (pushes_silent o.promised.managers o.feed)
       (answers_silent l.items.unanswered answer.Done)
 
   after_opening_so : (p : Progress) → CleanerAsks (book_with book (before ++ (after_opening l p).outs)) (after_opening l p).state

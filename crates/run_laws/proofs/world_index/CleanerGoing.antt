@@ -1,6 +1,6 @@
 -- What an event makes of the cleaner in the small world: nothing, where a counter is near its end; and which questions it asked of blocks of the slot.
-use Rattle.std.proofs.Common.{◌≡◌, ◌==◌, ◌&&◌, ◌-◌, ℕ, ◌<◌, Bool, true, false, List, [], ◌∷◌, inl, inr, nat_le, refl, sym, ap, subst, arith}
-use Rattle.std.proofs.lemmas.Bool.{eqb-true}
+use Rattle.std.proofs.Common.{◌≡◌, ◌==◌, ◌-◌, ℕ, ◌<◌, Bool, true, false, List, [], ◌∷◌, inl, inr, nat_le, refl, sym, ap, subst, arith}
+use Rattle.std.proofs.lemmas.Bool.{eqb-true, leb-true}
 use Rattle.std.proofs.lemmas.Bool.Decides.{nat_tests}
 use Rattle.std.specs.List.{AllByRecursion}
 use Rattle.cleaner_node.specs.CleanerEvents.{lasting_of, phase_room, happens, takes}
@@ -9,7 +9,7 @@ use Rattle.cleaner_node.specs.declared.cleaner.Phase.{Phase}
 use Rattle.cleaner_node.specs.declared.cleaner.Phase.TheVariants.{Down, Opening, Serving}
 use Rattle.cleaner_parts.specs.declared.lasting.Lasting.{Lasting}
 use Rattle.cleaner_parts.specs.Lasting.{lasting_room}
-use Rattle.index_tie.proofs.Tables.{second_of, within_is}
+use Rattle.index_tie.proofs.Tables.{second_of}
 use Rattle.index_tie.specs.Net.{Net}
 use Rattle.index_tie.specs.Net.Runs.{Begun}
 use Rattle.log_protocol.specs.Tables as tables
@@ -35,27 +35,20 @@ use Rattle.xfs_base.specs.Blocks.{slot_of}
 use Rattle.xfs_base.specs.Limits.{u32_end, counter_room}
 use Rattle.xfs_base.specs.Steps.{still}
 use Rattle.xfs_base.specs.declared.segment.SegName.{SegName}
+use Rattle.xfs_base.proofs.Booleans.{and_first, and_second}
 
 -- ---- counters
 
-first_true : (a b : Bool) → (a && b) ≡ true → a ≡ true
-first_true true b h = refl
-first_true false b h = absurd (cc)
-
-second_true : (a b : Bool) → (a && b) ≡ true → b ≡ true
-second_true true b h = h
-second_true false b h = absurd (cc)
-
 below_end : (x end room : ℕ) → nat_le x (end - room) ≡ true → 0 < room → 0 < end → x < end
-below_end x end room h some more = let limit = within_is x (end - room) h in omega arith
+below_end x end room h some more = let limit = leb-true x (end - room) h in omega arith
 
 lasting_below : (l : Lasting) → lasting_room l ≡ true → l.questions.last < u32_end
-lasting_below l h = below_end l.questions.last u32_end counter_room (second_true (has_room l.inc) (has_room l.questions.last) h) (omega arith) (omega arith)
+lasting_below l h = below_end l.questions.last u32_end counter_room (and_second (has_room l.inc) (has_room l.questions.last) h) (omega arith) (omega arith)
 
 room_below : (p : Phase) → phase_room p ≡ true → (lasting_of p).questions.last < u32_end
 room_below (Down l) h = lasting_below l h
-room_below (Opening l o) h = lasting_below l (first_true (lasting_room l) _ h)
-room_below (Serving e) h = lasting_below e.lasting (first_true (lasting_room e.lasting) _ h)
+room_below (Opening l o) h = lasting_below l (and_first (lasting_room l) _ h)
+room_below (Serving e) h = lasting_below e.lasting (and_first (lasting_room e.lasting) _ h)
 
 module _ (part : ℕ) (texts : Texts) (asked : Questions) (n : Net) where
   -- ---- the event

@@ -1,7 +1,7 @@
 -- What stands of horizons at each moment of a run of the small world: an epoch that hasn't begun has the present one's, each log has a first segment that isn't
 -- covered, and horizons only rise; a checkpoint that was sent passes no more than what is filed.
 use Rattle.std.proofs.Common.{◌≡◌, ℕ, suc, ◌-◌, ◌≤◌, ◌<◌, nat_lt, Bool, true, false, cond, List, refl, sym, subst, ◌∙◌, arith}
-use Rattle.std.proofs.lemmas.Bool.Decides.{nat_tests}
+use Rattle.std.proofs.lemmas.Bool.{le-ltb, ltb-false}
 use Rattle.checkpoint.specs.WriterState.{Rows}
 use Rattle.index_tie.proofs.Runs.{good_always, one_at}
 use Rattle.index_tie.proofs.Tables.{second_of}
@@ -54,21 +54,15 @@ module _ (n : Net) (horizon : List ℕ) (above : (l : ℕ) → 0 < l → l ≤ 9
   abbrev kept : ℕ → List ℕ
   kept e = cond (nat_lt e n.epoch) (n.horizon e) horizon
 
-  not_past : (a b : ℕ) → nat_lt a b ≡ false → b ≤ a
-  not_past a b fact = grind (arith, nat_tests)
-
-  no_less : (a b : ℕ) → b ≤ a → nat_lt a b ≡ false
-  no_less a b least = grind (arith, nat_tests)
-
   late : (e : ℕ) → n.epoch ≤ e → kept e ≡ horizon
-  late e low = second_of (nat_lt e n.epoch) (n.horizon e) horizon (no_less e n.epoch low)
+  late e low = second_of (nat_lt e n.epoch) (n.horizon e) horizon (le-ltb e n.epoch low)
 
   kept_rises : (e l : ℕ) → 0 < l → l ≤ 9 → of_log (n.horizon e) l ≤ of_log (kept e) l
   kept_rises e l some limit = by (nat_lt e n.epoch) refl
     where
       by : (t : Bool) → nat_lt e n.epoch ≡ t → of_log (n.horizon e) l ≤ of_log (cond t (n.horizon e) horizon) l
       by true fact = omega arith
-      by false fact = subst (λ (h : List ℕ). of_log h l ≤ of_log horizon l) (sym (k.later e (not_past e n.epoch fact))) (above l some limit)
+      by false fact = subst (λ (h : List ℕ). of_log h l ≤ of_log horizon l) (sym (k.later e (ltb-false e n.epoch fact))) (above l some limit)
 
   keeps_stays : (m : Net) → m.epoch ≡ n.epoch → m.horizon ≡ kept → Stays n m
   keeps_stays m epoch fact = record {

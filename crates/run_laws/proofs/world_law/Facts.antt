@@ -1,6 +1,7 @@
 -- What holds of a packet goes on to hold, as the small world and the registry go on.
 use Rattle.std.proofs.Common.{◌≡◌, ℕ, ◌≤◌, ◌<◌, List, refl, sym, subst, ◌∙◌, arith}
 use Rattle.std.proofs.Common.{Bool, true, false, nat_le}
+use Rattle.std.proofs.lemmas.Bool.{leb-false, leb-true}
 use Rattle.node_ties.specs.node_tie.CleanerEvents.{CleanerWelcomed}
 use Rattle.node_ties.specs.node_tie.ClientEvents.{WelcomeRises}
 use Rattle.node_ties.specs.node_tie.Sight.{CleanerSends, ClientSends, ManagerSends, GrantSeen, ForwardSeen, RecallSeen, SupplySeen}
@@ -15,7 +16,6 @@ use Rattle.wire_msg.specs.declared.tokens.Grant.{Grant}
 use Rattle.wire_msg.specs.declared.tokens.Recall.{Recall}
 use Rattle.wire_msg.specs.declared.tokens.Supply.{Supply}
 use Rattle.world_base.specs.declared.cluster.Cluster.{Cluster}
-use Rattle.run_laws.proofs.world_law.Numbers.{le_of, lt_of}
 use Rattle.run_laws.specs.world_law.Standing.{AllTold, ClientWelcomed, Fact, ManagerWelcomed, NewsTold, RegistrySends, Scene, SentBy, Welcomed, epoch_now, life_of_cleaner, life_of_client, life_of_manager, life_told}
 use Rattle.xfs_base.specs.declared.news.SlotNews.{SlotNews}
 use Rattle.xfs_base.specs.declared.node.NodeId.{NodeId}
@@ -180,12 +180,12 @@ module _ (k : Cluster) (part : ℕ) where
         by_age : (news : SlotNews) → In news m.news.slots → news.slot ≡ part → (e : ℕ) → news.epoch < e → e ≤ epoch_now k part t → t.lord e ≡ j → (old : Bool)
             → nat_le e (epoch_now k part s) ≡ old → m.inc ≤ t.since e
         by_age news fact same e less limit lord true h_ =
-            let within = le_of e (epoch_now k part s) h_ in
+            let within = leb-true e (epoch_now k part s) h_ in
             let now = g.given e within in
             subst (λ x. m.inc ≤ x) (sym now.1) (h.later news fact same e less within (sym now.0 ∙ lord))
         by_age news fact same e less limit lord false h_ =
             up_to m.inc (life_told t j) (t.since e) (up_to _ _ _ h.life (g.told j))
-            (subst (λ x. life_told t x ≤ t.since e) lord (g.new e (lt_of e (epoch_now k part s) h_) limit))
+            (subst (λ x. life_told t x ≤ t.since e) lord (g.new e (leb-false e (epoch_now k part s) h_) limit))
 
     welcomed_stays : (to : NodeId) (m : Welcome) → AllTold k part s m.news.slots → Welcomed k part s to m → Welcomed k part t to m
     welcomed_stays (Client c) m all h = client_welcomed_stays c m h

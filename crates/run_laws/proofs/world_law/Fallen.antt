@@ -1,7 +1,6 @@
 -- While a client that fell with a block isn't back, no client holds the block: so it is in the small world, in which its tokens have the block dirty. And falls
 -- are apart, since its acts are those of the run.
-use Rattle.std.proofs.Common.{◌≡◌, ℕ, ◌<◌, ◌==◌, true, false, Some, subst, arith}
-use Rattle.std.proofs.lemmas.Bool.Decides.{nat_tests}
+use Rattle.std.proofs.Common.{◌≡◌, ℕ, ◌<◌, false, Some, subst, arith}
 use Rattle.act_tie.specs.Shown.{FallsApart}
 use Rattle.node_ties.specs.node_tie.RegistryEvents.{RegistrySound}
 use Rattle.token_client.specs.State.{TokensState, held_of}
@@ -20,12 +19,13 @@ use Rattle.core_world.specs.declared.any_node.AnyNode.{AnyNode}
 use Rattle.xfs_base.specs.Blocks.{slot_of}
 use Rattle.xfs_base.specs.declared.node.NodeId.TheVariants.{Client}
 use Rattle.xfs_base.specs.Modes.{is_held}
+use Rattle.xfs_base.proofs.Booleans.{equal_itself}
 
 module _ (laws : NodeLaws) (small : NobodyHoldsAfterFall) where
   nobody_now : (w : World AnyNode) (k : Cluster) → w.cluster ≡ k → ((part : ℕ) (of_eight : part < 8) → GoodWorld laws k part of_eight w) → NobodyHolds w
   nobody_now w k cluster good b c d t fallen at_d =
       subst (λ (x : TokensState). is_held (held_of x.blocks b).mode ≡ false) y.tokens
-      (small false (members k part) part (with_promise 1 now.net) b (record { run = st.runs; inside = itself part }) c d
+      (small false (members k part) part (with_promise 1 now.net) b (record { run = st.runs; inside = equal_itself part }) c d
       (record { some = waits.some; within = waits.within }) y.client waits.down waits.dirty y.up)
     where
       part : ℕ
@@ -42,9 +42,6 @@ module _ (laws : NodeLaws) (small : NobodyHoldsAfterFall) where
 
       waits : WaitsDirty (members k part) now.net b c
       waits = (good part of_eight).2 b c fallen
-
-      itself : (n : ℕ) → (n == n) ≡ true
-      itself n = grind (arith, nat_tests)
 
       y : ServesThere laws k part of_eight now d t
       y = serves_there laws k part of_eight w.nodes w.sent w.acts now st d t

@@ -1,8 +1,7 @@
 -- Falls that wait: a client that fell with a block, and isn't back, is down in the small world, and the block is dirty in what is left of its tokens.
-use Rattle.std.proofs.Common.{◌≡◌, ⊎_elim, ◌⊎◌, ℕ, ◌<◌, ◌==◌, Bool, true, false, List, [], ◌∷◌, ◌++◌, inl, inr, refl, sym, ap, subst, ◌∙◌, arith}
+use Rattle.std.proofs.Common.{◌≡◌, ⊎_elim, ◌⊎◌, ℕ, ◌<◌, ◌==◌, Bool, true, false, List, [], ◌∷◌, ◌++◌, inl, inr, refl, sym, ap, subst, ◌∙◌}
 use Rattle.std.specs.Prelude.{All, if◌then◌else◌}
 use Rattle.std.proofs.lemmas.Bool.{eqb-true}
-use Rattle.std.proofs.lemmas.Bool.Decides.{nat_tests}
 use Rattle.std.proofs.lemmas.List.Elements.{All-head, All-tail, All-weaker, recursion_from_All}
 use Rattle.client_node.specs.declared.phase.Phase.{Phase}
 use Rattle.client_node.specs.declared.phase.Phase.TheVariants.{Down, Opening, Serving as Serves}
@@ -27,7 +26,7 @@ use Rattle.version_model.proofs.Onward.{history_through}
 use Rattle.run_laws.proofs.world_law.OtherTurns.{equal_or_not}
 use Rattle.run_laws.proofs.world_law.Sent.{in_append}
 use Rattle.run_laws.specs.world_law.Fallen.{Names}
-use Rattle.xfs_base.proofs.Booleans.{by_test, contrary}
+use Rattle.xfs_base.proofs.Booleans.{by_test, contrary, equal_itself}
 use Rattle.xfs_base.specs.declared.block.BlockId.{BlockId}
 use Rattle.xfs_base.specs.declared.node.NodeId.{NodeId}
 use Rattle.xfs_base.specs.declared.segment.SegName.{SegName}
@@ -42,9 +41,6 @@ settle_told : (chain : List SegName) (told : List FallTold) (h : History) → (s
 settle_told chain [] h = refl
 settle_told chain (t ∷ ts) h =
     settle_told chain ts (settle_falls (holds_flight chain t.flight) t.falls h) ∙ settle_falls_told (holds_flight chain t.flight) t.falls h
-
-itself : (n : ℕ) → (n == n) ≡ true
-itself n = grind (arith, nat_tests)
 
 -- the falls of an act are of these clients and blocks
 module _ (F : ℕ → BlockId → Type 0) where
@@ -96,7 +92,7 @@ module _ (F : ℕ → BlockId → Type 0) where
       (all_told acts (after_act a h) c b (All-tail Falls a acts right) names)
     where
       over : Names b ((after_act (act.Back c chain) h).told c) → ⊥
-      over n = (subst (λ t. Names b (if t then [] else (settle chain (h.told c) h).told c)) (itself c) n).among
+      over n = (subst (λ t. Names b (if t then [] else (settle chain (h.told c) h).told c)) (equal_itself c) n).among
   back_told (a ∷ acts) h c b chain (inr later) right none names = back_told acts (after_act a h) c b chain later (All-tail Falls a acts right) none names
 
 in_behind : {X : Type 0} (x : X) (xs ys : List X) → In x ys → In x (xs ++ ys)

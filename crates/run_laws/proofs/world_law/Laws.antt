@@ -32,8 +32,7 @@ use Rattle.run_laws.specs.world_law.Owners.{EveryRunHasOneOwner, HasOneOwner, mo
 use Rattle.xfs_base.specs.Blocks.{slot_of}
 use Rattle.xfs_base.specs.declared.node.NodeId.TheVariants.{Client}
 use Rattle.xfs_base.specs.Modes.{is_held, is_own}
-use Rattle.std.proofs.lemmas.Bool.Decides.{nat_tests}
-use Rattle.std.proofs.Common.{◌==◌}
+use Rattle.xfs_base.proofs.Booleans.{equal_itself}
 
 module _ (laws : NodeLaws) (k : Cluster) (part : ℕ) (of_eight : part < 8) where
   abbrev pub Good : List AnyNode → List Packet → List Act → Type 0
@@ -97,7 +96,7 @@ front laws e setup run count part of_eight =
 module _ (laws : NodeLaws) (small : OneOwner) where
   one_owner_now : (w : World AnyNode) (k : Cluster) → w.cluster ≡ k → ((part : ℕ) (of_eight : part < 8) → GoodWorld laws k part of_eight w) → HasOneOwner w
   one_owner_now w k cluster good b c d s t at_c at_d own held =
-      small false (members k part) part (with_promise 1 now.net) b (record { run = st.runs; inside = itself part }) c d x.client y.client x.up y.up
+      small false (members k part) part (with_promise 1 now.net) b (record { run = st.runs; inside = equal_itself part }) c d x.client y.client x.up y.up
       (subst (λ (t : TokensState). is_own (held_of t.blocks b).mode ≡ true) (sym x.tokens) own)
       (subst (λ (t : TokensState). is_held (held_of t.blocks b).mode ≡ true) (sym y.tokens) held)
     where
@@ -112,9 +111,6 @@ module _ (laws : NodeLaws) (small : OneOwner) where
 
       st : Stands false k part w.nodes w.sent w.acts RegistrySound now
       st = (good part of_eight).1
-
-      itself : (n : ℕ) → (n == n) ≡ true
-      itself n = grind (arith, nat_tests)
 
       x : ServesThere laws k part of_eight now c s
       x = serves_there laws k part of_eight w.nodes w.sent w.acts now st c s

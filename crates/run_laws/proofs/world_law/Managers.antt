@@ -1,6 +1,5 @@
 -- Each slot has one manager at an epoch, whose epoch is none above the registry's and promised by who serves, and which believes what is held.
 use Rattle.std.proofs.Common.{◌≡◌, ℕ, Bool, ◌≤◌, ◌<◌, ◌==◌, true, false, List, Option, None, Some, refl, sym, ap, subst, ◌∙◌, arith}
-use Rattle.std.proofs.lemmas.Bool.Decides.{nat_tests}
 use Rattle.std.proofs.Math.Nat.{mod-eq_of_lt}
 use Rattle.core_world.specs.AnyNode.{any_start, any_step}
 use Rattle.core_world.specs.declared.any_node.AnyNode.{AnyNode}
@@ -45,6 +44,7 @@ use Rattle.run_laws.specs.world_law.Owners.{moment, node_in, tokens_at, tokens_o
 use Rattle.xfs_base.specs.declared.block.BlockId.{BlockId}
 use Rattle.xfs_base.specs.declared.node.NodeId.{NodeId}
 use Rattle.xfs_base.specs.declared.node.NodeId.TheVariants.{Client, Cleaner, Manager, Registry}
+use Rattle.xfs_base.proofs.Booleans.{equal_itself}
 
 module _ {logs : Bool} (k : Cluster) (part : ℕ) (nodes : List AnyNode) (sent : List Packet) (acts : List Act) (s : Scene)
     (st : Stands logs k part nodes sent acts RegistrySound s) where
@@ -119,10 +119,7 @@ module _ (laws : NodeLaws) (small_promised : ActiveEpochsPromised) (small_believ
   some_block = record { ino = record { 0 = part }; blk = 0 }
 
   of_slot : is_in_slot part some_block ≡ true
-  of_slot = ap (λ n. n == part) (mod-eq_of_lt of_eight) ∙ itself part
-    where
-      itself : (n : ℕ) → (n == n) ≡ true
-      itself n = grind (arith, nat_tests)
+  of_slot = ap (λ n. n == part) (mod-eq_of_lt of_eight) ∙ equal_itself part
 
   -- the manager at the registry's epoch is the one that reigns in the small world
   newest : (j : ℕ) (s : SlotState) (at_j : active_at w part j ≡ Some s) → s.epoch ≡ epoch_at w part

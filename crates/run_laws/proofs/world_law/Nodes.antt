@@ -1,21 +1,15 @@
 -- A node that is put at its own place stands there, and all others stand where they stood.
-use Rattle.std.proofs.Common.{◌≡◌, ◌≢◌, ℕ, ◌≤◌, ◌<◌, true, false, nat_lt, List, Option, None, Some, length, slice_get, slice_set, refl, sym, ap, subst, ◌∙◌, arith}
-use Rattle.std.proofs.lemmas.Bool.Decides.{nat_tests}
+use Rattle.std.proofs.Common.{◌≡◌, ◌≢◌, ℕ, ◌≤◌, ◌<◌, true, false, nat_lt, List, Option, None, Some, length, slice_get, slice_set, refl, sym, ap, subst, ◌∙◌}
 use Rattle.std.proofs.lemmas.List.{get_or-set_same, get_or-set_other}
 use Rattle.std.proofs.lemmas.Option.{slice_get_past, slice_get_within, slice_get-get_or}
 use Rattle.std.proofs.Math.ListN.{length-set}
+use Rattle.std.proofs.lemmas.Bool.{ltb-false, ltb-true}
 use Rattle.core_world.specs.declared.any_node.AnyNode.{AnyNode}
 use Rattle.world_base.specs.Cluster.{place_of}
 use Rattle.world_base.specs.declared.cluster.Cluster.{Cluster}
 use Rattle.run_laws.proofs.world_law.Places.{one_name}
 use Rattle.run_laws.specs.world_law.Owners.{node_in}
 use Rattle.xfs_base.specs.declared.node.NodeId.{NodeId}
-
-less_of : (a c : ℕ) → nat_lt a c ≡ true → a < c
-less_of a c h = grind (arith, nat_tests)
-
-most_of : (a c : ℕ) → nat_lt a c ≡ false → c ≤ a
-most_of a c h = grind (arith, nat_tests)
 
 module _ {X : Type 0} (xs : List X) (p : ℕ) (x : X) where
   pub get_set_same : (y : X) → slice_get xs p ≡ Some y → slice_get (slice_set xs p x) p ≡ Some x
@@ -26,10 +20,10 @@ module _ {X : Type 0} (xs : List X) (p : ℕ) (x : X) where
   pub get_set_other : (q : ℕ) → q ≢ p → slice_get (slice_set xs p x) q ≡ slice_get xs q
   get_set_other q other =
       elim (nat_lt q (length xs)) as (λ t. nat_lt q (length xs) ≡ t → slice_get (slice_set xs p x) q ≡ slice_get xs q) [
-        | true ↦ λ h. let less = less_of q (length xs) h in
+        | true ↦ λ h. let less = ltb-true q (length xs) h in
             slice_get-get_or (slice_set xs p x) q x (subst (λ n. q < n) (sym (length-set xs p x)) less)
             ∙ (ap Some (get_or-set_other xs p q x x other) ∙ sym (slice_get-get_or xs q x less))
-        | false ↦ λ h. let past = most_of q (length xs) h in
+        | false ↦ λ h. let past = ltb-false q (length xs) h in
             slice_get_past (slice_set xs p x) q (subst (λ n. n ≤ q) (sym (length-set xs p x)) past) ∙ sym (slice_get_past xs q past)
       ] refl
 

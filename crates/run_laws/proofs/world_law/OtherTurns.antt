@@ -4,6 +4,7 @@ use Rattle.std.specs.Prelude.{All}
 use Rattle.std.proofs.Common.{◌≡◌, ◌⊎◌, ⊎_elim, ℕ, Bool, ◌≤◌, ◌<◌, ◌==◌, true, false, List, ◌++◌, Some, map, slice_get, slice_set, inl, inr, refl, sym, ap, subst, ◌∙◌, arith}
 use Rattle.std.proofs.lemmas.Bool.Decides.{nat_tests}
 use Rattle.std.proofs.lemmas.List.Elements.{recursion_from_All}
+use Rattle.std.proofs.lemmas.Bool.{eqb-true}
 use Rattle.core_world.specs.declared.any_node.AnyNode.{AnyNode}
 use Rattle.core_world.specs.declared.any_node.AnyNode.TheVariants as any
 use Rattle.node_base.specs.declared.effects.Effect.{Effect}
@@ -46,10 +47,7 @@ use Rattle.xfs_base.specs.declared.node.NodeId.TheVariants.{Client, Manager, Ser
 
 pub equal_or_not : (n m : ℕ) → (n ≡ m) ⊎ (n ≡ m → ⊥)
 equal_or_not n m =
-    elim (n == m) as (λ t. (n == m) ≡ t → (n ≡ m) ⊎ (n ≡ m → ⊥)) [ true ↦ λ h. inl (same n m h) | false ↦ λ h. inr (λ e. grind (arith, nat_tests)) ] refl
-  where
-    same : (n m : ℕ) → (n == m) ≡ true → n ≡ m
-    same n m h = grind (arith, nat_tests)
+    elim (n == m) as (λ t. (n == m) ≡ t → (n ≡ m) ⊎ (n ≡ m → ⊥)) [ true ↦ λ h. inl (eqb-true n m h) | false ↦ λ h. inr (λ e. grind (arith, nat_tests)) ] refl
 
 -- ---- acts that change no history
 

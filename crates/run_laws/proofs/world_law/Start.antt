@@ -6,6 +6,7 @@ use Rattle.std.proofs.lemmas.Option.{slice_get-map, slice_get-get_or}
 use Rattle.std.proofs.Common.{true, false, cond, Bool, ◌&&◌, ◌==◌, nat_lt, nat_le}
 use Rattle.std.proofs.Math.Nat.{mod-lt}
 use Rattle.std.proofs.lemmas.Bool.Decides.{nat_tests}
+use Rattle.std.proofs.lemmas.Bool.{eqb-true}
 use Rattle.client_node.specs.Starting.{first_client}
 use Rattle.core_world.specs.AnyNode.{any_start}
 use Rattle.manager_map.specs.Slots.{entry_at, start_entries}
@@ -134,10 +135,7 @@ module _ (logs : Bool) (first_asks : StartsAsking) (first_agrees : FirstManagerA
   -- who holds the slot at the start is its first manager
   mine : (j e : ℕ) (t : Bool) → ((entry_at (start_entries script.setup.managers) (slot_of part)).manager == j) ≡ t
       → HeldAt (cond t first_active (phase.Away 1)) e → manager_now k part start_scene ≡ j
-  mine j e true test held = same (entry_at (start_entries script.setup.managers) (slot_of part)).manager j test
-    where
-      same : (n m : ℕ) → (n == m) ≡ true → n ≡ m
-      same n m h = grind (arith, nat_tests)
+  mine j e true test held = eqb-true (entry_at (start_entries script.setup.managers) (slot_of part)).manager j test
   mine j e false test held = absurd held
 
   sees : (j : ℕ) → 0 < j → ManagerSees k part start_scene j (first_manager j script.setup (items_of script.lines (Manager j))).phase

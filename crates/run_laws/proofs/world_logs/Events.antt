@@ -2,6 +2,7 @@
 use Rattle.std.proofs.Common.{◌≡◌, ⊎_elim, ◌^◌, ℕ, ◌+◌, ◌==◌, ◌≤◌, ◌<◌, Bool, List, [], ◌++◌, Some, map, get_or, slice_get, slice_set, if◌then◌else◌, refl, sym, ap, subst, ◌∙◌, arith}
 use Rattle.std.specs.Prelude.{All}
 use Rattle.std.proofs.lemmas.List.Elements.{All-from_recursion}
+use Rattle.std.proofs.lemmas.Bool.{ne_eqb}
 use Rattle.cleaner_node.specs.CleanerEvents as cleaners
 use Rattle.cleaner_node.specs.CleanerEvents.{cleaner_step}
 use Rattle.cleaner_node.specs.declared.cleaner.Cleaner.{Cleaner as CleanerNode}
@@ -16,7 +17,6 @@ use Rattle.telling_ties.specs.entry_tie.CleanerTells.{CleanerHolds}
 use Rattle.telling_ties.specs.entry_tie.ClientTells.{ClientHolds}
 use Rattle.telling_ties.specs.entry_tie.Told.{PacketTold, TellsTold}
 use Rattle.group_map.specs.declared.group.Group.{Group}
-use Rattle.log_tie.proofs.Names.{unequal}
 use Rattle.log_tie.specs.Setting.{Setting}
 use Rattle.log_ties.specs.manager_log_tie.Listing.{CarriesOf, Lists}
 use Rattle.log_ties.specs.manager_log_tie.Servers.{CarriesBytes, TellsBytes}
@@ -169,7 +169,7 @@ module _ (laws : NodeLaws) (base : Setting) (end : World AnyNode) (setup : Setup
           → ((w : Scene) → Seen (g r) r w name (any_step x what).node) → Now name x r
       apart r other away counts there h =
           next_so (g r) r l.0 l.1.moment name k (nodes_at x) (sent_by x) (told (log_by r) ++ []) (told_after name x (log_by r))
-          (ap (λ t. told (log_by r) ++ (if t then (any_step x what).acts else [])) (sym (counts ∙ unequal n (log_by r) other)))
+          (ap (λ t. told (log_by r) ++ (if t then (any_step x what).acts else [])) (sym (counts ∙ ne_eqb n (log_by r) other)))
           (turned (g r) r l.0 l.0 k nodes sent (told (log_by r)) l.1 name place clock at x (any_step x what).node fact (any_step x what).packets []
           (idle_turn (g r) r l.0 name (any_step x what).node (any_step x what).packets away (there l.0) sends))
         where
@@ -258,7 +258,7 @@ module _ (laws : NodeLaws) (base : Setting) (end : World AnyNode) (setup : Setup
         cleaner_apart =
             next_so (g r) r l.0 l.1.moment Cleaner k (nodes_at (any.Cleaner node)) (sent_by (any.Cleaner node)) (told (log_by r) ++ [])
             (told_after Cleaner (any.Cleaner node) (log_by r))
-            (ap (λ t. told (log_by r) ++ (if t then (cleaner_step node what).acts else [])) (sym (unequal cleaner_log.0 (log_by r) other)))
+            (ap (λ t. told (log_by r) ++ (if t then (cleaner_step node what).acts else [])) (sym (ne_eqb cleaner_log.0 (log_by r) other)))
             (turned (g r) r l.0 (record l.0 { net = go.next }) k nodes sent (told (log_by r)) l.1 Cleaner place clock at (any.Cleaner node)
             (any.Cleaner (cleaner_step node what).node) fact (cleaner_step node what).packets []
             (cleaner_turn (g r) r (refl, refl) l.0 away seen node what go))

@@ -11,7 +11,6 @@ use Rattle.telling_ties.specs.entry_tie.ClientTells.{ClientHolds}
 use Rattle.telling_ties.specs.entry_tie.Told.{BodyTold, DoTold, RowsTold, Told}
 use Rattle.group_map.specs.GroupMapState.{GroupMapState}
 use Rattle.log_law.specs.Net.{Net}
-use Rattle.log_tie.proofs.Names.{itself}
 use Rattle.log_tie.specs.Setting.{Setting}
 use Rattle.log_ties.proofs.manager_log_tie.Rows.{deltas_fit, rows_in_range}
 use Rattle.log_ties.specs.manager_log_tie.Fitting.{InRange, IsRowInRange}
@@ -33,6 +32,7 @@ use Rattle.xfs_base.specs.declared.fragment.Fragment.{Fragment}
 use Rattle.xfs_base.specs.declared.node.NodeId.{NodeId}
 use Rattle.xfs_base.specs.declared.node.NodeId.TheVariants.{Client, Manager, Server, Cleaner, Registry}
 use Rattle.xfs_base.specs.declared.segment.LogId.{LogId}
+use Rattle.xfs_base.proofs.Booleans.{equal_itself}
 
 -- which entries are told: those whose numbers are in the ranges of their types, and that nothing is known of a block
 abbrev pub in_range : Told
@@ -149,7 +149,7 @@ pub stores_bytes : (g : Setting) (owner : Asker) (n : Net) → IsToldInRange n �
     → StoresBytes to m
 stores_bytes g owner n told from (Server v) (body.Store m) seen own =
     told.stored v m.generation m.fragment
-    (seen (subst (λ (l : LogId). (l.0 == g.log.0) ≡ true) (sym own) (itself g.log.0)))
+    (seen (subst (λ (l : LogId). (l.0 == g.log.0) ≡ true) (sym own) (equal_itself g.log.0)))
 stores_bytes g owner n told from (Client c) (body.Store m) seen own = tt
 stores_bytes g owner n told from (Manager j) (body.Store m) seen own = tt
 stores_bytes g owner n told from Cleaner (body.Store m) seen own = tt

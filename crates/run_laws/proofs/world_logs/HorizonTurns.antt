@@ -12,13 +12,11 @@ use Rattle.core_world.specs.declared.any_node.AnyNode.{AnyNode}
 use Rattle.core_world.specs.declared.any_node.AnyNode.TheVariants as any
 use Rattle.run_laws.proofs.filed_law.Telling as telling
 use Rattle.run_laws.specs.filed_law.Told.{AnyReaches}
-use Rattle.telling_ties.proofs.filed_tie.Frames.{all_append}
 use Rattle.telling_ties.proofs.filed_tie.Rising.{do_rises}
 use Rattle.telling_ties.specs.filed_tie.ManagerReach.{ManagersTellNoMore}
 use Rattle.telling_ties.specs.filed_tie.Reach.{ActsReach, BodyTells, DoTells, PacketTells, Reach, Rises}
 use Rattle.telling_ties.specs.filed_tie.RegistryReach.{RegistryTellsNoMore}
 use Rattle.telling_ties.specs.filed_tie.ServerReach.{ServersTellNoMore}
-use Rattle.log_tie.proofs.Names.{itself}
 use Rattle.manager_node.specs.declared.manager.Manager.{Manager as ManagerNode}
 use Rattle.manager_serving.specs.Serving.{fed_log}
 use Rattle.node_base.specs.declared.effects.Effect.{Effect}
@@ -49,6 +47,8 @@ use Rattle.run_laws.proofs.world_logs.OwnFiling.{NoHorizon, body_lower, cleaner_
 use Rattle.run_laws.specs.world_logs.Doings.{owns}
 use Rattle.xfs_base.specs.declared.node.NodeId.{NodeId}
 use Rattle.xfs_base.specs.declared.node.NodeId.TheVariants.{Client, Manager, Server, Cleaner, Registry}
+use Rattle.xfs_base.proofs.Booleans.{equal_itself}
+use Rattle.xfs_base.proofs.Alls.{all_append}
 
 -- what nodes tell was filed; and what those tell that tell nothing of a log of their own
 pub record Filing : Type 0 where
@@ -223,7 +223,7 @@ module _ (laws : tokens.NodeLaws) (below : Filing) (k : Cluster) (c : ℕ) where
     module _ (named : name ≡ Cleaner) (node : CleanerNode) (fact : slice_get nodes place ≡ Some (any.Cleaner node)) (good : GoodAfter (any.Cleaner node)) where
       cleaner_owns : cleaner_log.0 ≡ c → Goes (any.Cleaner node)
       cleaner_owns same =
-          let mine : owns c name ≡ true = ap (λ n. owns c n) named ∙ (ap (λ n. n == c) same ∙ itself c) in
+          let mine : owns c name ≡ true = ap (λ n. owns c n) named ∙ (ap (λ n. n == c) same ∙ equal_itself c) in
           let those : List Act = (cleaner_step node what).acts in
           let did = subst (λ t. ActsReach (owned c (told ++ (if t then those else [])) (acts ++ those)) those) (sym mine) (own_acts c told acts those) in
           let t = below.told.cleaner before (later (any.Cleaner node)) node what (rises (any.Cleaner node)) (held (any.Cleaner node) fact) tells did in
@@ -262,7 +262,7 @@ module _ (laws : tokens.NodeLaws) (below : Filing) (k : Cluster) (c : ℕ) where
       -- the log's owner
       owner_goes : d ≡ c → Goes (any.Client node)
       owner_goes same =
-          let mine : owns c name ≡ true = ap (λ n. owns c n) named ∙ (ap (λ n. n == c) same ∙ itself c) in
+          let mine : owns c name ≡ true = ap (λ n. owns c n) named ∙ (ap (λ n. n == c) same ∙ equal_itself c) in
           let those : List Act = (client_step node what).acts in
           let did = subst (λ t. ActsReach (owned c (told ++ (if t then those else [])) (acts ++ those)) those) (sym mine) (own_acts c told acts those) in
           let t = below.told.client before (later (any.Client node)) node what (rises (any.Client node)) (held (any.Client node) fact) tells did in

@@ -1,5 +1,6 @@
 -- How far the log of one client is filed by that client itself: whoever tells nothing of that log tells of nothing further, whatever it acts to be filed.
 use Rattle.std.proofs.Common.{◌≡◌, ℕ, ◌==◌, ◌≤◌, max, Bool, true, false, List, [], ◌∷◌, ◌++◌, Some, if◌then◌else◌, sym, ap, subst, arith}
+use Rattle.std.proofs.lemmas.Bool.{eqb-true, ne_eqb}
 use Rattle.cleaner_node.specs.declared.cleaner.Phase as cleaner_phases
 use Rattle.cleaner_node.specs.declared.cleaner.Phase.TheVariants as cleaning
 use Rattle.cleaner_parts.specs.Starting.{cleaner_log}
@@ -15,13 +16,12 @@ use Rattle.telling_ties.specs.filed_tie.Reach.{ActReached, ActsReach, BodyTells,
 use Rattle.log_owner.specs.declared.opening.Opening.{Opening}
 use Rattle.log_owner.specs.declared.opening.Stage.{Stage}
 use Rattle.log_owner.specs.declared.opening.Stage.TheVariants as stage
-use Rattle.log_tie.proofs.Names.{equal, itself, unequal}
 use Rattle.manager_serving.specs.Serving.{fed_log}
 use Rattle.version_model.specs.declared.act.Act.{Act}
 use Rattle.version_model.specs.declared.act.Act.TheVariants.{Filed}
 use Rattle.wire_msg.specs.declared.body.Body.{Body}
 use Rattle.wire_msg.specs.declared.body.Body.TheVariants as body
-use Rattle.xfs_base.proofs.Booleans.{by_test}
+use Rattle.xfs_base.proofs.Booleans.{by_test, equal_itself}
 use Rattle.xfs_base.specs.declared.node.NodeId.{NodeId}
 use Rattle.xfs_base.specs.declared.segment.LogId.{LogId}
 
@@ -47,10 +47,10 @@ wide c told acts log = max (owned c told acts log) (filed_upto acts log)
 
 module _ (c : ℕ) where
   pub owned_itself : (told acts : List Act) → owned c told acts c ≡ filed_upto told c
-  owned_itself told acts = ap (λ t. if t then filed_upto told c else filed_upto acts c) (itself c)
+  owned_itself told acts = ap (λ t. if t then filed_upto told c else filed_upto acts c) (equal_itself c)
 
   other_log : (told acts : List Act) (log : ℕ) → (log ≡ c → ⊥) → owned c told acts log ≡ filed_upto acts log
-  other_log told acts log other = ap (λ t. if t then filed_upto told c else filed_upto acts log) (unequal log c other)
+  other_log told acts log other = ap (λ t. if t then filed_upto told c else filed_upto acts log) (ne_eqb log c other)
 
   pub owned_rises : (told more acts further : List Act) → Rises (owned c told acts) (owned c (told ++ more) (acts ++ further))
   owned_rises told more acts further log = both (log == c)
@@ -64,7 +64,7 @@ module _ (c : ℕ) where
   act_own : (told acts : List Act) (act : Act) → ActReached (filed_upto told) act → ActReached (filed_upto acts) act → ActReached (owned c told acts) act
   act_own told acts (Filed name) own all =
       by_test (λ (n : ℕ). name.seq ≤ n) (name.log.0 == c) (filed_upto told c) (filed_upto acts name.log.0)
-      (λ t. subst (λ log. name.seq ≤ filed_upto told log) (equal name.log.0 c t) own) (λ t. all)
+      (λ t. subst (λ log. name.seq ≤ filed_upto told log) (eqb-true name.log.0 c t) own) (λ t. all)
   act_own told acts _ own all = tt
 
   acts_own : (told acts those : List Act) → ActsReach (filed_upto told) those → ActsReach (filed_upto acts) those → ActsReach (owned c told acts) those

@@ -10,7 +10,6 @@ use Rattle.log_flight.specs.Flights.{no_member}
 use Rattle.log_law.specs.Laws.{LogsStayWhole, LogsWhole, OneNameOneText, OneText}
 use Rattle.log_law.specs.Net.{Net}
 use Rattle.log_protocol.specs.Tables as tables
-use Rattle.log_tie.proofs.Names.{itself}
 use Rattle.log_tie.specs.Setting.{Setting, Stripe, fragment_of, fragment_over, generation_of, server_of, stripe_of_group}
 use Rattle.log_tie.specs.Shelves.{is_of_log}
 use Rattle.log_ties.proofs.node_log_tie.WholeMaps.{its_stripe}
@@ -46,6 +45,7 @@ use Rattle.xfs_base.specs.declared.node.NodeId.{NodeId}
 use Rattle.xfs_base.specs.declared.node.NodeId.TheVariants.{Server, Registry}
 use Rattle.xfs_base.specs.declared.segment.LogId.{LogId}
 use Rattle.xfs_base.specs.declared.segment.SegName.{SegName}
+use Rattle.xfs_base.proofs.Booleans.{equal_itself}
 
 -- ---- lists and names
 
@@ -123,7 +123,7 @@ module _ (base : Setting) (end w : World AnyNode) (servers : ℕ) (r : Role) (k 
     named_so f t cut e = ap (λ (z : Fragment). z.meta.name) (sym cut) ∙ e
 
     ours : (n : SegName) → n ≡ name → is_of_log g n ≡ true
-    ours n e = subst (λ (z : SegName). is_of_log g z ≡ true) (sym e) (subst (λ (l : LogId). (l.0 == c) ≡ true) (sym of) (itself c))
+    ours n e = subst (λ (z : SegName). is_of_log g z ≡ true) (sym e) (subst (λ (l : LogId). (l.0 == c) ≡ true) (sym of) (equal_itself c))
 
     seen_as : (packet : Packet) (m : Body) (to : NodeId) → WasSent w.sent packet → packet.to ≡ to → packet.body ≡ m
         → BodySeen g (asker_by r v) net packet.from to m

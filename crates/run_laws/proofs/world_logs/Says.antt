@@ -2,8 +2,8 @@
 -- block lies, but in Deltas.
 use Rattle.std.proofs.Common.{◌≡◌, ℕ, ◌==◌, true, sym, ap, ◌∙◌}
 use Rattle.std.specs.Prelude.{List}
+use Rattle.std.proofs.lemmas.Bool.{eqb-true}
 use Rattle.log_ties.specs.client_log_tie.Owner.{Scene}
-use Rattle.log_tie.proofs.Names.{equal}
 use Rattle.log_tie.specs.Setting.{Setting}
 use Rattle.log_ties.specs.node_log_tie.Sight.{BodySeen, ReachedBy}
 use Rattle.node_ties.specs.node_tie.Sight.{ClientSends, CleanerSends, ManagerSends, ServerSends}
@@ -132,7 +132,7 @@ OfLog d _ = Unit {0}
 module _ (g : Setting) (r : Role) (fact : IsOf g r) (w : Scene) where
   -- a number that is tested to be the log's is the owner's
   of_owner : (n : ℕ) → (n == g.log.0) ≡ true → n ≡ log_by r
-  of_owner n t = equal n g.log.0 t ∙ ap (λ (l : LogId). l.0) fact.0
+  of_owner n t = eqb-true n g.log.0 t ∙ ap (λ (l : LogId). l.0) fact.0
 
   -- what the owner of another log sends
   module _ (d : ℕ) (other : d ≡ log_by r → ⊥) (from : NodeId) (away : from ≡ owner_by r → ⊥)

@@ -1,6 +1,7 @@
 -- The stripes that the groups of a run's maps name are those of its settings, and their ids fit.
 use Rattle.std.proofs.Common.{◌≡◌, ◌^◌, ℕ, ◌+◌, ◌==◌, ◌<◌, ◌≤◌, List, [], ◌∷◌, Option, None, Some, length, unwrap_or, refl, sym, ap, subst, ◌∙◌, arith}
 use Rattle.std.specs.Prelude.{find}
+use Rattle.std.proofs.lemmas.Bool.{eqb-true}
 use Rattle.log_ties.specs.client_log_tie.Texts.{MapFits}
 use Rattle.core_world.specs.declared.any_node.AnyNode.{AnyNode}
 use Rattle.group_map.specs.declared.group.Group.{Group}
@@ -8,7 +9,6 @@ use Rattle.group_map.specs.GroupMapState.{GroupMapState}
 use Rattle.group_map.specs.Groups.{chosen, group_of}
 use Rattle.group_map.specs.WellFormed.{IsGroupMap, IsNumbered}
 use Rattle.log_flight.specs.Flights.{group_for, no_group}
-use Rattle.log_tie.proofs.Names.{equal}
 use Rattle.log_tie.specs.Setting.{Setting, Stripe}
 use Rattle.log_ties.proofs.node_log_tie.WholeMaps.{Chosen, the_chosen}
 use Rattle.log_ties.specs.node_log_tie.ServerEvents.{NamesStripes}
@@ -44,7 +44,7 @@ found_id : (id : ℕ) (gs : List Group) (group : Group) → find (λ (g : Group)
 found_id id [] group fact = absurd cc
 found_id id (g ∷ gs) group fact =
     by_test (λ (o : Option Group). o ≡ Some group → group.id ≡ id) (g.id == id) (Some g) (find (λ (x : Group). x.id == id) gs)
-    (λ t e. ap (λ (o : Option Group). (unwrap_or o g).id) (sym e) ∙ equal g.id id t) (λ t e. found_id id gs group e) fact
+    (λ t e. ap (λ (o : Option Group). (unwrap_or o g).id) (sym e) ∙ eqb-true g.id id t) (λ t e. found_id id gs group e) fact
 
 -- the ids of the groups of a map fit their range
 pub map_fits : (m : GroupMapState) → IsGroupMap m → MapFits m

@@ -8,7 +8,7 @@ use Rattle.node_base.specs.Effects.{acts_of}
 use Rattle.node_base.specs.declared.effects.Effect.{Effect}
 use Rattle.client_node.specs.declared.phase.Phase.{Phase}
 use Rattle.client_node.specs.Phases.{lasting_of}
-use Rattle.node_ties.proofs.node_tie.StoreFrames.{acts_are, all_append}
+use Rattle.node_ties.proofs.node_tie.StoreFrames.{acts_are}
 use Rattle.node_ties.specs.node_tie.ClientEvents.{ClientActs, ClientDid, ClientGoes}
 use Rattle.run_laws.specs.reopening_law.Falls.{IsAside}
 use Rattle.token_client.specs.Held.{may_write}
@@ -25,6 +25,7 @@ use Rattle.version_model.specs.declared.act.Act.TheVariants as act
 use Rattle.run_laws.proofs.world_law.OtherTurns.{equal_or_not}
 use Rattle.xfs_base.proofs.Booleans.{by_test, contrary}
 use Rattle.xfs_base.specs.declared.node.NodeId.TheVariants.{Client}
+use Rattle.xfs_base.proofs.Alls.{all_append}
 
 -- ---- lists
 

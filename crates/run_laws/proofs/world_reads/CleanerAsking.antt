@@ -25,7 +25,6 @@ use Rattle.log_scan.specs.Transition.{least_horizon}
 use Rattle.log_tie.specs.Setting.{Setting}
 use Rattle.node_base.specs.declared.effects.Effect.{Effect}
 use Rattle.node_base.specs.declared.effects.Effect.TheVariants.{Send, Answer, Lose, Does}
-use Rattle.node_ties.proofs.node_index_tie.Moves.{all_weaker}
 use Rattle.node_ties.specs.node_index_tie.Sight.{held_in}
 use Rattle.log_ties.specs.node_log_tie.CleanerEvents.{JobPhaseSeen}
 use Rattle.node_ties.specs.owner_index_tie.CleanerEvents.{EffectOwed, ReadGets, SaysOwed}
@@ -79,6 +78,7 @@ use Rattle.xfs_base.specs.declared.node.NodeId.TheVariants.{Cleaner}
 use Rattle.xfs_base.specs.declared.segment.SegName.{SegName}
 use Rattle.xfs_base.specs.declared.segment.SegRef.{SegRef}
 use Rattle.xfs_base.specs.Steps.{still}
+use Rattle.xfs_base.proofs.Alls.{all_weaker}
 
 -- what is so of each where a test passes is so of each, where it passes
 each_where : {X : Type 0} (t : Bool) (P : X → Type 0) (xs : List X) → (t ≡ true → AllByRecursion P xs) → AllByRecursion (λ x. t ≡ true → P x) xs

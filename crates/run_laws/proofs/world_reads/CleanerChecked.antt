@@ -23,7 +23,6 @@ use Rattle.node_base.specs.declared.effects.Effect.{Effect}
 use Rattle.node_base.specs.declared.effects.Effect.TheVariants.{Send, Answer as Answers, Lose, Does}
 use Rattle.node_base.specs.declared.peers.Peers.{Peers}
 use Rattle.node_base.specs.Shape.{is_well_formed}
-use Rattle.node_ties.proofs.node_index_tie.Moves.{all_both, all_weaker}
 use Rattle.version_model.specs.declared.answer.Answer.TheVariants as answer
 use Rattle.wire_msg.specs.declared.body.Body.{Body}
 use Rattle.wire_msg.specs.declared.body.Body.TheVariants as body
@@ -39,6 +38,7 @@ use Rattle.run_laws.proofs.world_reads.CleanerChecks.{May}
 use Rattle.xfs_base.proofs.Booleans.{by_test}
 use Rattle.xfs_base.specs.declared.node.NodeId.{NodeId}
 use Rattle.xfs_base.specs.Steps.{still}
+use Rattle.xfs_base.proofs.Alls.{all_append, all_weaker}
 
 -- ---- what an opening does asks nothing
 
@@ -58,7 +58,7 @@ module _ (owner : Owner) where
 
 back_silent : (l : Lasting) (o : Opened) → AllSilent (back l o).outs
 back_silent l o =
-    all_both IsSilent (pushes_all o.promised.managers o.feed) (answers_unanswered l.items.unanswered answer.Done)
+    all_append IsSilent (pushes_all o.promised.managers o.feed) (answers_unanswered l.items.unanswered answer.Done)
     (pushes_silent o.promised.managers o.feed) (answers_silent l.items.unanswered answer.Done)
 
 opening_silent : (l : Lasting) (p : Progress) → AllSilent (after_opening l p).outs
@@ -69,7 +69,7 @@ opening_silent l (progress.Lost seg) = answers_silent l.items.unanswered (answer
 
 opened_silent : (owner : Owner) (l : Lasting) (w : Went) → AllByRecursion (MayDo owner) w.effects → AllSilent (opened_on l w).outs
 opened_silent owner l w may =
-    all_both IsSilent w.effects (after_opening (record l { questions = w.questions }) w.progress).outs (went_silent owner w.effects may)
+    all_append IsSilent w.effects (after_opening (record l { questions = w.questions }) w.progress).outs (went_silent owner w.effects may)
     (opening_silent (record l { questions = w.questions }) w.progress)
 
 -- ---- falls and restarts
@@ -77,7 +77,7 @@ opened_silent owner l w may =
 crash_silent : (l : Lasting) (number : ℕ) → AllSilent (crashes l number).outs
 unfolding crashes
 crash_silent l number =
-    all_both IsSilent (answers_unanswered l.items.unanswered answer.Cut) (Answers number answer.Done ∷ []) (answers_silent l.items.unanswered answer.Cut)
+    all_append IsSilent (answers_unanswered l.items.unanswered answer.Cut) (Answers number answer.Done ∷ []) (answers_silent l.items.unanswered answer.Cut)
     (tt, tt)
 
 restart_silent : (servers : ℕ) (l : Lasting) (number : ℕ) → AllSilent (restarts servers l number).outs

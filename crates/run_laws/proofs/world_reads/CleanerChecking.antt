@@ -25,7 +25,6 @@ use Rattle.node_base.specs.declared.effects.Effect.TheVariants.{Send, Answer, Lo
 use Rattle.node_base.specs.declared.questions.Questions.{Questions}
 use Rattle.node_base.specs.Known.{names_known}
 use Rattle.node_base.specs.Maps.{fits, is_older, taken}
-use Rattle.node_ties.proofs.node_index_tie.Moves.{all_both, all_weaker}
 use Rattle.segment_format.specs.declared.segment.Segment.{Segment}
 use Rattle.segment_reading.specs.declared.reading.Next.{Next}
 use Rattle.segment_reading.specs.declared.reading.Next.TheVariants as next
@@ -61,6 +60,7 @@ use Rattle.xfs_base.specs.declared.segment.End.{End}
 use Rattle.xfs_base.specs.declared.segment.SegName.{SegName}
 use Rattle.xfs_base.specs.declared.segment.SegRef.{SegRef}
 use Rattle.xfs_base.specs.Steps.{saying, still, steps}
+use Rattle.xfs_base.proofs.Alls.{all_append, all_weaker}
 
 module _ (may : May) where
   -- ---- what is done
@@ -107,10 +107,10 @@ module _ (may : May) where
   quiet e es silent h = record { checks = h; outs = all_silent es silent }
 
   went_on : (d e : Done) → Kept d → (At d.state → Kept e) → Kept (saying d.outs e)
-  went_on d e one then_next = (let k = then_next one.checks in record { checks = k.checks; outs = all_both EffectMay d.outs e.outs one.outs k.outs })
+  went_on d e one then_next = (let k = then_next one.checks in record { checks = k.checks; outs = all_append EffectMay d.outs e.outs one.outs k.outs })
 
   went_behind : (es : List Effect) (d : Done) → AllSilent es → Kept d → Kept (saying es d)
-  went_behind es d silent k = record { checks = k.checks; outs = all_both EffectMay es d.outs (all_silent es silent) k.outs }
+  went_behind es d silent k = record { checks = k.checks; outs = all_append EffectMay es d.outs (all_silent es silent) k.outs }
 
   all_steps : {A : Type 0} (step : Emptying → A → Done) → ((e : Emptying) (x : A) → At e → Kept (step e x)) → (e : Emptying) (xs : List A) → At e
       → Kept (steps step e xs)
@@ -181,7 +181,7 @@ module _ (may : May) where
   deletes_so e None server name held h = quiet e [] tt h
   deletes_so e (Some job) server name held h =
       quiet (deletes e (Some job) server name).state (deletes e (Some job) server name).outs
-      (all_both IsSilent (drops (is_whole job.hand) name) (Send (node.Server server) (body.Delete (record { name = name })) ∷ [])
+      (all_append IsSilent (drops (is_whole job.hand) name) (Send (node.Server server) (body.Delete (record { name = name })) ∷ [])
       (drops_silent (is_whole job.hand) name) (tt, tt))
       held
 

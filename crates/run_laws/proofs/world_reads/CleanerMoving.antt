@@ -20,7 +20,6 @@ use Rattle.log_owner.specs.declared.opening.Stage as stages
 use Rattle.log_owner.specs.declared.opening.Stage.TheVariants as stage
 use Rattle.log_protocol.specs.Tables.{In}
 use Rattle.log_tie.specs.Setting.{Setting}
-use Rattle.node_ties.proofs.node_index_tie.Moves.{all_weaker}
 use Rattle.log_ties.proofs.node_log_tie.Others.{same_or_other}
 use Rattle.node_ties.specs.owner_index_tie.CleanerEvents.{CleanerAgrees}
 use Rattle.node_ties.specs.owner_index_tie.CleanerMoves.{CleanerMoves, ItemMoves}
@@ -37,6 +36,7 @@ use Rattle.run_laws.proofs.world_reads.AfterLogs.{flight_left, flight_stays, ser
 use Rattle.run_laws.proofs.world_reads.CleanerMoment.{IsHere, its_line, its_moment, its_scene, its_setting, owns}
 use Rattle.run_laws.specs.world_reads.Joint.{flew_at}
 use Rattle.xfs_base.specs.declared.node.NodeId.TheVariants.{Cleaner}
+use Rattle.xfs_base.proofs.Alls.{all_weaker}
 
 -- ---- what is moved stays so
 

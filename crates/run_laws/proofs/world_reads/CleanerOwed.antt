@@ -1,6 +1,7 @@
 -- What the small world of the index is owed of an event of the cleaner it gets: what it files, asks, reads back, gets and writes is so, beside one run.
 use Rattle.std.proofs.Common.{◌≡◌, ◌≤◌, ◌<◌, ◌-◌, ℕ, suc, nat_le, Bool, true, false, List, Some, refl, sym, ap, subst, ◌∙◌, arith}
 use Rattle.std.specs.List.{AllByRecursion}
+use Rattle.std.proofs.lemmas.Bool.{leb-true}
 use Rattle.cleaner_emptying.specs.declared.emptying.Emptying.{Emptying}
 use Rattle.log_ties.specs.cleaner_log_tie.Owner as cleaner_log
 use Rattle.cleaner_node.specs.CleanerEvents.{Went_to, happens, lasting_of, phase_room, takes}
@@ -13,7 +14,7 @@ use Rattle.log_ties.specs.client_log_tie.ClientEvents.{ServesStraight}
 use Rattle.log_ties.specs.client_log_tie.Owner.{Scene, SeesStage}
 use Rattle.core_world.specs.declared.any_node.AnyNode.{AnyNode}
 use Rattle.core_world.specs.declared.any_node.AnyNode.TheVariants as any
-use Rattle.index_tie.proofs.Tables.{second_of, within_is}
+use Rattle.index_tie.proofs.Tables.{second_of}
 use Rattle.log_flight.specs.Flights.{FlightState}
 use Rattle.log_law.specs.Openings.{NothingFiledOpening}
 use Rattle.log_law.specs.Restarts.{is_serving, is_writing}
@@ -65,7 +66,7 @@ use Rattle.xfs_base.specs.Steps.{still}
 -- ---- counters
 
 below_end : (n end room : ℕ) → nat_le n (end - room) ≡ true → 0 < room → 0 < end → n < end
-below_end n end room h some more = (let limit = within_is n (end - room) h in omega arith)
+below_end n end room h some more = (let limit = leb-true n (end - room) h in omega arith)
 
 lasting_below : (l : Lasting) → lasting_room l ≡ true → l.questions.last < u32_end
 lasting_below l h = below_end l.questions.last u32_end counter_room (and_second (has_room l.inc) (has_room l.questions.last) h) (omega arith) (omega arith)

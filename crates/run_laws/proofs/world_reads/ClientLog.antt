@@ -15,7 +15,6 @@ use Rattle.log_law.specs.Restarts.{IsSureRun}
 use Rattle.log_law.specs.Tails.{ARestartFilesTheTail, then_on}
 use Rattle.log_law.specs.Written.{WhatFlewIsWritten}
 use Rattle.log_protocol.specs.Tables.{In}
-use Rattle.log_tie.proofs.Names.{itself}
 use Rattle.log_tie.specs.Setting.{Setting}
 use Rattle.run_laws.specs.reopening_law.Reopens.{ReopeningsReadBack, TellsApart}
 use Rattle.segment_format.specs.declared.segment.Segment.{Segment}
@@ -44,6 +43,7 @@ use Rattle.run_laws.proofs.world_reads.Stepping.{sure_before}
 use Rattle.run_laws.proofs.world_reads.Taking.{Took, did_then, moment_next, node_then, took_it}
 use Rattle.run_laws.specs.world_reads.Joint.{IsSureUpto, Joint, There}
 use Rattle.xfs_base.specs.declared.node.NodeId.TheVariants.{Client}
+use Rattle.xfs_base.proofs.Booleans.{equal_itself}
 
 -- the laws of the crates below on which it stands
 pub record ClientLaws : Type 0 where
@@ -165,4 +165,4 @@ module _ (base : Setting) (e : Estate AnyNode) (lines : HasLines base e) (texts 
     pub acts_filed : AllSo (λ name. In name after.net.filed) went.outs
     acts_filed = laws.done after.net (Client (lasting_of node.phase).number) went.outs
         (λ name among. (line.stands (suc count)).filed name
-        (did_then e c count event (any.Client node) x.happens (ap (owns c) x.own ∙ itself c) x.took (ActsFiled name) among))
+        (did_then e c count event (any.Client node) x.happens (ap (owns c) x.own ∙ equal_itself c) x.took (ActsFiled name) among))

@@ -4,7 +4,7 @@ use Rattle.std.proofs.lemmas.Option.{slice_get_within}
 use Rattle.std.specs.Prelude.{IfSome}
 use Rattle.std.specs.List.{AllByRecursion, flat_map}
 use Rattle.core_world.specs.declared.any_node.AnyNode.{AnyNode}
-use Rattle.telling_ties.proofs.entry_tie.Frames.{all_filter, all_filter_map}
+use Rattle.telling_ties.proofs.entry_tie.Frames.{all_filter_map}
 use Rattle.telling_ties.proofs.entry_tie.Rising.{rows_rise, told_more}
 use Rattle.telling_ties.specs.entry_tie.ManagerTells.{AnswerOwed, BodyOwed, DoOwed, ManagerOwed, PacketOwed, PartTold, SlotOwed}
 use Rattle.telling_ties.specs.entry_tie.Told.{AreMore, FiledRows, RowTold, RowsTold, Told as EntryTold, told_by_rows}
@@ -25,7 +25,6 @@ use Rattle.node_ties.specs.node_index_tie.ManagerEvents.{AbsentGets, FoundGets, 
 use Rattle.node_ties.specs.node_index_tie.Pages.{Desk, desk_of}
 use Rattle.node_ties.specs.node_index_tie.Sight.{AreTexts, IsRead, Questions}
 use Rattle.node_ties.specs.node_tie.ManagerEvents.{phase_at, slot_in}
-use Rattle.telling_ties.proofs.reading_tie.Readings.{all_append}
 use Rattle.segment_format.specs.declared.segment.Item.{Item}
 use Rattle.segment_format.specs.declared.segment.Item.TheVariants.{Block, Delta, Part}
 use Rattle.segment_format.specs.declared.segment.Segment.{Segment}
@@ -64,6 +63,7 @@ use Rattle.xfs_base.proofs.Booleans.{by_test}
 use Rattle.xfs_base.specs.declared.node.NodeId.{NodeId}
 use Rattle.xfs_base.specs.declared.node.NodeId.TheVariants.{Client, Manager, Server, Cleaner, Registry}
 use Rattle.xfs_base.specs.declared.segment.SegRef.{SegRef}
+use Rattle.xfs_base.proofs.Alls.{all_append, all_filter}
 
 -- ---- what a segment tells of a slot
 

@@ -7,7 +7,7 @@ use Rattle.client_log.specs.LogState.{LogState}
 use Rattle.client_log.specs.Transition.{end_from}
 use Rattle.core_world.specs.AnyNode.{any_step}
 use Rattle.core_world.specs.declared.any_node.AnyNode.{AnyNode}
-use Rattle.telling_ties.proofs.entry_tie.Frames.{all_weaker, contains_all}
+use Rattle.telling_ties.proofs.entry_tie.Frames.{contains_all}
 use Rattle.telling_ties.specs.entry_tie.ClientTells.{FlightOwed, SegmentOwed}
 use Rattle.telling_ties.specs.entry_tie.Told.{RowTold, RowsTold, told_by_rows}
 use Rattle.index_tie.specs.Filed.{Filed, rows_at}
@@ -39,6 +39,7 @@ use Rattle.xfs_base.specs.declared.block.BlockId.{BlockId}
 use Rattle.xfs_base.specs.declared.entry.Entry.{Entry}
 use Rattle.xfs_base.specs.declared.segment.LogId.{LogId}
 use Rattle.xfs_base.specs.declared.segment.SegName.{SegName}
+use Rattle.xfs_base.proofs.Alls.{all_weaker}
 
 among_of : {X : Type 0} (xs : List X) (x : X) → Contains xs x → In x xs
 among_of [] x fact = absurd (nothing x fact)

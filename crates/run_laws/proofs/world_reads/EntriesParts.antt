@@ -3,7 +3,6 @@ use Rattle.std.proofs.Common.{◌≡◌, ⊎_elim, ℕ, suc, List, [], ◌∷◌
 use Rattle.std.specs.List.{AllByRecursion}
 use Rattle.std.specs.Prelude.{Contains}
 use Rattle.core_world.specs.declared.any_node.AnyNode.{AnyNode}
-use Rattle.telling_ties.proofs.entry_tie.Frames.{all_weaker}
 use Rattle.telling_ties.proofs.entry_tie.Rising.{rows_rise, told_more}
 use Rattle.telling_ties.specs.entry_tie.ManagerTells.{PartTold}
 use Rattle.telling_ties.specs.entry_tie.Told.{AreMore, FiledRows, told_by_rows}
@@ -23,6 +22,7 @@ use Rattle.run_laws.proofs.world_reads.Taking.{did_before}
 use Rattle.run_laws.specs.world_reads.Entries.{PartKnown}
 use Rattle.xfs_base.proofs.Members.{contains_cases, contains_nothing}
 use Rattle.xfs_base.specs.declared.segment.SegRef.{SegRef}
+use Rattle.xfs_base.proofs.Alls.{all_weaker}
 
 -- a node of a name is one of the nodes
 pub among_nodes : (nodes : List AnyNode) (o : Option ℕ) (node : AnyNode) → node_in nodes o ≡ Some node → In node nodes

@@ -10,7 +10,6 @@ use Rattle.index_tie.specs.Takeovers.{IsEnd, Linked, of_log}
 use Rattle.node_ties.proofs.node_index_tie.Reading.{end_from_is}
 use Rattle.node_ties.specs.node_index_tie.ManagerEvents.{TakingAgrees}
 use Rattle.node_ties.specs.node_index_tie.Sight.{AreTexts, EndKnown, IsRead, NewsKnown, ReportKnown, Texts}
-use Rattle.telling_ties.proofs.reading_tie.Readings.{all_append, all_weaker}
 use Rattle.segment_format.specs.declared.segment.Segment.{Segment}
 use Rattle.takeover.specs.Course.{Course, course_of}
 use Rattle.takeover.specs.declared.report.Report.{Report}
@@ -27,6 +26,7 @@ use Rattle.xfs_base.specs.declared.node.NodeId.TheVariants.{Client, Cleaner}
 use Rattle.xfs_base.specs.declared.segment.End.{End}
 use Rattle.xfs_base.specs.declared.segment.SegName.{SegName}
 use Rattle.xfs_base.specs.declared.segment.SegRef.{SegRef}
+use Rattle.xfs_base.proofs.Alls.{all_append, all_weaker}
 
 same_name : (a b : SegName) → a.log.0 ≡ b.log.0 → a.seq ≡ b.seq → a.pass ≡ b.pass → a ≡ b
 same_name a b log seq pass = λ k. record { log = record { 0 = log k }; seq = seq k; pass = pass k }

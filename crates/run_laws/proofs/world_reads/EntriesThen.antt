@@ -32,7 +32,6 @@ use Rattle.log_owner.specs.declared.known.Known.{Known as KnownMaps}
 use Rattle.log_owner.specs.declared.opening.Stage.{Stage}
 use Rattle.log_owner.specs.declared.opening.Stage.TheVariants as stage
 use Rattle.log_owner.specs.Sending.{name_of}
-use Rattle.log_tie.proofs.Names.{itself}
 use Rattle.log_tie.specs.Setting.{Setting}
 use Rattle.log_ties.specs.manager_log_tie.Owner as manager_log
 use Rattle.manager_node.specs.declared.manager.Manager.{Manager as ManagerNode}
@@ -87,6 +86,7 @@ use Rattle.xfs_base.specs.declared.node.NodeId.{NodeId}
 use Rattle.xfs_base.specs.declared.node.NodeId.TheVariants.{Client, Manager, Server, Cleaner, Registry}
 use Rattle.xfs_base.specs.declared.segment.LogId.{LogId}
 use Rattle.xfs_base.specs.declared.segment.SegName.{SegName}
+use Rattle.xfs_base.proofs.Booleans.{equal_itself}
 
 -- the laws of the crates below on which it stands
 pub record EntryLaws : Type 0 where
@@ -212,7 +212,7 @@ module _ (base : Setting) (e : Estate AnyNode) (lines : HasLines base e) (texts 
           owed : ClientOwed told it what (client_step it what).acts
           owed = client_phase (OfClient c) (b.some, b.within) refl (any.Client it) (subst (Took w event) (sym same) took)
               (subst (λ y. OwnsEvent base e lines texts part first count (OfClient c) (b.some, b.within) event y h) (sym same)
-              (owns_event (OfClient c) (b.some, b.within) refl (ap (owns c) own ∙ itself c))) c refl it.phase
+              (owns_event (OfClient c) (b.some, b.within) refl (ap (owns c) own ∙ equal_itself c))) c refl it.phase
               (((lines (OfClient c) (b.some, b.within)).stands count).seen (Client c) (any.Client it) here refl).agrees
 
       cleaner_owed : node_of event ≡ Cleaner → AnyOwed (rows_at h) node what
@@ -317,7 +317,8 @@ module _ (base : Setting) (e : Estate AnyNode) (lines : HasLines base e) (texts 
           -- what it acts it did up to the next count
           done : (name : SegName) → Contains acts (act.Filed name) → In (act.Filed name) (did e (log_by (OfManager j)) (suc count))
           done name fact =
-              did_then e (log_by (OfManager j)) count event (any.Manager it) x.happens (ap (owns (log_by (OfManager j))) own ∙ itself (log_by (OfManager j)))
+              did_then e (log_by (OfManager j)) count event (any.Manager it) x.happens (ap (owns (log_by (OfManager j))) own
+              ∙ equal_itself (log_by (OfManager j)))
               (subst (Took w event) (sym same) took) (act.Filed name) (in_contained acts (act.Filed name) fact)
 
           by : (p : managers.Phase) → it.phase ≡ p → PhaseFlies (PartKnown base e lines (suc count) (rows_at h)) acts p

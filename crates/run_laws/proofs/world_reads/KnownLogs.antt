@@ -31,6 +31,7 @@ use Rattle.run_laws.specs.world_reads.Joint.{Joint, There, log_at}
 use Rattle.xfs_base.specs.declared.fragment.FragMeta.{FragMeta}
 use Rattle.xfs_base.specs.declared.segment.LogId.{LogId}
 use Rattle.xfs_base.specs.declared.segment.SegName.{SegName}
+use Rattle.xfs_base.proofs.Booleans.{equal_itself}
 
 -- ---- groups
 
@@ -102,10 +103,7 @@ module _ (base : Setting) (e : Estate AnyNode) (lines : HasLines base e) (texts 
       }
 
       pub of_its_log : (name : SegName) → name.log ≡ record { 0 = log_by r } → is_of_log g name ≡ true
-      of_its_log name own = ap (λ (x : LogId). x.0 == log_by r) own ∙ itself (log_by r)
-        where
-          itself : (n : ℕ) → (n == n) ≡ true
-          itself n = grind (arith, nat_tests)
+      of_its_log name own = ap (λ (x : LogId). x.0 == log_by r) own ∙ equal_itself (log_by r)
 
       -- what a server listed of it flew
       pub listed_flew : WhatIsListedFlew → (p : Packet) (m : Listed) → In p sent → p.body ≡ body.Listed m → (meta : FragMeta) → In meta m.held

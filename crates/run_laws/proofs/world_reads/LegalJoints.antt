@@ -3,7 +3,6 @@ use Rattle.std.proofs.Common.{ℕ, ◌<◌, subst}
 use Rattle.act_tie.specs.BlockActs.{acts_of}
 use Rattle.act_tie.specs.Shown.{FallsApart}
 use Rattle.core_world.specs.declared.any_node.AnyNode.{AnyNode}
-use Rattle.log_tie.proofs.Names.{itself}
 use Rattle.log_tie.specs.Setting.{Setting}
 use Rattle.node_ties.proofs.node_tie.SmallWorld.{with_promise}
 use Rattle.segment_format.specs.declared.segment.Segment.{Segment}
@@ -19,6 +18,7 @@ use Rattle.run_laws.specs.world_reads.Below.{BlocksMakeLegal}
 use Rattle.run_laws.specs.world_reads.Joint.{Joint, k}
 use Rattle.xfs_base.specs.Blocks.{slot_of}
 use Rattle.xfs_base.specs.declared.block.BlockId.{BlockId}
+use Rattle.xfs_base.proofs.Booleans.{equal_itself}
 
 module _ (law : ActsAreLegal) (blocks : BlocksMakeLegal) (base : Setting) (e : Estate AnyNode) (lines : HasLines base e) (texts : Texts base e lines)
     (first : ℕ → ℕ → Segment) (count : ℕ) (apart : FallsApart (moment e count).acts)
@@ -27,7 +27,7 @@ module _ (law : ActsAreLegal) (blocks : BlocksMakeLegal) (base : Setting) (e : E
   of_block b =
       subst (λ acts. LegalActs (acts_of b acts)) joint.tokens_stand.acts
       (law (members (k base e lines texts part first) part) part (with_promise 1 joint.tok.net) b
-      (record { run = joint.tokens_stand.runs; inside = itself part }))
+      (record { run = joint.tokens_stand.runs; inside = equal_itself part }))
     where
       part : ℕ
       part = slot_of b.ino.0

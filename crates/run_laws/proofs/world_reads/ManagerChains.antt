@@ -10,7 +10,6 @@ use Rattle.log_law.specs.Laws.{OneNameOneText}
 use Rattle.log_law.specs.Net.Packet.{FragmentSent}
 use Rattle.log_law.specs.Places.{APlaceNamesOneContent}
 use Rattle.log_protocol.specs.Tables.{In}
-use Rattle.log_tie.proofs.Names.{itself}
 use Rattle.log_tie.specs.Setting.{Setting}
 use Rattle.log_tie.specs.Shelves.{is_of_log}
 use Rattle.log_ties.specs.node_log_tie.Sight.{BodySeen}
@@ -40,6 +39,7 @@ use Rattle.xfs_base.specs.declared.node.NodeId.{NodeId}
 use Rattle.xfs_base.specs.declared.segment.LogId.{LogId}
 use Rattle.xfs_base.specs.declared.segment.SegName.{SegName}
 use Rattle.xfs_base.specs.declared.segment.SegRef.{SegRef}
+use Rattle.xfs_base.proofs.Booleans.{equal_itself}
 
 one_of : {X : Type 0} (P : X → Type 0) (xs : List X) (x : X) → AllByRecursion P xs → In x xs → P x
 one_of P [] x all fact = absurd fact
@@ -129,7 +129,7 @@ module _ (base : Setting) (e : Estate AnyNode) (lines : HasLines base e) (texts 
 
     of_log : is_of_log l.setting has.fragment.meta.name ≡ true
     of_log = subst (λ (n : SegName). (n.log.0 == l.setting.log.0) ≡ true) (sym of_name)
-        (subst (λ (x : LogId). (seg.name.log.0 == x.0) ≡ true) (sym l.own) (itself seg.name.log.0))
+        (subst (λ (x : LogId). (seg.name.log.0 == x.0) ≡ true) (sym l.own) (equal_itself seg.name.log.0))
 
     was_sent : In (FragmentSent has.fragment) l.net.sent
     was_sent = any_was_sent texts.text sent to (cuts_at e.world) seg l reads.ask has.answer.server has.fragment

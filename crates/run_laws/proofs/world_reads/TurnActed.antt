@@ -9,7 +9,6 @@ use Rattle.core_world.specs.declared.any_node.AnyNode.TheVariants as any
 use Rattle.index_tie.specs.Filed.{Filed}
 use Rattle.index_tie.specs.Growth.{with_segment}
 use Rattle.index_tie.specs.Net as index
-use Rattle.log_tie.proofs.Names.{itself}
 use Rattle.log_tie.specs.Setting.{Setting}
 use Rattle.node_base.specs.declared.effects.Effect.{Effect}
 use Rattle.node_base.specs.declared.effects.Effect.TheVariants.{Send, Answer, Lose, Does}
@@ -36,7 +35,7 @@ use Rattle.run_laws.specs.world_logs.Lines.{HasLines, Texts}
 use Rattle.run_laws.specs.world_logs.Roles.{log_by}
 use Rattle.run_laws.proofs.world_reads.Taking.{Took, did_before, did_then}
 use Rattle.run_laws.specs.world_reads.Joint.{LinesActed}
-use Rattle.xfs_base.proofs.Booleans.{by_test, contrary}
+use Rattle.xfs_base.proofs.Booleans.{by_test, contrary, equal_itself}
 use Rattle.xfs_base.specs.declared.node.NodeId.{NodeId}
 use Rattle.xfs_base.specs.declared.node.NodeId.TheVariants.{Client, Manager, Cleaner, Registry}
 use Rattle.xfs_base.specs.declared.segment.SegName.{SegName}
@@ -156,7 +155,7 @@ module _ (base : Setting) (e : Estate AnyNode) (lines : HasLines base e) (texts 
               let same : log_by r ≡ d = eqb-true (log_by r) d fact in
               subst (λ l. ActedOf (suc count) l h) (sym same) (its_line (subst (λ l. ActedOf count l f) same (was r there keeps)))
           by false fact =
-              let differs : log_by r ≡ d → ⊥ = λ same. contrary (sym fact ∙ subst (λ l. (l == d) ≡ true) (sym same) (itself d)) in
+              let differs : log_by r ≡ d → ⊥ = λ same. contrary (sym fact ∙ subst (λ l. (l == d) ≡ true) (sym same) (equal_itself d)) in
               same_line (log_by r) f h (others_after texts.text d (log_by r) differs f outs) (was r there keeps)
 
     module _ (asked : Questions) (n next : index.Net) where
@@ -168,7 +167,7 @@ module _ (base : Setting) (e : Estate AnyNode) (lines : HasLines base e) (texts 
           → IndexOwes part texts.text asked n name node what
           → Makes part texts.text n next name node what → Acted count n.filed → Acted (suc count) next.filed
       acted_then (Client d) own (any.Client node) took owed makes was =
-          let its : owns d (node_of event) ≡ true = ap (owns d) own ∙ itself d in
+          let its : owns d (node_of event) ≡ true = ap (owns d) own ∙ equal_itself d in
           subst (Acted (suc count)) (sym (ap (λ (x : index.Net). x.filed) makes))
           (own_acted d its (IsNewerAtSlot part) n.filed (Client (lasting_of node.phase).number) (client_takes node what).outs owed.files
           (λ a fact. did_then e d count event (any.Client node) at_event its took a fact) was)

@@ -1,5 +1,6 @@
 -- An event that the cleaner takes, in both small worlds of a slot and in that of its log: what is known of its log then.
-use Rattle.std.proofs.Common.{◌≡◌, ℕ, suc, ◌≤◌, ◌<◌, inr, ◌&&◌, ◌-◌, Bool, true, false, nat_le, List, Option, None, Some, IfSome, if◌then◌else◌, slice_get, refl, sym, ap, subst, ◌∙◌, arith}
+use Rattle.std.proofs.Common.{◌≡◌, ℕ, suc, ◌≤◌, ◌<◌, inr, ◌-◌, Bool, true, false, nat_le, List, Option, None, Some, IfSome, if◌then◌else◌, slice_get, refl, sym, ap, subst, ◌∙◌, arith}
+use Rattle.std.proofs.lemmas.Bool.{leb-true}
 use Rattle.cleaner_emptying.specs.declared.emptying.Emptying.{Emptying}
 use Rattle.log_ties.specs.cleaner_log_tie.Owner as log_tie
 use Rattle.cleaner_node.specs.CleanerEvents.{Went_to, cleaner_step, happens, lasting_of, phase_room, takes}
@@ -13,7 +14,6 @@ use Rattle.log_ties.specs.client_log_tie.Owner.{Scene}
 use Rattle.core_world.specs.AnyNode.{any_step}
 use Rattle.core_world.specs.declared.any_node.AnyNode.{AnyNode}
 use Rattle.core_world.specs.declared.any_node.AnyNode.TheVariants as any
-use Rattle.index_tie.proofs.Tables.{within_is}
 use Rattle.log_flight.specs.Flights.{FlightState}
 use Rattle.log_law.specs.Ends.{IsFlight}
 use Rattle.log_law.specs.Events.{Runs}
@@ -73,27 +73,20 @@ use Rattle.run_laws.specs.world_reads.Joint.{IsSureUpto, k}
 use Rattle.xfs_base.specs.declared.node.NodeId.TheVariants.{Cleaner}
 use Rattle.xfs_base.specs.Limits.{counter_room, u32_end}
 use Rattle.xfs_base.specs.Steps.{still}
+use Rattle.xfs_base.proofs.Booleans.{and_first, and_second}
 
 -- ---- counters
 
-second_true : (a b : Bool) → (a && b) ≡ true → b ≡ true
-second_true true b h = h
-second_true false b h = absurd (cc)
-
-first_true : (a b : Bool) → (a && b) ≡ true → a ≡ true
-first_true true b h = refl
-first_true false b h = absurd (cc)
-
 below_end : (x end room : ℕ) → nat_le x (end - room) ≡ true → 0 < room → 0 < end → x < end
-below_end x end room h some more = (let limit = within_is x (end - room) h in omega arith)
+below_end x end room h some more = (let limit = leb-true x (end - room) h in omega arith)
 
 lasting_below : (l : Lasting) → lasting_room l ≡ true → l.questions.last < u32_end
-lasting_below l h = below_end l.questions.last u32_end counter_room (second_true (has_room l.inc) (has_room l.questions.last) h) (omega arith) (omega arith)
+lasting_below l h = below_end l.questions.last u32_end counter_room (and_second (has_room l.inc) (has_room l.questions.last) h) (omega arith) (omega arith)
 
 room_below : (p : Phase) → phase_room p ≡ true → (lasting_of p).questions.last < u32_end
 room_below (Down l) h = lasting_below l h
-room_below (Opening l o) h = lasting_below l (first_true (lasting_room l) _ h)
-room_below (Serves e) h = lasting_below e.lasting (first_true (lasting_room e.lasting) _ h)
+room_below (Opening l o) h = lasting_below l (and_first (lasting_room l) _ h)
+room_below (Serves e) h = lasting_below e.lasting (and_first (lasting_room e.lasting) _ h)
 
 module _ (laws : StepsBelow) (base : Setting) (e : Estate AnyNode) (lines : HasLines base e) (texts : Texts base e lines) (part : ℕ)
     (first : ℕ → ℕ → Segment) (of_eight : part < 8) (apart : TellsApart base) (count : ℕ) (event : Event) (at_event : slice_get e.events count ≡ Some event)

@@ -18,7 +18,6 @@ use Rattle.log_law.specs.Laws.{Moment}
 use Rattle.log_law.specs.Restarts.{IsSureRun, last_flight}
 use Rattle.log_law.specs.Tails.{then_on}
 use Rattle.log_protocol.specs.Tables.{In}
-use Rattle.log_tie.proofs.Names.{itself}
 use Rattle.log_tie.specs.Setting.{Setting}
 use Rattle.node_base.specs.Effects.{acts_of}
 use Rattle.node_base.specs.declared.effects.Effect.{Effect}
@@ -61,6 +60,7 @@ use Rattle.run_laws.proofs.world_reads.TurnMoment as now
 use Rattle.run_laws.proofs.world_reads.TurnMoment.{same_client}
 use Rattle.run_laws.specs.world_reads.Joint.{IsSureUpto, There, flew_at, k}
 use Rattle.xfs_base.specs.declared.node.NodeId.TheVariants.{Client}
+use Rattle.xfs_base.proofs.Booleans.{equal_itself}
 
 module _ (laws : StepsBelow) (base : Setting) (e : Estate AnyNode) (lines : HasLines base e) (texts : Texts base e lines) (part : ℕ)
     (first : ℕ → ℕ → Segment) (apart : TellsApart base) (count : ℕ) (event : Event) (at_event : slice_get e.events count ≡ Some event)
@@ -159,7 +159,7 @@ module _ (laws : StepsBelow) (base : Setting) (e : Estate AnyNode) (lines : HasL
   acts_filed : AllSo (λ name. In name v.net.filed) outs
   acts_filed = laws.done v.net (Client (lasting_of x.phase).number) outs
       (λ name among. (line.stands (suc count)).filed name
-      (did_then e c count event (any.Client x) at_event (ap (owns c) own ∙ itself c) took (ActsFiled name) among))
+      (did_then e c count event (any.Client x) at_event (ap (owns c) own ∙ equal_itself c) took (ActsFiled name) among))
 
   index_owed : IndexOwes part texts.text b.idx.asked b.idx.net (Client c) (any.Client x) what
   index_owed = subst (λ name. IndexOwes part texts.text b.idx.asked b.idx.net name (any.Client x) what) own owed.index

@@ -1,8 +1,8 @@
 -- At a moment that stands to both small worlds of a slot the log of an owner that serves is linked from the epoch on that it has promised: above that nobody
 -- is active, so that horizons are the registry's.
 use Rattle.std.proofs.Common.{◌≡◌, ◌==◌, ℕ, zero, suc, ◌+◌, ◌-◌, ◌≤◌, ◌<◌, Bool, true, false, nat_le, List, Option, None, Some, mod-eq_of_lt, refl, sym, ap, subst, ◌∙◌, arith}
-use Rattle.std.proofs.lemmas.Bool.Decides.{nat_tests}
 use Rattle.std.proofs.lemmas.Option.{unwrap_or-slice_get}
+use Rattle.std.proofs.lemmas.Bool.{leb-false, leb-true}
 use Rattle.cleaner_emptying.specs.declared.emptying.Emptying.{Emptying}
 use Rattle.cleaner_node.specs.declared.cleaner.Phase as cleaning
 use Rattle.cleaner_node.specs.declared.cleaner.Phase.TheVariants as cleaners
@@ -37,12 +37,7 @@ use Rattle.run_laws.proofs.world_reads.TurnLogs.{LogsKnown}
 use Rattle.run_laws.proofs.world_reads.TurnMoment as now
 use Rattle.run_laws.specs.world_reads.Joint.{IsSureUpto, There, k}
 use Rattle.xfs_base.specs.declared.block.BlockId.{BlockId}
-
-most_of : (a b : ℕ) → nat_le a b ≡ true → a ≤ b
-most_of a b fact = grind (arith, nat_tests, fact)
-
-less_of : (a b : ℕ) → nat_le a b ≡ false → b < a
-less_of a b fact = grind (arith, nat_tests, fact)
+use Rattle.xfs_base.proofs.Booleans.{equal_itself}
 
 difference : (a b : ℕ) → a < b → a + (b - a) ≡ b
 difference a b less = omega arith
@@ -86,9 +81,9 @@ module _ (laws : StepsBelow) (base : Setting) (e : Estate AnyNode) (lines : HasL
         present = laws.present part texts.text l g m n b.idx.registry of_eight pos limit sure line seen b.index_stands.registry
 
         by : (t : Bool) → nat_le n.epoch x ≡ t → Linked n.filed l (of_log (n.horizon x) l) (n.filed.head l)
-        by true fact = present x (most_of n.epoch x fact) some
+        by true fact = present x (leb-true n.epoch x fact) some
         by false fact =
-            let end : x + (n.epoch - x) ≡ n.epoch = difference x n.epoch (less_of n.epoch x fact) in
+            let end : x + (n.epoch - x) ≡ n.epoch = difference x n.epoch (leb-false n.epoch x fact) in
             let same : n.horizon n.epoch ≡ n.horizon x = ap n.horizon (sym end)
             ∙ same_horizon x (n.epoch - x) above (let upto = end in omega arith) in
             subst (λ (h : List ℕ). Linked n.filed l (of_log h l) (n.filed.head l)) same
@@ -100,10 +95,7 @@ module _ (laws : StepsBelow) (base : Setting) (e : Estate AnyNode) (lines : HasL
   some_block = record { ino = record { 0 = part }; blk = 0 }
 
   of_slot : is_in_slot part some_block ≡ true
-  of_slot = ap (λ n. n == part) (mod-eq_of_lt of_eight) ∙ itself part
-    where
-      itself : (n : ℕ) → (n == n) ≡ true
-      itself n = grind (arith, nat_tests)
+  of_slot = ap (λ n. n == part) (mod-eq_of_lt of_eight) ∙ equal_itself part
 
   of_client : (c : ℕ) (there : There base e lines texts part first (OfClient c)) (s : Serving) → (b.tok.client c).phase ≡ clients.Serving s → (x : ℕ)
       (z : SlotState) → b.tok.net.slots x ≡ Some z

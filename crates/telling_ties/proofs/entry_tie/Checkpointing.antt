@@ -29,11 +29,11 @@ use Rattle.wire_msg.specs.declared.storage.Stored.{Stored}
 use Rattle.xfs_base.proofs.Booleans.{by_test}
 use Rattle.xfs_base.specs.declared.segment.End.{End}
 use Rattle.xfs_base.specs.Steps.{Stepped, still}
+use Rattle.xfs_base.proofs.Alls.{all_each, all_flat_map}
+use Rattle.xfs_base.proofs.Leaving.{Leaves, goes_after, leaves_each}
 use Rattle.telling_ties.specs.entry_tie.ManagerTells.{WorkHolds, PartTold, LogHolds, ServingHolds}
 use Rattle.telling_ties.specs.entry_tie.Told.{Told, AllowsNothing, RowsTold}
 use Rattle.telling_ties.proofs.entry_tie.Frames as frames
-use Rattle.telling_ties.proofs.entry_tie.Frames.{all_each}
-use Rattle.telling_ties.proofs.entry_tie.Leaving.{Leaves, goes_after, leaves_each, all_flat_map}
 use Rattle.telling_ties.proofs.entry_tie.LogParts.{parts_hold, acked_holds, maps_hold, tick_holds}
 use Rattle.telling_ties.proofs.entry_tie.SlotPhases.{Says, AllSay}
 use Rattle.telling_ties.proofs.entry_tie.Tables.{WriterInTold, begin_told, table_cleaned, table_named}

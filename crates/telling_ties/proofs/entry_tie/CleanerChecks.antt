@@ -30,7 +30,7 @@ use Rattle.xfs_base.specs.declared.fragment.FragMeta.{FragMeta}
 use Rattle.xfs_base.specs.declared.segment.SegName.{SegName}
 use Rattle.xfs_base.specs.declared.segment.SegRef.{SegRef}
 use Rattle.xfs_base.specs.Steps.{still}
-use Rattle.telling_ties.proofs.filed_tie.Frames.{all_append}
+use Rattle.xfs_base.proofs.Alls.{all_append}
 use Rattle.telling_ties.specs.entry_tie.CleanerTells.{FateTold, CheckTold, CheckingTold}
 use Rattle.telling_ties.specs.entry_tie.Told.{Told}
 

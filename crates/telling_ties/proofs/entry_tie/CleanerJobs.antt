@@ -44,7 +44,7 @@ use Rattle.cleaner_parts.specs.declared.job.Job.{Job}
 use Rattle.cleaner_parts.specs.Hands.{Heard, fetches_for, fetches}
 use Rattle.cleaner_parts.specs.Jobs.{hand_checks_in, job_checks, hand_of, is_whole, drops, lists_of, usages_of, check_of, is_out, job_read, hand_hears_in, job_hears, hand_confirmed_in, job_confirmed}
 use Rattle.xfs_base.proofs.Booleans.{by_test}
-use Rattle.telling_ties.proofs.filed_tie.Frames.{all_append, all_map}
+use Rattle.xfs_base.proofs.Alls.{all_append, all_map}
 use Rattle.telling_ties.specs.entry_tie.CleanerTells.{JobTold, MovesOn, LogMoves}
 use Rattle.telling_ties.specs.entry_tie.ClientTells.{FeedTold}
 use Rattle.telling_ties.specs.entry_tie.Told.{Told}

@@ -29,10 +29,10 @@ use Rattle.xfs_base.specs.declared.fragment.FragMeta.{FragMeta}
 use Rattle.xfs_base.specs.declared.segment.SegName.{SegName}
 use Rattle.xfs_base.specs.declared.segment.SegRef.{SegRef}
 use Rattle.xfs_base.specs.Steps.{still}
-use Rattle.telling_ties.proofs.filed_tie.Frames.{all_map}
+use Rattle.xfs_base.proofs.Alls.{all_each, all_map}
 use Rattle.telling_ties.specs.entry_tie.CleanerTells.{MovedTold, FateTold, CheckTold, CheckingTold}
 use Rattle.telling_ties.specs.entry_tie.Told.{Told}
-use Rattle.telling_ties.proofs.entry_tie.Frames.{all_each, all_filter_map}
+use Rattle.telling_ties.proofs.entry_tie.Frames.{all_filter_map}
 use Rattle.telling_ties.proofs.entry_tie.CleanerChecks.{InputTold, Checks, live_told, dead_told, all_mapped}
 
 -- ---- what it has the node do

@@ -5,6 +5,7 @@ use Rattle.xfs_base.specs.declared.block.BlockId.{BlockId}
 use Rattle.xfs_base.specs.declared.entry.Entry.{Entry}
 use Rattle.xfs_base.specs.declared.node.NodeId.TheVariants.{Cleaner as TheCleaner}
 use Rattle.xfs_base.specs.Steps.{still}
+use Rattle.xfs_base.proofs.Alls.{all_append, all_weaker}
 use Rattle.log_owner.specs.declared.opened.Progress.{Progress}
 use Rattle.log_owner.specs.declared.opened.Progress.TheVariants as progress
 use Rattle.log_flight.specs.Flights.{FlightState}
@@ -44,7 +45,7 @@ use Rattle.cleaner_node.specs.declared.cleaner.Wish.{Wish}
 use Rattle.cleaner_node.specs.declared.cleaner.Wish.TheVariants.{Crash, Restart, Clean}
 use Rattle.cleaner_parts.specs.declared.job.Job.{Job}
 use Rattle.cleaner_parts.specs.declared.lasting.Lasting.{Lasting}
-use Rattle.telling_ties.proofs.filed_tie.Frames.{all_append, all_before, all_behind}
+use Rattle.telling_ties.proofs.filed_tie.Frames.{all_before, all_behind}
 use Rattle.telling_ties.specs.entry_tie.CleanerTells.{MovedTold, WaitTold, ItemTold, FlightMoves, LogMoves, StageHolds, FateTold, CheckTold, CheckingTold, JobTold, PhaseHolds, CleanerHolds, PhaseOwed, CleanerOwed, CleanerStartsTold, CleanerHoldsRise, CleanerTellsTold}
 use Rattle.telling_ties.specs.entry_tie.ClientTells.{DeltasTold}
 use Rattle.telling_ties.specs.entry_tie.Told.{Told, BodyTold, DoTold, told_by_rows, TellsTold}
@@ -52,7 +53,7 @@ use Rattle.telling_ties.proofs.entry_tie.CleanerJobs as jobs
 use Rattle.telling_ties.proofs.entry_tie.CleanerServing.{cleaning_wished, packet_heard, time_passes}
 use Rattle.telling_ties.proofs.entry_tie.Feeds.{pushes_all_say}
 use Rattle.telling_ties.proofs.entry_tie.Frames as frames
-use Rattle.telling_ties.proofs.entry_tie.Frames.{all_weaker, contains_all}
+use Rattle.telling_ties.proofs.entry_tie.Frames.{contains_all}
 use Rattle.telling_ties.proofs.entry_tie.LogMoves.{empty_moves, acked_moves, maps_move, tick_moves}
 use Rattle.telling_ties.proofs.entry_tie.Openings as events
 use Rattle.telling_ties.proofs.entry_tie.Rising.{told_more, rows_rise}

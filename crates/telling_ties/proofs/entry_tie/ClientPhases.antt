@@ -46,13 +46,14 @@ use Rattle.xfs_base.specs.declared.entry.Entry.{Entry}
 use Rattle.xfs_base.specs.declared.segment.SegRef.{SegRef}
 use Rattle.xfs_base.specs.declared.node.NodeId.TheVariants.{Client as AClient}
 use Rattle.xfs_base.specs.Steps.{still}
-use Rattle.telling_ties.proofs.filed_tie.Frames.{all_append, all_before, all_behind}
+use Rattle.xfs_base.proofs.Alls.{all_append, all_weaker}
+use Rattle.telling_ties.proofs.filed_tie.Frames.{all_before, all_behind}
 use Rattle.telling_ties.specs.entry_tie.ClientTells.{FetchTold, BlockTold, ReadingTold, DeltasTold, FeedTold, PhaseHolds, ClientHolds, PhaseOwed, ClientOwed, ClientStartsTold, ClientHoldsRise, ClientsTellTold}
 use Rattle.telling_ties.specs.entry_tie.Told.{Told, BodyTold, DoTold, told_by_rows, TellsTold}
 use Rattle.telling_ties.proofs.entry_tie.ClientReads.{CallTold, begun_told}
 use Rattle.telling_ties.proofs.entry_tie.Feeds.{pushes_all_say}
 use Rattle.telling_ties.proofs.entry_tie.Frames as frames
-use Rattle.telling_ties.proofs.entry_tie.Frames.{all_weaker, contains_all}
+use Rattle.telling_ties.proofs.entry_tie.Frames.{contains_all}
 use Rattle.telling_ties.proofs.entry_tie.Openings as events
 use Rattle.telling_ties.proofs.entry_tie.Rising.{told_more, rows_rise}
 use Rattle.telling_ties.proofs.entry_tie.ServingCalls as calls

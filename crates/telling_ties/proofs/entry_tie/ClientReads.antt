@@ -46,11 +46,10 @@ use Rattle.xfs_base.specs.declared.token.Stamp.{Stamp}
 use Rattle.xfs_base.specs.Modes.{is_own}
 use Rattle.xfs_base.specs.Stamps.{is_later}
 use Rattle.xfs_base.specs.Steps.{still, saying, steps}
-use Rattle.telling_ties.proofs.filed_tie.Frames.{all_append}
+use Rattle.xfs_base.proofs.Alls.{all_append, all_weaker}
 use Rattle.telling_ties.specs.entry_tie.ClientTells.{LiesTold, BlockTold, ReadingTold}
 use Rattle.telling_ties.specs.entry_tie.Told.{Told}
 use Rattle.telling_ties.proofs.entry_tie.ClientTokens.{InputTold, IsWant, asked_for, promise_wants}
-use Rattle.telling_ties.proofs.entry_tie.Frames.{all_weaker}
 
 module _ (told : Told) where
   -- ---- what the tokens say

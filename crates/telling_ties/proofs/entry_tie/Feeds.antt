@@ -16,10 +16,10 @@ use Rattle.xfs_base.specs.Blocks.{slot_of}
 use Rattle.xfs_base.specs.declared.block.BlockId.{BlockId}
 use Rattle.xfs_base.specs.declared.entry.Entry.{Entry}
 use Rattle.xfs_base.specs.declared.segment.End.{End}
-use Rattle.telling_ties.proofs.filed_tie.Frames.{all_append}
+use Rattle.xfs_base.proofs.Alls.{all_append, all_filter}
 use Rattle.telling_ties.specs.entry_tie.ClientTells.{DeltasTold, FeedTold}
 use Rattle.telling_ties.specs.entry_tie.Told.{Told, RowTold, RowsTold}
-use Rattle.telling_ties.proofs.entry_tie.Frames.{all_filter, AllSay}
+use Rattle.telling_ties.proofs.entry_tie.Frames.{AllSay}
 
 module _ (told : Told) where
   -- ---- what it keeps

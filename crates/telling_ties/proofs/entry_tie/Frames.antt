@@ -1,6 +1,6 @@
 -- What an event has a node do, step by step: where all that it acts is among the acts of the event, the node stands so then, and what it sends tells nothing
 -- but what is told.
-use Rattle.std.proofs.Common.{ℕ, Bool, List, [], ◌∷◌, ◌++◌, filter, Option, Some, None}
+use Rattle.std.proofs.Common.{ℕ, List, [], ◌∷◌, ◌++◌, Option, Some, None}
 use Rattle.std.specs.Prelude.{Contains, IfSome, fold}
 use Rattle.std.specs.List.{AllByRecursion, cons_option, filter_map}
 use Rattle.node_base.specs.Beginning.{answers_unanswered}
@@ -9,27 +9,14 @@ use Rattle.node_base.specs.declared.effects.Effect.TheVariants.{Send, Answer as 
 use Rattle.node_base.specs.Effects.{packet_of, act_of, packets_of, acts_of}
 use Rattle.version_model.specs.declared.act.Act.{Act}
 use Rattle.version_model.specs.declared.answer.Answer.{Answer}
-use Rattle.xfs_base.proofs.Booleans.{by_test}
 use Rattle.xfs_base.proofs.Members.{contains_first, contains_rest}
 use Rattle.xfs_base.specs.declared.node.NodeId.{NodeId}
 use Rattle.xfs_base.specs.Steps.{Stepped, still, saying, steps}
-use Rattle.telling_ties.proofs.filed_tie.Frames.{all_append, all_before, all_behind}
+use Rattle.xfs_base.proofs.Alls.{all_weaker, all_append}
+use Rattle.telling_ties.proofs.filed_tie.Frames.{all_before, all_behind}
 use Rattle.telling_ties.specs.entry_tie.Told.{Told, BodyTold, PacketTold}
 
 -- ---- lists
-
-pub all_weaker : {X : Type 0} (P Q : X → Type 0) → ((x : X) → P x → Q x) → (xs : List X) → AllByRecursion P xs → AllByRecursion Q xs
-all_weaker P Q weaker [] all = tt
-all_weaker P Q weaker (x ∷ xs) all = (weaker x all.0, all_weaker P Q weaker xs all.1)
-
-pub all_each : {X : Type 0} (P : X → Type 0) → ((x : X) → P x) → (xs : List X) → AllByRecursion P xs
-all_each P each [] = tt
-all_each P each (x ∷ xs) = (each x, all_each P each xs)
-
-pub all_filter : {X : Type 0} (P : X → Type 0) (p : X → Bool) (xs : List X) → AllByRecursion P xs → AllByRecursion P (filter p xs)
-all_filter P p [] all = tt
-all_filter P p (x ∷ xs) all =
-    by_test (AllByRecursion P) (p x) (x ∷ filter p xs) (filter p xs) (λ _. (all.0, all_filter P p xs all.1)) (λ _. all_filter P p xs all.1)
 
 all_cons : {Y : Type 0} (P : Y → Type 0) (o : Option Y) (ys : List Y) → IfSome o P → AllByRecursion P ys → AllByRecursion P (cons_option o ys)
 all_cons P None ys fact all = all

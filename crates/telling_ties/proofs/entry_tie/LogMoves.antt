@@ -27,7 +27,7 @@ use Rattle.xfs_base.specs.declared.segment.Prior.{Prior}
 use Rattle.xfs_base.specs.declared.segment.SegName.{SegName}
 use Rattle.xfs_base.specs.Limits.{segment_blocks}
 use Rattle.xfs_base.specs.Steps.{still}
-use Rattle.telling_ties.proofs.filed_tie.Frames.{all_append}
+use Rattle.xfs_base.proofs.Alls.{all_append}
 use Rattle.telling_ties.specs.entry_tie.CleanerTells.{MovedTold, VersionTold, WaitTold, ItemTold, FlightMoves, LogMoves}
 use Rattle.telling_ties.specs.entry_tie.Told.{Told}
 

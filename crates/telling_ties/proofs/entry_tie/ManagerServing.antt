@@ -33,10 +33,10 @@ use Rattle.xfs_base.specs.declared.news.SlotNews.{SlotNews}
 use Rattle.xfs_base.specs.declared.node.NodeId.{NodeId}
 use Rattle.xfs_base.specs.declared.segment.LogId.{LogId}
 use Rattle.xfs_base.specs.Steps.{still}
+use Rattle.xfs_base.proofs.Leaving.{goes_after}
 use Rattle.telling_ties.specs.entry_tie.ManagerTells.{ServingHolds, AnswerOwed, BodyOwed}
 use Rattle.telling_ties.specs.entry_tie.Told.{Told, AllowsNothing, RowsTold, BodyTold, PacketTold}
 use Rattle.telling_ties.proofs.entry_tie.Checkpointing.{Goes, maps_on, ticks_on, stored_on, acks_on, tells_on}
-use Rattle.telling_ties.proofs.entry_tie.Leaving.{goes_after}
 use Rattle.telling_ties.proofs.entry_tie.SlotPhases.{Says, HeardOwed}
 use Rattle.telling_ties.proofs.entry_tie.Tables.{TableGoes, TableAsks, table_wants, table_gaves, table_deltas, table_checks, table_tells_usage, table_recalls, table_takes, table_reports, table_asks, table_regroups, table_hears}
 

@@ -41,13 +41,12 @@ use Rattle.xfs_base.specs.declared.entry.Entry.{Entry}
 use Rattle.xfs_base.specs.declared.node.NodeId.TheVariants.{Manager as AManager}
 use Rattle.xfs_base.specs.declared.setup.Setup.{Setup}
 use Rattle.xfs_base.specs.Steps.{still}
-use Rattle.telling_ties.proofs.filed_tie.Frames.{all_append}
+use Rattle.xfs_base.proofs.Alls.{all_append, all_weaker}
+use Rattle.xfs_base.proofs.Leaving.{Leaves}
 use Rattle.telling_ties.specs.entry_tie.ManagerTells.{SlotHolds, WorkHolds, PartTold, FlightHolds, ServingHolds, PhaseHolds, ManagerHolds, PacketOwed, DoOwed, ManagerStartsTold, ManagerHoldsRise, ManagersTellTold}
 use Rattle.telling_ties.specs.entry_tie.Told.{Told, AllowsNothing, RowsTold, PacketTold, DoTold, told_by_rows, TellsTold}
 use Rattle.telling_ties.proofs.entry_tie.Checkpointing.{checkpoint_on}
 use Rattle.telling_ties.proofs.entry_tie.Frames as frames
-use Rattle.telling_ties.proofs.entry_tie.Frames.{all_weaker}
-use Rattle.telling_ties.proofs.entry_tie.Leaving.{Leaves}
 use Rattle.telling_ties.proofs.entry_tie.Rising.{told_more, rows_rise}
 use Rattle.telling_ties.proofs.entry_tie.ManagerServing.{news_on, packet_on, tick_on}
 use Rattle.telling_ties.proofs.entry_tie.SlotPhases.{Says}

@@ -55,7 +55,8 @@ use Rattle.xfs_base.specs.declared.segment.End.{End}
 use Rattle.xfs_base.specs.declared.segment.LogId.{LogId}
 use Rattle.xfs_base.specs.declared.segment.SegName.{SegName}
 use Rattle.xfs_base.specs.Steps.{still, steps}
-use Rattle.telling_ties.proofs.filed_tie.Frames.{all_append, all_before, all_map}
+use Rattle.xfs_base.proofs.Alls.{all_append, all_map}
+use Rattle.telling_ties.proofs.filed_tie.Frames.{all_before}
 use Rattle.telling_ties.specs.entry_tie.ClientTells.{FeedTold, SegmentOwed, StageOwed}
 use Rattle.telling_ties.specs.entry_tie.Told.{Told, RowsTold}
 use Rattle.telling_ties.proofs.entry_tie.Feeds.{opened_told}

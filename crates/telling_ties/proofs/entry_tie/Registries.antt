@@ -24,11 +24,10 @@ use Rattle.xfs_base.proofs.Booleans.{by_test}
 use Rattle.xfs_base.specs.declared.node.NodeId.{NodeId}
 use Rattle.xfs_base.specs.declared.node.NodeId.TheVariants.{Registry}
 use Rattle.xfs_base.specs.Steps.{still}
-use Rattle.telling_ties.proofs.filed_tie.Frames.{all_append, all_map}
+use Rattle.xfs_base.proofs.Alls.{all_append, all_flat_map, all_map}
 use Rattle.telling_ties.specs.entry_tie.OtherTells.{RegistryTellsNone}
 use Rattle.telling_ties.specs.entry_tie.Told.{Told, PacketTold, told_by_rows}
 use Rattle.telling_ties.proofs.entry_tie.Frames as frames
-use Rattle.telling_ties.proofs.entry_tie.Leaving.{all_flat_map}
 
 module _ (told : Told) where
   abbrev AllSay : List Effect → Type 0

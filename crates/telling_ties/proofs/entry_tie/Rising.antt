@@ -3,8 +3,8 @@ use Rattle.std.proofs.Common.{◌≡◌, ◌⊎◌, inl, inr, List}
 use Rattle.delta_index.specs.Entries.{no_entry}
 use Rattle.xfs_base.specs.declared.block.BlockId.{BlockId}
 use Rattle.xfs_base.specs.declared.entry.Entry.{Entry}
+use Rattle.xfs_base.proofs.Alls.{all_weaker}
 use Rattle.telling_ties.specs.entry_tie.Told.{Told, RowTold, RowsTold, FiledRows, IsFiled, told_by_rows, AreMore}
-use Rattle.telling_ties.proofs.entry_tie.Frames.{all_weaker}
 
 module _ (rows later : FiledRows) (more : AreMore rows later) where
   by_case : (block : BlockId) (entry : Entry) → IsFiled rows block entry ⊎ (entry ≡ no_entry) → IsFiled later block entry ⊎ (entry ≡ no_entry)

@@ -24,10 +24,9 @@ use Rattle.xfs_base.proofs.Booleans.{by_test}
 use Rattle.xfs_base.specs.Blocks.{block_cmp}
 use Rattle.xfs_base.specs.declared.block.BlockId.{BlockId}
 use Rattle.xfs_base.specs.declared.entry.Entry.{Entry}
-use Rattle.telling_ties.proofs.filed_tie.Frames.{all_append, all_map}
+use Rattle.xfs_base.proofs.Alls.{all_append, all_filter, all_map}
 use Rattle.telling_ties.specs.entry_tie.ManagerTells.{PartTold}
 use Rattle.telling_ties.specs.entry_tie.Told.{Told, AllowsNothing, RowTold, RowsTold}
-use Rattle.telling_ties.proofs.entry_tie.Frames.{all_filter}
 
 module _ (told : Told) where
   abbrev Rows : Type 0

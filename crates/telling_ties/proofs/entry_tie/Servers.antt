@@ -10,6 +10,7 @@ use Rattle.xfs_base.specs.declared.node.NodeId.TheVariants.{Server}
 use Rattle.xfs_base.specs.declared.segment.SegName.{SegName}
 use Rattle.xfs_base.specs.Segments.{pass_cmp}
 use Rattle.xfs_base.specs.Steps.{still, steps}
+use Rattle.xfs_base.proofs.Alls.{all_append}
 use Rattle.group_map.specs.GroupMapState.{GroupMapState}
 use Rattle.fragment_store.specs.Calls.{barred, store_refused, on_fence as fenced_at}
 use Rattle.fragment_store.specs.ShelfState.{ShelfState, held_at, fence_of}
@@ -44,7 +45,6 @@ use Rattle.store_nodes.specs.declared.server.Wish.{Wish}
 use Rattle.store_nodes.specs.declared.server.Wish.TheVariants.{Lose, Rebuild, Other}
 use Rattle.store_nodes.specs.Rebuilds.{Done, lists_asked, fetch_asked, says, goes_on, rebuilds, server_in, awaits_list, fetch_of, on_listed, found_for, on_found, missing_for, on_missing}
 use Rattle.store_nodes.specs.ServerEvents.{server_step, on_store, found_or_missing, fence_told, on_fence, on_delete, takes_news, on_news, left_hello, on_welcome, asks_for_maps, tells, hears, hears_known, on_body, on_packet, on_lose, begins_rebuild, on_rebuild, on_wish, at_item, wish_of, on_begin, hello_again, on_tick, on_event, is_far_from_ends, takes}
-use Rattle.telling_ties.proofs.filed_tie.Frames.{all_append}
 use Rattle.telling_ties.specs.entry_tie.OtherTells.{ServersTellNone}
 use Rattle.telling_ties.specs.entry_tie.Told.{Told, PacketTold, told_by_rows}
 use Rattle.telling_ties.proofs.entry_tie.Frames as frames

@@ -44,7 +44,7 @@ use Rattle.xfs_base.specs.declared.token.Mode.TheVariants.{Copy}
 use Rattle.xfs_base.specs.declared.token.Stamp.{Stamp}
 use Rattle.xfs_base.specs.Modes.{same_mode, is_nothing}
 use Rattle.xfs_base.specs.Steps.{still}
-use Rattle.telling_ties.proofs.filed_tie.Frames.{all_map}
+use Rattle.xfs_base.proofs.Alls.{all_map}
 use Rattle.telling_ties.specs.entry_tie.ClientTells.{FeedTold, LiesTold, BlockTold, ReadingTold}
 use Rattle.telling_ties.specs.entry_tie.Told.{Told}
 use Rattle.telling_ties.proofs.entry_tie.ClientReads as reads_told

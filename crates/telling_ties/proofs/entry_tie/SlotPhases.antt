@@ -37,12 +37,11 @@ use Rattle.xfs_base.specs.declared.node.NodeId.TheVariants.{Cleaner}
 use Rattle.xfs_base.specs.declared.segment.SegName.{SegName}
 use Rattle.xfs_base.specs.declared.segment.SegRef.{SegRef}
 use Rattle.xfs_base.specs.Steps.{Stepped, still}
-use Rattle.telling_ties.proofs.filed_tie.Frames.{all_append}
+use Rattle.xfs_base.proofs.Alls.{all_append, all_filter, all_flat_map_of}
+use Rattle.xfs_base.proofs.Leaving.{Leaves, leaves_each}
 use Rattle.telling_ties.specs.entry_tie.ManagerTells.{SlotHolds, PhaseOwed}
 use Rattle.telling_ties.specs.entry_tie.Told.{Told, AllowsNothing}
 use Rattle.telling_ties.proofs.entry_tie.Frames as frames
-use Rattle.telling_ties.proofs.entry_tie.Frames.{all_filter}
-use Rattle.telling_ties.proofs.entry_tie.Leaving.{Leaves, leaves_each, all_flat_map_of}
 use Rattle.telling_ties.proofs.entry_tie.Rows.{entry_told}
 use Rattle.telling_ties.proofs.entry_tie.Slots.{InputTold as SlotInTold, OutTold as SlotOutTold, slot_goes, started_holds}
 use Rattle.telling_ties.proofs.entry_tie.Taking.{InputOwed, OutTold, take_goes}

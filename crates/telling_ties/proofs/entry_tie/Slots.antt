@@ -24,9 +24,9 @@ use Rattle.xfs_base.specs.declared.token.Mode.{Mode}
 use Rattle.xfs_base.specs.declared.token.Stamp.{Stamp}
 use Rattle.xfs_base.specs.Modes.{is_own}
 use Rattle.xfs_base.specs.Steps.{still, steps}
-use Rattle.telling_ties.proofs.filed_tie.Frames.{all_append}
+use Rattle.xfs_base.proofs.Alls.{all_append}
+use Rattle.xfs_base.proofs.Leaving.{Leaves, goes_after}
 use Rattle.telling_ties.specs.entry_tie.Told.{Told, AllowsNothing, RowsTold}
-use Rattle.telling_ties.proofs.entry_tie.Leaving.{Leaves, goes_after}
 use Rattle.telling_ties.proofs.entry_tie.Rows.{entry_told, indexed_told}
 
 module _ (told : Told) (nothing : AllowsNothing told) where

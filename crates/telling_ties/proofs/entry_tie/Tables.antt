@@ -32,10 +32,10 @@ use Rattle.xfs_base.specs.declared.node.NodeId.{NodeId}
 use Rattle.xfs_base.specs.declared.segment.LogId.{LogId}
 use Rattle.xfs_base.specs.declared.segment.SegRef.{SegRef}
 use Rattle.xfs_base.specs.Steps.{Stepped}
+use Rattle.xfs_base.proofs.Alls.{all_each}
+use Rattle.xfs_base.proofs.Leaving.{Leaves, leaves_each}
 use Rattle.telling_ties.specs.entry_tie.ManagerTells.{SlotHolds}
 use Rattle.telling_ties.specs.entry_tie.Told.{Told, AllowsNothing, RowsTold}
-use Rattle.telling_ties.proofs.entry_tie.Frames.{all_each}
-use Rattle.telling_ties.proofs.entry_tie.Leaving.{Leaves, leaves_each}
 use Rattle.telling_ties.proofs.entry_tie.Rows.{pages_told}
 use Rattle.telling_ties.proofs.entry_tie.SlotPhases.{Says, AllSay, HeardOwed, Goes as PhaseGoes, Asks as PhaseAsks, phase_takes, phase_wants, phase_checks, phase_tells_usage, asker_takes, asker_asks, asker_reports, asker_hears, cleaned_holds, named_holds}
 

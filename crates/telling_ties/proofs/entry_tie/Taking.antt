@@ -28,10 +28,10 @@ use Rattle.xfs_base.proofs.Booleans.{by_test}
 use Rattle.xfs_base.specs.declared.node.NodeId.{NodeId}
 use Rattle.xfs_base.specs.declared.segment.SegName.{SegName}
 use Rattle.xfs_base.specs.Steps.{still}
-use Rattle.telling_ties.proofs.filed_tie.Frames.{all_append, all_map}
+use Rattle.xfs_base.proofs.Alls.{all_append, all_map}
+use Rattle.xfs_base.proofs.Leaving.{Leaves}
 use Rattle.telling_ties.specs.entry_tie.ManagerTells.{TakeHolds, TakeOwed}
 use Rattle.telling_ties.specs.entry_tie.Told.{Told, RowsTold}
-use Rattle.telling_ties.proofs.entry_tie.Leaving.{Leaves}
 use Rattle.telling_ties.proofs.entry_tie.Rows.{joined_told}
 
 module _ (told : Told) where

@@ -29,9 +29,10 @@ use Rattle.xfs_base.proofs.Booleans.{by_test}
 use Rattle.xfs_base.specs.declared.node.NodeId.{NodeId}
 use Rattle.xfs_base.specs.declared.segment.End.{End}
 use Rattle.xfs_base.specs.Steps.{Stepped, still}
+use Rattle.xfs_base.proofs.Alls.{all_each, all_flat_map}
+use Rattle.xfs_base.proofs.Leaving.{Leaves, goes_after, leaves_each}
 use Rattle.telling_ties.specs.filed_tie.Bounds.{Bounds, WorkBounded, WriterBounded, DoneBounded, JobBounded, ServingBounded}
 use Rattle.telling_ties.proofs.filed_tie.Bounding.{Bounding, EffectBounded, AllBounded, answers_bounded}
-use Rattle.telling_ties.proofs.filed_tie.Leaving.{Leaves, goes_after, leaves_each, all_each, all_flat_map}
 use Rattle.telling_ties.proofs.filed_tie.Tables.{WriterInBounded, begin_bounded, table_cleaned, table_named}
 
 module _ (b : Bounds) (laws : Bounding b) (node : NodeId) where

@@ -40,6 +40,7 @@ use Rattle.cleaner_parts.specs.declared.job.Job.{Job}
 use Rattle.cleaner_parts.specs.Hands.{Heard, fetches_for, fetches}
 use Rattle.cleaner_parts.specs.Jobs.{hand_of, is_whole, drops, lists_of, usages_of, check_of, is_out, job_read}
 use Rattle.xfs_base.proofs.Booleans.{by_test}
+use Rattle.xfs_base.proofs.Alls.{all_append, all_map}
 use Rattle.cleaner_parts.specs.Starting.{cleaner_log}
 use Rattle.telling_ties.specs.filed_tie.Reach.{Reach}
 use Rattle.telling_ties.proofs.filed_tie.Frames as frames
@@ -96,7 +97,7 @@ module _ (reach : Reach) where
 
   asked_for : (name : SegName) (reading : Option ReadingState) → AllSay (fetches_for name reading)
   asked_for name None = tt
-  asked_for name (Some r) = frames.all_map (frames.Says reach Cleaner) (fetch name r.ask) (λ server. tt) (to_ask r)
+  asked_for name (Some r) = all_map (frames.Says reach Cleaner) (fetch name r.ask) (λ server. tt) (to_ask r)
 
   fetched : (hand : Option Hand) → AllSay (fetches hand)
   fetched None = tt
@@ -144,7 +145,7 @@ module _ (reach : Reach) where
   segment_deleted e None server name h = stays e h
   segment_deleted e (Some job) server name h =
       at_once (deletes e (Some job) server name).state (deletes e (Some job) server name).outs h
-      (frames.all_append (frames.Says reach Cleaner) (drops (is_whole job.hand) name) _ (drop_says (is_whole job.hand) name) (tt, tt))
+      (all_append (frames.Says reach Cleaner) (drops (is_whole job.hand) name) _ (drop_says (is_whole job.hand) name) (tt, tt))
 
   job_over : (e : Emptying) (count : ℕ) → At e → Goes (finishes e count)
   job_over e count h = at_once (finishes e count).state (finishes e count).outs h (frames.answers_say reach Cleaner e.lasting.items.unanswered (Count count))

@@ -3,6 +3,7 @@ use Rattle.std.proofs.Common.{◌≡◌, ℕ, true, List, [], ◌∷◌, Option,
 use Rattle.xfs_base.proofs.Booleans.{by_test, and_first, and_second}
 use Rattle.xfs_base.specs.declared.node.NodeId.TheVariants.{Cleaner as TheCleaner}
 use Rattle.xfs_base.specs.Steps.{still}
+use Rattle.xfs_base.proofs.Alls.{all_append}
 use Rattle.log_owner.specs.declared.opened.Progress.{Progress}
 use Rattle.log_owner.specs.declared.opened.Progress.TheVariants as progress
 use Rattle.log_owner.specs.declared.opening.Opening as openings
@@ -74,7 +75,7 @@ module _ (reach : Reach) where
   progressed l (progress.Opening o) h = stays (Opening l o) h
   progressed l (progress.Opened o) h =
       at_once (after_opening l (progress.Opened o)).state (after_opening l (progress.Opened o)).outs (record { end = h.end_reached; feed = h.feed_reached })
-      (frames.all_append (frames.Says reach TheCleaner) (pushes_all o.promised.managers o.feed) (answers_unanswered l.items.unanswered answer.Done)
+      (all_append (frames.Says reach TheCleaner) (pushes_all o.promised.managers o.feed) (answers_unanswered l.items.unanswered answer.Done)
       (pushes_all_say reach TheCleaner o.promised.managers o.feed h.feed_reached) (frames.answers_say reach TheCleaner l.items.unanswered answer.Done))
   progressed l (progress.Lost seg) h =
       at_once (after_opening l (progress.Lost seg)).state (after_opening l (progress.Lost seg)).outs tt
@@ -86,7 +87,7 @@ module _ (reach : Reach) where
       let e : Went_to = after_opening m w.progress in
       let first = p (frames.all_before (frames.Reached reach TheCleaner) w.effects e.outs acts) in
       let second = progressed m w.progress first.0 (frames.all_behind (frames.Reached reach TheCleaner) w.effects e.outs acts) in
-      (second.0, frames.all_append (frames.Says reach TheCleaner) w.effects e.outs first.1 second.1)
+      (second.0, all_append (frames.Says reach TheCleaner) w.effects e.outs first.1 second.1)
 
   restarted : (servers : ℕ) (l : Lasting) (number : ℕ) → Goes (restarts servers l number)
   unfolding restarts

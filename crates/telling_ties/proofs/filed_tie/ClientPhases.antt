@@ -35,6 +35,7 @@ use Rattle.wire_msg.specs.declared.packet.Packet.{Packet}
 use Rattle.xfs_base.proofs.Booleans.{by_test, and_first, and_second}
 use Rattle.xfs_base.specs.declared.node.NodeId.TheVariants.{Client as AClient}
 use Rattle.xfs_base.specs.Steps.{still}
+use Rattle.xfs_base.proofs.Alls.{all_append}
 use Rattle.telling_ties.specs.filed_tie.ClientReach.{PhaseReaches, ClientReachRises, ClientStartsReaching, ClientsTellFiled}
 use Rattle.telling_ties.specs.filed_tie.OpeningReach.{OpeningReaches}
 use Rattle.telling_ties.specs.filed_tie.Reach.{Reach, Rises, BodyTells, DoTells}
@@ -83,7 +84,7 @@ module _ (reach : Reach) (c : ℕ) where
       frames.goes_plain reach (AClient c) PhaseSo (back l capacity o).state (back l capacity o).outs
       (record { own = own; end = h.end_reached; feed = h.feed_reached }) (
         tt,
-        frames.all_append (frames.Says reach (AClient c)) (pushes_all o.promised.managers o.feed) _
+        all_append (frames.Says reach (AClient c)) (pushes_all o.promised.managers o.feed) _
             (pushes_all_say reach (AClient c) o.promised.managers o.feed h.feed_reached) (frames.answers_say reach (AClient c) l.items.unanswered answer.Done),
       )
 
@@ -101,7 +102,7 @@ module _ (reach : Reach) (c : ℕ) where
       let e : Went_to = after_opening m capacity w.progress in
       let first = p (frames.all_before (frames.Reached reach (AClient c)) w.effects e.outs acts) in
       let second = after_opening_so m capacity w.progress own first.0 (frames.all_behind (frames.Reached reach (AClient c)) w.effects e.outs acts) in
-      (second.0, frames.all_append (frames.Says reach (AClient c)) w.effects e.outs first.1 second.1)
+      (second.0, all_append (frames.Says reach (AClient c)) w.effects e.outs first.1 second.1)
 
   -- ---- the next item begins
 

@@ -29,7 +29,7 @@ use Rattle.xfs_base.specs.declared.segment.End.{End}
 use Rattle.xfs_base.specs.declared.segment.LogId.{LogId}
 use Rattle.xfs_base.specs.Nodes.{same_node}
 use Rattle.xfs_base.proofs.NodeOrder.{same_node_is}
-use Rattle.telling_ties.proofs.filed_tie.Leaving.{all_weaker}
+use Rattle.xfs_base.proofs.Alls.{all_weaker}
 use Rattle.telling_ties.specs.filed_tie.Bounds.{ReportBounded, KnownBounded, PhaseBounded, BodyBounded, PacketBounded, DoBounded}
 use Rattle.telling_ties.specs.filed_tie.ManagerReach.{filed, ManagerReachRises, ManagerStartsReaching, ManagersTellFiled, ManagersTellNoMore}
 use Rattle.telling_ties.specs.filed_tie.RegistryReach.{RegistryReaches, RegistryReachRises, RegistryStartsReaching, RegistryTellsFiled, RegistryTellsNoMore}

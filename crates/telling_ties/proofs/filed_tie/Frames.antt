@@ -1,6 +1,6 @@
 -- What an event has a node do, step by step: where all that it acts to be filed is reached, the node stands so then, and what it sends tells of nothing
 -- beyond.
-use Rattle.std.proofs.Common.{ℕ, List, [], ◌∷◌, ◌++◌, map, Option, Some, None}
+use Rattle.std.proofs.Common.{ℕ, List, [], ◌∷◌, ◌++◌, Option, Some, None}
 use Rattle.std.specs.Prelude.{fold}
 use Rattle.std.specs.List.{AllByRecursion}
 use Rattle.node_base.specs.Beginning.{answers_unanswered}
@@ -10,13 +10,10 @@ use Rattle.node_base.specs.Effects.{packet_of, act_of, packets_of, acts_of}
 use Rattle.version_model.specs.declared.answer.Answer.{Answer}
 use Rattle.xfs_base.specs.declared.node.NodeId.{NodeId}
 use Rattle.xfs_base.specs.Steps.{Stepped, still, saying, steps}
+use Rattle.xfs_base.proofs.Alls.{all_append}
 use Rattle.telling_ties.specs.filed_tie.Reach.{Reach, ActReached, ActsReach, BodyTells, PacketTells}
 
 -- ---- lists
-
-pub all_append : {X : Type 0} (P : X → Type 0) (xs ys : List X) → AllByRecursion P xs → AllByRecursion P ys → AllByRecursion P (xs ++ ys)
-all_append P [] ys all more = more
-all_append P (x ∷ xs) ys all more = (all.0, all_append P xs ys all.1 more)
 
 pub all_before : {X : Type 0} (P : X → Type 0) (xs ys : List X) → AllByRecursion P (xs ++ ys) → AllByRecursion P xs
 all_before P [] ys all = tt
@@ -25,10 +22,6 @@ all_before P (x ∷ xs) ys all = (all.0, all_before P xs ys all.1)
 pub all_behind : {X : Type 0} (P : X → Type 0) (xs ys : List X) → AllByRecursion P (xs ++ ys) → AllByRecursion P ys
 all_behind P [] ys all = all
 all_behind P (x ∷ xs) ys all = all_behind P xs ys all.1
-
-pub all_map : {X Y : Type 0} (P : Y → Type 0) (f : X → Y) → ((x : X) → P (f x)) → (xs : List X) → AllByRecursion P (map f xs)
-all_map P f each [] = tt
-all_map P f each (x ∷ xs) = (each x, all_map P f each xs)
 
 module _ (reach : Reach) (node : NodeId) where
   -- ---- effects

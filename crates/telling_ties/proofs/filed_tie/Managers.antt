@@ -34,11 +34,11 @@ use Rattle.xfs_base.specs.Blocks.{slot_of}
 use Rattle.xfs_base.specs.declared.node.NodeId.{NodeId}
 use Rattle.xfs_base.specs.declared.setup.Setup.{Setup}
 use Rattle.xfs_base.specs.Steps.{still}
-use Rattle.telling_ties.proofs.filed_tie.Frames.{all_append}
+use Rattle.xfs_base.proofs.Alls.{all_append}
+use Rattle.xfs_base.proofs.Leaving.{Leaves}
 use Rattle.telling_ties.specs.filed_tie.Bounds.{Bounds, SlotBounded, ServingBounded, PhaseBounded, ManagerBounded, NewsBounded, BodyBounded, PacketBounded, DoBounded}
 use Rattle.telling_ties.proofs.filed_tie.Bounding.{Bounding, EffectBounded, answers_bounded}
 use Rattle.telling_ties.proofs.filed_tie.Checkpointing.{checkpoint_on}
-use Rattle.telling_ties.proofs.filed_tie.Leaving.{Leaves}
 use Rattle.telling_ties.proofs.filed_tie.Serving.{news_on, packet_on, tick_on}
 
 -- ---- the start

@@ -9,6 +9,7 @@ use Rattle.xfs_base.specs.declared.node.NodeId.{NodeId}
 use Rattle.xfs_base.specs.declared.node.NodeId.TheVariants.{Client, Manager, Server, Cleaner, Registry}
 use Rattle.xfs_base.specs.declared.segment.End.{End}
 use Rattle.xfs_base.specs.Steps.{still, steps}
+use Rattle.xfs_base.proofs.Alls.{all_append, all_map}
 use Rattle.segment_format.specs.declared.segment.Segment.{Segment}
 use Rattle.group_map.specs.GroupMapState.{GroupMapState}
 use Rattle.client_log.specs.declared.input.In.{In as LogIn}
@@ -104,7 +105,7 @@ module _ (reach : Reach) (node : NodeId) (log : ℕ) where
     filed_reached (s ∷ chain) of_log acts = (subst (λ l. s.name.seq ≤ reach l) of_log.0 acts.0, filed_reached chain of_log.1 acts.1)
 
     filed_said : (chain : List Segment) → AllSay (map filed chain)
-    filed_said chain = frames.all_map (frames.Says reach node) filed (λ s. tt) chain
+    filed_said chain = all_map (frames.Says reach node) filed (λ s. tt) chain
 
     -- the log is open: what was read back and its end are filed
     opened_so : (s : Settling) → SettlingReaches reach log s → Goes (opens k s (Some s.log.end))
@@ -114,7 +115,7 @@ module _ (reach : Reach) (node : NodeId) (log : ℕ) where
         let chain : AllByRecursion (λ x. x.name.seq ≤ reach log) s.chain =
         filed_reached s.chain h.chain (frames.all_before (frames.Reached reach node) (map filed s.chain) _ acts) in (
           record { end_reached = last; feed_reached = opened_end (reach log) s.low s.chain s.log.end h.low chain last },
-          frames.all_append (frames.Says reach node) (map filed s.chain) _ (filed_said s.chain) (tt, tt),
+          all_append (frames.Says reach node) (map filed s.chain) _ (filed_said s.chain) (tt, tt),
         )
 
     written_sends : (before : Option End) (outs : List LogOut) → AllByRecursion IsSend outs → (steps wrote_one before outs).state ≡ before
@@ -198,7 +199,7 @@ module _ (reach : Reach) (node : NodeId) (log : ℕ) where
       scanned_says : (st : _) (outs : List Out) → AllSay (steps (said k.owner low) st outs).outs
       scanned_says st [] = tt
       scanned_says st (o ∷ outs) =
-          frames.all_append (frames.Says reach node) (said k.owner low st o).outs (steps (said k.owner low) (said k.owner low st o).state outs).outs
+          all_append (frames.Says reach node) (said k.owner low st o).outs (steps (said k.owner low) (said k.owner low st o).state outs).outs
           (one_said st o)
           (scanned_says (said k.owner low st o).state outs)
 

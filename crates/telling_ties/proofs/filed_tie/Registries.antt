@@ -35,10 +35,10 @@ use Rattle.xfs_base.specs.declared.segment.SegRef.{SegRef}
 use Rattle.xfs_base.specs.declared.setup.Setup.{Setup}
 use Rattle.xfs_base.specs.Limits.{u32_end}
 use Rattle.xfs_base.specs.Steps.{still}
-use Rattle.telling_ties.proofs.filed_tie.Frames.{all_append, all_map}
+use Rattle.xfs_base.proofs.Alls.{all_append, all_flat_map, all_map}
+use Rattle.xfs_base.proofs.Leaving.{Leaves}
 use Rattle.telling_ties.specs.filed_tie.Bounds.{Bounds, RegistryBounded, NewEpochsBounded, NewsBounded, BodyBounded, PacketBounded, DoBounded}
 use Rattle.telling_ties.proofs.filed_tie.Bounding.{EffectBounded, AllBounded}
-use Rattle.telling_ties.proofs.filed_tie.Leaving.{Leaves, all_flat_map}
 
 -- what holds of each slot's horizon goes on to where one slot has another checkpoint
 one_put : (P : ℕ → List ℕ → Type 0) (kept_ : List Checkpoint) (slot : ℕ) (new : Checkpoint) → P slot new.horizon

@@ -15,6 +15,7 @@ use Rattle.xfs_base.specs.declared.news.SlotNews.{SlotNews}
 use Rattle.xfs_base.specs.declared.segment.End.{End}
 use Rattle.xfs_base.specs.declared.segment.SegName.{SegName}
 use Rattle.xfs_base.proofs.Booleans.{by_test}
+use Rattle.xfs_base.proofs.Alls.{all_append}
 use Rattle.log_scan.specs.declared.input.In.{In}
 use Rattle.log_scan.specs.declared.input.In.TheVariants.{Welcome, Fenced, Got, Missing, Maps, Tick}
 use Rattle.log_scan.specs.declared.listing.Listing.{Listing}
@@ -30,7 +31,6 @@ use Rattle.log_scan.specs.Transition.{Done, goes, stays, can_ask, asks_anew, lea
 use Rattle.log_scan.proofs.Targets.{ReadsName, KeepsTarget, answered_keeps, confirmed_keeps}
 use Rattle.telling_ties.specs.filed_tie.OpeningReach.{AreOfLog, ReadsLog, ScanReaches}
 use Rattle.telling_ties.specs.filed_tie.Reach.{Reach, SlotsReach}
-use Rattle.telling_ties.proofs.filed_tie.Frames.{all_append}
 use Rattle.telling_ties.proofs.filed_tie.Rising.{least_low}
 
 all_reverse : {X : Type 0} (P : X → Type 0) (xs : List X) → AllByRecursion P xs → AllByRecursion P (reverse xs)

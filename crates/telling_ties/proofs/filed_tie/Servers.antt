@@ -9,6 +9,7 @@ use Rattle.xfs_base.specs.declared.node.NodeId.TheVariants.{Server}
 use Rattle.xfs_base.specs.declared.segment.SegName.{SegName}
 use Rattle.xfs_base.specs.Segments.{pass_cmp}
 use Rattle.xfs_base.specs.Steps.{still, steps}
+use Rattle.xfs_base.proofs.Alls.{all_append}
 use Rattle.group_map.specs.GroupMapState.{GroupMapState}
 use Rattle.fragment_store.specs.Calls.{barred, store_refused, on_fence as fenced_at}
 use Rattle.fragment_store.specs.ShelfState.{ShelfState, held_at, fence_of}
@@ -75,7 +76,7 @@ module _ (reach : Reach) (v : ℕ) where
   all_say : (node : nodes.Server) (outs : List Out) → Quiet (steps says node outs)
   all_say node [] = tt
   all_say node (o ∷ outs) =
-      frames.all_append (frames.Says reach (Server v)) (says node o).outs (steps says (says node o).state outs).outs (one_says node o)
+      all_append (frames.Says reach (Server v)) (says node o).outs (steps says (says node o).state outs).outs (one_says node o)
       (all_say (says node o).state outs)
 
   goes_on_says : (node : nodes.Server) (r : Option Rebuilding) (given : Input) → Quiet (goes_on node r given)
@@ -180,7 +181,7 @@ module _ (reach : Reach) (v : ℕ) where
   lose_says : (node : nodes.Server) (number : ℕ) → Quiet (on_lose node number)
   unfolding on_lose
   lose_says node number =
-      frames.all_append (frames.Says reach (Server v)) (answers_unanswered node.items.unanswered answers.Cut) _
+      all_append (frames.Says reach (Server v)) (answers_unanswered node.items.unanswered answers.Cut) _
       (frames.answers_say reach (Server v) node.items.unanswered answers.Cut)
       (tt, (tt, tt))
 
@@ -216,7 +217,7 @@ module _ (reach : Reach) (v : ℕ) where
   ticks : (node : nodes.Server) → Quiet (on_tick node)
   unfolding on_tick
   ticks node =
-      frames.all_append (frames.Says reach (Server v)) (hello_again node node.hello) (rebuilds node input.Tick).outs (hello_says node node.hello)
+      all_append (frames.Says reach (Server v)) (hello_again node node.hello) (rebuilds node input.Tick).outs (hello_says node node.hello)
       (rebuild_says node input.Tick)
 
   happens : (node : nodes.Server) (what : Do) → Quiet (on_event node what)

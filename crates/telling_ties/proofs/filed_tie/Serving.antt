@@ -30,10 +30,10 @@ use Rattle.xfs_base.specs.declared.news.SlotNews.{SlotNews}
 use Rattle.xfs_base.specs.declared.node.NodeId.{NodeId}
 use Rattle.xfs_base.specs.declared.segment.LogId.{LogId}
 use Rattle.xfs_base.specs.Steps.{still}
+use Rattle.xfs_base.proofs.Leaving.{goes_after}
 use Rattle.telling_ties.specs.filed_tie.Bounds.{Bounds, ServingBounded, NewsBounded, BodyBounded, PacketBounded}
 use Rattle.telling_ties.proofs.filed_tie.Bounding.{Bounding, EffectBounded}
 use Rattle.telling_ties.proofs.filed_tie.Checkpointing.{Goes, writes_on, stored_on, acks_on, tells_on}
-use Rattle.telling_ties.proofs.filed_tie.Leaving.{goes_after}
 use Rattle.telling_ties.proofs.filed_tie.Tables.{TableGoes, TableAsks, table_wants, table_gaves, table_deltas, table_checks, table_tells_usage, table_recalls, table_takes, table_reports, table_asks, table_regroups, table_hears}
 use Rattle.telling_ties.proofs.filed_tie.Taking.{InputBounded as TakeInBounded}
 

@@ -42,6 +42,7 @@ use Rattle.xfs_base.specs.declared.token.Mode.TheVariants.{Copy}
 use Rattle.xfs_base.specs.declared.token.Stamp.{Stamp}
 use Rattle.xfs_base.specs.Modes.{same_mode, is_nothing}
 use Rattle.xfs_base.specs.Steps.{still}
+use Rattle.xfs_base.proofs.Alls.{all_map}
 use Rattle.telling_ties.specs.filed_tie.Reach.{Reach}
 use Rattle.telling_ties.proofs.filed_tie.Feeds as feeds
 use Rattle.telling_ties.proofs.filed_tie.Frames as frames
@@ -76,7 +77,7 @@ module _ (reach : Reach) (c : ℕ) where
   stored_say (log_out.Settled end rows ∷ outs) = stored_say outs
 
   pub fetches_say : (r : ReadingState) → AllSay (fetches r)
-  fetches_say r = frames.all_map (frames.Says reach (Client c)) (fetch r.target.seg.name r.ask) (λ server. tt) (to_ask r)
+  fetches_say r = all_map (frames.Says reach (Client c)) (fetch r.target.seg.name r.ask) (λ server. tt) (to_ask r)
 
   -- ---- the cache
 

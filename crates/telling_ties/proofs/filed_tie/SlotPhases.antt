@@ -31,10 +31,11 @@ use Rattle.xfs_base.specs.declared.node.NodeId.{NodeId}
 use Rattle.xfs_base.specs.declared.segment.SegName.{SegName}
 use Rattle.xfs_base.specs.declared.segment.SegRef.{SegRef}
 use Rattle.xfs_base.specs.Steps.{Stepped, still}
+use Rattle.xfs_base.proofs.Alls.{all_filter, all_flat_map}
+use Rattle.xfs_base.proofs.Leaving.{Leaves, leaves_each}
 use Rattle.manager_serving.specs.Serving.{fed_log}
 use Rattle.telling_ties.specs.filed_tie.Bounds.{Bounds, SlotBounded}
 use Rattle.telling_ties.proofs.filed_tie.Bounding.{Bounding, EffectBounded, AllBounded}
-use Rattle.telling_ties.proofs.filed_tie.Leaving.{Leaves, leaves_each, all_filter, all_flat_map}
 use Rattle.telling_ties.proofs.filed_tie.Slots.{InputBounded as SlotInBounded, slot_goes}
 use Rattle.telling_ties.proofs.filed_tie.Taking.{InputBounded as TakeInBounded, OutBounded, take_goes}
 

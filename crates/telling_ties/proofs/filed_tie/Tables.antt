@@ -28,9 +28,10 @@ use Rattle.xfs_base.specs.declared.node.NodeId.{NodeId}
 use Rattle.xfs_base.specs.declared.segment.LogId.{LogId}
 use Rattle.xfs_base.specs.declared.segment.SegRef.{SegRef}
 use Rattle.xfs_base.specs.Steps.{Stepped}
+use Rattle.xfs_base.proofs.Alls.{all_each}
+use Rattle.xfs_base.proofs.Leaving.{Leaves, leaves_each}
 use Rattle.telling_ties.specs.filed_tie.Bounds.{Bounds, SlotBounded, SlotsBounded, NewsBounded}
 use Rattle.telling_ties.proofs.filed_tie.Bounding.{Bounding, slot_read, slot_put, EffectBounded, AllBounded}
-use Rattle.telling_ties.proofs.filed_tie.Leaving.{Leaves, leaves_each, all_each}
 use Rattle.telling_ties.proofs.filed_tie.SlotPhases.{Goes as PhaseGoes, Asks as PhaseAsks, AskerBounded, phase_takes, phase_wants, phase_checks, phase_tells_usage, asker_takes, asker_asks, asker_reports, asker_hears, cleaned_bounded, named_bounded}
 use Rattle.telling_ties.proofs.filed_tie.Taking.{InputBounded as TakeInBounded}
 

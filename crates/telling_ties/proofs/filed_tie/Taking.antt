@@ -28,10 +28,10 @@ use Rattle.xfs_base.proofs.Booleans.{by_test}
 use Rattle.xfs_base.specs.declared.node.NodeId.{NodeId}
 use Rattle.xfs_base.specs.declared.segment.SegName.{SegName}
 use Rattle.xfs_base.specs.Steps.{still}
-use Rattle.telling_ties.proofs.filed_tie.Frames.{all_append, all_map}
+use Rattle.xfs_base.proofs.Alls.{all_append, all_map}
+use Rattle.xfs_base.proofs.Leaving.{Leaves}
 use Rattle.telling_ties.specs.filed_tie.Bounds.{Bounds, ReportBounded, KnownBounded, TakeBounded}
 use Rattle.telling_ties.proofs.filed_tie.Bounding.{Bounding}
-use Rattle.telling_ties.proofs.filed_tie.Leaving.{Leaves}
 
 module _ (b : Bounds) (laws : Bounding b) (k : ℕ) where
   -- ---- what is said

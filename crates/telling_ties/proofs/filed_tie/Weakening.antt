@@ -8,7 +8,7 @@ use Rattle.manager_parts.specs.declared.slot_phase.SlotPhase.TheVariants as phas
 use Rattle.manager_serving.specs.declared.checkpointing.Checkpointing.{Checkpointing}
 use Rattle.manager_serving.specs.Serving.{fed_log}
 use Rattle.xfs_base.specs.declared.segment.LogId.{LogId}
-use Rattle.telling_ties.proofs.filed_tie.Leaving.{all_weaker}
+use Rattle.xfs_base.proofs.Alls.{all_weaker}
 use Rattle.telling_ties.specs.filed_tie.Bounds.{Bounds, ReportBounded, SlotBounded, SlotsBounded, WorkBounded, DoneBounded, JobBounded, PhaseBounded}
 
 -- what the first bounds allow the others do

@@ -32,10 +32,11 @@ use Rattle.xfs_base.proofs.Booleans.{by_test}
 use Rattle.xfs_base.specs.declared.segment.End.{End}
 use Rattle.xfs_base.specs.Steps.{Stepped, still}
 use Rattle.client_log.specs.LogState.{LogState}
-use Rattle.telling_ties.proofs.part_tie.Leaving.{Leaves, LeavesIf, all_flat_map, goes_after, leaves_each, leaves_each-if}
-use Rattle.telling_ties.proofs.filed_tie.Frames.{all_append}
+use Rattle.telling_ties.proofs.part_tie.Leaving.{LeavesIf, leaves_each-if}
 use Rattle.segment_format.specs.declared.segment.Item.{Item}
 use Rattle.xfs_base.specs.declared.segment.LogId.{LogId}
+use Rattle.xfs_base.proofs.Alls.{all_append, all_flat_map}
+use Rattle.xfs_base.proofs.Leaving.{Leaves, goes_after, leaves_each}
 use Rattle.telling_ties.specs.part_tie.ManagerNames.{DoneNames, FlightNames, JobNames, SlotNames, WorkNames}
 use Rattle.telling_ties.specs.part_tie.Names.{AllKnown, Known}
 use Rattle.telling_ties.proofs.part_tie.Flights.{FiledKnown, OutNames as LogOutNames, acked_names, maps_names, tick_names}

@@ -7,7 +7,6 @@ use Rattle.client_log.specs.declared.output.Out.{Out}
 use Rattle.client_log.specs.declared.output.Out.TheVariants.{Send, Settled}
 use Rattle.client_log.specs.LogState.{LogState}
 use Rattle.client_log.specs.Transition.{Done, all_sends, can_follow, end_from, followed, if_full, is_full, landed, launched, looked_at, on_acked, on_maps, on_tick, restriped, sealed, send_at, sends, settled}
-use Rattle.telling_ties.proofs.filed_tie.Frames.{all_append}
 use Rattle.group_map.specs.declared.group.Member.{Member}
 use Rattle.group_map.specs.GroupMapState.{GroupMapState}
 use Rattle.log_flight.specs.declared.flight.Fate.{Fate}
@@ -27,6 +26,7 @@ use Rattle.xfs_base.specs.declared.segment.LogId.{LogId}
 use Rattle.xfs_base.specs.declared.segment.Prior.{Prior}
 use Rattle.xfs_base.specs.declared.segment.SegName.{SegName}
 use Rattle.xfs_base.specs.Steps.{still}
+use Rattle.xfs_base.proofs.Alls.{all_append}
 use Rattle.telling_ties.specs.part_tie.ManagerNames.{FlightNames}
 use Rattle.telling_ties.specs.part_tie.Names.{Known}
 

@@ -37,14 +37,15 @@ use Rattle.xfs_base.specs.declared.node.NodeId.{NodeId}
 use Rattle.xfs_base.specs.declared.node.NodeId.TheVariants.{Manager as AManager}
 use Rattle.xfs_base.specs.declared.setup.Setup.{Setup}
 use Rattle.xfs_base.specs.Steps.{still}
-use Rattle.telling_ties.proofs.entry_tie.Frames.{all_weaker, contains_all}
-use Rattle.telling_ties.proofs.part_tie.Leaving.{Leaves, LeavesIf}
-use Rattle.telling_ties.proofs.filed_tie.Frames.{all_append}
+use Rattle.telling_ties.proofs.entry_tie.Frames.{contains_all}
+use Rattle.telling_ties.proofs.part_tie.Leaving.{LeavesIf}
 use Rattle.manager_parts.specs.Lasting.{log_of}
 use Rattle.manager_serving.specs.declared.checkpointing.Checkpointing.{Checkpointing}
 use Rattle.wire_msg.specs.declared.registry.CkptDone.{CkptDone}
 use Rattle.xfs_base.specs.declared.segment.LogId.{LogId}
 use Rattle.xfs_base.specs.declared.segment.SegRef.{SegRef}
+use Rattle.xfs_base.proofs.Alls.{all_append, all_weaker}
+use Rattle.xfs_base.proofs.Leaving.{Leaves}
 use Rattle.telling_ties.specs.part_tie.ManagerNames.{DoneNames, JobNames, ManagerNames, ManagerNamesRise, ManagersNameKnown, ManagersStartNaming, PhaseFlies, PhaseNames, ServingNames, SlotNames, WorkNames}
 use Rattle.telling_ties.specs.part_tie.Names.{AllKnown, BodyNames, DoNames, Known, NamesKnown, PacketNames, named_by}
 use Rattle.telling_ties.proofs.part_tie.Checkpoints.{Flies, Plain, Tells as ServingTells, checkpoint_on}

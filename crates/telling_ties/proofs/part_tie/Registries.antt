@@ -2,9 +2,6 @@
 use Rattle.std.proofs.Common.{ℕ, zero, suc, ◌==◌, List, [], ◌∷◌, slice_set, slice_get}
 use Rattle.std.specs.Prelude.{Option, Some, None, map, nat_lt}
 use Rattle.std.specs.List.{AllByRecursion, flat_map}
-use Rattle.telling_ties.proofs.entry_tie.Frames.{all_weaker}
-use Rattle.telling_ties.proofs.part_tie.Leaving.{Leaves, all_flat_map}
-use Rattle.telling_ties.proofs.filed_tie.Frames.{all_append, all_map}
 use Rattle.node_base.specs.Beginning.{begun, next_item, work_at}
 use Rattle.node_base.specs.declared.effects.Effect.TheVariants.{Send}
 use Rattle.node_base.specs.Nodes.{others}
@@ -35,6 +32,8 @@ use Rattle.xfs_base.specs.declared.segment.SegRef.{SegRef}
 use Rattle.xfs_base.specs.declared.setup.Setup.{Setup}
 use Rattle.xfs_base.specs.Limits.{u32_end}
 use Rattle.xfs_base.specs.Steps.{still}
+use Rattle.xfs_base.proofs.Alls.{all_append, all_flat_map, all_map, all_weaker}
+use Rattle.xfs_base.proofs.Leaving.{Leaves}
 use Rattle.telling_ties.specs.part_tie.Names.{AllKnown, BodyNames, DoNames, Known, NamesKnown, NewsNames, PacketNames, named_by}
 use Rattle.telling_ties.specs.part_tie.RegistryNames.{BoardNames, CheckpointNames, RegistryNames, RegistryNamesKnown, RegistryNamesRise, RegistryStartsNaming}
 use Rattle.telling_ties.proofs.part_tie.Saying.{AllSay, Says, packets_name}

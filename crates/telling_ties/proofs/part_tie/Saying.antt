@@ -2,7 +2,7 @@
 use Rattle.std.proofs.Common.{ℕ, List, [], ◌∷◌, Option, Some, None}
 use Rattle.std.specs.List.{AllByRecursion}
 use Rattle.std.specs.Prelude.{Contains}
-use Rattle.telling_ties.proofs.filed_tie.Frames.{all_append, all_before, all_behind}
+use Rattle.telling_ties.proofs.filed_tie.Frames.{all_before, all_behind}
 use Rattle.node_base.specs.Beginning.{answers_unanswered}
 use Rattle.node_base.specs.declared.effects.Effect.{Effect}
 use Rattle.node_base.specs.declared.effects.Effect.TheVariants.{Send, Answer as Answers, Lose, Does}
@@ -10,6 +10,7 @@ use Rattle.node_base.specs.Effects.{act_of, acts_of, packet_of, packets_of}
 use Rattle.version_model.specs.declared.act.Act.{Act}
 use Rattle.version_model.specs.declared.answer.Answer.{Answer}
 use Rattle.xfs_base.specs.declared.node.NodeId.{NodeId}
+use Rattle.xfs_base.proofs.Alls.{all_append}
 use Rattle.telling_ties.specs.part_tie.Names.{BodyNames, Known, PacketNames}
 
 module _ (known : Known) where

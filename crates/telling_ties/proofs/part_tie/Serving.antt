@@ -31,9 +31,10 @@ use Rattle.xfs_base.specs.declared.news.SlotNews.{SlotNews}
 use Rattle.xfs_base.specs.declared.node.NodeId.{NodeId}
 use Rattle.xfs_base.specs.declared.segment.LogId.{LogId}
 use Rattle.xfs_base.specs.Steps.{still}
+use Rattle.xfs_base.proofs.Leaving.{Leaves, goes_after}
 use Rattle.client_log.specs.LogState.{LogState}
 use Rattle.telling_ties.proofs.filed_tie.Frames.{all_before, all_behind}
-use Rattle.telling_ties.proofs.part_tie.Leaving.{Leaves, LeavesIf, goes_after}
+use Rattle.telling_ties.proofs.part_tie.Leaving.{LeavesIf}
 use Rattle.telling_ties.specs.part_tie.ManagerNames.{FlightNames}
 use Rattle.telling_ties.specs.part_tie.Names.{BodyNames, Known, NewsNames}
 use Rattle.telling_ties.proofs.part_tie.Checkpoints.{Flies, Holds, Plain, Tells, acks_on, maps_on, plainly, stored_on, tells_on, ticks_on}

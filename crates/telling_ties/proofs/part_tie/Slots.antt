@@ -30,8 +30,8 @@ use Rattle.xfs_base.specs.declared.node.NodeId.{NodeId}
 use Rattle.xfs_base.specs.declared.segment.SegName.{SegName}
 use Rattle.xfs_base.specs.declared.segment.SegRef.{SegRef}
 use Rattle.xfs_base.specs.Steps.{Stepped, still}
-use Rattle.telling_ties.proofs.entry_tie.Frames.{all_each}
-use Rattle.telling_ties.proofs.part_tie.Leaving.{Leaves, all_flat_map, leaves_each}
+use Rattle.xfs_base.proofs.Alls.{all_each, all_flat_map}
+use Rattle.xfs_base.proofs.Leaving.{Leaves, leaves_each}
 use Rattle.telling_ties.specs.part_tie.ManagerNames.{SlotNames}
 use Rattle.telling_ties.specs.part_tie.Names.{AllKnown, Known, NewsNames}
 use Rattle.telling_ties.proofs.part_tie.Saying.{AllSay, Says}

@@ -32,8 +32,8 @@ use Rattle.xfs_base.specs.declared.node.NodeId.{NodeId}
 use Rattle.xfs_base.specs.declared.segment.LogId.{LogId}
 use Rattle.xfs_base.specs.declared.segment.SegRef.{SegRef}
 use Rattle.xfs_base.specs.Steps.{Stepped}
-use Rattle.telling_ties.proofs.entry_tie.Frames.{all_each}
-use Rattle.telling_ties.proofs.part_tie.Leaving.{Leaves, leaves_each}
+use Rattle.xfs_base.proofs.Alls.{all_each}
+use Rattle.xfs_base.proofs.Leaving.{Leaves, leaves_each}
 use Rattle.telling_ties.specs.part_tie.ManagerNames.{SlotNames}
 use Rattle.telling_ties.specs.part_tie.Names.{AllKnown, Known, NewsNames}
 use Rattle.telling_ties.proofs.part_tie.Saying.{AllSay, Says}

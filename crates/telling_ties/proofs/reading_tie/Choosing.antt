@@ -1,5 +1,5 @@
 -- What each input makes of a job of the cleaner: what it is about was met, and so was each segment that it has the node read.
-use Rattle.std.proofs.Common.{◌≡◌, ℕ, ◌==◌, ◌&&◌, Bool, not, List, [], ◌∷◌, map, length, take, zero, suc, Option, Some, None, refl, sym, ap, subst}
+use Rattle.std.proofs.Common.{◌≡◌, ℕ, ◌==◌, ◌&&◌, Bool, not, List, [], ◌∷◌, map, length, take, Option, Some, None, refl, sym, ap, subst}
 use Rattle.std.specs.Prelude.{fold}
 use Rattle.std.specs.BTreeMap.{insert_entry}
 use Rattle.std.specs.declared.cmp.Ordering.{Ordering}
@@ -35,6 +35,7 @@ use Rattle.xfs_base.specs.declared.segment.SegName.{SegName}
 use Rattle.xfs_base.specs.declared.segment.SegRef.{SegRef}
 use Rattle.xfs_base.specs.Segments.{seg_cmp}
 use Rattle.xfs_base.specs.Steps.{still}
+use Rattle.xfs_base.proofs.Alls.{all_map, all_take}
 use Rattle.telling_ties.specs.reading_tie.CleanerMeets.{Met, RefMet, CandidateMet, TurnMet, PhaseMet}
 
 -- ---- tables
@@ -51,15 +52,6 @@ module _ {K V : Type 0} (P : K × V → Type 0) where
       by Less fact rest = (here, all)
       by Equal fact rest = (same e.0 fact, all.1)
       by Greater fact rest = (all.0, rest)
-
-all_take : {X : Type 0} (P : X → Type 0) (count : ℕ) (xs : List X) → AllByRecursion P xs → AllByRecursion P (take count xs)
-all_take P zero xs all = tt
-all_take P (suc count) [] all = tt
-all_take P (suc count) (x ∷ xs) all = (all.0, all_take P count xs all.1)
-
-all_map : {X Y : Type 0} (P : Y → Type 0) (f : X → Y) → ((x : X) → P (f x)) → (xs : List X) → AllByRecursion P (map f xs)
-all_map P f each [] = tt
-all_map P f each (x ∷ xs) = (each x, all_map P f each xs)
 
 -- of two that stand alike in it the names are one
 fullness_exact : (a b : Fullness) → fullness_cmp a b ≡ Equal → b.name ≡ a.name

@@ -30,13 +30,14 @@ use Rattle.xfs_base.proofs.Booleans.{by_test}
 use Rattle.xfs_base.specs.Blocks.{slot_of}
 use Rattle.xfs_base.specs.declared.node.NodeId.{NodeId}
 use Rattle.xfs_base.specs.Steps.{still}
+use Rattle.xfs_base.proofs.Alls.{all_weaker}
 use Rattle.telling_ties.specs.reading_tie.Arrivals.{BodyBrought, DoBrought, answered_in, cut_by}
 use Rattle.telling_ties.specs.reading_tie.Came.{Came, Striped, CameMore, StripedMore, MapStriped}
 use Rattle.telling_ties.specs.reading_tie.ManagerReads.{SlotHolds, ServesSo, PhaseHolds, ManagerHolds, ManagerStarts, ManagerHoldsRise, ManagerEventsKeep}
 use Rattle.telling_ties.specs.reading_tie.TakeoverReads.{TakeoversReadWhatCame}
 use Rattle.telling_ties.proofs.reading_tie.Arriving.{do_brought, answered_more}
 use Rattle.telling_ties.proofs.reading_tie.ManagerServing.{checkpoint_on, news_on, packet_on, tick_on}
-use Rattle.telling_ties.proofs.reading_tie.Readings.{all_weaker, maps_rise}
+use Rattle.telling_ties.proofs.reading_tie.Readings.{maps_rise}
 use Rattle.telling_ties.proofs.reading_tie.Taking.{take_reads, take_rises}
 
 module _ (came : Came) (striped : Striped) where

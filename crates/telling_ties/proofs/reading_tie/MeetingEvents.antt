@@ -63,9 +63,9 @@ use Rattle.wire_msg.specs.declared.storage.Listed.{Listed}
 use Rattle.xfs_base.specs.declared.fragment.FragMeta.{FragMeta}
 use Rattle.xfs_base.specs.declared.segment.SegName.{SegName}
 use Rattle.xfs_base.specs.declared.segment.SegRef.{SegRef}
+use Rattle.xfs_base.proofs.Alls.{all_weaker}
 use Rattle.telling_ties.specs.reading_tie.CleanerMeets.{Met, RefMet, CandidateMet, TurnMet, PhaseMet, HandMet, AnyJobMet, NodeMet, CleanerMeets, ListedIn, listed_in, IsSent, CleanerStartsMet, CleanerMeetsRise, CleanerEventsMeet}
 use Rattle.telling_ties.proofs.reading_tie.Meeting as jobs
-use Rattle.telling_ties.proofs.reading_tie.Readings.{all_weaker}
 
 module _ (met : Met) where
   abbrev At : Emptying → Type 0

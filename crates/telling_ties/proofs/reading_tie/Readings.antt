@@ -3,7 +3,6 @@ use Rattle.std.proofs.Common.{◌≡◌, ℕ, true, ◌==◌, ◌&&◌, List, []
 use Rattle.std.proofs.lemmas.Bool.{eqb-true}
 use Rattle.std.proofs.lemmas.Bool.Decides.{nat_tests}
 use Rattle.std.proofs.lemmas.List.Elements.{All-nil}
-use Rattle.std.specs.List.{AllByRecursion}
 use Rattle.group_map.specs.declared.group.Group.{Group}
 use Rattle.group_map.specs.GroupMapState.{GroupMapState}
 use Rattle.segment_format.specs.declared.seg_error.SegError.{SegError}
@@ -25,17 +24,10 @@ use Rattle.stripe_code.specs.Round.{RoundSoFar, TellsPart, count_of, asks, has_a
 use Rattle.xfs_base.proofs.Booleans.{by_test, and_first, and_second}
 use Rattle.xfs_base.specs.declared.segment.SegName.{SegName}
 use Rattle.xfs_base.specs.declared.segment.SegRef.{SegRef}
+use Rattle.xfs_base.proofs.Alls.{all_append, all_weaker}
 use Rattle.telling_ties.specs.reading_tie.Came.{Came, Striped, CameMore, StripedMore, GroupStriped, MapStriped, MapsStriped, IsOfName, AnswerCame, RoundCame, ReadingCame, AnyReadingCame, ReadsJoined, ReadsTarget}
 
 -- ---- lists
-
-pub all_append : {X : Type 0} (P : X → Type 0) (xs ys : List X) → AllByRecursion P xs → AllByRecursion P ys → AllByRecursion P (xs ++ ys)
-all_append P [] ys all more = more
-all_append P (x ∷ xs) ys all more = (all.0, all_append P xs ys all.1 more)
-
-pub all_weaker : {X : Type 0} (P Q : X → Type 0) → ((x : X) → P x → Q x) → (xs : List X) → AllByRecursion P xs → AllByRecursion Q xs
-all_weaker P Q weaker [] all = tt
-all_weaker P Q weaker (x ∷ xs) all = (weaker x all.0, all_weaker P Q weaker xs all.1)
 
 -- names that pass the test are one
 pub one_name : (a b : SegName) → same_name a b ≡ true → a ≡ b

@@ -31,9 +31,10 @@ use Rattle.xfs_base.proofs.Members.{contains_first, contains_rest}
 use Rattle.xfs_base.specs.declared.news.SlotNews.{SlotNews}
 use Rattle.xfs_base.specs.declared.node.NodeId.{NodeId}
 use Rattle.xfs_base.specs.Steps.{still}
+use Rattle.xfs_base.proofs.Alls.{all_weaker}
 use Rattle.telling_ties.specs.reading_tie.Came.{Came, Striped, CameMore, StripedMore, MapStriped, ReadingCame, AnyReadingCame, ReadsJoined}
 use Rattle.telling_ties.specs.reading_tie.TakeoverReads.{to_any, ReadsDown, LeadsDown, LooksFor, PresentHolds, StandsBy, TakeHolds}
-use Rattle.telling_ties.proofs.reading_tie.Readings.{all_weaker, begun_came, answered_came, answered_reads, confirmed_came, any_rises, joined_rises, map_rises}
+use Rattle.telling_ties.proofs.reading_tie.Readings.{begun_came, answered_came, answered_reads, confirmed_came, any_rises, joined_rises, map_rises}
 
 -- a list contains each of its items
 contains_each : {X : Type 0} (xs : List X) → AllByRecursion (Contains xs) xs

@@ -16,7 +16,6 @@ use Rattle.client_log.specs.declared.output.Out.TheVariants as log_out
 use Rattle.client_log.specs.History.{TellsWhatIsDue}
 use Rattle.client_log.specs.Transition as log
 use Rattle.log_flight.specs.Flights.{FlightState}
-use Rattle.telling_ties.proofs.reference_tie.Leaving.{all_append}
 use Rattle.manager_parts.specs.Numbers.{slot_after}
 use Rattle.manager_parts.specs.SlotTable.{next_active, begin_at, cleaned_at}
 use Rattle.manager_serving.specs.Checkpoints.{Done, gives, stored, gives_parts, registers, awaiting, asked, says, says_each, writer_takes, filed, on_settled, log_says, log_says_each, writes, on_stored, no_more, writes_slot, begins_slot, next_from, next_for, next_slot, waits, on_checkpoint, awaits, counted, answered_by, on_ckpt_ack, done_again, told_again, tells_again}
@@ -33,10 +32,11 @@ use Rattle.xfs_base.specs.declared.node.NodeId.{NodeId}
 use Rattle.xfs_base.specs.declared.segment.End.{End}
 use Rattle.xfs_base.specs.declared.segment.LogId.{LogId}
 use Rattle.xfs_base.specs.Steps.{Stepped, still}
+use Rattle.xfs_base.proofs.Alls.{all_append, all_flat_map}
+use Rattle.xfs_base.proofs.Leaving.{Leaves, goes_after, leaves_each}
 use Rattle.telling_ties.specs.reference_tie.Managers.{FlightRefers, JobRefers, ServingRefers, WorkRefers, WriterRefers}
 use Rattle.telling_ties.specs.reference_tie.References.{DoneRefers, PartsRefer, References}
 use Rattle.telling_ties.proofs.reference_tie.Effects.{AllRefer, EffectRefers, answers_refer}
-use Rattle.telling_ties.proofs.reference_tie.Leaving.{Leaves, goes_after, leaves_each, all_flat_map}
 use Rattle.telling_ties.proofs.reference_tie.Tables.{begin_refer, table_cleaned, table_named, WriterInRefers}
 
 module _ (refs : References) (node : NodeId) (l : LogId) where

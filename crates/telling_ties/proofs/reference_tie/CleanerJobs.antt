@@ -40,6 +40,7 @@ use Rattle.cleaner_parts.specs.declared.job.Job.{Job}
 use Rattle.cleaner_parts.specs.Hands.{Heard, fetches_for, fetches}
 use Rattle.cleaner_parts.specs.Jobs.{hand_of, is_whole, drops, lists_of, usages_of, check_of, is_out, job_read}
 use Rattle.xfs_base.proofs.Booleans.{by_test}
+use Rattle.xfs_base.proofs.Alls.{all_append, all_map}
 use Rattle.telling_ties.proofs.reference_tie.Reporting as frames
 
 module _ (told : End) where
@@ -89,7 +90,7 @@ module _ (told : End) where
 
   asked_for : (name : SegName) (reading : Option ReadingState) → AllSay (fetches_for name reading)
   asked_for name None = tt
-  asked_for name (Some r) = frames.all_map (frames.Says told) (fetch name r.ask) (λ server. tt) (to_ask r)
+  asked_for name (Some r) = all_map (frames.Says told) (fetch name r.ask) (λ server. tt) (to_ask r)
 
   fetched : (hand : Option Hand) → AllSay (fetches hand)
   fetched None = tt
@@ -135,7 +136,7 @@ module _ (told : End) where
   segment_deleted e None server name h = stays e h
   segment_deleted e (Some job) server name h =
       at_once (deletes e (Some job) server name).state (deletes e (Some job) server name).outs h
-      (frames.all_append (frames.Says told) (drops (is_whole job.hand) name) _ (drop_says (is_whole job.hand) name) (tt, tt))
+      (all_append (frames.Says told) (drops (is_whole job.hand) name) _ (drop_says (is_whole job.hand) name) (tt, tt))
 
   job_over : (e : Emptying) (count : ℕ) → At e → Goes (finishes e count)
   job_over e count h = at_once (finishes e count).state (finishes e count).outs h (frames.answers_say told e.lasting.items.unanswered (Count count))

@@ -22,6 +22,7 @@ use Rattle.telling_ties.specs.reference_tie.Owners.{CleanerReportsItsEnd, Report
 use Rattle.xfs_base.proofs.Booleans.{by_test}
 use Rattle.xfs_base.specs.declared.node.NodeId.TheVariants.{Cleaner as TheCleaner}
 use Rattle.xfs_base.specs.Steps.{still}
+use Rattle.xfs_base.proofs.Alls.{all_append}
 use Rattle.node_base.specs.declared.peers.Peers.{Peers}
 use Rattle.node_base.specs.Shape.{is_well_formed}
 use Rattle.version_model.specs.declared.answer.Answer.{Answer}
@@ -88,7 +89,7 @@ module _ (told : End) where
   progressed l (progress.Opening o) = stays (Opening l o) tt
   progressed l (progress.Opened o) =
       at_once (after_opening l (progress.Opened o)).state (after_opening l (progress.Opened o)).outs tt
-      (frames.all_append (frames.Says told) (pushes_all o.promised.managers o.feed) (answers_unanswered l.items.unanswered answer.Done)
+      (all_append (frames.Says told) (pushes_all o.promised.managers o.feed) (answers_unanswered l.items.unanswered answer.Done)
       (pushes_all_say told o.promised.managers o.feed) (frames.answers_say told l.items.unanswered answer.Done))
   progressed l (progress.Lost seg) =
       at_once (after_opening l (progress.Lost seg)).state (after_opening l (progress.Lost seg)).outs tt
@@ -98,7 +99,7 @@ module _ (told : End) where
   opened l owner w b =
       let m : Lasting = record l { questions = w.questions } in
       let e : Went_to = after_opening m w.progress in
-      (tt, frames.all_append (frames.Says told) w.effects e.outs (may_do owner w.effects b.does) (progressed m w.progress).1)
+      (tt, all_append (frames.Says told) w.effects e.outs (may_do owner w.effects b.does) (progressed m w.progress).1)
 
   restarted : (servers : ℕ) (l : Lasting) (number : ℕ) → Goes (restarts servers l number)
   unfolding restarts

@@ -42,6 +42,7 @@ use Rattle.xfs_base.specs.declared.token.Mode.TheVariants.{Copy}
 use Rattle.xfs_base.specs.declared.token.Stamp.{Stamp}
 use Rattle.xfs_base.specs.Modes.{same_mode, is_nothing}
 use Rattle.xfs_base.specs.Steps.{still}
+use Rattle.xfs_base.proofs.Alls.{all_map}
 use Rattle.telling_ties.proofs.reference_tie.Feeding as feeds
 use Rattle.telling_ties.proofs.reference_tie.Reporting as frames
 
@@ -69,7 +70,7 @@ module _ (told : End) where
   stored_say (log_out.Settled end rows ∷ outs) = stored_say outs
 
   pub fetches_say : (r : ReadingState) → AllSay (fetches r)
-  fetches_say r = frames.all_map (frames.Says told) (fetch r.target.seg.name r.ask) (λ server. tt) (to_ask r)
+  fetches_say r = all_map (frames.Says told) (fetch r.target.seg.name r.ask) (λ server. tt) (to_ask r)
 
   -- ---- the cache
 

@@ -44,6 +44,7 @@ use Rattle.wire_msg.specs.declared.packet.Packet.{Packet}
 use Rattle.xfs_base.proofs.Booleans.{by_test}
 use Rattle.xfs_base.specs.declared.node.NodeId.TheVariants.{Client as AClient}
 use Rattle.xfs_base.specs.Steps.{still}
+use Rattle.xfs_base.proofs.Alls.{all_append}
 use Rattle.telling_ties.proofs.reference_tie.Reporting as frames
 use Rattle.telling_ties.proofs.reference_tie.ClientCalls as calls
 use Rattle.telling_ties.proofs.reference_tie.ClientPackets as serving
@@ -117,7 +118,7 @@ module _ (told : End) where
     tt,
     (
       tt,
-      frames.all_append (frames.Says told) (pushes_all o.promised.managers o.feed) _ (pushes_all_say told o.promised.managers o.feed)
+      all_append (frames.Says told) (pushes_all o.promised.managers o.feed) _ (pushes_all_say told o.promised.managers o.feed)
           (frames.answers_say told l.items.unanswered answer.Done),
     ),
   )
@@ -127,7 +128,7 @@ module _ (told : End) where
   opened_on_so l capacity owner w b =
       let e : Went_to = after_opening (record l { questions = w.questions }) capacity w.progress in (
         tt,
-        frames.all_append (frames.Says told) w.effects e.outs (may_do owner w.effects b.does)
+        all_append (frames.Says told) w.effects e.outs (may_do owner w.effects b.does)
             (after_opening_so (record l { questions = w.questions }) capacity w.progress).1,
       )
 

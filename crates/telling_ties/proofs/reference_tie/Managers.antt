@@ -35,12 +35,12 @@ use Rattle.xfs_base.specs.declared.node.NodeId.{NodeId}
 use Rattle.xfs_base.specs.declared.node.NodeId.TheVariants.{Manager as AManager}
 use Rattle.xfs_base.specs.declared.setup.Setup.{Setup}
 use Rattle.xfs_base.specs.Steps.{still}
-use Rattle.telling_ties.proofs.reference_tie.Leaving.{all_append}
+use Rattle.xfs_base.proofs.Alls.{all_append}
+use Rattle.xfs_base.proofs.Leaving.{Leaves}
 use Rattle.telling_ties.specs.reference_tie.Managers.{ManagerRefers, PhaseFlies, PhaseRefers, RefersThen, ServingRefers, SlotRefers}
 use Rattle.telling_ties.specs.reference_tie.References.{BodyRefers, DoRefers, NewsRefer, PacketRefers, References}
 use Rattle.telling_ties.proofs.reference_tie.Effects.{EffectRefers, answers_refer, packets_refer}
 use Rattle.telling_ties.proofs.reference_tie.Checkpointing.{checkpoint_on}
-use Rattle.telling_ties.proofs.reference_tie.Leaving.{Leaves}
 use Rattle.telling_ties.proofs.reference_tie.Serving.{Ready, news_on, packet_on, tick_on}
 
 -- ---- the start

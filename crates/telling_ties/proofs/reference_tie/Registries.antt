@@ -32,12 +32,12 @@ use Rattle.xfs_base.specs.declared.segment.SegRef.{SegRef}
 use Rattle.xfs_base.specs.declared.setup.Setup.{Setup}
 use Rattle.xfs_base.specs.Limits.{u32_end}
 use Rattle.xfs_base.specs.Steps.{still}
-use Rattle.telling_ties.proofs.reference_tie.Leaving.{all_append, all_map}
+use Rattle.xfs_base.proofs.Alls.{all_append, all_flat_map, all_map}
+use Rattle.xfs_base.proofs.Leaving.{Leaves}
 use Rattle.telling_ties.specs.reference_tie.Managers.{RefersThen}
 use Rattle.telling_ties.specs.reference_tie.Registries.{RegistryRefers}
 use Rattle.telling_ties.specs.reference_tie.References.{BodyRefers, DoRefers, DoneRefers, NewsRefer, PacketRefers, PartsRefer, References}
 use Rattle.telling_ties.proofs.reference_tie.Effects.{AllRefer, EffectRefers, packets_refer}
-use Rattle.telling_ties.proofs.reference_tie.Leaving.{Leaves, all_flat_map}
 
 -- what holds of each slot's parts goes on to where one slot has another checkpoint
 one_put : (P : List SegRef → Type 0) (kept_ : List Checkpoint) (slot : ℕ) (new : Checkpoint) → P new.parts

@@ -10,8 +10,8 @@ use Rattle.version_model.specs.declared.answer.Answer.{Answer}
 use Rattle.xfs_base.specs.declared.node.NodeId.{NodeId}
 use Rattle.xfs_base.specs.declared.segment.End.{End}
 use Rattle.xfs_base.specs.Steps.{Stepped, still, saying, steps}
+use Rattle.xfs_base.proofs.Alls.{all_append}
 use Rattle.telling_ties.specs.reference_tie.Owners.{ReportsEnd, ReportsOf}
-pub use Rattle.telling_ties.proofs.reference_tie.Leaving.{all_append, all_map}
 
 module _ (told : End) where
   abbrev pub Says : Effect → Type 0

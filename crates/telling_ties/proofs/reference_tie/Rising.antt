@@ -1,7 +1,6 @@
 -- What holds of each reference by some references holds by those that hold of more.
-use Rattle.std.proofs.Common.{List, [], ◌∷◌, Option, Some, None}
+use Rattle.std.proofs.Common.{List, Option, Some, None}
 use Rattle.std.specs.Prelude.{IfSome}
-use Rattle.std.specs.List.{AllByRecursion}
 use Rattle.checkpoint.specs.WriterState.{WorkState}
 use Rattle.manager_node.specs.declared.manager.Manager.{Manager}
 use Rattle.manager_node.specs.declared.phase.Phase.{Phase}
@@ -20,13 +19,10 @@ use Rattle.wire_msg.specs.declared.registry.CkptDone.{CkptDone}
 use Rattle.xfs_base.specs.declared.news.SlotNews.{SlotNews}
 use Rattle.xfs_base.specs.declared.node.NodeId.{NodeId}
 use Rattle.xfs_base.specs.declared.segment.SegRef.{SegRef}
+use Rattle.xfs_base.proofs.Alls.{all_weaker}
 use Rattle.telling_ties.specs.reference_tie.Managers.{JobRefers, ManagerRefers, PhaseRefers, ReportRefers, ServingRefers, SlotRefers, WorkRefers}
 use Rattle.telling_ties.specs.reference_tie.References.{AllNewsRefer, BodyRefers, DoneRefers, NewsRefer, PacketRefers, PartsRefer, References, Weaker}
 use Rattle.telling_ties.specs.reference_tie.Registries.{RegistryRefers}
-
-all_weaker : {X : Type 0} (P Q : X → Type 0) → ((x : X) → P x → Q x) → (xs : List X) → AllByRecursion P xs → AllByRecursion Q xs
-all_weaker P Q weaker [] all = tt
-all_weaker P Q weaker (x ∷ xs) all = (weaker x all.0, all_weaker P Q weaker xs all.1)
 
 some_weaker : {X : Type 0} (P Q : X → Type 0) → ((x : X) → P x → Q x) → (o : Option X) → IfSome o P → IfSome o Q
 some_weaker P Q weaker None h = tt

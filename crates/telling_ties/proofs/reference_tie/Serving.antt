@@ -30,11 +30,11 @@ use Rattle.xfs_base.specs.declared.news.SlotNews.{SlotNews}
 use Rattle.xfs_base.specs.declared.node.NodeId.{NodeId}
 use Rattle.xfs_base.specs.declared.segment.LogId.{LogId}
 use Rattle.xfs_base.specs.Steps.{still}
+use Rattle.xfs_base.proofs.Leaving.{Leaves, goes_after}
 use Rattle.telling_ties.specs.reference_tie.Managers.{FlightRefers, ServingRefers}
 use Rattle.telling_ties.specs.reference_tie.References.{BodyRefers, NewsRefer, PacketRefers, References}
 use Rattle.telling_ties.proofs.reference_tie.Effects.{EffectRefers}
 use Rattle.telling_ties.proofs.reference_tie.Checkpointing.{Goes, writes_on, stored_on, acks_on, tells_on}
-use Rattle.telling_ties.proofs.reference_tie.Leaving.{Leaves, goes_after}
 use Rattle.telling_ties.proofs.reference_tie.Tables.{TableGoes, TableAsks, table_wants, table_gaves, table_deltas, table_checks, table_tells_usage, table_recalls, table_takes, table_reports, table_asks, table_regroups, table_hears}
 use Rattle.telling_ties.proofs.reference_tie.Taking.{InputRefers as TakeInRefers}
 

@@ -31,10 +31,11 @@ use Rattle.xfs_base.specs.declared.node.NodeId.{NodeId}
 use Rattle.xfs_base.specs.declared.segment.SegName.{SegName}
 use Rattle.xfs_base.specs.declared.segment.SegRef.{SegRef}
 use Rattle.xfs_base.specs.Steps.{Stepped, still}
+use Rattle.xfs_base.proofs.Alls.{all_filter, all_flat_map}
+use Rattle.xfs_base.proofs.Leaving.{Leaves, leaves_each}
 use Rattle.telling_ties.specs.reference_tie.Managers.{SlotRefers}
 use Rattle.telling_ties.specs.reference_tie.References.{NewsRefer, PartsRefer, References}
 use Rattle.telling_ties.proofs.reference_tie.Effects.{AllRefer, EffectRefers}
-use Rattle.telling_ties.proofs.reference_tie.Leaving.{Leaves, leaves_each, all_filter, all_flat_map}
 use Rattle.telling_ties.proofs.reference_tie.Taking.{InputRefers as TakeInRefers, OutRefers, take_goes}
 
 module _ (refs : References) (node : NodeId) where

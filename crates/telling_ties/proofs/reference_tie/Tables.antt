@@ -32,10 +32,11 @@ use Rattle.xfs_base.specs.declared.node.NodeId.{NodeId}
 use Rattle.xfs_base.specs.declared.segment.LogId.{LogId}
 use Rattle.xfs_base.specs.declared.segment.SegRef.{SegRef}
 use Rattle.xfs_base.specs.Steps.{Stepped}
+use Rattle.xfs_base.proofs.Alls.{all_each}
+use Rattle.xfs_base.proofs.Leaving.{Leaves, leaves_each}
 use Rattle.telling_ties.specs.reference_tie.Managers.{SlotRefers}
 use Rattle.telling_ties.specs.reference_tie.References.{NewsRefer, PartsRefer, References}
 use Rattle.telling_ties.proofs.reference_tie.Effects.{AllRefer, EffectRefers, all_put, all_read}
-use Rattle.telling_ties.proofs.reference_tie.Leaving.{Leaves, leaves_each, all_each}
 use Rattle.telling_ties.proofs.reference_tie.SlotPhases.{Goes as PhaseGoes, Asks as PhaseAsks, AskerRefers, phase_takes, phase_wants, phase_checks, phase_tells_usage, asker_takes, asker_asks, asker_reports, asker_hears, cleaned_refer, named_refer}
 use Rattle.telling_ties.proofs.reference_tie.Taking.{InputRefers as TakeInRefers}
 

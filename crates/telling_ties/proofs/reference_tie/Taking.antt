@@ -27,10 +27,10 @@ use Rattle.xfs_base.proofs.Booleans.{by_test}
 use Rattle.xfs_base.specs.declared.node.NodeId.{NodeId}
 use Rattle.xfs_base.specs.declared.segment.SegName.{SegName}
 use Rattle.xfs_base.specs.Steps.{still}
-use Rattle.telling_ties.proofs.reference_tie.Leaving.{all_append, all_map}
+use Rattle.xfs_base.proofs.Alls.{all_append, all_map}
+use Rattle.xfs_base.proofs.Leaving.{Leaves}
 use Rattle.telling_ties.specs.reference_tie.Managers.{KnownRefers, ReportRefers, TakeRefers}
 use Rattle.telling_ties.specs.reference_tie.References.{References}
-use Rattle.telling_ties.proofs.reference_tie.Leaving.{Leaves}
 
 module _ (refs : References) where
   -- ---- what is said

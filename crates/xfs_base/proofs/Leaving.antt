@@ -1,18 +1,8 @@
 -- Steps of a machine that keep a fact of its state, and of which each thing that they give is as it should be.
 use Rattle.std.proofs.Common.{List, [], ◌∷◌}
-use Rattle.std.specs.List.{AllByRecursion, flat_map}
+use Rattle.std.specs.List.{AllByRecursion}
 use Rattle.xfs_base.specs.Steps.{Stepped, still, saying, steps}
-use Rattle.telling_ties.proofs.filed_tie.Frames.{all_append}
-
-pub all_flat_map : {X Y : Type 0} (P : Y → Type 0) (f : X → List Y) → ((x : X) → AllByRecursion P (f x)) → (xs : List X) → AllByRecursion P (flat_map f xs)
-all_flat_map P f each [] = tt
-all_flat_map P f each (x ∷ xs) = all_append P (f x) (flat_map f xs) (each x) (all_flat_map P f each xs)
-
--- where each of the items is so
-pub all_flat_map_of : {X Y : Type 0} (P : Y → Type 0) (Q : X → Type 0) (f : X → List Y) → ((x : X) → Q x → AllByRecursion P (f x)) → (xs : List X)
-    → AllByRecursion Q xs → AllByRecursion P (flat_map f xs)
-all_flat_map_of P Q f each [] all = tt
-all_flat_map_of P Q f each (x ∷ xs) all = all_append P (f x) (flat_map f xs) (each x all.0) (all_flat_map_of P Q f each xs all.1)
+use Rattle.xfs_base.proofs.Alls.{all_append}
 
 module _ {S O : Type 0} (Keeps : S → Type 0) (GivesSo : O → Type 0) where
   -- a step that leaves its state so, and gives these things
