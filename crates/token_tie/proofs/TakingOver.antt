@@ -29,7 +29,7 @@ use Rattle.xfs_base.specs.Modes.{is_held, is_nothing, is_own, same_mode}
 use Rattle.token_client.proofs.Tables.{InOrder}
 use Rattle.xfs_base.proofs.Booleans.{and_first, and_second, by_test, contrary}
 use Rattle.std.specs.Prelude.{Contains}
-use Rattle.std.proofs.lemmas.Bool.{eqb-true}
+use Rattle.std.proofs.lemmas.Bool.{eqb-true, ltb-true}
 
 -- ---- forwards
 
@@ -90,7 +90,7 @@ activation_manages b w epoch index beliefs applied report upto covers same = rec
   turn = refl;
   applied = same;
   index = refl;
-  belief = λ c. at c (nat_lt c w.members) (λ h. covers c (less c w.members h));
+  belief = λ c. at c (nat_lt c w.members) (λ h. covers c (ltb-true c w.members h));
   job = record { nothing = λ d. refl; paid = λ d. omega arith };
 }
   where
