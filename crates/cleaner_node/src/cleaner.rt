@@ -19,10 +19,12 @@ pub struct Cleaner {
     pub(crate) phase: Phase,
 }
 
-// It is let go of here once, and not part by part wherever a node of any kind is held.
+// It is let go of here once, and not part by part wherever a node of any kind is held; its phase by a call, so
+// that each part of it is dropped in one proof.
 impl Drop for Cleaner {
     fn drop(self) {
-        let Cleaner { peers: _, phase: _ } = self;
+        let Cleaner { peers: _, phase } = self;
+        drop(phase);
     }
 }
 

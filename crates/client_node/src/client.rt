@@ -31,14 +31,16 @@ pub struct Client {
     phase: Phase,
 }
 
-// It is let go of here once, and not part by part wherever a node of any kind is held.
+// It is let go of here once, and not part by part wherever a node of any kind is held; its phase by a call, so
+// that each part of it is dropped in one proof.
 impl Drop for Client {
     fn drop(self) {
         let Client {
             peers: _,
             cache: _,
-            phase: _,
+            phase,
         } = self;
+        drop(phase);
     }
 }
 
