@@ -19,8 +19,6 @@ use Rattle.wire_msg.specs.declared.packet.Packet.{Packet}
 use Rattle.xfs_base.specs.declared.node.NodeId.{NodeId}
 use Rattle.xfs_base.proofs.Alls.{all_map}
 
--- ---- lists
-
 -- ---- effects
 
 -- what is sent is said so

@@ -61,8 +61,6 @@ use Rattle.node_ties.proofs.node_tie.ClientStays.{answered_one, stays_so}
 use Rattle.node_ties.proofs.node_tie.ClientTokens as tokens
 use Rattle.node_ties.proofs.node_tie.SmallWorld.{premise, premise_by, runs_through, says_all}
 
--- ---- tests
-
 -- ---- how an opening ends
 
 abbrev count_of : (logs : Bool) (k : Books) (acts : List Act) (c : ℕ) (r : Opened) → Premise logs (ReopensSo k acts c r) → ℕ

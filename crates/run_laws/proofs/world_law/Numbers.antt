@@ -1,4 +1,4 @@
--- Tests of numbers, read both ways.
+-- A number is at most another, or above it.
 use Rattle.std.proofs.Common.{◌≡◌, ◌⊎◌, ℕ, ◌≤◌, ◌<◌, true, false, nat_le, inl, inr, refl}
 use Rattle.std.proofs.lemmas.Bool.{leb-false, leb-true}
 
