@@ -12,10 +12,17 @@ use xfs_base::List;
 use xfs_base::limits::MAX_BYTES;
 
 /// The acts of a journal, and the numbers of their lines.
-#[derive(Drop)]
 pub struct Journal {
     pub(crate) acts: List<Act>,
     pub(crate) lines: List<u64>,
+}
+
+impl Drop for Journal {
+    fn drop(self) {
+        let Journal { acts, lines } = self;
+        drop(acts);
+        drop(lines);
+    }
 }
 
 /// Whether a line is of a run's text and tells no act.

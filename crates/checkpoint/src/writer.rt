@@ -12,12 +12,23 @@ use xfs_base::{Crosses, End, List, LogId, Mem, SegName, SegRef};
 /// The writer of a manager's checkpoints into its own log (the 1996 paper, "Recovery and
 /// Reconfiguration"), one after the other. Contracts see it as a record: the log, how many checkpoints
 /// were begun, the one that is being written, and the epoch of the one whose answer is awaited.
-#[derive(Drop)]
 pub struct Writer {
     log: LogId,
     number: u32,
     work: Option<Work>,
     asked: Option<u32>,
+}
+
+impl Drop for Writer {
+    fn drop(self) {
+        let Writer {
+            log: _,
+            number: _,
+            work,
+            asked: _,
+        } = self;
+        drop(work);
+    }
 }
 
 impl Model for Writer {

@@ -21,7 +21,6 @@ use wire_msg::{Body, DeltaAck, Packet, Stored};
 use xfs_base::{BlockId, Crosses, End, Entry, List, Mem, NodeId};
 
 /// What a cleaner has that serves.
-#[derive(Drop)]
 pub struct Emptying {
     /// What outlives a crash.
     pub lasting: Lasting,
@@ -35,6 +34,24 @@ pub struct Emptying {
     pub feed: Feed,
     /// The job that is under way.
     pub job: Option<Job>,
+}
+
+impl Drop for Emptying {
+    fn drop(self) {
+        let Emptying {
+            lasting,
+            maps,
+            promised: _,
+            log,
+            feed,
+            job,
+        } = self;
+        drop(lasting);
+        drop(maps);
+        drop(log);
+        drop(feed);
+        drop(job);
+    }
 }
 
 impl Crosses for Emptying {}
@@ -66,14 +83,35 @@ impl Emptying {
     pub fn back(lasting: Lasting, opened: Opened) -> Emptying
         ensures { result ≡ served lasting opened }
     {
+        let (maps, promised, log, feed, chain) = opened.into_parts();
+        drop(chain);
         Emptying {
             lasting,
-            maps: opened.maps,
-            promised: opened.promised,
-            log: opened.log,
-            feed: opened.feed,
+            maps,
+            promised,
+            log,
+            feed,
             job: None,
         }
+    }
+
+    /// What outlives a crash; all else is lost.
+    pub fn into_lasting(self) -> Lasting
+        ensures { result ≡ self.lasting }
+    {
+        let Emptying {
+            lasting,
+            maps,
+            promised: _,
+            log,
+            feed,
+            job,
+        } = self;
+        drop(maps);
+        drop(log);
+        drop(feed);
+        drop(job);
+        lasting
     }
 
     /// Whether each counter is at least 65,536 below its end.

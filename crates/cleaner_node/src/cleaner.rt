@@ -271,7 +271,7 @@ fn serving_wishes(
     ensures effects { OnOk result (effects.new ≡ effects.old ++ (serving_wishes emptying number wish).outs) }
 {
     match wish {
-        Wish::Crash => crash(effects, lasting_in(emptying), number),
+        Wish::Crash => crash(effects, emptying.into_lasting(), number),
         Wish::Restart => answer(effects, Phase::Serving(emptying), number, Answer::Up),
         Wish::Clean(count) => {
             let mut emptying = emptying;
@@ -285,25 +285,6 @@ fn serving_wishes(
             }
         }
     }
-}
-
-// What outlives a crash.
-fn lasting_in(emptying: Emptying) -> Lasting
-    ensures { result ≡ emptying.lasting }
-{
-    let Emptying {
-        lasting,
-        maps,
-        promised: _,
-        log,
-        feed,
-        job,
-    } = emptying;
-    drop(maps);
-    drop(log);
-    drop(feed);
-    drop(job);
-    lasting
 }
 
 // The item is answered at its begin, and nothing changes.

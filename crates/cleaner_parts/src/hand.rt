@@ -18,9 +18,15 @@ use xfs_base::{BlockId, Crosses, Mem, SegName, SegRef};
 
 /// For each block of the segment in hand the question of its newest check. Contracts see the list of both,
 /// by block.
-#[derive(Drop)]
 pub struct Checks {
     asks: BTreeMap<BlockId, u32>,
+}
+
+impl Drop for Checks {
+    fn drop(self) {
+        let Checks { asks } = self;
+        drop(asks);
+    }
 }
 
 impl Model for Checks {
@@ -35,7 +41,6 @@ impl Model for Checks {
 impl Crosses for Checks {}
 
 /// The segment that is emptied.
-#[derive(Drop)]
 pub struct Hand {
     /// The segment.
     pub seg: SegRef,
@@ -47,6 +52,20 @@ pub struct Hand {
     pub moved: bool,
     /// Whether it is dropped.
     pub dropped: bool,
+}
+
+impl Drop for Hand {
+    fn drop(self) {
+        let Hand {
+            seg: _,
+            reading,
+            checks,
+            moved: _,
+            dropped: _,
+        } = self;
+        drop(reading);
+        drop(checks);
+    }
 }
 
 impl Crosses for Hand {}

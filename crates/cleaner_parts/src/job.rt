@@ -13,7 +13,6 @@ use stripe_code::Told;
 use xfs_base::{BlockId, Crosses, Mem, SegRef};
 
 /// A job of the cleaner.
-#[derive(Drop)]
 pub struct Job {
     /// The job.
     pub cleaning: Cleaning,
@@ -25,6 +24,20 @@ pub struct Job {
     pub usages: Option<u32>,
     /// The segment in hand.
     pub hand: Option<Hand>,
+}
+
+impl Drop for Job {
+    fn drop(self) {
+        let Job {
+            cleaning,
+            hello: _,
+            lists: _,
+            usages: _,
+            hand,
+        } = self;
+        drop(cleaning);
+        drop(hand);
+    }
 }
 
 impl Crosses for Job {}

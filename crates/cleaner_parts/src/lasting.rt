@@ -6,7 +6,6 @@ use node_base::{Items, Questions, has_room};
 use xfs_base::Crosses;
 
 /// What of the cleaner outlives a crash.
-#[derive(Drop)]
 pub struct Lasting {
     /// How often it was started: its incarnation.
     pub inc: u32,
@@ -14,6 +13,17 @@ pub struct Lasting {
     pub questions: Questions,
     /// What it is to do.
     pub items: Items,
+}
+
+impl Drop for Lasting {
+    fn drop(self) {
+        let Lasting {
+            inc: _,
+            questions: _,
+            items,
+        } = self;
+        drop(items);
+    }
 }
 
 impl Crosses for Lasting {}

@@ -76,14 +76,7 @@ fn take_answer(
             Ok(false)
         }
         Some(answer) => {
-            let Call {
-                plan,
-                step,
-                reading,
-            } = call;
-            drop(step);
-            drop(reading);
-            let going = plan.answered(alloc, answer)?;
+            let going = call.into_plan().answered(alloc, answer)?;
             go_on(effects, serving, going)?;
             Ok(true)
         }

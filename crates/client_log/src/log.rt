@@ -14,7 +14,6 @@ use std::marker::Model;
 use xfs_base::{Crosses, End, List, LogId, Mem};
 
 /// A log that its owner writes. Contracts see it as a record of its parts (`specs/LogState.antt`).
-#[derive(Drop)]
 pub struct Log {
     pub(crate) log: LogId,
     pub(crate) inc: u32,
@@ -22,6 +21,22 @@ pub struct Log {
     pub(crate) dirty: Dirty,
     pub(crate) flight: Option<Flight>,
     pub(crate) groups: GroupMap,
+}
+
+impl Drop for Log {
+    fn drop(self) {
+        let Log {
+            log: _,
+            inc: _,
+            end: _,
+            dirty,
+            flight,
+            groups,
+        } = self;
+        drop(dirty);
+        drop(flight);
+        drop(groups);
+    }
 }
 
 impl Model for Log {

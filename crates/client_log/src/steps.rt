@@ -223,13 +223,10 @@ impl Log {
         let Some(flight) = self.flight.take() else {
             return Ok(());
         };
-        let Segment {
-            name,
-            prior,
-            items,
-            ..
-        } = flight.into_segment();
-        self.launch(alloc, outs, next_attempt(name), prior, items)
+        let segment = flight.into_segment();
+        let name = next_attempt(segment.name);
+        let prior = segment.prior;
+        self.launch(alloc, outs, name, prior, segment.into_items())
     }
 
     // The segment is settled, and where as many blocks wait as a segment takes they are written next.

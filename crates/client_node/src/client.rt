@@ -10,7 +10,6 @@ ghost use Rattle.segment_format.specs.Format.{IsLog};
 
 use crate::Phase;
 use crate::beginning::{begin_down, begin_opening, begin_serving};
-use crate::crash::what_outlives;
 use crate::returning::phase_after;
 use crate::room::phase_has_room;
 use crate::serving::serves_first;
@@ -160,7 +159,7 @@ fn begin(alloc: Global, effects: &mut Effects, peers: Peers, phase: Phase) -> Me
         Phase::Serving(serving) => {
             let mut serving = serving;
             match begin_serving(alloc, effects, peers.servers, &mut serving) {
-                Ok(true) => Ok(Phase::Down(what_outlives(serving))),
+                Ok(true) => Ok(Phase::Down(serving.into_lasting())),
                 Ok(false) => Ok(Phase::Serving(serving)),
                 Err(error) => {
                     drop(serving);

@@ -2,7 +2,6 @@
 ghost use Rattle.std.specs.Prelude.{◌≡◌, ◌++◌, ◌∷◌, [], OnOk};
 ghost use Rattle.client_node.specs.Crash.{falls};
 
-use client_parts::Lasting;
 use client_parts::crash::{falls, flight};
 use client_serving::Serving;
 use node_base::Effects;
@@ -23,27 +22,4 @@ pub(crate) fn fall(alloc: Global, effects: &mut Effects, serving: &Serving) -> M
         flight,
         falls,
     })
-}
-
-/// What is left of a client that served, once it has crashed: all else is lost.
-pub(crate) fn what_outlives(serving: Serving) -> Lasting
-    ensures { result ≡ serving.lasting }
-{
-    let Serving {
-        lasting,
-        maps,
-        tokens,
-        log,
-        feed,
-        cache,
-        call,
-        ..
-    } = serving;
-    drop(maps);
-    drop(tokens);
-    drop(log);
-    drop(feed);
-    drop(cache);
-    drop(call);
-    lasting
 }

@@ -64,13 +64,7 @@ fn back(
     ensures serving { IfOk result (λ serving. serving ≡ served lasting cache opened) }
     ensures effects { OnOk result (effects.new ≡ effects.old ++ (back lasting cache opened).outs) }
 {
-    let Opened {
-        maps,
-        promised,
-        log,
-        feed,
-        chain,
-    } = opened;
+    let (maps, promised, log, feed, chain) = opened.into_parts();
     match serves_again(alloc, lasting, cache, maps, promised, log, feed) {
         Ok(serving) => {
             let mut serving = serving;

@@ -21,7 +21,6 @@ pub enum Plan {
 }
 
 /// A call that is not answered.
-#[derive(Drop)]
 pub struct Call {
     /// What it does after its present call on blocks.
     pub plan: Plan,
@@ -29,6 +28,19 @@ pub struct Call {
     pub step: BlockCall,
     /// The reading of its block from a log, where one is on.
     pub reading: Option<Reading>,
+}
+
+impl Drop for Call {
+    fn drop(self) {
+        let Call {
+            plan,
+            step,
+            reading,
+        } = self;
+        drop(plan);
+        drop(step);
+        drop(reading);
+    }
 }
 
 /// Where a call stands.
@@ -50,6 +62,20 @@ impl Call {
             step,
             reading: None,
         }
+    }
+
+    /// What it does after its present call on blocks.
+    pub fn into_plan(self) -> Plan
+        ensures { result ≡ self.plan }
+    {
+        let Call {
+            plan,
+            step,
+            reading,
+        } = self;
+        drop(step);
+        drop(reading);
+        plan
     }
 
     /// The block that its present call on blocks is on; none where it waits for all that is dirty.

@@ -8,7 +8,6 @@ use version_model::{Answer, Work};
 use xfs_base::{List, LogId, Mem};
 
 /// What of a client outlives a crash.
-#[derive(Drop)]
 pub struct Lasting {
     /// The number of the client.
     pub number: u8,
@@ -18,6 +17,18 @@ pub struct Lasting {
     pub questions: Questions,
     /// What it is to do.
     pub items: Items,
+}
+
+impl Drop for Lasting {
+    fn drop(self) {
+        let Lasting {
+            number: _,
+            inc: _,
+            questions: _,
+            items,
+        } = self;
+        drop(items);
+    }
 }
 
 impl Lasting {

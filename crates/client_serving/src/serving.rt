@@ -20,7 +20,6 @@ use wire_msg::{Body, DeltaAck, Packet};
 use xfs_base::{Mem, NodeId};
 
 /// What a client that serves has. The tokens keep which epoch each slot is promised to.
-#[derive(Drop)]
 pub struct Serving {
     /// What outlives a crash.
     pub lasting: Lasting,
@@ -40,7 +39,52 @@ pub struct Serving {
     pub call: Option<Call>,
 }
 
+impl Drop for Serving {
+    fn drop(self) {
+        let Serving {
+            lasting,
+            maps,
+            managers: _,
+            tokens,
+            log,
+            feed,
+            cache,
+            call,
+        } = self;
+        drop(lasting);
+        drop(maps);
+        drop(tokens);
+        drop(log);
+        drop(feed);
+        drop(cache);
+        drop(call);
+    }
+}
+
 impl Serving {
+    /// What is left once the client has crashed: all else is lost.
+    pub fn into_lasting(self) -> Lasting
+        ensures { result ≡ self.lasting }
+    {
+        let Serving {
+            lasting,
+            maps,
+            managers: _,
+            tokens,
+            log,
+            feed,
+            cache,
+            call,
+        } = self;
+        drop(maps);
+        drop(tokens);
+        drop(log);
+        drop(feed);
+        drop(cache);
+        drop(call);
+        lasting
+    }
+
     /// Takes a packet. One that names a group that isn't known is dropped, and the maps are asked for.
     #[tactic(auto, unfolding(crate::specs::Packets::on_packet, crate::specs::Packets::asks_for_maps))]
     pub fn take(&mut self, alloc: Global, effects: &mut Effects, packet: &Packet) -> Mem<()>

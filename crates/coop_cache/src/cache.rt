@@ -15,9 +15,15 @@ use xfs_base::{BlockId, Crosses, List, Mem};
 
 /// The clean blocks of a client in the order of their last use. Contracts see a record of the list of
 /// them, from the least to the most recently used, and how many there may be.
-#[derive(Drop)]
 pub struct Cache {
     blocks: LruCache<BlockId, ()>,
+}
+
+impl Drop for Cache {
+    fn drop(self) {
+        let Cache { blocks } = self;
+        drop(blocks);
+    }
 }
 
 impl Model for Cache {

@@ -11,7 +11,6 @@ use world_base::Member;
 use xfs_base::{List, Mem, NodeId, Setup};
 
 /// A node of any kind.
-#[derive(Drop)]
 pub enum AnyNode {
     /// Caches blocks and appends to a log of its own.
     Client(Client),
@@ -23,6 +22,18 @@ pub enum AnyNode {
     Cleaner(Cleaner),
     /// Gives out the maps.
     Registry(RegistryNode),
+}
+
+impl Drop for AnyNode {
+    fn drop(self) {
+        match self {
+            AnyNode::Client(part) => drop(part),
+            AnyNode::Manager(part) => drop(part),
+            AnyNode::Server(part) => drop(part),
+            AnyNode::Cleaner(part) => drop(part),
+            AnyNode::Registry(part) => drop(part),
+        }
+    }
 }
 
 impl Actor for AnyNode {

@@ -14,7 +14,6 @@ use xfs_base::{BlockId, Crosses, Entry, List, Mem};
 const SLOTS: u8 = 8;
 
 /// What one settled segment says of blocks.
-#[derive(Drop)]
 pub struct FiledDeltas {
     /// The number of the segment in its log.
     pub seq: u32,
@@ -22,15 +21,33 @@ pub struct FiledDeltas {
     pub rows: List<(BlockId, Entry)>,
 }
 
+impl Drop for FiledDeltas {
+    fn drop(self) {
+        let FiledDeltas { seq: _, rows } = self;
+        drop(rows);
+    }
+}
+
 /// The deltas of one log by segment, above a base, and how far each slot has acknowledged them (the 1996
 /// paper, "Writes": once a segment is stored, its writer tells the managers of the files in it what
 /// changed). Contracts see it as a record of lists.
-#[derive(Drop)]
 pub struct Feed {
     base: u32,
     filed: List<FiledDeltas>,
     end: u32,
     acked: [u32; 8],
+}
+
+impl Drop for Feed {
+    fn drop(self) {
+        let Feed {
+            base: _,
+            filed,
+            end: _,
+            acked: _,
+        } = self;
+        drop(filed);
+    }
 }
 
 impl Model for Feed {

@@ -16,9 +16,15 @@ use xfs_base::{BlockId, Crosses, Entry, List, Mem};
 /// For each block the entry of greatest version and hop that was merged (the 1996 paper, "The Imap":
 /// the imap and the index nodes give a block's place; here one index does the work of both, and the
 /// deltas in the logs keep it current). Contracts see its rows, in the order of blocks.
-#[derive(Drop)]
 pub struct DeltaIndex {
     entries: BTreeMap<BlockId, Entry>,
+}
+
+impl Drop for DeltaIndex {
+    fn drop(self) {
+        let DeltaIndex { entries } = self;
+        drop(entries);
+    }
 }
 
 impl Model for DeltaIndex {

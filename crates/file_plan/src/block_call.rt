@@ -4,7 +4,6 @@ use xfs_base::{BlockId, Crosses, Value};
 
 /// A call on blocks, which the client answers by its tokens and its log (the 1996 paper, "Cache
 /// Consistency").
-#[derive(Drop)]
 pub enum BlockCall {
     /// Reads a block.
     Get(BlockId),
@@ -14,6 +13,17 @@ pub enum BlockCall {
     PutAt(BlockId, u64, Value),
     /// Waits until all that the client changed is settled.
     Sync,
+}
+
+impl Drop for BlockCall {
+    fn drop(self) {
+        match self {
+            BlockCall::Get(_) => {}
+            BlockCall::Put(_, part) => drop(part),
+            BlockCall::PutAt(_, _, part) => drop(part),
+            BlockCall::Sync => {}
+        }
+    }
 }
 
 /// The answer to a call on blocks.

@@ -10,9 +10,15 @@ use xfs_base::{Copied, Crosses, List, Mem, Text};
 
 /// A name in a directory: 1 to 60 letters, digits, `.`, `_` and `-`, and neither `.` nor `..`. Contracts
 /// see its bytes. Names are ordered by their bytes.
-#[derive(Drop)]
 pub struct Name {
     text: Text,
+}
+
+impl Drop for Name {
+    fn drop(self) {
+        let Name { text } = self;
+        drop(text);
+    }
 }
 
 impl Model for Name {

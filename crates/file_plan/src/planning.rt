@@ -19,9 +19,15 @@ use xfs_base::{BlockId, Crosses, Ino, Mem, Value};
 
 /// Where a call on files stands: what it does next, and where it stands after an answer. Contracts see
 /// the state.
-#[derive(Drop)]
 pub struct FilePlan {
     state: PlanState,
+}
+
+impl Drop for FilePlan {
+    fn drop(self) {
+        let FilePlan { state } = self;
+        drop(state);
+    }
 }
 
 impl Model for FilePlan {
@@ -69,8 +75,9 @@ impl FilePlan {
     pub fn answered(self, alloc: Global, answer: &BlockAnswer) -> Mem<FilePlan>
         ensures { IfOk result (λ plan. plan ≡ after_answer self answer.now) }
     {
+        let FilePlan { state } = self;
         Ok(FilePlan {
-            state: answered(alloc, self.state, answer)?,
+            state: answered(alloc, state, answer)?,
         })
     }
 

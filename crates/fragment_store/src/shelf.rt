@@ -16,12 +16,25 @@ use xfs_base::{Crosses, FragMeta, Fragment, List, LogId, Mem, Pass, SegName};
 /// What a storage server keeps (the 1996 paper, "Storage Servers" and "RAID"): its generation, the
 /// fragments by name, for each log the pass below which no store is taken, and the names that were
 /// deleted. Look-ups and stores take time logarithmic in what is held and marked.
-#[derive(Drop)]
 pub struct Shelf {
     generation: u32,
     held: BTreeMap<SegName, Fragment>,
     fences: BTreeMap<LogId, Pass>,
     marks: BTreeSet<SegName>,
+}
+
+impl Drop for Shelf {
+    fn drop(self) {
+        let Shelf {
+            generation: _,
+            held,
+            fences,
+            marks,
+        } = self;
+        drop(held);
+        drop(fences);
+        drop(marks);
+    }
 }
 
 impl Model for Shelf {

@@ -18,7 +18,6 @@ pub struct Member {
 
 /// A stripe group: the servers over which segments are striped (the 1996 paper, "The Stripe Group Map"). New
 /// segments go to current groups alone; an obsolete one stays, so that old segments can be read.
-#[derive(Drop)]
 pub struct Group {
     /// The id, from 1.
     pub id: u32,
@@ -29,6 +28,18 @@ pub struct Group {
     pub parity: u8,
     /// Whether new segments go to it.
     pub current: bool,
+}
+
+impl Drop for Group {
+    fn drop(self) {
+        let Group {
+            id: _,
+            members,
+            parity: _,
+            current: _,
+        } = self;
+        drop(members);
+    }
 }
 
 impl Group {

@@ -17,11 +17,22 @@ use xfs_base::{Copied, Crosses, GroupSetup, List, LogId, Mem};
 /// The stripe group map (the 1996 paper, "The Stripe Group Map"): all groups that were ever made, by id, and the
 /// generation of each storage server, which rises with each loss of what the server kept. One group at
 /// least is current.
-#[derive(Drop)]
 pub struct GroupMap {
     servers: u8,
     generations: List<u32>,
     groups: Groups,
+}
+
+impl Drop for GroupMap {
+    fn drop(self) {
+        let GroupMap {
+            servers: _,
+            generations,
+            groups,
+        } = self;
+        drop(generations);
+        drop(groups);
+    }
 }
 
 impl Model for GroupMap {

@@ -19,13 +19,28 @@ use xfs_base::{Crosses, FragMeta, List, Mem, SegName};
 /// hold; then each segment of theirs that is striped over this server too, and that it neither holds nor has
 /// marked, is read from the others by one round, and this server's fragment of it is filled in or counted
 /// gone. Contracts see it as a record.
-#[derive(Drop)]
 pub struct Rebuild {
     server: u8,
     groups: GroupMap,
     heard: List<u8>,
     listed: BTreeMap<SegName, FragMeta>,
     reads: Option<Reads>,
+}
+
+impl Drop for Rebuild {
+    fn drop(self) {
+        let Rebuild {
+            server: _,
+            groups,
+            heard,
+            listed,
+            reads,
+        } = self;
+        drop(groups);
+        drop(heard);
+        drop(listed);
+        drop(reads);
+    }
 }
 
 impl Model for Rebuild {

@@ -15,11 +15,23 @@ use xfs_base::{BlockId, Crosses, Entry, Ino, List, Mem};
 /// For each block the entry that was put last, and of each page whether something was put on it since
 /// `clean`. Pages are numbered from 0 in order of their first put. Contracts see the rows by block, the
 /// number of each page by its first block, and the pages in order of number.
-#[derive(Drop)]
 pub struct Pages {
     rows: BTreeMap<BlockId, Entry>,
     numbers: BTreeMap<BlockId, u32>,
     pages: Vec<Page>,
+}
+
+impl Drop for Pages {
+    fn drop(self) {
+        let Pages {
+            rows,
+            numbers,
+            pages,
+        } = self;
+        drop(rows);
+        drop(numbers);
+        drop(pages);
+    }
 }
 
 impl Model for Pages {

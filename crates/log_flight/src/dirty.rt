@@ -12,7 +12,6 @@ use xfs_base::limits::SEGMENT_BLOCKS;
 use xfs_base::{BlockId, Crosses, Entry, Mem, Value};
 
 /// What is to be written of a block.
-#[derive(Drop)]
 pub struct Change {
     /// The version, and how often the cleaner moved it.
     pub entry: Entry,
@@ -20,10 +19,23 @@ pub struct Change {
     pub value: Value,
 }
 
+impl Drop for Change {
+    fn drop(self) {
+        let Change { entry: _, value } = self;
+        drop(value);
+    }
+}
+
 /// The dirty blocks of a log. Contracts see the list of them with what is to be written of each.
-#[derive(Drop)]
 pub struct Dirty {
     changes: IndexMap<BlockId, Change>,
+}
+
+impl Drop for Dirty {
+    fn drop(self) {
+        let Dirty { changes } = self;
+        drop(changes);
+    }
 }
 
 impl Model for Dirty {
@@ -34,6 +46,16 @@ impl Model for Dirty {
     ghost Value = { prelude.List (BlockId × Change) };
 
     ghost view = { λ d. d.changes.entries };
+}
+
+impl Change {
+    /// The value of that version.
+    pub fn into_value(self) -> Value
+        ensures { result ≡ self.value }
+    {
+        let Change { entry: _, value } = self;
+        value
+    }
 }
 
 impl Crosses for Change {}

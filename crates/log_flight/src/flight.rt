@@ -28,12 +28,25 @@ pub enum Fate {
 
 /// A segment that is not settled: over which group it lies, and for each place whether the server is known
 /// to hold the fragment. It keeps the fragments, so that one that is sent again shares its bytes.
-#[derive(Drop)]
 pub struct Flight {
     segment: Segment,
     group: Group,
     noted: [bool; 8],
     fragments: List<Fragment>,
+}
+
+impl Drop for Flight {
+    fn drop(self) {
+        let Flight {
+            segment,
+            group,
+            noted: _,
+            fragments,
+        } = self;
+        drop(segment);
+        drop(group);
+        drop(fragments);
+    }
 }
 
 impl Model for Flight {
@@ -77,7 +90,15 @@ impl Flight {
         ensures segment { result ≡ self.segment }
         ensures limits { KeepsLimits result }
     {
-        self.segment
+        let Flight {
+            segment,
+            group,
+            noted: _,
+            fragments,
+        } = self;
+        drop(group);
+        drop(fragments);
+        segment
     }
 
     /// For each place whether the fragment is noted.

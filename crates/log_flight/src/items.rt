@@ -35,7 +35,8 @@ fn add_items(items: &mut List<Item>, block: BlockId, change: Change) -> Mem<()>
     ensures each { OnOk result (AllByRecursion (IsItem second_version) (change_items (length items.old) block change)) }
 {
     let before = items.len() as u16;
-    let Change { entry, value } = change;
+    let entry = change.entry;
+    let value = change.into_value();
     if value.bytes().is_none() {
         return items.push(delta(block, entry, NO_ITEM));
     }

@@ -30,7 +30,7 @@ impl Opening {
         ensures questions { OnOk result (questions.new ≡ (on_welcome self questions.old welcome.now).questions) }
         ensures effects { OnOk result (effects.new ≡ effects.old ++ (on_welcome self questions.old welcome.now).effects) }
     {
-        let Opening { known, stage } = self;
+        let (known, stage) = self.into_parts();
         match stage {
             Stage::Scanning(scanning) => {
                 known.on_welcome(alloc, effects, questions, scanning, welcome)
@@ -55,7 +55,7 @@ impl Opening {
         if !self.known.maps.fits(news) || !self.known.maps.is_older(news) {
             return Ok(Progress::Opening(self));
         }
-        let Opening { mut known, stage } = self;
+        let (mut known, stage) = self.into_parts();
         match known.regroup_maps(alloc, news) {
             Ok(groups) => known.regroup(alloc, effects, questions, stage, groups),
             Err(error) => {
@@ -253,7 +253,7 @@ impl Opening {
         ensures questions { OnOk result (questions.new ≡ (on_stored self questions.old stored.now).questions) }
         ensures effects { OnOk result (effects.new ≡ effects.old ++ (on_stored self questions.old stored.now).effects) }
     {
-        let Opening { known, stage } = self;
+        let (known, stage) = self.into_parts();
         match stage {
             Stage::Scanning(scanning) => Ok(known.scanning(scanning)),
             Stage::Settling(settling) => {
@@ -289,7 +289,7 @@ impl Opening {
         ensures questions { OnOk result (questions.new ≡ (scans self questions.old input).questions) }
         ensures effects { OnOk result (effects.new ≡ effects.old ++ (scans self questions.old input).effects) }
     {
-        let Opening { known, stage } = self;
+        let (known, stage) = self.into_parts();
         match stage {
             Stage::Scanning(scanning) => known.scan(alloc, effects, questions, scanning, input),
             Stage::Settling(settling) => Ok(known.settling(settling)),

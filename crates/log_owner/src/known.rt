@@ -25,7 +25,6 @@ use wire_msg::{News, Welcome};
 use xfs_base::{End, List, LogId, Mem, SegName, copy_each};
 
 /// What an opening knows at each stage.
-#[derive(Drop)]
 pub struct Known {
     /// The log and the incarnation of its owner.
     pub owner: Owner,
@@ -33,6 +32,17 @@ pub struct Known {
     pub maps: Maps,
     /// The epochs and managers in the maps that were asked for last.
     pub promised: Promised,
+}
+
+impl Drop for Known {
+    fn drop(self) {
+        let Known {
+            owner: _,
+            maps,
+            promised: _,
+        } = self;
+        drop(maps);
+    }
 }
 
 impl Known {
@@ -353,13 +363,20 @@ impl Known {
         let told = tell_opened(alloc, effects, self.owner.log, low, chain.as_slice(), end);
         drop(chain);
         match told {
-            Ok((feed, names)) => Ok(Opened {
-                maps: self.maps,
-                promised: self.promised,
-                log,
-                feed,
-                chain: names,
-            }),
+            Ok((feed, names)) => {
+                let Known {
+                    owner: _,
+                    maps,
+                    promised,
+                } = self;
+                Ok(Opened {
+                    maps,
+                    promised,
+                    log,
+                    feed,
+                    chain: names,
+                })
+            }
             Err(error) => {
                 drop(self);
                 drop(log);

@@ -25,7 +25,6 @@ pub enum Progress {
 }
 
 /// A log that is open again, and what its owner knows.
-#[derive(Drop)]
 pub struct Opened {
     /// The maps.
     pub maps: Maps,
@@ -37,6 +36,38 @@ pub struct Opened {
     pub feed: Feed,
     /// The segments that were found, in rising order.
     pub chain: List<SegName>,
+}
+
+impl Drop for Opened {
+    fn drop(self) {
+        let Opened {
+            maps,
+            promised: _,
+            log,
+            feed,
+            chain,
+        } = self;
+        drop(maps);
+        drop(log);
+        drop(feed);
+        drop(chain);
+    }
+}
+
+impl Opened {
+    /// The maps, the promises, the log, the feed, and the segments that were found.
+    pub fn into_parts(self) -> (Maps, Promised, Log, Feed, List<SegName>)
+        ensures { result ≡ (self.maps, self.promised, self.log, self.feed, self.chain) }
+    {
+        let Opened {
+            maps,
+            promised,
+            log,
+            feed,
+            chain,
+        } = self;
+        (maps, promised, log, feed, chain)
+    }
 }
 
 /// The feed of a chain of segments and of the segment after them, which has no item: what lies below `low`

@@ -45,12 +45,19 @@ pub struct Settling {
 }
 
 /// A log that its owner opens again after a restart (the 1996 paper, "Recovery and Reconfiguration").
-#[derive(Drop)]
 pub struct Opening {
     /// What is known.
     pub known: Known,
     /// How far it is.
     pub stage: Stage,
+}
+
+impl Drop for Opening {
+    fn drop(self) {
+        let Opening { known, stage } = self;
+        drop(known);
+        drop(stage);
+    }
 }
 
 impl Opening {
@@ -90,6 +97,14 @@ impl Opening {
         has_room(self.known.maps.version)
             && self.known.promised.has_room()
             && stage_has_room(&self.stage)
+    }
+
+    // What is known, and how far it is.
+    pub(crate) fn into_parts(self) -> (Known, Stage)
+        ensures { result ≡ (self.known, self.stage) }
+    {
+        let Opening { known, stage } = self;
+        (known, stage)
     }
 
     /// Takes a packet. One that names a group that isn't known is dropped, and the maps are asked for.
@@ -153,7 +168,7 @@ impl Opening {
         ensures questions { OnOk result (questions.new ≡ (on_tick self questions.old).questions) }
         ensures effects { OnOk result (effects.new ≡ effects.old ++ (on_tick self questions.old).effects) }
     {
-        let Opening { known, stage } = self;
+        let (known, stage) = self.into_parts();
         match stage {
             Stage::Scanning(scanning) => known.scan(alloc, effects, questions, scanning, In::Tick),
             Stage::Settling(settling) => {

@@ -6,7 +6,6 @@ use group_map::Member;
 use xfs_base::{FragMeta, List, SegName};
 
 /// The list of one server.
-#[derive(Drop)]
 pub struct Listing {
     /// The server.
     pub server: u8,
@@ -14,6 +13,17 @@ pub struct Listing {
     pub generation: u32,
     /// What is said of each fragment of the log that it holds.
     pub held: List<FragMeta>,
+}
+
+impl Drop for Listing {
+    fn drop(self) {
+        let Listing {
+            server: _,
+            generation: _,
+            held,
+        } = self;
+        drop(held);
+    }
 }
 
 impl Listing {

@@ -14,7 +14,6 @@ use std::alloc::Global;
 use xfs_base::{List, LogId, Mem};
 
 /// What an opening keeps wherever it stands.
-#[derive(Drop)]
 pub struct Opening {
     /// The log.
     pub log: LogId,
@@ -26,6 +25,19 @@ pub struct Opening {
     pub low: u32,
     /// The stripe groups, once they are known.
     pub groups: Option<GroupMap>,
+}
+
+impl Drop for Opening {
+    fn drop(self) {
+        let Opening {
+            log: _,
+            inc: _,
+            ask: _,
+            low: _,
+            groups,
+        } = self;
+        drop(groups);
+    }
 }
 
 impl Opening {

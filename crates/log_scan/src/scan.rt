@@ -18,10 +18,17 @@ use xfs_base::{Crosses, List, LogId, Mem};
 /// attempt, is where the log goes on. Where a member that lost nothing lacks it, it was not settled: it is
 /// passed over, and the log goes on behind its prior. From there the chain is read back by the priors, down
 /// to the horizon. Contracts see it as a record.
-#[derive(Drop)]
 pub struct Scan {
     opening: Opening,
     stage: Stage,
+}
+
+impl Drop for Scan {
+    fn drop(self) {
+        let Scan { opening, stage } = self;
+        drop(opening);
+        drop(stage);
+    }
 }
 
 impl Model for Scan {

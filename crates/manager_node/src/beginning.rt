@@ -153,27 +153,7 @@ fn crash_serving(effects: &mut Effects, serving: Serving, number: u32) -> Mem<Ph
     ensures state { IfOk result (λ phase. phase ≡ (crashes serving.lasting number).state) }
     ensures effects { OnOk result (effects.new ≡ effects.old ++ (crashes serving.lasting number).outs) }
 {
-    crash(effects, what_outlives(serving), number)
-}
-
-fn what_outlives(serving: Serving) -> Lasting
-    ensures { result ≡ serving.lasting }
-{
-    let Serving {
-        lasting,
-        maps,
-        slots,
-        log,
-        writer,
-        checkpoint,
-        ..
-    } = serving;
-    drop(maps);
-    drop(slots);
-    drop(log);
-    drop(writer);
-    drop(checkpoint);
-    lasting
+    crash(effects, serving.into_lasting(), number)
 }
 
 fn begin_checkpoint(

@@ -9,7 +9,6 @@ use version_model::Answer;
 use xfs_base::{LogId, Mem};
 
 /// What of a manager outlives a crash.
-#[derive(Drop)]
 pub struct Lasting {
     /// The number of the manager.
     pub number: u8,
@@ -19,6 +18,18 @@ pub struct Lasting {
     pub questions: Questions,
     /// What it is to do.
     pub items: Items,
+}
+
+impl Drop for Lasting {
+    fn drop(self) {
+        let Lasting {
+            number: _,
+            inc: _,
+            questions: _,
+            items,
+        } = self;
+        drop(items);
+    }
 }
 
 impl Lasting {

@@ -30,7 +30,6 @@ pub enum SlotPhase {
 }
 
 /// A slot that is being taken over.
-#[derive(Drop)]
 pub struct Taking {
     /// The epoch of the slot.
     pub epoch: u32,
@@ -40,13 +39,31 @@ pub struct Taking {
     pub fetches: Asked,
 }
 
+impl Drop for Taking {
+    fn drop(self) {
+        let Taking {
+            epoch: _,
+            take,
+            fetches: _,
+        } = self;
+        drop(take);
+    }
+}
+
 /// A slot that is managed.
-#[derive(Drop)]
 pub struct Active {
     /// Its tokens and its index.
     pub slot: Slot,
     /// The segments of the checkpoint that was last sent in this epoch.
     pub parts: List<SegRef>,
+}
+
+impl Drop for Active {
+    fn drop(self) {
+        let Active { slot, parts } = self;
+        drop(slot);
+        drop(parts);
+    }
 }
 
 impl SlotPhase {

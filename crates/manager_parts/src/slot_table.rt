@@ -24,9 +24,15 @@ pub(crate) const SLOTS: [u8; 8] = [0, 1, 2, 3, 4, 5, 6, 7];
 const LOGS: [u8; 9] = [1, 2, 3, 4, 5, 6, 7, 8, 9];
 
 /// What a manager has of each slot. Contracts see the list, from slot 0 on.
-#[derive(Drop)]
 pub struct SlotTable {
     pub(crate) phases: Vec<SlotPhase>,
+}
+
+impl Drop for SlotTable {
+    fn drop(self) {
+        let SlotTable { phases } = self;
+        drop(phases);
+    }
 }
 
 impl Model for SlotTable {

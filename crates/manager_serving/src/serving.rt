@@ -24,7 +24,6 @@ use xfs_base::{End, LogId, Mem, NodeId, Pass, SlotNews};
 
 /// What a manager has that serves: it lasts from the start of a run, or from the Welcome of its boot, to its
 /// crash.
-#[derive(Drop)]
 pub struct Serving {
     /// What outlives a crash.
     pub lasting: Lasting,
@@ -42,6 +41,26 @@ pub struct Serving {
     pub checkpoint: Option<Checkpointing>,
 }
 
+impl Drop for Serving {
+    fn drop(self) {
+        let Serving {
+            lasting,
+            maps,
+            slots,
+            log,
+            writer,
+            dones: _,
+            checkpoint,
+        } = self;
+        drop(lasting);
+        drop(maps);
+        drop(slots);
+        drop(log);
+        drop(writer);
+        drop(checkpoint);
+    }
+}
+
 /// The end of a log in which nothing is settled.
 const NO_END: End = End {
     seq: 0,
@@ -50,6 +69,27 @@ const NO_END: End = End {
 };
 
 impl Serving {
+    /// What outlives a crash; all else is lost.
+    pub fn into_lasting(self) -> Lasting
+        ensures { result ≡ self.lasting }
+    {
+        let Serving {
+            lasting,
+            maps,
+            slots,
+            log,
+            writer,
+            dones: _,
+            checkpoint,
+        } = self;
+        drop(maps);
+        drop(slots);
+        drop(log);
+        drop(writer);
+        drop(checkpoint);
+        lasting
+    }
+
     /// A manager at the start of a run: it manages its slots, in which nothing has happened.
     pub fn start(alloc: Global, lasting: Lasting, managers: u8, groups: GroupMap) -> Mem<Serving>
         requires { 1 ≤ managers }

@@ -36,9 +36,15 @@ pub enum Effect {
 }
 
 /// What an event has a node do so far, in order. Contracts see the list.
-#[derive(Drop)]
 pub struct Effects {
     list: List<Effect>,
+}
+
+impl Drop for Effects {
+    fn drop(self) {
+        let Effects { list } = self;
+        drop(list);
+    }
 }
 
 impl Model for Effects {
@@ -68,7 +74,8 @@ impl Effects {
     {
         let mut packets = List::new(alloc);
         let mut acts = List::new(alloc);
-        for effect in self.list.into_vec() {
+        let Effects { list } = self;
+        for effect in list.into_vec() {
             add(&mut packets, &mut acts, node, effect)?;
         }
         Ok((packets, acts))

@@ -7,11 +7,21 @@ use version_model::{Answer, Work};
 use xfs_base::{List, Mem};
 
 /// What a node is to do, in order. It outlives a crash. Items are numbered from 1.
-#[derive(Drop)]
 pub struct Items {
     works: List<Work>,
     begun: u32,
     unanswered: Option<u32>,
+}
+
+impl Drop for Items {
+    fn drop(self) {
+        let Items {
+            works,
+            begun: _,
+            unanswered: _,
+        } = self;
+        drop(works);
+    }
 }
 
 impl Items {

@@ -11,7 +11,6 @@ use xfs_base::{Mem, Prior, SegRef, SlotNews};
 
 /// The version of the maps that a node has, and their groups. A node that starts again has version 0 and
 /// no groups until it takes maps.
-#[derive(Drop)]
 pub struct Maps {
     /// The version.
     pub version: u32,
@@ -19,6 +18,17 @@ pub struct Maps {
     pub servers: u8,
     /// The groups.
     pub groups: Option<GroupMap>,
+}
+
+impl Drop for Maps {
+    fn drop(self) {
+        let Maps {
+            version: _,
+            servers: _,
+            groups,
+        } = self;
+        drop(groups);
+    }
 }
 
 impl Maps {

@@ -20,9 +20,11 @@ pub fn play<N: Member>(alloc: Global, script: &Script) -> Mem<Estate<N>>
     ensures complete { IfOk result (λ estate. BeginsAll script.now.lines estate.events) }
 {
     let player: Player<N> = Player::play(alloc, script)?;
+    let script = script.copy(alloc)?;
+    let (world, events) = player.into_parts();
     Ok(Estate {
-        script: script.copy(alloc)?,
-        events: player.events,
-        world: player.world,
+        script,
+        events,
+        world,
     })
 }

@@ -11,7 +11,6 @@ use world_base::{Event, Member, Next, Schedule, World, actor_of};
 use xfs_base::{List, Mem, NodeId};
 
 /// A play in progress.
-#[derive(Drop)]
 pub struct Player<N> {
     /// The world so far.
     pub world: World<N>,
@@ -21,6 +20,20 @@ pub struct Player<N> {
     pub schedule: Schedule,
     /// How many items were begun and have no answer.
     pub unanswered: u64,
+}
+
+impl<N: Drop> Drop for Player<N> {
+    fn drop(self) {
+        let Player {
+            world,
+            events,
+            schedule,
+            unanswered: _,
+        } = self;
+        drop(world);
+        drop(events);
+        drop(schedule);
+    }
 }
 
 /// Whether an act answers an item.
@@ -70,6 +83,20 @@ fn send_since(schedule: &mut Schedule, before: usize, now: usize) -> Mem<()>
 }
 
 impl<N: Member> Player<N> {
+    /// The world and what happened.
+    pub fn into_parts(self) -> (World<N>, List<Event>)
+        ensures { result ≡ (self.world, self.events) }
+    {
+        let Player {
+            world,
+            events,
+            schedule,
+            unanswered: _,
+        } = self;
+        drop(schedule);
+        (world, events)
+    }
+
     /// The play before the first line.
     fn start(alloc: Global, script: &Script) -> Mem<Player<N>>
         requires { IsSetup script.now.setup }
@@ -89,20 +116,24 @@ impl<N: Member> Player<N> {
         ensures exact { IfOk result (λ player. player ≡ happens N.transition self event) }
         ensures no_more { IfOk result (λ player. player.unanswered ≤ self.unanswered) }
     {
-        let sent = self.world.sent.len();
-        let done = self.world.acts.len();
+        let Player {
+            world,
+            mut events,
+            mut schedule,
+            unanswered,
+        } = self;
+        let sent = world.sent.len();
+        let done = world.acts.len();
         let (node, what) = event.into_parts();
-        let world = self.world.happen(alloc, node, &what)?;
-        let mut schedule = self.schedule;
+        let world = world.happen(alloc, node, &what)?;
         send_since(&mut schedule, sent, world.sent.len())?;
         let answered = answers_since(world.acts.as_slice(), done);
-        let mut events = self.events;
         events.push(Event::of(node, what))?;
         Ok(Player {
             world,
             events,
             schedule,
-            unanswered: self.unanswered.saturating_sub(answered),
+            unanswered: unanswered.saturating_sub(answered),
         })
     }
 

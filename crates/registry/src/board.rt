@@ -22,13 +22,27 @@ const LAST_GROUP: u32 = 2_147_483_648;
 
 /// The maps as they are now. Contracts see their version, the manager and epoch of each slot, the newest
 /// checkpoint of each slot, the incarnation that is kept of each manager, and the stripe groups.
-#[derive(Drop)]
 pub struct Board {
     version: u32,
     managers: ManagerMap,
     checkpoints: Vec<Checkpoint>,
     incs: BTreeMap<u8, u32>,
     groups: GroupMap,
+}
+
+impl Drop for Board {
+    fn drop(self) {
+        let Board {
+            version: _,
+            managers: _,
+            checkpoints,
+            incs,
+            groups,
+        } = self;
+        drop(checkpoints);
+        drop(incs);
+        drop(groups);
+    }
 }
 
 impl Model for Board {

@@ -9,12 +9,19 @@ use xfs_base::{Crosses, List, Mem, SegRef};
 const PLACES: [usize; 9] = [0, 1, 2, 3, 4, 5, 6, 7, 8];
 
 /// The newest checkpoint of a slot.
-#[derive(Drop)]
 pub struct Checkpoint {
     /// Its segments.
     pub parts: List<SegRef>,
     /// For each log 1 to 9 the first segment number that it does not cover.
     pub horizon: List<u32>,
+}
+
+impl Drop for Checkpoint {
+    fn drop(self) {
+        let Checkpoint { parts, horizon } = self;
+        drop(parts);
+        drop(horizon);
+    }
 }
 
 impl Crosses for Checkpoint {}

@@ -6,7 +6,6 @@ use version_model::Work;
 use xfs_base::{Copied, Crosses, List, Mem, Setup, copy_each};
 
 /// One item of a script.
-#[derive(Drop)]
 pub struct Line {
     /// The number of its line in the input, from 1.
     pub number: u32,
@@ -16,13 +15,31 @@ pub struct Line {
     pub work: Work,
 }
 
+impl Drop for Line {
+    fn drop(self) {
+        let Line {
+            number: _,
+            after: _,
+            work,
+        } = self;
+        drop(work);
+    }
+}
+
 /// What a run is of.
-#[derive(Drop)]
 pub struct Script {
     /// The nodes.
     pub setup: Setup,
     /// The items, by line number.
     pub lines: List<Line>,
+}
+
+impl Drop for Script {
+    fn drop(self) {
+        let Script { setup, lines } = self;
+        drop(setup);
+        drop(lines);
+    }
 }
 
 impl Line {

@@ -39,12 +39,18 @@ pub enum Turn {
 }
 
 /// A text that is repeated.
-#[derive(Drop)]
 pub struct Repeated {
     /// How often.
     pub count: u32,
     /// The text.
     pub text: Text,
+}
+
+impl Drop for Repeated {
+    fn drop(self) {
+        let Repeated { count: _, text } = self;
+        drop(text);
+    }
 }
 
 fn is_plain(b: u8) -> bool

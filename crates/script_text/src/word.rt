@@ -71,9 +71,14 @@ pub fn cut_at(bytes: &[u8], mark: u8) -> Option<(&[u8], &[u8])>
 }
 
 /// The words of a line that are left, from left to right. Contracts see the list of them.
-#[derive(Drop)]
 pub struct Words<'a> {
     rest: Option<&'a [u8]>,
+}
+
+impl<'a> Drop for Words<'a> {
+    fn drop(self) {
+        let Words { rest: _ } = self;
+    }
 }
 
 impl<'a> Model for Words<'a> {

@@ -106,7 +106,6 @@ impl Copied for Item {
 }
 
 /// A segment of a log (the 1996 paper, "Zebra"): what is written to a stripe at once.
-#[derive(Drop)]
 pub struct Segment {
     /// Its name.
     pub name: SegName,
@@ -118,7 +117,32 @@ pub struct Segment {
     pub items: List<Item>,
 }
 
+impl Drop for Segment {
+    fn drop(self) {
+        let Segment {
+            name: _,
+            prior: _,
+            group: _,
+            items,
+        } = self;
+        drop(items);
+    }
+}
+
 impl Segment {
+    /// Its items.
+    pub fn into_items(self) -> List<Item>
+        ensures { result ≡ self.items }
+    {
+        let Segment {
+            name: _,
+            prior: _,
+            group: _,
+            items,
+        } = self;
+        items
+    }
+
     /// A segment equal to this one.
     pub fn copy(&self, alloc: Global) -> Mem<Segment>
         ensures { IfOk result (λ copied. copied ≡ self.now) }

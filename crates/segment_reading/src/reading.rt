@@ -47,13 +47,27 @@ pub enum Next {
 }
 
 /// One segment that is being read.
-#[derive(Drop)]
 pub struct Reading {
     target: Target,
     ask: u32,
     kept: List<(u8, u32)>,
     round: Round,
     stage: Stage,
+}
+
+impl Drop for Reading {
+    fn drop(self) {
+        let Reading {
+            target: _,
+            ask: _,
+            kept,
+            round,
+            stage,
+        } = self;
+        drop(kept);
+        drop(round);
+        drop(stage);
+    }
 }
 
 impl Model for Reading {

@@ -16,10 +16,17 @@ use xfs_base::{BlockId, Crosses, Entry, List, Mem, SegName};
 
 /// What is held of each block, and the live blocks of each segment. The counts are those that a count from
 /// scratch over the places gives.
-#[derive(Drop)]
 pub struct BlockIndex {
     pages: Pages,
     usage: Usage,
+}
+
+impl Drop for BlockIndex {
+    fn drop(self) {
+        let BlockIndex { pages, usage } = self;
+        drop(pages);
+        drop(usage);
+    }
 }
 
 impl Model for BlockIndex {

@@ -41,12 +41,19 @@ pub struct Awaited {
 }
 
 /// A want that waits until others have given the block up, and until what they wrote is applied.
-#[derive(Drop)]
 pub struct Job {
     /// What is wanted.
     pub want: Wanted,
     /// The recalls for it, in order of clients.
     pub awaited: List<Awaited>,
+}
+
+impl Drop for Job {
+    fn drop(self) {
+        let Job { want, awaited } = self;
+        drop(want);
+        drop(awaited);
+    }
 }
 
 impl Crosses for Holder {}

@@ -49,11 +49,21 @@ impl Drop for Server {
 
 /// A rebuild that is under way: the question under which the lists are asked for, and that of the round
 /// that is under way.
-#[derive(Drop)]
 pub struct Rebuilding {
     pub(crate) rebuild: Rebuild,
     pub(crate) lists: u32,
     pub(crate) fetches: Asked,
+}
+
+impl Drop for Rebuilding {
+    fn drop(self) {
+        let Rebuilding {
+            rebuild,
+            lists: _,
+            fetches: _,
+        } = self;
+        drop(rebuild);
+    }
 }
 
 /// What an item of a server asks for.

@@ -24,7 +24,6 @@ pub enum Fate {
 }
 
 /// A block of a segment that is emptied.
-#[derive(Drop)]
 pub struct Check {
     /// The block.
     pub block: BlockId,
@@ -32,6 +31,17 @@ pub struct Check {
     pub item: u16,
     /// What is known of it.
     pub fate: Fate,
+}
+
+impl Drop for Check {
+    fn drop(self) {
+        let Check {
+            block: _,
+            item: _,
+            fate,
+        } = self;
+        drop(fate);
+    }
 }
 
 impl Crosses for Fate {}

@@ -17,11 +17,21 @@ use xfs_base::{BlockId, Crosses, Entry, FragMeta, List, Mem, SegName, SlotNews};
 
 /// A job of the cleaner: so many segments are to be emptied. Contracts see it as a record of its parts
 /// (`specs/CleaningState.antt`).
-#[derive(Drop)]
 pub struct Cleaning {
     count: u32,
     promised: [u32; 8],
     phase: Phase,
+}
+
+impl Drop for Cleaning {
+    fn drop(self) {
+        let Cleaning {
+            count: _,
+            promised: _,
+            phase,
+        } = self;
+        drop(phase);
+    }
 }
 
 impl Model for Cleaning {

@@ -31,11 +31,23 @@ pub struct Fullness {
 }
 
 /// What is known while the counts of the slots come in. Contracts see it as a record.
-#[derive(Drop)]
 pub struct Counting {
     groups: GroupMap,
     candidates: BTreeMap<SegName, u32>,
     usages: BTreeMap<u8, List<(SegName, u32)>>,
+}
+
+impl Drop for Counting {
+    fn drop(self) {
+        let Counting {
+            groups,
+            candidates,
+            usages,
+        } = self;
+        drop(groups);
+        drop(candidates);
+        drop(usages);
+    }
 }
 
 impl Model for Counting {

@@ -20,11 +20,22 @@ use std::marker::Model;
 use xfs_base::{BlockId, Crosses, Entry, List, Mem, SegName, SegRef};
 
 /// What a job keeps while it empties segments. Contracts see it as a record.
-#[derive(Drop)]
 pub struct Job {
     groups: GroupMap,
     left: VecDeque<SegRef>,
     deleted: u32,
+}
+
+impl Drop for Job {
+    fn drop(self) {
+        let Job {
+            groups,
+            left,
+            deleted: _,
+        } = self;
+        drop(groups);
+        drop(left);
+    }
 }
 
 impl Model for Job {
@@ -109,7 +120,7 @@ impl Job {
             drop(read);
             return Ok(Phase::Reading { job: self, segment });
         }
-        match checks_of(alloc, read.items) {
+        match checks_of(alloc, read.into_items()) {
             Ok(checks) => self.check(alloc, outs, segment, checks),
             Err(error) => {
                 drop(self);

@@ -15,12 +15,26 @@ use std::mem;
 use xfs_base::{Crosses, FragMeta, List, LogId, Mem, SegName, SlotNews};
 
 /// What is known while the servers' lists come in. Contracts see it as a record.
-#[derive(Drop)]
 pub struct Listing {
     groups: GroupMap,
     slots: List<SlotNews>,
     awaited: List<u8>,
     candidates: BTreeMap<SegName, u32>,
+}
+
+impl Drop for Listing {
+    fn drop(self) {
+        let Listing {
+            groups,
+            slots,
+            awaited,
+            candidates,
+        } = self;
+        drop(groups);
+        drop(slots);
+        drop(awaited);
+        drop(candidates);
+    }
 }
 
 impl Model for Listing {

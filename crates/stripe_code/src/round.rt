@@ -21,12 +21,18 @@ pub enum Told {
 }
 
 /// What one server told of the segment.
-#[derive(Drop)]
 pub struct Answer {
     /// The server.
     pub server: u8,
     /// What it told.
     pub told: Told,
+}
+
+impl Drop for Answer {
+    fn drop(self) {
+        let Answer { server: _, told } = self;
+        drop(told);
+    }
 }
 
 /// How a round stands.
@@ -43,12 +49,24 @@ pub enum RoundState {
 
 /// One round: so many servers, and what they told so far. Of each server the first answer counts, of
 /// each index the first fragment.
-#[derive(Drop)]
 pub struct Round {
     n: u8,
     parity: u8,
     servers: List<u8>,
     answers: List<Answer>,
+}
+
+impl Drop for Round {
+    fn drop(self) {
+        let Round {
+            n: _,
+            parity: _,
+            servers,
+            answers,
+        } = self;
+        drop(servers);
+        drop(answers);
+    }
 }
 
 impl Model for Round {

@@ -21,7 +21,6 @@ use xfs_base::{Crosses, List, Mem, NodeId, SlotNews};
 /// reported, the segments of the slot's newest checkpoint are read, and then logs 1 to 9, each backward from
 /// its reported end to the first segment that the checkpoint does not cover. Segments are read one at a time.
 /// What they tell of the slot's blocks is joined to its index. Contracts see it as a record.
-#[derive(Drop)]
 pub struct Take {
     pub(crate) news: SlotNews,
     pub(crate) groups: GroupMap,
@@ -32,6 +31,29 @@ pub struct Take {
     pub(crate) ask: u32,
     pub(crate) chain: VecDeque<List<Row>>,
     pub(crate) index: DeltaIndex,
+}
+
+impl Drop for Take {
+    fn drop(self) {
+        let Take {
+            news,
+            groups,
+            clients: _,
+            reports,
+            sources,
+            present,
+            ask: _,
+            chain,
+            index,
+        } = self;
+        drop(news);
+        drop(groups);
+        drop(reports);
+        drop(sources);
+        drop(present);
+        drop(chain);
+        drop(index);
+    }
 }
 
 impl Model for Take {

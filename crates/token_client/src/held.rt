@@ -36,7 +36,6 @@ pub struct Giving {
 
 /// What a client knows of one block (the 1996 paper, "Cache Consistency": a client reads and writes
 /// what it caches under tokens that the block's manager hands out and revokes).
-#[derive(Drop)]
 pub struct Held {
     /// What the client may do with it.
     pub mode: Mode,
@@ -55,6 +54,23 @@ pub struct Held {
     pub fetch: Option<Fetch>,
     /// The recall that is put off.
     pub giving: Option<Giving>,
+}
+
+impl Drop for Held {
+    fn drop(self) {
+        let Held {
+            mode: _,
+            ver: _,
+            settled: _,
+            value,
+            stamp: _,
+            want,
+            fetch: _,
+            giving: _,
+        } = self;
+        drop(value);
+        drop(want);
+    }
 }
 
 impl Crosses for Wanted {}

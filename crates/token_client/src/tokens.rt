@@ -12,12 +12,23 @@ use std::marker::Model;
 use xfs_base::{BlockId, Crosses, List, Mem};
 
 /// The tokens of a client. Contracts see them as a record of their parts (`specs/State.antt`).
-#[derive(Drop)]
 pub struct Tokens {
     pub(crate) inc: u32,
     pub(crate) epochs: [u32; 8],
     pub(crate) req: u32,
     pub(crate) blocks: BTreeMap<BlockId, Held>,
+}
+
+impl Drop for Tokens {
+    fn drop(self) {
+        let Tokens {
+            inc: _,
+            epochs: _,
+            req: _,
+            blocks,
+        } = self;
+        drop(blocks);
+    }
 }
 
 impl Model for Tokens {

@@ -25,7 +25,6 @@ use xfs_base::{BlockId, Crosses, Entry, List, LogId, Mem, Mode, SegName, Stamp};
 /// The tokens of one slot of the manager map, in one epoch (the 1996 paper, "Cache Consistency"). Contracts see
 /// it as its state: the epoch, the index with the live blocks of each segment, who is believed to hold
 /// each block, the wants that wait, the last turn, and how much of each log is applied.
-#[derive(Drop)]
 pub struct Slot {
     epoch: u32,
     index: BlockIndex,
@@ -33,6 +32,22 @@ pub struct Slot {
     jobs: BTreeMap<BlockId, Job>,
     turn: u64,
     applied: [u32; 9],
+}
+
+impl Drop for Slot {
+    fn drop(self) {
+        let Slot {
+            epoch: _,
+            index,
+            beliefs,
+            jobs,
+            turn: _,
+            applied: _,
+        } = self;
+        drop(index);
+        drop(beliefs);
+        drop(jobs);
+    }
 }
 
 impl Model for Slot {

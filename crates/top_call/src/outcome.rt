@@ -2,7 +2,6 @@
 use world_base::Estate;
 
 /// What the program answers.
-#[derive(Drop)]
 pub struct Outcome<N> {
     /// 0: done. 1: all was written, and an item is unanswered or the journal is not legal. 2: the words are
     /// no form. 3: the input is no script or no journal. 4: a read failed. 5: a write failed. 7: want of
@@ -10,4 +9,11 @@ pub struct Outcome<N> {
     pub status: u8,
     /// The run; there with status 0 and 1, and with 5 where its text was to be written.
     pub estate: Option<Estate<N>>,
+}
+
+impl<N: Drop> Drop for Outcome<N> {
+    fn drop(self) {
+        let Outcome { status: _, estate } = self;
+        drop(estate);
+    }
 }

@@ -9,9 +9,15 @@ use std::marker::Model;
 use xfs_base::{Mem, NodeId};
 
 /// The number of the last item of each node.
-#[derive(Drop)]
 pub struct Numbers {
     last: BTreeMap<NodeId, u32>,
+}
+
+impl Drop for Numbers {
+    fn drop(self) {
+        let Numbers { last } = self;
+        drop(last);
+    }
 }
 
 impl Model for Numbers {

@@ -22,7 +22,6 @@ pub struct ItemName {
 }
 
 /// The answer of an item.
-#[derive(Drop)]
 pub struct Reply {
     /// The place of the act that answers.
     pub place: usize,
@@ -30,10 +29,23 @@ pub struct Reply {
     pub fallen: List<Fallen>,
 }
 
+impl Drop for Reply {
+    fn drop(self) {
+        let Reply { place: _, fallen } = self;
+        drop(fallen);
+    }
+}
+
 /// The answers of all items. Contracts see them in order of items.
-#[derive(Drop)]
 pub struct Replies {
     table: BTreeMap<ItemName, Reply>,
+}
+
+impl Drop for Replies {
+    fn drop(self) {
+        let Replies { table } = self;
+        drop(table);
+    }
 }
 
 impl Model for Replies {

@@ -15,9 +15,15 @@ use xfs_base::{Crosses, List, Mem, SegName};
 
 /// How many live blocks each segment has: the utilization by which a cleaner chooses. Contracts see it as
 /// the counts above 0, by segment.
-#[derive(Drop)]
 pub struct Usage {
     counts: BTreeMap<SegName, u32>,
+}
+
+impl Drop for Usage {
+    fn drop(self) {
+        let Usage { counts } = self;
+        drop(counts);
+    }
 }
 
 impl Model for Usage {

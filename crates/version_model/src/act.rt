@@ -18,7 +18,6 @@ pub struct Fall {
 
 /// One thing that a node did, as its journal has it. `docs/PROMISES.md` says when a list of acts is
 /// legal; clients count from 1.
-#[derive(Drop)]
 pub enum Act {
     /// A client wrote a new version of a block.
     Wrote {
@@ -87,6 +86,39 @@ pub enum Act {
         /// The answer.
         answer: Answer,
     },
+}
+
+impl Drop for Act {
+    fn drop(self) {
+        match self {
+            Act::Wrote {
+                client: _,
+                block: _,
+                value,
+            } => drop(value),
+            Act::Read {
+                client: _,
+                block: _,
+                ver: _,
+                value,
+            } => drop(value),
+            Act::Synced { client: _ } => {}
+            Act::Fell {
+                client: _,
+                flight: _,
+                falls,
+            } => drop(falls),
+            Act::Back { client: _, chain } => drop(chain),
+            Act::Lost { node: _, seg: _ } => {}
+            Act::Filed { seg: _ } => {}
+            Act::Dropped { seg: _ } => {}
+            Act::Answered {
+                node: _,
+                item: _,
+                answer,
+            } => drop(answer),
+        }
+    }
 }
 
 impl Act {

@@ -26,7 +26,6 @@ pub enum FileFault {
 }
 
 /// What a node answers to an item. `docs/LANGUAGE.md` says which items have which answers.
-#[derive(Drop)]
 pub enum Answer {
     /// A block was written, and this is its version.
     Version(u64),
@@ -60,6 +59,29 @@ pub enum Answer {
     Lost(SegName),
     /// A call on files is refused.
     File(FileFault),
+}
+
+impl Drop for Answer {
+    fn drop(self) {
+        match self {
+            Answer::Version(_) => {}
+            Answer::Got(_, part) => drop(part),
+            Answer::Done => {}
+            Answer::Made(_) => {}
+            Answer::Bytes(part) => drop(part),
+            Answer::Size(_) => {}
+            Answer::Names(part) => drop(part),
+            Answer::Epoch(_) => {}
+            Answer::Count(_) => {}
+            Answer::Rebuilt(_, _) => {}
+            Answer::Busy => {}
+            Answer::Down => {}
+            Answer::Up => {}
+            Answer::Cut => {}
+            Answer::Lost(_) => {}
+            Answer::File(_) => {}
+        }
+    }
 }
 
 impl Answer {

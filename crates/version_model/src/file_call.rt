@@ -5,7 +5,6 @@ use std::alloc::Global;
 use xfs_base::{Bytes, Copied, Crosses, List, Mem, Text, copy_each};
 
 /// A call on files. A path is the list of its names; the root is the empty list.
-#[derive(Drop)]
 pub enum FileCall {
     /// Makes an empty file.
     Mk {
@@ -57,6 +56,35 @@ pub enum FileCall {
         /// Its new path.
         to: List<Text>,
     },
+}
+
+impl Drop for FileCall {
+    fn drop(self) {
+        match self {
+            FileCall::Mk { path } => drop(path),
+            FileCall::Mkdir { path } => drop(path),
+            FileCall::Put {
+                path,
+                offset: _,
+                bytes,
+            } => {
+                drop(path);
+                drop(bytes);
+            }
+            FileCall::Get {
+                path,
+                offset: _,
+                len: _,
+            } => drop(path),
+            FileCall::Size { path } => drop(path),
+            FileCall::Ls { path } => drop(path),
+            FileCall::Rm { path } => drop(path),
+            FileCall::Mv { from, to } => {
+                drop(from);
+                drop(to);
+            }
+        }
+    }
 }
 
 impl FileCall {

@@ -9,7 +9,6 @@ use std::alloc::Global;
 use xfs_base::{Crosses, List, Mem, Value};
 
 /// One version of a block.
-#[derive(Drop)]
 pub struct Version {
     /// What was written.
     pub content: Value,
@@ -17,9 +16,15 @@ pub struct Version {
     pub writer: u8,
 }
 
+impl Drop for Version {
+    fn drop(self) {
+        let Version { content, writer: _ } = self;
+        drop(content);
+    }
+}
+
 /// The versions of one block, the oldest first, and the pinned one: the newest that someone else read or
 /// that was synced, 0 where there is none.
-#[derive(Drop)]
 pub struct BlockHistory {
     /// The versions; the first has number 1.
     pub versions: List<Version>,
@@ -27,13 +32,29 @@ pub struct BlockHistory {
     pub pinned: u64,
 }
 
+impl Drop for BlockHistory {
+    fn drop(self) {
+        let BlockHistory {
+            versions,
+            pinned: _,
+        } = self;
+        drop(versions);
+    }
+}
+
 /// What a crashed client may lose, told when it crashed.
-#[derive(Drop)]
 pub struct FallTold {
     /// The number and the incarnation of the segment that was in flight, if one was.
     pub flight: Option<(u32, u32)>,
     /// The blocks that may fall.
     pub falls: List<Fall>,
+}
+
+impl Drop for FallTold {
+    fn drop(self) {
+        let FallTold { flight: _, falls } = self;
+        drop(falls);
+    }
 }
 
 impl BlockHistory {
@@ -66,7 +87,11 @@ impl BlockHistory {
     pub(crate) fn cut_to(self, ver: u64) -> BlockHistory
         ensures { result ≡ cut_to ver self }
     {
-        let mut versions = self.versions.into_vec();
+        let BlockHistory {
+            versions,
+            pinned: _,
+        } = self;
+        let mut versions = versions.into_vec();
         let count = usize::try_from(ver).unwrap_or(usize::MAX);
         versions.truncate(count);
         BlockHistory {

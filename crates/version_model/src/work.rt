@@ -6,7 +6,6 @@ use std::alloc::Global;
 use xfs_base::{BlockId, Copied, Crosses, Mem, NodeId, Value};
 
 /// What a line of a script asks of a node, or of the network. `docs/LANGUAGE.md` has the lines.
-#[derive(Drop)]
 pub enum Work {
     /// A client writes a block of a raw file.
     Bput {
@@ -98,6 +97,47 @@ pub enum Work {
     },
     /// A storage server starts again from its disk.
     ServerStart(u8),
+}
+
+impl Drop for Work {
+    fn drop(self) {
+        match self {
+            Work::Bput {
+                client: _,
+                block: _,
+                value,
+            } => drop(value),
+            Work::Bget {
+                client: _,
+                block: _,
+            } => {}
+            Work::Sync { client: _ } => {}
+            Work::File { client: _, call } => drop(call),
+            Work::Crash { node: _ } => {}
+            Work::Restart { node: _ } => {}
+            Work::Checkpoint { manager: _ } => {}
+            Work::Lose { server: _ } => {}
+            Work::Rebuild { server: _ } => {}
+            Work::Move {
+                slot: _,
+                manager: _,
+            } => {}
+            Work::Clean { count: _ } => {}
+            Work::NetLose(_) => {}
+            Work::NetAgain(_) => {}
+            Work::NetMix(_) => {}
+            Work::NetHold => {}
+            Work::NetGo => {}
+            Work::NetStep(_) => {}
+            Work::BoardStop(_) => {}
+            Work::BoardStart(_) => {}
+            Work::ServerStop {
+                server: _,
+                passes: _,
+            } => {}
+            Work::ServerStart(_) => {}
+        }
+    }
 }
 
 impl Work {

@@ -10,7 +10,6 @@ use std::alloc::Global;
 use xfs_base::{Copied, Crosses, Mem};
 
 /// What a packet says. Each body has its own type, which says what its fields are.
-#[derive(Drop)]
 pub enum Body {
     /// A client to a manager.
     Want(Want),
@@ -76,6 +75,45 @@ pub enum Body {
     CkptDone(CkptDone),
     /// The registry to a manager.
     CkptAck(CkptAck),
+}
+
+impl Drop for Body {
+    fn drop(self) {
+        match self {
+            Body::Want(_) => {}
+            Body::Grant(_) => {}
+            Body::Forward(_) => {}
+            Body::Supply(part) => drop(part),
+            Body::Recall(_) => {}
+            Body::Gave(_) => {}
+            Body::Gone(_) => {}
+            Body::Deltas(part) => drop(part),
+            Body::DeltaAck(_) => {}
+            Body::Poll(_) => {}
+            Body::Report(part) => drop(part),
+            Body::Store(part) => drop(part),
+            Body::Stored(_) => {}
+            Body::Fetch(_) => {}
+            Body::Fragment(part) => drop(part),
+            Body::Missing(_) => {}
+            Body::Fence(_) => {}
+            Body::Fenced(part) => drop(part),
+            Body::List(_) => {}
+            Body::Listed(part) => drop(part),
+            Body::Delete(_) => {}
+            Body::Deleted(_) => {}
+            Body::Check(_) => {}
+            Body::Live(_) => {}
+            Body::Dead(_) => {}
+            Body::UsageAsk(_) => {}
+            Body::Usage(part) => drop(part),
+            Body::Hello(_) => {}
+            Body::Welcome(part) => drop(part),
+            Body::MapNews(part) => drop(part),
+            Body::CkptDone(part) => drop(part),
+            Body::CkptAck(_) => {}
+        }
+    }
 }
 
 impl Body {

@@ -49,7 +49,6 @@ pub struct UsageAsk {
 }
 
 /// The answer to a UsageAsk.
-#[derive(Drop)]
 pub struct Usage {
     /// The slot, 0 to 7.
     pub slot: u8,
@@ -59,6 +58,18 @@ pub struct Usage {
     pub epoch: u32,
     /// The counts above 0, by segment.
     pub counts: List<(SegName, u32)>,
+}
+
+impl Drop for Usage {
+    fn drop(self) {
+        let Usage {
+            slot: _,
+            ask: _,
+            epoch: _,
+            counts,
+        } = self;
+        drop(counts);
+    }
 }
 
 impl Usage {

@@ -6,7 +6,6 @@ use std::alloc::Global;
 use xfs_base::{BlockId, Copied, End, Entry, List, Mem, Mode};
 
 /// The owner of a log tells a slot's manager what its segments in a range say of the slot's blocks.
-#[derive(Drop)]
 pub struct Deltas {
     /// The slot, 0 to 7.
     pub slot: u8,
@@ -16,6 +15,18 @@ pub struct Deltas {
     pub upto: u32,
     /// What they say, in rising order of segments.
     pub rows: List<(BlockId, Entry)>,
+}
+
+impl Drop for Deltas {
+    fn drop(self) {
+        let Deltas {
+            slot: _,
+            first: _,
+            upto: _,
+            rows,
+        } = self;
+        drop(rows);
+    }
 }
 
 /// A manager has applied a log to the index of a slot.
@@ -39,7 +50,6 @@ pub struct Poll {
 }
 
 /// The answer to a Poll.
-#[derive(Drop)]
 pub struct Report {
     /// The slot, 0 to 7.
     pub slot: u8,
@@ -49,6 +59,18 @@ pub struct Report {
     pub held: List<(BlockId, Mode)>,
     /// The end of its log.
     pub end: End,
+}
+
+impl Drop for Report {
+    fn drop(self) {
+        let Report {
+            slot: _,
+            epoch: _,
+            held,
+            end: _,
+        } = self;
+        drop(held);
+    }
 }
 
 impl Deltas {

@@ -6,7 +6,6 @@ use std::alloc::Global;
 use xfs_base::{Copied, Crosses, Mem, NodeId};
 
 /// What one node says to another. The network may lose a packet, bring it late, twice or out of order.
-#[derive(Drop)]
 pub struct Packet {
     /// Who sent it.
     pub from: NodeId,
@@ -17,6 +16,18 @@ pub struct Packet {
     pub clock: u64,
     /// What it says.
     pub body: Body,
+}
+
+impl Drop for Packet {
+    fn drop(self) {
+        let Packet {
+            from: _,
+            to: _,
+            clock: _,
+            body,
+        } = self;
+        drop(body);
+    }
 }
 
 /// What happens to a node.

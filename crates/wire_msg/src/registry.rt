@@ -7,7 +7,6 @@ use std::alloc::Global;
 use xfs_base::{Copied, Crosses, List, Mem, SegRef, SlotNews, copy_each};
 
 /// The maps as the registry has them.
-#[derive(Drop)]
 pub struct News {
     /// The version, which rises at each change.
     pub version: u32,
@@ -15,6 +14,18 @@ pub struct News {
     pub slots: List<SlotNews>,
     /// The stripe groups and the generations of the servers.
     pub groups: GroupMap,
+}
+
+impl Drop for News {
+    fn drop(self) {
+        let News {
+            version: _,
+            slots,
+            groups,
+        } = self;
+        drop(slots);
+        drop(groups);
+    }
 }
 
 /// A node asks the registry for the maps, and tells it of a restart or a loss.
@@ -27,7 +38,6 @@ pub struct Hello {
 }
 
 /// The answer to a Hello.
-#[derive(Drop)]
 pub struct Welcome {
     /// The incarnation of the Hello.
     pub inc: u32,
@@ -37,8 +47,18 @@ pub struct Welcome {
     pub news: News,
 }
 
+impl Drop for Welcome {
+    fn drop(self) {
+        let Welcome {
+            inc: _,
+            ask: _,
+            news,
+        } = self;
+        drop(news);
+    }
+}
+
 /// A manager has written a checkpoint of a slot.
-#[derive(Drop)]
 pub struct CkptDone {
     /// The slot, 0 to 7.
     pub slot: u8,
@@ -50,6 +70,20 @@ pub struct CkptDone {
     pub parts: List<SegRef>,
     /// For each log 1 to 9 the first segment number that the checkpoint does not cover.
     pub horizon: List<u32>,
+}
+
+impl Drop for CkptDone {
+    fn drop(self) {
+        let CkptDone {
+            slot: _,
+            epoch: _,
+            ask: _,
+            parts,
+            horizon,
+        } = self;
+        drop(parts);
+        drop(horizon);
+    }
 }
 
 /// The answer to a CkptDone.

@@ -5,12 +5,21 @@ use std::alloc::Global;
 use xfs_base::{Copied, FragMeta, Fragment, List, LogId, Mem, Pass, SegName};
 
 /// The writer of a log stores a fragment of a segment.
-#[derive(Drop)]
 pub struct Store {
     /// The fragment.
     pub fragment: Fragment,
     /// The generation of the server for which it is meant; a server of another generation refuses it.
     pub generation: u32,
+}
+
+impl Drop for Store {
+    fn drop(self) {
+        let Store {
+            fragment,
+            generation: _,
+        } = self;
+        drop(fragment);
+    }
 }
 
 /// A server holds a fragment.
@@ -34,7 +43,6 @@ pub struct Fetch {
 }
 
 /// A server answers a Fetch with its fragment.
-#[derive(Drop)]
 pub struct Found {
     /// The number of the question.
     pub ask: u32,
@@ -42,6 +50,17 @@ pub struct Found {
     pub generation: u32,
     /// The fragment.
     pub fragment: Fragment,
+}
+
+impl Drop for Found {
+    fn drop(self) {
+        let Found {
+            ask: _,
+            generation: _,
+            fragment,
+        } = self;
+        drop(fragment);
+    }
 }
 
 /// A server answers a Fetch: it holds no fragment of the segment.
@@ -65,7 +84,6 @@ pub struct Fence {
 }
 
 /// A server has fenced a log.
-#[derive(Drop)]
 pub struct Fenced {
     /// The log.
     pub log: LogId,
@@ -77,6 +95,18 @@ pub struct Fenced {
     pub held: List<FragMeta>,
 }
 
+impl Drop for Fenced {
+    fn drop(self) {
+        let Fenced {
+            log: _,
+            pass: _,
+            generation: _,
+            held,
+        } = self;
+        drop(held);
+    }
+}
+
 /// A node asks a server for all that it holds.
 #[derive(Clone, Copy)]
 pub struct ListAsk {
@@ -85,7 +115,6 @@ pub struct ListAsk {
 }
 
 /// The answer to a List.
-#[derive(Drop)]
 pub struct Listed {
     /// The number of the question.
     pub ask: u32,
@@ -93,6 +122,17 @@ pub struct Listed {
     pub generation: u32,
     /// What it holds.
     pub held: List<FragMeta>,
+}
+
+impl Drop for Listed {
+    fn drop(self) {
+        let Listed {
+            ask: _,
+            generation: _,
+            held,
+        } = self;
+        drop(held);
+    }
 }
 
 /// The cleaner deletes a segment with no live block.

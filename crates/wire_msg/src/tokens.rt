@@ -57,7 +57,6 @@ pub struct Forward {
 
 /// A client gives another client a copy of a block out of its cache (the 1996 paper, "Reads and
 /// Caching").
-#[derive(Drop)]
 pub struct Supply {
     /// The block.
     pub block: BlockId,
@@ -71,6 +70,20 @@ pub struct Supply {
     pub ver: u64,
     /// Its value.
     pub value: Value,
+}
+
+impl Drop for Supply {
+    fn drop(self) {
+        let Supply {
+            block: _,
+            stamp: _,
+            inc: _,
+            req: _,
+            ver: _,
+            value,
+        } = self;
+        drop(value);
+    }
 }
 
 /// A manager takes a block back from a client.

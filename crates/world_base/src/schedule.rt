@@ -46,7 +46,6 @@ impl Next {
 
 /// The packets on their way, what the net lines ask of the network, and how much may still happen for the
 /// line in hand. Contracts see it as a record.
-#[derive(Drop)]
 pub struct Schedule {
     /// The packets on their way, the oldest first.
     queue: VecDeque<usize>,
@@ -62,6 +61,21 @@ pub struct Schedule {
     deliveries: u32,
     /// How often time may still pass for the line.
     rounds: u128,
+}
+
+impl Drop for Schedule {
+    fn drop(self) {
+        let Schedule {
+            queue,
+            lose: _,
+            again: _,
+            mixer: _,
+            holding: _,
+            deliveries: _,
+            rounds: _,
+        } = self;
+        drop(queue);
+    }
 }
 
 impl Model for Schedule {

@@ -64,7 +64,9 @@ pub fn send_all(sent: &mut List<Packet>, clock: u64, packets: List<Packet>) -> M
     ensures { OnOk result (sent.new ≡ sent.old ++ map (sent_at clock) packets) }
 {
     for packet in packets.into_vec() {
-        sent.push(Packet { clock, ..packet })?;
+        let mut packet = packet;
+        packet.clock = clock;
+        sent.push(packet)?;
     }
     Ok(())
 }

@@ -4,7 +4,7 @@ ghost use Rattle.world_base.specs.Cluster.{HasNode, cluster_of};
 ghost use Rattle.world_base.specs.NextWorld.{after_turn, clock_at, first_node, first_nodes, happened, happened_at, next_world, start_world, turn_of};
 ghost use Rattle.node_base.specs.Setups.{IsSetup};
 
-use crate::turn::{clock_after, note_all, send_all, set_clock, turn_of};
+use crate::turn::{Turn, clock_after, note_all, send_all, set_clock, turn_of};
 use crate::{Cluster, Event, Member, items_of};
 use script_text::Script;
 use std::alloc::Global;
@@ -14,7 +14,6 @@ use xfs_base::{List, Mem, NodeId};
 
 /// A world of nodes of a kind. What was sent stays in it: the network may bring a packet late, or once
 /// more.
-#[derive(Drop)]
 pub struct World<N> {
     /// Which nodes there are.
     pub cluster: Cluster,
@@ -26,6 +25,22 @@ pub struct World<N> {
     pub sent: List<Packet>,
     /// All that was done, in order.
     pub acts: List<Act>,
+}
+
+impl<N: Drop> Drop for World<N> {
+    fn drop(self) {
+        let World {
+            cluster: _,
+            nodes,
+            clocks,
+            sent,
+            acts,
+        } = self;
+        drop(nodes);
+        drop(clocks);
+        drop(sent);
+        drop(acts);
+    }
 }
 
 /// The nodes before the first event of a script, in their order.
@@ -77,15 +92,24 @@ impl<N: Member> World<N> {
         requires clock { place < length self.clocks }
         ensures { IfOk result (λ world. world ≡ after_turn N.transition self place clock (turn_of N.transition self.nodes place what.now)) }
     {
-        let turn = turn_of(alloc, self.nodes, place, what)?;
-        let mut sent = self.sent;
-        send_all(&mut sent, clock, turn.packets)?;
-        let mut acts = self.acts;
-        note_all(&mut acts, turn.acts)?;
+        let World {
+            cluster,
+            nodes,
+            clocks,
+            mut sent,
+            mut acts,
+        } = self;
+        let Turn {
+            nodes,
+            packets,
+            acts: done,
+        } = turn_of(alloc, nodes, place, what)?;
+        send_all(&mut sent, clock, packets)?;
+        note_all(&mut acts, done)?;
         Ok(World {
-            cluster: self.cluster,
-            nodes: turn.nodes,
-            clocks: set_clock(self.clocks, place, clock),
+            cluster,
+            nodes,
+            clocks: set_clock(clocks, place, clock),
             sent,
             acts,
         })

@@ -8,9 +8,15 @@ use std::sync::ArcSlice;
 
 /// Bytes that never change. Contracts see the list of them. A copy shares them, so that a run may keep
 /// each packet that was sent at the cost of one.
-#[derive(Drop)]
 pub struct Bytes {
     shared: ArcSlice<u8, Global>,
+}
+
+impl Drop for Bytes {
+    fn drop(self) {
+        let Bytes { shared } = self;
+        drop(shared);
+    }
 }
 
 impl Model for Bytes {

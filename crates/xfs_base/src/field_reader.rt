@@ -7,10 +7,15 @@ use std::marker::Model;
 
 /// Reads fields from the left of some bytes; numbers are big-endian. Contracts see the bytes that are
 /// left and the offset of the first of them. No call takes memory.
-#[derive(Drop)]
 pub struct FieldReader<'a> {
     bytes: &'a [u8],
     place: usize,
+}
+
+impl<'a> Drop for FieldReader<'a> {
+    fn drop(self) {
+        let FieldReader { bytes: _, place: _ } = self;
+    }
 }
 
 impl<'a> Model for FieldReader<'a> {

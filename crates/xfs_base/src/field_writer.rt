@@ -8,9 +8,15 @@ use std::marker::Model;
 
 /// Writes fields one after the other; numbers are big-endian. Contracts see the bytes so far. Where
 /// memory is wanting, a call that appends leaves them unchanged.
-#[derive(Drop)]
 pub struct FieldWriter {
     bytes: Vec<u8>,
+}
+
+impl Drop for FieldWriter {
+    fn drop(self) {
+        let FieldWriter { bytes } = self;
+        drop(bytes);
+    }
 }
 
 impl Model for FieldWriter {
@@ -80,6 +86,7 @@ impl FieldWriter {
     pub fn done(self) -> List<u8>
         ensures { result ≡ self }
     {
-        List::from_vec(self.bytes)
+        let FieldWriter { bytes } = self;
+        List::from_vec(bytes)
     }
 }

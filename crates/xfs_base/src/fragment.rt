@@ -20,12 +20,18 @@ pub struct FragMeta {
 }
 
 /// One part of a segment's stripe (the 1996 paper, "RAID").
-#[derive(Drop)]
 pub struct Fragment {
     /// What it is a part of.
     pub meta: FragMeta,
     /// Its bytes.
     pub bytes: Bytes,
+}
+
+impl Drop for Fragment {
+    fn drop(self) {
+        let Fragment { meta: _, bytes } = self;
+        drop(bytes);
+    }
 }
 
 impl Fragment {

@@ -9,9 +9,15 @@ pub type Mem<T> = Result<T, AllocError>;
 
 /// A list of values. Contracts see it as the list of its items, so a struct that holds one is, in a
 /// clause, a plain record with a list in it.
-#[derive(Drop)]
 pub struct List<T> {
     vec: Vec<T>,
+}
+
+impl<T: Drop> Drop for List<T> {
+    fn drop(self) {
+        let List { vec } = self;
+        drop(vec);
+    }
 }
 
 impl<T> Model for List<T> {
@@ -43,7 +49,8 @@ impl<T> List<T> {
     pub fn into_vec(self) -> Vec<T>
         ensures { result.items ≡ self }
     {
-        self.vec
+        let List { vec } = self;
+        vec
     }
 
     /// The items as a slice.

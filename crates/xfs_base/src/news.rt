@@ -5,7 +5,6 @@ use crate::{Copied, List, Mem, SegRef};
 use std::alloc::Global;
 
 /// One slot of the manager map (the 1996 paper, "The Manager Map"), with its newest checkpoint.
-#[derive(Drop)]
 pub struct SlotNews {
     /// The slot, 0 to 7.
     pub slot: u8,
@@ -17,6 +16,20 @@ pub struct SlotNews {
     pub parts: List<SegRef>,
     /// For each log 1 to 9 the first segment number that the checkpoint does not cover.
     pub horizon: List<u32>,
+}
+
+impl Drop for SlotNews {
+    fn drop(self) {
+        let SlotNews {
+            slot: _,
+            epoch: _,
+            manager: _,
+            parts,
+            horizon,
+        } = self;
+        drop(parts);
+        drop(horizon);
+    }
 }
 
 impl SlotNews {

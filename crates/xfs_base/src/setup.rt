@@ -6,12 +6,18 @@ use std::alloc::Global;
 
 /// A stripe group (the 1996 paper, "Stripe Groups"): the storage servers over which a segment is striped,
 /// and how many fragments of each stripe are parity.
-#[derive(Drop)]
 pub struct GroupSetup {
     /// The servers, which differ: 3 to 8 with one parity fragment, 4 to 8 with two.
     pub servers: List<u8>,
     /// The number of parity fragments, 1 or 2: so many lost fragments of a stripe are made good.
     pub parity: u8,
+}
+
+impl Drop for GroupSetup {
+    fn drop(self) {
+        let GroupSetup { servers, parity: _ } = self;
+        drop(servers);
+    }
 }
 
 impl GroupSetup {
@@ -33,7 +39,6 @@ impl Copied for GroupSetup {
 }
 
 /// The nodes of a run and how they are set up. `docs/LANGUAGE.md` has the lines that state it.
-#[derive(Drop)]
 pub struct Setup {
     /// How many clients there are, 1 to 8.
     pub clients: u8,
@@ -47,6 +52,20 @@ pub struct Setup {
     pub cache: u16,
     /// Whether the acts are printed after the answers.
     pub acts: bool,
+}
+
+impl Drop for Setup {
+    fn drop(self) {
+        let Setup {
+            clients: _,
+            managers: _,
+            servers: _,
+            groups,
+            cache: _,
+            acts: _,
+        } = self;
+        drop(groups);
+    }
 }
 
 impl Setup {

@@ -6,9 +6,15 @@ use std::alloc::Global;
 use std::marker::Model;
 
 /// A text of any bytes. Contracts see it as the list of its bytes.
-#[derive(Drop)]
 pub struct Text {
     bytes: Vec<u8>,
+}
+
+impl Drop for Text {
+    fn drop(self) {
+        let Text { bytes } = self;
+        drop(bytes);
+    }
 }
 
 impl Model for Text {
@@ -79,7 +85,8 @@ impl Text {
     pub fn into_list(self) -> List<u8>
         ensures { result ≡ self }
     {
-        List::from_vec(self.bytes)
+        let Text { bytes } = self;
+        List::from_vec(bytes)
     }
 
     /// A text equal to this one.

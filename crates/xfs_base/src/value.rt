@@ -21,9 +21,15 @@ pub enum ValueError {
 
 /// The value of a block: Absent, or 1 to 8,192 bytes. Contracts see it as an option of its bytes, where
 /// none is Absent.
-#[derive(Drop)]
 pub struct Value {
     bytes: Option<Bytes>,
+}
+
+impl Drop for Value {
+    fn drop(self) {
+        let Value { bytes } = self;
+        drop(bytes);
+    }
 }
 
 impl Model for Value {
