@@ -14,7 +14,7 @@ use Rattle.xfs_base.specs.Stamps.{is_greater}
 use Rattle.xfs_base.proofs.Booleans.{contrary}
 use Rattle.xfs_base.proofs.Orders.{seg_cmp_total}
 use Rattle.xfs_base.proofs.Sorted.{sorted_insert, sorted_remove}
-use Rattle.fragment_store.specs.ShelfState.{same_name, held_at, entries_of, IsShelf}
+use Rattle.fragment_store.specs.ShelfState.{same_name, held_at, is_marked, entries_of, IsShelf}
 use Rattle.fragment_store.specs.Calls.{with_fragment}
 use Rattle.fragment_store.proofs.Names.{one_name}
 
@@ -89,11 +89,14 @@ module _ (es : List (SegName × Fragment)) (marks : List SegName) (h : IsShelf e
       → values_of (insert_entry seg_cmp es f.meta.name f) ≡ with_fragment f (values_of es)
   held-with f none = ap values_of (table_with f none) ∙ values-entries (with_fragment f (values_of es))
 
-  pub IsShelf-with : (f : Fragment) → lookup (is_at (seg_cmp f.meta.name)) es ≡ None → IsShelf (insert_entry seg_cmp es f.meta.name f) marks
-  IsShelf-with f none = record {
+  pub IsShelf-with : (f : Fragment) → lookup (is_at (seg_cmp f.meta.name)) es ≡ None
+      → ((name : SegName) → is_marked marks name ≡ true → held_at (with_fragment f (values_of es)) name ≡ None)
+      → IsShelf (insert_entry seg_cmp es f.meta.name f) marks
+  IsShelf-with f none away = record {
     named = named_by (insert_entry seg_cmp es f.meta.name f) (with_fragment f (values_of es)) (table_with f none);
     sorted = sorted_insert seg_cmp seg_cmp_total f.meta.name f es h.sorted;
     marked = h.marked;
+    away = subst (λ fs. (name : SegName) → is_marked marks name ≡ true → held_at fs name ≡ None) (sym (held-with f none)) away;
   }
 
   table_without : (name : SegName) → remove_entry (is_at (seg_cmp name)) es ≡ entries_of (filter (λ f. not (same_name name f.meta.name)) (values_of es))
@@ -104,11 +107,14 @@ module _ (es : List (SegName × Fragment)) (marks : List SegName) (h : IsShelf e
   pub held-without : (name : SegName) → values_of (remove_entry (is_at (seg_cmp name)) es) ≡ filter (λ f. not (same_name name f.meta.name)) (values_of es)
   held-without name = ap values_of (table_without name) ∙ values-entries (filter (λ f. not (same_name name f.meta.name)) (values_of es))
 
-  pub IsShelf-without : (name : SegName) (marks' : List SegName) → IsStrictlySortedBy seg_cmp marks' → IsShelf (remove_entry (is_at (seg_cmp name)) es) marks'
-  IsShelf-without name marks' marked = record {
+  pub IsShelf-without : (name : SegName) (marks' : List SegName) → IsStrictlySortedBy seg_cmp marks'
+      → ((other : SegName) → is_marked marks' other ≡ true → held_at (filter (λ f. not (same_name name f.meta.name)) (values_of es)) other ≡ None)
+      → IsShelf (remove_entry (is_at (seg_cmp name)) es) marks'
+  IsShelf-without name marks' marked away = record {
     named = named_by (remove_entry (is_at (seg_cmp name)) es) (filter (λ f. not (same_name name f.meta.name)) (values_of es)) (table_without name);
     sorted = sorted_remove seg_cmp (is_at (seg_cmp name)) es h.sorted;
     marked = marked;
+    away = subst (λ fs. (other : SegName) → is_marked marks' other ≡ true → held_at fs other ≡ None) (sym (held-without name)) away;
   }
 
   pub sorted_names : IsStrictlySortedBy seg_cmp (map (λ f. f.meta.name) (values_of es))
@@ -120,7 +126,7 @@ map-name-meta (f ∷ fs) = ap (λ ns. f.meta.name ∷ ns) (map-name-meta fs)
 
 pub IsShelf-empty : IsShelf [] []
 unfolding IsStrictlySortedBy
-IsShelf-empty = record { named = refl; sorted = tt; marked = tt }
+IsShelf-empty = record { named = refl; sorted = tt; marked = tt; away = λ name marked. refl }
 
 pub none_held : (o : Option Fragment) → is_some o ≡ false → o ≡ None
 none_held None e = refl

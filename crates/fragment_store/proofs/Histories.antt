@@ -169,16 +169,20 @@ held_until_deleted s (c ∷ cs) name f h = held_on s c cs name f (λ k. held_unt
 
 -- ---- nothing is held of a marked name
 
-apart : (s : ShelfState) (new : Fragment) (name : SegName) → is_marked s.marks new.meta.name ≡ false → is_marked s.marks name ≡ true
-    → held_at s.held name ≡ None → (t : Bool) → same_name name new.meta.name ≡ t → cond t (Some new) (held_at s.held name) ≡ None
-apart s new name unmarked marked none true e = contrary (sym unmarked ∙ (ap (is_marked s.marks) (sym (one_name name new.meta.name e)) ∙ marked))
-apart s new name unmarked marked none false e = none
+pub with_away : (new : Fragment) (held : List Fragment) (marks : List SegName) → held_at held new.meta.name ≡ None → is_marked marks new.meta.name ≡ false
+    → ((name : SegName) → is_marked marks name ≡ true → held_at held name ≡ None)
+    → (name : SegName) → is_marked marks name ≡ true → held_at (with_fragment new held) name ≡ None
+with_away new held marks none unmarked away name marked =
+    held-with new held name none ∙ apart (same_name name new.meta.name) refl
+  where
+    apart : (t : Bool) → same_name name new.meta.name ≡ t → cond t (Some new) (held_at held name) ≡ None
+    apart true e = contrary (sym unmarked ∙ (ap (is_marked marks) (sym (one_name name new.meta.name e)) ∙ marked))
+    apart false e = away name marked
 
 kept_away : (s : ShelfState) (new : Fragment) → is_marked s.marks new.meta.name ≡ false → DeletedAreAway s → DeletedAreAway (kept s new)
 kept_away s new unmarked away =
     by_test DeletedAreAway (is_held s new.meta.name) s (record s { held = with_fragment new s.held }) (λ e. away)
-    (λ e name m. held-with new s.held name (none_held (held_at s.held new.meta.name) e)
-    ∙ apart s new name unmarked m (away name m) (same_name name new.meta.name) refl)
+    (λ e. with_away new s.held s.marks (none_held (held_at s.held new.meta.name) e) unmarked away)
 
 not_marked : {A : Type 0} (a b : Bool) (x y : A) (o : Option A) → is_none (cond a (Some x) (cond b (Some y) o)) ≡ true → b ≡ false
 not_marked true b x y o h = contrary h
@@ -191,6 +195,10 @@ deleted_away : (s : ShelfState) (gone name : SegName) → DeletedAreAway s → (
 deleted_away s gone name away true e m = refl
 deleted_away s gone name away false e m = away name (sym (ap (λ t. t || is_marked s.marks name) (same_back name gone ∙ e)) ∙ m)
 
+pub deletion_away : (s : ShelfState) (gone : SegName) → DeletedAreAway s → DeletedAreAway (on_delete s gone)
+deletion_away s gone away =
+    λ name m. held-without gone s.held name ∙ deleted_away s gone name away (same_name gone name) refl (sym (is_marked-with s.marks gone name) ∙ m)
+
 away_after_call : (s : ShelfState) (c : Call) → DeletedAreAway s → DeletedAreAway (after_call s c)
 away_after_call s (Store new generation) away =
     by_test DeletedAreAway (is_none (store_refused s new.meta.name generation)) (kept s new) s
@@ -199,8 +207,7 @@ away_after_call s (Store new generation) away =
 away_after_call s (Fence log pass) away =
     by_test DeletedAreAway (is_greater (pass_cmp pass (fence_of s.fences log))) (record s { fences = insert_entry log_cmp s.fences log pass }) s (λ e. away)
     (λ e. away)
-away_after_call s (Delete gone) away =
-    λ name m. held-without gone s.held name ∙ deleted_away s gone name away (same_name gone name) refl (sym (is_marked-with s.marks gone name) ∙ m)
+away_after_call s (Delete gone) away = deletion_away s gone away
 away_after_call s (Fill new) away = by_test DeletedAreAway (is_marked s.marks new.meta.name) s (kept s new) (λ e. away) (λ e. kept_away s new e away)
 
 pub deleted_stay_away : (s : ShelfState) (calls : List Call) → DeletedAreAway s → DeletedAreAway (after_calls s calls)

@@ -1,3 +1,4 @@
+pub mod Again
 pub mod Barred
 pub mod Entries
 pub mod Histories

@@ -1,5 +1,5 @@
 -- What a storage server keeps, as contracts see it.
-use Rattle.std.specs.Prelude.{◌≡◌, ℕ, Bool, List, [], ◌∷◌, Option, is_some, find, unwrap_or}
+use Rattle.std.specs.Prelude.{◌≡◌, ℕ, Bool, List, [], ◌∷◌, Option, None, IsTrue, is_some, find, unwrap_or}
 use Rattle.std.specs.List.{list_any}
 use Rattle.std.specs.List.Sorted.{IsStrictlySortedBy}
 use Rattle.std.specs.Map.{lookup, keys_of, values_of}
@@ -49,8 +49,9 @@ abbrev pub entries_of : List Fragment → List (SegName × Fragment)
 entries_of [] = []
 entries_of (f ∷ fs) = (f.meta.name, f) ∷ entries_of fs
 
--- fragments are kept under their names, and these and the marks stand in order, each once
+-- fragments are kept under their names, these and the marks stand in order, each once, and nothing is held of a name that is marked
 pub record IsShelf (entries : List (SegName × Fragment)) (marks : List SegName) : Type 0 where
   pub named : entries ≡ entries_of (values_of entries)
   pub sorted : IsStrictlySortedBy seg_cmp (keys_of entries)
   pub marked : IsStrictlySortedBy seg_cmp marks
+  pub away : (name : SegName) → IsTrue (is_marked marks name) → held_at (values_of entries) name ≡ None

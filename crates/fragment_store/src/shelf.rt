@@ -1,5 +1,5 @@
 //! The shelf.
-ghost use Rattle.std.specs.Prelude.{◌≡◌, ◌≢◌, ◌↔◌, ◌⊎◌, ◌||◌, IfOk, OnOk, OnErr, IsErrOf, MatchResult, Some, None, Contains, map, not};
+ghost use Rattle.std.specs.Prelude.{◌≡◌, ◌≢◌, ◌↔◌, ◌⊎◌, ◌||◌, IfOk, OnOk, OnErr, IsErrOf, IsTrue, IsFalse, MatchResult, Some, None, Contains, map, not};
 ghost use Rattle.std.specs.List.Sorted.{IsStrictlySortedBy};
 ghost use Rattle.xfs_base.specs.declared.segment.SegName.{SegName};
 ghost use Rattle.xfs_base.specs.Segments.{seg_cmp};
@@ -55,8 +55,15 @@ impl Shelf {
     pub fn new(alloc: Global) -> Shelf
         ensures { result ≡ new_shelf }
     {
+        Shelf::in_generation(alloc, 1)
+    }
+
+    /// An empty shelf of this generation. It keeps the allocator and takes no memory.
+    pub fn in_generation(alloc: Global, generation: u32) -> Shelf
+        ensures { result ≡ record new_shelf { generation = generation } }
+    {
         Shelf {
-            generation: 1,
+            generation,
             held: BTreeMap::new(alloc),
             fences: BTreeMap::new(alloc),
             marks: BTreeSet::new(alloc),
@@ -150,7 +157,7 @@ impl Shelf {
         ensures ok { OnOk result (self.new ≡ on_fill self.old fragment) }
         ensures err { OnErr result (self.new ≡ self.old) }
     {
-        if self.marks.contains(&fragment.meta.name) {
+        if self.is_marked(fragment.meta.name) {
             return Ok(false);
         }
         self.keep(alloc, fragment)
@@ -194,14 +201,15 @@ impl Shelf {
         Ok(names)
     }
 
-    // Why a fragment of this name may not be kept.
-    fn refusal(&self, name: SegName, generation: u32) -> Option<StoreError>
+    /// Why `store` refuses a fragment of this name that is meant for this generation, `None` where it takes
+    /// it: the first of `WrongGeneration`, `Marked` and `Fenced` that holds, as there. Takes no memory.
+    pub fn refusal(&self, name: SegName, generation: u32) -> Option<StoreError>
         ensures { result ≡ store_refused self.now name generation }
     {
         if generation != self.generation {
             return Some(StoreError::WrongGeneration(self.generation));
         }
-        if self.marks.contains(&name) {
+        if self.is_marked(name) {
             return Some(StoreError::Marked);
         }
         let fence = self.fence_of(name.log);
@@ -211,8 +219,8 @@ impl Shelf {
         None
     }
 
-    // The pass for which a log was fenced.
-    fn fence_of(&self, log: LogId) -> Pass
+    /// The pass below which no store of this log is taken: (0, 0) where none was given. Takes no memory.
+    pub fn fence_of(&self, log: LogId) -> Pass
         ensures { result ≡ fence_of self.now.fences log }
     {
         match self.fences.get(&log) {
@@ -221,8 +229,19 @@ impl Shelf {
         }
     }
 
-    // Keeps the fragment, and answers true, where none of its name is held.
+    /// Whether a name was deleted: nothing of it is held then, and to delete it again changes nothing. Takes
+    /// no memory.
+    pub fn is_marked(&self, name: SegName) -> bool
+        ensures exact { result ≡ is_marked self.now.marks name }
+        ensures away { IsTrue result → held_at self.now.held name ≡ None }
+        ensures again { IsTrue result → on_delete self.now name ≡ self.now }
+    {
+        self.marks.contains(&name)
+    }
+
+    // Keeps the fragment, whose name isn't marked, and answers true, where none of its name is held.
     fn keep(&mut self, _alloc: Global, fragment: Fragment) -> Mem<bool>
+        requires { IsFalse (is_marked self.old.marks fragment.meta.name) }
         ensures new { IfOk result (λ new. new ≡ not (is_held self.old fragment.meta.name)) }
         ensures ok { OnOk result (self.new ≡ kept self.old fragment) }
         ensures err { OnErr result (self.new ≡ self.old) }

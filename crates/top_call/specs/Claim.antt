@@ -21,11 +21,11 @@ use Rattle.world_base.specs.declared.estate.Estate.{Estate}
 use Rattle.world_base.specs.Runs.{BeginsAll, IsRun, begun_in}
 use Rattle.xfs_base.specs.declared.node.NodeId.{NodeId}
 use Rattle.xfs_base.specs.declared.setup.Setup.{Setup}
+use Rattle.xfs_base.specs.Causes.{Rose}
 use Rattle.top_call.specs.declared.command.Command.{Command}
 use Rattle.top_call.specs.declared.command.Command.TheVariants.{Run, Gen, Big, Audit}
 use Rattle.top_call.specs.declared.command.Drawn.{Drawn}
 use Rattle.top_call.specs.declared.outcome.Outcome.{Outcome}
-use Rattle.top_call.specs.Causes.{Rose}
 use Rattle.top_call.specs.Commands.{reads}
 use Rattle.top_call.specs.Input.{limit, ReadWhole}
 use Rattle.top_call.specs.Output.{AppendsFront}

@@ -1,4 +1,3 @@
-pub mod Causes
 pub mod Claim
 pub mod Commands
 pub mod Input

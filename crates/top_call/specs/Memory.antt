@@ -1,7 +1,7 @@
 -- A source and a sink in memory, as contracts see them.
 use Rattle.std.specs.Prelude.{ℕ, Bool, ◌==◌, List, min, if◌then◌else◌}
 use Rattle.std.specs.List.{list_any}
-use Rattle.top_call.specs.Causes.{next_count}
+use Rattle.xfs_base.specs.Causes.{next_count}
 
 -- what is left, the most that a call gives, the calls that fail, the calls and the faults so far
 pub record Supply : Type 0 where

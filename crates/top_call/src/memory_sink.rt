@@ -2,7 +2,7 @@
 ghost use Rattle.std.specs.Prelude.{◌≡◌, ◌<◌, ◌≤◌, ◌+◌, ◌-◌, ◌↔◌, [], IsErr, Some, IfOk, length, take, true};
 ghost use Rattle.std.specs.Io.{WritesAtMost};
 ghost use Rattle.std.specs.Io.KnownBytes.{WriteAppends};
-ghost use Rattle.top_call.specs.Causes.{Rose, CountsFaults, next_count};
+ghost use Rattle.xfs_base.specs.Causes.{Rose, CountsFaults, next_count};
 ghost use Rattle.top_call.specs.Memory.{is_named, taken_of};
 
 use crate::Sink;

@@ -2,7 +2,7 @@
 ghost use Rattle.std.specs.Prelude.{◌≡◌, ◌<◌, ◌≤◌, ◌+◌, ◌-◌, ◌==◌, ◌↔◌, IsErr, Some, IfOk, length, take, drop, min, true};
 ghost use Rattle.std.specs.Io.{ReadsAtMost};
 ghost use Rattle.std.specs.Io.KnownBytes.{ReadConsumes};
-ghost use Rattle.top_call.specs.Causes.{CountsFaults, next_count};
+ghost use Rattle.xfs_base.specs.Causes.{CountsFaults, next_count};
 ghost use Rattle.top_call.specs.Memory.{is_named};
 
 use crate::Source;

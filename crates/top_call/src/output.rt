@@ -1,7 +1,7 @@
 //! Writing a whole text.
 ghost use Rattle.std.specs.Prelude.{◌<◌, ◌≤◌, [], length, take, IfOk, OnOk, OnErr};
 ghost use Rattle.std.specs.Io.KnownBytes.{Appends};
-ghost use Rattle.top_call.specs.Causes.{CountsFaults};
+ghost use Rattle.xfs_base.specs.Causes.{CountsFaults};
 ghost use Rattle.top_call.specs.Output.{AppendsFront};
 
 use crate::Sink;

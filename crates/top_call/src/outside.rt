@@ -3,7 +3,7 @@ ghost use Rattle.std.specs.Prelude.{◌≡◌, ◌<◌, List, ℕ, length, IfOk}
 ghost use Rattle.std.specs.declared.option.Option.{Option};
 ghost use Rattle.std.specs.Io.{ReadsAtMost, WritesAtMost};
 ghost use Rattle.std.specs.Io.KnownBytes.{ReadConsumes, WriteAppends};
-ghost use Rattle.top_call.specs.Causes.{Rose, CountsFaults};
+ghost use Rattle.xfs_base.specs.Causes.{Rose, CountsFaults};
 
 use xfs_base::Failed;
 

@@ -1,7 +1,7 @@
 //! Reading the whole input.
 ghost use Rattle.std.specs.Prelude.{◌<◌, ◌≤◌, length, IfOk, IsErrOf};
 ghost use Rattle.std.specs.Io.KnownBytes.{Consumes};
-ghost use Rattle.top_call.specs.Causes.{Rose};
+ghost use Rattle.xfs_base.specs.Causes.{Rose};
 ghost use Rattle.top_call.specs.Input.{limit, ReadWhole};
 
 use crate::Source;

@@ -1,4 +1,5 @@
 pub mod Blocks
+pub mod Causes
 pub mod Fields
 pub mod Limits
 pub mod Logs

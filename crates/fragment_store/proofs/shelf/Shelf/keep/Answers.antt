@@ -3,10 +3,12 @@ use Rattle.std.specs.Prelude.{not, is_some}
 use Rattle.std.specs.Map.{lookup, values_of}
 use Rattle.std.specs.BTreeMap.{is_at}
 use Rattle.xfs_base.specs.declared.fragment.Fragment.{Fragment}
+use Rattle.xfs_base.specs.declared.segment.SegName.{SegName}
 use Rattle.xfs_base.specs.Segments.{seg_cmp}
-use Rattle.fragment_store.specs.ShelfState.{ShelfState, IsShelf, is_held}
+use Rattle.fragment_store.specs.ShelfState.{ShelfState, IsShelf, held_at, is_held, is_marked}
 use Rattle.fragment_store.specs.Calls.{with_fragment, kept}
 use Rattle.fragment_store.proofs.Entries.{none_held, lookup-named, held-with, IsShelf-with}
+use Rattle.fragment_store.proofs.Histories.{with_away}
 use Rattle.fragment_store.proofs.shelf.Shelf.keep.Goals as goal
 
 pub returns-then-contains_key-clause-new : goal.returns-then-contains_key-clause-new
@@ -32,8 +34,15 @@ pub invariant_of-self-2 : goal.invariant_of-self-2
 invariant_of-self-2 c =
     let none : lookup (is_at (seg_cmp c.args.fragment.meta.name)) c.self.inside.held.entries ≡ None =
     none_held _ (sym c.contains_key.ensures ∙ c.if-contains_key.false) in
+    let unheld : held_at (values_of c.self.inside.held.entries) c.args.fragment.meta.name ≡ None =
+    sym (lookup-named c.self.inside.held.entries c.args.fragment.meta.name c.self.invariant.named) ∙ none in
+    let unmarked : is_marked c.self.inside.marks.keys c.args.fragment.meta.name ≡ false =
+    ap (λ s. is_marked s.marks c.args.fragment.meta.name) c.self.view_is ∙ c.requires in
+    let away : (name : SegName) → is_marked c.self.inside.marks.keys name ≡ true
+    → held_at (with_fragment c.args.fragment (values_of c.self.inside.held.entries)) name ≡ None =
+    with_away c.args.fragment (values_of c.self.inside.held.entries) c.self.inside.marks.keys unheld unmarked c.self.invariant.away in
     subst (λ es. IsShelf es c.self.inside.marks.keys) (sym c.in_ok-insert.ensures.entries)
-    (IsShelf-with c.self.inside.held.entries c.self.inside.marks.keys c.self.invariant c.args.fragment none)
+    (IsShelf-with c.self.inside.held.entries c.self.inside.marks.keys c.self.invariant c.args.fragment none away)
 
 pub returns-clause-new : goal.returns-clause-new
 returns-clause-new c =
