@@ -8,7 +8,7 @@ ghost use Rattle.audit.specs.Shapes.{is_digit, are_digits, is_numbered, is_write
 use script_text::word::{Words, cut_at, spells};
 
 /// What an act did.
-#[derive(Clone, Copy, Debug, PartialEq, Eq)]
+#[derive(Clone, Copy, PartialEq, Eq)]
 pub enum Verb {
     /// `a wrote c1 1/0 "x"`
     Wrote,

@@ -40,7 +40,7 @@ pub enum Phase {
 }
 
 /// What an item asks for.
-#[derive(Clone, Copy, Debug, PartialEq, Eq)]
+#[derive(Clone, Copy, PartialEq, Eq)]
 pub enum Wish {
     /// That the cleaner crashes.
     Crash,

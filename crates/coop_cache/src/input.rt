@@ -2,7 +2,7 @@
 use xfs_base::{BlockId, Crosses};
 
 /// What a cache takes.
-#[derive(Clone, Copy, Debug)]
+#[derive(Clone, Copy)]
 pub enum In {
     /// The block is cached and clean. It counts as used now.
     Clean(BlockId),

@@ -20,7 +20,7 @@ pub enum StoreError {
 }
 
 /// No fragment of the name is held.
-#[derive(Clone, Copy, Debug, PartialEq, Eq)]
+#[derive(Clone, Copy, PartialEq, Eq)]
 pub struct Missing;
 
 impl Crosses for StoreError {}

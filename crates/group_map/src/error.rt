@@ -14,7 +14,7 @@ pub enum GroupError {
 }
 
 /// No group has this id.
-#[derive(Clone, Copy, Debug, PartialEq, Eq)]
+#[derive(Clone, Copy, PartialEq, Eq)]
 pub struct NoGroup(pub u32);
 
 impl Crosses for GroupError {}

@@ -7,7 +7,7 @@ use std::alloc::Global;
 use xfs_base::{Copied, Crosses, List, Mem};
 
 /// A server as a member of a group.
-#[derive(Clone, Copy, Debug, PartialEq, Eq)]
+#[derive(Clone, Copy, PartialEq, Eq)]
 pub struct Member {
     /// The number of the storage server, from 1.
     pub server: u8,

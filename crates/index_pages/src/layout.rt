@@ -12,7 +12,7 @@ const DIRECT: u32 = 16;
 const INDIRECT: u32 = 64;
 
 /// A page of the index: it is known by its first block.
-#[derive(Clone, Copy, Debug, PartialEq, Eq)]
+#[derive(Clone, Copy, PartialEq, Eq)]
 pub struct Page {
     /// The first of the blocks that share the page.
     pub first: BlockId,

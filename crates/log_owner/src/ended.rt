@@ -33,7 +33,7 @@ pub(crate) enum Ended {
 }
 
 /// The owner of a log, in one of its incarnations.
-#[derive(Clone, Copy, Debug, PartialEq, Eq)]
+#[derive(Clone, Copy, PartialEq, Eq)]
 pub struct Owner {
     /// The log.
     pub log: LogId,

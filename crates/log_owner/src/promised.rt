@@ -12,7 +12,7 @@ use xfs_base::{List, Mem, NodeId, SlotNews};
 pub const SLOTS: u8 = 8;
 
 /// The manager of each slot, as the node knows them.
-#[derive(Clone, Copy, Debug, PartialEq, Eq)]
+#[derive(Clone, Copy, PartialEq, Eq)]
 pub struct Managers {
     /// Their numbers, by slot.
     pub numbers: [u8; 8],
@@ -69,7 +69,7 @@ fn first_number(managers: u8, slot: u8) -> u8
 }
 
 /// Which epoch each slot is promised to, and its manager.
-#[derive(Clone, Copy, Debug, PartialEq, Eq)]
+#[derive(Clone, Copy, PartialEq, Eq)]
 pub struct Promised {
     /// The epochs, by slot.
     pub epochs: [u32; 8],

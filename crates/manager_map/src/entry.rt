@@ -5,7 +5,7 @@ ghost use Rattle.manager_map.specs.Slots.{first_entry, next_entry};
 use xfs_base::Crosses;
 
 /// The manager of a slot, and the epoch since which it is. The epoch counts the slot's managers from 1.
-#[derive(Clone, Copy, Debug, PartialEq, Eq)]
+#[derive(Clone, Copy, PartialEq, Eq)]
 pub struct SlotEntry {
     /// The number of this assignment among those of its slot, from 1.
     pub epoch: u32,

@@ -12,12 +12,12 @@ use xfs_base::{Crosses, Ino};
 const SLOTS: usize = 8;
 
 /// No slot has this number: they are 0 to 7.
-#[derive(Clone, Copy, Debug, PartialEq, Eq)]
+#[derive(Clone, Copy, PartialEq, Eq)]
 pub struct BadSlot;
 
 /// Which manager each slot has (the 1996 paper, "The Manager Map": it turns some bits of a file's
 /// index number into its manager). Contracts see it as the entries of slots 0 to 7.
-#[derive(Clone, Copy, Debug, PartialEq, Eq)]
+#[derive(Clone, Copy, PartialEq, Eq)]
 pub struct ManagerMap {
     slots: [SlotEntry; SLOTS],
 }

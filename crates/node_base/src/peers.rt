@@ -6,7 +6,7 @@ use std::alloc::Global;
 use xfs_base::{List, Mem, NodeId, Setup};
 
 /// How many nodes of each kind there are; there is one cleaner and one registry.
-#[derive(Clone, Copy, Debug, PartialEq, Eq)]
+#[derive(Clone, Copy, PartialEq, Eq)]
 pub struct Peers {
     /// Clients are numbered from 1 to this.
     pub clients: u8,

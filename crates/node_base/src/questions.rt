@@ -3,7 +3,7 @@ ghost use Rattle.std.specs.Prelude.{◌≡◌};
 ghost use Rattle.node_base.specs.Asking.{next_ask, drawn, number_for, asked_as, drawn_for, own_of};
 
 /// The number of the last question of a node. It is kept over crashes, so that no number is drawn twice.
-#[derive(Clone, Copy, Debug, PartialEq, Eq)]
+#[derive(Clone, Copy, PartialEq, Eq)]
 pub struct Questions {
     /// The number; 0 where nothing was asked.
     pub last: u32,
@@ -31,7 +31,7 @@ impl Questions {
 
 /// Under which question of the node the newest question of one of its machines is out. A machine numbers
 /// its own questions from 1, and awaits answers to its newest one alone.
-#[derive(Clone, Copy, Debug, PartialEq, Eq)]
+#[derive(Clone, Copy, PartialEq, Eq)]
 pub struct Asked {
     /// The machine's number; 0 where it asked nothing.
     pub own: u32,

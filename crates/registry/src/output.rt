@@ -2,7 +2,7 @@
 use xfs_base::Crosses;
 
 /// What the registry gives.
-#[derive(Clone, Copy, Debug, PartialEq, Eq)]
+#[derive(Clone, Copy, PartialEq, Eq)]
 pub enum Out {
     /// The maps have changed: they go to all nodes.
     Changed,

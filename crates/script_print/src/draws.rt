@@ -3,7 +3,7 @@ ghost use Rattle.std.specs.Prelude.{◌≡◌};
 ghost use Rattle.script_print.specs.Generator.{mixed, drawn, draws_from};
 
 /// What one turn of the generator draws.
-#[derive(Clone, Copy, Debug, PartialEq, Eq)]
+#[derive(Clone, Copy, PartialEq, Eq)]
 pub struct Draws {
     /// What kind of line is made.
     pub kind: u32,

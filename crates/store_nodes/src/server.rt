@@ -67,7 +67,7 @@ impl Drop for Rebuilding {
 }
 
 /// What an item of a server asks for.
-#[derive(Clone, Copy, Debug, PartialEq, Eq)]
+#[derive(Clone, Copy, PartialEq, Eq)]
 pub enum Wish {
     /// The disk is lost.
     Lose,

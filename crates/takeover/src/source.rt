@@ -13,7 +13,7 @@ use std::collections::VecDeque;
 use xfs_base::{List, LogId, Mem, Pass, Prior, SegName, SegRef, SlotNews};
 
 /// A segment, and those before it in its log that are not below a number.
-#[derive(Clone, Copy, Debug, PartialEq, Eq)]
+#[derive(Clone, Copy, PartialEq, Eq)]
 pub(crate) struct Source {
     /// The segment that is read next.
     pub seg: SegRef,

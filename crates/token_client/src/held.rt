@@ -6,7 +6,7 @@ ghost use Rattle.token_client.specs.Held.{gives_after};
 use xfs_base::{Crosses, Entry, Mode, Place, Stamp, Value};
 
 /// A want that no answer has ended.
-#[derive(Clone, Copy, Debug, PartialEq, Eq)]
+#[derive(Clone, Copy, PartialEq, Eq)]
 pub struct Wanted {
     /// Its number. The client counts its wants from 1.
     pub req: u32,
@@ -17,7 +17,7 @@ pub struct Wanted {
 }
 
 /// A granted copy that has to be read from a log.
-#[derive(Clone, Copy, Debug, PartialEq, Eq)]
+#[derive(Clone, Copy, PartialEq, Eq)]
 pub struct Fetch {
     /// The version that was granted.
     pub ver: u64,
@@ -26,7 +26,7 @@ pub struct Fetch {
 }
 
 /// A recall that is put off until the block is clean.
-#[derive(Clone, Copy, Debug, PartialEq, Eq)]
+#[derive(Clone, Copy, PartialEq, Eq)]
 pub struct Giving {
     /// The stamp of the recall.
     pub stamp: Stamp,

@@ -12,7 +12,7 @@ const MAX_NUMBER: u32 = 2_147_483_647;
 const MAX_TURNS: u32 = 2_000;
 
 /// What the words ask for.
-#[derive(Clone, Copy, Debug, PartialEq, Eq)]
+#[derive(Clone, Copy, PartialEq, Eq)]
 pub enum Command {
     /// `run`: plays the script that is read.
     Run,
@@ -25,7 +25,7 @@ pub enum Command {
 }
 
 /// Which script is generated.
-#[derive(Clone, Copy, Debug, PartialEq, Eq)]
+#[derive(Clone, Copy, PartialEq, Eq)]
 pub struct Drawn {
     /// The number that draws it, at most 2,147,483,647.
     pub number: u32,

@@ -12,7 +12,7 @@ use xfs_base::{Failed, Text};
 pub const LIMIT: usize = 1_048_577;
 
 /// Why an input was not read.
-#[derive(Clone, Copy, Debug, PartialEq, Eq)]
+#[derive(Clone, Copy, PartialEq, Eq)]
 pub enum InputError {
     /// A read failed.
     Failed,

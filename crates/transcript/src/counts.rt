@@ -10,7 +10,7 @@ use world_base::Estate;
 use xfs_base::{Mem, Text};
 
 /// How many acts there are of each kind that is counted.
-#[derive(Clone, Copy, Debug, PartialEq, Eq)]
+#[derive(Clone, Copy, PartialEq, Eq)]
 pub struct Counts {
     /// Writes.
     pub wrote: u64,

@@ -11,7 +11,7 @@ use version_model::{Act, Fall, FallTold};
 use xfs_base::{BlockId, List, Mem, SegName};
 
 /// A block whose history got shorter, and the version to which it fell.
-#[derive(Clone, Copy, Debug, PartialEq, Eq)]
+#[derive(Clone, Copy, PartialEq, Eq)]
 pub struct Fallen {
     /// The block.
     pub block: BlockId,

@@ -13,7 +13,7 @@ use world_base::{Estate, actor_of};
 use xfs_base::{List, Mem, NodeId};
 
 /// An item of a node's list.
-#[derive(Clone, Copy, Debug, PartialEq, Eq, PartialOrd, Ord)]
+#[derive(Clone, Copy, PartialEq, Eq, PartialOrd, Ord)]
 pub struct ItemName {
     /// The node.
     pub node: NodeId,

@@ -6,7 +6,7 @@ use std::alloc::Global;
 use xfs_base::{BlockId, Copied, Crosses, List, Mem, NodeId, SegName, Value};
 
 /// What a crashed client may lose of one block.
-#[derive(Clone, Copy, Debug, PartialEq, Eq)]
+#[derive(Clone, Copy, PartialEq, Eq)]
 pub struct Fall {
     /// The block.
     pub block: BlockId,

@@ -5,7 +5,7 @@ use std::alloc::Global;
 use xfs_base::{Bytes, Copied, Crosses, List, Mem, SegName, Text, Value, copy_each};
 
 /// Why a call on files is refused. `docs/LANGUAGE.md` says when each comes.
-#[derive(Clone, Copy, Debug, PartialEq, Eq)]
+#[derive(Clone, Copy, PartialEq, Eq)]
 pub enum FileFault {
     /// There is no entry of that name.
     NoEntry,

@@ -2,7 +2,7 @@
 use xfs_base::Crosses;
 
 /// Whether a list of acts is legal.
-#[derive(Clone, Copy, Debug, PartialEq, Eq)]
+#[derive(Clone, Copy, PartialEq, Eq)]
 pub enum Verdict {
     /// It is, and has so many acts.
     Legal(u64),

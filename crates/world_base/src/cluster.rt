@@ -6,7 +6,7 @@ use xfs_base::{NodeId, Setup};
 
 /// How many nodes of each kind a run has. There is one cleaner and one registry. The nodes stand in the
 /// order of their names: clients, managers, servers, the cleaner, the registry.
-#[derive(Clone, Copy, Debug, PartialEq, Eq)]
+#[derive(Clone, Copy, PartialEq, Eq)]
 pub struct Cluster {
     /// How many clients, 1 to 8.
     pub clients: u8,

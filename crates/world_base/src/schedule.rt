@@ -21,7 +21,7 @@ const ROUNDS: u128 = 16;
 const ROUNDS_AN_ITEM: u128 = 4;
 
 /// What comes next.
-#[derive(Clone, Copy, Debug, PartialEq, Eq)]
+#[derive(Clone, Copy, PartialEq, Eq)]
 pub enum Next {
     /// The packet of this number is delivered.
     Deliver(usize),

@@ -7,7 +7,7 @@ use std::cmp::Ordering;
 /// The index number of a file (the 1996 paper, "File Directories and Index Numbers"). Its low 3 bits name
 /// the slot of the manager map, the next 4 bits the client that created the file, 0 for none, and the
 /// upper 25 bits are a counter. The root directory is 0.
-#[derive(Clone, Copy, Debug, PartialEq, Eq, PartialOrd, Ord, Hash)]
+#[derive(Clone, Copy, PartialEq, Eq, PartialOrd, Ord, Hash)]
 pub struct Ino(pub u32);
 
 impl Ino {
@@ -37,7 +37,7 @@ impl Ino {
 
 /// A block of a file: the unit of caching and of ownership (the 1996 paper, "Cache Consistency").
 /// Blocks of a file count from 0. The order is by index number, then by block number.
-#[derive(Clone, Copy, Debug, PartialEq, Eq, PartialOrd, Ord, Hash)]
+#[derive(Clone, Copy, PartialEq, Eq, PartialOrd, Ord, Hash)]
 pub struct BlockId {
     /// The file.
     pub ino: Ino,

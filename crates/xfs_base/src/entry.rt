@@ -2,7 +2,7 @@
 use crate::SegRef;
 
 /// Where a version of a block lies in a log.
-#[derive(Clone, Copy, Debug, PartialEq, Eq, PartialOrd, Ord)]
+#[derive(Clone, Copy, PartialEq, Eq)]
 pub struct Place {
     /// The segment.
     pub seg: SegRef,
@@ -12,7 +12,7 @@ pub struct Place {
 
 /// What an index holds of a block (the 1996 paper, "The Imap": the imap and the index nodes give a
 /// block's place). Version 0 is Absent, and an entry without a place is of an absent version.
-#[derive(Clone, Copy, Debug, PartialEq, Eq)]
+#[derive(Clone, Copy, PartialEq, Eq)]
 pub struct Entry {
     /// The version.
     pub ver: u64,

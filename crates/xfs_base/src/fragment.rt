@@ -5,7 +5,7 @@ use crate::{Bytes, Copied, Mem, Prior, SegName};
 use std::alloc::Global;
 
 /// What is said of a fragment: of which segment, over which group, and which part.
-#[derive(Clone, Copy, Debug, PartialEq, Eq)]
+#[derive(Clone, Copy, PartialEq, Eq)]
 pub struct FragMeta {
     /// The segment.
     pub name: SegName,

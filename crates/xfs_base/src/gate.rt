@@ -2,7 +2,7 @@
 use crate::NodeId;
 
 /// A read or a write of the outside failed.
-#[derive(Clone, Copy, Debug, PartialEq, Eq)]
+#[derive(Clone, Copy, PartialEq, Eq)]
 pub struct Failed;
 
 /// Watches the workers of a run with threads.
@@ -15,7 +15,7 @@ pub trait Gate: Sync {
 }
 
 /// A gate that lets every worker pass.
-#[derive(Clone, Copy, Debug)]
+#[derive(Clone, Copy)]
 pub struct OpenGate;
 
 impl Gate for OpenGate {

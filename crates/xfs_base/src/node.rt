@@ -9,7 +9,7 @@ use std::cmp::Ordering;
 /// A node of the cluster. Nodes of one kind count from 1: at most 8 clients, 4 managers and 12 storage
 /// servers; there is one cleaner and one registry. The order is clients, managers, servers, cleaner,
 /// registry, each by number.
-#[derive(Clone, Copy, Debug, PartialEq, Eq, PartialOrd, Ord)]
+#[derive(Clone, Copy, PartialEq, Eq, PartialOrd, Ord)]
 pub enum NodeId {
     /// Caches blocks and appends to a log of its own.
     Client(u8),

@@ -5,7 +5,7 @@ ghost use Rattle.xfs_base.specs.Segments.{pass_cmp, seg_cmp};
 use std::cmp::Ordering;
 
 /// A log: 1 to 8 are the clients', 9 is the cleaner's, 10 to 13 are the managers'.
-#[derive(Clone, Copy, Debug, PartialEq, Eq, PartialOrd, Ord)]
+#[derive(Clone, Copy, PartialEq, Eq, PartialOrd, Ord)]
 pub struct LogId(pub u8);
 
 /// By which try a segment was written: the incarnation of its writer, then the attempt of that
@@ -29,7 +29,7 @@ impl Pass {
 
 /// The name of a segment. One name names one content for ever. The order is by log, then number, then
 /// pass.
-#[derive(Clone, Copy, Debug, PartialEq, Eq, PartialOrd, Ord)]
+#[derive(Clone, Copy, PartialEq, Eq, PartialOrd, Ord)]
 pub struct SegName {
     /// The log that it is part of.
     pub log: LogId,
@@ -57,7 +57,7 @@ impl SegName {
 
 /// A segment and the stripe group over which it lies (the 1996 paper, "The Stripe Group Map": a log address holds
 /// the group).
-#[derive(Clone, Copy, Debug, PartialEq, Eq, PartialOrd, Ord)]
+#[derive(Clone, Copy, PartialEq, Eq)]
 pub struct SegRef {
     /// The segment.
     pub name: SegName,
@@ -66,7 +66,7 @@ pub struct SegRef {
 }
 
 /// The newest settled segment of a log. A number of 0 says that nothing is settled.
-#[derive(Clone, Copy, Debug, PartialEq, Eq)]
+#[derive(Clone, Copy, PartialEq, Eq)]
 pub struct End {
     /// Its number.
     pub seq: u32,
@@ -77,7 +77,7 @@ pub struct End {
 }
 
 /// The segment before another in its log, whose number is one lower. All zero says that there is none.
-#[derive(Clone, Copy, Debug, PartialEq, Eq)]
+#[derive(Clone, Copy, PartialEq, Eq)]
 pub struct Prior {
     /// The try by which it was written.
     pub pass: Pass,

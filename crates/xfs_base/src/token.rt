@@ -7,7 +7,7 @@ use std::cmp::Ordering;
 
 /// When a manager said something: in which epoch of its slot, and by which turn in that epoch. The order
 /// is by epoch, then by turn.
-#[derive(Clone, Copy, Debug, PartialEq, Eq, PartialOrd, Ord)]
+#[derive(Clone, Copy, PartialEq, Eq, PartialOrd, Ord)]
 pub struct Stamp {
     /// The epoch of the slot; it rises each time the slot gets a manager.
     pub epoch: u32,
@@ -32,7 +32,7 @@ impl Stamp {
 }
 
 /// What a client may do with a block that it caches (the 1996 paper, "Cache Consistency").
-#[derive(Clone, Copy, Debug, PartialEq, Eq, PartialOrd, Ord)]
+#[derive(Clone, Copy, PartialEq, Eq, PartialOrd, Ord)]
 pub enum Mode {
     /// It holds nothing.
     Nothing,
