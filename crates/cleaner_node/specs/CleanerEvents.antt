@@ -1,11 +1,11 @@
 -- What an event makes of the cleaner.
 use Rattle.std.specs.Prelude.{ℕ, ◌+◌, Bool, ◌&&◌, nat_lt, if◌then◌else◌, List, [], ◌∷◌, ◌++◌, Option, Some, None}
-use Rattle.cleaner_emptying.specs.declared.emptying.Emptying.{Emptying}
-use Rattle.cleaner_emptying.specs.EmptyingEvents.{at_first, served, on_clean, on_packet, on_tick, emptying_room}
-use Rattle.cleaner_emptying.specs.Jobs.{Done}
-use Rattle.cleaner_parts.specs.declared.lasting.Lasting.{Lasting}
-use Rattle.cleaner_parts.specs.Lasting.{lasting_room}
-use Rattle.cleaner_parts.specs.Starting.{cleaner_log}
+use Rattle.cleaner_serving.specs.declared.emptying.Emptying.{Emptying}
+use Rattle.cleaner_serving.specs.EmptyingEvents.{at_first, served, on_clean, on_packet, on_tick, emptying_room}
+use Rattle.cleaner_serving.specs.Jobs.{Done}
+use Rattle.cleaner_job.specs.declared.lasting.Lasting.{Lasting}
+use Rattle.cleaner_job.specs.Lasting.{lasting_room}
+use Rattle.cleaner_job.specs.Starting.{cleaner_log}
 use Rattle.log_owner.specs.declared.ended.Owner.{Owner}
 use Rattle.log_owner.specs.declared.opened.Opened.{Opened}
 use Rattle.log_owner.specs.declared.opened.Progress.{Progress}

@@ -1,6 +1,6 @@
 -- What a crash may make of the blocks whose newest version isn't settled.
 use Rattle.std.specs.Prelude.{map}
-use Rattle.client_parts.specs.Crash.{flown_version, flight_of}
+use Rattle.client_call.specs.Crash.{flown_version, flight_of}
 use Rattle.client_serving.specs.declared.serving.Serving.{Serving}
 use Rattle.node_base.specs.declared.effects.Effect.{Effect}
 use Rattle.node_base.specs.declared.effects.Effect.TheVariants.{Does}

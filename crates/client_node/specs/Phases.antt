@@ -5,14 +5,14 @@ use Rattle.client_node.specs.declared.beginning.Wish.{Wish}
 use Rattle.client_node.specs.declared.client.Client.{Client}
 use Rattle.client_node.specs.declared.phase.Phase.TheVariants.{Down, Opening, Serving as Serves}
 use Rattle.client_node.specs.declared.phase.Phase.{Phase}
-use Rattle.client_parts.specs.declared.lasting.Lasting.{Lasting}
-use Rattle.client_parts.specs.Lasting.{next_life}
+use Rattle.client_call.specs.declared.lasting.Lasting.{Lasting}
+use Rattle.client_call.specs.Lasting.{next_life}
 use Rattle.client_node.specs.Crash.{falls}
 use Rattle.client_serving.specs.declared.serving.Serving.{Serving}
-use Rattle.client_calls.specs.Opens.{opens}
+use Rattle.client_running.specs.Opens.{opens}
 use Rattle.client_serving.specs.Packets.{on_packet, on_tick}
 use Rattle.client_node.specs.Room.{serving_room}
-use Rattle.client_calls.specs.Running.{runs}
+use Rattle.client_running.specs.Running.{runs}
 use Rattle.client_serving.specs.Sends.{Done}
 use Rattle.client_node.specs.Serving.{returned}
 use Rattle.log_owner.specs.declared.ended.Owner.{Owner}

@@ -1,8 +1,8 @@
 -- The ends of counters: whether each of a client that serves is at least 65,536 below its end.
 use Rattle.std.specs.Prelude.{ℕ, Bool, ◌&&◌, Option, Some, None}
-use Rattle.client_parts.specs.Calls.{block_of}
-use Rattle.client_parts.specs.declared.call.Call.{Call}
-use Rattle.client_parts.specs.Promises.{epochs_room}
+use Rattle.client_call.specs.Calls.{block_of}
+use Rattle.client_call.specs.declared.call.Call.{Call}
+use Rattle.client_call.specs.Promises.{epochs_room}
 use Rattle.client_serving.specs.declared.serving.Serving.{Serving}
 use Rattle.log_owner.specs.Opening.{log_room}
 use Rattle.node_base.specs.Room.{has_room}

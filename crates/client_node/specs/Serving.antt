@@ -2,8 +2,8 @@
 use Rattle.std.specs.Prelude.{ℕ, None, replicate}
 use Rattle.client_log.specs.LogState as log
 use Rattle.client_log.specs.LogState.{LogState}
-use Rattle.client_parts.specs.declared.lasting.Lasting.{Lasting}
-use Rattle.client_parts.specs.Starting.{cached_upto, empty_end}
+use Rattle.client_call.specs.declared.lasting.Lasting.{Lasting}
+use Rattle.client_call.specs.Starting.{cached_upto, empty_end}
 use Rattle.client_serving.specs.declared.serving.Serving.{Serving}
 use Rattle.coop_cache.specs.CacheState as cache
 use Rattle.delta_feed.specs.FeedState as feed

@@ -2,7 +2,7 @@
 use Rattle.std.specs.Prelude.{ℕ, List}
 use Rattle.client_node.specs.declared.client.Client.{Client}
 use Rattle.client_node.specs.declared.phase.Phase.TheVariants.{Serving as Serves}
-use Rattle.client_parts.specs.Lasting.{first_lasting}
+use Rattle.client_call.specs.Lasting.{first_lasting}
 use Rattle.client_node.specs.Serving.{first_serving}
 use Rattle.group_map.specs.Groups as groups
 use Rattle.node_base.specs.Nodes.{peers_of}

@@ -4,7 +4,7 @@ ghost use Rattle.client_node.specs.declared.phase.Phase.TheVariants.{Opening as 
 ghost use Rattle.client_node.specs.Phases.{on_begin, delivers, on_time, on_event, client_room, takes};
 ghost use Rattle.client_node.specs.Starting.{first_client};
 ghost use Rattle.client_serving.specs.Packets.{on_packet, on_tick};
-ghost use Rattle.client_calls.specs.Running.{runs};
+ghost use Rattle.client_running.specs.Running.{runs};
 ghost use Rattle.node_base.specs.Setups.{IsSetup};
 ghost use Rattle.segment_format.specs.Format.{IsLog};
 
@@ -13,8 +13,8 @@ use crate::beginning::{begin_down, begin_opening, begin_serving};
 use crate::returning::phase_after;
 use crate::room::phase_has_room;
 use crate::serving::serves_first;
-use client_calls::run;
-use client_parts::Lasting;
+use client_running::run;
+use client_call::Lasting;
 use client_serving::Serving;
 use log_owner::Opening;
 use node_base::{Effects, Peers, groups_of, has_room, is_well_formed};

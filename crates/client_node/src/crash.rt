@@ -2,7 +2,7 @@
 ghost use Rattle.std.specs.Prelude.{◌≡◌, ◌++◌, ◌∷◌, [], OnOk};
 ghost use Rattle.client_node.specs.Crash.{falls};
 
-use client_parts::crash::{falls, flight};
+use client_call::crash::{falls, flight};
 use client_serving::Serving;
 use node_base::Effects;
 use std::alloc::Global;

@@ -2,7 +2,7 @@
 ghost use Rattle.std.specs.Prelude.{◌≡◌};
 ghost use Rattle.client_node.specs.Phases.{lasting_of};
 
-use client_parts::Lasting;
+use client_call::Lasting;
 use client_serving::Serving;
 use log_owner::Opening;
 

@@ -4,7 +4,7 @@ ghost use Rattle.client_node.specs.Phases.{phase_room};
 ghost use Rattle.client_node.specs.Room.{asked_again, open_block, serving_room};
 
 use crate::Phase;
-use client_parts::promises::epochs_have_room;
+use client_call::promises::epochs_have_room;
 use client_serving::Serving;
 use log_owner::log_has_room;
 use node_base::has_room;

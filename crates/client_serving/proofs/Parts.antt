@@ -1,8 +1,8 @@
 -- What changes the tokens alone changes no other part of a client that serves.
 use Rattle.std.proofs.Common.{◌≡◌, List, [], ◌∷◌, refl, ap, ◌∙◌}
 use Rattle.std.specs.Prelude.{fold}
-use Rattle.client_parts.specs.Flights.{row_settled}
-use Rattle.client_parts.specs.Follow.{drops}
+use Rattle.client_call.specs.Flights.{row_settled}
+use Rattle.client_call.specs.Follow.{drops}
 use Rattle.client_serving.specs.declared.serving.Serving.{Serving}
 use Rattle.client_serving.specs.Flights.{keeps_clean, notes_settled, settled_rows}
 use Rattle.client_serving.specs.Follow.{evicts, notes_clean}

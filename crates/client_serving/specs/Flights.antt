@@ -6,8 +6,8 @@ use Rattle.client_log.specs.declared.input.In.TheVariants.{Acked}
 use Rattle.client_log.specs.declared.output.Out.{Out}
 use Rattle.client_log.specs.declared.output.Out.TheVariants.{Send, Settled}
 use Rattle.client_log.specs.Transition as log
-use Rattle.client_parts.specs.Flights.{is_settling, is_giving}
-use Rattle.client_parts.specs.Lasting.{log_of}
+use Rattle.client_call.specs.Flights.{is_settling, is_giving}
+use Rattle.client_call.specs.Lasting.{log_of}
 use Rattle.client_serving.specs.declared.serving.Serving.{Serving}
 use Rattle.client_serving.specs.Follow.{notes_clean, seals, takes_back}
 use Rattle.client_serving.specs.Sends.{Done, gives}

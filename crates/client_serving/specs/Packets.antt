@@ -2,8 +2,8 @@
 use Rattle.std.specs.Prelude.{ℕ, Bool, option_map, ◌==◌, ◌&&◌, not, nat_lt, nat_le, if◌then◌else◌, List, [], ◌∷◌, ◌++◌, Option, Some, None}
 use Rattle.std.specs.List.{flat_map}
 use Rattle.client_log.specs.declared.input.In.TheVariants as log_in
-use Rattle.client_parts.specs.Grants.{supplies, is_stamp, is_want}
-use Rattle.client_parts.specs.Reads.{Heard, block_read, heard, fetches_again, reading_in, value_at}
+use Rattle.client_call.specs.Grants.{supplies, is_stamp, is_want}
+use Rattle.client_call.specs.Reads.{Heard, block_read, heard, fetches_again, reading_in, value_at}
 use Rattle.client_serving.specs.declared.serving.Serving.{Serving}
 use Rattle.client_serving.specs.Flights.{held_at, writes, on_stored}
 use Rattle.client_serving.specs.Follow.{follows, hands, takes_back}

@@ -1,6 +1,6 @@
 -- Reading a block from a log.
 use Rattle.std.specs.Prelude.{ℕ, if◌then◌else◌, ◌∷◌, Option, Some, None, is_none}
-use Rattle.client_parts.specs.Reads.{reading_in, call_with, kept_while, fetches, target_of, same_target}
+use Rattle.client_call.specs.Reads.{reading_in, call_with, kept_while, fetches, target_of, same_target}
 use Rattle.client_serving.specs.declared.serving.Serving.{Serving}
 use Rattle.client_serving.specs.Sends.{Done, gives}
 use Rattle.group_map.specs.declared.group.Group.{Group}

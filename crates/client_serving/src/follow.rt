@@ -3,9 +3,9 @@ ghost use Rattle.std.specs.Prelude.{◌≡◌, ◌++◌, OnOk};
 ghost use Rattle.client_serving.specs.Follow.{follows, follows_one, hands, notes_clean, notes_copy, notes_gone, seals, takes_back};
 
 use crate::Serving;
-use client_parts::flights;
-use client_parts::follow::{evict_all, send_gave, send_want};
-use client_parts::reads::end_reading;
+use client_call::flights;
+use client_call::follow::{evict_all, send_gave, send_want};
+use client_call::reads::end_reading;
 use node_base::Effects;
 use std::alloc::Global;
 use token_client::{In, Out};

@@ -3,8 +3,8 @@ ghost use Rattle.std.specs.Prelude.{◌≡◌, ◌++◌, OnOk};
 ghost use Rattle.client_serving.specs.Packets.{again, on_gone, on_grant, on_recall, on_supply};
 
 use crate::Serving;
-use client_parts::follow::say_gave;
-use client_parts::grants::{is_gone, is_stamp, lose};
+use client_call::follow::say_gave;
+use client_call::grants::{is_gone, is_stamp, lose};
 use node_base::{Effects, has_long_room};
 use std::alloc::Global;
 use token_client::{In, Out};

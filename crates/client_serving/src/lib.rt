@@ -1,6 +1,6 @@
 //! A client that serves: it keeps its tokens, its log, the feed of its deltas, its cache and the call that is
 //! open; each packet and each tick is a short composition of what these parts do. What its calls do is of
-//! `client_calls`, and how it begins to serve of `client_node`.
+//! `client_running`, and how it begins to serve of `client_node`.
 #![tactic(auto)]
 
 mod flights;

@@ -4,8 +4,8 @@ ghost use Rattle.client_serving.specs.Packets.{hears, on_news, on_poll, on_welco
 ghost use Rattle.xfs_base.specs.Steps.{steps};
 
 use crate::Serving;
-use client_parts::promises::report;
-use client_parts::reads::end_reading;
+use client_call::promises::report;
+use client_call::reads::end_reading;
 use group_map::GroupMap;
 use node_base::Effects;
 use std::alloc::Global;

@@ -4,8 +4,8 @@ ghost use Rattle.client_serving.specs.Packets.{ends_fetch, on_found, on_missing,
 ghost use Rattle.client_serving.specs.Reads.{ask_after, begins, confirmed_next, confirms, drawn_after, loses_at, reads, reads_over};
 
 use crate::Serving;
-use client_parts::grants::lose;
-use client_parts::reads::{
+use client_call::grants::lose;
+use client_call::reads::{
     ask_reading, block_read, hear, same_target, set_reading, take_reading, target_of, value_at,
 };
 use node_base::Effects;

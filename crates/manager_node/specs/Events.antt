@@ -2,7 +2,7 @@
 use Rattle.std.specs.Prelude.{ℕ, Bool, ◌==◌, ◌&&◌, if◌then◌else◌, List, [], ◌∷◌}
 use Rattle.group_map.specs.Groups.{started as groups_started}
 use Rattle.log_owner.specs.Sending.{hello}
-use Rattle.manager_parts.specs.declared.lasting.Lasting.{Lasting as Kept}
+use Rattle.manager_slots.specs.declared.lasting.Lasting.{Lasting as Kept}
 use Rattle.manager_serving.specs.Serving.{first, again, on_news, hears, on_tick}
 use Rattle.node_base.specs.Beginning.{started as items_started}
 use Rattle.node_base.specs.declared.peers.Peers.{Peers}

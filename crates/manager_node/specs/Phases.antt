@@ -1,9 +1,9 @@
 -- Where a manager stands, and what its next item makes of it.
 use Rattle.std.specs.Prelude.{ℕ, Bool, [], ◌∷◌, ◌++◌, Option, Some, None}
 use Rattle.log_owner.specs.Sending.{hello}
-use Rattle.manager_parts.specs.declared.lasting.Lasting.{Lasting as Kept}
-use Rattle.manager_parts.specs.Lasting.{kept_has_room, with_answer}
-use Rattle.manager_parts.specs.Numbers.{risen}
+use Rattle.manager_slots.specs.declared.lasting.Lasting.{Lasting as Kept}
+use Rattle.manager_slots.specs.Lasting.{kept_has_room, with_answer}
+use Rattle.manager_slots.specs.Numbers.{risen}
 use Rattle.manager_serving.specs.Checkpoints.{Done, on_checkpoint}
 use Rattle.manager_serving.specs.declared.serving.Serving.{Serving}
 use Rattle.manager_serving.specs.Serving.{serving_room}

@@ -4,12 +4,12 @@ ghost use Rattle.log_owner.specs.Sending as sending;
 ghost use Rattle.node_base.specs.declared.effects.Effect.TheVariants.{Answer as Answers};
 ghost use Rattle.version_model.specs.declared.answer.Answer.TheVariants.{Done};
 ghost use Rattle.manager_node.specs.Phases.{answers, serves, wish_of, crashes, restarts, down_wish, waiting_wish, serving_wish, begin_down, begin_waiting, begin_serving};
-ghost use Rattle.manager_parts.specs.Lasting.{with_answer};
+ghost use Rattle.manager_slots.specs.Lasting.{with_answer};
 ghost use Rattle.manager_serving.specs.Checkpoints as checkpoints;
 
 use crate::phase::Phase;
 use log_owner::sending::send_hello;
-use manager_parts::Lasting;
+use manager_slots::Lasting;
 use manager_serving::Serving;
 use node_base::Effects;
 use std::alloc::Global;

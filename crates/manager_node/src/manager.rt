@@ -12,7 +12,7 @@ use crate::beginning::{begin_down, begin_serving, begin_waiting};
 use crate::phase::Phase;
 use group_map::GroupMap;
 use log_owner::sending::send_hello;
-use manager_parts::Lasting;
+use manager_slots::Lasting;
 use manager_serving::Serving;
 use node_base::{Effects, Items, Maps, Peers, Questions, groups_of, is_well_formed};
 use std::alloc::Global;

@@ -14,9 +14,9 @@ use Rattle.client_log.specs.declared.output.Out.TheVariants as log_out
 use Rattle.client_log.specs.LogState.{LogState}
 use Rattle.client_log.specs.Transition as log
 use Rattle.log_owner.specs.Sending.{store, name_of}
-use Rattle.manager_parts.specs.Lasting.{log_of, with_answer}
-use Rattle.manager_parts.specs.Numbers.{risen, slot_after}
-use Rattle.manager_parts.specs.SlotTable.{next_active, begin_at, cleaned_at, named_at}
+use Rattle.manager_slots.specs.Lasting.{log_of, with_answer}
+use Rattle.manager_slots.specs.Numbers.{risen, slot_after}
+use Rattle.manager_slots.specs.SlotTable.{next_active, begin_at, cleaned_at, named_at}
 use Rattle.node_base.specs.Asking.{next_ask, drawn}
 use Rattle.node_base.specs.Beginning.{waiting, answers_unanswered}
 use Rattle.node_base.specs.declared.effects.Effect.{Effect}

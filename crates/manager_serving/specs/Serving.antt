@@ -6,10 +6,10 @@ use Rattle.client_log.specs.LogState.{started as log_started}
 use Rattle.group_map.specs.GroupMapState.{GroupMapState}
 use Rattle.log_owner.specs.Opening.{log_room}
 use Rattle.log_owner.specs.Sending.{hello, server_in}
-use Rattle.manager_parts.specs.declared.lasting.Lasting.{Lasting as Kept}
-use Rattle.manager_parts.specs.Lasting.{log_of, kept_has_room}
-use Rattle.manager_parts.specs.SlotTable as table
-use Rattle.manager_parts.specs.SlotTable.{Table, TableAsker, Asks, Hearer}
+use Rattle.manager_slots.specs.declared.lasting.Lasting.{Lasting as Kept}
+use Rattle.manager_slots.specs.Lasting.{log_of, kept_has_room}
+use Rattle.manager_slots.specs.SlotTable as table
+use Rattle.manager_slots.specs.SlotTable.{Table, TableAsker, Asks, Hearer}
 use Rattle.node_base.specs.Asking.{next_ask, drawn}
 use Rattle.node_base.specs.declared.maps.Maps.{Maps}
 use Rattle.node_base.specs.Known.{names_known}

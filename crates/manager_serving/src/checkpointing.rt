@@ -2,8 +2,8 @@
 ghost use Rattle.std.specs.Prelude.{◌≡◌, ◌++◌, OnOk, fold};
 ghost use Rattle.std.specs.List.{flat_map};
 ghost use Rattle.node_base.specs.declared.effects.Effect.TheVariants.{Send};
-ghost use Rattle.manager_parts.specs.Numbers.{risen};
-ghost use Rattle.manager_parts.specs.SlotTable.{named_at};
+ghost use Rattle.manager_slots.specs.Numbers.{risen};
+ghost use Rattle.manager_slots.specs.SlotTable.{named_at};
 ghost use Rattle.manager_serving.specs.Checkpoints.{stored, gives_parts, awaiting, registers, says, says_each, writer_takes, on_settled, log_says, log_says_each, writes, on_stored, begins_slot, next_slot, on_checkpoint, awaits, kept_in, stale_in, counted, on_ckpt_ack, told_again, tells_again};
 
 use crate::serving::Serving;

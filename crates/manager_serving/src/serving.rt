@@ -3,7 +3,7 @@ ghost use Rattle.std.specs.Prelude.{◌≡◌, ◌++◌, ◌≤◌, IfOk, OnOk};
 ghost use Rattle.segment_format.specs.Format.{IsLog};
 ghost use Rattle.checkpoint.specs.Transition as writers;
 ghost use Rattle.client_log.specs.LogState as logs;
-ghost use Rattle.manager_parts.specs.SlotTable as tables;
+ghost use Rattle.manager_slots.specs.SlotTable as tables;
 ghost use Rattle.manager_serving.specs.Serving.{no_end, begun, first, again, serving_room, on_want, on_gave, on_deltas, on_check, on_usage_ask, takes, on_report, fetch_of, on_found, on_missing, regroups, hears_slots, on_newer, on_news, on_fitting_news, on_welcome, asks_for_maps, on_body, hears, recalls_again, asks_again, on_tick};
 
 use crate::checkpointing::Checkpointing;
@@ -13,7 +13,7 @@ use client_log::Log;
 use group_map::GroupMap;
 use log_owner::log_has_room;
 use log_owner::sending::send_hello;
-use manager_parts::{Ears, Lasting, SlotTable};
+use manager_slots::{Ears, Lasting, SlotTable};
 use node_base::{Effects, Maps, has_room, names_known_groups};
 use std::alloc::Global;
 use takeover::In;

@@ -3,7 +3,7 @@
 
 ghost use Rattle.run_laws.specs.filed_law.Told.{EventsKeepTold, EveryRunToldWasFiled, RunsStartTold, ToldHorizonsWereFiled};
 
-use telling_ties::filed_tie::{
+use node_tellings::filed_tie::{
     cleaner_tells_what_is_filed, clients_tell_what_is_filed, managers_tell_what_is_filed,
     registry_tells_what_is_filed, servers_tell_what_is_filed,
 };

@@ -5,11 +5,11 @@
 ghost use Rattle.run_laws.specs.reading_law.Readings.{RunsReadWhatCame};
 
 use group_map::laws::groups_stay_as_made;
-use node_ties::node_tie::{
+use node_slots::node_tie::{
     client_events_are_seen, clients_ask_for_their_call, manager_events_are_seen,
     other_events_are_seen,
 };
-use telling_ties::reading_tie::{
+use node_tellings::reading_tie::{
     cleaner_empties_what_was_listed, cleaner_reads_what_came, clients_read_what_came,
     managers_read_what_came,
 };

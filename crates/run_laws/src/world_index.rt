@@ -8,12 +8,12 @@
 ghost use Rattle.run_laws.specs.world_index.Laws.{EveryRunKeepsIndexes};
 
 use index_tie::cleaning_loses_nothing;
-use node_ties::node_index_tie::{manager_events_are_seen, registry_events_are_seen};
-use node_ties::node_tie::{
+use node_slots::node_index_tie::{manager_events_are_seen, registry_events_are_seen};
+use node_slots::node_tie::{
     client_events_are_seen, clients_ask_for_their_call,
     manager_events_are_seen as manager_tokens_are_seen, other_events_are_seen,
 };
-use node_ties::owner_index_tie::{
+use node_slots::owner_index_tie::{
     cleaner_index_events_are_seen, client_index_events_are_seen, server_index_events_are_seen,
 };
 

@@ -9,7 +9,7 @@ ghost use Rattle.run_laws.specs.world_law.Fallen.{EveryRunHasFallsApart, NobodyH
 ghost use Rattle.run_laws.specs.world_law.Managers.{EveryRunHasOneManager};
 ghost use Rattle.run_laws.specs.world_law.Owners.{EveryRunHasOneOwner};
 
-use node_ties::node_tie::{
+use node_slots::node_tie::{
     client_events_are_seen, clients_ask_for_their_call, manager_events_are_seen,
     other_events_are_seen,
 };

@@ -14,7 +14,7 @@ use log_law::{
     ends_are_last, logs_stay_in_line, logs_stay_whole, openings_go_on, what_flew_is_written,
     what_is_held_flew,
 };
-use node_ties::owner_index_tie::owners_file_their_flights;
+use node_slots::owner_index_tie::owners_file_their_flights;
 
 /// Lines are filed as the index wants it, and give what it is owed of logs.
 ///

@@ -13,20 +13,20 @@ use log_law::{
     a_reopening_reads_back, logs_stay_whole, one_name_one_text, openings_go_on, what_is_held_flew,
 };
 use log_tie::settings_exist;
-use log_ties::cleaner_log_tie::cleaner_log_events_are_seen;
-use log_ties::client_log_tie::client_log_events_are_seen;
-use log_ties::manager_log_tie::{
+use node_logs::cleaner_log_tie::cleaner_log_events_are_seen;
+use node_logs::client_log_tie::client_log_events_are_seen;
+use node_logs::manager_log_tie::{
     manager_log_events_are_seen, servers_list_what_was_stored, what_is_told_is_in_range,
     what_servers_tell_is_bytes,
 };
-use log_ties::node_log_tie::{
+use node_logs::node_log_tie::{
     cleaner_events_are_seen, registry_events_are_seen, server_events_are_seen,
 };
-use node_ties::node_tie::{
+use node_slots::node_tie::{
     client_events_are_seen, clients_ask_for_their_call, manager_events_are_seen,
     other_events_are_seen,
 };
-use telling_ties::filed_tie::{
+use node_tellings::filed_tie::{
     cleaner_tells_what_is_filed, clients_tell_what_is_filed, managers_tell_what_is_filed,
     registry_tells_what_is_filed, servers_tell_what_is_filed,
 };

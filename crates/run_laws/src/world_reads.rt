@@ -33,19 +33,19 @@ use log_law::{
     a_place_names_one_content, a_tail_is_filed_or_never, ends_are_last, logs_stay_whole,
     names_bear_groups, one_name_one_text, openings_go_on, what_flew_is_written, what_is_held_flew,
 };
-use node_ties::node_index_tie::{manager_events_are_seen, registry_events_are_seen};
-use node_ties::node_tie::{
+use node_slots::node_index_tie::{manager_events_are_seen, registry_events_are_seen};
+use node_slots::node_tie::{
     client_events_are_seen, clients_ask_for_their_call,
     manager_events_are_seen as manager_tokens_are_seen, other_events_are_seen,
 };
-use node_ties::owner_index_tie::{
+use node_slots::owner_index_tie::{
     cleaner_index_events_are_seen, client_index_events_are_seen, server_index_events_are_seen,
 };
-use telling_ties::entry_tie::{
+use node_tellings::entry_tie::{
     cleaner_tells_told_entries, clients_tell_told_entries, managers_tell_told_entries,
     registry_tells_no_entries, servers_tell_no_entries,
 };
-use telling_ties::reading_tie::managers_read_what_came;
+use node_tellings::reading_tie::managers_read_what_came;
 use token_law::{acts_are_legal, tokens_keep_their_word};
 
 /// What nodes do is seen in the small world of tokens, and what stands of that.

@@ -4,8 +4,8 @@
 -- A script without a line by which a server loses its disk has no such restart (`undoubted`).
 use Rattle.core_world.specs.AnyNode.{any_start, any_step}
 use Rattle.core_world.specs.declared.any_node.AnyNode.{AnyNode}
-use Rattle.earned_losses.specs.answer_law.Runs.{LostAnswersEarned}
-use Rattle.earned_losses.specs.earned_law.Earned.{EachLostActIsEarned}
+use Rattle.run_losses.specs.answer_law.Runs.{LostAnswersEarned}
+use Rattle.run_losses.specs.earned_law.Earned.{EachLostActIsEarned}
 use Rattle.run_laws.specs.restart_law.Restarts.{NoDoubtfulRestart}
 use Rattle.run_laws.specs.restart_law.Unlost.{LosesNone}
 use Rattle.run_laws.specs.world_law.Fallen.{FallsApartThroughout, NobodyHoldsThroughout}

@@ -11,7 +11,7 @@ use Rattle.index_tie.specs.Net.Packet.{CheckpointDone}
 use Rattle.index_tie.specs.Net.Runs.{Begun, On}
 use Rattle.index_tie.specs.NetLaws.{CheckpointsHaveManagers}
 use Rattle.log_protocol.specs.Tables.{In, put}
-use Rattle.node_ties.proofs.node_index_tie.Moves.{some_none}
+use Rattle.node_slots.proofs.node_index_tie.Moves.{some_none}
 use Rattle.segment_format.specs.declared.segment.Segment.{Segment}
 use Rattle.token_manager.specs.SlotState.{SlotState}
 use Rattle.run_laws.proofs.world_index.Horizons.{Steady, steady_always}

@@ -7,8 +7,8 @@ use Rattle.manager_node.specs.declared.phase.Phase.{Phase}
 use Rattle.manager_node.specs.declared.phase.Phase.TheVariants.{Down, Waiting, Serving as Serves}
 use Rattle.manager_node.specs.Phases.{lasting_of}
 use Rattle.manager_serving.specs.declared.serving.Serving.{Serving}
-use Rattle.node_ties.specs.node_index_tie.Sight.{Texts}
-use Rattle.node_ties.specs.node_tie.ManagerEvents.{AllNewsGets, HeldAt, ManagerAgrees, ManagerGets, NamedBy, NamedIn, Names, ServingGets, WaitingGets, epoch_in, slot_in}
+use Rattle.node_slots.specs.node_index_tie.Sight.{Texts}
+use Rattle.node_slots.specs.node_tie.ManagerEvents.{AllNewsGets, HeldAt, ManagerAgrees, ManagerGets, NamedBy, NamedIn, Names, ServingGets, WaitingGets, epoch_in, slot_in}
 use Rattle.segment_format.specs.declared.segment.Segment.{Segment}
 use Rattle.token_law.specs.Net as tokens
 use Rattle.version_model.specs.declared.act.Act.{Act}

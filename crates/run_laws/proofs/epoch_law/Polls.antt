@@ -2,7 +2,7 @@
 use Rattle.std.proofs.Common.{◌≡◌, ℕ, zero, suc, ◌+◌, ◌-◌, ◌≤◌, ◌<◌, ◌==◌, Bool, min, true, List, [], ◌∷◌, inl, inr, slice_get, unwrap_or, Option, None, Some, refl, sym, ap, subst, ◌∙◌, mod-eq_of_lt, arith}
 use Rattle.std.proofs.lemmas.Bool.Decides.{nat_tests}
 use Rattle.std.proofs.lemmas.Option.{unwrap_or-slice_get}
-use Rattle.cleaner_emptying.specs.declared.emptying.Emptying.{Emptying}
+use Rattle.cleaner_serving.specs.declared.emptying.Emptying.{Emptying}
 use Rattle.client_node.specs.declared.phase.Phase.TheVariants as clients
 use Rattle.client_serving.specs.declared.serving.Serving.{Serving}
 use Rattle.cleaner_node.specs.declared.cleaner.Phase.TheVariants as cleaning
@@ -12,12 +12,12 @@ use Rattle.index_tie.specs.Net as index
 use Rattle.index_tie.specs.NetLaws.{CheckpointsHaveManagers}
 use Rattle.index_tie.specs.Takeovers.{of_log}
 use Rattle.log_scan.specs.Transition.{horizon_of, least_horizon}
-use Rattle.node_ties.specs.node_index_tie.RegistryEvents.{RegistryAgrees}
-use Rattle.node_ties.specs.node_index_tie.Sight.{Texts, held_in}
-use Rattle.node_ties.proofs.node_tie.SmallWorld.{with_promise}
-use Rattle.node_ties.specs.node_tie.CleanerEvents.{CleanerStands}
-use Rattle.node_ties.specs.node_tie.ClientEvents.{ClientAgrees}
-use Rattle.node_ties.specs.node_tie.Sight.{PollSeen}
+use Rattle.node_slots.specs.node_index_tie.RegistryEvents.{RegistryAgrees}
+use Rattle.node_slots.specs.node_index_tie.Sight.{Texts, held_in}
+use Rattle.node_slots.proofs.node_tie.SmallWorld.{with_promise}
+use Rattle.node_slots.specs.node_tie.CleanerEvents.{CleanerStands}
+use Rattle.node_slots.specs.node_tie.ClientEvents.{ClientAgrees}
+use Rattle.node_slots.specs.node_tie.Sight.{PollSeen}
 use Rattle.registry.specs.Board.{all_news, slot_news}
 use Rattle.registry.specs.BoardState.{BoardState}
 use Rattle.segment_format.specs.declared.segment.Segment.{Segment}

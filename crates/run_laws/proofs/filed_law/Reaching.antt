@@ -6,7 +6,7 @@ use Rattle.xfs_base.proofs.Booleans.{by_test, contrary, equal_itself}
 use Rattle.xfs_base.specs.declared.segment.SegName.{SegName}
 use Rattle.version_model.specs.declared.act.Act.{Act}
 use Rattle.version_model.specs.declared.act.Act.TheVariants.{Filed}
-use Rattle.telling_ties.specs.filed_tie.Reach.{Reach, Rises, ActReached, ActsReach}
+use Rattle.node_tellings.specs.filed_tie.Reach.{Reach, Rises, ActReached, ActsReach}
 use Rattle.run_laws.specs.filed_law.FiledUpto.{filed_number, filed_upto, FiledAt, IsFiledUpto}
 
 -- ---- it rises

@@ -25,13 +25,13 @@ use Rattle.xfs_base.specs.declared.node.NodeId.{NodeId}
 use Rattle.xfs_base.specs.declared.node.NodeId.TheVariants as nodes
 use Rattle.xfs_base.specs.declared.setup.Setup.{Setup}
 use Rattle.xfs_base.proofs.Alls.{all_append}
-use Rattle.telling_ties.specs.filed_tie.CleanerReach.{CleanerReachRises, CleanerStartsReaching, CleanerTellsFiled}
-use Rattle.telling_ties.specs.filed_tie.ClientReach.{ClientReachRises, ClientStartsReaching, ClientsTellFiled}
-use Rattle.telling_ties.specs.filed_tie.ManagerReach.{ManagerReachRises, ManagerStartsReaching, ManagersTellFiled}
-use Rattle.telling_ties.specs.filed_tie.Reach.{Reach, Rises, ActsReach, SlotsReach, DoTells, PacketTells, TellsFiled}
-use Rattle.telling_ties.specs.filed_tie.RegistryReach.{RegistryReaches, RegistryReachRises, RegistryStartsReaching, RegistryTellsFiled}
-use Rattle.telling_ties.specs.filed_tie.ServerReach.{ServersTellFiled}
-use Rattle.telling_ties.proofs.filed_tie.Rising.{body_rises, least_low}
+use Rattle.node_tellings.specs.filed_tie.CleanerReach.{CleanerReachRises, CleanerStartsReaching, CleanerTellsFiled}
+use Rattle.node_tellings.specs.filed_tie.ClientReach.{ClientReachRises, ClientStartsReaching, ClientsTellFiled}
+use Rattle.node_tellings.specs.filed_tie.ManagerReach.{ManagerReachRises, ManagerStartsReaching, ManagersTellFiled}
+use Rattle.node_tellings.specs.filed_tie.Reach.{Reach, Rises, ActsReach, SlotsReach, DoTells, PacketTells, TellsFiled}
+use Rattle.node_tellings.specs.filed_tie.RegistryReach.{RegistryReaches, RegistryReachRises, RegistryStartsReaching, RegistryTellsFiled}
+use Rattle.node_tellings.specs.filed_tie.ServerReach.{ServersTellFiled}
+use Rattle.node_tellings.proofs.filed_tie.Rising.{body_rises, least_low}
 use Rattle.run_laws.specs.filed_law.FiledUpto.{filed_upto, IsFiledUpto}
 use Rattle.run_laws.specs.filed_law.Told.{AnyReaches, ToldWasFiled, HorizonWasFiled, RunsStartTold, EventsKeepTold, EveryRunToldWasFiled, ToldHorizonsWereFiled}
 use Rattle.run_laws.proofs.filed_law.Reaching.{filed_rises, filed_reached, is_filed}

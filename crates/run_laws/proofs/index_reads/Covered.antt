@@ -3,12 +3,12 @@ use Rattle.std.proofs.Common.{◌≡◌, ℕ, true, Some, None, sym, ap, subst, 
 use Rattle.delta_index.specs.Index.{entry_of, merged_all}
 use Rattle.index_tie.specs.Net as index
 use Rattle.index_tie.proofs.Slots.{rows-indexed_all}
-use Rattle.manager_parts.specs.declared.slot_phase.SlotPhase.{SlotPhase}
-use Rattle.manager_parts.specs.declared.slot_phase.SlotPhase.TheVariants as phase
-use Rattle.node_ties.specs.node_index_tie.ManagerEvents as places
-use Rattle.node_ties.specs.node_index_tie.Pages.{Desk}
-use Rattle.node_ties.specs.node_index_tie.Sight.{Texts, DeltasKnown, held_in}
-use Rattle.node_ties.specs.node_tie.ManagerEvents as owners
+use Rattle.manager_slots.specs.declared.slot_phase.SlotPhase.{SlotPhase}
+use Rattle.manager_slots.specs.declared.slot_phase.SlotPhase.TheVariants as phase
+use Rattle.node_slots.specs.node_index_tie.ManagerEvents as places
+use Rattle.node_slots.specs.node_index_tie.Pages.{Desk}
+use Rattle.node_slots.specs.node_index_tie.Sight.{Texts, DeltasKnown, held_in}
+use Rattle.node_slots.specs.node_tie.ManagerEvents as owners
 use Rattle.slot_beliefs.specs.Index.{indexed_all}
 use Rattle.slot_beliefs.specs.Recalls.{applied_of}
 use Rattle.token_client.specs.State.{is_in_slot}

@@ -12,17 +12,17 @@ use Rattle.index_tie.proofs.Takeovers.{applied_in, of_log_in, by_log, nine}
 use Rattle.index_tie.proofs.Views.{Good}
 use Rattle.log_protocol.specs.Tables.{put}
 use Rattle.log_protocol.proofs.IndexInduction.{index_in_bounds_always}
-use Rattle.manager_parts.specs.declared.slot_phase.Taking.{Taking}
-use Rattle.node_ties.specs.node_index_tie.ManagerEvents as places
-use Rattle.node_ties.specs.node_index_tie.Pages.{Desk}
-use Rattle.node_ties.specs.node_index_tie.Sight.{Texts, Questions, AreTexts, held_in}
-use Rattle.node_ties.proofs.node_index_tie.Moves.{nothing}
-use Rattle.node_ties.proofs.node_index_tie.Handing.{Owes, starts}
-use Rattle.node_ties.proofs.node_index_tie.Moves.{put_here}
-use Rattle.node_ties.specs.node_tie.ManagerEvents as owners
-use Rattle.node_ties.specs.node_tie.ManagerEvents.{ends_of}
-use Rattle.node_ties.proofs.node_tie.ManagerPlain.{plain_hands_nothing}
-use Rattle.node_ties.proofs.node_tie.ManagerTakes.{Hands, took}
+use Rattle.manager_slots.specs.declared.slot_phase.Taking.{Taking}
+use Rattle.node_slots.specs.node_index_tie.ManagerEvents as places
+use Rattle.node_slots.specs.node_index_tie.Pages.{Desk}
+use Rattle.node_slots.specs.node_index_tie.Sight.{Texts, Questions, AreTexts, held_in}
+use Rattle.node_slots.proofs.node_index_tie.Moves.{nothing}
+use Rattle.node_slots.proofs.node_index_tie.Handing.{Owes, starts}
+use Rattle.node_slots.proofs.node_index_tie.Moves.{put_here}
+use Rattle.node_slots.specs.node_tie.ManagerEvents as owners
+use Rattle.node_slots.specs.node_tie.ManagerEvents.{ends_of}
+use Rattle.node_slots.proofs.node_tie.ManagerPlain.{plain_hands_nothing}
+use Rattle.node_slots.proofs.node_tie.ManagerTakes.{Hands, took}
 use Rattle.slot_beliefs.specs.Recalls.{applied_of as applied_in_slot}
 use Rattle.takeover.specs.Reports.{applied_of, beliefs_of, end_of, end_from, horizon_at}
 use Rattle.takeover.specs.TakeState.{TakeState}

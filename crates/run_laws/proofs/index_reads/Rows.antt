@@ -11,14 +11,14 @@ use Rattle.xfs_base.specs.Blocks.{same_block}
 use Rattle.xfs_base.specs.declared.block.BlockId.{BlockId}
 use Rattle.xfs_base.specs.declared.entry.Entry.{Entry}
 use Rattle.xfs_base.specs.declared.entry.Place.{Place}
-use Rattle.client_parts.specs.Reads.{value_in}
+use Rattle.client_call.specs.Reads.{value_in}
 use Rattle.delta_index.specs.Entries.{no_entry, first_greatest}
 use Rattle.delta_index.specs.Join.{join}
 use Rattle.delta_index.proofs.EntryAlgebra.{first_greatest-none, first_greatest-newer}
 use Rattle.delta_index.proofs.JoinAlgebra.{join-cons, join-one, none-join}
-use Rattle.node_ties.specs.node_tie.LogRows.{row_told}
-use Rattle.node_ties.proofs.node_tie.ClientRows.{neither, same_turned}
-use Rattle.node_ties.proofs.node_tie.LogRows.{get_past}
+use Rattle.node_slots.specs.node_tie.LogRows.{row_told}
+use Rattle.node_slots.proofs.node_tie.ClientRows.{neither, same_turned}
+use Rattle.node_slots.proofs.node_tie.LogRows.{get_past}
 use Rattle.segment_format.specs.Rows.{place_of, row_of}
 use Rattle.segment_format.specs.Rule.{no_item}
 use Rattle.segment_format.specs.declared.segment.Item.{Item}

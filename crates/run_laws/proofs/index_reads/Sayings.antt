@@ -2,7 +2,7 @@
 use Rattle.std.proofs.Common.{◌≡◌, ℕ, zero, suc, ◌<◌, ◌≤◌, ◌&&◌, inl, inr, nat_lt, nat_le, [], refl, sym, ap, subst, ◌∙◌, arith}
 use Rattle.std.specs.Prelude.{Contains}
 use Rattle.std.proofs.lemmas.Bool.Decides.{nat_tests}
-use Rattle.client_parts.specs.Reads.{value_at}
+use Rattle.client_call.specs.Reads.{value_at}
 use Rattle.xfs_base.specs.declared.block.BlockId.{BlockId}
 use Rattle.xfs_base.specs.declared.entry.Entry.{Entry}
 use Rattle.xfs_base.specs.declared.segment.SegName.{SegName}
@@ -15,7 +15,7 @@ use Rattle.index_tie.proofs.Rows.{row_versioned, by_filed}
 use Rattle.index_tie.proofs.Tables.{first_of}
 use Rattle.index_tie.proofs.Takeovers.{by_log}
 use Rattle.log_protocol.specs.IndexState as abstract
-use Rattle.node_ties.specs.node_tie.LogRows.{rows_told}
+use Rattle.node_slots.specs.node_tie.LogRows.{rows_told}
 use Rattle.segment_format.specs.Rows.{rows_of}
 use Rattle.segment_format.specs.declared.segment.Segment.{Segment}
 use Rattle.token_law.specs.Books.{Books, Row, row_in, said, IsMadeOf, IsFiled}

@@ -3,17 +3,17 @@ use Rattle.std.proofs.Common.{◌≡◌, ℕ, true, Some, None, refl, sym, subst
 use Rattle.index_tie.specs.Net as index
 use Rattle.manager_node.specs.declared.phase.Phase.{Phase}
 use Rattle.manager_node.specs.declared.phase.Phase.TheVariants.{Down, Waiting, Serving as Serves}
-use Rattle.manager_parts.specs.Slots.{epoch_of, fetch_of}
-use Rattle.manager_parts.specs.Takeovers.{report_input}
-use Rattle.manager_parts.specs.declared.slot_phase.SlotPhase.{SlotPhase}
-use Rattle.manager_parts.specs.declared.slot_phase.SlotPhase.TheVariants as phase
-use Rattle.node_ties.specs.node_index_tie.ManagerEvents as places
-use Rattle.node_ties.specs.node_index_tie.Pages.{desk_of}
-use Rattle.node_ties.specs.node_index_tie.Sight.{Texts, Questions, AreTexts, ReportKnown, held_in}
-use Rattle.node_ties.proofs.node_index_tie.Handing.{OwesAt}
-use Rattle.node_ties.specs.node_tie.ManagerEvents as owners
-use Rattle.node_ties.specs.node_tie.ManagerEvents.{phase_at}
-use Rattle.node_ties.proofs.node_tie.ManagerTakes.{Brings}
+use Rattle.manager_slots.specs.Slots.{epoch_of, fetch_of}
+use Rattle.manager_slots.specs.Takeovers.{report_input}
+use Rattle.manager_slots.specs.declared.slot_phase.SlotPhase.{SlotPhase}
+use Rattle.manager_slots.specs.declared.slot_phase.SlotPhase.TheVariants as phase
+use Rattle.node_slots.specs.node_index_tie.ManagerEvents as places
+use Rattle.node_slots.specs.node_index_tie.Pages.{desk_of}
+use Rattle.node_slots.specs.node_index_tie.Sight.{Texts, Questions, AreTexts, ReportKnown, held_in}
+use Rattle.node_slots.proofs.node_index_tie.Handing.{OwesAt}
+use Rattle.node_slots.specs.node_tie.ManagerEvents as owners
+use Rattle.node_slots.specs.node_tie.ManagerEvents.{phase_at}
+use Rattle.node_slots.proofs.node_tie.ManagerTakes.{Brings}
 use Rattle.segment_format.specs.declared.segment.Segment.{Segment}
 use Rattle.takeover.specs.declared.input.In.{In as Input}
 use Rattle.takeover.specs.declared.input.In.TheVariants.{Got, Missing as Lacks}

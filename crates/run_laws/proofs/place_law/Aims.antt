@@ -2,11 +2,11 @@
 use Rattle.std.proofs.Common.{◌≡◌, ◌==◌, ◌&&◌, ℕ, Bool, true, Option, None, Some, refl, sym, ap, subst, ◌∙◌}
 use Rattle.std.specs.List.{AllByRecursion}
 use Rattle.std.proofs.lemmas.Bool.{eqb-true}
-use Rattle.client_parts.specs.Reads.{heard, is_fetched, kept_while, same_at, same_target, target_of}
-use Rattle.telling_ties.proofs.entry_tie.ClientReads.{OutTold, tokens_say}
-use Rattle.telling_ties.proofs.entry_tie.ClientTokens.{FetchesTold, InputTold, tokens_so}
-use Rattle.telling_ties.specs.entry_tie.ClientTells.{FetchTold}
-use Rattle.telling_ties.specs.entry_tie.Told.{PlaceTold, Told}
+use Rattle.client_call.specs.Reads.{heard, is_fetched, kept_while, same_at, same_target, target_of}
+use Rattle.node_tellings.proofs.entry_tie.ClientReads.{OutTold, tokens_say}
+use Rattle.node_tellings.proofs.entry_tie.ClientTokens.{FetchesTold, InputTold, tokens_so}
+use Rattle.node_tellings.specs.entry_tie.ClientTells.{FetchTold}
+use Rattle.node_tellings.specs.entry_tie.Told.{PlaceTold, Told}
 use Rattle.group_map.specs.GroupMapState.{GroupMapState}
 use Rattle.log_tie.proofs.Names.{one_name}
 use Rattle.segment_format.specs.declared.segment.Segment.{Segment}

@@ -2,13 +2,13 @@
 use Rattle.std.proofs.Common.{◌≡◌, ℕ, Bool, true, List, [], ◌∷◌, Option, Some, None, is_none, unwrap_or, refl, sym, ap, ◌∙◌}
 use Rattle.std.specs.List.{AllByRecursion}
 use Rattle.std.specs.Prelude.{fold}
-use Rattle.client_parts.specs.Calls.{going_by, after_answer, may_make, file_call, call_of}
-use Rattle.client_parts.specs.declared.call.Call.{Call}
-use Rattle.client_parts.specs.declared.call.Going.TheVariants.{On, Ends}
-use Rattle.client_parts.specs.declared.call.Going.{Going}
-use Rattle.client_parts.specs.declared.call.Plan.TheVariants.{One, File}
-use Rattle.client_parts.specs.declared.call.Plan.{Plan}
-use Rattle.client_parts.specs.Reads.{reading_in, call_with, kept_while, target_of, same_target}
+use Rattle.client_call.specs.Calls.{going_by, after_answer, may_make, file_call, call_of}
+use Rattle.client_call.specs.declared.call.Call.{Call}
+use Rattle.client_call.specs.declared.call.Going.TheVariants.{On, Ends}
+use Rattle.client_call.specs.declared.call.Going.{Going}
+use Rattle.client_call.specs.declared.call.Plan.TheVariants.{One, File}
+use Rattle.client_call.specs.declared.call.Plan.{Plan}
+use Rattle.client_call.specs.Reads.{reading_in, call_with, kept_while, target_of, same_target}
 use Rattle.client_serving.specs.declared.serving.Serving.{Serving}
 use Rattle.client_serving.specs.Follow.{evicts, notes_clean, notes_gone, notes_copy, seals, follows_one, follows, hands, takes_back}
 use Rattle.client_serving.specs.Reads.{ends_reading, with_reading, draws, loses, loses_at, group_in, begins_over, begins, confirmed_next, ask_after, drawn_after, confirms, reads_over, reads}
@@ -49,7 +49,7 @@ use Rattle.xfs_base.specs.Modes.{same_mode, is_nothing}
 use Rattle.xfs_base.specs.declared.token.Mode.{Mode}
 use Rattle.xfs_base.specs.declared.entry.Entry.{Entry}
 use Rattle.xfs_base.specs.Steps.{still}
-use Rattle.telling_ties.proofs.entry_tie.ClientReads.{OutTold}
+use Rattle.node_tellings.proofs.entry_tie.ClientReads.{OutTold}
 use Rattle.run_laws.proofs.place_law.Aims.{Its, HasPlace, NoGrant, Nowhere, confirmed-target, its_kept, its_none, its_place, its_taken, reads_nothing, target_exact}
 use Rattle.token_client.specs.declared.held.Fetch.{Fetch}
 use Rattle.token_client.specs.declared.held.Held.{Held}

@@ -7,21 +7,21 @@ use Rattle.client_log.specs.declared.input.In.TheVariants as log_in
 use Rattle.client_log.specs.declared.output.Out.{Out as LogOut}
 use Rattle.client_log.specs.declared.output.Out.TheVariants as log_out
 use Rattle.client_log.specs.Transition as log
-use Rattle.client_parts.specs.Calls.{after_answer}
-use Rattle.client_parts.specs.declared.call.Call.{Call}
-use Rattle.client_parts.specs.declared.call.Going.TheVariants.{On, Ends}
-use Rattle.client_parts.specs.declared.call.Going.{Going}
-use Rattle.client_parts.specs.Fitting.{put_fits}
-use Rattle.client_parts.specs.Flights.{is_settling, is_giving}
-use Rattle.client_parts.specs.Grants.{is_stamp}
-use Rattle.client_parts.specs.Reads.{block_read, Heard, heard, reading_in, value_at}
-use Rattle.client_calls.specs.Blocks.{Made, needs, got, gets, wrote, changes, held_back, changes_if_fits, puts, lets_go, changed, puts_again, puts_at, syncs, makes}
+use Rattle.client_call.specs.Calls.{after_answer}
+use Rattle.client_call.specs.declared.call.Call.{Call}
+use Rattle.client_call.specs.declared.call.Going.TheVariants.{On, Ends}
+use Rattle.client_call.specs.declared.call.Going.{Going}
+use Rattle.client_call.specs.Fitting.{put_fits}
+use Rattle.client_call.specs.Flights.{is_settling, is_giving}
+use Rattle.client_call.specs.Grants.{is_stamp}
+use Rattle.client_call.specs.Reads.{block_read, Heard, heard, reading_in, value_at}
+use Rattle.client_running.specs.Blocks.{Made, needs, got, gets, wrote, changes, held_back, changes_if_fits, puts, lets_go, changed, puts_again, puts_at, syncs, makes}
 use Rattle.client_serving.specs.declared.serving.Serving.{Serving}
 use Rattle.client_serving.specs.Flights.{held_at, notes_settled, keeps_clean, gives_up, gives_if_clean, feeds, settled_rows, settles, writes_one, seals_again, writes}
 use Rattle.client_serving.specs.Follow.{follows, notes_clean, notes_gone, seals, hands, takes_back}
 use Rattle.client_serving.specs.Packets.{on_grant, on_supply, on_forward, says_again, on_recall, is_gone, on_gone, is_acked, on_ack, ends_fetch, told_at, told_by, on_told, renews, promises, reports, may_report, polled, on_poll, promised_in, is_news, hears, regroups, takes_news, on_news, on_welcome, on_tick, on_body, asks_for_maps, on_packet}
 use Rattle.client_serving.specs.Reads.{with_reading, loses}
-use Rattle.client_calls.specs.Running.{goes_on, Ran, answers_call, ran, runs_call, runs_once, runs_upto, runs, most_steps}
+use Rattle.client_running.specs.Running.{goes_on, Ran, answers_call, ran, runs_call, runs_once, runs_upto, runs, most_steps}
 use Rattle.client_serving.specs.Sends.{Done}
 use Rattle.delta_feed.specs.Transition.{acknowledged, new_epoch}
 use Rattle.file_plan.specs.declared.block_call.BlockAnswer.{BlockAnswer}
@@ -66,7 +66,7 @@ use Rattle.xfs_base.specs.declared.segment.End.{End}
 use Rattle.xfs_base.specs.declared.token.Mode.TheVariants.{Copy, Own}
 use Rattle.xfs_base.specs.Modes.{is_held, is_nothing, is_own}
 use Rattle.xfs_base.specs.Steps.{still, saying, steps}
-use Rattle.telling_ties.proofs.entry_tie.ClientReads.{OutTold}
+use Rattle.node_tellings.proofs.entry_tie.ClientReads.{OutTold}
 use Rattle.run_laws.proofs.place_law.Aims.{Nowhere, Its, its_heard, its_none, reads_nothing}
 use Rattle.run_laws.proofs.place_law.AimsReads.{Aimed, GoingNew, ends_so, fold_keeps, follows_so, granted_so, hands_so, loses_so, next_new, notes_clean_so, notes_gone_so, read_so, seals_so, taken_so, takes_back_so}
 

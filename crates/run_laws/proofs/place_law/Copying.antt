@@ -4,14 +4,14 @@ use Rattle.std.specs.Prelude.{IfSome}
 use Rattle.std.specs.List.{AllByRecursion}
 use Rattle.std.proofs.lemmas.Bool.Decides.{nat_tests}
 use Rattle.std.proofs.lemmas.Bool.{eqb-true}
-use Rattle.cleaner_parts.specs.declared.job.Job.{Job}
-use Rattle.cleaner_parts.specs.Jobs.{check_of, hand_of, is_out}
+use Rattle.cleaner_job.specs.declared.job.Job.{Job}
+use Rattle.cleaner_job.specs.Jobs.{check_of, hand_of, is_out}
 use Rattle.run_laws.proofs.index_reads.Worlds.{good}
 use Rattle.index_tie.specs.Cleaning.{is_filed_name}
 use Rattle.index_tie.specs.Filed.{Filed}
 use Rattle.index_tie.specs.Net.{IsInHand}
 use Rattle.log_protocol.specs.Tables.{In}
-use Rattle.node_ties.specs.node_tie.CleanerLogs.{FateTold, PhaseTold}
+use Rattle.node_slots.specs.node_tie.CleanerLogs.{FateTold, PhaseTold}
 use Rattle.segment_format.specs.declared.segment.Item.TheVariants.{Block}
 use Rattle.segment_format.specs.declared.segment.Segment.{Segment}
 use Rattle.stripe_cleaner.specs.declared.checks.Check.{Check}

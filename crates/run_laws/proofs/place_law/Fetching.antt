@@ -1,22 +1,22 @@
 -- What a client reads of the place of its fetch is what the filed segment there says.
 use Rattle.std.proofs.Common.{◌≡◌, ℕ, List, Option, None, Some, refl, sym, ap, subst, ◌∙◌}
-use Rattle.client_parts.specs.Reads.{block_read, heard, reading_in, value_at}
+use Rattle.client_call.specs.Reads.{block_read, heard, reading_in, value_at}
 use Rattle.client_serving.specs.declared.serving.Serving.{Serving}
-use Rattle.telling_ties.specs.entry_tie.ClientTells.{FetchTold}
-use Rattle.telling_ties.specs.entry_tie.Told.{PlaceTold, told_by_rows}
+use Rattle.node_tellings.specs.entry_tie.ClientTells.{FetchTold}
+use Rattle.node_tellings.specs.entry_tie.Told.{PlaceTold, told_by_rows}
 use Rattle.run_laws.specs.index_reads.Ties.{ArePlain, BooksAre}
 use Rattle.index_tie.specs.Filed.{Filed, rows_at}
 use Rattle.log_owner.specs.Sending.{server_in}
 use Rattle.log_law.specs.Laws.{OneNameOneText}
 use Rattle.log_law.specs.Places.{APlaceNamesOneContent}
 use Rattle.log_protocol.specs.Tables.{In}
-use Rattle.node_ties.specs.node_index_tie.Sight.{Texts}
-use Rattle.node_ties.specs.node_tie.ClientEvents.{ServingReads}
-use Rattle.node_ties.specs.node_tie.ClientLogs.{BringsRead, Tells}
-use Rattle.telling_ties.specs.reading_tie.Arrivals as came
-use Rattle.telling_ties.specs.reading_tie.Arrivals.{AnsweredIn, Cuts, answered_in, cut_by}
-use Rattle.telling_ties.specs.reading_tie.Came.{ReadsTarget}
-use Rattle.telling_ties.specs.reading_tie.ClientReads.{ClientsReadWhatCame, ReadsPlace}
+use Rattle.node_slots.specs.node_index_tie.Sight.{Texts}
+use Rattle.node_slots.specs.node_tie.ClientEvents.{ServingReads}
+use Rattle.node_slots.specs.node_tie.ClientLogs.{BringsRead, Tells}
+use Rattle.node_tellings.specs.reading_tie.Arrivals as came
+use Rattle.node_tellings.specs.reading_tie.Arrivals.{AnsweredIn, Cuts, answered_in, cut_by}
+use Rattle.node_tellings.specs.reading_tie.Came.{ReadsTarget}
+use Rattle.node_tellings.specs.reading_tie.ClientReads.{ClientsReadWhatCame, ReadsPlace}
 use Rattle.segment_format.specs.declared.segment.Segment.{Segment}
 use Rattle.segment_reading.specs.declared.reading.Next.{Next}
 use Rattle.segment_reading.specs.declared.reading.Next.TheVariants as next

@@ -3,14 +3,14 @@ use Rattle.std.proofs.Common.{◌≡◌, ◌<◌, ◌≤◌, inl, inr, ℕ, Bool
 use Rattle.xfs_base.proofs.Booleans.{by_test}
 use Rattle.std.specs.Prelude.{Contains}
 use Rattle.std.proofs.lemmas.Bool.Decides.{nat_tests}
-use Rattle.client_parts.specs.Reads.{value_at}
-use Rattle.telling_ties.specs.entry_tie.Told.{told_by_rows}
+use Rattle.client_call.specs.Reads.{value_at}
+use Rattle.node_tellings.specs.entry_tie.Told.{told_by_rows}
 use Rattle.run_laws.proofs.index_reads.Rows.{deltas_are_said, rows_are_entries}
 use Rattle.run_laws.specs.index_reads.Rows.{IsPlain, SaysSame}
 use Rattle.run_laws.specs.index_reads.Ties.{ArePlain, BooksAre}
 use Rattle.index_tie.proofs.Rows.{by_filed}
 use Rattle.index_tie.specs.Filed.{Filed, IsFiled, IsSegment, rows_at}
-use Rattle.node_ties.specs.node_tie.LogRows.{rows_told}
+use Rattle.node_slots.specs.node_tie.LogRows.{rows_told}
 use Rattle.segment_format.specs.declared.segment.Segment.{Segment}
 use Rattle.segment_format.specs.Rows.{rows_of}
 use Rattle.token_law.specs.Books.{Books, row_in, said}

@@ -18,8 +18,8 @@ use Rattle.manager_node.specs.declared.phase.Phase.TheVariants.{Down, Waiting, S
 use Rattle.manager_node.specs.Events as events
 use Rattle.manager_node.specs.Phases as phases
 use Rattle.manager_node.specs.Phases.{Went_to, serves}
-use Rattle.manager_parts.specs.declared.lasting.Lasting.{Lasting as Kept}
-use Rattle.manager_parts.specs.SlotTable as table
+use Rattle.manager_slots.specs.declared.lasting.Lasting.{Lasting as Kept}
+use Rattle.manager_slots.specs.SlotTable as table
 use Rattle.manager_serving.specs.Checkpoints as checkpoints
 use Rattle.manager_serving.specs.Checkpoints.{Done}
 use Rattle.manager_serving.specs.declared.checkpointing.Checkpointing.{Checkpointing}

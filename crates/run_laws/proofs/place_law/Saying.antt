@@ -4,7 +4,7 @@ use Rattle.std.specs.List.{AllByRecursion}
 use Rattle.node_base.specs.Beginning.{answers_unanswered}
 use Rattle.node_base.specs.declared.effects.Effect.{Effect}
 use Rattle.node_base.specs.declared.effects.Effect.TheVariants.{Send, Answer, Lose, Does}
-use Rattle.log_ties.proofs.node_log_tie.Lists.{answers_send}
+use Rattle.node_logs.proofs.node_log_tie.Lists.{answers_send}
 use Rattle.version_model.specs.declared.answer.Answer.{Answer as Answered}
 use Rattle.wire_msg.specs.declared.cleaning.Live.{Live}
 use Rattle.xfs_base.specs.Steps.{Stepped, steps}

@@ -12,14 +12,14 @@ use Rattle.xfs_base.specs.Segments.{seg_cmp}
 use Rattle.xfs_base.specs.declared.entry.Entry.{Entry}
 use Rattle.xfs_base.specs.declared.entry.Place.{Place}
 use Rattle.group_map.specs.GroupMapState.{GroupMapState}
-use Rattle.manager_parts.specs.declared.slot_phase.SlotPhase.{SlotPhase}
-use Rattle.manager_parts.specs.declared.slot_phase.SlotPhase.TheVariants as phase
-use Rattle.manager_parts.specs.Slots.{epoch_of}
-use Rattle.manager_parts.specs.SlotTable as table
-use Rattle.manager_parts.specs.SlotTable.{Hearer, Table, TableAsker}
-use Rattle.manager_parts.specs.Takeovers as takeovers
-use Rattle.manager_parts.specs.Takeovers.{Asker}
-use Rattle.manager_parts.specs.Tokens as tokens
+use Rattle.manager_slots.specs.declared.slot_phase.SlotPhase.{SlotPhase}
+use Rattle.manager_slots.specs.declared.slot_phase.SlotPhase.TheVariants as phase
+use Rattle.manager_slots.specs.Slots.{epoch_of}
+use Rattle.manager_slots.specs.SlotTable as table
+use Rattle.manager_slots.specs.SlotTable.{Hearer, Table, TableAsker}
+use Rattle.manager_slots.specs.Takeovers as takeovers
+use Rattle.manager_slots.specs.Takeovers.{Asker}
+use Rattle.manager_slots.specs.Tokens as tokens
 use Rattle.node_base.specs.declared.effects.Effect.{Effect}
 use Rattle.node_base.specs.declared.questions.Questions.{Questions}
 use Rattle.takeover.specs.declared.input.In.{In as Given}

@@ -2,17 +2,17 @@
 use Rattle.std.proofs.Common.{◌≡◌, ◌<◌, ◌^◌, ℕ, true, ◌==◌, List, [], ◌∷◌, filter, Option, None, Some, refl, sym, subst}
 use Rattle.std.specs.Prelude.{IfSome}
 use Rattle.std.specs.List.{AllByRecursion, flat_map}
-use Rattle.telling_ties.proofs.entry_tie.Frames.{all_filter_map}
+use Rattle.node_tellings.proofs.entry_tie.Frames.{all_filter_map}
 use Rattle.log_law.specs.Laws.{OneNameOneText}
 use Rattle.log_law.specs.Net.Packet.{FragmentSent}
 use Rattle.log_law.specs.Places.{APlaceNamesOneContent}
 use Rattle.log_protocol.specs.Tables.{In}
 use Rattle.log_tie.specs.Shelves.{is_of_log}
-use Rattle.log_ties.specs.manager_log_tie.Told.{WhatIsToldIsInRange}
-use Rattle.node_ties.specs.node_index_tie.ManagerEvents.{completes_at, completes_in}
-use Rattle.node_ties.specs.node_index_tie.Sight.{Texts, IsRead, RowsFit}
-use Rattle.telling_ties.specs.reading_tie.Arrivals.{Cuts, Tells, answered_in}
-use Rattle.telling_ties.specs.reading_tie.TakeoverReads.{TakeoversReadWhatCame, to_any}
+use Rattle.node_logs.specs.manager_log_tie.Told.{WhatIsToldIsInRange}
+use Rattle.node_slots.specs.node_index_tie.ManagerEvents.{completes_at, completes_in}
+use Rattle.node_slots.specs.node_index_tie.Sight.{Texts, IsRead, RowsFit}
+use Rattle.node_tellings.specs.reading_tie.Arrivals.{Cuts, Tells, answered_in}
+use Rattle.node_tellings.specs.reading_tie.TakeoverReads.{TakeoversReadWhatCame, to_any}
 use Rattle.segment_format.specs.declared.segment.Item.{Item}
 use Rattle.segment_format.specs.declared.segment.Item.TheVariants.{Block, Delta, Part}
 use Rattle.segment_format.specs.declared.segment.Segment.{Segment}

@@ -30,8 +30,8 @@ use Rattle.xfs_base.specs.declared.setup.Setup.{Setup}
 use Rattle.run_laws.specs.reading_law.Readings.{cuts_at, AnyHolds, ReadingsCame, RunsReadWhatCame}
 use Rattle.run_laws.proofs.reading_law.Maps.{kind_starts, map_so}
 use Rattle.run_laws.proofs.reading_law.Turns.{Good, Known, NodeLaws, NodeSo, any_starts, event_keeps}
-use Rattle.telling_ties.specs.reading_tie.Arrivals.{Cuts, cut_by}
-use Rattle.telling_ties.specs.reading_tie.Came.{MapStriped}
+use Rattle.node_tellings.specs.reading_tie.Arrivals.{Cuts, cut_by}
+use Rattle.node_tellings.specs.reading_tie.Came.{MapStriped}
 
 -- the laws that the readers stand on
 pub record Below : Type 0 where

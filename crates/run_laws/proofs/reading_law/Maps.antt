@@ -23,7 +23,7 @@ use Rattle.node_base.specs.Effects.{packets_of}
 use Rattle.node_base.specs.Nodes.{others}
 use Rattle.node_base.specs.Room.{has_room}
 use Rattle.node_base.specs.Shape.{is_well_formed}
-use Rattle.log_ties.proofs.node_log_tie.WholeMaps.{its_stripe}
+use Rattle.node_logs.proofs.node_log_tie.WholeMaps.{its_stripe}
 use Rattle.registry.specs.Board.{transition}
 use Rattle.registry.specs.declared.input.In.TheVariants as input
 use Rattle.registry.specs.declared.output.Out.{Out}
@@ -53,8 +53,8 @@ use Rattle.xfs_base.specs.declared.setup.Setup.{Setup}
 use Rattle.xfs_base.specs.Steps.{still}
 use Rattle.xfs_base.proofs.Alls.{all_flat_map, all_map, all_append}
 use Rattle.run_laws.specs.reading_law.Readings.{cut_of, cuts_at}
-use Rattle.telling_ties.specs.reading_tie.Arrivals.{Cuts, cut_by, BodyMaps}
-use Rattle.telling_ties.specs.reading_tie.Came.{MapStriped}
+use Rattle.node_tellings.specs.reading_tie.Arrivals.{Cuts, cut_by, BodyMaps}
+use Rattle.node_tellings.specs.reading_tie.Came.{MapStriped}
 
 -- ---- well formed maps
 

@@ -5,7 +5,7 @@ use Rattle.core_world.specs.declared.any_node.AnyNode.{AnyNode}
 use Rattle.core_world.specs.declared.any_node.AnyNode.TheVariants as any
 use Rattle.group_map.specs.GroupMapState.{GroupMapState}
 use Rattle.group_map.specs.Groups as groups
-use Rattle.log_ties.proofs.node_log_tie.Others.{same_or_other}
+use Rattle.node_logs.proofs.node_log_tie.Others.{same_or_other}
 use Rattle.token_protocol.specs.Basics.{In}
 use Rattle.version_model.specs.declared.work.Work.{Work}
 use Rattle.wire_msg.specs.declared.packet.Do.{Do}
@@ -32,12 +32,12 @@ use Rattle.xfs_base.specs.declared.node.NodeId.TheVariants as nodes
 use Rattle.xfs_base.specs.declared.setup.Setup.{Setup}
 use Rattle.run_laws.specs.reading_law.Readings.{AnyHolds}
 use Rattle.run_laws.proofs.reading_law.Maps.{KindOf, kind_stays, new_maps}
-use Rattle.telling_ties.specs.reading_tie.Arrivals.{Cuts, cut_by, BodyMaps, DoSent}
-use Rattle.telling_ties.specs.reading_tie.Came.{MapStriped}
-use Rattle.telling_ties.specs.reading_tie.CleanerMeets.{IsSent, CleanerStartsMet, CleanerMeetsRise, CleanerEventsMeet}
-use Rattle.telling_ties.specs.reading_tie.CleanerReads.{CleanerStarts, CleanerHoldsRise, CleanerEventsKeep}
-use Rattle.telling_ties.specs.reading_tie.ClientReads.{ClientStarts, ClientHoldsRise, ClientEventsKeep}
-use Rattle.telling_ties.specs.reading_tie.ManagerReads.{ManagerStarts, ManagerHoldsRise, ManagerEventsKeep}
+use Rattle.node_tellings.specs.reading_tie.Arrivals.{Cuts, cut_by, BodyMaps, DoSent}
+use Rattle.node_tellings.specs.reading_tie.Came.{MapStriped}
+use Rattle.node_tellings.specs.reading_tie.CleanerMeets.{IsSent, CleanerStartsMet, CleanerMeetsRise, CleanerEventsMeet}
+use Rattle.node_tellings.specs.reading_tie.CleanerReads.{CleanerStarts, CleanerHoldsRise, CleanerEventsKeep}
+use Rattle.node_tellings.specs.reading_tie.ClientReads.{ClientStarts, ClientHoldsRise, ClientEventsKeep}
+use Rattle.node_tellings.specs.reading_tie.ManagerReads.{ManagerStarts, ManagerHoldsRise, ManagerEventsKeep}
 
 -- the laws of the nodes, each of its kind
 pub record NodeLaws : Type 0 where

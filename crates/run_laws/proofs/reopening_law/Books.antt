@@ -1,7 +1,7 @@
 -- The books of a log that is opened again: its end, what is said up to it, and that nothing is said behind what was there before.
 use Rattle.std.proofs.Common.{◌≡◌, ◌≤◌, ◌<◌, ◌+◌, ℕ, zero, suc, Bool, true, false, [], nat_le, refl, sym, ap, ◌∙◌, arith}
 use Rattle.std.proofs.lemmas.Bool.{leb-false, leb-true}
-use Rattle.node_ties.proofs.node_tie.ClientBooks.{filed_end, put_here, put_there, said_now, said_still}
+use Rattle.node_slots.proofs.node_tie.ClientBooks.{filed_end, put_here, put_there, said_now, said_still}
 use Rattle.token_law.specs.Books.{Books, filed, reopened, sealed, with_empty}
 use Rattle.token_protocol.specs.Basics.{put}
 

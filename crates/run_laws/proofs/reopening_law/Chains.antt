@@ -2,13 +2,13 @@
 use Rattle.std.proofs.Common.{◌≡◌, ⊎_elim, ◌⊎◌, ◌≤◌, ◌+◌, ◌==◌, ◌&&◌, ◌||◌, ℕ, suc, Bool, true, false, List, [], ◌∷◌, ◌++◌, length, Some, refl, sym, ap, ◌∙◌, inl, inr, arith}
 use Rattle.std.specs.List.{AllByRecursion}
 use Rattle.std.proofs.lemmas.Bool.{eq-eqb, eqb-true}
-use Rattle.client_parts.specs.Crash.{flight_of}
+use Rattle.client_call.specs.Crash.{flight_of}
 use Rattle.log_flight.specs.Flights.{FlightState}
 use Rattle.log_law.specs.Net.{names_of}
 use Rattle.log_law.specs.ReadBack.{EndsAt}
 use Rattle.log_owner.specs.Opened.{names_in}
 use Rattle.log_protocol.specs.Tables.{In}
-use Rattle.node_ties.specs.owner_index_tie.Owners.{NumberedFrom}
+use Rattle.node_slots.specs.owner_index_tie.Owners.{NumberedFrom}
 use Rattle.segment_format.specs.declared.segment.Segment.{Segment}
 use Rattle.token_protocol.specs.Basics.{In as Among}
 use Rattle.version_model.specs.Effects.{holds_flight}

@@ -1,13 +1,13 @@
 -- An opening ends by one thing that happens in the small world of its log, with the chain that it read back.
 use Rattle.std.proofs.Common.{◌≡◌, ℕ, true, false, ◌&&◌, List, [], ◌∷◌, Option, Some, None, refl, sym, ap, subst, ◌∙◌}
 use Rattle.std.specs.Prelude.{IfSome}
-use Rattle.node_ties.proofs.client_law.Emptying.{packet_empty, tick_empty}
-use Rattle.node_ties.specs.client_law.Empty.{OpensEmpty, WaitsForNothing}
+use Rattle.node_slots.proofs.client_law.Emptying.{packet_empty, tick_empty}
+use Rattle.node_slots.specs.client_law.Empty.{OpensEmpty, WaitsForNothing}
 use Rattle.client_log.specs.declared.input.In.{In as LogIn}
 use Rattle.client_log.specs.declared.input.In.TheVariants as log_in
 use Rattle.client_log.specs.Transition as log
-use Rattle.log_ties.specs.client_log_tie.ClientEvents.{IsOnce, ServesStraight}
-use Rattle.log_ties.specs.client_log_tie.Owner.{Scene, SeesLog, SeesStage}
+use Rattle.node_logs.specs.client_log_tie.ClientEvents.{IsOnce, ServesStraight}
+use Rattle.node_logs.specs.client_log_tie.Owner.{Scene, SeesLog, SeesStage}
 use Rattle.group_map.specs.GroupMapState.{GroupMapState}
 use Rattle.log_flight.specs.Flights.{FlightState}
 use Rattle.log_law.specs.Events.{Happens, Runs}

@@ -3,7 +3,7 @@ use Rattle.std.proofs.Common.{◌≡◌, ◌≤◌, ℕ, suc, false, List, Optio
 use Rattle.std.specs.Prelude.{IfSome}
 use Rattle.client_log.specs.LogState.{LogState}
 use Rattle.client_log.specs.Transition as log
-use Rattle.log_ties.specs.client_log_tie.ClientEvents.{NeverServes}
+use Rattle.node_logs.specs.client_log_tie.ClientEvents.{NeverServes}
 use Rattle.group_map.specs.GroupMapState.{GroupMapState}
 use Rattle.log_flight.specs.Flights.{FlightState}
 use Rattle.log_law.specs.Events.{Happens, Runs}
@@ -16,8 +16,8 @@ use Rattle.log_law.specs.Tails.{then_on}
 use Rattle.log_scan.specs.ScanState.{ScanState}
 use Rattle.log_scan.specs.Transition as scan
 use Rattle.log_tie.specs.Setting.{Setting}
-use Rattle.node_ties.specs.node_tie.LogRows.{LogSeen, rows_told}
-use Rattle.node_ties.specs.node_tie.Sight.{SameLog}
+use Rattle.node_slots.specs.node_tie.LogRows.{LogSeen, rows_told}
+use Rattle.node_slots.specs.node_tie.Sight.{SameLog}
 use Rattle.segment_format.specs.declared.segment.Segment.{Segment}
 use Rattle.token_law.specs.Books.{Books}
 use Rattle.xfs_base.proofs.Booleans.{contrary}

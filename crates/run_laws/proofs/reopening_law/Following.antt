@@ -4,7 +4,7 @@ use Rattle.std.specs.Prelude.{IfSome}
 use Rattle.std.proofs.lemmas.Bool.{leb-false, leb-true}
 use Rattle.client_log.specs.LogState.{LogState}
 use Rattle.client_log.specs.Transition as log
-use Rattle.client_parts.specs.Crash.{flight_of}
+use Rattle.client_call.specs.Crash.{flight_of}
 use Rattle.index_tie.specs.Filed.{Filed}
 use Rattle.log_flight.specs.Flights.{FlightState}
 use Rattle.log_law.specs.Events.Runs.{Begun, On}
@@ -16,8 +16,8 @@ use Rattle.log_owner.specs.Opened.{names_in}
 use Rattle.log_protocol.specs.Tables.{In}
 use Rattle.log_tie.specs.Seen.{log_filed}
 use Rattle.log_tie.specs.Setting.{Setting}
-use Rattle.node_ties.specs.node_tie.CleanerLogs.{its_log}
-use Rattle.node_ties.specs.node_tie.LogRows.{rows_told}
+use Rattle.node_slots.specs.node_tie.CleanerLogs.{its_log}
+use Rattle.node_slots.specs.node_tie.LogRows.{rows_told}
 use Rattle.act_tie.specs.BlockActs.{is_adopted}
 use Rattle.log_owner.specs.declared.opened.Opened.{Opened}
 use Rattle.token_law.specs.Owed as owned

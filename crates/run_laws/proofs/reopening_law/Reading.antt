@@ -5,8 +5,8 @@ use Rattle.index_tie.specs.Filed.{Filed}
 use Rattle.log_law.specs.Net.{Net}
 use Rattle.log_law.specs.ReadBack.{ReadsDown}
 use Rattle.log_tie.specs.Setting.{Setting}
-use Rattle.node_ties.specs.node_index_tie.Sight.{Texts}
-use Rattle.node_ties.specs.owner_index_tie.Owners.{ReadBack}
+use Rattle.node_slots.specs.node_index_tie.Sight.{Texts}
+use Rattle.node_slots.specs.owner_index_tie.Owners.{ReadBack}
 use Rattle.segment_format.specs.declared.segment.Segment.{Segment}
 use Rattle.token_protocol.specs.Basics.{In as Among}
 use Rattle.run_laws.specs.reopening_law.Below.{Below}

@@ -14,7 +14,7 @@ use Rattle.log_law.specs.Restarts.{IsDoubtful, IsSureRun, LackedInSpan, is_servi
 use Rattle.log_protocol.specs.Tables as tables
 use Rattle.log_tie.specs.Setting.{Setting, Stripe, fragment_of, fragment_over, server_of}
 use Rattle.log_tie.specs.Shelves.{is_of_log}
-use Rattle.log_ties.specs.node_log_tie.Sight.{BodySeen}
+use Rattle.node_logs.specs.node_log_tie.Sight.{BodySeen}
 use Rattle.segment_format.specs.declared.segment.Segment.{Segment}
 use Rattle.wire_msg.specs.declared.body.Body.{Body}
 use Rattle.wire_msg.specs.declared.body.Body.TheVariants as body

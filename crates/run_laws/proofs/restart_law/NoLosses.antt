@@ -12,8 +12,8 @@ use Rattle.group_map.specs.Groups.{group_of, started}
 use Rattle.group_map.specs.WellFormed.{IsServer}
 use Rattle.log_tie.specs.Exist.{SomeSetting}
 use Rattle.log_tie.specs.Setting.{Setting, generation_of, server_of}
-use Rattle.log_ties.proofs.node_log_tie.Others.{same_or_other}
-use Rattle.log_ties.specs.node_log_tie.Sight.{BodySeen, ReachedBy}
+use Rattle.node_logs.proofs.node_log_tie.Others.{same_or_other}
+use Rattle.node_logs.specs.node_log_tie.Sight.{BodySeen, ReachedBy}
 use Rattle.wire_msg.specs.declared.packet.Do.{Do}
 use Rattle.wire_msg.specs.declared.packet.Packet.{Packet}
 use Rattle.world_base.specs.Cluster.{cluster_of, place_of}

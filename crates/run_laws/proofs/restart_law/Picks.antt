@@ -4,8 +4,8 @@ use Rattle.std.proofs.Common.{◌≡◌, ◌⊎◌, ⊎_elim, ℕ, zero, suc, �
 use Rattle.std.specs.Prelude.{IfSome}
 use Rattle.client_log.specs.LogState.{LogState, started as new_log}
 use Rattle.client_log.specs.Transition as log
-use Rattle.log_ties.specs.client_log_tie.ClientEvents.{IsOnce, has_picked}
-use Rattle.log_ties.specs.client_log_tie.Owner.{Scene}
+use Rattle.node_logs.specs.client_log_tie.ClientEvents.{IsOnce, has_picked}
+use Rattle.node_logs.specs.client_log_tie.Owner.{Scene}
 use Rattle.core_world.specs.declared.any_node.AnyNode.{AnyNode}
 use Rattle.group_map.specs.GroupMapState.{GroupMapState}
 use Rattle.log_flight.specs.Flights.{FlightState}
@@ -23,7 +23,7 @@ use Rattle.log_scan.specs.declared.stage.Stage.TheVariants.{Asks, Gathers, Hails
 use Rattle.log_scan.specs.ScanState.{ScanState}
 use Rattle.log_scan.specs.Transition as scan
 use Rattle.log_tie.specs.Setting.{Setting}
-use Rattle.log_ties.proofs.node_log_tie.Others.{same_or_other}
+use Rattle.node_logs.proofs.node_log_tie.Others.{same_or_other}
 use Rattle.segment_format.specs.declared.segment.Segment.{Segment}
 use Rattle.world_base.specs.declared.estate.Estate.{Estate}
 use Rattle.world_base.specs.declared.event.Event.{Event}

@@ -1,8 +1,8 @@
 -- The span of a restart along the line of a log: from the last count at which its owner served on nothing is filed, and what a server lacked there it lacked
 -- between two events, or it lost its disk in one.
 use Rattle.std.proofs.Common.{◌≡◌, ◌⊎◌, ⊎_elim, ℕ, zero, suc, ◌<◌, ◌≤◌, Bool, true, false, is_some, Option, Some, None, slice_get, inl, inr, refl, sym, ap, subst, ◌∙◌, arith}
-use Rattle.log_ties.specs.client_log_tie.ClientEvents.{ServesStraight}
-use Rattle.log_ties.specs.client_log_tie.Owner.{Scene}
+use Rattle.node_logs.specs.client_log_tie.ClientEvents.{ServesStraight}
+use Rattle.node_logs.specs.client_log_tie.Owner.{Scene}
 use Rattle.core_world.specs.declared.any_node.AnyNode.{AnyNode}
 use Rattle.fragment_store.specs.ShelfState.{held_at, is_held}
 use Rattle.group_map.specs.GroupMapState.{GroupMapState}
@@ -15,8 +15,8 @@ use Rattle.log_law.specs.Restarts.{IsSureRun, LackedInSpan, Lacks, in_span, is_s
 use Rattle.log_law.specs.Tails.{then_on}
 use Rattle.log_protocol.specs.Tables.{In}
 use Rattle.log_tie.specs.Setting.{Setting}
-use Rattle.log_ties.proofs.node_log_tie.Going.{run_later}
-use Rattle.log_ties.proofs.node_log_tie.Others.{same_or_other}
+use Rattle.node_logs.proofs.node_log_tie.Going.{run_later}
+use Rattle.node_logs.proofs.node_log_tie.Others.{same_or_other}
 use Rattle.world_base.specs.declared.estate.Estate.{Estate}
 use Rattle.world_base.specs.declared.event.Event.{Event}
 use Rattle.world_base.specs.Events.{node_of}

@@ -1,7 +1,7 @@
 -- While no restart of the nodes was doubtful, none is doubtful in the small world of a log: over all counts of the events of a run.
 use Rattle.std.proofs.Common.{◌≡◌, ⊎_elim, ℕ, zero, suc, Bool, true, false, Option, Some, None, slice_get, refl, sym, ap, subst, arith}
-use Rattle.log_ties.specs.client_log_tie.ClientEvents.{IsOnce, ServesStraight}
-use Rattle.log_ties.specs.client_log_tie.Owner.{Scene}
+use Rattle.node_logs.specs.client_log_tie.ClientEvents.{IsOnce, ServesStraight}
+use Rattle.node_logs.specs.client_log_tie.Owner.{Scene}
 use Rattle.core_world.specs.declared.any_node.AnyNode.{AnyNode}
 use Rattle.log_law.specs.Events.{Runs}
 use Rattle.log_law.specs.Events.Runs.{Begun, On}
@@ -10,7 +10,7 @@ use Rattle.log_law.specs.Net.{Net}
 use Rattle.log_law.specs.Restarts.{EndsRestart, IsDoubtful, IsSureRun, is_serving}
 use Rattle.log_law.specs.Tails.{then_on}
 use Rattle.log_tie.specs.Setting.{Setting}
-use Rattle.log_ties.proofs.node_log_tie.Others.{same_or_other}
+use Rattle.node_logs.proofs.node_log_tie.Others.{same_or_other}
 use Rattle.world_base.specs.declared.estate.Estate.{Estate}
 use Rattle.world_base.specs.declared.event.Event.{Event}
 use Rattle.world_base.specs.Events.{node_of}

@@ -17,8 +17,8 @@ use Rattle.log_law.specs.Net.Owner.{Down, Opening, Serving, Writing}
 use Rattle.log_law.specs.Restarts.{IsSureRun}
 use Rattle.log_protocol.specs.Tables as tables
 use Rattle.log_tie.specs.Setting.{Setting, Stripe, fragment_over, generation_of, server_of}
-use Rattle.log_ties.proofs.node_log_tie.WholeMaps.{its_stripe}
-use Rattle.log_ties.specs.node_log_tie.RegistryEvents.{RegistrySeen}
+use Rattle.node_logs.proofs.node_log_tie.WholeMaps.{its_stripe}
+use Rattle.node_logs.specs.node_log_tie.RegistryEvents.{RegistrySeen}
 use Rattle.segment_format.specs.declared.segment.Segment.{Segment}
 use Rattle.registry_node.specs.declared.node.RegistryNode.{RegistryNode}
 use Rattle.world_base.specs.Cluster.{cluster_of, place_of}

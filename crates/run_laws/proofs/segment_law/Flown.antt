@@ -7,8 +7,8 @@ use Rattle.client_log.specs.declared.input.In.TheVariants.{Put, Parts, Seal, Ack
 use Rattle.client_log.specs.History.{state_after}
 use Rattle.client_log.specs.LogState.{LogState, started}
 use Rattle.client_log.specs.Transition.{transition}
-use Rattle.log_ties.specs.client_log_tie.ClientEvents.{IsOnce, NeverServes}
-use Rattle.log_ties.specs.client_log_tie.Puts.{LogTook, PutsOwn, flown_after}
+use Rattle.node_logs.specs.client_log_tie.ClientEvents.{IsOnce, NeverServes}
+use Rattle.node_logs.specs.client_log_tie.Puts.{LogTook, PutsOwn, flown_after}
 use Rattle.group_map.specs.GroupMapState.{GroupMapState}
 use Rattle.log_flight.specs.Flights.{FlightState}
 use Rattle.log_law.specs.Events.{CameToWriter, Happens, Runs}

@@ -1,18 +1,18 @@
 -- What the cleaner that serves does for its job: what is moved waits in its log, of versions from 1 on, each moved once more.
 use Rattle.std.proofs.Common.{ℕ, ◌+◌, ◌<◌, List, [], ◌∷◌, Option, Some, None, sym, subst, arith}
 use Rattle.std.specs.List.{AllByRecursion}
-use Rattle.cleaner_emptying.specs.declared.emptying.Emptying.{Emptying}
-use Rattle.cleaner_emptying.specs.Jobs.{Done, with_questions, asks_maps, asks_list, asks_usage, checked_in, checks_block, check_sent, asks_check, holds_in, holds, reads, puts, puts_block, moves, deletes, finishes, says, takes_in, job_takes, cleans, on_listed, on_usage, on_live, on_dead, on_deleted, ends_reading, told_in, told_by, confirmed_in, confirmed, after_confirmed, reads_again, after_told, on_told}
-use Rattle.cleaner_parts.specs.declared.hand.Hand.{Hand}
-use Rattle.cleaner_parts.specs.declared.job.Job.{Job}
-use Rattle.cleaner_parts.specs.Hands.{Heard}
-use Rattle.cleaner_parts.specs.Jobs.{hand_checks_in, job_checks, lists_of, usages_of, check_of, hand_of, is_out, job_read, hand_hears_in, job_hears, hand_confirmed_in, job_confirmed}
+use Rattle.cleaner_serving.specs.declared.emptying.Emptying.{Emptying}
+use Rattle.cleaner_serving.specs.Jobs.{Done, with_questions, asks_maps, asks_list, asks_usage, checked_in, checks_block, check_sent, asks_check, holds_in, holds, reads, puts, puts_block, moves, deletes, finishes, says, takes_in, job_takes, cleans, on_listed, on_usage, on_live, on_dead, on_deleted, ends_reading, told_in, told_by, confirmed_in, confirmed, after_confirmed, reads_again, after_told, on_told}
+use Rattle.cleaner_job.specs.declared.hand.Hand.{Hand}
+use Rattle.cleaner_job.specs.declared.job.Job.{Job}
+use Rattle.cleaner_job.specs.Hands.{Heard}
+use Rattle.cleaner_job.specs.Jobs.{hand_checks_in, job_checks, lists_of, usages_of, check_of, hand_of, is_out, job_read, hand_hears_in, job_hears, hand_confirmed_in, job_confirmed}
 use Rattle.client_log.specs.declared.input.In.{In as LogIn}
 use Rattle.client_log.specs.declared.input.In.TheVariants as log_in
 use Rattle.client_log.specs.Transition as log
-use Rattle.telling_ties.specs.entry_tie.CleanerTells.{MovedTold, JobTold}
-use Rattle.telling_ties.proofs.entry_tie.CleanerChecks.{InputTold, cleaning_so}
-use Rattle.telling_ties.proofs.entry_tie.CleanerMoves.{BlockMoved, OutMoved, cleaning_gives}
+use Rattle.node_tellings.specs.entry_tie.CleanerTells.{MovedTold, JobTold}
+use Rattle.node_tellings.proofs.entry_tie.CleanerChecks.{InputTold, cleaning_so}
+use Rattle.node_tellings.proofs.entry_tie.CleanerMoves.{BlockMoved, OutMoved, cleaning_gives}
 use Rattle.group_map.specs.GroupMapState.{GroupMapState}
 use Rattle.log_flight.specs.declared.dirty.Change.{Change}
 use Rattle.log_flight.specs.Flights.{FlightState}

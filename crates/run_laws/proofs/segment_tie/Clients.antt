@@ -8,13 +8,13 @@ use Rattle.client_log.specs.declared.output.Out as log_out
 use Rattle.client_log.specs.declared.output.Out.TheVariants.{Send, Settled}
 use Rattle.client_log.specs.LogState.{LogState}
 use Rattle.client_log.specs.Transition as log
-use Rattle.node_ties.proofs.client_law.Happening.{AnyBlock, AnyMap, OpensSo, PhaseHolds, Reopens, Starts, arrives_any, brings_any, takes-so}
-use Rattle.node_ties.proofs.client_law.Keeping.{Fact, IsOuter, Keeps, TakesKeep, notes_gone-keeps, seals-keeps, takes_back-keeps}
+use Rattle.node_slots.proofs.client_law.Happening.{AnyBlock, AnyMap, OpensSo, PhaseHolds, Reopens, Starts, arrives_any, brings_any, takes-so}
+use Rattle.node_slots.proofs.client_law.Keeping.{Fact, IsOuter, Keeps, TakesKeep, notes_gone-keeps, seals-keeps, takes_back-keeps}
 use Rattle.client_node.specs.declared.phase.Phase.TheVariants.{Down, Opening, Serving as Serves}
 use Rattle.client_node.specs.declared.phase.Phase.{Phase}
 use Rattle.client_node.specs.Phases.{takes}
-use Rattle.client_parts.specs.Flights.{is_giving, is_settling}
-use Rattle.client_calls.specs.Blocks.{changes, wrote}
+use Rattle.client_call.specs.Flights.{is_giving, is_settling}
+use Rattle.client_running.specs.Blocks.{changes, wrote}
 use Rattle.client_serving.specs.declared.serving.Serving.{Serving}
 use Rattle.client_serving.specs.Flights.{feeds, gives_if_clean, gives_up, held_at, keeps_clean, notes_settled, settled_rows, settles, writes, writes_one}
 use Rattle.client_serving.specs.Follow.{evicts, notes_clean, notes_gone, seals}
@@ -25,7 +25,7 @@ use Rattle.coop_cache.specs.Transition.{cleaned}
 use Rattle.log_owner.specs.declared.opened.Progress.{Progress}
 use Rattle.log_owner.specs.declared.opened.Progress.TheVariants as progress
 use Rattle.log_owner.specs.declared.opening.Opening as openings
-use Rattle.node_ties.proofs.node_tie.ClientPuts.{written_some}
+use Rattle.node_slots.proofs.node_tie.ClientPuts.{written_some}
 use Rattle.token_client.specs.declared.held.Giving.{Giving}
 use Rattle.token_client.specs.Held.{is_dirty, may_write}
 use Rattle.token_client.specs.State.{dirty_in, with_held}

@@ -4,8 +4,8 @@ use Rattle.std.specs.List.{AllByRecursion, filter_map}
 use Rattle.index_tie.specs.Filed.{IsNoPart}
 use Rattle.log_flight.specs.declared.dirty.Change.{Change}
 use Rattle.log_flight.specs.Items.{change_items, items_of}
-use Rattle.node_ties.specs.node_tie.LogRows.{told, rows_told}
-use Rattle.node_ties.proofs.node_tie.LogRows.{rows_told_of}
+use Rattle.node_slots.specs.node_tie.LogRows.{told, rows_told}
+use Rattle.node_slots.proofs.node_tie.LogRows.{rows_told_of}
 use Rattle.segment_format.specs.declared.segment.Item.{Item}
 use Rattle.segment_format.specs.declared.segment.Item.TheVariants.{Block, Delta, Part}
 use Rattle.segment_format.specs.declared.segment.Segment.{Segment}

@@ -13,9 +13,9 @@ use Rattle.log_flight.specs.Fate.{fate_of}
 use Rattle.log_flight.specs.Flights.{FlightState, is_of, noting}
 use Rattle.log_flight.specs.Items.{items_of}
 use Rattle.log_flight.specs.Texts.{has_text}
-use Rattle.node_ties.specs.node_tie.LogRows.{row_of, told}
-use Rattle.node_ties.proofs.node_tie.ClientRows.{once_dropped, once_put, once_taken, rows_put}
-use Rattle.node_ties.proofs.node_tie.LogRows.{take_within}
+use Rattle.node_slots.specs.node_tie.LogRows.{row_of, told}
+use Rattle.node_slots.proofs.node_tie.ClientRows.{once_dropped, once_put, once_taken, rows_put}
+use Rattle.node_slots.proofs.node_tie.LogRows.{take_within}
 use Rattle.segment_format.specs.declared.segment.Item.{Item}
 use Rattle.segment_format.specs.declared.segment.Segment.{Segment}
 use Rattle.token_law.specs.Books.{AreOnce}

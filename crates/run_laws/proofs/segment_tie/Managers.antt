@@ -3,16 +3,16 @@ use Rattle.std.proofs.Common.{ℕ, List, Option, Some, None, refl}
 use Rattle.std.specs.Prelude.{IfSome}
 use Rattle.std.specs.List.{AllByRecursion}
 use Rattle.checkpoint.specs.WriterState.{WorkState}
-use Rattle.telling_ties.specs.entry_tie.ManagerTells.{AnswerOwed, BodyOwed, DoOwed, FlightHolds, PacketOwed, PartTold, PhaseHolds, SlotHolds, SlotOwed, WorkHolds}
-use Rattle.telling_ties.specs.entry_tie.Told.{Told, BodyTold, DoTold, RowsTold}
-use Rattle.telling_ties.proofs.entry_tie.Managers.{any_manager_tells}
+use Rattle.node_tellings.specs.entry_tie.ManagerTells.{AnswerOwed, BodyOwed, DoOwed, FlightHolds, PacketOwed, PartTold, PhaseHolds, SlotHolds, SlotOwed, WorkHolds}
+use Rattle.node_tellings.specs.entry_tie.Told.{Told, BodyTold, DoTold, RowsTold}
+use Rattle.node_tellings.proofs.entry_tie.Managers.{any_manager_tells}
 use Rattle.log_flight.specs.Flights.{FlightState}
 use Rattle.log_owner.specs.Sending.{server_in}
 use Rattle.manager_node.specs.declared.phase.Phase.{Phase}
 use Rattle.manager_node.specs.declared.phase.Phase.TheVariants.{Down, Waiting, Serving as Serves}
 use Rattle.manager_node.specs.Events.{manager_step}
-use Rattle.manager_parts.specs.declared.slot_phase.SlotPhase.{SlotPhase}
-use Rattle.manager_parts.specs.declared.slot_phase.SlotPhase.TheVariants as phase
+use Rattle.manager_slots.specs.declared.slot_phase.SlotPhase.{SlotPhase}
+use Rattle.manager_slots.specs.declared.slot_phase.SlotPhase.TheVariants as phase
 use Rattle.manager_serving.specs.declared.serving.Serving.{Serving}
 use Rattle.segment_format.specs.declared.segment.Item.{Item}
 use Rattle.segment_format.specs.declared.segment.Item.TheVariants.{Block, Delta, Part}

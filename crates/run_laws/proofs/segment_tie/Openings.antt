@@ -3,11 +3,11 @@ use Rattle.std.proofs.Common.{◌≡◌, ℕ, ◌&&◌, cond, List, [], Option, 
 use Rattle.std.specs.Prelude.{drop, take, IfSome}
 use Rattle.client_log.specs.LogState.{LogState}
 use Rattle.client_log.specs.Transition.{Done, launched, writes, has_next, is_idle, is_full, sealed, if_full, on_parts, restriped, landed, settled, can_follow, followed, looked_at, on_acked, on_maps, on_tick, all_sends}
-use Rattle.telling_ties.specs.entry_tie.ClientTells as tells
-use Rattle.telling_ties.specs.entry_tie.Told.{Told, RowsTold}
-use Rattle.telling_ties.proofs.entry_tie.Frames as frames
-use Rattle.telling_ties.proofs.entry_tie.Frames.{contains_all}
-use Rattle.telling_ties.proofs.entry_tie.Openings as events
+use Rattle.node_tellings.specs.entry_tie.ClientTells as tells
+use Rattle.node_tellings.specs.entry_tie.Told.{Told, RowsTold}
+use Rattle.node_tellings.proofs.entry_tie.Frames as frames
+use Rattle.node_tellings.proofs.entry_tie.Frames.{contains_all}
+use Rattle.node_tellings.proofs.entry_tie.Openings as events
 use Rattle.group_map.specs.GroupMapState.{GroupMapState}
 use Rattle.log_flight.specs.declared.dirty.Change.{Change}
 use Rattle.log_flight.specs.declared.flight.Fate.{Fate}

@@ -5,9 +5,9 @@ use Rattle.core_world.specs.AnyNode.{any_start, any_step}
 use Rattle.core_world.specs.declared.any_node.AnyNode.{AnyNode}
 use Rattle.core_world.specs.declared.any_node.AnyNode.TheVariants as any
 use Rattle.run_laws.proofs.filed_law.Telling.{all_got, all_set}
-use Rattle.telling_ties.proofs.filed_tie.Frames.{all_before}
-use Rattle.node_ties.specs.node_tie.AskingEvents.{PhaseAsks}
-use Rattle.node_ties.proofs.node_tie.AsksEvents.{first_asks, phase_asks}
+use Rattle.node_tellings.proofs.filed_tie.Frames.{all_before}
+use Rattle.node_slots.specs.node_tie.AskingEvents.{PhaseAsks}
+use Rattle.node_slots.proofs.node_tie.AsksEvents.{first_asks, phase_asks}
 use Rattle.script_text.specs.declared.script.Script.{Script}
 use Rattle.version_model.specs.declared.act.Act.{Act}
 use Rattle.version_model.specs.declared.work.Work.{Work}

@@ -2,8 +2,8 @@
 use Rattle.std.proofs.Common.{◌≡◌, ◌⊎◌, ℕ, ◌≤◌, ◌<◌, List, [], ◌∷◌, Option, None, Some, arith}
 use Rattle.cleaner_node.specs.declared.cleaner.Phase.{Phase as CleanerPhase}
 use Rattle.cleaner_node.specs.declared.cleaner.Phase.TheVariants.{Down, Opening, Serving}
-use Rattle.cleaner_parts.specs.declared.hand.Hand.{Hand}
-use Rattle.cleaner_parts.specs.declared.job.Job.{Job}
+use Rattle.cleaner_job.specs.declared.hand.Hand.{Hand}
+use Rattle.cleaner_job.specs.declared.job.Job.{Job}
 use Rattle.node_base.specs.declared.effects.Effect.{Effect}
 use Rattle.node_base.specs.declared.effects.Effect.TheVariants.{Send, Answer, Lose, Does}
 use Rattle.node_base.specs.declared.questions.Questions.{Questions}

@@ -2,12 +2,12 @@
 use Rattle.std.proofs.Common.{◌≡◌, ◌==◌, ℕ, Bool, true, false, List, [], ◌∷◌, Option, None, Some, inl, inr, refl, sym, ap, subst, ◌∙◌, arith}
 use Rattle.std.proofs.lemmas.Bool.Decides.{nat_tests}
 use Rattle.std.specs.List.{AllByRecursion, flat_map}
-use Rattle.cleaner_emptying.specs.declared.emptying.Emptying.{Emptying}
-use Rattle.cleaner_emptying.specs.Jobs.{cleans, deletes, finishes, holds, holds_in, job_takes, moves, puts, puts_block, reads, says, takes_in}
-use Rattle.cleaner_parts.specs.declared.hand.Hand.{Hand}
-use Rattle.cleaner_parts.specs.declared.job.Job.{Job}
-use Rattle.cleaner_parts.specs.Hands.{Taken, asked_of, fetches, fetches_for, is_in_hand, known_group, taken_over, takes_in_hand}
-use Rattle.cleaner_parts.specs.Jobs.{drops, dropped, hand_of, is_whole}
+use Rattle.cleaner_serving.specs.declared.emptying.Emptying.{Emptying}
+use Rattle.cleaner_serving.specs.Jobs.{cleans, deletes, finishes, holds, holds_in, job_takes, moves, puts, puts_block, reads, says, takes_in}
+use Rattle.cleaner_job.specs.declared.hand.Hand.{Hand}
+use Rattle.cleaner_job.specs.declared.job.Job.{Job}
+use Rattle.cleaner_job.specs.Hands.{Taken, asked_of, fetches, fetches_for, is_in_hand, known_group, taken_over, takes_in_hand}
+use Rattle.cleaner_job.specs.Jobs.{drops, dropped, hand_of, is_whole}
 use Rattle.client_log.specs.declared.input.In.{In as LogIn}
 use Rattle.client_log.specs.declared.input.In.TheVariants as log_in
 use Rattle.client_log.specs.declared.output.Out.{Out as LogOut}

@@ -7,12 +7,12 @@ use Rattle.std.specs.Map.{lookup}
 use Rattle.std.specs.Ordering.{match_ordering}
 use Rattle.std.specs.declared.cmp.Ordering.{Ordering}
 use Rattle.std.specs.declared.cmp.Ordering.TheVariants.{Less, Equal, Greater}
-use Rattle.cleaner_emptying.specs.declared.emptying.Emptying.{Emptying}
-use Rattle.cleaner_emptying.specs.Jobs.{Done, asks_check, asks_list, asks_maps, asks_usage, check_sent, checked_in, checked_with, checks_block, says}
-use Rattle.cleaner_parts.specs.declared.hand.Hand.{Hand}
-use Rattle.cleaner_parts.specs.declared.job.Job.{Job}
-use Rattle.cleaner_parts.specs.Hands.{asked_of, checks_under, checks, kept_ask}
-use Rattle.cleaner_parts.specs.Jobs.{drawn_unless, hand_checks_in, job_checked, job_checks, JobChecking}
+use Rattle.cleaner_serving.specs.declared.emptying.Emptying.{Emptying}
+use Rattle.cleaner_serving.specs.Jobs.{Done, asks_check, asks_list, asks_maps, asks_usage, check_sent, checked_in, checked_with, checks_block, says}
+use Rattle.cleaner_job.specs.declared.hand.Hand.{Hand}
+use Rattle.cleaner_job.specs.declared.job.Job.{Job}
+use Rattle.cleaner_job.specs.Hands.{asked_of, checks_under, checks, kept_ask}
+use Rattle.cleaner_job.specs.Jobs.{drawn_unless, hand_checks_in, job_checked, job_checks, JobChecking}
 use Rattle.node_base.specs.Asking.{drawn, next_ask}
 use Rattle.node_base.specs.declared.effects.Effect.{Effect}
 use Rattle.node_base.specs.declared.effects.Effect.TheVariants.{Send, Answer, Lose, Does}

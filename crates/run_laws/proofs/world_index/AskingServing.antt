@@ -1,14 +1,14 @@
 -- What each packet, and time, make of what a cleaner that serves awaits of the segment in hand.
 use Rattle.std.proofs.Common.{◌≡◌, ◌==◌, ◌&&◌, ℕ, Bool, nat_lt, true, List, [], ◌∷◌, Option, None, Some, is_some, if◌then◌else◌, refl, sym, subst}
 use Rattle.std.specs.List.{range_with_len}
-use Rattle.cleaner_emptying.specs.declared.emptying.Emptying.{Emptying}
-use Rattle.cleaner_emptying.specs.EmptyingEvents.{asks_for_maps, begins_job, fed, hears_slot, hears_slots, job_regrouped, log_regrouped, on_ack, on_body, on_clean, on_news, on_packet, on_poll, on_tick, on_welcome, promises, promises_all, promises_slot, reports, settles, takes_news, welcomes, welcomes_over, with_new_job, writes, writes_one}
-use Rattle.cleaner_emptying.specs.Jobs.{Done, after_confirmed, after_told, cleans, confirmed, confirmed_in, ends_reading, on_dead, on_deleted, on_listed, on_live, on_told, on_usage, reads_again, told_by, told_in, with_questions}
-use Rattle.cleaner_parts.specs.declared.hand.Hand.{Hand}
-use Rattle.cleaner_parts.specs.declared.job.Job.{Job}
-use Rattle.cleaner_parts.specs.Hands.{confirmed_by, fetches, hand_confirmed, hand_hears, hears_by}
-use Rattle.cleaner_parts.specs.Jobs.{greeted, hand_moved, hello_of, job_moved, check_of, hand_confirmed_in, hand_hears_in, hand_of, is_out, job_confirmed, job_hears, job_read, lists_of, read_over, usages_of}
-use Rattle.cleaner_parts.specs.Starting.{cleaner_log}
+use Rattle.cleaner_serving.specs.declared.emptying.Emptying.{Emptying}
+use Rattle.cleaner_serving.specs.EmptyingEvents.{asks_for_maps, begins_job, fed, hears_slot, hears_slots, job_regrouped, log_regrouped, on_ack, on_body, on_clean, on_news, on_packet, on_poll, on_tick, on_welcome, promises, promises_all, promises_slot, reports, settles, takes_news, welcomes, welcomes_over, with_new_job, writes, writes_one}
+use Rattle.cleaner_serving.specs.Jobs.{Done, after_confirmed, after_told, cleans, confirmed, confirmed_in, ends_reading, on_dead, on_deleted, on_listed, on_live, on_told, on_usage, reads_again, told_by, told_in, with_questions}
+use Rattle.cleaner_job.specs.declared.hand.Hand.{Hand}
+use Rattle.cleaner_job.specs.declared.job.Job.{Job}
+use Rattle.cleaner_job.specs.Hands.{confirmed_by, fetches, hand_confirmed, hand_hears, hears_by}
+use Rattle.cleaner_job.specs.Jobs.{greeted, hand_moved, hello_of, job_moved, check_of, hand_confirmed_in, hand_hears_in, hand_of, is_out, job_confirmed, job_hears, job_read, lists_of, read_over, usages_of}
+use Rattle.cleaner_job.specs.Starting.{cleaner_log}
 use Rattle.client_log.specs.declared.input.In.{In as LogIn}
 use Rattle.client_log.specs.declared.input.In.TheVariants as log_in
 use Rattle.client_log.specs.declared.output.Out.{Out as LogOut}

@@ -7,8 +7,8 @@ use Rattle.cleaner_node.specs.CleanerEvents.{lasting_of, phase_room, happens, ta
 use Rattle.cleaner_node.specs.declared.cleaner.Cleaner.{Cleaner as CleanerNode}
 use Rattle.cleaner_node.specs.declared.cleaner.Phase.{Phase}
 use Rattle.cleaner_node.specs.declared.cleaner.Phase.TheVariants.{Down, Opening, Serving}
-use Rattle.cleaner_parts.specs.declared.lasting.Lasting.{Lasting}
-use Rattle.cleaner_parts.specs.Lasting.{lasting_room}
+use Rattle.cleaner_job.specs.declared.lasting.Lasting.{Lasting}
+use Rattle.cleaner_job.specs.Lasting.{lasting_room}
 use Rattle.index_tie.proofs.Tables.{second_of}
 use Rattle.index_tie.specs.Net.{Net}
 use Rattle.index_tie.specs.Net.Runs.{Begun}
@@ -16,9 +16,9 @@ use Rattle.log_protocol.specs.Tables as tables
 use Rattle.node_base.specs.Room.{has_room}
 use Rattle.node_base.specs.declared.effects.Effect.{Effect}
 use Rattle.node_base.specs.declared.effects.Effect.TheVariants.{Send, Answer, Lose, Does}
-use Rattle.node_ties.specs.node_index_tie.Sight.{CheckKnown, Questions, Texts}
-use Rattle.node_ties.proofs.owner_index_tie.Frames.{more_itself}
-use Rattle.node_ties.specs.owner_index_tie.CleanerEvents.{CleanerAgrees, CleanerDoes, CleanerEventGoes, CleanerGoes, CleanerSays}
+use Rattle.node_slots.specs.node_index_tie.Sight.{CheckKnown, Questions, Texts}
+use Rattle.node_slots.proofs.owner_index_tie.Frames.{more_itself}
+use Rattle.node_slots.specs.owner_index_tie.CleanerEvents.{CleanerAgrees, CleanerDoes, CleanerEventGoes, CleanerGoes, CleanerSays}
 use Rattle.wire_msg.specs.declared.body.Body.{Body}
 use Rattle.wire_msg.specs.declared.body.Body.TheVariants as body
 use Rattle.wire_msg.specs.declared.cleaning.Check.{Check}

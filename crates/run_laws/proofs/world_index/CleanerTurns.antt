@@ -11,11 +11,11 @@ use Rattle.index_tie.specs.Net.{Net, opening}
 use Rattle.log_protocol.specs.Tables as tables
 use Rattle.node_base.specs.declared.effects.Effect.{Effect}
 use Rattle.node_base.specs.Effects.{packets_of}
-use Rattle.node_ties.proofs.node_index_tie.Moves.{in_front, in_more, runs_through}
-use Rattle.node_ties.specs.node_index_tie.ManagerEvents.{ManagersStay}
-use Rattle.node_ties.specs.node_index_tie.Sight.{Questions, Texts}
-use Rattle.node_ties.specs.owner_index_tie.CleanerEvents.{CleanerDoes, CleanerGoes, CleanerSays}
-use Rattle.node_ties.specs.owner_index_tie.ClientEvents.{ClientsStay}
+use Rattle.node_slots.proofs.node_index_tie.Moves.{in_front, in_more, runs_through}
+use Rattle.node_slots.specs.node_index_tie.ManagerEvents.{ManagersStay}
+use Rattle.node_slots.specs.node_index_tie.Sight.{Questions, Texts}
+use Rattle.node_slots.specs.owner_index_tie.CleanerEvents.{CleanerDoes, CleanerGoes, CleanerSays}
+use Rattle.node_slots.specs.owner_index_tie.ClientEvents.{ClientsStay}
 use Rattle.segment_format.specs.declared.segment.Segment.{Segment}
 use Rattle.registry_node.specs.declared.node.RegistryNode.{RegistryNode}
 use Rattle.token_protocol.specs.Basics.{In}

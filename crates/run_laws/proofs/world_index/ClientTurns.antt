@@ -7,12 +7,12 @@ use Rattle.core_world.specs.declared.any_node.AnyNode.TheVariants as any
 use Rattle.index_tie.specs.Net.{Net, Packet as Said, opening}
 use Rattle.log_protocol.specs.Tables as tables
 use Rattle.node_base.specs.Effects.{packets_of}
-use Rattle.node_ties.proofs.node_index_tie.Moves.{runs_through}
-use Rattle.node_ties.specs.node_index_tie.ManagerEvents.{ManagersStay}
-use Rattle.node_ties.specs.node_index_tie.Sight.{Texts}
-use Rattle.node_ties.specs.owner_index_tie.CleanerEvents.{CleanerStays}
-use Rattle.node_ties.specs.owner_index_tie.ClientEvents.{ClientAgrees, ClientGoes, ClientsStay}
-use Rattle.node_ties.specs.owner_index_tie.Owners.{OwnerDoes, OwnerSays}
+use Rattle.node_slots.proofs.node_index_tie.Moves.{runs_through}
+use Rattle.node_slots.specs.node_index_tie.ManagerEvents.{ManagersStay}
+use Rattle.node_slots.specs.node_index_tie.Sight.{Texts}
+use Rattle.node_slots.specs.owner_index_tie.CleanerEvents.{CleanerStays}
+use Rattle.node_slots.specs.owner_index_tie.ClientEvents.{ClientAgrees, ClientGoes, ClientsStay}
+use Rattle.node_slots.specs.owner_index_tie.Owners.{OwnerDoes, OwnerSays}
 use Rattle.segment_format.specs.declared.segment.Segment.{Segment}
 use Rattle.registry_node.specs.declared.node.RegistryNode.{RegistryNode}
 use Rattle.token_protocol.proofs.Refining.{put_each}

@@ -5,7 +5,7 @@ use Rattle.index_tie.proofs.Takeovers.{by_log, of_log_out}
 use Rattle.index_tie.specs.Net.{Net}
 use Rattle.index_tie.specs.Takeovers.{of_log, IsEnd}
 use Rattle.log_protocol.specs.Tables as tables
-use Rattle.node_ties.specs.node_index_tie.Sight.{Questions, CheckKnown, DeadKnown, DeltasKnown, EndKnown, ManagerSends, ReportKnown}
+use Rattle.node_slots.specs.node_index_tie.Sight.{Questions, CheckKnown, DeadKnown, DeltasKnown, EndKnown, ManagerSends, ReportKnown}
 use Rattle.segment_format.specs.declared.segment.Segment.{Segment}
 use Rattle.wire_msg.specs.declared.body.Body.{Body}
 use Rattle.wire_msg.specs.declared.body.Body.TheVariants as body

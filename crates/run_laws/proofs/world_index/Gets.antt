@@ -2,28 +2,28 @@
 use Rattle.std.proofs.Common.{◌≡◌, ℕ, ◌<◌, true, List, Option, None, Some, refl, sym, ap, subst, ◌∙◌}
 use Rattle.std.proofs.lemmas.Bool.{eqb-true}
 use Rattle.std.proofs.Math.Nat.{mod-eq_of_lt}
-use Rattle.cleaner_emptying.specs.declared.emptying.Emptying.{Emptying}
+use Rattle.cleaner_serving.specs.declared.emptying.Emptying.{Emptying}
 use Rattle.cleaner_node.specs.CleanerEvents.{lasting_of}
 use Rattle.cleaner_node.specs.declared.cleaner.Phase.{Phase as CleanerPhase}
 use Rattle.cleaner_node.specs.declared.cleaner.Phase.TheVariants as cleaning
-use Rattle.cleaner_parts.specs.declared.hand.Hand.{Hand}
-use Rattle.cleaner_parts.specs.declared.job.Job.{Job}
-use Rattle.cleaner_parts.specs.Hands.{asked_of}
-use Rattle.cleaner_parts.specs.Jobs.{check_of, hand_of, is_out}
+use Rattle.cleaner_job.specs.declared.hand.Hand.{Hand}
+use Rattle.cleaner_job.specs.declared.job.Job.{Job}
+use Rattle.cleaner_job.specs.Hands.{asked_of}
+use Rattle.cleaner_job.specs.Jobs.{check_of, hand_of, is_out}
 use Rattle.index_tie.specs.Net.{Net, IsInHand}
 use Rattle.index_tie.specs.NetLaws.{CheckpointsHaveManagers, Moment}
 use Rattle.log_owner.specs.Promised.{epoch_of}
 use Rattle.manager_node.specs.declared.phase.Phase.{Phase as ManagerPhase}
 use Rattle.manager_node.specs.declared.phase.Phase.TheVariants as managing
-use Rattle.manager_parts.specs.declared.slot_phase.SlotPhase.{SlotPhase}
+use Rattle.manager_slots.specs.declared.slot_phase.SlotPhase.{SlotPhase}
 use Rattle.node_base.specs.declared.questions.Questions.{Questions as Asker}
-use Rattle.node_ties.specs.node_index_tie.ManagerEvents.{AllNewsGets, DeltasGets, EventGets, ReportGets, ServingGets, WaitingGets}
-use Rattle.node_ties.specs.node_index_tie.RegistryEvents.{BodyGets as RegistryBodyGets, DoGets, RegistryOwed}
-use Rattle.node_ties.specs.node_index_tie.Sight.{CheckKnown, CkptSeen, DeadKnown, Questions, Texts, held_in}
-use Rattle.node_ties.specs.node_tie.ManagerEvents.{epoch_in, phase_at}
-use Rattle.node_ties.specs.owner_index_tie.CleanerEvents.{DeadGiven, JobAgrees, PhaseAgrees}
-use Rattle.node_ties.specs.owner_index_tie.CleanerEvents as cleaners
-use Rattle.node_ties.specs.owner_index_tie.CleanerMoves.{BodyAnswers}
+use Rattle.node_slots.specs.node_index_tie.ManagerEvents.{AllNewsGets, DeltasGets, EventGets, ReportGets, ServingGets, WaitingGets}
+use Rattle.node_slots.specs.node_index_tie.RegistryEvents.{BodyGets as RegistryBodyGets, DoGets, RegistryOwed}
+use Rattle.node_slots.specs.node_index_tie.Sight.{CheckKnown, CkptSeen, DeadKnown, Questions, Texts, held_in}
+use Rattle.node_slots.specs.node_tie.ManagerEvents.{epoch_in, phase_at}
+use Rattle.node_slots.specs.owner_index_tie.CleanerEvents.{DeadGiven, JobAgrees, PhaseAgrees}
+use Rattle.node_slots.specs.owner_index_tie.CleanerEvents as cleaners
+use Rattle.node_slots.specs.owner_index_tie.CleanerMoves.{BodyAnswers}
 use Rattle.stripe_cleaner.specs.declared.phase.Phase.{Phase}
 use Rattle.stripe_cleaner.specs.declared.phase.Phase.TheVariants.{Checking}
 use Rattle.wire_msg.specs.declared.body.Body.{Body}

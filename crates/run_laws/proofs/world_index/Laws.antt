@@ -7,13 +7,13 @@ use Rattle.index_tie.specs.NetLaws.{EachIndexIsTheJoin, NewestIsNeverDeleted}
 use Rattle.log_protocol.specs.Tables as tables
 use Rattle.manager_node.specs.declared.phase.Phase.{Phase as ManagerPhase}
 use Rattle.manager_node.specs.declared.phase.Phase.TheVariants as managing
-use Rattle.manager_parts.specs.declared.slot_phase.SlotPhase.{SlotPhase}
-use Rattle.manager_parts.specs.declared.slot_phase.SlotPhase.TheVariants as phase
-use Rattle.node_ties.specs.node_index_tie.ManagerEvents.{ManagerAgrees, PhaseAgrees}
-use Rattle.node_ties.specs.node_index_tie.Pages.{Desk, desk_of}
-use Rattle.node_ties.specs.node_index_tie.Sight.{Texts, held_in}
-use Rattle.node_ties.specs.node_tie.ManagerEvents.{phase_at, slot_in}
-use Rattle.node_ties.specs.node_tie.RegistryEvents.{RegistrySound}
+use Rattle.manager_slots.specs.declared.slot_phase.SlotPhase.{SlotPhase}
+use Rattle.manager_slots.specs.declared.slot_phase.SlotPhase.TheVariants as phase
+use Rattle.node_slots.specs.node_index_tie.ManagerEvents.{ManagerAgrees, PhaseAgrees}
+use Rattle.node_slots.specs.node_index_tie.Pages.{Desk, desk_of}
+use Rattle.node_slots.specs.node_index_tie.Sight.{Texts, held_in}
+use Rattle.node_slots.specs.node_tie.ManagerEvents.{phase_at, slot_in}
+use Rattle.node_slots.specs.node_tie.RegistryEvents.{RegistrySound}
 use Rattle.segment_format.specs.declared.segment.Segment.{Segment}
 use Rattle.token_manager.specs.SlotState.{SlotState}
 use Rattle.wire_msg.specs.declared.packet.Do.TheVariants.{Deliver}

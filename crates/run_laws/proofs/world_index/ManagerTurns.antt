@@ -9,13 +9,13 @@ use Rattle.log_protocol.specs.Tables as tables
 use Rattle.manager_node.specs.declared.manager.Manager.{Manager as ManagerNode}
 use Rattle.manager_node.specs.Phases.{Went_to, lasting_of}
 use Rattle.node_base.specs.Effects.{packets_of}
-use Rattle.node_ties.proofs.node_index_tie.Moves.{runs_through}
-use Rattle.node_ties.specs.node_index_tie.ManagerEvents.{ManagerAgrees, ManagerGoes, ManagersStay}
-use Rattle.node_ties.specs.node_index_tie.Sight.{AreTexts, ManagerDoes, Texts}
-use Rattle.node_ties.proofs.owner_index_tie.Frames.{more_itself}
-use Rattle.node_ties.specs.owner_index_tie.CleanerEvents.{CleanerStays}
-use Rattle.node_ties.specs.owner_index_tie.ClientEvents.{ClientsStay}
-use Rattle.node_ties.specs.owner_index_tie.Filing.{IsSameLog}
+use Rattle.node_slots.proofs.node_index_tie.Moves.{runs_through}
+use Rattle.node_slots.specs.node_index_tie.ManagerEvents.{ManagerAgrees, ManagerGoes, ManagersStay}
+use Rattle.node_slots.specs.node_index_tie.Sight.{AreTexts, ManagerDoes, Texts}
+use Rattle.node_slots.proofs.owner_index_tie.Frames.{more_itself}
+use Rattle.node_slots.specs.owner_index_tie.CleanerEvents.{CleanerStays}
+use Rattle.node_slots.specs.owner_index_tie.ClientEvents.{ClientsStay}
+use Rattle.node_slots.specs.owner_index_tie.Filing.{IsSameLog}
 use Rattle.segment_format.specs.declared.segment.Segment.{Segment}
 use Rattle.registry_node.specs.declared.node.RegistryNode.{RegistryNode}
 use Rattle.token_protocol.proofs.Refining.{put_each}

@@ -8,21 +8,21 @@ use Rattle.index_tie.specs.Net.{Net, Packet as Said, opening}
 use Rattle.log_protocol.specs.Tables as tables
 use Rattle.manager_node.specs.declared.phase.Phase.{Phase as ManagerPhase}
 use Rattle.manager_node.specs.declared.phase.Phase.TheVariants as managing
-use Rattle.manager_parts.specs.declared.slot_phase.SlotPhase.{SlotPhase}
-use Rattle.manager_parts.specs.declared.slot_phase.SlotPhase.TheVariants as phase
+use Rattle.manager_slots.specs.declared.slot_phase.SlotPhase.{SlotPhase}
+use Rattle.manager_slots.specs.declared.slot_phase.SlotPhase.TheVariants as phase
 use Rattle.node_base.specs.declared.effects.Effect.{Effect}
 use Rattle.node_base.specs.Effects.{packets_of}
-use Rattle.node_ties.proofs.node_index_tie.Moves.{runs_through, some_none}
-use Rattle.node_ties.specs.node_index_tie.ManagerEvents.{ManagerAgrees, ManagersStay, Passes, PhaseAgrees}
-use Rattle.node_ties.specs.node_index_tie.Pages.{Desk, desk_of}
-use Rattle.node_ties.specs.node_index_tie.RegistryEvents.{NewsTold, RegistryGoes}
-use Rattle.node_ties.specs.node_index_tie.Sight.{AreTexts, Texts}
-use Rattle.node_ties.specs.node_tie.ManagerEvents.{HeldAt, phase_at, slot_in}
-use Rattle.node_ties.specs.node_tie.RegistryEvents.{NewsAre, RegistrySends, RegistrySound}
-use Rattle.node_ties.specs.node_tie.RegistryEvents as maps
-use Rattle.node_ties.specs.owner_index_tie.CleanerEvents.{CleanerStays}
-use Rattle.node_ties.specs.owner_index_tie.ClientEvents.{ClientsStay}
-use Rattle.node_ties.specs.owner_index_tie.ServerEvents.{DoesNothing}
+use Rattle.node_slots.proofs.node_index_tie.Moves.{runs_through, some_none}
+use Rattle.node_slots.specs.node_index_tie.ManagerEvents.{ManagerAgrees, ManagersStay, Passes, PhaseAgrees}
+use Rattle.node_slots.specs.node_index_tie.Pages.{Desk, desk_of}
+use Rattle.node_slots.specs.node_index_tie.RegistryEvents.{NewsTold, RegistryGoes}
+use Rattle.node_slots.specs.node_index_tie.Sight.{AreTexts, Texts}
+use Rattle.node_slots.specs.node_tie.ManagerEvents.{HeldAt, phase_at, slot_in}
+use Rattle.node_slots.specs.node_tie.RegistryEvents.{NewsAre, RegistrySends, RegistrySound}
+use Rattle.node_slots.specs.node_tie.RegistryEvents as maps
+use Rattle.node_slots.specs.owner_index_tie.CleanerEvents.{CleanerStays}
+use Rattle.node_slots.specs.owner_index_tie.ClientEvents.{ClientsStay}
+use Rattle.node_slots.specs.owner_index_tie.ServerEvents.{DoesNothing}
 use Rattle.segment_format.specs.declared.segment.Segment.{Segment}
 use Rattle.registry_node.specs.declared.node.RegistryNode.{RegistryNode}
 use Rattle.store_nodes.specs.declared.server.Server.{Server as ServerNode}

@@ -6,12 +6,12 @@ use Rattle.core_world.specs.AnyNode.{any_start}
 use Rattle.index_tie.specs.Net.{opening}
 use Rattle.index_tie.specs.Net.Runs.{Begun}
 use Rattle.manager_node.specs.Events.{first_manager}
-use Rattle.node_ties.specs.node_index_tie.ManagerEvents.{FirstManagerAgrees}
-use Rattle.node_ties.specs.node_index_tie.RegistryEvents.{RegistryStarts}
-use Rattle.node_ties.specs.node_index_tie.Sight.{Texts}
-use Rattle.node_ties.specs.node_tie.RegistryEvents.{RegistryBegins, RegistrySound}
-use Rattle.node_ties.specs.owner_index_tie.CleanerEvents.{CleanerStartAgrees}
-use Rattle.node_ties.specs.owner_index_tie.ClientEvents.{FirstClientAgrees}
+use Rattle.node_slots.specs.node_index_tie.ManagerEvents.{FirstManagerAgrees}
+use Rattle.node_slots.specs.node_index_tie.RegistryEvents.{RegistryStarts}
+use Rattle.node_slots.specs.node_index_tie.Sight.{Texts}
+use Rattle.node_slots.specs.node_tie.RegistryEvents.{RegistryBegins, RegistrySound}
+use Rattle.node_slots.specs.owner_index_tie.CleanerEvents.{CleanerStartAgrees}
+use Rattle.node_slots.specs.owner_index_tie.ClientEvents.{FirstClientAgrees}
 use Rattle.script_text.specs.declared.script.Script.{Script}
 use Rattle.segment_format.specs.declared.segment.Segment.{Segment}
 use Rattle.registry_node.specs.Events.{registry_start}

@@ -10,11 +10,11 @@ use Rattle.manager_node.specs.declared.manager.Manager.{Manager as ManagerNode}
 use Rattle.manager_node.specs.declared.phase.Phase.{Phase}
 use Rattle.manager_node.specs.declared.phase.Phase.TheVariants.{Down, Waiting, Serving as Serves}
 use Rattle.manager_node.specs.Phases.{lasting_of}
-use Rattle.manager_parts.specs.declared.lasting.Lasting.{Lasting as Kept}
+use Rattle.manager_slots.specs.declared.lasting.Lasting.{Lasting as Kept}
 use Rattle.manager_serving.specs.declared.serving.Serving.{Serving}
-use Rattle.node_ties.proofs.node_index_tie.Moves.{some_none}
-use Rattle.node_ties.specs.node_tie.ManagerEvents.{HeldAt, NamedBy, NamedIn, Names, epoch_in, is_serving, slot_in}
-use Rattle.node_ties.specs.node_tie.RegistryEvents.{RegistrySound}
+use Rattle.node_slots.proofs.node_index_tie.Moves.{some_none}
+use Rattle.node_slots.specs.node_tie.ManagerEvents.{HeldAt, NamedBy, NamedIn, Names, epoch_in, is_serving, slot_in}
+use Rattle.node_slots.specs.node_tie.RegistryEvents.{RegistrySound}
 use Rattle.segment_format.specs.declared.segment.Segment.{Segment}
 use Rattle.token_manager.specs.SlotState.{SlotState}
 use Rattle.version_model.specs.declared.act.Act.{Act}

@@ -9,16 +9,16 @@ use Rattle.index_tie.specs.Net.{Net}
 use Rattle.index_tie.specs.NetLaws.{CheckpointsHaveManagers}
 use Rattle.manager_node.specs.declared.manager.Manager.{Manager as ManagerNode}
 use Rattle.manager_node.specs.Events.{happens}
-use Rattle.node_ties.proofs.node_index_tie.Moves.{some_none}
-use Rattle.node_ties.specs.node_index_tie.ManagerEvents.{FirstManagerAgrees, ManagerEventGoes, ManagerGoes, ManagersStay}
-use Rattle.node_ties.specs.node_index_tie.RegistryEvents.{RegistryEventGoes, RegistryGoes, RegistryStarts}
-use Rattle.node_ties.specs.node_index_tie.Sight.{Texts}
-use Rattle.node_ties.specs.node_tie.ManagerEvents.{epoch_in, is_serving}
-use Rattle.node_ties.specs.node_tie.RegistryEvents.{RegistrySound}
-use Rattle.node_ties.specs.node_tie.RegistryEvents as maps
-use Rattle.node_ties.specs.owner_index_tie.CleanerEvents.{CleanerEventGoes, CleanerGoes, CleanerStartAgrees, CleanerStays}
-use Rattle.node_ties.specs.owner_index_tie.ClientEvents.{ClientEventGoes, ClientGoes, ClientsStay, FirstClientAgrees}
-use Rattle.node_ties.specs.owner_index_tie.ServerEvents.{ServerEventGoes}
+use Rattle.node_slots.proofs.node_index_tie.Moves.{some_none}
+use Rattle.node_slots.specs.node_index_tie.ManagerEvents.{FirstManagerAgrees, ManagerEventGoes, ManagerGoes, ManagersStay}
+use Rattle.node_slots.specs.node_index_tie.RegistryEvents.{RegistryEventGoes, RegistryGoes, RegistryStarts}
+use Rattle.node_slots.specs.node_index_tie.Sight.{Texts}
+use Rattle.node_slots.specs.node_tie.ManagerEvents.{epoch_in, is_serving}
+use Rattle.node_slots.specs.node_tie.RegistryEvents.{RegistrySound}
+use Rattle.node_slots.specs.node_tie.RegistryEvents as maps
+use Rattle.node_slots.specs.owner_index_tie.CleanerEvents.{CleanerEventGoes, CleanerGoes, CleanerStartAgrees, CleanerStays}
+use Rattle.node_slots.specs.owner_index_tie.ClientEvents.{ClientEventGoes, ClientGoes, ClientsStay, FirstClientAgrees}
+use Rattle.node_slots.specs.owner_index_tie.ServerEvents.{ServerEventGoes}
 use Rattle.segment_format.specs.declared.segment.Segment.{Segment}
 use Rattle.store_nodes.specs.declared.server.Server.{Server as ServerNode}
 use Rattle.token_manager.specs.SlotState.{SlotState}

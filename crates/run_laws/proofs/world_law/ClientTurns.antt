@@ -8,15 +8,15 @@ use Rattle.core_world.specs.declared.any_node.AnyNode.{AnyNode}
 use Rattle.core_world.specs.declared.any_node.AnyNode.TheVariants as any
 use Rattle.node_base.specs.declared.effects.Effect.{Effect}
 use Rattle.node_base.specs.Effects.{acts_of, packets_of}
-use Rattle.node_ties.proofs.node_tie.BooksLast.{books_last}
-use Rattle.node_ties.proofs.node_tie.CleanerTurns.{cleaner_on}
-use Rattle.node_ties.proofs.node_tie.ManagerFrames.{manager_on}
-use Rattle.node_ties.proofs.node_tie.SmallWorld.{any_promise, premise_by, promised_stays, with_promise}
-use Rattle.node_ties.specs.node_tie.AskingEvents.{PhaseAsks}
-use Rattle.node_ties.specs.node_tie.CleanerEvents.{CleanerStands, CleanerWelcomed}
-use Rattle.node_ties.specs.node_tie.CleanerLogs.{its_log}
-use Rattle.node_ties.specs.node_tie.ClientEvents.{ClientAgrees, ClientDid, ClientGoes, ClientStands, WelcomeRises}
-use Rattle.node_ties.specs.node_tie.Sight.{ClientSends}
+use Rattle.node_slots.proofs.node_tie.BooksLast.{books_last}
+use Rattle.node_slots.proofs.node_tie.CleanerTurns.{cleaner_on}
+use Rattle.node_slots.proofs.node_tie.ManagerFrames.{manager_on}
+use Rattle.node_slots.proofs.node_tie.SmallWorld.{any_promise, premise_by, promised_stays, with_promise}
+use Rattle.node_slots.specs.node_tie.AskingEvents.{PhaseAsks}
+use Rattle.node_slots.specs.node_tie.CleanerEvents.{CleanerStands, CleanerWelcomed}
+use Rattle.node_slots.specs.node_tie.CleanerLogs.{its_log}
+use Rattle.node_slots.specs.node_tie.ClientEvents.{ClientAgrees, ClientDid, ClientGoes, ClientStands, WelcomeRises}
+use Rattle.node_slots.specs.node_tie.Sight.{ClientSends}
 use Rattle.registry_node.specs.declared.node.RegistryNode.{RegistryNode}
 use Rattle.token_client.specs.State.{TokensState, epoch_of}
 use Rattle.token_law.specs.Net.{Net}

@@ -2,9 +2,9 @@
 use Rattle.std.proofs.Common.{◌≡◌, ℕ, ◌≤◌, ◌<◌, List, refl, sym, subst, ◌∙◌, arith}
 use Rattle.std.proofs.Common.{Bool, true, false, nat_le}
 use Rattle.std.proofs.lemmas.Bool.{leb-false, leb-true}
-use Rattle.node_ties.specs.node_tie.CleanerEvents.{CleanerWelcomed}
-use Rattle.node_ties.specs.node_tie.ClientEvents.{WelcomeRises}
-use Rattle.node_ties.specs.node_tie.Sight.{CleanerSends, ClientSends, ManagerSends, GrantSeen, ForwardSeen, RecallSeen, SupplySeen}
+use Rattle.node_slots.specs.node_tie.CleanerEvents.{CleanerWelcomed}
+use Rattle.node_slots.specs.node_tie.ClientEvents.{WelcomeRises}
+use Rattle.node_slots.specs.node_tie.Sight.{CleanerSends, ClientSends, ManagerSends, GrantSeen, ForwardSeen, RecallSeen, SupplySeen}
 use Rattle.token_law.specs.Net.{Packet as NetPacket}
 use Rattle.token_protocol.specs.Basics.{In}
 use Rattle.wire_msg.specs.declared.body.Body.{Body}

@@ -2,9 +2,9 @@
 -- are apart, since its acts are those of the run.
 use Rattle.std.proofs.Common.{◌≡◌, ℕ, ◌<◌, false, Some, subst, arith}
 use Rattle.act_tie.specs.Shown.{FallsApart}
-use Rattle.node_ties.specs.node_tie.RegistryEvents.{RegistrySound}
+use Rattle.node_slots.specs.node_tie.RegistryEvents.{RegistrySound}
 use Rattle.token_client.specs.State.{TokensState, held_of}
-use Rattle.node_ties.proofs.node_tie.SmallWorld.{with_promise}
+use Rattle.node_slots.proofs.node_tie.SmallWorld.{with_promise}
 use Rattle.token_law.specs.Laws.{FallsAreApart, NobodyHoldsAfterFall}
 use Rattle.world_base.specs.Cluster.{cluster_of, place_of}
 use Rattle.world_base.specs.declared.cluster.Cluster.{Cluster}

@@ -9,8 +9,8 @@ use Rattle.client_node.specs.Phases.{lasting_of}
 use Rattle.node_base.specs.declared.effects.Effect.{Effect}
 use Rattle.node_base.specs.declared.effects.Effect.TheVariants.{Does}
 use Rattle.node_base.specs.Effects.{act_of, acts_of}
-use Rattle.node_ties.proofs.node_tie.StoreFrames.{acts_are}
-use Rattle.node_ties.specs.node_tie.ClientEvents.{ClientActs, ClientAgrees, ClientDid, ClientGoes, IsAway}
+use Rattle.node_slots.proofs.node_tie.StoreFrames.{acts_are}
+use Rattle.node_slots.specs.node_tie.ClientEvents.{ClientActs, ClientAgrees, ClientDid, ClientGoes, IsAway}
 use Rattle.token_client.specs.Held.{is_dirty}
 use Rattle.token_client.specs.State.{TokensState, held_of}
 use Rattle.token_law.specs.Net.{Net}

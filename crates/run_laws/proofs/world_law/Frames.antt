@@ -5,11 +5,11 @@ use Rattle.client_log.specs.LogState.{LogState}
 use Rattle.client_node.specs.declared.phase.Phase.{Phase as ClientPhase}
 use Rattle.client_node.specs.declared.phase.Phase.TheVariants as clients
 use Rattle.log_flight.specs.Flights.{FlightState}
-use Rattle.node_ties.proofs.node_tie.SmallWorld.{premise_by}
-use Rattle.node_ties.specs.node_tie.ClientLogs.{LogAgrees, NothingBeyond}
-use Rattle.node_ties.specs.node_tie.LogRows.{LogSeen, rows_told}
-use Rattle.node_ties.specs.node_tie.Sight.{SameLog}
-use Rattle.node_ties.specs.node_tie.ClientEvents.{ClientAgrees, ClientStands, PromisesWithin}
+use Rattle.node_slots.proofs.node_tie.SmallWorld.{premise_by}
+use Rattle.node_slots.specs.node_tie.ClientLogs.{LogAgrees, NothingBeyond}
+use Rattle.node_slots.specs.node_tie.LogRows.{LogSeen, rows_told}
+use Rattle.node_slots.specs.node_tie.Sight.{SameLog}
+use Rattle.node_slots.specs.node_tie.ClientEvents.{ClientAgrees, ClientStands, PromisesWithin}
 use Rattle.token_client.specs.State.{TokensState, epoch_of}
 use Rattle.token_law.specs.Books.{Books, Row}
 use Rattle.token_law.specs.Net.{Net, Packet, Runs}

@@ -3,15 +3,15 @@ use Rattle.std.proofs.Common.{◌≡◌, ⊎_elim, ℕ, ◌≤◌, ◌<◌, Bool
 use Rattle.std.specs.Prelude.{All}
 use Rattle.manager_node.specs.declared.phase.Phase.{Phase as ManagerPhase}
 use Rattle.manager_node.specs.declared.phase.Phase.TheVariants.{Down, Waiting, Serving as Serves}
-use Rattle.manager_parts.specs.declared.lasting.Lasting.{Lasting as Kept}
-use Rattle.manager_parts.specs.declared.slot_phase.SlotPhase.{SlotPhase}
-use Rattle.manager_parts.specs.declared.slot_phase.SlotPhase.TheVariants as phase
-use Rattle.manager_parts.specs.Takeovers.{report_input}
+use Rattle.manager_slots.specs.declared.lasting.Lasting.{Lasting as Kept}
+use Rattle.manager_slots.specs.declared.slot_phase.SlotPhase.{SlotPhase}
+use Rattle.manager_slots.specs.declared.slot_phase.SlotPhase.TheVariants as phase
+use Rattle.manager_slots.specs.Takeovers.{report_input}
 use Rattle.manager_serving.specs.declared.serving.Serving.{Serving}
-use Rattle.node_ties.specs.node_tie.CleanerEvents.{CleanerGets, NewsLow}
-use Rattle.node_ties.specs.node_tie.ClientEvents.{ClientGets, GetsBody, NewsWithin, ReadsSo}
-use Rattle.node_ties.specs.node_tie.ManagerEvents.{AbsentGets, AllNewsGets, DeltasGets, FoundGets, GaveGets, LastReportGets, ManagerGets, ReportGets, ServingGets, TakeoverGets, WaitingGets, WantGets, epoch_in, slot_in}
-use Rattle.node_ties.specs.node_tie.Sight.{ForwardSeen, GrantSeen, PollSeen, RecallSeen, SupplySeen}
+use Rattle.node_slots.specs.node_tie.CleanerEvents.{CleanerGets, NewsLow}
+use Rattle.node_slots.specs.node_tie.ClientEvents.{ClientGets, GetsBody, NewsWithin, ReadsSo}
+use Rattle.node_slots.specs.node_tie.ManagerEvents.{AbsentGets, AllNewsGets, DeltasGets, FoundGets, GaveGets, LastReportGets, ManagerGets, ReportGets, ServingGets, TakeoverGets, WaitingGets, WantGets, epoch_in, slot_in}
+use Rattle.node_slots.specs.node_tie.Sight.{ForwardSeen, GrantSeen, PollSeen, RecallSeen, SupplySeen}
 use Rattle.takeover.specs.declared.input.In.{In as Input}
 use Rattle.token_manager.specs.SlotState.{SlotState}
 use Rattle.token_protocol.specs.Basics.{In}

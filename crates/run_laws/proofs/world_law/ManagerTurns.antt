@@ -6,16 +6,16 @@ use Rattle.manager_node.specs.declared.manager.Manager.{Manager as ManagerNode}
 use Rattle.manager_node.specs.declared.phase.Phase.{Phase}
 use Rattle.manager_node.specs.declared.phase.Phase.TheVariants.{Down, Waiting, Serving as Serves}
 use Rattle.manager_node.specs.Phases.{Went_to, lasting_of}
-use Rattle.manager_parts.specs.declared.lasting.Lasting.{Lasting as Kept}
-use Rattle.manager_parts.specs.declared.slot_phase.SlotPhase.{SlotPhase}
-use Rattle.manager_parts.specs.declared.slot_phase.SlotPhase.TheVariants as phase
+use Rattle.manager_slots.specs.declared.lasting.Lasting.{Lasting as Kept}
+use Rattle.manager_slots.specs.declared.slot_phase.SlotPhase.{SlotPhase}
+use Rattle.manager_slots.specs.declared.slot_phase.SlotPhase.TheVariants as phase
 use Rattle.node_base.specs.Effects.{acts_of, packets_of}
-use Rattle.node_ties.proofs.node_tie.ManagerFrames.{manager_on}
-use Rattle.node_ties.proofs.node_tie.SmallWorld.{any_promise, premise_by, promised_stays, with_promise}
-use Rattle.node_ties.specs.node_tie.CleanerEvents.{CleanerStands, CleanerWelcomed}
-use Rattle.node_ties.specs.node_tie.CleanerLogs.{CleanerCopies}
-use Rattle.node_ties.specs.node_tie.ManagerEvents.{HeldAt, ManagerAgrees, ManagerGoes, NamedBy, NamedIn, Names, TakingAt, epoch_in, is_serving, is_waiting, slot_in}
-use Rattle.node_ties.specs.node_tie.Sight.{ManagerDoes, ManagerSends}
+use Rattle.node_slots.proofs.node_tie.ManagerFrames.{manager_on}
+use Rattle.node_slots.proofs.node_tie.SmallWorld.{any_promise, premise_by, promised_stays, with_promise}
+use Rattle.node_slots.specs.node_tie.CleanerEvents.{CleanerStands, CleanerWelcomed}
+use Rattle.node_slots.specs.node_tie.CleanerLogs.{CleanerCopies}
+use Rattle.node_slots.specs.node_tie.ManagerEvents.{HeldAt, ManagerAgrees, ManagerGoes, NamedBy, NamedIn, Names, TakingAt, epoch_in, is_serving, is_waiting, slot_in}
+use Rattle.node_slots.specs.node_tie.Sight.{ManagerDoes, ManagerSends}
 use Rattle.registry_node.specs.declared.node.RegistryNode.{RegistryNode}
 use Rattle.token_client.specs.State.{TokensState}
 use Rattle.token_law.specs.Net.{Net}

@@ -5,19 +5,19 @@ use Rattle.core_world.specs.AnyNode.{any_start, any_step}
 use Rattle.core_world.specs.declared.any_node.AnyNode.{AnyNode}
 use Rattle.manager_node.specs.declared.phase.Phase.{Phase}
 use Rattle.manager_node.specs.declared.phase.Phase.TheVariants.{Down, Waiting, Serving as Serves}
-use Rattle.manager_parts.specs.declared.slot_phase.SlotPhase.{SlotPhase}
-use Rattle.manager_parts.specs.declared.slot_phase.SlotPhase.TheVariants as phase
+use Rattle.manager_slots.specs.declared.slot_phase.SlotPhase.{SlotPhase}
+use Rattle.manager_slots.specs.declared.slot_phase.SlotPhase.TheVariants as phase
 use Rattle.log_owner.specs.declared.promised.Promised.{Promised}
 use Rattle.node_base.specs.Setups.{IsSetup}
-use Rattle.node_ties.specs.node_tie.CleanerEvents.{CleanerStands}
-use Rattle.node_ties.specs.node_tie.ManagerEvents.{HeldAt, PhaseAgrees, SameButPages, phase_at, slot_in}
-use Rattle.node_ties.specs.node_tie.RegistryEvents.{RegistrySound}
-use Rattle.node_ties.specs.node_tie.Sight.{GrantSeen}
+use Rattle.node_slots.specs.node_tie.CleanerEvents.{CleanerStands}
+use Rattle.node_slots.specs.node_tie.ManagerEvents.{HeldAt, PhaseAgrees, SameButPages, phase_at, slot_in}
+use Rattle.node_slots.specs.node_tie.RegistryEvents.{RegistrySound}
+use Rattle.node_slots.specs.node_tie.Sight.{GrantSeen}
 use Rattle.cleaner_node.specs.declared.cleaner.Phase.{Phase as CleanerPhase}
 use Rattle.cleaner_node.specs.declared.cleaner.Phase.TheVariants as cleaners
 use Rattle.token_client.specs.State.{TokensState, epoch_of, held_of, is_in_slot}
 use Rattle.token_client.specs.Transition.{accepts}
-use Rattle.node_ties.proofs.node_tie.SmallWorld.{with_promise}
+use Rattle.node_slots.proofs.node_tie.SmallWorld.{with_promise}
 use Rattle.slot_beliefs.specs.Beliefs.{share_of}
 use Rattle.token_law.specs.Laws.{ActiveEpochsPromised, GrantsBelieved, HoldingsBelieved, Reigns}
 use Rattle.token_manager.specs.SlotState.{SlotState}

@@ -9,14 +9,14 @@ use Rattle.core_world.specs.declared.any_node.AnyNode.{AnyNode}
 use Rattle.core_world.specs.declared.any_node.AnyNode.TheVariants as any
 use Rattle.node_base.specs.declared.effects.Effect.{Effect}
 use Rattle.node_base.specs.Effects.{acts_of, packets_of}
-use Rattle.node_ties.proofs.node_tie.BooksLast.{same_log}
-use Rattle.node_ties.proofs.node_tie.ManagerFrames.{manager_on}
-use Rattle.node_ties.proofs.node_tie.SmallWorld.{any_promise, says_all, with_promise}
-use Rattle.node_ties.proofs.node_tie.StoreServer.{server_from}
-use Rattle.node_ties.specs.node_tie.CleanerEvents.{CleanerDoes, CleanerGoes, CleanerWelcomed}
-use Rattle.node_ties.specs.node_tie.CleanerLogs.{CleanerRuns, after_cleaner, its_log}
-use Rattle.node_ties.specs.node_tie.Sight.{ServerSends}
-use Rattle.node_ties.specs.node_tie.StoreEvents.{PacketsSay}
+use Rattle.node_slots.proofs.node_tie.BooksLast.{same_log}
+use Rattle.node_slots.proofs.node_tie.ManagerFrames.{manager_on}
+use Rattle.node_slots.proofs.node_tie.SmallWorld.{any_promise, says_all, with_promise}
+use Rattle.node_slots.proofs.node_tie.StoreServer.{server_from}
+use Rattle.node_slots.specs.node_tie.CleanerEvents.{CleanerDoes, CleanerGoes, CleanerWelcomed}
+use Rattle.node_slots.specs.node_tie.CleanerLogs.{CleanerRuns, after_cleaner, its_log}
+use Rattle.node_slots.specs.node_tie.Sight.{ServerSends}
+use Rattle.node_slots.specs.node_tie.StoreEvents.{PacketsSay}
 use Rattle.cleaner_node.specs.CleanerEvents.{Went_to, lasting_of}
 use Rattle.cleaner_node.specs.declared.cleaner.Cleaner.{Cleaner as CleanerNode}
 use Rattle.cleaner_node.specs.declared.cleaner.Phase.{Phase}

@@ -6,13 +6,13 @@ use Rattle.client_node.specs.declared.phase.Phase.TheVariants as clients
 use Rattle.core_world.specs.declared.any_node.AnyNode.{AnyNode}
 use Rattle.core_world.specs.declared.any_node.AnyNode.TheVariants as any
 use Rattle.manager_node.specs.Phases as manager_phases
-use Rattle.manager_parts.specs.declared.slot_phase.SlotPhase.{SlotPhase}
-use Rattle.manager_parts.specs.declared.slot_phase.SlotPhase.TheVariants as phase
-use Rattle.manager_parts.specs.Slots.{epoch_of as slot_epoch}
-use Rattle.node_ties.specs.node_tie.CleanerEvents.{CleanerStands, CleanerWelcomed}
-use Rattle.node_ties.specs.node_tie.ClientEvents.{WelcomeRises}
-use Rattle.node_ties.specs.node_tie.ManagerEvents.{HeldAt, slot_in}
-use Rattle.node_ties.specs.node_tie.RegistryEvents.{HearsHello, NewsAre, RegistryGoes, RegistrySends, RegistrySound, Welcomes, epoch_in, inc_in, manager_in}
+use Rattle.manager_slots.specs.declared.slot_phase.SlotPhase.{SlotPhase}
+use Rattle.manager_slots.specs.declared.slot_phase.SlotPhase.TheVariants as phase
+use Rattle.manager_slots.specs.Slots.{epoch_of as slot_epoch}
+use Rattle.node_slots.specs.node_tie.CleanerEvents.{CleanerStands, CleanerWelcomed}
+use Rattle.node_slots.specs.node_tie.ClientEvents.{WelcomeRises}
+use Rattle.node_slots.specs.node_tie.ManagerEvents.{HeldAt, slot_in}
+use Rattle.node_slots.specs.node_tie.RegistryEvents.{HearsHello, NewsAre, RegistryGoes, RegistrySends, RegistrySound, Welcomes, epoch_in, inc_in, manager_in}
 use Rattle.cleaner_node.specs.declared.cleaner.Phase.{Phase as CleanerPhase}
 use Rattle.cleaner_node.specs.declared.cleaner.Phase.TheVariants as cleaners
 use Rattle.registry_node.specs.declared.node.RegistryNode.{RegistryNode}

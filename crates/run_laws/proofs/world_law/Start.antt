@@ -11,15 +11,15 @@ use Rattle.client_node.specs.Starting.{first_client}
 use Rattle.core_world.specs.AnyNode.{any_start}
 use Rattle.manager_map.specs.Slots.{entry_at, start_entries}
 use Rattle.manager_node.specs.Events.{first_manager}
-use Rattle.manager_parts.specs.declared.slot_phase.SlotPhase.TheVariants as phase
-use Rattle.manager_parts.specs.Slots.{first_active}
-use Rattle.node_ties.proofs.node_tie.ClientStart.{client_starts}
-use Rattle.node_ties.proofs.node_tie.SmallWorld.{premise}
-use Rattle.node_ties.specs.node_tie.AskingEvents.{StartsAsking}
-use Rattle.node_ties.specs.node_tie.CleanerEvents.{CleanerStarts}
-use Rattle.node_ties.specs.node_tie.ClientEvents.{ClientAgrees}
-use Rattle.node_ties.specs.node_tie.ManagerEvents.{FirstManagerAgrees, HeldAt}
-use Rattle.node_ties.specs.node_tie.RegistryEvents.{RegistryBegins, RegistrySound, manager_in}
+use Rattle.manager_slots.specs.declared.slot_phase.SlotPhase.TheVariants as phase
+use Rattle.manager_slots.specs.Slots.{first_active}
+use Rattle.node_slots.proofs.node_tie.ClientStart.{client_starts}
+use Rattle.node_slots.proofs.node_tie.SmallWorld.{premise}
+use Rattle.node_slots.specs.node_tie.AskingEvents.{StartsAsking}
+use Rattle.node_slots.specs.node_tie.CleanerEvents.{CleanerStarts}
+use Rattle.node_slots.specs.node_tie.ClientEvents.{ClientAgrees}
+use Rattle.node_slots.specs.node_tie.ManagerEvents.{FirstManagerAgrees, HeldAt}
+use Rattle.node_slots.specs.node_tie.RegistryEvents.{RegistryBegins, RegistrySound, manager_in}
 use Rattle.script_text.specs.declared.script.Script.{Script}
 use Rattle.cleaner_node.specs.CleanerEvents.{cleaner_start}
 use Rattle.registry_node.specs.Events.{registry_start}

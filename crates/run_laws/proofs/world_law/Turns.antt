@@ -7,16 +7,16 @@ use Rattle.core_world.specs.declared.any_node.AnyNode.{AnyNode}
 use Rattle.core_world.specs.declared.any_node.AnyNode.TheVariants as any
 use Rattle.manager_node.specs.Events.{happens}
 use Rattle.manager_node.specs.Phases as managers
-use Rattle.node_ties.proofs.node_tie.SmallWorld.{premise, premise_to}
-use Rattle.node_ties.proofs.node_tie.StoreFrames.{all_neutral}
-use Rattle.node_ties.specs.node_tie.AskingEvents.{EventsKeepAsking, PhaseAsks, StartsAsking}
-use Rattle.node_ties.specs.node_tie.CleanerEvents.{CleanerDoes, CleanerGoes, CleanerOwed, CleanerStarts, CleanerTakes}
-use Rattle.node_ties.specs.node_tie.CleanerLogs.{CleanerRuns}
-use Rattle.node_ties.specs.node_tie.ClientEvents.{ClientAgrees, ClientGoes, ClientOwed, ClientStands, ClientTakes, IsTaken}
-use Rattle.node_ties.specs.node_tie.ManagerEvents.{EventGets as ManagerEventGets, FirstManagerAgrees, ManagerEventGoes, ManagerGoes}
-use Rattle.node_ties.specs.node_tie.RegistryEvents.{RegistryEventGoes, RegistryGoes, RegistrySound, RegistryStarts}
-use Rattle.node_ties.specs.node_tie.Sight.{ManagerDoes, ServerSends}
-use Rattle.node_ties.specs.node_tie.StoreEvents.{AllNeutral, PacketsSay, ServersSay}
+use Rattle.node_slots.proofs.node_tie.SmallWorld.{premise, premise_to}
+use Rattle.node_slots.proofs.node_tie.StoreFrames.{all_neutral}
+use Rattle.node_slots.specs.node_tie.AskingEvents.{EventsKeepAsking, PhaseAsks, StartsAsking}
+use Rattle.node_slots.specs.node_tie.CleanerEvents.{CleanerDoes, CleanerGoes, CleanerOwed, CleanerStarts, CleanerTakes}
+use Rattle.node_slots.specs.node_tie.CleanerLogs.{CleanerRuns}
+use Rattle.node_slots.specs.node_tie.ClientEvents.{ClientAgrees, ClientGoes, ClientOwed, ClientStands, ClientTakes, IsTaken}
+use Rattle.node_slots.specs.node_tie.ManagerEvents.{EventGets as ManagerEventGets, FirstManagerAgrees, ManagerEventGoes, ManagerGoes}
+use Rattle.node_slots.specs.node_tie.RegistryEvents.{RegistryEventGoes, RegistryGoes, RegistrySound, RegistryStarts}
+use Rattle.node_slots.specs.node_tie.Sight.{ManagerDoes, ServerSends}
+use Rattle.node_slots.specs.node_tie.StoreEvents.{AllNeutral, PacketsSay, ServersSay}
 use Rattle.cleaner_node.specs.CleanerEvents as cleaners
 use Rattle.store_nodes.specs.declared.server.Server.{Server as ServerNode}
 use Rattle.registry_node.specs.Events.{registry_step}

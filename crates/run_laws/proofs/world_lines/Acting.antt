@@ -1,10 +1,10 @@
 -- An event of an owner, whole: whether it serves before the event or not, what it acts to be filed flew before.
 use Rattle.std.proofs.Common.{◌≡◌, ℕ, false, List, refl, ap, subst}
-use Rattle.log_ties.specs.cleaner_log_tie.Owner as cleaner_log
+use Rattle.node_logs.specs.cleaner_log_tie.Owner as cleaner_log
 use Rattle.cleaner_node.specs.CleanerEvents as cleaners
 use Rattle.cleaner_node.specs.declared.cleaner.Phase as cleaner_phases
 use Rattle.cleaner_node.specs.declared.cleaner.Phase.TheVariants as cleaning
-use Rattle.log_ties.specs.client_log_tie.Owner.{Scene, ClientAgrees, SeesStage}
+use Rattle.node_logs.specs.client_log_tie.Owner.{Scene, ClientAgrees, SeesStage}
 use Rattle.client_node.specs.Phases as clients
 use Rattle.client_node.specs.declared.phase.Phase.{Phase}
 use Rattle.client_node.specs.declared.phase.Phase.TheVariants as client
@@ -15,7 +15,7 @@ use Rattle.log_owner.specs.declared.opening.Stage.TheVariants as stage
 use Rattle.log_protocol.specs.Tables.{In}
 use Rattle.log_tie.specs.Setting.{Setting}
 use Rattle.node_base.specs.declared.effects.Effect.{Effect}
-use Rattle.node_ties.proofs.owner_index_tie.Acting.{all_then}
+use Rattle.node_slots.proofs.owner_index_tie.Acting.{all_then}
 use Rattle.run_laws.specs.world_lines.Filing.{CleanerFilesItsFlights, CleanersActsFile, ClientsActsFile, ClientsFileTheirFlights, RestartsFileWhatFlew}
 use Rattle.run_laws.specs.world_lines.Owners.{CleanerFilesShort, ClientsFileShort, HasFlown}
 use Rattle.run_laws.specs.world_lines.Turns.{ActsFile}

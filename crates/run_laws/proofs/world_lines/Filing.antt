@@ -13,14 +13,14 @@ use Rattle.client_log.specs.Transition.{has_next}
 use Rattle.client_log.specs.declared.input.In.{In as Input}
 use Rattle.client_log.specs.declared.output.Out.{Out}
 use Rattle.client_log.specs.declared.output.Out.TheVariants.{Send, Settled}
-use Rattle.log_ties.specs.client_log_tie.Owner.{Scene, ClientAgrees}
+use Rattle.node_logs.specs.client_log_tie.Owner.{Scene, ClientAgrees}
 use Rattle.client_node.specs.declared.phase.Phase.TheVariants as client
 use Rattle.client_node.specs.declared.phase.Phase.{Phase}
 use Rattle.client_node.specs.Phases as clients
 use Rattle.client_serving.specs.declared.serving.Serving.{Serving as ServingClient}
 use Rattle.log_flight.specs.Flights.{FlightState}
-use Rattle.cleaner_emptying.specs.declared.emptying.Emptying.{Emptying}
-use Rattle.log_ties.specs.cleaner_log_tie.Owner as cleaner_log
+use Rattle.cleaner_serving.specs.declared.emptying.Emptying.{Emptying}
+use Rattle.node_logs.specs.cleaner_log_tie.Owner as cleaner_log
 use Rattle.node_base.specs.Room.{has_room}
 use Rattle.log_law.specs.Events.Happens.{Acts, Bars, Crashes, Drops, Hears, Lists, Opens, Publishes, Raises, Renews, Restarts, Serves, Welcomes, Writes}
 use Rattle.log_law.specs.Held.{OwnerFlew, WhatIsHeldFlew}
@@ -33,9 +33,9 @@ use Rattle.log_protocol.specs.Tables.{In}
 use Rattle.log_tie.specs.Seen.{log_filed}
 use Rattle.log_tie.specs.Setting.{Setting}
 use Rattle.node_base.specs.declared.effects.Effect.{Effect}
-use Rattle.node_ties.specs.node_index_tie.Sight.{Texts}
-use Rattle.node_ties.proofs.owner_index_tie.Acting.{all_then}
-use Rattle.node_ties.specs.owner_index_tie.Acting.{CleanerFilesFlights, ClientsFileFlights, IsFlight, MayLand}
+use Rattle.node_slots.specs.node_index_tie.Sight.{Texts}
+use Rattle.node_slots.proofs.owner_index_tie.Acting.{all_then}
+use Rattle.node_slots.specs.owner_index_tie.Acting.{CleanerFilesFlights, ClientsFileFlights, IsFlight, MayLand}
 use Rattle.segment_format.specs.declared.segment.Segment.{Segment}
 use Rattle.xfs_base.proofs.Booleans.{and_second, by_test}
 use Rattle.xfs_base.specs.Limits.{u32_end}

@@ -1,10 +1,10 @@
 -- What is in flight flew: so it is the text of its name.
 use Rattle.std.proofs.Common.{◌≡◌, ℕ, Option, Some, None, subst}
 use Rattle.std.specs.Prelude.{IfSome}
-use Rattle.log_ties.specs.cleaner_log_tie.Owner as cleaner
+use Rattle.node_logs.specs.cleaner_log_tie.Owner as cleaner
 use Rattle.cleaner_node.specs.declared.cleaner.Phase.TheVariants as cleaning
 use Rattle.client_log.specs.LogState.{LogState}
-use Rattle.log_ties.specs.client_log_tie.Owner.{Scene, SeesLog, SeesStage}
+use Rattle.node_logs.specs.client_log_tie.Owner.{Scene, SeesLog, SeesStage}
 use Rattle.client_node.specs.declared.phase.Phase.TheVariants as client
 use Rattle.log_flight.specs.Flights.{FlightState}
 use Rattle.log_law.specs.Held.{OwnerFlew, WhatIsHeldFlew}
@@ -16,9 +16,9 @@ use Rattle.log_owner.specs.declared.opening.Stage.TheVariants as stage
 use Rattle.log_protocol.specs.Tables.{In}
 use Rattle.log_tie.specs.Setting.{Setting}
 use Rattle.manager_node.specs.declared.phase.Phase.TheVariants as managing
-use Rattle.node_ties.specs.node_index_tie.Pages.{FlightIsText}
-use Rattle.node_ties.specs.node_index_tie.Sight.{Texts}
-use Rattle.node_ties.specs.owner_index_tie.Owners.{StageWrites}
+use Rattle.node_slots.specs.node_index_tie.Pages.{FlightIsText}
+use Rattle.node_slots.specs.node_index_tie.Sight.{Texts}
+use Rattle.node_slots.specs.owner_index_tie.Owners.{StageWrites}
 use Rattle.run_laws.specs.world_lines.Flights.{CleanerWritesTexts, ClientsWriteTexts, ManagersWriteTexts}
 use Rattle.run_laws.specs.world_lines.Lines.{FlownAreTexts}
 

@@ -8,7 +8,7 @@ use Rattle.log_law.specs.Net.{Net}
 use Rattle.log_law.specs.Written.{IsOfLog, WhatFlewIsWritten}
 use Rattle.log_protocol.specs.Tables.{In}
 use Rattle.log_tie.specs.Setting.{Setting}
-use Rattle.node_ties.specs.node_index_tie.Sight.{RowsFit, Texts}
+use Rattle.node_slots.specs.node_index_tie.Sight.{RowsFit, Texts}
 use Rattle.segment_format.specs.declared.segment.Segment.{Segment}
 use Rattle.segment_format.specs.Rows.{rows_of}
 use Rattle.xfs_base.specs.declared.segment.End.{End}

@@ -3,14 +3,14 @@ use Rattle.std.proofs.Common.{◌≡◌, ⊎_elim, ◌+◌, ◌≤◌, ℕ, true
 use Rattle.std.specs.Prelude.{◌&&◌}
 use Rattle.std.specs.List.{list_all}
 use Rattle.std.proofs.lemmas.Bool.Decides.{nat_tests}
-use Rattle.log_ties.specs.cleaner_log_tie.Owner as cleaner_log
+use Rattle.node_logs.specs.cleaner_log_tie.Owner as cleaner_log
 use Rattle.cleaner_node.specs.CleanerEvents as cleaners
 use Rattle.cleaner_node.specs.declared.cleaner.Phase.{Phase as CleanerPhase}
 use Rattle.cleaner_node.specs.declared.cleaner.Phase.TheVariants as cleaning
-use Rattle.cleaner_parts.specs.Lasting.{lasting_room}
+use Rattle.cleaner_job.specs.Lasting.{lasting_room}
 use Rattle.client_log.specs.LogState.{LogState}
 use Rattle.client_log.specs.Transition.{has_next}
-use Rattle.log_ties.specs.client_log_tie.Owner.{Scene, ClientAgrees, SeesStage}
+use Rattle.node_logs.specs.client_log_tie.Owner.{Scene, ClientAgrees, SeesStage}
 use Rattle.client_node.specs.declared.phase.Phase.TheVariants as client
 use Rattle.client_node.specs.declared.phase.Phase.{Phase}
 use Rattle.client_node.specs.Phases as clients
@@ -33,11 +33,11 @@ use Rattle.node_base.specs.Effects.{acts_of}
 use Rattle.node_base.specs.Room.{has_room}
 use Rattle.node_base.specs.declared.effects.Effect.{Effect}
 use Rattle.node_base.specs.declared.effects.Effect.TheVariants.{Send, Answer, Lose, Does}
-use Rattle.node_ties.specs.node_index_tie.Sight.{Texts}
-use Rattle.node_ties.proofs.owner_index_tie.Acting.{all_then}
-use Rattle.node_ties.specs.owner_index_tie.CleanerEvents as cleaner_index
-use Rattle.node_ties.specs.owner_index_tie.ClientEvents as client_index
-use Rattle.node_ties.specs.owner_index_tie.Filing.{filed_after}
+use Rattle.node_slots.specs.node_index_tie.Sight.{Texts}
+use Rattle.node_slots.proofs.owner_index_tie.Acting.{all_then}
+use Rattle.node_slots.specs.owner_index_tie.CleanerEvents as cleaner_index
+use Rattle.node_slots.specs.owner_index_tie.ClientEvents as client_index
+use Rattle.node_slots.specs.owner_index_tie.Filing.{filed_after}
 use Rattle.token_protocol.specs.Basics as basics
 use Rattle.version_model.specs.declared.act.Act.{Act}
 use Rattle.version_model.specs.declared.act.Act.TheVariants.{Filed as ActsFiled}

@@ -24,12 +24,12 @@ use Rattle.log_scan.specs.Transition.{horizon_of, least_horizon}
 use Rattle.log_tie.specs.Setting.{Setting}
 use Rattle.node_base.specs.declared.effects.Effect.{Effect}
 use Rattle.node_base.specs.declared.effects.Effect.TheVariants.{Send, Answer, Lose, Does}
-use Rattle.node_ties.specs.node_index_tie.Pages.{FlightIsText}
-use Rattle.node_ties.specs.node_index_tie.Sight.{Texts}
-use Rattle.node_ties.proofs.owner_index_tie.Growing.{head_is, next_files, segment_is}
-use Rattle.node_ties.specs.owner_index_tie.ClientEvents.{BodyGets}
-use Rattle.node_ties.specs.owner_index_tie.Filing.{after_act, after_effect, filed_after, with_name}
-use Rattle.node_ties.specs.owner_index_tie.Owners.{IsLastFiled}
+use Rattle.node_slots.specs.node_index_tie.Pages.{FlightIsText}
+use Rattle.node_slots.specs.node_index_tie.Sight.{Texts}
+use Rattle.node_slots.proofs.owner_index_tie.Growing.{head_is, next_files, segment_is}
+use Rattle.node_slots.specs.owner_index_tie.ClientEvents.{BodyGets}
+use Rattle.node_slots.specs.owner_index_tie.Filing.{after_act, after_effect, filed_after, with_name}
+use Rattle.node_slots.specs.owner_index_tie.Owners.{IsLastFiled}
 use Rattle.registry.specs.Board.{all_news, slot_news}
 use Rattle.registry.specs.BoardState.{BoardState}
 use Rattle.registry.specs.Checkpoints.{horizon_at}

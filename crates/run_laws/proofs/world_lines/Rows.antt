@@ -1,7 +1,7 @@
 -- What a segment that has a text says of blocks fits its types.
 use Rattle.std.proofs.Common.{List, [], ◌∷◌}
 use Rattle.std.specs.List.{AllByRecursion, filter_map}
-use Rattle.node_ties.specs.node_index_tie.Sight.{RowsFit}
+use Rattle.node_slots.specs.node_index_tie.Sight.{RowsFit}
 use Rattle.segment_format.specs.Ranges.{Fits, FitsItem}
 use Rattle.segment_format.specs.Rows.{row_of, rows_of}
 use Rattle.segment_format.specs.declared.segment.Item.{Item}

@@ -16,12 +16,12 @@ use Rattle.log_protocol.specs.Tables.{In}
 use Rattle.log_tie.specs.Setting.{Setting}
 use Rattle.node_base.specs.declared.effects.Effect.{Effect}
 use Rattle.node_base.specs.declared.effects.Effect.TheVariants.{Send, Answer, Lose, Does}
-use Rattle.node_ties.specs.node_index_tie.Sight.{Texts}
-use Rattle.node_ties.proofs.owner_index_tie.Frames.{more_after}
-use Rattle.node_ties.proofs.owner_index_tie.Growing.{head_is, segment_is}
-use Rattle.node_ties.specs.owner_index_tie.CleanerEvents.{NewFor}
-use Rattle.node_ties.specs.owner_index_tie.ClientEvents.{IsNewerAtSlot}
-use Rattle.node_ties.specs.owner_index_tie.Filing.{FilesOwed, IsSameLog, OwedAct, OwedEffect, after_act, after_effect, filed_after, with_name}
+use Rattle.node_slots.specs.node_index_tie.Sight.{Texts}
+use Rattle.node_slots.proofs.owner_index_tie.Frames.{more_after}
+use Rattle.node_slots.proofs.owner_index_tie.Growing.{head_is, segment_is}
+use Rattle.node_slots.specs.owner_index_tie.CleanerEvents.{NewFor}
+use Rattle.node_slots.specs.owner_index_tie.ClientEvents.{IsNewerAtSlot}
+use Rattle.node_slots.specs.owner_index_tie.Filing.{FilesOwed, IsSameLog, OwedAct, OwedEffect, after_act, after_effect, filed_after, with_name}
 use Rattle.segment_format.specs.declared.segment.Segment.{Segment}
 use Rattle.version_model.specs.declared.act.Act.{Act}
 use Rattle.version_model.specs.declared.act.Act.TheVariants.{Filed as ActsFiled}

@@ -1,20 +1,20 @@
 -- What the cleaner does keeps its log standing to its small world.
 use Rattle.std.proofs.Common.{◌≡◌, ◌^◌, ℕ, ◌<◌, List, ◌++◌, Some, get_or, map, slice_get, slice_set, refl, sym, ap, ◌∙◌}
 use Rattle.std.specs.Prelude.{All}
-use Rattle.log_ties.specs.cleaner_log_tie.OwnerEvents as owner_events
-use Rattle.log_ties.specs.cleaner_log_tie.OwnerEvents.{OpeningOwed, OwnerGoes}
+use Rattle.node_logs.specs.cleaner_log_tie.OwnerEvents as owner_events
+use Rattle.node_logs.specs.cleaner_log_tie.OwnerEvents.{OpeningOwed, OwnerGoes}
 use Rattle.cleaner_node.specs.declared.cleaner.Cleaner.{Cleaner as CleanerNode}
 use Rattle.cleaner_node.specs.CleanerEvents.{cleaner_step}
-use Rattle.cleaner_parts.specs.Starting.{cleaner_log}
-use Rattle.log_ties.specs.client_log_tie.Owner.{Scene}
+use Rattle.cleaner_job.specs.Starting.{cleaner_log}
+use Rattle.node_logs.specs.client_log_tie.Owner.{Scene}
 use Rattle.core_world.specs.declared.any_node.AnyNode.{AnyNode}
 use Rattle.core_world.specs.declared.any_node.AnyNode.TheVariants as any
-use Rattle.telling_ties.proofs.entry_tie.CleanerPhases.{any_cleaner_tells}
-use Rattle.telling_ties.specs.entry_tie.CleanerTells.{CleanerHolds}
-use Rattle.telling_ties.specs.entry_tie.Told.{TellsTold}
+use Rattle.node_tellings.proofs.entry_tie.CleanerPhases.{any_cleaner_tells}
+use Rattle.node_tellings.specs.entry_tie.CleanerTells.{CleanerHolds}
+use Rattle.node_tellings.specs.entry_tie.Told.{TellsTold}
 use Rattle.group_map.specs.declared.group.Group.{Group}
 use Rattle.log_tie.specs.Setting.{Setting}
-use Rattle.log_ties.specs.node_log_tie.CleanerStores.{StoresItsOwn}
+use Rattle.node_logs.specs.node_log_tie.CleanerStores.{StoresItsOwn}
 use Rattle.token_protocol.specs.Basics.{In}
 use Rattle.version_model.specs.declared.act.Act.{Act}
 use Rattle.wire_msg.specs.declared.body.Body.{Body}

@@ -1,15 +1,15 @@
 -- What a client does keeps its log standing to its small world, and what it tells and stores is in range.
 use Rattle.std.proofs.Common.{◌≡◌, ◌^◌, ℕ, ◌<◌, ◌≤◌, Bool, List, [], ◌++◌, Some, get_or, map, slice_get, slice_set, if◌then◌else◌, refl, ap, ◌∙◌}
 use Rattle.std.specs.Prelude.{All}
-use Rattle.log_ties.specs.client_log_tie.ClientEvents.{ClientGoes, ClientOwed, PhaseOwed}
-use Rattle.log_ties.specs.client_log_tie.Owner.{Scene}
+use Rattle.node_logs.specs.client_log_tie.ClientEvents.{ClientGoes, ClientOwed, PhaseOwed}
+use Rattle.node_logs.specs.client_log_tie.Owner.{Scene}
 use Rattle.client_node.specs.declared.client.Client.{Client as ClientNode}
 use Rattle.client_node.specs.Phases.{client_step, lasting_of}
 use Rattle.core_world.specs.declared.any_node.AnyNode.{AnyNode}
 use Rattle.core_world.specs.declared.any_node.AnyNode.TheVariants as any
-use Rattle.telling_ties.proofs.entry_tie.ClientPhases.{any_client_tells}
-use Rattle.telling_ties.specs.entry_tie.ClientTells.{ClientHolds}
-use Rattle.telling_ties.specs.entry_tie.Told.{TellsTold}
+use Rattle.node_tellings.proofs.entry_tie.ClientPhases.{any_client_tells}
+use Rattle.node_tellings.specs.entry_tie.ClientTells.{ClientHolds}
+use Rattle.node_tellings.specs.entry_tie.Told.{TellsTold}
 use Rattle.group_map.specs.declared.group.Group.{Group}
 use Rattle.log_tie.specs.Setting.{Setting}
 use Rattle.token_protocol.specs.Basics.{In}

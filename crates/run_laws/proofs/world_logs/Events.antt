@@ -7,29 +7,29 @@ use Rattle.cleaner_node.specs.CleanerEvents as cleaners
 use Rattle.cleaner_node.specs.CleanerEvents.{cleaner_step}
 use Rattle.cleaner_node.specs.declared.cleaner.Cleaner.{Cleaner as CleanerNode}
 use Rattle.cleaner_node.specs.declared.cleaner.Phase.{Phase as CleanerPhase}
-use Rattle.cleaner_parts.specs.Starting.{cleaner_log}
-use Rattle.log_ties.specs.client_log_tie.Owner.{Scene}
+use Rattle.cleaner_job.specs.Starting.{cleaner_log}
+use Rattle.node_logs.specs.client_log_tie.Owner.{Scene}
 use Rattle.client_node.specs.Phases.{client_step, lasting_of, takes}
 use Rattle.core_world.specs.AnyNode.{any_step}
 use Rattle.core_world.specs.declared.any_node.AnyNode.{AnyNode}
 use Rattle.core_world.specs.declared.any_node.AnyNode.TheVariants as any
-use Rattle.telling_ties.specs.entry_tie.CleanerTells.{CleanerHolds}
-use Rattle.telling_ties.specs.entry_tie.ClientTells.{ClientHolds}
-use Rattle.telling_ties.specs.entry_tie.Told.{PacketTold, TellsTold}
+use Rattle.node_tellings.specs.entry_tie.CleanerTells.{CleanerHolds}
+use Rattle.node_tellings.specs.entry_tie.ClientTells.{ClientHolds}
+use Rattle.node_tellings.specs.entry_tie.Told.{PacketTold, TellsTold}
 use Rattle.group_map.specs.declared.group.Group.{Group}
 use Rattle.log_tie.specs.Setting.{Setting}
-use Rattle.log_ties.specs.manager_log_tie.Listing.{CarriesOf, Lists}
-use Rattle.log_ties.specs.manager_log_tie.Servers.{CarriesBytes, TellsBytes}
+use Rattle.node_logs.specs.manager_log_tie.Listing.{CarriesOf, Lists}
+use Rattle.node_logs.specs.manager_log_tie.Servers.{CarriesBytes, TellsBytes}
 use Rattle.manager_node.specs.Events.{happens as manager_happens, manager_step}
 use Rattle.manager_node.specs.Phases as managers
 use Rattle.node_base.specs.Setups.{IsSetup}
-use Rattle.log_ties.specs.node_log_tie.CleanerEvents.{CleanerGoes, CleanerOwed, CleanerSeen}
-use Rattle.log_ties.specs.node_log_tie.CleanerStores.{StoresItsOwn}
-use Rattle.log_ties.specs.node_log_tie.RegistryEvents.{RegistryGoes}
-use Rattle.log_ties.specs.node_log_tie.ServerEvents.{ServerGoes, ServerOwed}
-use Rattle.log_ties.specs.node_log_tie.Sight.{BodySeen, PacketSeen, ReachedBy}
-use Rattle.node_ties.specs.node_tie.RegistryEvents as board
-use Rattle.node_ties.specs.node_tie.RegistryEvents.{RegistrySound}
+use Rattle.node_logs.specs.node_log_tie.CleanerEvents.{CleanerGoes, CleanerOwed, CleanerSeen}
+use Rattle.node_logs.specs.node_log_tie.CleanerStores.{StoresItsOwn}
+use Rattle.node_logs.specs.node_log_tie.RegistryEvents.{RegistryGoes}
+use Rattle.node_logs.specs.node_log_tie.ServerEvents.{ServerGoes, ServerOwed}
+use Rattle.node_logs.specs.node_log_tie.Sight.{BodySeen, PacketSeen, ReachedBy}
+use Rattle.node_slots.specs.node_tie.RegistryEvents as board
+use Rattle.node_slots.specs.node_tie.RegistryEvents.{RegistrySound}
 use Rattle.registry_node.specs.declared.node.RegistryNode.{RegistryNode}
 use Rattle.registry_node.specs.Events.{registry_step}
 use Rattle.store_nodes.specs.ServerEvents.{server_step}

@@ -1,23 +1,23 @@
 -- The numbers of all that is sent in a run are in the ranges of their types, and the fragments that servers hold are bytes.
 use Rattle.std.proofs.Common.{◌≡◌, ℕ, ◌==◌, true, List, inl, sym, ap, subst}
 use Rattle.std.specs.List.{AllByRecursion}
-use Rattle.log_ties.specs.cleaner_log_tie.Fitting as cleaner_fits
-use Rattle.log_ties.specs.client_log_tie.ClientEvents.{BodyFits, OfItsLog}
-use Rattle.log_ties.specs.client_log_tie.Texts.{MapFits}
+use Rattle.node_logs.specs.cleaner_log_tie.Fitting as cleaner_fits
+use Rattle.node_logs.specs.client_log_tie.ClientEvents.{BodyFits, OfItsLog}
+use Rattle.node_logs.specs.client_log_tie.Texts.{MapFits}
 use Rattle.core_world.specs.declared.any_node.AnyNode.{AnyNode}
 use Rattle.core_world.specs.declared.any_node.AnyNode.TheVariants as any
-use Rattle.telling_ties.specs.entry_tie.CleanerTells.{CleanerHolds}
-use Rattle.telling_ties.specs.entry_tie.ClientTells.{ClientHolds}
-use Rattle.telling_ties.specs.entry_tie.Told.{BodyTold, DoTold, RowsTold, Told}
+use Rattle.node_tellings.specs.entry_tie.CleanerTells.{CleanerHolds}
+use Rattle.node_tellings.specs.entry_tie.ClientTells.{ClientHolds}
+use Rattle.node_tellings.specs.entry_tie.Told.{BodyTold, DoTold, RowsTold, Told}
 use Rattle.group_map.specs.GroupMapState.{GroupMapState}
 use Rattle.log_law.specs.Net.{Net}
 use Rattle.log_tie.specs.Setting.{Setting}
-use Rattle.log_ties.proofs.manager_log_tie.Rows.{deltas_fit, rows_in_range}
-use Rattle.log_ties.specs.manager_log_tie.Fitting.{InRange, IsRowInRange}
-use Rattle.log_ties.specs.manager_log_tie.Servers.{CarriesBytes, ComesInBytes, FragmentFits, ServerFits}
-use Rattle.log_ties.specs.manager_log_tie.Told.{IsToldInRange}
-use Rattle.log_ties.specs.node_log_tie.Sight.{Asker, BodySeen}
-use Rattle.node_ties.specs.node_tie.RegistryEvents as board
+use Rattle.node_logs.proofs.manager_log_tie.Rows.{deltas_fit, rows_in_range}
+use Rattle.node_logs.specs.manager_log_tie.Fitting.{InRange, IsRowInRange}
+use Rattle.node_logs.specs.manager_log_tie.Servers.{CarriesBytes, ComesInBytes, FragmentFits, ServerFits}
+use Rattle.node_logs.specs.manager_log_tie.Told.{IsToldInRange}
+use Rattle.node_logs.specs.node_log_tie.Sight.{Asker, BodySeen}
+use Rattle.node_slots.specs.node_tie.RegistryEvents as board
 use Rattle.registry.specs.BoardState.{BoardState}
 use Rattle.segment_format.specs.declared.segment.Segment.{Segment}
 use Rattle.segment_format.specs.Ranges.{Fits}

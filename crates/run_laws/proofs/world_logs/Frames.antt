@@ -1,14 +1,14 @@
 -- What the small world of a log does elsewhere leaves a node of it seen as it was.
 use Rattle.std.proofs.Common.{◌≡◌, ⊎_elim, ℕ, Option, Some, None, refl, sym, ap, subst, ◌∙◌, inl, inr, arith}
-use Rattle.log_ties.proofs.cleaner_log_tie.Frames.{stands_later}
-use Rattle.log_ties.specs.cleaner_log_tie.Owner.{CleanerAgrees, its_number}
+use Rattle.node_logs.proofs.cleaner_log_tie.Frames.{stands_later}
+use Rattle.node_logs.specs.cleaner_log_tie.Owner.{CleanerAgrees, its_number}
 use Rattle.cleaner_node.specs.declared.cleaner.Phase.{Phase as CleanerPhase}
 use Rattle.cleaner_node.specs.declared.cleaner.Phase.TheVariants as cleaners
-use Rattle.cleaner_parts.specs.Starting.{cleaner_log}
-use Rattle.log_ties.specs.client_log_tie.Owner.{Scene, ClientAgrees, LastsAs, MapCame, SeesStage}
+use Rattle.cleaner_job.specs.Starting.{cleaner_log}
+use Rattle.node_logs.specs.client_log_tie.Owner.{Scene, ClientAgrees, LastsAs, MapCame, SeesStage}
 use Rattle.client_node.specs.declared.phase.Phase.TheVariants as clients
 use Rattle.client_node.specs.declared.phase.Phase.{Phase}
-use Rattle.client_parts.specs.declared.lasting.Lasting.{Lasting}
+use Rattle.client_call.specs.declared.lasting.Lasting.{Lasting}
 use Rattle.group_map.specs.GroupMapState.{GroupMapState}
 use Rattle.log_law.specs.Net.{Net}
 use Rattle.log_law.specs.Openings.{next_number}
@@ -17,17 +17,17 @@ use Rattle.log_owner.specs.declared.opening.Stage as stages
 use Rattle.log_owner.specs.declared.opening.Stage.TheVariants as stage
 use Rattle.log_protocol.specs.Tables.{In}
 use Rattle.log_tie.specs.Setting.{Setting}
-use Rattle.log_ties.specs.manager_log_tie.Owner as managing
+use Rattle.node_logs.specs.manager_log_tie.Owner as managing
 use Rattle.manager_node.specs.declared.phase.Phase.{Phase as ManagerPhase}
 use Rattle.manager_node.specs.declared.phase.Phase.TheVariants as managed
-use Rattle.manager_parts.specs.declared.lasting.Lasting as managers
-use Rattle.log_ties.proofs.node_log_tie.Emptied.{emptying_later}
-use Rattle.log_ties.proofs.node_log_tie.Lists.{if_some}
-use Rattle.log_ties.proofs.node_log_tie.RebuildEvents.{rebuild_later}
-use Rattle.log_ties.specs.node_log_tie.CleanerEvents.{CleanerSeen}
-use Rattle.log_ties.specs.node_log_tie.RegistryEvents.{RegistrySeen}
-use Rattle.log_ties.specs.node_log_tie.ServerEvents.{RebuildSeen, ServerSeen}
-use Rattle.log_ties.specs.node_log_tie.Sight.{Later, Question}
+use Rattle.manager_slots.specs.declared.lasting.Lasting as managers
+use Rattle.node_logs.proofs.node_log_tie.Emptied.{emptying_later}
+use Rattle.node_logs.proofs.node_log_tie.Lists.{if_some}
+use Rattle.node_logs.proofs.node_log_tie.RebuildEvents.{rebuild_later}
+use Rattle.node_logs.specs.node_log_tie.CleanerEvents.{CleanerSeen}
+use Rattle.node_logs.specs.node_log_tie.RegistryEvents.{RegistrySeen}
+use Rattle.node_logs.specs.node_log_tie.ServerEvents.{RebuildSeen, ServerSeen}
+use Rattle.node_logs.specs.node_log_tie.Sight.{Later, Question}
 use Rattle.registry.specs.BoardState.{BoardState}
 use Rattle.store_nodes.specs.declared.server.Rebuilding.{Rebuilding}
 use Rattle.store_nodes.specs.declared.server.Server.{Server as ServerNode}

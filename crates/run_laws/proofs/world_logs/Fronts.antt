@@ -7,15 +7,15 @@ use Rattle.core_world.specs.AnyNode.{any_step}
 use Rattle.core_world.specs.declared.any_node.AnyNode.{AnyNode}
 use Rattle.core_world.specs.declared.any_node.AnyNode.TheVariants as any
 use Rattle.group_map.specs.declared.group.Group.{Group}
-use Rattle.log_ties.specs.client_log_tie.Owner.{Scene}
+use Rattle.node_logs.specs.client_log_tie.Owner.{Scene}
 use Rattle.log_law.specs.Events.{Runs}
 use Rattle.log_law.specs.Events.Runs.{Begun}
 use Rattle.log_law.specs.Laws.{Moment}
 use Rattle.log_scan.specs.Transition.{least_horizon}
 use Rattle.log_tie.specs.Setting.{Setting}
 use Rattle.node_base.specs.Setups.{IsSetup}
-use Rattle.log_ties.specs.node_log_tie.RegistryEvents.{NamesGroups}
-use Rattle.node_ties.specs.node_tie.RegistryEvents.{RegistrySound}
+use Rattle.node_logs.specs.node_log_tie.RegistryEvents.{NamesGroups}
+use Rattle.node_slots.specs.node_tie.RegistryEvents.{RegistrySound}
 use Rattle.registry.specs.Board.{all_news}
 use Rattle.registry.specs.BoardState.{BoardState}
 use Rattle.registry_node.specs.declared.node.RegistryNode.{RegistryNode}

@@ -1,24 +1,24 @@
 -- How all logs stand at a moment of a run, and what is known of it besides.
 use Rattle.std.proofs.Common.{◌≡◌, ⊎_elim, ◌^◌, ℕ, ◌≤◌, ◌<◌, Bool, true, false, List, ◌++◌, Some, map, get_or, refl, subst, arith}
 use Rattle.std.specs.Prelude.{All}
-use Rattle.log_ties.specs.cleaner_log_tie.OwnerEvents.{OwnerStarts, OwnerTakes}
-use Rattle.log_ties.specs.client_log_tie.ClientEvents.{ClientStarts, ClientTakes}
-use Rattle.log_ties.specs.client_log_tie.Owner.{Scene}
+use Rattle.node_logs.specs.cleaner_log_tie.OwnerEvents.{OwnerStarts, OwnerTakes}
+use Rattle.node_logs.specs.client_log_tie.ClientEvents.{ClientStarts, ClientTakes}
+use Rattle.node_logs.specs.client_log_tie.Owner.{Scene}
 use Rattle.core_world.specs.declared.any_node.AnyNode.{AnyNode}
 use Rattle.group_map.specs.declared.group.Group.{Group}
 use Rattle.log_law.specs.Held.{WhatIsHeldFlew}
 use Rattle.log_law.specs.Openings.{FliesNext, OpeningsGoOn}
 use Rattle.log_law.specs.ReadBack.{OpeningsReadDown}
 use Rattle.log_tie.specs.Setting.{Setting}
-use Rattle.log_ties.specs.manager_log_tie.Listing.{CarriesOf, ComesOf, ServersListWhatWasStored, ServersStartBare}
-use Rattle.log_ties.specs.manager_log_tie.OwnerEvents.{ManagerStarts, ManagerTakes}
-use Rattle.log_ties.specs.manager_log_tie.Servers.{ServersStartEmpty, ServersTellBytes}
-use Rattle.log_ties.specs.manager_log_tie.Told.{WhatIsToldIsInRange}
+use Rattle.node_logs.specs.manager_log_tie.Listing.{CarriesOf, ComesOf, ServersListWhatWasStored, ServersStartBare}
+use Rattle.node_logs.specs.manager_log_tie.OwnerEvents.{ManagerStarts, ManagerTakes}
+use Rattle.node_logs.specs.manager_log_tie.Servers.{ServersStartEmpty, ServersTellBytes}
+use Rattle.node_logs.specs.manager_log_tie.Told.{WhatIsToldIsInRange}
 use Rattle.node_base.specs.Setups.{IsSetup}
-use Rattle.log_ties.specs.node_log_tie.CleanerEvents.{CleanerEventGoes, CleanerStarts}
-use Rattle.log_ties.specs.node_log_tie.CleanerStores.{CleanerStoresItsOwn}
-use Rattle.log_ties.specs.node_log_tie.RegistryEvents.{NamesGroups, RegistryEventGoes, RegistryGoesAbove, RegistryStarts, low_of}
-use Rattle.log_ties.specs.node_log_tie.ServerEvents.{SentMapsName, ServerEventGoes, ServerStarts}
+use Rattle.node_logs.specs.node_log_tie.CleanerEvents.{CleanerEventGoes, CleanerStarts}
+use Rattle.node_logs.specs.node_log_tie.CleanerStores.{CleanerStoresItsOwn}
+use Rattle.node_logs.specs.node_log_tie.RegistryEvents.{NamesGroups, RegistryEventGoes, RegistryGoesAbove, RegistryStarts, low_of}
+use Rattle.node_logs.specs.node_log_tie.ServerEvents.{SentMapsName, ServerEventGoes, ServerStarts}
 use Rattle.registry.specs.BoardState.{BoardState}
 use Rattle.token_protocol.specs.Basics.{In}
 use Rattle.version_model.specs.declared.act.Act.{Act}

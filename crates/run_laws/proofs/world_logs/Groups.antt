@@ -15,7 +15,7 @@ use Rattle.node_base.specs.Beginning.{begun, next_item, work_at}
 use Rattle.node_base.specs.Room.{has_room}
 use Rattle.node_base.specs.Setups.{IsSetup}
 use Rattle.node_base.specs.Shape.{is_well_formed}
-use Rattle.log_ties.proofs.node_log_tie.Others.{same_or_other}
+use Rattle.node_logs.proofs.node_log_tie.Others.{same_or_other}
 use Rattle.registry.proofs.Losses.{loss_heard, loss_kept}
 use Rattle.registry.specs.Board.{can_move, hears_manager, hears_server, is_kept, transition}
 use Rattle.registry.specs.Board as board

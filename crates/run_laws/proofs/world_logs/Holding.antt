@@ -2,18 +2,18 @@
 use Rattle.std.proofs.Common.{◌≡◌, ℕ, List, [], ◌∷◌, Option, inl, inr, refl, subst}
 use Rattle.std.specs.List.{AllByRecursion}
 use Rattle.std.specs.Prelude.{IfSome}
-use Rattle.log_ties.specs.cleaner_log_tie.Owner.{CleanerAgrees, its_number}
+use Rattle.node_logs.specs.cleaner_log_tie.Owner.{CleanerAgrees, its_number}
 use Rattle.cleaner_node.specs.declared.cleaner.Phase.{Phase as CleanerPhase}
 use Rattle.cleaner_node.specs.declared.cleaner.Phase.TheVariants as cleaners
-use Rattle.cleaner_parts.specs.Starting.{cleaner_log}
+use Rattle.cleaner_job.specs.Starting.{cleaner_log}
 use Rattle.client_log.specs.LogState.{LogState}
-use Rattle.log_ties.specs.client_log_tie.Owner.{ClientAgrees, Scene, SeesStage}
+use Rattle.node_logs.specs.client_log_tie.Owner.{ClientAgrees, Scene, SeesStage}
 use Rattle.client_node.specs.declared.phase.Phase.TheVariants as clients
 use Rattle.client_node.specs.declared.phase.Phase.{Phase}
-use Rattle.client_parts.specs.Lasting.{log_of}
-use Rattle.telling_ties.specs.entry_tie.CleanerTells as cleaner_tells
-use Rattle.telling_ties.specs.entry_tie.ClientTells as client_tells
-use Rattle.telling_ties.specs.entry_tie.ClientTells.{FlightOwed, SegmentOwed, StageOwed}
+use Rattle.client_call.specs.Lasting.{log_of}
+use Rattle.node_tellings.specs.entry_tie.CleanerTells as cleaner_tells
+use Rattle.node_tellings.specs.entry_tie.ClientTells as client_tells
+use Rattle.node_tellings.specs.entry_tie.ClientTells.{FlightOwed, SegmentOwed, StageOwed}
 use Rattle.log_flight.specs.Flights.{FlightState}
 use Rattle.log_law.specs.Held.{OwnerFlew}
 use Rattle.log_law.specs.Net.{Net}
@@ -23,7 +23,7 @@ use Rattle.log_owner.specs.declared.opening.Stage as stages
 use Rattle.log_owner.specs.declared.opening.Stage.TheVariants as stage
 use Rattle.log_protocol.specs.Tables as tables
 use Rattle.log_tie.specs.Setting.{Setting}
-use Rattle.log_ties.specs.manager_log_tie.Told.{IsToldInRange}
+use Rattle.node_logs.specs.manager_log_tie.Told.{IsToldInRange}
 use Rattle.segment_format.specs.declared.segment.Segment.{Segment}
 use Rattle.version_model.specs.declared.act.Act.{Act}
 use Rattle.run_laws.proofs.world_logs.Fits.{in_range, segment_tells}

@@ -4,7 +4,7 @@ use Rattle.std.specs.List.{AllByRecursion}
 use Rattle.cleaner_node.specs.CleanerEvents as cleaners
 use Rattle.cleaner_node.specs.CleanerEvents.{cleaner_step}
 use Rattle.cleaner_node.specs.declared.cleaner.Cleaner.{Cleaner as CleanerNode}
-use Rattle.cleaner_parts.specs.Starting.{cleaner_log}
+use Rattle.cleaner_job.specs.Starting.{cleaner_log}
 use Rattle.client_node.specs.declared.client.Client.{Client as ClientNode}
 use Rattle.client_node.specs.Phases.{client_step, lasting_of, takes}
 use Rattle.core_world.specs.AnyNode.{any_step}
@@ -12,17 +12,17 @@ use Rattle.core_world.specs.declared.any_node.AnyNode.{AnyNode}
 use Rattle.core_world.specs.declared.any_node.AnyNode.TheVariants as any
 use Rattle.run_laws.proofs.filed_law.Telling as telling
 use Rattle.run_laws.specs.filed_law.Told.{AnyReaches}
-use Rattle.telling_ties.proofs.filed_tie.Rising.{do_rises}
-use Rattle.telling_ties.specs.filed_tie.ManagerReach.{ManagersTellNoMore}
-use Rattle.telling_ties.specs.filed_tie.Reach.{ActsReach, BodyTells, DoTells, PacketTells, Reach, Rises}
-use Rattle.telling_ties.specs.filed_tie.RegistryReach.{RegistryTellsNoMore}
-use Rattle.telling_ties.specs.filed_tie.ServerReach.{ServersTellNoMore}
+use Rattle.node_tellings.proofs.filed_tie.Rising.{do_rises}
+use Rattle.node_tellings.specs.filed_tie.ManagerReach.{ManagersTellNoMore}
+use Rattle.node_tellings.specs.filed_tie.Reach.{ActsReach, BodyTells, DoTells, PacketTells, Reach, Rises}
+use Rattle.node_tellings.specs.filed_tie.RegistryReach.{RegistryTellsNoMore}
+use Rattle.node_tellings.specs.filed_tie.ServerReach.{ServersTellNoMore}
 use Rattle.manager_node.specs.declared.manager.Manager.{Manager as ManagerNode}
 use Rattle.manager_serving.specs.Serving.{fed_log}
 use Rattle.node_base.specs.declared.effects.Effect.{Effect}
 use Rattle.node_base.specs.declared.effects.Effect.TheVariants.{Send, Answer, Lose, Does}
 use Rattle.node_base.specs.Effects.{packets_of}
-use Rattle.node_ties.specs.node_tie.Sight.{ClientSends, CleanerSends}
+use Rattle.node_slots.specs.node_tie.Sight.{ClientSends, CleanerSends}
 use Rattle.registry_node.specs.declared.node.RegistryNode.{RegistryNode}
 use Rattle.store_nodes.specs.declared.server.Server.{Server as ServerNode}
 use Rattle.token_law.specs.Net.{Packet as Told_packet}

@@ -11,7 +11,7 @@ use Rattle.run_laws.proofs.filed_law.Reaching.{is_filed}
 use Rattle.run_laws.proofs.filed_law.Telling as telling
 use Rattle.run_laws.specs.filed_law.FiledUpto.{filed_upto}
 use Rattle.run_laws.specs.filed_law.Told.{AnyReaches, HorizonWasFiled}
-use Rattle.telling_ties.specs.filed_tie.Reach.{DoTells, PacketTells, Reach}
+use Rattle.node_tellings.specs.filed_tie.Reach.{DoTells, PacketTells, Reach}
 use Rattle.log_protocol.specs.Tables as tables
 use Rattle.log_scan.specs.Transition.{least_horizon}
 use Rattle.node_base.specs.Setups.{IsSetup}

@@ -12,7 +12,7 @@ use Rattle.log_tie.specs.Exist.{SomeSetting}
 use Rattle.log_tie.specs.Setting.{Setting, server_of}
 use Rattle.log_protocol.specs.Tables.{In}
 use Rattle.node_base.specs.Setups.{IsSetup}
-use Rattle.log_ties.specs.node_log_tie.RegistryEvents.{NamesGroups}
+use Rattle.node_logs.specs.node_log_tie.RegistryEvents.{NamesGroups}
 use Rattle.registry_node.specs.Events.{registry_start}
 use Rattle.wire_msg.specs.declared.body.Body.TheVariants as body
 use Rattle.wire_msg.specs.declared.packet.Packet.{Packet}

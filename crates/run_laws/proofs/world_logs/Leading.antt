@@ -1,11 +1,11 @@
 -- How the small world of a log leads on from one moment of a run to the next: by the owner where the event is its own, and else with the log left as it was.
-use Rattle.log_ties.proofs.client_log_tie.Puts.{took_nothing}
-use Rattle.log_ties.specs.client_log_tie.Puts.{PutsOwn}
-use Rattle.log_ties.proofs.client_log_tie.Straight.{once_straight}
+use Rattle.node_logs.proofs.client_log_tie.Puts.{took_nothing}
+use Rattle.node_logs.specs.client_log_tie.Puts.{PutsOwn}
+use Rattle.node_logs.proofs.client_log_tie.Straight.{once_straight}
 use Rattle.std.proofs.Common.{◌≡◌, ℕ, List, ap, refl}
-use Rattle.log_ties.proofs.cleaner_log_tie.Frames.{still_grows}
-use Rattle.log_ties.proofs.client_log_tie.Frames.{grown_still}
-use Rattle.log_ties.specs.client_log_tie.Owner.{Scene}
+use Rattle.node_logs.proofs.cleaner_log_tie.Frames.{still_grows}
+use Rattle.node_logs.proofs.client_log_tie.Frames.{grown_still}
+use Rattle.node_logs.specs.client_log_tie.Owner.{Scene}
 use Rattle.log_law.specs.Events.{Runs}
 use Rattle.log_law.specs.Events.Runs.{Begun}
 use Rattle.log_law.specs.Laws.{Moment}

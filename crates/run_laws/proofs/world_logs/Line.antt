@@ -10,7 +10,7 @@ use Rattle.log_law.specs.Net.{Net, Packet}
 use Rattle.log_law.specs.Tails.{then_on}
 use Rattle.log_protocol.specs.Tables.{In}
 use Rattle.log_tie.specs.Setting.{Setting}
-use Rattle.log_ties.proofs.node_log_tie.Going.{run_later}
+use Rattle.node_logs.proofs.node_log_tie.Going.{run_later}
 use Rattle.segment_format.specs.declared.segment.Segment.{Segment}
 use Rattle.world_base.specs.declared.estate.Estate.{Estate}
 use Rattle.world_base.specs.declared.event.Event.{Event}

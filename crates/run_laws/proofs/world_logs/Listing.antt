@@ -6,9 +6,9 @@ use Rattle.core_world.specs.AnyNode.{any_start}
 use Rattle.core_world.specs.declared.any_node.AnyNode.{AnyNode}
 use Rattle.core_world.specs.declared.any_node.AnyNode.TheVariants as any
 use Rattle.log_protocol.specs.Tables as tables
-use Rattle.log_ties.specs.manager_log_tie.Listing.{CarriesOf, MetasOf, NameOf, ServerHolds, ServersStartBare}
-use Rattle.log_ties.specs.node_log_tie.CleanerStores.{StoresItsOwn}
-use Rattle.node_ties.specs.node_tie.RegistryEvents as board
+use Rattle.node_logs.specs.manager_log_tie.Listing.{CarriesOf, MetasOf, NameOf, ServerHolds, ServersStartBare}
+use Rattle.node_logs.specs.node_log_tie.CleanerStores.{StoresItsOwn}
+use Rattle.node_slots.specs.node_tie.RegistryEvents as board
 use Rattle.registry.specs.BoardState.{BoardState}
 use Rattle.script_text.specs.declared.script.Script.{Script}
 use Rattle.version_model.specs.declared.work.Work.{Work}

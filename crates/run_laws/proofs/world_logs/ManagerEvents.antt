@@ -1,13 +1,13 @@
 -- What a manager does keeps its log standing to its small world, and what it sends is in range.
 use Rattle.std.proofs.Common.{◌≡◌, ◌^◌, ℕ, ◌<◌, Bool, List, [], ◌++◌, Some, get_or, map, slice_get, slice_set, if◌then◌else◌, refl, ap, ◌∙◌}
 use Rattle.std.specs.Prelude.{All}
-use Rattle.log_ties.specs.client_log_tie.Owner.{Scene}
+use Rattle.node_logs.specs.client_log_tie.Owner.{Scene}
 use Rattle.core_world.specs.declared.any_node.AnyNode.{AnyNode}
 use Rattle.core_world.specs.declared.any_node.AnyNode.TheVariants as any
 use Rattle.group_map.specs.declared.group.Group.{Group}
 use Rattle.log_tie.specs.Setting.{Setting}
-use Rattle.log_ties.specs.manager_log_tie.Owner.{ManagerAgrees, its_asker}
-use Rattle.log_ties.specs.manager_log_tie.OwnerEvents.{ManagerGoes, ManagerOwed}
+use Rattle.node_logs.specs.manager_log_tie.Owner.{ManagerAgrees, its_asker}
+use Rattle.node_logs.specs.manager_log_tie.OwnerEvents.{ManagerGoes, ManagerOwed}
 use Rattle.manager_node.specs.declared.manager.Manager.{Manager as ManagerNode}
 use Rattle.manager_node.specs.declared.phase.Phase.{Phase}
 use Rattle.manager_node.specs.declared.phase.Phase.TheVariants.{Down, Waiting, Serving as Serves}

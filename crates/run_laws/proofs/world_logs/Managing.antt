@@ -1,15 +1,15 @@
 -- What was seen of packets in the small world of a manager's log is seen there, whatever the manager does: it asks for the maps alone.
 use Rattle.std.proofs.Common.{◌≡◌, ℕ, sym, subst, ◌∙◌}
-use Rattle.log_ties.specs.client_log_tie.ClientEvents.{Grown}
-use Rattle.log_ties.specs.client_log_tie.Owner.{Scene}
+use Rattle.node_logs.specs.client_log_tie.ClientEvents.{Grown}
+use Rattle.node_logs.specs.client_log_tie.Owner.{Scene}
 use Rattle.log_tie.specs.Setting.{Setting}
-use Rattle.log_ties.specs.manager_log_tie.Owner.{ManagerAgrees, its_asker}
+use Rattle.node_logs.specs.manager_log_tie.Owner.{ManagerAgrees, its_asker}
 use Rattle.manager_node.specs.declared.phase.Phase.{Phase}
 use Rattle.manager_node.specs.declared.phase.Phase.TheVariants.{Down, Waiting, Serving as Serves}
-use Rattle.log_ties.proofs.node_log_tie.Going.{run_later}
-use Rattle.log_ties.proofs.node_log_tie.Sights.{seen_later}
-use Rattle.log_ties.specs.node_log_tie.Sight.{BodySeen, Question}
-use Rattle.log_ties.specs.node_log_tie.Sight.Question.{OfMaps, Unasked}
+use Rattle.node_logs.proofs.node_log_tie.Going.{run_later}
+use Rattle.node_logs.proofs.node_log_tie.Sights.{seen_later}
+use Rattle.node_logs.specs.node_log_tie.Sight.{BodySeen, Question}
+use Rattle.node_logs.specs.node_log_tie.Sight.Question.{OfMaps, Unasked}
 use Rattle.wire_msg.specs.declared.body.Body.{Body}
 use Rattle.xfs_base.specs.declared.node.NodeId.{NodeId}
 use Rattle.xfs_base.specs.declared.node.NodeId.TheVariants.{Manager}

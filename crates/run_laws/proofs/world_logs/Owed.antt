@@ -2,13 +2,13 @@
 use Rattle.std.proofs.Common.{◌≡◌, ℕ, Bool, true, false, List, [], ◌∷◌, if◌then◌else◌, refl, ap, ◌∙◌}
 use Rattle.std.specs.List.{AllByRecursion}
 use Rattle.std.specs.Prelude.{All}
-use Rattle.log_ties.specs.cleaner_log_tie.Owner.{its_number}
-use Rattle.log_ties.specs.cleaner_log_tie.OwnerEvents.{OpeningOwed}
+use Rattle.node_logs.specs.cleaner_log_tie.Owner.{its_number}
+use Rattle.node_logs.specs.cleaner_log_tie.OwnerEvents.{OpeningOwed}
 use Rattle.cleaner_node.specs.declared.cleaner.Phase.{Phase as CleanerPhase}
 use Rattle.cleaner_node.specs.declared.cleaner.Phase.TheVariants as cleaners
-use Rattle.log_ties.specs.client_log_tie.ClientEvents.{OfItsLog, PhaseOwed, StageTells}
-use Rattle.log_ties.specs.client_log_tie.Owner.{Scene, ClientAgrees, SeesStage}
-use Rattle.log_ties.specs.client_log_tie.Texts.{MapFits}
+use Rattle.node_logs.specs.client_log_tie.ClientEvents.{OfItsLog, PhaseOwed, StageTells}
+use Rattle.node_logs.specs.client_log_tie.Owner.{Scene, ClientAgrees, SeesStage}
+use Rattle.node_logs.specs.client_log_tie.Texts.{MapFits}
 use Rattle.client_node.specs.declared.phase.Phase.{Phase}
 use Rattle.client_node.specs.declared.phase.Phase.TheVariants as clients
 use Rattle.client_node.specs.Phases.{lasting_of}
@@ -24,7 +24,7 @@ use Rattle.log_protocol.specs.Tables as tables
 use Rattle.log_tie.specs.Setting.{Setting}
 use Rattle.node_base.specs.declared.effects.Effect.{Effect}
 use Rattle.node_base.specs.Effects.{packets_of}
-use Rattle.log_ties.proofs.node_log_tie.Lists.{packets_all}
+use Rattle.node_logs.proofs.node_log_tie.Lists.{packets_all}
 use Rattle.token_protocol.specs.Basics.{In}
 use Rattle.version_model.specs.declared.act.Act.{Act}
 use Rattle.wire_msg.specs.declared.body.Body.{Body}

@@ -3,16 +3,16 @@ use Rattle.std.proofs.Common.{◌≡◌, ℕ, ◌==◌, ◌≤◌, max, Bool, tr
 use Rattle.std.proofs.lemmas.Bool.{eqb-true, ne_eqb}
 use Rattle.cleaner_node.specs.declared.cleaner.Phase as cleaner_phases
 use Rattle.cleaner_node.specs.declared.cleaner.Phase.TheVariants as cleaning
-use Rattle.cleaner_parts.specs.Starting.{cleaner_log}
+use Rattle.cleaner_job.specs.Starting.{cleaner_log}
 use Rattle.client_node.specs.declared.phase.Phase.{Phase}
 use Rattle.client_node.specs.declared.phase.Phase.TheVariants as clients
 use Rattle.client_node.specs.Phases.{lasting_of}
 use Rattle.run_laws.proofs.filed_law.Reaching.{acts_rise, filed_reached, filed_rises}
 use Rattle.run_laws.specs.filed_law.FiledUpto.{filed_upto}
-use Rattle.telling_ties.specs.filed_tie.CleanerReach as cleaner_reach
-use Rattle.telling_ties.specs.filed_tie.ClientReach as client_reach
-use Rattle.telling_ties.specs.filed_tie.OpeningReach.{OpeningReaches, StageReaches}
-use Rattle.telling_ties.specs.filed_tie.Reach.{ActReached, ActsReach, BodyTells, LogReaches, Reach, Rises}
+use Rattle.node_tellings.specs.filed_tie.CleanerReach as cleaner_reach
+use Rattle.node_tellings.specs.filed_tie.ClientReach as client_reach
+use Rattle.node_tellings.specs.filed_tie.OpeningReach.{OpeningReaches, StageReaches}
+use Rattle.node_tellings.specs.filed_tie.Reach.{ActReached, ActsReach, BodyTells, LogReaches, Reach, Rises}
 use Rattle.log_owner.specs.declared.opening.Opening.{Opening}
 use Rattle.log_owner.specs.declared.opening.Stage.{Stage}
 use Rattle.log_owner.specs.declared.opening.Stage.TheVariants as stage

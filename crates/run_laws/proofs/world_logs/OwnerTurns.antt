@@ -1,24 +1,24 @@
 -- The owner of a log has its turn, a client, the cleaner or a manager; or another of them, which has no part in it.
 use Rattle.std.proofs.Common.{◌≡◌, ℕ, ⊎_elim, List, [], inl, inr, refl, ap, subst}
 use Rattle.std.specs.Prelude.{All}
-use Rattle.log_ties.proofs.cleaner_log_tie.Sights.{body_more as cleaner_body_more}
-use Rattle.log_ties.specs.cleaner_log_tie.OwnerEvents as cleaner_events
-use Rattle.log_ties.specs.cleaner_log_tie.OwnerEvents.{OwnerGoes}
+use Rattle.node_logs.proofs.cleaner_log_tie.Sights.{body_more as cleaner_body_more}
+use Rattle.node_logs.specs.cleaner_log_tie.OwnerEvents as cleaner_events
+use Rattle.node_logs.specs.cleaner_log_tie.OwnerEvents.{OwnerGoes}
 use Rattle.cleaner_node.specs.declared.cleaner.Cleaner.{Cleaner as CleanerNode}
-use Rattle.log_ties.proofs.client_log_tie.Frames.{body_more}
-use Rattle.log_ties.specs.client_log_tie.ClientEvents.{ActSeen, ClientGoes}
-use Rattle.log_ties.specs.client_log_tie.Owner.{Scene}
+use Rattle.node_logs.proofs.client_log_tie.Frames.{body_more}
+use Rattle.node_logs.specs.client_log_tie.ClientEvents.{ActSeen, ClientGoes}
+use Rattle.node_logs.specs.client_log_tie.Owner.{Scene}
 use Rattle.client_node.specs.declared.client.Client.{Client as ClientNode}
 use Rattle.core_world.specs.declared.any_node.AnyNode.{AnyNode}
 use Rattle.core_world.specs.declared.any_node.AnyNode.TheVariants as any
 use Rattle.log_law.specs.Events.Runs.{Begun}
 use Rattle.log_protocol.specs.Tables as tables
 use Rattle.log_tie.specs.Setting.{Setting}
-use Rattle.log_ties.specs.manager_log_tie.OwnerEvents.{ManagerGoes}
+use Rattle.node_logs.specs.manager_log_tie.OwnerEvents.{ManagerGoes}
 use Rattle.manager_node.specs.declared.manager.Manager.{Manager as ManagerNode}
-use Rattle.log_ties.proofs.node_log_tie.Going.{run_later}
-use Rattle.log_ties.specs.node_log_tie.Sight.{Later, PacketSeen}
-use Rattle.log_ties.specs.node_log_tie.Sight.Question.{OfMaps}
+use Rattle.node_logs.proofs.node_log_tie.Going.{run_later}
+use Rattle.node_logs.specs.node_log_tie.Sight.{Later, PacketSeen}
+use Rattle.node_logs.specs.node_log_tie.Sight.Question.{OfMaps}
 use Rattle.token_protocol.specs.Basics.{In}
 use Rattle.version_model.specs.declared.act.Act.{Act}
 use Rattle.version_model.specs.declared.act.Act.TheVariants as act

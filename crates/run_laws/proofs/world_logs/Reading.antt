@@ -1,6 +1,6 @@
 -- What a moment that stands to the small worlds says of logs: each segment that was told to be filed is whole, and each name has one text.
 use Rattle.std.proofs.Common.{◌≡◌, ◌⊎◌, ⊎_elim, ℕ, ◌==◌, ◌<◌, true, false, List, [], ◌∷◌, Option, None, Some, length, inl, inr, refl, sym, ap, subst, ◌∙◌}
-use Rattle.log_ties.specs.client_log_tie.Owner.{Scene}
+use Rattle.node_logs.specs.client_log_tie.Owner.{Scene}
 use Rattle.core_world.specs.declared.any_node.AnyNode.{AnyNode}
 use Rattle.core_world.specs.declared.any_node.AnyNode.TheVariants as any
 use Rattle.fragment_store.specs.ShelfState.{ShelfState, held_at}
@@ -12,10 +12,10 @@ use Rattle.log_law.specs.Net.{Net}
 use Rattle.log_protocol.specs.Tables as tables
 use Rattle.log_tie.specs.Setting.{Setting, Stripe, fragment_of, fragment_over, generation_of, server_of, stripe_of_group}
 use Rattle.log_tie.specs.Shelves.{is_of_log}
-use Rattle.log_ties.proofs.node_log_tie.WholeMaps.{its_stripe}
-use Rattle.log_ties.specs.node_log_tie.RegistryEvents.{RegistrySeen}
-use Rattle.log_ties.specs.node_log_tie.ServerEvents.{ServerSeen}
-use Rattle.log_ties.specs.node_log_tie.Sight.{BodySeen}
+use Rattle.node_logs.proofs.node_log_tie.WholeMaps.{its_stripe}
+use Rattle.node_logs.specs.node_log_tie.RegistryEvents.{RegistrySeen}
+use Rattle.node_logs.specs.node_log_tie.ServerEvents.{ServerSeen}
+use Rattle.node_logs.specs.node_log_tie.Sight.{BodySeen}
 use Rattle.segment_format.specs.declared.segment.Segment.{Segment}
 use Rattle.registry_node.specs.declared.node.RegistryNode.{RegistryNode}
 use Rattle.store_nodes.specs.declared.server.Server.{Server as ServerNode}

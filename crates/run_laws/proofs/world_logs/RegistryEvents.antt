@@ -1,14 +1,14 @@
 -- What the registry does keeps each log standing to its small world, whose horizons tell of what was filed.
 use Rattle.std.proofs.Common.{◌≡◌, ⊎_elim, ◌^◌, ℕ, ◌≤◌, ◌<◌, false, List, [], ◌++◌, Some, if◌then◌else◌, inl, inr, refl, arith}
-use Rattle.log_ties.specs.client_log_tie.Owner.{Scene}
+use Rattle.node_logs.specs.client_log_tie.Owner.{Scene}
 use Rattle.core_world.specs.declared.any_node.AnyNode.{AnyNode}
 use Rattle.core_world.specs.declared.any_node.AnyNode.TheVariants as any
 use Rattle.group_map.specs.declared.group.Group.{Group}
 use Rattle.log_law.specs.Net.{opening}
 use Rattle.log_tie.specs.Setting.{Setting}
 use Rattle.node_base.specs.Setups.{IsSetup}
-use Rattle.log_ties.proofs.node_log_tie.Going.{run_later}
-use Rattle.log_ties.specs.node_log_tie.RegistryEvents.{Hears, IsFiled, NamesGroups, RegistryGoes, low_of}
+use Rattle.node_logs.proofs.node_log_tie.Going.{run_later}
+use Rattle.node_logs.specs.node_log_tie.RegistryEvents.{Hears, IsFiled, NamesGroups, RegistryGoes, low_of}
 use Rattle.registry_node.specs.declared.node.RegistryNode.{RegistryNode}
 use Rattle.registry_node.specs.Events.{registry_step}
 use Rattle.token_protocol.specs.Basics.{In}

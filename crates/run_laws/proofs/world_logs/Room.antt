@@ -3,17 +3,17 @@ use Rattle.std.proofs.Common.{◌≡◌, ◌⊎◌, ⊎_elim, ◌+◌, ◌≤◌
 use Rattle.std.specs.Prelude.{◌&&◌, if◌then◌else◌}
 use Rattle.std.specs.List.{list_all}
 use Rattle.std.proofs.lemmas.Bool.Decides.{nat_tests}
-use Rattle.log_ties.specs.cleaner_log_tie.Owner.{CleanerAgrees, its_number}
-use Rattle.log_ties.specs.cleaner_log_tie.OwnerEvents.{OwnerGoes}
+use Rattle.node_logs.specs.cleaner_log_tie.Owner.{CleanerAgrees, its_number}
+use Rattle.node_logs.specs.cleaner_log_tie.OwnerEvents.{OwnerGoes}
 use Rattle.cleaner_node.specs.CleanerEvents as cleaner_events
 use Rattle.cleaner_node.specs.declared.cleaner.Cleaner.{Cleaner as CleanerNode}
 use Rattle.cleaner_node.specs.declared.cleaner.Phase.{Phase as CleanerPhase}
 use Rattle.cleaner_node.specs.declared.cleaner.Phase.TheVariants as cleaners
-use Rattle.cleaner_parts.specs.Lasting.{lasting_room}
+use Rattle.cleaner_job.specs.Lasting.{lasting_room}
 use Rattle.client_log.specs.LogState.{LogState}
 use Rattle.client_log.specs.Transition.{has_next}
-use Rattle.log_ties.specs.client_log_tie.ClientEvents.{ClientGoes, FliesInBoot}
-use Rattle.log_ties.specs.client_log_tie.Owner.{Scene, ClientAgrees, SeesStage}
+use Rattle.node_logs.specs.client_log_tie.ClientEvents.{ClientGoes, FliesInBoot}
+use Rattle.node_logs.specs.client_log_tie.Owner.{Scene, ClientAgrees, SeesStage}
 use Rattle.client_node.specs.declared.client.Client.{Client as ClientNode}
 use Rattle.client_node.specs.declared.phase.Phase.TheVariants as clients
 use Rattle.client_node.specs.declared.phase.Phase.{Phase}

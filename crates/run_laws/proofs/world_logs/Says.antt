@@ -3,10 +3,10 @@
 use Rattle.std.proofs.Common.{◌≡◌, ℕ, ◌==◌, true, sym, ap, ◌∙◌}
 use Rattle.std.specs.Prelude.{List}
 use Rattle.std.proofs.lemmas.Bool.{eqb-true}
-use Rattle.log_ties.specs.client_log_tie.Owner.{Scene}
+use Rattle.node_logs.specs.client_log_tie.Owner.{Scene}
 use Rattle.log_tie.specs.Setting.{Setting}
-use Rattle.log_ties.specs.node_log_tie.Sight.{BodySeen, ReachedBy}
-use Rattle.node_ties.specs.node_tie.Sight.{ClientSends, CleanerSends, ManagerSends, ServerSends}
+use Rattle.node_logs.specs.node_log_tie.Sight.{BodySeen, ReachedBy}
+use Rattle.node_slots.specs.node_tie.Sight.{ClientSends, CleanerSends, ManagerSends, ServerSends}
 use Rattle.token_law.specs.Net.{Packet as Told}
 use Rattle.wire_msg.specs.declared.body.Body.{Body}
 use Rattle.wire_msg.specs.declared.body.Body.TheVariants as body

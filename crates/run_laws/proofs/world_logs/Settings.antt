@@ -2,7 +2,7 @@
 use Rattle.std.proofs.Common.{◌≡◌, ◌^◌, ℕ, ◌+◌, ◌==◌, ◌<◌, ◌≤◌, List, [], ◌∷◌, Option, None, Some, length, unwrap_or, refl, sym, ap, subst, ◌∙◌, arith}
 use Rattle.std.specs.Prelude.{find}
 use Rattle.std.proofs.lemmas.Bool.{eqb-true}
-use Rattle.log_ties.specs.client_log_tie.Texts.{MapFits}
+use Rattle.node_logs.specs.client_log_tie.Texts.{MapFits}
 use Rattle.core_world.specs.declared.any_node.AnyNode.{AnyNode}
 use Rattle.group_map.specs.declared.group.Group.{Group}
 use Rattle.group_map.specs.GroupMapState.{GroupMapState}
@@ -10,8 +10,8 @@ use Rattle.group_map.specs.Groups.{chosen, group_of}
 use Rattle.group_map.specs.WellFormed.{IsGroupMap, IsNumbered}
 use Rattle.log_flight.specs.Flights.{group_for, no_group}
 use Rattle.log_tie.specs.Setting.{Setting, Stripe}
-use Rattle.log_ties.proofs.node_log_tie.WholeMaps.{Chosen, the_chosen}
-use Rattle.log_ties.specs.node_log_tie.ServerEvents.{NamesStripes}
+use Rattle.node_logs.proofs.node_log_tie.WholeMaps.{Chosen, the_chosen}
+use Rattle.node_logs.specs.node_log_tie.ServerEvents.{NamesStripes}
 use Rattle.world_base.specs.declared.world.World.{World}
 use Rattle.run_laws.proofs.world_logs.Groups.{HasMap, Names}
 use Rattle.run_laws.specs.world_logs.Roles.{Role}

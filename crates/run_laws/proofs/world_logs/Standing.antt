@@ -1,6 +1,6 @@
 -- A moment stands to the small world of a log however what its owner did is said.
 use Rattle.std.proofs.Common.{◌≡◌, List, sym, subst}
-use Rattle.log_ties.specs.client_log_tie.Owner.{Scene}
+use Rattle.node_logs.specs.client_log_tie.Owner.{Scene}
 use Rattle.core_world.specs.declared.any_node.AnyNode.{AnyNode}
 use Rattle.log_tie.specs.Setting.{Setting}
 use Rattle.token_protocol.specs.Basics.{In}

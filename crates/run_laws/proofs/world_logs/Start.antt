@@ -1,11 +1,11 @@
 -- At the start of a run each log stands to the opening of its small world, and nodes hold nothing.
 use Rattle.std.proofs.Common.{◌≡◌, ℕ, ◌<◌, ◌≤◌, true, List, [], ◌∷◌, Option, None, Some, map as map_of, refl, sym, ap, subst, ◌∙◌, arith}
 use Rattle.std.proofs.lemmas.Bool.Decides.{nat_tests}
-use Rattle.log_ties.specs.cleaner_log_tie.OwnerEvents.{OwnerStarts}
+use Rattle.node_logs.specs.cleaner_log_tie.OwnerEvents.{OwnerStarts}
 use Rattle.cleaner_node.specs.CleanerEvents.{cleaner_start}
-use Rattle.log_ties.specs.client_log_tie.ClientEvents.{ClientBegins, ClientStarts}
-use Rattle.log_ties.specs.client_log_tie.Owner.{Scene}
-use Rattle.log_ties.specs.client_log_tie.Texts.{MapFits}
+use Rattle.node_logs.specs.client_log_tie.ClientEvents.{ClientBegins, ClientStarts}
+use Rattle.node_logs.specs.client_log_tie.Owner.{Scene}
+use Rattle.node_logs.specs.client_log_tie.Texts.{MapFits}
 use Rattle.client_node.specs.Starting.{first_client}
 use Rattle.core_world.specs.AnyNode.{any_start}
 use Rattle.core_world.specs.declared.any_node.AnyNode.{AnyNode}
@@ -15,18 +15,18 @@ use Rattle.log_law.specs.Events.Runs.{Begun}
 use Rattle.log_law.specs.Net.{opening}
 use Rattle.log_tie.specs.Scans.{WholeMap}
 use Rattle.log_tie.specs.Setting.{Setting}
-use Rattle.log_ties.specs.manager_log_tie.Owner.{ManagerAgrees}
-use Rattle.log_ties.specs.manager_log_tie.OwnerEvents.{ManagerStarts}
-use Rattle.log_ties.specs.manager_log_tie.Servers.{ServersStartEmpty}
+use Rattle.node_logs.specs.manager_log_tie.Owner.{ManagerAgrees}
+use Rattle.node_logs.specs.manager_log_tie.OwnerEvents.{ManagerStarts}
+use Rattle.node_logs.specs.manager_log_tie.Servers.{ServersStartEmpty}
 use Rattle.manager_node.specs.Events.{first_manager}
 use Rattle.node_base.specs.Setups.{IsSetup}
 use Rattle.node_base.specs.Shape.{is_log}
-use Rattle.log_ties.proofs.node_log_tie.WholeMaps.{whole_map}
-use Rattle.log_ties.specs.node_log_tie.CleanerEvents.{CleanerStarts}
-use Rattle.log_ties.specs.node_log_tie.RegistryEvents.{NamesGroups, RegistrySeen, RegistryStarts}
-use Rattle.log_ties.specs.node_log_tie.ServerEvents.{ServerStarts}
-use Rattle.log_ties.specs.node_log_tie.Sight.{Question}
-use Rattle.log_ties.specs.node_log_tie.Sight.Question.{OfMaps, Unasked}
+use Rattle.node_logs.proofs.node_log_tie.WholeMaps.{whole_map}
+use Rattle.node_logs.specs.node_log_tie.CleanerEvents.{CleanerStarts}
+use Rattle.node_logs.specs.node_log_tie.RegistryEvents.{NamesGroups, RegistrySeen, RegistryStarts}
+use Rattle.node_logs.specs.node_log_tie.ServerEvents.{ServerStarts}
+use Rattle.node_logs.specs.node_log_tie.Sight.{Question}
+use Rattle.node_logs.specs.node_log_tie.Sight.Question.{OfMaps, Unasked}
 use Rattle.script_text.specs.declared.script.Script.{Script}
 use Rattle.registry_node.specs.Events.{registry_start}
 use Rattle.version_model.specs.declared.work.Work.{Work}

@@ -3,7 +3,7 @@ use Rattle.std.proofs.Common.{◌≡◌, ◌⊎◌, ⊎_elim, ℕ, [], inl, inr,
 use Rattle.cleaner_node.specs.declared.cleaner.Phase.{Phase as CleanerPhase}
 use Rattle.cleaner_node.specs.CleanerEvents.{cleaner_step}
 use Rattle.cleaner_node.specs.declared.cleaner.Cleaner.{Cleaner as CleanerNode}
-use Rattle.log_ties.specs.client_log_tie.Owner.{Scene}
+use Rattle.node_logs.specs.client_log_tie.Owner.{Scene}
 use Rattle.client_node.specs.declared.phase.Phase.{Phase}
 use Rattle.core_world.specs.declared.any_node.AnyNode.TheVariants as any
 use Rattle.log_law.specs.Events.{Runs}
@@ -11,12 +11,12 @@ use Rattle.log_law.specs.Net.{Net}
 use Rattle.log_protocol.specs.Tables as tables
 use Rattle.log_tie.specs.Setting.{Setting}
 use Rattle.manager_node.specs.declared.phase.Phase.{Phase as ManagerPhase}
-use Rattle.log_ties.proofs.node_log_tie.Going.{run_later}
-use Rattle.log_ties.proofs.node_log_tie.Sights.{seen_later}
-use Rattle.log_ties.specs.node_log_tie.CleanerEvents.{CleanerGoes, CleanerSeen}
-use Rattle.log_ties.specs.node_log_tie.RegistryEvents.{RegistryGoes}
-use Rattle.log_ties.specs.node_log_tie.ServerEvents.{ServerGoes}
-use Rattle.log_ties.specs.node_log_tie.Sight.{Later, PacketSeen}
+use Rattle.node_logs.proofs.node_log_tie.Going.{run_later}
+use Rattle.node_logs.proofs.node_log_tie.Sights.{seen_later}
+use Rattle.node_logs.specs.node_log_tie.CleanerEvents.{CleanerGoes, CleanerSeen}
+use Rattle.node_logs.specs.node_log_tie.RegistryEvents.{RegistryGoes}
+use Rattle.node_logs.specs.node_log_tie.ServerEvents.{ServerGoes}
+use Rattle.node_logs.specs.node_log_tie.Sight.{Later, PacketSeen}
 use Rattle.registry_node.specs.declared.node.RegistryNode.{RegistryNode}
 use Rattle.store_nodes.specs.declared.server.Server.{Server as ServerNode}
 use Rattle.registry_node.specs.Events.{registry_step}

@@ -2,7 +2,7 @@
 use Rattle.std.proofs.Common.{◌≡◌, ◌⊎◌, ⊎_elim, ℕ, List, ◌++◌, Some, map, slice_get, slice_set, refl, sym, subst, ◌∙◌}
 use Rattle.std.specs.Prelude.{All}
 use Rattle.cleaner_node.specs.declared.cleaner.Phase.{Phase as CleanerPhase}
-use Rattle.log_ties.specs.client_log_tie.Owner.{Scene}
+use Rattle.node_logs.specs.client_log_tie.Owner.{Scene}
 use Rattle.client_node.specs.declared.phase.Phase.{Phase}
 use Rattle.core_world.specs.declared.any_node.AnyNode.{AnyNode}
 use Rattle.core_world.specs.declared.any_node.AnyNode.TheVariants as any
@@ -11,10 +11,10 @@ use Rattle.log_law.specs.Laws.{Moment}
 use Rattle.log_protocol.specs.Tables as tables
 use Rattle.log_tie.specs.Setting.{Setting}
 use Rattle.manager_node.specs.declared.phase.Phase.{Phase as ManagerPhase}
-use Rattle.log_ties.proofs.node_log_tie.Others.{same_or_other}
-use Rattle.log_ties.specs.node_log_tie.RegistryEvents.{RegistrySeen}
-use Rattle.log_ties.specs.node_log_tie.ServerEvents.{ServerSeen}
-use Rattle.log_ties.specs.node_log_tie.Sight.{PacketSeen}
+use Rattle.node_logs.proofs.node_log_tie.Others.{same_or_other}
+use Rattle.node_logs.specs.node_log_tie.RegistryEvents.{RegistrySeen}
+use Rattle.node_logs.specs.node_log_tie.ServerEvents.{ServerSeen}
+use Rattle.node_logs.specs.node_log_tie.Sight.{PacketSeen}
 use Rattle.registry.specs.BoardState.{BoardState}
 use Rattle.store_nodes.specs.declared.server.Server.{Server as ServerNode}
 use Rattle.token_protocol.specs.Basics.{In}

@@ -10,9 +10,9 @@ use Rattle.log_flight.specs.Flights.{FlightState}
 use Rattle.log_law.specs.Restarts.{last_flight}
 use Rattle.log_law.specs.Tails.{then_on}
 use Rattle.log_tie.specs.Setting.{Setting}
-use Rattle.node_ties.specs.node_tie.LogRows.{rows_told}
-use Rattle.node_ties.specs.node_tie.Sight.{SameLog}
-use Rattle.node_ties.specs.owner_index_tie.Filing.{IsSameLog}
+use Rattle.node_slots.specs.node_tie.LogRows.{rows_told}
+use Rattle.node_slots.specs.node_tie.Sight.{SameLog}
+use Rattle.node_slots.specs.owner_index_tie.Filing.{IsSameLog}
 use Rattle.run_laws.specs.reopening_law.Flights.{LastFlew}
 use Rattle.segment_format.specs.declared.segment.Segment.{Segment}
 use Rattle.run_laws.specs.segment_tie.Segments.{TellsOnce}

@@ -1,18 +1,18 @@
 -- The cleaner's own event: the small worlds know the same of its log then as they did, and what is filed of it tells of each block once.
 use Rattle.std.proofs.Common.{◌≡◌, ◌⊎◌, ⊎_elim, ℕ, Bool, true, false, List, Option, Some, None, inl, inr, refl, sym, ap, subst, ◌∙◌}
 use Rattle.std.specs.Prelude.{IfSome}
-use Rattle.cleaner_emptying.specs.declared.emptying.Emptying.{Emptying}
-use Rattle.log_ties.specs.cleaner_log_tie.Owner as log_tie
+use Rattle.cleaner_serving.specs.declared.emptying.Emptying.{Emptying}
+use Rattle.node_logs.specs.cleaner_log_tie.Owner as log_tie
 use Rattle.cleaner_node.specs.CleanerEvents.{Went_to, after_opening, begun_life, crashes, happens, hears, on_begin, on_deliver, on_time, opening_at, opening_wishes, phase_room, takes, wish_at}
 use Rattle.cleaner_node.specs.declared.cleaner.Cleaner.{Cleaner as CleanerNode}
 use Rattle.cleaner_node.specs.declared.cleaner.Phase.{Phase}
 use Rattle.cleaner_node.specs.declared.cleaner.Phase.TheVariants.{Down, Opening, Serving as Serves}
 use Rattle.cleaner_node.specs.declared.cleaner.Wish.TheVariants.{Crash, Restart, Clean}
-use Rattle.cleaner_parts.specs.declared.lasting.Lasting.{Lasting}
+use Rattle.cleaner_job.specs.declared.lasting.Lasting.{Lasting}
 use Rattle.client_log.specs.LogState.{LogState}
-use Rattle.log_ties.specs.client_log_tie.ClientEvents.{ServesStraight}
-use Rattle.log_ties.specs.client_log_tie.Owner.{Scene, SeesLog, SeesStage}
-use Rattle.client_parts.specs.Crash.{flight_of}
+use Rattle.node_logs.specs.client_log_tie.ClientEvents.{ServesStraight}
+use Rattle.node_logs.specs.client_log_tie.Owner.{Scene, SeesLog, SeesStage}
+use Rattle.client_call.specs.Crash.{flight_of}
 use Rattle.index_tie.specs.Growth.{IsMore}
 use Rattle.index_tie.specs.Net as index
 use Rattle.log_flight.specs.Flights.{FlightState}
@@ -36,12 +36,12 @@ use Rattle.log_tie.specs.Setting.{Setting}
 use Rattle.node_base.specs.Beginning.{next_item}
 use Rattle.node_base.specs.declared.effects.Effect.{Effect}
 use Rattle.node_base.specs.Shape.{is_well_formed}
-use Rattle.node_ties.specs.node_index_tie.Sight.{Texts}
-use Rattle.node_ties.specs.node_tie.CleanerLogs.{CleanerCopies, OwnGoes, its_log}
-use Rattle.node_ties.specs.node_tie.LogRows.{LogSeen}
-use Rattle.node_ties.specs.node_tie.Sight.{SameLog}
-use Rattle.node_ties.specs.owner_index_tie.CleanerEvents as owner
-use Rattle.node_ties.specs.owner_index_tie.Filing.{filed_after}
+use Rattle.node_slots.specs.node_index_tie.Sight.{Texts}
+use Rattle.node_slots.specs.node_tie.CleanerLogs.{CleanerCopies, OwnGoes, its_log}
+use Rattle.node_slots.specs.node_tie.LogRows.{LogSeen}
+use Rattle.node_slots.specs.node_tie.Sight.{SameLog}
+use Rattle.node_slots.specs.owner_index_tie.CleanerEvents as owner
+use Rattle.node_slots.specs.owner_index_tie.Filing.{filed_after}
 use Rattle.run_laws.specs.reopening_law.Openings.{EndsByOne, EndsSo}
 use Rattle.run_laws.specs.reopening_law.Reopens.{Reopens, TellsApart, has_flight}
 use Rattle.segment_format.specs.declared.segment.Segment.{Segment}

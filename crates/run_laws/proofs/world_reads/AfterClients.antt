@@ -3,14 +3,14 @@ use Rattle.std.proofs.Common.{◌≡◌, ⊎_elim, ◌++◌, ℕ, suc, true, fal
 use Rattle.std.specs.Prelude.{IfSome}
 use Rattle.act_tie.specs.BlockActs.{is_adopted}
 use Rattle.client_log.specs.LogState.{LogState}
-use Rattle.log_ties.specs.client_log_tie.ClientEvents.{ServesStraight}
-use Rattle.log_ties.specs.client_log_tie.Owner as log_tie
-use Rattle.log_ties.specs.client_log_tie.Owner.{Scene}
+use Rattle.node_logs.specs.client_log_tie.ClientEvents.{ServesStraight}
+use Rattle.node_logs.specs.client_log_tie.Owner as log_tie
+use Rattle.node_logs.specs.client_log_tie.Owner.{Scene}
 use Rattle.client_node.specs.declared.client.Client.{Client as ClientNode}
 use Rattle.client_node.specs.declared.phase.Phase.TheVariants.{Down, Opening, Serving as Serves}
 use Rattle.client_node.specs.declared.phase.Phase.{Phase}
 use Rattle.client_node.specs.Phases.{Went_to, lasting_of, takes}
-use Rattle.client_parts.specs.declared.lasting.Lasting.{Lasting}
+use Rattle.client_call.specs.declared.lasting.Lasting.{Lasting}
 use Rattle.client_serving.specs.declared.serving.Serving as serving
 use Rattle.index_tie.specs.Filed.{Filed}
 use Rattle.index_tie.specs.Growth.{IsMore}
@@ -33,12 +33,12 @@ use Rattle.log_protocol.specs.Tables.{In}
 use Rattle.log_tie.specs.Setting.{Setting}
 use Rattle.node_base.specs.declared.effects.Effect.TheVariants.{Does}
 use Rattle.node_base.specs.Effects.{acts_of}
-use Rattle.node_ties.specs.node_index_tie.Sight.{Texts}
-use Rattle.node_ties.specs.node_tie.ClientEvents as tokens
-use Rattle.node_ties.specs.node_tie.LogRows.{LogSeen}
-use Rattle.node_ties.specs.node_tie.Sight.{SameLog}
-use Rattle.node_ties.specs.owner_index_tie.ClientEvents as owner
-use Rattle.node_ties.specs.owner_index_tie.Filing.{filed_after}
+use Rattle.node_slots.specs.node_index_tie.Sight.{Texts}
+use Rattle.node_slots.specs.node_tie.ClientEvents as tokens
+use Rattle.node_slots.specs.node_tie.LogRows.{LogSeen}
+use Rattle.node_slots.specs.node_tie.Sight.{SameLog}
+use Rattle.node_slots.specs.owner_index_tie.ClientEvents as owner
+use Rattle.node_slots.specs.owner_index_tie.Filing.{filed_after}
 use Rattle.run_laws.specs.reopening_law.Falls.{FallKnown, FallTells, FellWith}
 use Rattle.run_laws.specs.reopening_law.Openings.{EndsByOne, EndsSo}
 use Rattle.run_laws.specs.reopening_law.Reopens.{Reopens, TellsApart, has_flight}

@@ -8,8 +8,8 @@ use Rattle.node_base.specs.Effects.{acts_of}
 use Rattle.node_base.specs.declared.effects.Effect.{Effect}
 use Rattle.client_node.specs.declared.phase.Phase.{Phase}
 use Rattle.client_node.specs.Phases.{lasting_of}
-use Rattle.node_ties.proofs.node_tie.StoreFrames.{acts_are}
-use Rattle.node_ties.specs.node_tie.ClientEvents.{ClientActs, ClientDid, ClientGoes}
+use Rattle.node_slots.proofs.node_tie.StoreFrames.{acts_are}
+use Rattle.node_slots.specs.node_tie.ClientEvents.{ClientActs, ClientDid, ClientGoes}
 use Rattle.run_laws.specs.reopening_law.Falls.{IsAside}
 use Rattle.token_client.specs.Held.{may_write}
 use Rattle.token_client.specs.State.{TokensState, held_of}

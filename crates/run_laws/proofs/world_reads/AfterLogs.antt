@@ -3,7 +3,7 @@ use Rattle.std.proofs.Common.{◌≡◌, ◌≤◌, ◌<◌, ℕ, suc, Bool, tru
 use Rattle.std.proofs.lemmas.Bool.Decides.{nat_tests}
 use Rattle.std.specs.Prelude.{IfSome}
 use Rattle.client_log.specs.LogState.{LogState}
-use Rattle.log_ties.specs.client_log_tie.ClientEvents.{NeverServes}
+use Rattle.node_logs.specs.client_log_tie.ClientEvents.{NeverServes}
 use Rattle.index_tie.specs.Filed.{Filed}
 use Rattle.index_tie.specs.Growth.{IsMore, with_segment}
 use Rattle.log_flight.specs.Flights.{FlightState}
@@ -15,10 +15,10 @@ use Rattle.log_law.specs.Net.Owner.{Down, Opening, Serving, Writing}
 use Rattle.log_law.specs.Restarts.{flight_in, is_serving, last_flight}
 use Rattle.log_law.specs.Tails.{then_on}
 use Rattle.log_tie.specs.Setting.{Setting}
-use Rattle.node_ties.specs.node_tie.LogRows.{LogSeen, rows_told}
-use Rattle.node_ties.specs.node_tie.Sight.{SameLog}
-use Rattle.node_ties.proofs.owner_index_tie.Growing.{head_is, segment_is}
-use Rattle.node_ties.specs.owner_index_tie.Filing.{IsSameLog}
+use Rattle.node_slots.specs.node_tie.LogRows.{LogSeen, rows_told}
+use Rattle.node_slots.specs.node_tie.Sight.{SameLog}
+use Rattle.node_slots.proofs.owner_index_tie.Growing.{head_is, segment_is}
+use Rattle.node_slots.specs.owner_index_tie.Filing.{IsSameLog}
 use Rattle.run_laws.specs.reopening_law.Flights.{FlightsOfOwners, LastFlew, OthersLeaveFlights}
 use Rattle.run_laws.specs.reopening_law.Reopens.{BooksFollow, BooksOf, BooksThen, FiledOf, Reopens, has_flight}
 use Rattle.segment_format.specs.declared.segment.Segment.{Segment}

@@ -13,8 +13,8 @@ use Rattle.log_law.specs.Restarts.{EndsRestart, is_serving, is_writing, last_fli
 use Rattle.log_law.specs.Tails.{ARestartFilesTheTail, TellsOnlyTheTail}
 use Rattle.log_protocol.specs.Tables.{In}
 use Rattle.log_tie.specs.Setting.{Setting}
-use Rattle.node_ties.proofs.owner_index_tie.Growing.{head_is, segment_is}
-use Rattle.node_ties.specs.owner_index_tie.Filing.{IsSameLog}
+use Rattle.node_slots.proofs.owner_index_tie.Growing.{head_is, segment_is}
+use Rattle.node_slots.specs.owner_index_tie.Filing.{IsSameLog}
 use Rattle.run_laws.specs.reopening_law.Reopens.{Reopens}
 use Rattle.segment_format.specs.declared.segment.Segment.{Segment}
 use Rattle.run_laws.specs.segment_tie.Segments.{TellsOnce}

@@ -6,7 +6,7 @@ use Rattle.client_node.specs.declared.client.Client.{Client as ClientNode}
 use Rattle.core_world.specs.AnyNode.{any_start, any_step}
 use Rattle.core_world.specs.declared.any_node.AnyNode.{AnyNode}
 use Rattle.core_world.specs.declared.any_node.AnyNode.TheVariants as any
-use Rattle.node_ties.proofs.node_tie.SmallWorld.{with_promise}
+use Rattle.node_slots.proofs.node_tie.SmallWorld.{with_promise}
 use Rattle.run_laws.specs.segment_tie.Cleaners.{CleanerWrites}
 use Rattle.run_laws.specs.segment_tie.Clients.{ClientWrites}
 use Rattle.run_laws.specs.segment_tie.Runs.{PacketTellsVersion, RunsWriteCopies, RunsWriteOriginals}

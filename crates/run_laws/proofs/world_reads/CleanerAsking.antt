@@ -4,12 +4,12 @@ use Rattle.std.proofs.Common.{◌≡◌, ◌≤◌, ◌<◌, ℕ, Bool, true, fa
 use Rattle.std.proofs.lemmas.Bool.Decides.{nat_tests}
 use Rattle.std.proofs.lemmas.Map.Views.{tells_apart}
 use Rattle.std.specs.List.{AllByRecursion}
-use Rattle.cleaner_emptying.specs.declared.emptying.Emptying.{Emptying}
+use Rattle.cleaner_serving.specs.declared.emptying.Emptying.{Emptying}
 use Rattle.cleaner_node.specs.CleanerEvents.{takes}
 use Rattle.cleaner_node.specs.declared.cleaner.Cleaner.{Cleaner as CleanerNode}
 use Rattle.cleaner_node.specs.declared.cleaner.Phase as cleaning
 use Rattle.cleaner_node.specs.declared.cleaner.Phase.TheVariants.{Down, Opening, Serving}
-use Rattle.cleaner_parts.specs.declared.job.Job.{Job}
+use Rattle.cleaner_job.specs.declared.job.Job.{Job}
 use Rattle.core_world.specs.declared.any_node.AnyNode.{AnyNode}
 use Rattle.core_world.specs.declared.any_node.AnyNode.TheVariants as any
 use Rattle.run_laws.specs.epoch_law.Polls.{HorizonsStay}
@@ -25,14 +25,14 @@ use Rattle.log_scan.specs.Transition.{least_horizon}
 use Rattle.log_tie.specs.Setting.{Setting}
 use Rattle.node_base.specs.declared.effects.Effect.{Effect}
 use Rattle.node_base.specs.declared.effects.Effect.TheVariants.{Send, Answer, Lose, Does}
-use Rattle.node_ties.specs.node_index_tie.Sight.{held_in}
-use Rattle.log_ties.specs.node_log_tie.CleanerEvents.{JobPhaseSeen}
-use Rattle.node_ties.specs.owner_index_tie.CleanerEvents.{EffectOwed, ReadGets, SaysOwed}
+use Rattle.node_slots.specs.node_index_tie.Sight.{held_in}
+use Rattle.node_logs.specs.node_log_tie.CleanerEvents.{JobPhaseSeen}
+use Rattle.node_slots.specs.owner_index_tie.CleanerEvents.{EffectOwed, ReadGets, SaysOwed}
 use Rattle.run_laws.proofs.place_law.Lying.{one_of_nine}
 use Rattle.run_laws.specs.place_law.Copies.{ChecksAreOfRows}
 use Rattle.run_laws.specs.place_law.Hands.{AnswerReads}
 use Rattle.run_laws.specs.reading_law.Readings.{ReadingsCame}
-use Rattle.telling_ties.specs.reading_tie.CleanerMeets.{JobMet, PhaseMet, listed_in}
+use Rattle.node_tellings.specs.reading_tie.CleanerMeets.{JobMet, PhaseMet, listed_in}
 use Rattle.registry.specs.Board.{all_news}
 use Rattle.segment_format.specs.declared.segment.Item.{Item}
 use Rattle.segment_format.specs.declared.segment.Item.TheVariants.{Block, Delta, Part}

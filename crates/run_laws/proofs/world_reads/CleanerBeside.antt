@@ -11,7 +11,7 @@ use Rattle.run_laws.specs.epoch_law.Polls.{CleanerPollsAreLow}
 use Rattle.log_flight.specs.Flights.{FlightState}
 use Rattle.log_tie.specs.Setting.{Setting}
 use Rattle.node_base.specs.Setups.{IsSetup}
-use Rattle.node_ties.specs.owner_index_tie.CleanerMoves.{ItemMoves}
+use Rattle.node_slots.specs.owner_index_tie.CleanerMoves.{ItemMoves}
 use Rattle.run_laws.specs.reading_law.Readings.{RunsReadWhatCame}
 use Rattle.run_laws.specs.reopening_law.Reopens.{TellsApart}
 use Rattle.segment_format.specs.declared.segment.Segment.{Segment}

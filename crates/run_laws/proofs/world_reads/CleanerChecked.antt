@@ -1,13 +1,13 @@
 -- The Checks that the cleaner sends in an event are of Blocks of the segment that its job checks, or that it reads in the event.
 use Rattle.std.proofs.Common.{ℕ, List, [], ◌∷◌, Option, None, Some}
 use Rattle.std.specs.List.{AllByRecursion}
-use Rattle.cleaner_emptying.specs.declared.emptying.Emptying.{Emptying}
+use Rattle.cleaner_serving.specs.declared.emptying.Emptying.{Emptying}
 use Rattle.cleaner_node.specs.declared.cleaner.Phase.{Phase}
 use Rattle.cleaner_node.specs.declared.cleaner.Phase.TheVariants.{Down, Opening, Serving}
 use Rattle.cleaner_node.specs.declared.cleaner.Wish.{Wish}
 use Rattle.cleaner_node.specs.declared.cleaner.Wish.TheVariants.{Crash, Restart, Clean}
 use Rattle.cleaner_node.specs.CleanerEvents.{Went_to, after_opening, back, begun_life, crashes, down_at, down_wishes, happens, hears, on_begin, on_deliver, on_time, opened_on, opening_at, opening_wishes, phase_room, restarts, serving_at, serving_wishes, takes, wish_at}
-use Rattle.cleaner_parts.specs.declared.lasting.Lasting.{Lasting}
+use Rattle.cleaner_job.specs.declared.lasting.Lasting.{Lasting}
 use Rattle.log_owner.proofs.Behaving as behaving
 use Rattle.log_owner.specs.Behaves.{MayDo, MaySay}
 use Rattle.log_owner.specs.declared.ended.Owner.{Owner}

@@ -2,14 +2,14 @@
 -- reads.
 use Rattle.std.proofs.Common.{◌≡◌, ◌==◌, ◌&&◌, ℕ, Bool, nat_lt, List, [], ◌∷◌, Option, None, Some, is_some, if◌then◌else◌, refl}
 use Rattle.std.specs.List.{AllByRecursion, range_with_len}
-use Rattle.cleaner_emptying.specs.declared.emptying.Emptying.{Emptying}
-use Rattle.cleaner_emptying.specs.EmptyingEvents.{asks_for_maps, begins_job, fed, hears_slot, hears_slots, job_regrouped, log_regrouped, on_ack, on_body, on_clean, on_news, on_packet, on_poll, on_tick, on_welcome, promises, promises_all, promises_slot, reports, settles, takes_news, welcomes, welcomes_over, with_new_job, writes, writes_one}
-use Rattle.cleaner_emptying.specs.Jobs.{Done, after_confirmed, after_told, asks_check, asks_list, asks_maps, asks_usage, check_sent, checked_in, checks_block, cleans, confirmed, confirmed_in, deletes, ends_reading, finishes, holds, holds_in, job_takes, moves, on_dead, on_deleted, on_listed, on_live, on_told, on_usage, puts, puts_block, reads, reads_again, says, takes_in, told_by, told_in, with_questions}
-use Rattle.cleaner_parts.specs.declared.hand.Hand.{Hand}
-use Rattle.cleaner_parts.specs.declared.job.Job.{Job}
-use Rattle.cleaner_parts.specs.Hands.{fetches}
-use Rattle.cleaner_parts.specs.Jobs.{greeted, hello_of, job_moved, check_of, drops, hand_checks_in, hand_confirmed_in, hand_hears_in, hand_of, is_out, is_whole, job_checks, job_confirmed, job_hears, job_read, lists_of, usages_of}
-use Rattle.cleaner_parts.specs.Starting.{cleaner_log}
+use Rattle.cleaner_serving.specs.declared.emptying.Emptying.{Emptying}
+use Rattle.cleaner_serving.specs.EmptyingEvents.{asks_for_maps, begins_job, fed, hears_slot, hears_slots, job_regrouped, log_regrouped, on_ack, on_body, on_clean, on_news, on_packet, on_poll, on_tick, on_welcome, promises, promises_all, promises_slot, reports, settles, takes_news, welcomes, welcomes_over, with_new_job, writes, writes_one}
+use Rattle.cleaner_serving.specs.Jobs.{Done, after_confirmed, after_told, asks_check, asks_list, asks_maps, asks_usage, check_sent, checked_in, checks_block, cleans, confirmed, confirmed_in, deletes, ends_reading, finishes, holds, holds_in, job_takes, moves, on_dead, on_deleted, on_listed, on_live, on_told, on_usage, puts, puts_block, reads, reads_again, says, takes_in, told_by, told_in, with_questions}
+use Rattle.cleaner_job.specs.declared.hand.Hand.{Hand}
+use Rattle.cleaner_job.specs.declared.job.Job.{Job}
+use Rattle.cleaner_job.specs.Hands.{fetches}
+use Rattle.cleaner_job.specs.Jobs.{greeted, hello_of, job_moved, check_of, drops, hand_checks_in, hand_confirmed_in, hand_hears_in, hand_of, is_out, is_whole, job_checks, job_confirmed, job_hears, job_read, lists_of, usages_of}
+use Rattle.cleaner_job.specs.Starting.{cleaner_log}
 use Rattle.client_log.specs.declared.input.In.{In as LogIn}
 use Rattle.client_log.specs.declared.input.In.TheVariants as log_in
 use Rattle.client_log.specs.declared.output.Out.{Out as LogOut}

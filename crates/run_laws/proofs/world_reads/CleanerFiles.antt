@@ -15,12 +15,12 @@ use Rattle.log_protocol.specs.Tables.{In}
 use Rattle.log_tie.specs.Setting.{Setting}
 use Rattle.node_base.specs.declared.effects.Effect.{Effect}
 use Rattle.node_base.specs.declared.effects.Effect.TheVariants.{Send, Answer, Lose, Does}
-use Rattle.node_ties.specs.node_index_tie.Sight.{Texts}
-use Rattle.node_ties.proofs.owner_index_tie.Growing.{head_is}
-use Rattle.node_ties.proofs.owner_index_tie.MovesLog.{segment_moves}
-use Rattle.node_ties.specs.owner_index_tie.CleanerEvents.{IsMoved}
-use Rattle.node_ties.specs.owner_index_tie.CleanerMoves.{ItemMoves}
-use Rattle.node_ties.specs.owner_index_tie.Filing.{after_act, after_effect, with_name}
+use Rattle.node_slots.specs.node_index_tie.Sight.{Texts}
+use Rattle.node_slots.proofs.owner_index_tie.Growing.{head_is}
+use Rattle.node_slots.proofs.owner_index_tie.MovesLog.{segment_moves}
+use Rattle.node_slots.specs.owner_index_tie.CleanerEvents.{IsMoved}
+use Rattle.node_slots.specs.owner_index_tie.CleanerMoves.{ItemMoves}
+use Rattle.node_slots.specs.owner_index_tie.Filing.{after_act, after_effect, with_name}
 use Rattle.run_laws.specs.reopening_law.Reopens.{TellsApart}
 use Rattle.segment_format.specs.declared.segment.Segment.{Segment}
 use Rattle.version_model.specs.declared.act.Act.{Act}

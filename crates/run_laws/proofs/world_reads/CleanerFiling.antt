@@ -2,16 +2,16 @@
 use Rattle.std.proofs.Common.{◌≡◌, ◌<◌, ℕ, suc, true, List, [], ◌∷◌, inr, ◌++◌, Option, None, Some, refl, sym, ap, subst, ◌∙◌, arith}
 use Rattle.std.specs.Prelude.{IfSome}
 use Rattle.std.specs.List.{AllByRecursion}
-use Rattle.cleaner_emptying.specs.declared.emptying.Emptying.{Emptying}
-use Rattle.log_ties.specs.cleaner_log_tie.Owner as cleaner_log
+use Rattle.cleaner_serving.specs.declared.emptying.Emptying.{Emptying}
+use Rattle.node_logs.specs.cleaner_log_tie.Owner as cleaner_log
 use Rattle.cleaner_node.specs.CleanerEvents.{takes}
 use Rattle.cleaner_node.specs.declared.cleaner.Cleaner.{Cleaner as CleanerNode}
 use Rattle.cleaner_node.specs.declared.cleaner.Phase as cleaning
 use Rattle.cleaner_node.specs.declared.cleaner.Phase.TheVariants.{Opening, Serving}
-use Rattle.cleaner_parts.specs.declared.lasting.Lasting.{Lasting}
+use Rattle.cleaner_job.specs.declared.lasting.Lasting.{Lasting}
 use Rattle.client_log.specs.Transition.{has_next}
-use Rattle.log_ties.specs.client_log_tie.ClientEvents.{ServesStraight}
-use Rattle.log_ties.specs.client_log_tie.Owner.{Scene}
+use Rattle.node_logs.specs.client_log_tie.ClientEvents.{ServesStraight}
+use Rattle.node_logs.specs.client_log_tie.Owner.{Scene}
 use Rattle.core_world.specs.declared.any_node.AnyNode.{AnyNode}
 use Rattle.index_tie.specs.Filed.{Filed}
 use Rattle.log_flight.specs.Flights.{FlightState}
@@ -24,11 +24,11 @@ use Rattle.log_owner.specs.declared.opening.Opening as openings
 use Rattle.log_protocol.specs.Tables.{In}
 use Rattle.log_tie.specs.Setting.{Setting}
 use Rattle.node_base.specs.declared.effects.Effect.{Effect}
-use Rattle.node_ties.proofs.owner_index_tie.Acting.{all_then}
-use Rattle.node_ties.specs.owner_index_tie.Acting.{IsFlight}
-use Rattle.node_ties.specs.owner_index_tie.CleanerEvents.{EffectOwed, EventGets, NewFor}
-use Rattle.node_ties.specs.owner_index_tie.CleanerMoves.{ItemMoves}
-use Rattle.node_ties.specs.owner_index_tie.Filing.{FilesOwed}
+use Rattle.node_slots.proofs.owner_index_tie.Acting.{all_then}
+use Rattle.node_slots.specs.owner_index_tie.Acting.{IsFlight}
+use Rattle.node_slots.specs.owner_index_tie.CleanerEvents.{EffectOwed, EventGets, NewFor}
+use Rattle.node_slots.specs.owner_index_tie.CleanerMoves.{ItemMoves}
+use Rattle.node_slots.specs.owner_index_tie.Filing.{FilesOwed}
 use Rattle.run_laws.specs.reopening_law.Openings.{EndsByOne}
 use Rattle.run_laws.specs.reopening_law.Reopens.{TellsApart}
 use Rattle.segment_format.specs.declared.segment.Segment.{Segment}

@@ -1,12 +1,12 @@
 -- What the cleaner gets: its log is linked from the horizon of an epoch that is polled, and the segment that it reads for its job is the filed one.
 use Rattle.std.proofs.Common.{◌≡◌, ◌≤◌, ℕ, false, List, Option, None, Some, refl, sym, ap, subst, ◌∙◌, arith}
-use Rattle.cleaner_emptying.specs.declared.emptying.Emptying.{Emptying}
-use Rattle.cleaner_emptying.specs.Jobs.{told_by, told_in}
+use Rattle.cleaner_serving.specs.declared.emptying.Emptying.{Emptying}
+use Rattle.cleaner_serving.specs.Jobs.{told_by, told_in}
 use Rattle.cleaner_node.specs.declared.cleaner.Cleaner.{Cleaner as CleanerNode}
 use Rattle.cleaner_node.specs.declared.cleaner.Phase as cleaning
 use Rattle.cleaner_node.specs.declared.cleaner.Phase.TheVariants.{Down, Opening, Serving}
-use Rattle.cleaner_parts.specs.declared.job.Job.{Job}
-use Rattle.cleaner_parts.specs.Jobs.{hand_of}
+use Rattle.cleaner_job.specs.declared.job.Job.{Job}
+use Rattle.cleaner_job.specs.Jobs.{hand_of}
 use Rattle.core_world.specs.declared.any_node.AnyNode.{AnyNode}
 use Rattle.core_world.specs.declared.any_node.AnyNode.TheVariants as any
 use Rattle.index_tie.specs.Takeovers.{of_log}
@@ -16,13 +16,13 @@ use Rattle.log_owner.specs.Promised.{epoch_of}
 use Rattle.log_owner.specs.Sending.{server_in}
 use Rattle.log_scan.specs.Transition.{least_horizon}
 use Rattle.log_tie.specs.Setting.{Setting}
-use Rattle.node_ties.specs.owner_index_tie.CleanerEvents.{EmptyingSeen, JobAgrees, PhaseAgrees, PollGets, ReadGets}
+use Rattle.node_slots.specs.owner_index_tie.CleanerEvents.{EmptyingSeen, JobAgrees, PhaseAgrees, PollGets, ReadGets}
 use Rattle.run_laws.specs.place_law.Copies.{HasJob}
 use Rattle.run_laws.specs.place_law.Hands.{AnswerReads, HandsReadTexts}
 use Rattle.run_laws.specs.reading_law.Readings.{ReadingsCame, cuts_at}
-use Rattle.telling_ties.specs.reading_tie.Arrivals.{answered_in, cut_by}
-use Rattle.telling_ties.specs.reading_tie.CleanerMeets.{AnyJobMet, HandMet, JobMet, NodeMet, PhaseMet, listed_in}
-use Rattle.telling_ties.specs.reading_tie.CleanerReads.{PhaseHolds, ServesSo}
+use Rattle.node_tellings.specs.reading_tie.Arrivals.{answered_in, cut_by}
+use Rattle.node_tellings.specs.reading_tie.CleanerMeets.{AnyJobMet, HandMet, JobMet, NodeMet, PhaseMet, listed_in}
+use Rattle.node_tellings.specs.reading_tie.CleanerReads.{PhaseHolds, ServesSo}
 use Rattle.registry.specs.Board.{all_news}
 use Rattle.segment_format.specs.declared.segment.Segment.{Segment}
 use Rattle.segment_reading.specs.declared.reading.Next.TheVariants as next

@@ -12,7 +12,7 @@ use Rattle.index_tie.specs.Takeovers.{of_log}
 use Rattle.log_protocol.proofs.IndexInduction.{index_in_bounds_always}
 use Rattle.log_protocol.specs.IndexBoundLaws.{IndexInBounds}
 use Rattle.log_scan.specs.Transition.{horizon_of, least_horizon}
-use Rattle.node_ties.specs.node_index_tie.RegistryEvents.{RegistryAgrees}
+use Rattle.node_slots.specs.node_index_tie.RegistryEvents.{RegistryAgrees}
 use Rattle.registry.specs.Board.{all_news, slot_news}
 use Rattle.registry.specs.BoardState.{BoardState}
 use Rattle.segment_format.specs.declared.segment.Segment.{Segment}

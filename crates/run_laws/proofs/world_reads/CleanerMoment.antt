@@ -2,15 +2,15 @@
 use Rattle.std.proofs.Common.{◌≡◌, ℕ, suc, ◌++◌, Some, refl, sym, ap, subst, ◌∙◌}
 use Rattle.cleaner_node.specs.CleanerEvents.{cleaner_step, takes}
 use Rattle.cleaner_node.specs.declared.cleaner.Cleaner.{Cleaner as CleanerNode}
-use Rattle.log_ties.specs.client_log_tie.Owner.{Scene}
+use Rattle.node_logs.specs.client_log_tie.Owner.{Scene}
 use Rattle.core_world.specs.declared.any_node.AnyNode.{AnyNode}
 use Rattle.core_world.specs.declared.any_node.AnyNode.TheVariants as any
 use Rattle.log_law.specs.Laws.{Moment}
 use Rattle.log_law.specs.Restarts.{IsSureRun}
 use Rattle.log_tie.specs.Setting.{Setting}
 use Rattle.node_base.specs.Effects.{acts_of}
-use Rattle.node_ties.specs.node_tie.CleanerLogs.{its_log}
-use Rattle.node_ties.specs.owner_index_tie.CleanerEvents.{CleanerAgrees}
+use Rattle.node_slots.specs.node_tie.CleanerLogs.{its_log}
+use Rattle.node_slots.specs.owner_index_tie.CleanerEvents.{CleanerAgrees}
 use Rattle.segment_format.specs.declared.segment.Segment.{Segment}
 use Rattle.run_laws.specs.segment_tie.Cleaners.{CleanerWrites}
 use Rattle.wire_msg.specs.declared.packet.Do.{Do}

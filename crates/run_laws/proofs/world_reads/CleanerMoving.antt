@@ -2,12 +2,12 @@
 use Rattle.std.proofs.Common.{◌≡◌, ⊎_elim, ℕ, suc, false, List, Option, Some, None, slice_get, refl, sym, ap, subst, ◌∙◌}
 use Rattle.std.specs.Prelude.{IfSome}
 use Rattle.std.specs.List.{AllByRecursion}
-use Rattle.log_ties.specs.cleaner_log_tie.Owner as cleaner_log
+use Rattle.node_logs.specs.cleaner_log_tie.Owner as cleaner_log
 use Rattle.cleaner_node.specs.declared.cleaner.Cleaner.{Cleaner as CleanerNode}
 use Rattle.cleaner_node.specs.declared.cleaner.Phase as cleaning
 use Rattle.cleaner_node.specs.declared.cleaner.Phase.TheVariants.{Down, Opening, Serving}
 use Rattle.client_log.specs.LogState.{LogState}
-use Rattle.log_ties.specs.client_log_tie.Owner.{SeesStage}
+use Rattle.node_logs.specs.client_log_tie.Owner.{SeesStage}
 use Rattle.core_world.specs.declared.any_node.AnyNode.{AnyNode}
 use Rattle.index_tie.specs.Net.{Net, Packet}
 use Rattle.log_flight.specs.Flights.{FlightState}
@@ -20,9 +20,9 @@ use Rattle.log_owner.specs.declared.opening.Stage as stages
 use Rattle.log_owner.specs.declared.opening.Stage.TheVariants as stage
 use Rattle.log_protocol.specs.Tables.{In}
 use Rattle.log_tie.specs.Setting.{Setting}
-use Rattle.log_ties.proofs.node_log_tie.Others.{same_or_other}
-use Rattle.node_ties.specs.owner_index_tie.CleanerEvents.{CleanerAgrees}
-use Rattle.node_ties.specs.owner_index_tie.CleanerMoves.{CleanerMoves, ItemMoves}
+use Rattle.node_logs.proofs.node_log_tie.Others.{same_or_other}
+use Rattle.node_slots.specs.owner_index_tie.CleanerEvents.{CleanerAgrees}
+use Rattle.node_slots.specs.owner_index_tie.CleanerMoves.{CleanerMoves, ItemMoves}
 use Rattle.run_laws.specs.reopening_law.Flights.{OthersLeaveFlights}
 use Rattle.segment_format.specs.declared.segment.Item.{Item}
 use Rattle.segment_format.specs.declared.segment.Item.TheVariants.{Block, Delta, Part}

@@ -5,7 +5,7 @@ use Rattle.std.proofs.lemmas.Bool.Decides.{nat_tests}
 use Rattle.std.proofs.lemmas.Option.{slice_get_within}
 use Rattle.std.specs.Prelude.{Contains}
 use Rattle.std.specs.List.{filter_map}
-use Rattle.client_parts.specs.Reads.{value_at, value_in}
+use Rattle.client_call.specs.Reads.{value_at, value_in}
 use Rattle.run_laws.proofs.index_reads.Rows.{deltas_are_said}
 use Rattle.index_tie.specs.Filed.{Filed}
 use Rattle.log_protocol.specs.Tables.{In}

@@ -2,16 +2,16 @@
 use Rattle.std.proofs.Common.{◌≡◌, ◌≤◌, ◌<◌, ◌-◌, ℕ, suc, nat_le, Bool, true, false, List, Some, refl, sym, ap, subst, ◌∙◌, arith}
 use Rattle.std.specs.List.{AllByRecursion}
 use Rattle.std.proofs.lemmas.Bool.{leb-true}
-use Rattle.cleaner_emptying.specs.declared.emptying.Emptying.{Emptying}
-use Rattle.log_ties.specs.cleaner_log_tie.Owner as cleaner_log
+use Rattle.cleaner_serving.specs.declared.emptying.Emptying.{Emptying}
+use Rattle.node_logs.specs.cleaner_log_tie.Owner as cleaner_log
 use Rattle.cleaner_node.specs.CleanerEvents.{Went_to, happens, lasting_of, phase_room, takes}
 use Rattle.cleaner_node.specs.declared.cleaner.Cleaner.{Cleaner as CleanerNode}
 use Rattle.cleaner_node.specs.declared.cleaner.Phase as cleaning
 use Rattle.cleaner_node.specs.declared.cleaner.Phase.TheVariants.{Down, Opening, Serving}
-use Rattle.cleaner_parts.specs.declared.lasting.Lasting.{Lasting}
-use Rattle.cleaner_parts.specs.Lasting.{lasting_room}
-use Rattle.log_ties.specs.client_log_tie.ClientEvents.{ServesStraight}
-use Rattle.log_ties.specs.client_log_tie.Owner.{Scene, SeesStage}
+use Rattle.cleaner_job.specs.declared.lasting.Lasting.{Lasting}
+use Rattle.cleaner_job.specs.Lasting.{lasting_room}
+use Rattle.node_logs.specs.client_log_tie.ClientEvents.{ServesStraight}
+use Rattle.node_logs.specs.client_log_tie.Owner.{Scene, SeesStage}
 use Rattle.core_world.specs.declared.any_node.AnyNode.{AnyNode}
 use Rattle.core_world.specs.declared.any_node.AnyNode.TheVariants as any
 use Rattle.index_tie.proofs.Tables.{second_of}
@@ -24,11 +24,11 @@ use Rattle.log_owner.specs.declared.opening.Stage.TheVariants as stage
 use Rattle.log_tie.specs.Setting.{Setting}
 use Rattle.node_base.specs.declared.effects.Effect.{Effect}
 use Rattle.node_base.specs.Room.{has_room}
-use Rattle.node_ties.specs.node_tie.CleanerEvents.{CleanerGoes, CleanerTakes}
-use Rattle.node_ties.specs.node_tie.CleanerEvents as token
-use Rattle.node_ties.specs.owner_index_tie.CleanerEvents.{EffectOwed, EventGets, NewFor, ReopensOn}
-use Rattle.node_ties.specs.owner_index_tie.CleanerMoves.{ItemMoves}
-use Rattle.node_ties.specs.owner_index_tie.Filing.{FilesOwed}
+use Rattle.node_slots.specs.node_tie.CleanerEvents.{CleanerGoes, CleanerTakes}
+use Rattle.node_slots.specs.node_tie.CleanerEvents as token
+use Rattle.node_slots.specs.owner_index_tie.CleanerEvents.{EffectOwed, EventGets, NewFor, ReopensOn}
+use Rattle.node_slots.specs.owner_index_tie.CleanerMoves.{ItemMoves}
+use Rattle.node_slots.specs.owner_index_tie.Filing.{FilesOwed}
 use Rattle.run_laws.specs.reading_law.Readings.{ReadingsCame}
 use Rattle.run_laws.specs.reopening_law.Reopens.{TellsApart}
 use Rattle.segment_format.specs.declared.segment.Segment.{Segment}

@@ -1,13 +1,13 @@
 -- What the cleaner's job reads was filed: a server listed it, and it is below the least horizon of its log; and it is referred to with its group.
 use Rattle.std.proofs.Common.{◌≡◌, ◌≤◌, ◌<◌, ℕ, false, List, Option, None, Some, inl, inr, refl, sym, ap, subst, ◌∙◌, arith}
 use Rattle.std.specs.Prelude.{IfSome}
-use Rattle.log_ties.specs.cleaner_log_tie.Owner as cleaner_log
-use Rattle.log_ties.specs.client_log_tie.Owner.{Scene}
-use Rattle.cleaner_emptying.specs.declared.emptying.Emptying.{Emptying}
+use Rattle.node_logs.specs.cleaner_log_tie.Owner as cleaner_log
+use Rattle.node_logs.specs.client_log_tie.Owner.{Scene}
+use Rattle.cleaner_serving.specs.declared.emptying.Emptying.{Emptying}
 use Rattle.cleaner_node.specs.declared.cleaner.Cleaner.{Cleaner as CleanerNode}
 use Rattle.cleaner_node.specs.declared.cleaner.Phase.TheVariants.{Serving}
-use Rattle.cleaner_parts.specs.declared.hand.Hand.{Hand}
-use Rattle.cleaner_parts.specs.declared.job.Job.{Job}
+use Rattle.cleaner_job.specs.declared.hand.Hand.{Hand}
+use Rattle.cleaner_job.specs.declared.job.Job.{Job}
 use Rattle.core_world.specs.declared.any_node.AnyNode.{AnyNode}
 use Rattle.core_world.specs.declared.any_node.AnyNode.TheVariants as any
 use Rattle.index_tie.specs.Cleaning.{IsWithin}
@@ -17,9 +17,9 @@ use Rattle.log_scan.specs.Transition.{least_horizon}
 use Rattle.log_tie.specs.Setting.{Setting}
 use Rattle.log_law.specs.Held.{WhatIsListedFlew}
 use Rattle.log_law.specs.Net.{Net}
-use Rattle.log_ties.specs.node_log_tie.CleanerEvents.{CleanerSeen, DropOfLog, EmptyingSeen, JobPhaseSeen, JobSeen, MayDrop}
+use Rattle.node_logs.specs.node_log_tie.CleanerEvents.{CleanerSeen, DropOfLog, EmptyingSeen, JobPhaseSeen, JobSeen, MayDrop}
 use Rattle.run_laws.specs.place_law.Hands.{HandRefers, ReadsWithin}
-use Rattle.telling_ties.specs.reading_tie.CleanerMeets.{HandMet, PhaseMet, listed_in}
+use Rattle.node_tellings.specs.reading_tie.CleanerMeets.{HandMet, PhaseMet, listed_in}
 use Rattle.registry.specs.Board.{all_news}
 use Rattle.segment_format.specs.declared.segment.Segment.{Segment}
 use Rattle.stripe_cleaner.specs.declared.phase.Phase.{Phase}

@@ -3,17 +3,17 @@
 use Rattle.std.proofs.Common.{◌≡◌, ◌≤◌, ℕ, suc, List, [], ◌∷◌, refl, sym, ap, subst, ◌∙◌, arith}
 use Rattle.std.specs.List.{AllByRecursion, filter_map}
 use Rattle.std.proofs.lemmas.Option.{unwrap_or-slice_get}
-use Rattle.cleaner_emptying.specs.declared.emptying.Emptying.{Emptying}
-use Rattle.log_ties.specs.cleaner_log_tie.Owner as cleaner_log
+use Rattle.cleaner_serving.specs.declared.emptying.Emptying.{Emptying}
+use Rattle.node_logs.specs.cleaner_log_tie.Owner as cleaner_log
 use Rattle.cleaner_node.specs.CleanerEvents.{takes}
 use Rattle.cleaner_node.specs.declared.cleaner.Cleaner.{Cleaner as CleanerNode}
 use Rattle.cleaner_node.specs.declared.cleaner.Phase as cleaning
 use Rattle.cleaner_node.specs.declared.cleaner.Phase.TheVariants.{Opening, Serving}
-use Rattle.cleaner_parts.specs.declared.lasting.Lasting.{Lasting}
+use Rattle.cleaner_job.specs.declared.lasting.Lasting.{Lasting}
 use Rattle.client_log.specs.LogState.{LogState}
-use Rattle.log_ties.specs.client_log_tie.ClientEvents.{ServesStraight}
-use Rattle.log_ties.specs.client_log_tie.Owner.{Scene, SeesLog}
-use Rattle.client_parts.specs.Crash.{flight_of}
+use Rattle.node_logs.specs.client_log_tie.ClientEvents.{ServesStraight}
+use Rattle.node_logs.specs.client_log_tie.Owner.{Scene, SeesLog}
+use Rattle.client_call.specs.Crash.{flight_of}
 use Rattle.core_world.specs.declared.any_node.AnyNode.{AnyNode}
 use Rattle.log_law.specs.Events.{Runs}
 use Rattle.log_law.specs.Events.Runs.{On}
@@ -26,11 +26,11 @@ use Rattle.log_owner.specs.declared.opening.Opening as openings
 use Rattle.log_owner.specs.Opened.{names_in}
 use Rattle.log_owner.specs.Promised.{epoch_of}
 use Rattle.log_tie.specs.Setting.{Setting}
-use Rattle.node_ties.specs.node_index_tie.Sight.{RowsFit}
-use Rattle.node_ties.specs.node_tie.CleanerEvents.{CleanerGoes, CleanerStands, ServesSo}
-use Rattle.node_ties.specs.node_tie.CleanerLogs.{ReopensAt}
-use Rattle.node_ties.specs.owner_index_tie.CleanerEvents.{ReopensOn}
-use Rattle.node_ties.specs.owner_index_tie.Owners.{EndOwed, ReadBack}
+use Rattle.node_slots.specs.node_index_tie.Sight.{RowsFit}
+use Rattle.node_slots.specs.node_tie.CleanerEvents.{CleanerGoes, CleanerStands, ServesSo}
+use Rattle.node_slots.specs.node_tie.CleanerLogs.{ReopensAt}
+use Rattle.node_slots.specs.owner_index_tie.CleanerEvents.{ReopensOn}
+use Rattle.node_slots.specs.owner_index_tie.Owners.{EndOwed, ReadBack}
 use Rattle.run_laws.specs.reopening_law.Openings.{EndsByOne, EndsSo, OpeningsEndByOne, comes_to}
 use Rattle.run_laws.specs.reopening_law.Reopens.{AreTextsThere, BooksThen, FiledOf, Reopens, ReopeningsReadBack, TellsApart, TheCleanerReopensSo, has_flight}
 use Rattle.segment_format.specs.declared.segment.Segment.{Segment}

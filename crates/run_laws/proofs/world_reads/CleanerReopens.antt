@@ -1,12 +1,12 @@
 -- Where the cleaner's log is open again: what it read back is what was filed, and the log is open as the books of tokens are.
 use Rattle.std.proofs.Common.{◌≡◌, ℕ, Bool, true, false, Option, None, Some, if◌then◌else◌, refl, sym, ap}
-use Rattle.cleaner_emptying.specs.declared.emptying.Emptying.{Emptying}
+use Rattle.cleaner_serving.specs.declared.emptying.Emptying.{Emptying}
 use Rattle.cleaner_node.specs.CleanerEvents.{after_opening, happens, hears, on_begin, on_deliver, on_time, opening_at, opening_wishes, phase_room, takes}
 use Rattle.cleaner_node.specs.CleanerEvents as events
 use Rattle.cleaner_node.specs.declared.cleaner.Phase.TheVariants.{Opening, Serving}
 use Rattle.cleaner_node.specs.declared.cleaner.Wish.{Wish}
 use Rattle.cleaner_node.specs.declared.cleaner.Wish.TheVariants.{Crash, Restart, Clean}
-use Rattle.cleaner_parts.specs.declared.lasting.Lasting.{Lasting}
+use Rattle.cleaner_job.specs.declared.lasting.Lasting.{Lasting}
 use Rattle.log_owner.specs.declared.opened.Opened.{Opened}
 use Rattle.log_owner.specs.declared.opened.Progress.{Progress}
 use Rattle.log_owner.specs.declared.opened.Progress.TheVariants as progress

@@ -11,7 +11,7 @@ use Rattle.log_law.specs.Restarts.{EndsRestart, IsSureRun, last_flight}
 use Rattle.log_law.specs.Tails.{ARestartFilesTheTail, TellsOnlyTheTail}
 use Rattle.log_protocol.specs.Tables.{In}
 use Rattle.log_tie.specs.Setting.{Setting}
-use Rattle.node_ties.specs.node_index_tie.Sight.{AreTexts, Texts}
+use Rattle.node_slots.specs.node_index_tie.Sight.{AreTexts, Texts}
 use Rattle.run_laws.specs.reopening_law.Reopens.{TellsApart}
 use Rattle.segment_format.specs.declared.segment.Item.{Item}
 use Rattle.segment_format.specs.declared.segment.Item.TheVariants.{Block, Delta, Part}

@@ -1,15 +1,15 @@
 -- What the small world of tokens is owed of the cleaner: where its log is opened again it is so as the books are, and what is answered Live is a copy.
 use Rattle.std.proofs.Common.{◌≡◌, ◌<◌, ℕ, suc, Bool, true, List, if◌then◌else◌, refl, sym, ap, subst, ◌∙◌, arith}
-use Rattle.cleaner_emptying.specs.declared.emptying.Emptying.{Emptying}
-use Rattle.cleaner_emptying.specs.EmptyingEvents.{served}
+use Rattle.cleaner_serving.specs.declared.emptying.Emptying.{Emptying}
+use Rattle.cleaner_serving.specs.EmptyingEvents.{served}
 use Rattle.cleaner_node.specs.CleanerEvents.{after_opening, happens, hears, on_deliver, on_time, phase_room, says_back, takes}
 use Rattle.cleaner_node.specs.declared.cleaner.Cleaner.{Cleaner as CleanerNode}
 use Rattle.cleaner_node.specs.declared.cleaner.Phase as cleaning
 use Rattle.cleaner_node.specs.declared.cleaner.Phase.TheVariants.{Opening, Serving}
-use Rattle.cleaner_parts.specs.declared.lasting.Lasting.{Lasting}
-use Rattle.log_ties.specs.client_log_tie.ClientEvents.{ServesStraight}
+use Rattle.cleaner_job.specs.declared.lasting.Lasting.{Lasting}
+use Rattle.node_logs.specs.client_log_tie.ClientEvents.{ServesStraight}
 use Rattle.core_world.specs.declared.any_node.AnyNode.{AnyNode}
-use Rattle.telling_ties.specs.entry_tie.Told as entries
+use Rattle.node_tellings.specs.entry_tie.Told as entries
 use Rattle.index_tie.specs.Filed.{rows_at}
 use Rattle.log_owner.specs.declared.opened.Opened.{Opened}
 use Rattle.log_owner.specs.declared.opened.Progress.{Progress}
@@ -19,9 +19,9 @@ use Rattle.log_owner.specs.Opening as opening
 use Rattle.log_tie.specs.Setting.{Setting}
 use Rattle.node_base.specs.declared.peers.Peers.{Peers}
 use Rattle.node_base.specs.Shape.{is_well_formed}
-use Rattle.node_ties.specs.node_index_tie.Sight.{held_in}
-use Rattle.node_ties.proofs.node_tie.SmallWorld.{with_promise}
-use Rattle.node_ties.specs.node_tie.CleanerLogs.{LiveTold, ReopensAt}
+use Rattle.node_slots.specs.node_index_tie.Sight.{held_in}
+use Rattle.node_slots.proofs.node_tie.SmallWorld.{with_promise}
+use Rattle.node_slots.specs.node_tie.CleanerLogs.{LiveTold, ReopensAt}
 use Rattle.run_laws.specs.place_law.Copies.{AreExact, AsksOfHand, HasJob, LivesAnswer, LivesTellCopies}
 use Rattle.run_laws.specs.index_reads.Ties.{Tied}
 use Rattle.run_laws.specs.reopening_law.Openings.{comes_to}

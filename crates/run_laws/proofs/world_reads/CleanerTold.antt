@@ -1,14 +1,14 @@
 -- What the small world of tokens is owed of an event of the cleaner it gets: where an opening ends in it its log is open as the books are, and a Live that
 -- comes tells a copy.
 use Rattle.std.proofs.Common.{◌≡◌, ℕ, Bool, true, false, List, refl, sym, ap, subst, ◌∙◌}
-use Rattle.cleaner_emptying.specs.declared.emptying.Emptying.{Emptying}
+use Rattle.cleaner_serving.specs.declared.emptying.Emptying.{Emptying}
 use Rattle.cleaner_node.specs.CleanerEvents.{takes}
 use Rattle.cleaner_node.specs.declared.cleaner.Cleaner.{Cleaner as CleanerNode}
 use Rattle.cleaner_node.specs.declared.cleaner.Phase as cleaning
 use Rattle.cleaner_node.specs.declared.cleaner.Phase.TheVariants.{Down, Opening, Serving}
-use Rattle.cleaner_parts.specs.declared.lasting.Lasting.{Lasting}
+use Rattle.cleaner_job.specs.declared.lasting.Lasting.{Lasting}
 use Rattle.client_log.specs.LogState.{LogState}
-use Rattle.client_parts.specs.Crash.{flight_of}
+use Rattle.client_call.specs.Crash.{flight_of}
 use Rattle.core_world.specs.AnyNode.{any_start, any_step}
 use Rattle.core_world.specs.declared.any_node.AnyNode.{AnyNode}
 use Rattle.core_world.specs.declared.any_node.AnyNode.TheVariants as any
@@ -21,8 +21,8 @@ use Rattle.log_owner.specs.declared.opened.Progress.TheVariants as progress
 use Rattle.log_owner.specs.declared.opening.Opening as openings
 use Rattle.log_tie.specs.Setting.{Setting}
 use Rattle.node_base.specs.Setups.{IsSetup}
-use Rattle.node_ties.specs.node_tie.CleanerEvents as token
-use Rattle.node_ties.specs.node_tie.CleanerLogs.{CleanerTold, EndsAt, PacketTold, ReopensAt, ServingTold}
+use Rattle.node_slots.specs.node_tie.CleanerEvents as token
+use Rattle.node_slots.specs.node_tie.CleanerLogs.{CleanerTold, EndsAt, PacketTold, ReopensAt, ServingTold}
 use Rattle.run_laws.specs.place_law.Answers.{RunsAnswer}
 use Rattle.run_laws.specs.place_law.Copies.{LivesTellCopies}
 use Rattle.run_laws.specs.reopening_law.Openings.{comes_to}

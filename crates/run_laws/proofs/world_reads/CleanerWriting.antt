@@ -5,7 +5,7 @@ use Rattle.cleaner_node.specs.declared.cleaner.Cleaner.{Cleaner as CleanerNode}
 use Rattle.core_world.specs.declared.any_node.AnyNode.{AnyNode}
 use Rattle.index_tie.specs.Net.{Net}
 use Rattle.log_tie.specs.Setting.{Setting}
-use Rattle.node_ties.specs.owner_index_tie.CleanerEvents.{WritesTexts}
+use Rattle.node_slots.specs.owner_index_tie.CleanerEvents.{WritesTexts}
 use Rattle.segment_format.specs.declared.segment.Segment.{Segment}
 use Rattle.wire_msg.specs.declared.packet.Do.{Do}
 use Rattle.world_base.specs.declared.estate.Estate.{Estate}

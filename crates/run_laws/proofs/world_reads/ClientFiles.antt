@@ -3,9 +3,9 @@ use Rattle.std.proofs.Common.{◌≡◌, ◌⊎◌, ⊎_elim, ◌≤◌, ◌<◌
 use Rattle.std.specs.List.{filter_map}
 use Rattle.std.specs.Prelude.{IfSome}
 use Rattle.client_log.specs.LogState.{LogState}
-use Rattle.log_ties.specs.client_log_tie.ClientEvents.{ServesStraight}
-use Rattle.log_ties.specs.client_log_tie.Owner as client_log
-use Rattle.log_ties.specs.client_log_tie.Owner.{Scene, SeesStage}
+use Rattle.node_logs.specs.client_log_tie.ClientEvents.{ServesStraight}
+use Rattle.node_logs.specs.client_log_tie.Owner as client_log
+use Rattle.node_logs.specs.client_log_tie.Owner.{Scene, SeesStage}
 use Rattle.client_node.specs.declared.client.Client.{Client as ClientNode}
 use Rattle.client_node.specs.declared.phase.Phase.TheVariants as clients
 use Rattle.client_node.specs.declared.phase.Phase.{Phase}
@@ -31,14 +31,14 @@ use Rattle.log_protocol.specs.Tables.{In}
 use Rattle.log_tie.specs.Setting.{Setting}
 use Rattle.node_base.specs.declared.effects.Effect.{Effect}
 use Rattle.node_base.specs.declared.effects.Effect.TheVariants.{Send, Answer, Lose, Does}
-use Rattle.node_ties.specs.node_index_tie.Sight.{Texts as Named, held_in}
-use Rattle.node_ties.proofs.node_tie.SmallWorld.{with_promise}
-use Rattle.node_ties.specs.node_tie.LogRows.{rows_told}
-use Rattle.node_ties.proofs.owner_index_tie.Acting.{all_then}
-use Rattle.node_ties.proofs.owner_index_tie.Growing.{head_is}
-use Rattle.node_ties.specs.owner_index_tie.Acting.{IsFlight}
-use Rattle.node_ties.specs.owner_index_tie.ClientEvents.{ClientAgrees, EventGets, IsNewerAtSlot}
-use Rattle.node_ties.specs.owner_index_tie.Filing.{FilesOwed, after_act, after_effect, with_name}
+use Rattle.node_slots.specs.node_index_tie.Sight.{Texts as Named, held_in}
+use Rattle.node_slots.proofs.node_tie.SmallWorld.{with_promise}
+use Rattle.node_slots.specs.node_tie.LogRows.{rows_told}
+use Rattle.node_slots.proofs.owner_index_tie.Acting.{all_then}
+use Rattle.node_slots.proofs.owner_index_tie.Growing.{head_is}
+use Rattle.node_slots.specs.owner_index_tie.Acting.{IsFlight}
+use Rattle.node_slots.specs.owner_index_tie.ClientEvents.{ClientAgrees, EventGets, IsNewerAtSlot}
+use Rattle.node_slots.specs.owner_index_tie.Filing.{FilesOwed, after_act, after_effect, with_name}
 use Rattle.segment_format.specs.declared.segment.Segment.{Segment}
 use Rattle.segment_format.specs.Rows.{row_of, rows_of}
 use Rattle.version_model.specs.declared.act.Act.{Act}

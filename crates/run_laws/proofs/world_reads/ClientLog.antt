@@ -1,7 +1,7 @@
 -- An event of a client as the small world of its log sees it: how the client is seen there before and after, that its log is sure, and that what it acts to be
 -- filed is filed.
 use Rattle.std.proofs.Common.{◌≡◌, ◌<◌, ℕ, suc, Some, slice_get, refl, sym, ap, subst, ◌∙◌, arith}
-use Rattle.log_ties.specs.client_log_tie.Owner.{Scene}
+use Rattle.node_logs.specs.client_log_tie.Owner.{Scene}
 use Rattle.client_node.specs.declared.client.Client.{Client as ClientNode}
 use Rattle.client_node.specs.Phases.{Went_to, client_step, lasting_of, takes}
 use Rattle.core_world.specs.AnyNode.{any_step}

@@ -3,13 +3,13 @@
 use Rattle.std.proofs.Common.{◌≡◌, ◌≤◌, ℕ, suc, List, [], ◌∷◌, Option, Some, IfSome, refl, sym, ap, subst, ◌∙◌, arith}
 use Rattle.std.specs.List.{AllByRecursion, filter_map}
 use Rattle.client_log.specs.LogState.{LogState}
-use Rattle.log_ties.specs.client_log_tie.Owner as client_log
-use Rattle.log_ties.specs.client_log_tie.Owner.{Scene}
+use Rattle.node_logs.specs.client_log_tie.Owner as client_log
+use Rattle.node_logs.specs.client_log_tie.Owner.{Scene}
 use Rattle.client_node.specs.declared.client.Client.{Client as ClientNode}
 use Rattle.client_node.specs.declared.phase.Phase.TheVariants as clients
 use Rattle.client_node.specs.declared.phase.Phase.{Phase}
 use Rattle.client_node.specs.Phases.{Went_to, takes}
-use Rattle.client_parts.specs.declared.lasting.Lasting.{Lasting}
+use Rattle.client_call.specs.declared.lasting.Lasting.{Lasting}
 use Rattle.client_serving.specs.declared.serving.Serving.{Serving as ServingClient}
 use Rattle.core_world.specs.declared.any_node.AnyNode.{AnyNode}
 use Rattle.core_world.specs.declared.any_node.AnyNode.TheVariants as any
@@ -27,10 +27,10 @@ use Rattle.log_owner.specs.declared.opening.Stage.{Stage}
 use Rattle.log_owner.specs.declared.opening.Stage.TheVariants as stage
 use Rattle.log_scan.specs.Transition.{least_horizon}
 use Rattle.log_tie.specs.Setting.{Setting}
-use Rattle.node_ties.specs.node_index_tie.Sight.{RowsFit}
-use Rattle.log_ties.specs.node_log_tie.RegistryEvents.{RegistrySeen}
-use Rattle.node_ties.specs.owner_index_tie.ClientEvents.{BodyGets, ClientOwed, EventGets, PacketGets, PollGets, ReopensOn, WritesTexts}
-use Rattle.node_ties.specs.owner_index_tie.Owners.{EndOwed}
+use Rattle.node_slots.specs.node_index_tie.Sight.{RowsFit}
+use Rattle.node_logs.specs.node_log_tie.RegistryEvents.{RegistrySeen}
+use Rattle.node_slots.specs.owner_index_tie.ClientEvents.{BodyGets, ClientOwed, EventGets, PacketGets, PollGets, ReopensOn, WritesTexts}
+use Rattle.node_slots.specs.owner_index_tie.Owners.{EndOwed}
 use Rattle.registry.specs.Board.{all_news}
 use Rattle.run_laws.specs.reopening_law.Reopens.{FiledOf, Reopens}
 use Rattle.segment_format.specs.declared.segment.Item.{Item}

@@ -1,18 +1,18 @@
 -- What an event of a client is owed to the small world of tokens: what it reads of the place of a fetch is what the filed segment there says, and a reopening
 -- that ends opens its log as the books do.
 use Rattle.std.proofs.Common.{◌≡◌, ◌≤◌, ℕ, List, Some, refl, sym, ap, subst, ◌∙◌, arith}
-use Rattle.log_ties.specs.client_log_tie.Owner as client_log
-use Rattle.log_ties.specs.client_log_tie.Owner.{Scene}
+use Rattle.node_logs.specs.client_log_tie.Owner as client_log
+use Rattle.node_logs.specs.client_log_tie.Owner.{Scene}
 use Rattle.client_node.specs.declared.client.Client.{Client as ClientNode}
 use Rattle.client_node.specs.declared.phase.Phase.TheVariants as clients
 use Rattle.client_node.specs.declared.phase.Phase.{Phase}
 use Rattle.client_node.specs.Phases.{Went_to, takes}
-use Rattle.client_parts.specs.declared.lasting.Lasting.{Lasting}
+use Rattle.client_call.specs.declared.lasting.Lasting.{Lasting}
 use Rattle.client_serving.specs.declared.serving.Serving.{Serving as ServingClient}
 use Rattle.core_world.specs.declared.any_node.AnyNode.{AnyNode}
 use Rattle.core_world.specs.declared.any_node.AnyNode.TheVariants as any
-use Rattle.telling_ties.specs.entry_tie.ClientTells as entries
-use Rattle.telling_ties.specs.entry_tie.Told.{told_by_rows}
+use Rattle.node_tellings.specs.entry_tie.ClientTells as entries
+use Rattle.node_tellings.specs.entry_tie.Told.{told_by_rows}
 use Rattle.index_tie.specs.Filed.{Filed, rows_at}
 use Rattle.log_law.specs.Events.{Runs}
 use Rattle.log_law.specs.Laws.{Moment}
@@ -23,13 +23,13 @@ use Rattle.log_owner.specs.declared.opened.Progress.TheVariants as progress
 use Rattle.log_owner.specs.declared.opening.Opening.{Opening}
 use Rattle.log_protocol.specs.Tables.{In}
 use Rattle.log_tie.specs.Setting.{Setting}
-use Rattle.node_ties.specs.node_tie.ClientEvents.{EndsInTime, ReadsSo}
-use Rattle.node_ties.specs.node_tie.ClientLogs.{EndsSo, ReopensSo}
+use Rattle.node_slots.specs.node_tie.ClientEvents.{EndsInTime, ReadsSo}
+use Rattle.node_slots.specs.node_tie.ClientLogs.{EndsSo, ReopensSo}
 use Rattle.run_laws.specs.place_law.Fetches.{FetchesReadThere, PhaseReadsItsFetch}
 use Rattle.run_laws.specs.place_law.Reads.{FiledKnown}
 use Rattle.run_laws.specs.reading_law.Readings.{cuts_at}
-use Rattle.telling_ties.specs.reading_tie.Arrivals.{answered_in, cut_by}
-use Rattle.telling_ties.specs.reading_tie.ClientReads as readers
+use Rattle.node_tellings.specs.reading_tie.Arrivals.{answered_in, cut_by}
+use Rattle.node_tellings.specs.reading_tie.ClientReads as readers
 use Rattle.run_laws.specs.reopening_law.Falls.{FallKnown, FellWith}
 use Rattle.run_laws.specs.reopening_law.Flights.{LastFlew}
 use Rattle.run_laws.specs.reopening_law.Openings as reopening

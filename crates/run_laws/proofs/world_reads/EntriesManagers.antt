@@ -4,10 +4,10 @@ use Rattle.std.proofs.lemmas.Option.{slice_get_within}
 use Rattle.std.specs.Prelude.{IfSome}
 use Rattle.std.specs.List.{AllByRecursion, flat_map}
 use Rattle.core_world.specs.declared.any_node.AnyNode.{AnyNode}
-use Rattle.telling_ties.proofs.entry_tie.Frames.{all_filter_map}
-use Rattle.telling_ties.proofs.entry_tie.Rising.{rows_rise, told_more}
-use Rattle.telling_ties.specs.entry_tie.ManagerTells.{AnswerOwed, BodyOwed, DoOwed, ManagerOwed, PacketOwed, PartTold, SlotOwed}
-use Rattle.telling_ties.specs.entry_tie.Told.{AreMore, FiledRows, RowTold, RowsTold, Told as EntryTold, told_by_rows}
+use Rattle.node_tellings.proofs.entry_tie.Frames.{all_filter_map}
+use Rattle.node_tellings.proofs.entry_tie.Rising.{rows_rise, told_more}
+use Rattle.node_tellings.specs.entry_tie.ManagerTells.{AnswerOwed, BodyOwed, DoOwed, ManagerOwed, PacketOwed, PartTold, SlotOwed}
+use Rattle.node_tellings.specs.entry_tie.Told.{AreMore, FiledRows, RowTold, RowsTold, Told as EntryTold, told_by_rows}
 use Rattle.index_tie.specs.Filed.{IsFiled, IsNoPart, rows_at}
 use Rattle.index_tie.specs.Net.{Net}
 use Rattle.log_owner.specs.Sending.{server_in}
@@ -16,15 +16,15 @@ use Rattle.manager_node.specs.declared.manager.Manager.{Manager as ManagerNode}
 use Rattle.manager_node.specs.declared.phase.Phase.{Phase}
 use Rattle.manager_node.specs.declared.phase.Phase.TheVariants as managing
 use Rattle.manager_node.specs.Events.{manager_step}
-use Rattle.manager_parts.specs.declared.slot_phase.SlotPhase.{SlotPhase}
-use Rattle.manager_parts.specs.declared.slot_phase.SlotPhase.TheVariants as phase
-use Rattle.manager_parts.specs.declared.slot_phase.Taking.{Taking}
-use Rattle.manager_parts.specs.Slots.{fetch_of}
+use Rattle.manager_slots.specs.declared.slot_phase.SlotPhase.{SlotPhase}
+use Rattle.manager_slots.specs.declared.slot_phase.SlotPhase.TheVariants as phase
+use Rattle.manager_slots.specs.declared.slot_phase.Taking.{Taking}
+use Rattle.manager_slots.specs.Slots.{fetch_of}
 use Rattle.manager_serving.specs.declared.serving.Serving.{Serving}
-use Rattle.node_ties.specs.node_index_tie.ManagerEvents.{AbsentGets, FoundGets, ManagerAgrees, PhaseAgrees, TakingAgrees, completes_at, completes_in}
-use Rattle.node_ties.specs.node_index_tie.Pages.{Desk, desk_of}
-use Rattle.node_ties.specs.node_index_tie.Sight.{AreTexts, IsRead, Questions}
-use Rattle.node_ties.specs.node_tie.ManagerEvents.{phase_at, slot_in}
+use Rattle.node_slots.specs.node_index_tie.ManagerEvents.{AbsentGets, FoundGets, ManagerAgrees, PhaseAgrees, TakingAgrees, completes_at, completes_in}
+use Rattle.node_slots.specs.node_index_tie.Pages.{Desk, desk_of}
+use Rattle.node_slots.specs.node_index_tie.Sight.{AreTexts, IsRead, Questions}
+use Rattle.node_slots.specs.node_tie.ManagerEvents.{phase_at, slot_in}
 use Rattle.segment_format.specs.declared.segment.Item.{Item}
 use Rattle.segment_format.specs.declared.segment.Item.TheVariants.{Block, Delta, Part}
 use Rattle.segment_format.specs.declared.segment.Segment.{Segment}

@@ -9,16 +9,16 @@ use Rattle.core_world.specs.declared.any_node.AnyNode.TheVariants as any
 use Rattle.manager_node.specs.declared.manager.Manager.{Manager as ManagerNode}
 use Rattle.manager_node.specs.declared.phase.Phase.{Phase}
 use Rattle.manager_node.specs.declared.phase.Phase.TheVariants as managing
-use Rattle.manager_parts.specs.declared.slot_phase.SlotPhase.{SlotPhase}
-use Rattle.manager_parts.specs.declared.slot_phase.SlotPhase.TheVariants as phase
+use Rattle.manager_slots.specs.declared.slot_phase.SlotPhase.{SlotPhase}
+use Rattle.manager_slots.specs.declared.slot_phase.SlotPhase.TheVariants as phase
 use Rattle.node_base.specs.declared.effects.Effect.{Effect}
 use Rattle.node_base.specs.declared.effects.Effect.TheVariants.{Send, Answer, Lose, Does}
 use Rattle.node_base.specs.Effects.{packet_of, packets_of}
-use Rattle.node_ties.specs.node_tie.ManagerEvents.{phase_at, slot_in}
-use Rattle.telling_ties.proofs.part_tie.Managers as managers
-use Rattle.telling_ties.proofs.part_tie.Registries as registries
-use Rattle.telling_ties.specs.part_tie.ManagerNames.{ManagerNames, PhaseFlies, PhaseNames, SlotNames}
-use Rattle.telling_ties.specs.part_tie.Names.{AllKnown, BodyNames, DoNames, Known, NewsNames, PacketNames}
+use Rattle.node_slots.specs.node_tie.ManagerEvents.{phase_at, slot_in}
+use Rattle.node_tellings.proofs.part_tie.Managers as managers
+use Rattle.node_tellings.proofs.part_tie.Registries as registries
+use Rattle.node_tellings.specs.part_tie.ManagerNames.{ManagerNames, PhaseFlies, PhaseNames, SlotNames}
+use Rattle.node_tellings.specs.part_tie.Names.{AllKnown, BodyNames, DoNames, Known, NewsNames, PacketNames}
 use Rattle.script_text.specs.declared.script.Script.{Script}
 use Rattle.store_nodes.specs.ServerEvents.{takes as server_takes}
 use Rattle.token_protocol.specs.Basics.{In}

@@ -7,9 +7,9 @@ use Rattle.client_log.specs.LogState.{LogState}
 use Rattle.client_log.specs.Transition.{end_from}
 use Rattle.core_world.specs.AnyNode.{any_step}
 use Rattle.core_world.specs.declared.any_node.AnyNode.{AnyNode}
-use Rattle.telling_ties.proofs.entry_tie.Frames.{contains_all}
-use Rattle.telling_ties.specs.entry_tie.ClientTells.{FlightOwed, SegmentOwed}
-use Rattle.telling_ties.specs.entry_tie.Told.{RowTold, RowsTold, told_by_rows}
+use Rattle.node_tellings.proofs.entry_tie.Frames.{contains_all}
+use Rattle.node_tellings.specs.entry_tie.ClientTells.{FlightOwed, SegmentOwed}
+use Rattle.node_tellings.specs.entry_tie.Told.{RowTold, RowsTold, told_by_rows}
 use Rattle.index_tie.specs.Filed.{Filed, rows_at}
 use Rattle.log_flight.specs.Flights.{FlightState}
 use Rattle.log_law.specs.Held.{OwnerFlew, WhatFlewIsOfTheLog, WhatIsHeldFlew}

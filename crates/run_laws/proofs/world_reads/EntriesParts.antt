@@ -3,9 +3,9 @@ use Rattle.std.proofs.Common.{◌≡◌, ⊎_elim, ℕ, suc, List, [], ◌∷◌
 use Rattle.std.specs.List.{AllByRecursion}
 use Rattle.std.specs.Prelude.{Contains}
 use Rattle.core_world.specs.declared.any_node.AnyNode.{AnyNode}
-use Rattle.telling_ties.proofs.entry_tie.Rising.{rows_rise, told_more}
-use Rattle.telling_ties.specs.entry_tie.ManagerTells.{PartTold}
-use Rattle.telling_ties.specs.entry_tie.Told.{AreMore, FiledRows, told_by_rows}
+use Rattle.node_tellings.proofs.entry_tie.Rising.{rows_rise, told_more}
+use Rattle.node_tellings.specs.entry_tie.ManagerTells.{PartTold}
+use Rattle.node_tellings.specs.entry_tie.Told.{AreMore, FiledRows, told_by_rows}
 use Rattle.log_tie.specs.Setting.{Setting}
 use Rattle.segment_format.specs.declared.segment.Item.{Item}
 use Rattle.segment_format.specs.declared.segment.Item.TheVariants.{Block, Delta, Part}

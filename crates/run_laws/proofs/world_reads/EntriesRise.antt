@@ -5,12 +5,12 @@ use Rattle.std.specs.Prelude.{Contains}
 use Rattle.core_world.specs.AnyNode.{any_start}
 use Rattle.core_world.specs.declared.any_node.AnyNode.{AnyNode}
 use Rattle.core_world.specs.declared.any_node.AnyNode.TheVariants as any
-use Rattle.telling_ties.proofs.entry_tie.Rising.{rows_rise, told_more}
-use Rattle.telling_ties.specs.entry_tie.CleanerTells.{CleanerHoldsRise, CleanerStartsTold, CleanerTellsTold}
-use Rattle.telling_ties.specs.entry_tie.ClientTells.{ClientHoldsRise, ClientStartsTold, ClientsTellTold}
-use Rattle.telling_ties.specs.entry_tie.ManagerTells.{ManagerHoldsRise, ManagerStartsTold, ManagersTellTold}
-use Rattle.telling_ties.specs.entry_tie.OtherTells.{RegistryTellsNone, ServersTellNone}
-use Rattle.telling_ties.specs.entry_tie.Told.{AreMore, BodyTold, FiledRows, told_by_rows}
+use Rattle.node_tellings.proofs.entry_tie.Rising.{rows_rise, told_more}
+use Rattle.node_tellings.specs.entry_tie.CleanerTells.{CleanerHoldsRise, CleanerStartsTold, CleanerTellsTold}
+use Rattle.node_tellings.specs.entry_tie.ClientTells.{ClientHoldsRise, ClientStartsTold, ClientsTellTold}
+use Rattle.node_tellings.specs.entry_tie.ManagerTells.{ManagerHoldsRise, ManagerStartsTold, ManagersTellTold}
+use Rattle.node_tellings.specs.entry_tie.OtherTells.{RegistryTellsNone, ServersTellNone}
+use Rattle.node_tellings.specs.entry_tie.Told.{AreMore, BodyTold, FiledRows, told_by_rows}
 use Rattle.index_tie.proofs.Rows.{by_filed}
 use Rattle.index_tie.proofs.Tables.{first_of}
 use Rattle.index_tie.specs.Filed.{Filed, rows_at}

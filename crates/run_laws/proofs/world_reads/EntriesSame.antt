@@ -2,7 +2,7 @@
 use Rattle.std.proofs.Common.{◌≡◌, ◌≤◌, ◌<◌, ℕ, false, refl, sym, ap, subst, ◌∙◌, arith}
 use Rattle.std.specs.Prelude.{Contains}
 use Rattle.core_world.specs.declared.any_node.AnyNode.{AnyNode}
-use Rattle.telling_ties.specs.entry_tie.Told.{AreMore}
+use Rattle.node_tellings.specs.entry_tie.Told.{AreMore}
 use Rattle.index_tie.proofs.Rows.{by_filed}
 use Rattle.index_tie.specs.Filed.{Filed, rows_at}
 use Rattle.log_law.specs.Net.{Net}

@@ -7,10 +7,10 @@ use Rattle.client_node.specs.Phases.{client_step}
 use Rattle.core_world.specs.AnyNode.{any_step}
 use Rattle.core_world.specs.declared.any_node.AnyNode.{AnyNode}
 use Rattle.core_world.specs.declared.any_node.AnyNode.TheVariants as any
-use Rattle.telling_ties.specs.entry_tie.CleanerTells.{CleanerOwed}
-use Rattle.telling_ties.specs.entry_tie.ClientTells.{ClientOwed}
-use Rattle.telling_ties.specs.entry_tie.ManagerTells.{ManagerOwed}
-use Rattle.telling_ties.specs.entry_tie.Told.{DoTold, FiledRows, PacketTold, told_by_rows}
+use Rattle.node_tellings.specs.entry_tie.CleanerTells.{CleanerOwed}
+use Rattle.node_tellings.specs.entry_tie.ClientTells.{ClientOwed}
+use Rattle.node_tellings.specs.entry_tie.ManagerTells.{ManagerOwed}
+use Rattle.node_tellings.specs.entry_tie.Told.{DoTold, FiledRows, PacketTold, told_by_rows}
 use Rattle.manager_node.specs.Events.{manager_step}
 use Rattle.token_protocol.specs.Basics.{In}
 use Rattle.version_model.specs.declared.act.Act.{Act}

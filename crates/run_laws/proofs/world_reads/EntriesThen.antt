@@ -1,13 +1,13 @@
 -- What is told of where blocks lie stays told over an event of a run: each node that takes one files and reads what is told.
 use Rattle.std.proofs.Common.{◌≡◌, ◌<◌, ◌+◌, ℕ, suc, true, false, List, Option, Some, slice_get, refl, sym, ap, subst, ◌∙◌, arith}
 use Rattle.std.specs.Prelude.{Contains, IfSome}
-use Rattle.log_ties.specs.cleaner_log_tie.Owner as cleaner_log
+use Rattle.node_logs.specs.cleaner_log_tie.Owner as cleaner_log
 use Rattle.cleaner_node.specs.CleanerEvents.{cleaner_step}
 use Rattle.cleaner_node.specs.declared.cleaner.Cleaner.{Cleaner as CleanerNode}
 use Rattle.cleaner_node.specs.declared.cleaner.Phase as cleaners
 use Rattle.cleaner_node.specs.declared.cleaner.Phase.TheVariants as cleaning
-use Rattle.log_ties.specs.client_log_tie.Owner as client_log
-use Rattle.log_ties.specs.client_log_tie.Owner.{Scene, SeesStage}
+use Rattle.node_logs.specs.client_log_tie.Owner as client_log
+use Rattle.node_logs.specs.client_log_tie.Owner.{Scene, SeesStage}
 use Rattle.client_node.specs.declared.client.Client.{Client as ClientNode}
 use Rattle.client_node.specs.declared.phase.Phase as clients
 use Rattle.client_node.specs.declared.phase.Phase.TheVariants as client
@@ -16,12 +16,12 @@ use Rattle.core_world.specs.AnyNode.{any_start, any_step}
 use Rattle.core_world.specs.declared.any_node.AnyNode.{AnyNode}
 use Rattle.core_world.specs.declared.any_node.AnyNode.TheVariants as any
 use Rattle.client_log.specs.Transition.{end_from}
-use Rattle.telling_ties.specs.entry_tie.CleanerTells as cleaner_entries
-use Rattle.telling_ties.specs.entry_tie.CleanerTells.{CleanerOwed}
-use Rattle.telling_ties.specs.entry_tie.ClientTells as client_entries
-use Rattle.telling_ties.specs.entry_tie.ClientTells.{ClientOwed, StageOwed}
-use Rattle.telling_ties.specs.entry_tie.ManagerTells.{FlightHolds, ManagerOwed, PhaseHolds}
-use Rattle.telling_ties.specs.entry_tie.Told.{AreMore, Told, told_by_rows}
+use Rattle.node_tellings.specs.entry_tie.CleanerTells as cleaner_entries
+use Rattle.node_tellings.specs.entry_tie.CleanerTells.{CleanerOwed}
+use Rattle.node_tellings.specs.entry_tie.ClientTells as client_entries
+use Rattle.node_tellings.specs.entry_tie.ClientTells.{ClientOwed, StageOwed}
+use Rattle.node_tellings.specs.entry_tie.ManagerTells.{FlightHolds, ManagerOwed, PhaseHolds}
+use Rattle.node_tellings.specs.entry_tie.Told.{AreMore, Told, told_by_rows}
 use Rattle.index_tie.proofs.Runs.{good_in}
 use Rattle.index_tie.specs.Filed.{Filed, rows_at}
 use Rattle.index_tie.specs.Growth.{IsMore}
@@ -33,15 +33,15 @@ use Rattle.log_owner.specs.declared.opening.Stage.{Stage}
 use Rattle.log_owner.specs.declared.opening.Stage.TheVariants as stage
 use Rattle.log_owner.specs.Sending.{name_of}
 use Rattle.log_tie.specs.Setting.{Setting}
-use Rattle.log_ties.specs.manager_log_tie.Owner as manager_log
+use Rattle.node_logs.specs.manager_log_tie.Owner as manager_log
 use Rattle.manager_node.specs.declared.manager.Manager.{Manager as ManagerNode}
 use Rattle.manager_node.specs.declared.phase.Phase as managers
 use Rattle.manager_node.specs.declared.phase.Phase.TheVariants as managing
 use Rattle.manager_node.specs.Events.{manager_step}
-use Rattle.manager_parts.specs.Lasting.{log_of}
-use Rattle.node_ties.specs.node_index_tie.ManagerEvents.{ManagerAgrees}
-use Rattle.node_ties.specs.node_index_tie.Sight.{held_in}
-use Rattle.telling_ties.specs.part_tie.ManagerNames.{PhaseFlies}
+use Rattle.manager_slots.specs.Lasting.{log_of}
+use Rattle.node_slots.specs.node_index_tie.ManagerEvents.{ManagerAgrees}
+use Rattle.node_slots.specs.node_index_tie.Sight.{held_in}
+use Rattle.node_tellings.specs.part_tie.ManagerNames.{PhaseFlies}
 use Rattle.segment_format.specs.declared.segment.Segment.{Segment}
 use Rattle.token_protocol.specs.Basics.{In}
 use Rattle.version_model.specs.declared.act.Act.{Act}

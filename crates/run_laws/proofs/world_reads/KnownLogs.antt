@@ -10,9 +10,9 @@ use Rattle.log_law.specs.Held.{WhatIsListedFlew}
 use Rattle.log_protocol.specs.Tables.{In}
 use Rattle.log_tie.specs.Setting.{Setting}
 use Rattle.log_tie.specs.Shelves.{is_of_log}
-use Rattle.node_ties.specs.node_index_tie.Sight.{held_in}
-use Rattle.log_ties.proofs.node_log_tie.Lists.{in_filter}
-use Rattle.log_ties.specs.node_log_tie.Sight.{BodySeen}
+use Rattle.node_slots.specs.node_index_tie.Sight.{held_in}
+use Rattle.node_logs.proofs.node_log_tie.Lists.{in_filter}
+use Rattle.node_logs.specs.node_log_tie.Sight.{BodySeen}
 use Rattle.run_laws.specs.place_law.Reads.{FiledKnown, LogKnown}
 use Rattle.run_laws.specs.reading_law.Readings.{cut_of, cuts_at}
 use Rattle.segment_format.specs.declared.segment.Segment.{Segment}

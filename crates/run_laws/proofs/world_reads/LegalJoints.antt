@@ -4,7 +4,7 @@ use Rattle.act_tie.specs.BlockActs.{acts_of}
 use Rattle.act_tie.specs.Shown.{FallsApart}
 use Rattle.core_world.specs.declared.any_node.AnyNode.{AnyNode}
 use Rattle.log_tie.specs.Setting.{Setting}
-use Rattle.node_ties.proofs.node_tie.SmallWorld.{with_promise}
+use Rattle.node_slots.proofs.node_tie.SmallWorld.{with_promise}
 use Rattle.segment_format.specs.declared.segment.Segment.{Segment}
 use Rattle.token_law.specs.Laws.{ActsAreLegal}
 use Rattle.token_protocol.specs.Acts.{LegalActs}

@@ -12,14 +12,14 @@ use Rattle.log_law.specs.Places.{APlaceNamesOneContent}
 use Rattle.log_protocol.specs.Tables.{In}
 use Rattle.log_tie.specs.Setting.{Setting}
 use Rattle.log_tie.specs.Shelves.{is_of_log}
-use Rattle.log_ties.specs.node_log_tie.Sight.{BodySeen}
+use Rattle.node_logs.specs.node_log_tie.Sight.{BodySeen}
 use Rattle.run_laws.proofs.place_law.Joined.{HasFragment, has_fragment, joined}
 use Rattle.run_laws.proofs.place_law.Texts.{any_was_sent}
 use Rattle.run_laws.specs.place_law.Reads.{LogKnown, NamesItsGroup}
 use Rattle.run_laws.specs.reading_law.Readings.{cut_of, cuts_at}
-use Rattle.telling_ties.specs.reading_tie.Arrivals.{answered_in, cut_by}
-use Rattle.telling_ties.specs.reading_tie.Came.{AnswerCame, Came, IsOfName, ReadsJoined, Striped}
-use Rattle.telling_ties.specs.reading_tie.TakeoverReads.{LeadsDown, ReadsDown, to_any}
+use Rattle.node_tellings.specs.reading_tie.Arrivals.{answered_in, cut_by}
+use Rattle.node_tellings.specs.reading_tie.Came.{AnswerCame, Came, IsOfName, ReadsJoined, Striped}
+use Rattle.node_tellings.specs.reading_tie.TakeoverReads.{LeadsDown, ReadsDown, to_any}
 use Rattle.segment_format.specs.declared.segment.Segment.{Segment}
 use Rattle.takeover.specs.declared.source.Source.{Source}
 use Rattle.takeover.specs.Sources.{back_from, goes_back, prior_of}

@@ -4,18 +4,18 @@ use Rattle.std.proofs.Common.{◌≡◌, ◌<◌, true, ℕ, suc, Some, slice_ge
 use Rattle.core_world.specs.AnyNode.{any_step}
 use Rattle.core_world.specs.declared.any_node.AnyNode.{AnyNode}
 use Rattle.core_world.specs.declared.any_node.AnyNode.TheVariants as any
-use Rattle.log_ties.specs.client_log_tie.Owner.{Scene}
+use Rattle.node_logs.specs.client_log_tie.Owner.{Scene}
 use Rattle.run_laws.specs.epoch_law.Managers.{TokensAreGiven}
 use Rattle.run_laws.specs.epoch_law.Slots.{BothStand}
 use Rattle.log_tie.specs.Setting.{Setting}
-use Rattle.log_ties.specs.manager_log_tie.Owner as manager_log
+use Rattle.node_logs.specs.manager_log_tie.Owner as manager_log
 use Rattle.manager_node.specs.declared.manager.Manager.{Manager as ManagerNode}
 use Rattle.manager_node.specs.Events.{happens, manager_step}
-use Rattle.node_ties.specs.node_index_tie.ManagerEvents as places
-use Rattle.node_ties.specs.node_index_tie.ManagerEvents.{WritesTexts}
+use Rattle.node_slots.specs.node_index_tie.ManagerEvents as places
+use Rattle.node_slots.specs.node_index_tie.ManagerEvents.{WritesTexts}
 use Rattle.run_laws.specs.reading_law.Readings.{ReadingsCame, cuts_at}
-use Rattle.telling_ties.specs.reading_tie.Arrivals.{answered_in, cut_by}
-use Rattle.telling_ties.specs.reading_tie.ManagerReads.{ManagerHolds}
+use Rattle.node_tellings.specs.reading_tie.Arrivals.{answered_in, cut_by}
+use Rattle.node_tellings.specs.reading_tie.ManagerReads.{ManagerHolds}
 use Rattle.segment_format.specs.declared.segment.Segment.{Segment}
 use Rattle.token_protocol.specs.Basics.{In}
 use Rattle.wire_msg.specs.declared.packet.Do.{Do}

@@ -9,14 +9,14 @@ use Rattle.log_tie.specs.Setting.{Setting}
 use Rattle.manager_node.specs.declared.manager.Manager.{Manager as ManagerNode}
 use Rattle.manager_node.specs.declared.phase.Phase.{Phase}
 use Rattle.manager_node.specs.declared.phase.Phase.TheVariants.{Down, Waiting, Serving as Serves}
-use Rattle.manager_parts.specs.declared.slot_phase.SlotPhase.TheVariants as phase
-use Rattle.manager_parts.specs.declared.slot_phase.Taking.{Taking}
-use Rattle.node_ties.specs.node_index_tie.ManagerEvents as places
-use Rattle.node_ties.specs.node_index_tie.Pages.{desk_of}
-use Rattle.node_ties.specs.node_tie.ManagerEvents.{slot_in}
+use Rattle.manager_slots.specs.declared.slot_phase.SlotPhase.TheVariants as phase
+use Rattle.manager_slots.specs.declared.slot_phase.Taking.{Taking}
+use Rattle.node_slots.specs.node_index_tie.ManagerEvents as places
+use Rattle.node_slots.specs.node_index_tie.Pages.{desk_of}
+use Rattle.node_slots.specs.node_tie.ManagerEvents.{slot_in}
 use Rattle.run_laws.specs.reading_law.Readings.{ReadingsCame}
-use Rattle.telling_ties.specs.reference_tie.Managers.{PhaseRefers, ReportRefers, SlotRefers, TakeRefers}
-use Rattle.telling_ties.specs.reference_tie.References.{References}
+use Rattle.node_tellings.specs.reference_tie.Managers.{PhaseRefers, ReportRefers, SlotRefers, TakeRefers}
+use Rattle.node_tellings.specs.reference_tie.References.{References}
 use Rattle.segment_format.specs.declared.segment.Segment.{Segment}
 use Rattle.takeover.specs.declared.report.Report.{Report as Heard}
 use Rattle.takeover.specs.Reports.{writer_of}

@@ -14,19 +14,19 @@ use Rattle.manager_node.specs.declared.manager.Manager.{Manager as ManagerNode}
 use Rattle.manager_node.specs.declared.phase.Phase.{Phase}
 use Rattle.manager_node.specs.declared.phase.Phase.TheVariants.{Down, Waiting, Serving as Serves}
 use Rattle.manager_node.specs.Events.{happens}
-use Rattle.manager_parts.specs.declared.slot_phase.SlotPhase.{SlotPhase}
-use Rattle.manager_parts.specs.declared.slot_phase.SlotPhase.TheVariants as phase
-use Rattle.manager_parts.specs.declared.slot_phase.Taking.{Taking}
+use Rattle.manager_slots.specs.declared.slot_phase.SlotPhase.{SlotPhase}
+use Rattle.manager_slots.specs.declared.slot_phase.SlotPhase.TheVariants as phase
+use Rattle.manager_slots.specs.declared.slot_phase.Taking.{Taking}
 use Rattle.manager_serving.specs.declared.serving.Serving.{Serving}
-use Rattle.node_ties.specs.node_index_tie.ManagerEvents.{AbsentGets, FoundGets, completes_at, completes_in}
-use Rattle.node_ties.specs.node_index_tie.Sight.{IsRead}
-use Rattle.node_ties.specs.node_tie.ManagerEvents.{phase_at, slot_in}
+use Rattle.node_slots.specs.node_index_tie.ManagerEvents.{AbsentGets, FoundGets, completes_at, completes_in}
+use Rattle.node_slots.specs.node_index_tie.Sight.{IsRead}
+use Rattle.node_slots.specs.node_tie.ManagerEvents.{phase_at, slot_in}
 use Rattle.run_laws.specs.place_law.Reads.{TakeoversReadTexts}
 use Rattle.run_laws.specs.reading_law.Readings.{cuts_at}
-use Rattle.telling_ties.specs.reading_tie.Arrivals.{AnsweredIn, Tells, answered_in, cut_by}
-use Rattle.telling_ties.specs.reading_tie.Came.{ReadsJoined}
-use Rattle.telling_ties.specs.reading_tie.ManagerReads.{PhaseHolds, SlotHolds}
-use Rattle.telling_ties.specs.reading_tie.TakeoverReads.{PresentHolds, StandsBy, TakeHolds, TakeoversReadWhatCame, to_any}
+use Rattle.node_tellings.specs.reading_tie.Arrivals.{AnsweredIn, Tells, answered_in, cut_by}
+use Rattle.node_tellings.specs.reading_tie.Came.{ReadsJoined}
+use Rattle.node_tellings.specs.reading_tie.ManagerReads.{PhaseHolds, SlotHolds}
+use Rattle.node_tellings.specs.reading_tie.TakeoverReads.{PresentHolds, StandsBy, TakeHolds, TakeoversReadWhatCame, to_any}
 use Rattle.segment_format.specs.declared.segment.Segment.{Segment}
 use Rattle.segment_reading.specs.Reading.{ReadingState}
 use Rattle.stripe_code.specs.declared.round.Told.{Told}

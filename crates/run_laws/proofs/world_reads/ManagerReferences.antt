@@ -5,10 +5,10 @@ use Rattle.core_world.specs.AnyNode.{any_start}
 use Rattle.core_world.specs.declared.any_node.AnyNode.{AnyNode}
 use Rattle.core_world.specs.declared.any_node.AnyNode.TheVariants as any
 use Rattle.log_tie.specs.Setting.{Setting}
-use Rattle.telling_ties.proofs.reference_tie.Managers.{managers_start}
-use Rattle.telling_ties.proofs.reference_tie.Registries.{registry_starts}
-use Rattle.telling_ties.proofs.reference_tie.Rising.{managers_rise, packets_rise, registry_rises}
-use Rattle.telling_ties.specs.reference_tie.References.{References, Weaker}
+use Rattle.node_tellings.proofs.reference_tie.Managers.{managers_start}
+use Rattle.node_tellings.proofs.reference_tie.Registries.{registry_starts}
+use Rattle.node_tellings.proofs.reference_tie.Rising.{managers_rise, packets_rise, registry_rises}
+use Rattle.node_tellings.specs.reference_tie.References.{References, Weaker}
 use Rattle.segment_format.specs.declared.segment.Segment.{Segment}
 use Rattle.token_protocol.specs.Basics.{In}
 use Rattle.version_model.specs.declared.work.Work.{Work}

@@ -4,15 +4,15 @@ use Rattle.std.proofs.Common.{◌≡◌, ◌⊎◌, ◌+◌, inl, inr, ⊎_elim,
 use Rattle.std.specs.Prelude.{IfSome}
 use Rattle.std.specs.List.{AllByRecursion}
 use Rattle.checkpoint.specs.Transition.{part_at}
-use Rattle.cleaner_emptying.specs.declared.emptying.Emptying.{Emptying}
-use Rattle.log_ties.specs.cleaner_log_tie.Owner as cleaner_log
+use Rattle.cleaner_serving.specs.declared.emptying.Emptying.{Emptying}
+use Rattle.node_logs.specs.cleaner_log_tie.Owner as cleaner_log
 use Rattle.cleaner_node.specs.declared.cleaner.Cleaner.{Cleaner as CleanerNode}
 use Rattle.cleaner_node.specs.declared.cleaner.Phase as cleaning_phase
 use Rattle.cleaner_node.specs.declared.cleaner.Phase.TheVariants as cleaning
 use Rattle.client_log.specs.LogState.{LogState}
 use Rattle.client_log.specs.Transition.{end_from}
-use Rattle.log_ties.specs.client_log_tie.Owner as client_log
-use Rattle.log_ties.specs.client_log_tie.Owner.{Scene, SeesLog}
+use Rattle.node_logs.specs.client_log_tie.Owner as client_log
+use Rattle.node_logs.specs.client_log_tie.Owner.{Scene, SeesLog}
 use Rattle.client_node.specs.declared.client.Client.{Client as ClientNode}
 use Rattle.client_node.specs.declared.phase.Phase as client_phase
 use Rattle.client_node.specs.declared.phase.Phase.TheVariants as clients
@@ -29,7 +29,7 @@ use Rattle.log_law.specs.Laws.{LogsStayWhole}
 use Rattle.log_law.specs.Net.{no_end}
 use Rattle.log_protocol.specs.Tables as tables
 use Rattle.log_tie.specs.Setting.{Setting}
-use Rattle.log_ties.specs.manager_log_tie.Owner as manager_log
+use Rattle.node_logs.specs.manager_log_tie.Owner as manager_log
 use Rattle.manager_node.specs.declared.manager.Manager.{Manager as ManagerNode}
 use Rattle.manager_node.specs.declared.phase.Phase as manager_phase
 use Rattle.manager_node.specs.declared.phase.Phase.TheVariants as managers
@@ -37,15 +37,15 @@ use Rattle.manager_serving.specs.declared.serving.Serving.{Serving}
 use Rattle.node_base.specs.declared.effects.Effect.{Effect}
 use Rattle.node_base.specs.declared.effects.Effect.TheVariants.{Send, Answer, Lose, Does}
 use Rattle.node_base.specs.Effects.{packets_of}
-use Rattle.node_ties.specs.node_index_tie.ManagerEvents as places
-use Rattle.node_ties.specs.owner_index_tie.ServerEvents.{DoesNothing, SaysNothing, ServerEventGoes}
-use Rattle.telling_ties.proofs.reference_tie.Cleaners.{cleaner_reports}
-use Rattle.telling_ties.proofs.reference_tie.Clients.{clients_report}
-use Rattle.telling_ties.proofs.reference_tie.Managers.{managers_keep}
-use Rattle.telling_ties.proofs.reference_tie.Registries.{registry_keeps}
-use Rattle.telling_ties.specs.reference_tie.Managers.{FlightRefers, PhaseFlies}
-use Rattle.telling_ties.specs.reference_tie.Owners.{ReportsEnd, ReportsOf}
-use Rattle.telling_ties.specs.reference_tie.References.{BodyRefers, DoRefers, PacketRefers, References}
+use Rattle.node_slots.specs.node_index_tie.ManagerEvents as places
+use Rattle.node_slots.specs.owner_index_tie.ServerEvents.{DoesNothing, SaysNothing, ServerEventGoes}
+use Rattle.node_tellings.proofs.reference_tie.Cleaners.{cleaner_reports}
+use Rattle.node_tellings.proofs.reference_tie.Clients.{clients_report}
+use Rattle.node_tellings.proofs.reference_tie.Managers.{managers_keep}
+use Rattle.node_tellings.proofs.reference_tie.Registries.{registry_keeps}
+use Rattle.node_tellings.specs.reference_tie.Managers.{FlightRefers, PhaseFlies}
+use Rattle.node_tellings.specs.reference_tie.Owners.{ReportsEnd, ReportsOf}
+use Rattle.node_tellings.specs.reference_tie.References.{BodyRefers, DoRefers, PacketRefers, References}
 use Rattle.segment_format.specs.declared.segment.Segment.{Segment}
 use Rattle.store_nodes.specs.ServerEvents.{takes}
 use Rattle.token_protocol.specs.Basics.{In}

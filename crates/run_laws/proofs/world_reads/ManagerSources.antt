@@ -12,11 +12,11 @@ use Rattle.index_tie.specs.Filed.{Filed}
 use Rattle.index_tie.specs.Net.{Net}
 use Rattle.index_tie.specs.Takeovers.{IsEnd, of_log}
 use Rattle.log_tie.specs.Setting.{Setting}
-use Rattle.manager_parts.specs.declared.slot_phase.Taking.{Taking}
-use Rattle.node_ties.proofs.node_index_tie.Reading.{end_from_is}
-use Rattle.node_ties.specs.node_index_tie.ManagerEvents.{TakingAgrees}
-use Rattle.node_ties.specs.node_index_tie.Sight.{EndKnown, ReportKnown}
-use Rattle.node_ties.proofs.node_tie.ManagerTakes.{IsOnce, IsReady, took}
+use Rattle.manager_slots.specs.declared.slot_phase.Taking.{Taking}
+use Rattle.node_slots.proofs.node_index_tie.Reading.{end_from_is}
+use Rattle.node_slots.specs.node_index_tie.ManagerEvents.{TakingAgrees}
+use Rattle.node_slots.specs.node_index_tie.Sight.{EndKnown, ReportKnown}
+use Rattle.node_slots.proofs.node_tie.ManagerTakes.{IsOnce, IsReady, took}
 use Rattle.segment_format.specs.declared.segment.Segment.{Segment}
 use Rattle.takeover.specs.Course.{Course, after_input, after_inputs}
 use Rattle.takeover.specs.declared.input.In.{In as Input}

@@ -11,21 +11,21 @@ use Rattle.log_tie.specs.Setting.{Setting}
 use Rattle.manager_node.specs.declared.manager.Manager.{Manager as ManagerNode}
 use Rattle.manager_node.specs.declared.phase.Phase.{Phase}
 use Rattle.manager_node.specs.declared.phase.Phase.TheVariants.{Down, Waiting, Serving as Serves}
-use Rattle.manager_parts.specs.declared.slot_phase.Active.{Active}
-use Rattle.manager_parts.specs.declared.slot_phase.SlotPhase.{SlotPhase}
-use Rattle.manager_parts.specs.declared.slot_phase.SlotPhase.TheVariants as phase
-use Rattle.manager_parts.specs.declared.slot_phase.Taking.{Taking}
-use Rattle.manager_parts.specs.Slots.{epoch_of, fetch_of}
-use Rattle.manager_parts.specs.Takeovers.{report_input}
+use Rattle.manager_slots.specs.declared.slot_phase.Active.{Active}
+use Rattle.manager_slots.specs.declared.slot_phase.SlotPhase.{SlotPhase}
+use Rattle.manager_slots.specs.declared.slot_phase.SlotPhase.TheVariants as phase
+use Rattle.manager_slots.specs.declared.slot_phase.Taking.{Taking}
+use Rattle.manager_slots.specs.Slots.{epoch_of, fetch_of}
+use Rattle.manager_slots.specs.Takeovers.{report_input}
 use Rattle.manager_serving.specs.declared.serving.Serving.{Serving}
-use Rattle.node_ties.proofs.node_index_tie.Handing.{Owes}
-use Rattle.node_ties.specs.node_index_tie.ManagerEvents as places
-use Rattle.node_ties.specs.node_index_tie.Pages.{Desk, desk_of}
-use Rattle.node_ties.specs.node_index_tie.Sight.{ReportKnown, held_in}
-use Rattle.node_ties.proofs.node_tie.ManagerTakes.{Brings}
-use Rattle.node_ties.proofs.node_tie.SmallWorld.{with_promise}
-use Rattle.node_ties.specs.node_tie.ManagerEvents as owners
-use Rattle.node_ties.specs.node_tie.ManagerEvents.{phase_at, slot_in}
+use Rattle.node_slots.proofs.node_index_tie.Handing.{Owes}
+use Rattle.node_slots.specs.node_index_tie.ManagerEvents as places
+use Rattle.node_slots.specs.node_index_tie.Pages.{Desk, desk_of}
+use Rattle.node_slots.specs.node_index_tie.Sight.{ReportKnown, held_in}
+use Rattle.node_slots.proofs.node_tie.ManagerTakes.{Brings}
+use Rattle.node_slots.proofs.node_tie.SmallWorld.{with_promise}
+use Rattle.node_slots.specs.node_tie.ManagerEvents as owners
+use Rattle.node_slots.specs.node_tie.ManagerEvents.{phase_at, slot_in}
 use Rattle.segment_format.specs.declared.segment.Segment.{Segment}
 use Rattle.takeover.specs.declared.input.In.{In as Input}
 use Rattle.takeover.specs.declared.input.In.TheVariants.{Got, Missing as Lacks}

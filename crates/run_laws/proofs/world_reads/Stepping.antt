@@ -1,7 +1,7 @@
 -- What happens to the owner of a log between two counts of a run: only one that writes its opening segment comes to serve, and by one thing that happens.
 use Rattle.std.proofs.Common.{◌≡◌, Bool, true, false, Option, Some, None, refl, sym, ap, ◌∙◌}
 use Rattle.client_log.specs.LogState.{LogState}
-use Rattle.log_ties.specs.client_log_tie.ClientEvents.{IsOnce, ServesStraight}
+use Rattle.node_logs.specs.client_log_tie.ClientEvents.{IsOnce, ServesStraight}
 use Rattle.group_map.specs.GroupMapState.{GroupMapState}
 use Rattle.log_law.specs.Events.{Happens, Runs}
 use Rattle.log_law.specs.Events.Happens.{Acts, Writes, Opens, Crashes, Restarts, Renews, Serves, Bars, Lists, Hears, Raises, Publishes, Welcomes, Drops}

@@ -13,13 +13,13 @@ use Rattle.log_tie.specs.Setting.{Setting}
 use Rattle.node_base.specs.declared.effects.Effect.{Effect}
 use Rattle.node_base.specs.declared.effects.Effect.TheVariants.{Send, Answer, Lose, Does}
 use Rattle.node_base.specs.Effects.{acts_of}
-use Rattle.node_ties.specs.node_index_tie.Sight.{Questions, Texts as TextsOf}
-use Rattle.node_ties.proofs.owner_index_tie.Growing.{head_is, segment_is}
-use Rattle.node_ties.proofs.owner_index_tie.Running.{others_after}
-use Rattle.node_ties.specs.owner_index_tie.Acting.{ActSo, AllSo, EffectSo}
-use Rattle.node_ties.specs.owner_index_tie.CleanerEvents.{NewFor}
-use Rattle.node_ties.specs.owner_index_tie.ClientEvents.{IsNewerAtSlot}
-use Rattle.node_ties.specs.owner_index_tie.Filing.{FilesNext, FilesOwed, IsSameLog, OwedAct, OwedEffect, after_act, after_effect, filed_after, with_name}
+use Rattle.node_slots.specs.node_index_tie.Sight.{Questions, Texts as TextsOf}
+use Rattle.node_slots.proofs.owner_index_tie.Growing.{head_is, segment_is}
+use Rattle.node_slots.proofs.owner_index_tie.Running.{others_after}
+use Rattle.node_slots.specs.owner_index_tie.Acting.{ActSo, AllSo, EffectSo}
+use Rattle.node_slots.specs.owner_index_tie.CleanerEvents.{NewFor}
+use Rattle.node_slots.specs.owner_index_tie.ClientEvents.{IsNewerAtSlot}
+use Rattle.node_slots.specs.owner_index_tie.Filing.{FilesNext, FilesOwed, IsSameLog, OwedAct, OwedEffect, after_act, after_effect, filed_after, with_name}
 use Rattle.segment_format.specs.declared.segment.Segment.{Segment}
 use Rattle.token_protocol.specs.Basics.{In}
 use Rattle.version_model.specs.declared.act.Act.{Act}

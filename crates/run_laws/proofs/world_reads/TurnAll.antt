@@ -4,7 +4,7 @@ use Rattle.std.specs.List.{AllByRecursion}
 use Rattle.core_world.specs.AnyNode.{any_start, any_step}
 use Rattle.core_world.specs.declared.any_node.AnyNode.{AnyNode}
 use Rattle.log_tie.specs.Setting.{Setting}
-use Rattle.node_ties.specs.node_index_tie.Sight.{held_in}
+use Rattle.node_slots.specs.node_index_tie.Sight.{held_in}
 use Rattle.run_laws.specs.reopening_law.Reopens.{TellsApart}
 use Rattle.segment_format.specs.declared.segment.Segment.{Segment}
 use Rattle.run_laws.specs.segment_tie.Cleaners.{TellsVersion}

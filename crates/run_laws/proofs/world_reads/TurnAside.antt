@@ -13,11 +13,11 @@ use Rattle.log_tie.specs.Setting.{Setting}
 use Rattle.manager_node.specs.Events.{happens}
 use Rattle.manager_node.specs.Phases as managers
 use Rattle.node_base.specs.Effects.{acts_of}
-use Rattle.node_ties.proofs.node_tie.StoreFrames.{all_neutral}
-use Rattle.node_ties.specs.node_tie.CleanerEvents.{CleanerDoes, CleanerOwed}
-use Rattle.node_ties.specs.node_tie.ClientEvents.{ClientAgrees, ClientGoes, ClientOwed, ClientStands}
-use Rattle.node_ties.specs.node_tie.ManagerEvents.{EventGets as ManagerEventGets}
-use Rattle.node_ties.specs.node_tie.Sight.{ManagerDoes}
+use Rattle.node_slots.proofs.node_tie.StoreFrames.{all_neutral}
+use Rattle.node_slots.specs.node_tie.CleanerEvents.{CleanerDoes, CleanerOwed}
+use Rattle.node_slots.specs.node_tie.ClientEvents.{ClientAgrees, ClientGoes, ClientOwed, ClientStands}
+use Rattle.node_slots.specs.node_tie.ManagerEvents.{EventGets as ManagerEventGets}
+use Rattle.node_slots.specs.node_tie.Sight.{ManagerDoes}
 use Rattle.run_laws.specs.reopening_law.Falls.{IsAside}
 use Rattle.segment_format.specs.declared.segment.Segment.{Segment}
 use Rattle.store_nodes.specs.declared.server.Server.{Server as ServerNode}

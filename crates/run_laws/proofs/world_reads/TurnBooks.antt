@@ -4,11 +4,11 @@ use Rattle.core_world.specs.declared.any_node.AnyNode.{AnyNode}
 use Rattle.core_world.specs.declared.any_node.AnyNode.TheVariants as any
 use Rattle.index_tie.specs.Filed.{Filed}
 use Rattle.index_tie.specs.Net as index
-use Rattle.node_ties.specs.node_index_tie.Sight.{Texts}
-use Rattle.node_ties.specs.node_tie.CleanerLogs.{its_log}
-use Rattle.node_ties.specs.node_tie.Sight.{SameLog}
-use Rattle.node_ties.proofs.owner_index_tie.Running.{others_after}
-use Rattle.node_ties.specs.owner_index_tie.Filing.{IsSameLog}
+use Rattle.node_slots.specs.node_index_tie.Sight.{Texts}
+use Rattle.node_slots.specs.node_tie.CleanerLogs.{its_log}
+use Rattle.node_slots.specs.node_tie.Sight.{SameLog}
+use Rattle.node_slots.proofs.owner_index_tie.Running.{others_after}
+use Rattle.node_slots.specs.owner_index_tie.Filing.{IsSameLog}
 use Rattle.client_node.specs.Phases as clients
 use Rattle.cleaner_node.specs.CleanerEvents as cleaners
 use Rattle.token_law.specs.Books.{Books}

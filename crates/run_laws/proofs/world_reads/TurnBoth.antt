@@ -3,15 +3,15 @@ use Rattle.std.proofs.Common.{◌≡◌, ◌⊎◌, ℕ, suc, ◌<◌, Bool, tru
 use Rattle.core_world.specs.AnyNode.{any_step}
 use Rattle.core_world.specs.declared.any_node.AnyNode.{AnyNode}
 use Rattle.core_world.specs.declared.any_node.AnyNode.TheVariants as any
-use Rattle.cleaner_emptying.specs.declared.emptying.Emptying.{Emptying}
+use Rattle.cleaner_serving.specs.declared.emptying.Emptying.{Emptying}
 use Rattle.cleaner_node.specs.CleanerEvents as cleaners
 use Rattle.cleaner_node.specs.declared.cleaner.Phase.TheVariants.{Opening, Serving}
-use Rattle.cleaner_parts.specs.declared.lasting.Lasting.{Lasting}
+use Rattle.cleaner_job.specs.declared.lasting.Lasting.{Lasting}
 use Rattle.run_laws.specs.epoch_law.Managers.{TokensAreGiven}
 use Rattle.run_laws.specs.epoch_law.Slots.{BothStand, SameSlots, SlotsStaySame}
 use Rattle.log_owner.specs.declared.opening.Opening as openings
 use Rattle.log_tie.specs.Setting.{Setting}
-use Rattle.node_ties.specs.node_tie.RegistryEvents.{RegistrySound}
+use Rattle.node_slots.specs.node_tie.RegistryEvents.{RegistrySound}
 use Rattle.segment_format.specs.declared.segment.Segment.{Segment}
 use Rattle.token_protocol.specs.Basics.{In}
 use Rattle.version_model.specs.declared.act.Act.{Act}

@@ -1,16 +1,16 @@
 -- An event that the cleaner takes, in both small worlds of a slot and in that of its log: what is known of its log then.
 use Rattle.std.proofs.Common.{◌≡◌, ℕ, suc, ◌≤◌, ◌<◌, inr, ◌-◌, Bool, true, false, nat_le, List, Option, None, Some, IfSome, if◌then◌else◌, slice_get, refl, sym, ap, subst, ◌∙◌, arith}
 use Rattle.std.proofs.lemmas.Bool.{leb-true}
-use Rattle.cleaner_emptying.specs.declared.emptying.Emptying.{Emptying}
-use Rattle.log_ties.specs.cleaner_log_tie.Owner as log_tie
+use Rattle.cleaner_serving.specs.declared.emptying.Emptying.{Emptying}
+use Rattle.node_logs.specs.cleaner_log_tie.Owner as log_tie
 use Rattle.cleaner_node.specs.CleanerEvents.{Went_to, cleaner_step, happens, lasting_of, phase_room, takes}
 use Rattle.cleaner_node.specs.declared.cleaner.Cleaner.{Cleaner as CleanerNode}
 use Rattle.cleaner_node.specs.declared.cleaner.Phase.{Phase}
 use Rattle.cleaner_node.specs.declared.cleaner.Phase.TheVariants.{Down, Opening, Serving as Serves}
-use Rattle.cleaner_parts.specs.declared.lasting.Lasting.{Lasting}
-use Rattle.cleaner_parts.specs.Lasting.{lasting_room}
-use Rattle.log_ties.specs.client_log_tie.ClientEvents.{ServesStraight}
-use Rattle.log_ties.specs.client_log_tie.Owner.{Scene}
+use Rattle.cleaner_job.specs.declared.lasting.Lasting.{Lasting}
+use Rattle.cleaner_job.specs.Lasting.{lasting_room}
+use Rattle.node_logs.specs.client_log_tie.ClientEvents.{ServesStraight}
+use Rattle.node_logs.specs.client_log_tie.Owner.{Scene}
 use Rattle.core_world.specs.AnyNode.{any_step}
 use Rattle.core_world.specs.declared.any_node.AnyNode.{AnyNode}
 use Rattle.core_world.specs.declared.any_node.AnyNode.TheVariants as any
@@ -24,9 +24,9 @@ use Rattle.log_protocol.specs.Tables.{In}
 use Rattle.log_tie.specs.Setting.{Setting}
 use Rattle.node_base.specs.Room.{has_room}
 use Rattle.node_base.specs.declared.effects.Effect.{Effect}
-use Rattle.node_ties.specs.node_tie.CleanerEvents.{CleanerStands}
-use Rattle.node_ties.specs.node_tie.CleanerLogs.{CleanerCopies, its_log}
-use Rattle.node_ties.specs.owner_index_tie.CleanerEvents as owner
+use Rattle.node_slots.specs.node_tie.CleanerEvents.{CleanerStands}
+use Rattle.node_slots.specs.node_tie.CleanerLogs.{CleanerCopies, its_log}
+use Rattle.node_slots.specs.owner_index_tie.CleanerEvents as owner
 use Rattle.run_laws.specs.reopening_law.Reopens.{TellsApart}
 use Rattle.segment_format.specs.declared.segment.Segment.{Segment}
 use Rattle.run_laws.specs.segment_tie.Cleaners.{CleanerWrites}

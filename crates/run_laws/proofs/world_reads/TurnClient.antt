@@ -1,8 +1,8 @@
 -- An event that a client takes, in both small worlds of a slot and in that of its log: what is known of its log then, and what is known of its fall.
 use Rattle.std.proofs.Common.{◌≡◌, ℕ, suc, ◌++◌, true, List, Option, None, Some, IfSome, slice_get, refl, sym, ap, subst, ◌∙◌}
-use Rattle.log_ties.specs.client_log_tie.ClientEvents.{ServesStraight}
-use Rattle.log_ties.specs.client_log_tie.Owner as log_tie
-use Rattle.log_ties.specs.client_log_tie.Owner.{Scene}
+use Rattle.node_logs.specs.client_log_tie.ClientEvents.{ServesStraight}
+use Rattle.node_logs.specs.client_log_tie.Owner as log_tie
+use Rattle.node_logs.specs.client_log_tie.Owner.{Scene}
 use Rattle.client_node.specs.declared.client.Client.{Client as ClientNode}
 use Rattle.client_node.specs.declared.phase.Phase.TheVariants.{Serving as Serves}
 use Rattle.client_node.specs.Phases.{client_step, lasting_of, takes}
@@ -21,8 +21,8 @@ use Rattle.log_protocol.specs.Tables.{In}
 use Rattle.log_tie.specs.Setting.{Setting}
 use Rattle.node_base.specs.Effects.{acts_of}
 use Rattle.node_base.specs.declared.effects.Effect.{Effect}
-use Rattle.node_ties.specs.node_tie.ClientEvents as tokens
-use Rattle.node_ties.specs.owner_index_tie.ClientEvents as owner
+use Rattle.node_slots.specs.node_tie.ClientEvents as tokens
+use Rattle.node_slots.specs.owner_index_tie.ClientEvents as owner
 use Rattle.run_laws.specs.reopening_law.Falls.{FallKnown}
 use Rattle.run_laws.specs.reopening_law.Reopens.{TellsApart}
 use Rattle.segment_format.specs.declared.segment.Segment.{Segment}

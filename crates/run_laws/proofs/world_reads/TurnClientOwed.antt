@@ -4,7 +4,7 @@ use Rattle.client_node.specs.declared.client.Client.{Client as ClientNode}
 use Rattle.client_node.specs.declared.phase.Phase.TheVariants as clients
 use Rattle.client_node.specs.declared.phase.Phase.{Phase}
 use Rattle.client_node.specs.Phases.{after_opening, happens, on_deliver, on_time, takes}
-use Rattle.client_parts.specs.declared.lasting.Lasting.{Lasting}
+use Rattle.client_call.specs.declared.lasting.Lasting.{Lasting}
 use Rattle.client_serving.specs.declared.serving.Serving.{Serving}
 use Rattle.core_world.specs.AnyNode.{any_start, any_step}
 use Rattle.core_world.specs.declared.any_node.AnyNode.{AnyNode}
@@ -17,7 +17,7 @@ use Rattle.log_owner.specs.declared.opening.Opening.{Opening}
 use Rattle.log_owner.specs.Opening as opening
 use Rattle.log_tie.specs.Setting.{Setting}
 use Rattle.node_base.specs.Setups.{IsSetup}
-use Rattle.node_ties.specs.node_tie.ClientEvents.{IsTaken}
+use Rattle.node_slots.specs.node_tie.ClientEvents.{IsTaken}
 use Rattle.run_laws.specs.place_law.Fetches.{RunsReadTheirFetches}
 use Rattle.run_laws.specs.reading_law.Readings.{RunsReadWhatCame}
 use Rattle.run_laws.specs.reopening_law.Openings.{comes_to}

@@ -4,14 +4,14 @@ use Rattle.client_node.specs.declared.client.Client.{Client as ClientNode}
 use Rattle.client_node.specs.declared.phase.Phase.TheVariants.{Down, Opening, Serving as Serves}
 use Rattle.client_node.specs.declared.phase.Phase.{Phase}
 use Rattle.client_serving.specs.declared.serving.Serving.{Serving}
-use Rattle.log_ties.specs.client_log_tie.Owner as log_tie
+use Rattle.node_logs.specs.client_log_tie.Owner as log_tie
 use Rattle.core_world.specs.AnyNode.{any_step}
 use Rattle.core_world.specs.declared.any_node.AnyNode.{AnyNode}
 use Rattle.core_world.specs.declared.any_node.AnyNode.TheVariants as any
 use Rattle.log_law.specs.Laws.{Moment}
 use Rattle.log_law.specs.Restarts.{last_flight}
 use Rattle.log_tie.specs.Setting.{Setting}
-use Rattle.node_ties.specs.node_tie.ClientEvents as held
+use Rattle.node_slots.specs.node_tie.ClientEvents as held
 use Rattle.run_laws.specs.reopening_law.Falls.{FallKnown, FellWith}
 use Rattle.run_laws.specs.reopening_law.Reopens.{TellsApart}
 use Rattle.segment_format.specs.declared.segment.Segment.{Segment}

@@ -3,7 +3,7 @@
 use Rattle.std.proofs.Common.{◌≡◌, ◌==◌, ℕ, zero, suc, ◌+◌, ◌-◌, ◌≤◌, ◌<◌, Bool, true, false, nat_le, List, Option, None, Some, mod-eq_of_lt, refl, sym, ap, subst, ◌∙◌, arith}
 use Rattle.std.proofs.lemmas.Option.{unwrap_or-slice_get}
 use Rattle.std.proofs.lemmas.Bool.{leb-false, leb-true}
-use Rattle.cleaner_emptying.specs.declared.emptying.Emptying.{Emptying}
+use Rattle.cleaner_serving.specs.declared.emptying.Emptying.{Emptying}
 use Rattle.cleaner_node.specs.declared.cleaner.Phase as cleaning
 use Rattle.cleaner_node.specs.declared.cleaner.Phase.TheVariants as cleaners
 use Rattle.client_node.specs.declared.phase.Phase.TheVariants as clients
@@ -15,11 +15,11 @@ use Rattle.index_tie.specs.Takeovers.{Linked, of_log}
 use Rattle.log_law.specs.Net as log
 use Rattle.log_owner.specs.Promised as owner
 use Rattle.log_tie.specs.Setting.{Setting}
-use Rattle.node_ties.specs.node_index_tie.Sight.{held_in}
-use Rattle.log_ties.specs.node_log_tie.RegistryEvents.{RegistrySeen}
-use Rattle.node_ties.proofs.node_tie.SmallWorld.{with_promise}
-use Rattle.node_ties.specs.node_tie.CleanerEvents.{CleanerStands}
-use Rattle.node_ties.specs.node_tie.ClientEvents.{ClientAgrees}
+use Rattle.node_slots.specs.node_index_tie.Sight.{held_in}
+use Rattle.node_logs.specs.node_log_tie.RegistryEvents.{RegistrySeen}
+use Rattle.node_slots.proofs.node_tie.SmallWorld.{with_promise}
+use Rattle.node_slots.specs.node_tie.CleanerEvents.{CleanerStands}
+use Rattle.node_slots.specs.node_tie.ClientEvents.{ClientAgrees}
 use Rattle.segment_format.specs.declared.segment.Segment.{Segment}
 use Rattle.token_client.specs.State.{TokensState, epoch_of, is_in_slot}
 use Rattle.token_manager.specs.SlotState.{SlotState}

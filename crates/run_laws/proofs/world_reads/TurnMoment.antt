@@ -5,11 +5,11 @@ use Rattle.client_node.specs.declared.client.Client.{Client as ClientNode}
 use Rattle.core_world.specs.declared.any_node.AnyNode.{AnyNode}
 use Rattle.core_world.specs.declared.any_node.AnyNode.TheVariants as any
 use Rattle.log_tie.specs.Setting.{Setting}
-use Rattle.log_ties.specs.node_log_tie.RegistryEvents.{RegistrySeen}
-use Rattle.node_ties.specs.node_tie.CleanerLogs.{CleanerCopies}
-use Rattle.node_ties.specs.node_tie.ClientEvents as tokens
-use Rattle.node_ties.specs.owner_index_tie.CleanerEvents as cleaner_index
-use Rattle.node_ties.specs.owner_index_tie.ClientEvents as client_index
+use Rattle.node_logs.specs.node_log_tie.RegistryEvents.{RegistrySeen}
+use Rattle.node_slots.specs.node_tie.CleanerLogs.{CleanerCopies}
+use Rattle.node_slots.specs.node_tie.ClientEvents as tokens
+use Rattle.node_slots.specs.owner_index_tie.CleanerEvents as cleaner_index
+use Rattle.node_slots.specs.owner_index_tie.ClientEvents as client_index
 use Rattle.segment_format.specs.declared.segment.Segment.{Segment}
 use Rattle.world_base.specs.Cluster.{place_of}
 use Rattle.world_base.specs.declared.cluster.Cluster.{Cluster}

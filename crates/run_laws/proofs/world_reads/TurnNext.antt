@@ -10,8 +10,8 @@ use Rattle.index_tie.specs.Filed.{rows_at}
 use Rattle.index_tie.specs.Growth.{IsMore}
 use Rattle.log_flight.specs.Flights.{FlightState}
 use Rattle.log_tie.specs.Setting.{Setting}
-use Rattle.node_ties.proofs.owner_index_tie.Frames.{more_itself}
-use Rattle.node_ties.specs.owner_index_tie.CleanerMoves.{ItemMoves}
+use Rattle.node_slots.proofs.owner_index_tie.Frames.{more_itself}
+use Rattle.node_slots.specs.owner_index_tie.CleanerMoves.{ItemMoves}
 use Rattle.run_laws.specs.reopening_law.Falls.{FallKnown}
 use Rattle.run_laws.specs.reopening_law.Reopens.{TellsApart}
 use Rattle.segment_format.specs.declared.segment.Segment.{Segment}

@@ -14,8 +14,8 @@ use Rattle.log_law.specs.Net as log
 use Rattle.log_law.specs.Restarts.{IsSureRun, flight_in, last_flight}
 use Rattle.log_tie.specs.Setting.{Setting}
 use Rattle.node_base.specs.Setups.{IsSetup}
-use Rattle.node_ties.specs.node_tie.RegistryEvents.{RegistrySound}
-use Rattle.node_ties.specs.owner_index_tie.CleanerMoves.{ItemMoves}
+use Rattle.node_slots.specs.node_tie.RegistryEvents.{RegistrySound}
+use Rattle.node_slots.specs.owner_index_tie.CleanerMoves.{ItemMoves}
 use Rattle.run_laws.specs.reopening_law.Flights.{LastFlew}
 use Rattle.run_laws.specs.reopening_law.Reopens.{TellsApart}
 use Rattle.segment_format.specs.declared.segment.Segment.{Segment}

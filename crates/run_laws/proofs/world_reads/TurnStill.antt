@@ -2,12 +2,12 @@
 use Rattle.std.proofs.Common.{◌≡◌, ◌⊎◌, ⊎_elim, ℕ, suc, true, false, Option, sym, ap, subst, ◌∙◌}
 use Rattle.std.specs.Prelude.{IfSome}
 use Rattle.client_log.specs.LogState.{LogState}
-use Rattle.log_ties.specs.client_log_tie.ClientEvents.{ServesStraight}
+use Rattle.node_logs.specs.client_log_tie.ClientEvents.{ServesStraight}
 use Rattle.log_flight.specs.Flights.{FlightState}
-use Rattle.log_ties.specs.cleaner_log_tie.Owner as cleaner_log
+use Rattle.node_logs.specs.cleaner_log_tie.Owner as cleaner_log
 use Rattle.cleaner_node.specs.declared.cleaner.Phase as cleaning
 use Rattle.cleaner_node.specs.declared.cleaner.Phase.TheVariants as cleaners
-use Rattle.log_ties.specs.client_log_tie.Owner as client_log
+use Rattle.node_logs.specs.client_log_tie.Owner as client_log
 use Rattle.client_node.specs.declared.phase.Phase as clienting
 use Rattle.client_node.specs.declared.phase.Phase.TheVariants as clients
 use Rattle.core_world.specs.declared.any_node.AnyNode.{AnyNode}
@@ -17,7 +17,7 @@ use Rattle.log_law.specs.Net.Owner.{Serving}
 use Rattle.log_law.specs.Restarts.{last_flight}
 use Rattle.log_law.specs.Tails.{then_on}
 use Rattle.log_tie.specs.Setting.{Setting}
-use Rattle.node_ties.specs.node_tie.RegistryEvents.{RegistrySound}
+use Rattle.node_slots.specs.node_tie.RegistryEvents.{RegistrySound}
 use Rattle.segment_format.specs.declared.segment.Segment.{Segment}
 use Rattle.world_base.specs.declared.cluster.Cluster.{Cluster}
 use Rattle.world_base.specs.declared.estate.Estate.{Estate}

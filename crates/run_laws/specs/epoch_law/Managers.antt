@@ -2,7 +2,7 @@
 -- epoch that it holds or is given.
 use Rattle.std.specs.Prelude.{◌≡◌, ℕ, Bool, List, Some}
 use Rattle.core_world.specs.declared.any_node.AnyNode.{AnyNode}
-use Rattle.node_ties.specs.node_index_tie.Sight.{Texts}
+use Rattle.node_slots.specs.node_index_tie.Sight.{Texts}
 use Rattle.segment_format.specs.declared.segment.Segment.{Segment}
 use Rattle.version_model.specs.declared.act.Act.{Act}
 use Rattle.wire_msg.specs.declared.packet.Do.{Do}

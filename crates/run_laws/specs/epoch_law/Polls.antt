@@ -1,7 +1,7 @@
 -- A Poll that the owner of a log answers is of an epoch whose horizon is the registry's: nobody is active at a later epoch, so no checkpoint of one was kept.
 use Rattle.std.specs.Prelude.{◌≡◌, ◌<◌, ◌≤◌, ℕ, suc, Bool, List, None}
 use Rattle.checkpoint.specs.WriterState.{Rows}
-use Rattle.cleaner_emptying.specs.declared.emptying.Emptying.{Emptying}
+use Rattle.cleaner_serving.specs.declared.emptying.Emptying.{Emptying}
 use Rattle.cleaner_node.specs.declared.cleaner.Phase.TheVariants as cleaning
 use Rattle.client_node.specs.declared.phase.Phase.TheVariants as clients
 use Rattle.client_serving.specs.declared.serving.Serving.{Serving}
@@ -9,7 +9,7 @@ use Rattle.core_world.specs.declared.any_node.AnyNode.{AnyNode}
 use Rattle.index_tie.specs.Net.{Net, Runs, opening}
 use Rattle.index_tie.specs.Takeovers.{of_log}
 use Rattle.log_scan.specs.Transition.{least_horizon}
-use Rattle.node_ties.specs.node_index_tie.Sight.{Texts}
+use Rattle.node_slots.specs.node_index_tie.Sight.{Texts}
 use Rattle.registry.specs.Board.{all_news}
 use Rattle.segment_format.specs.declared.segment.Segment.{Segment}
 use Rattle.token_client.specs.State.{epoch_of}

@@ -1,6 +1,6 @@
 -- How far logs are filed by acts.
 use Rattle.std.specs.Prelude.{◌≡◌, ◌⊎◌, ℕ, ◌==◌, max, if◌then◌else◌, List, [], ◌∷◌}
-use Rattle.telling_ties.specs.filed_tie.Reach.{Reach}
+use Rattle.node_tellings.specs.filed_tie.Reach.{Reach}
 use Rattle.log_protocol.specs.Tables.{In}
 use Rattle.version_model.specs.declared.act.Act.{Act}
 use Rattle.version_model.specs.declared.act.Act.TheVariants.{Filed}

@@ -5,12 +5,12 @@ use Rattle.core_world.specs.AnyNode.{any_start, any_step}
 use Rattle.core_world.specs.declared.any_node.AnyNode.{AnyNode}
 use Rattle.core_world.specs.declared.any_node.AnyNode.TheVariants as any
 use Rattle.run_laws.specs.filed_law.FiledUpto.{filed_upto}
-use Rattle.telling_ties.specs.filed_tie.CleanerReach.{CleanerReaches}
-use Rattle.telling_ties.specs.filed_tie.ClientReach.{ClientReaches}
-use Rattle.telling_ties.specs.filed_tie.ManagerReach.{ManagerReaches}
-use Rattle.telling_ties.specs.filed_tie.Reach.{Reach, PacketTells}
-use Rattle.telling_ties.specs.filed_tie.RegistryReach.{RegistryReaches}
-use Rattle.telling_ties.specs.filed_tie.ServerReach.{ServerReaches}
+use Rattle.node_tellings.specs.filed_tie.CleanerReach.{CleanerReaches}
+use Rattle.node_tellings.specs.filed_tie.ClientReach.{ClientReaches}
+use Rattle.node_tellings.specs.filed_tie.ManagerReach.{ManagerReaches}
+use Rattle.node_tellings.specs.filed_tie.Reach.{Reach, PacketTells}
+use Rattle.node_tellings.specs.filed_tie.RegistryReach.{RegistryReaches}
+use Rattle.node_tellings.specs.filed_tie.ServerReach.{ServerReaches}
 use Rattle.log_protocol.specs.Tables.{In}
 use Rattle.log_scan.specs.Transition.{least_horizon}
 use Rattle.registry.specs.Board.{all_news}

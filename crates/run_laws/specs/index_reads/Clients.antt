@@ -4,8 +4,8 @@ use Rattle.std.specs.List.{AllByRecursion}
 use Rattle.checkpoint.specs.WriterState.{Rows}
 use Rattle.index_tie.specs.Filed.{Filed}
 use Rattle.index_tie.specs.Net as index
-use Rattle.node_ties.specs.node_tie.LogRows.{rows_told}
-use Rattle.node_ties.specs.owner_index_tie.ClientEvents.{IsNewerAtSlot}
+use Rattle.node_slots.specs.node_tie.LogRows.{rows_told}
+use Rattle.node_slots.specs.owner_index_tie.ClientEvents.{IsNewerAtSlot}
 use Rattle.segment_format.specs.Rows.{rows_of}
 use Rattle.segment_format.specs.declared.segment.Segment.{Segment}
 use Rattle.token_law.specs.Laws.{IsClient}

@@ -1,6 +1,6 @@
 -- What the books have where the index says that a version of a block lies.
 use Rattle.std.specs.Prelude.{◌≡◌, ◌≤◌, ℕ, Some, Contains}
-use Rattle.client_parts.specs.Reads.{value_at}
+use Rattle.client_call.specs.Reads.{value_at}
 use Rattle.index_tie.specs.Filed.{Filed, rows_at, IsFiled}
 use Rattle.token_law.specs.Books.{Books, said}
 use Rattle.xfs_base.specs.declared.block.BlockId.{BlockId}

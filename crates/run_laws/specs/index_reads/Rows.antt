@@ -1,9 +1,9 @@
 -- What a segment says of a block, as the small world of tokens has it, a version and a value, and as that of the index has it, a version and where it lies.
 use Rattle.std.specs.Prelude.{◌≡◌, ◌<◌, ◌≤◌, ℕ, List, Option, Some, None, Contains, length}
 use Rattle.std.specs.List.{AllByRecursion}
-use Rattle.client_parts.specs.Reads.{value_at}
+use Rattle.client_call.specs.Reads.{value_at}
 use Rattle.index_tie.specs.Growth.{said_of}
-use Rattle.node_ties.specs.node_tie.LogRows.{rows_told}
+use Rattle.node_slots.specs.node_tie.LogRows.{rows_told}
 use Rattle.segment_format.specs.Rows.{rows_of}
 use Rattle.segment_format.specs.Rule.{no_item}
 use Rattle.segment_format.specs.declared.segment.Segment.{Segment}

@@ -3,7 +3,7 @@ use Rattle.std.specs.Prelude.{◌≡◌, ◌<◌, ◌≤◌, ℕ, true}
 use Rattle.checkpoint.specs.WriterState.{Rows}
 use Rattle.index_tie.specs.Filed.{Filed}
 use Rattle.index_tie.specs.Net as index
-use Rattle.node_ties.specs.node_tie.LogRows.{rows_told}
+use Rattle.node_slots.specs.node_tie.LogRows.{rows_told}
 use Rattle.segment_format.specs.declared.segment.Segment.{Segment}
 use Rattle.token_law.specs.Books.{Books}
 use Rattle.token_law.specs.Net as tokens

@@ -2,18 +2,18 @@
 use Rattle.std.specs.Prelude.{◌≡◌, ◌<◌, ◌≤◌, ℕ, true, List, Contains, Option, Some, IfSome, length, slice_get}
 use Rattle.std.specs.List.{AllByRecursion}
 use Rattle.checkpoint.specs.WriterState.{Rows}
-use Rattle.cleaner_emptying.specs.declared.emptying.Emptying.{Emptying}
-use Rattle.cleaner_parts.specs.declared.job.Job.{Job}
-use Rattle.cleaner_parts.specs.Jobs.{check_of, hand_of}
-use Rattle.client_parts.specs.Reads.{value_at}
-use Rattle.telling_ties.specs.entry_tie.Told.{told_by_rows}
+use Rattle.cleaner_serving.specs.declared.emptying.Emptying.{Emptying}
+use Rattle.cleaner_job.specs.declared.job.Job.{Job}
+use Rattle.cleaner_job.specs.Jobs.{check_of, hand_of}
+use Rattle.client_call.specs.Reads.{value_at}
+use Rattle.node_tellings.specs.entry_tie.Told.{told_by_rows}
 use Rattle.run_laws.specs.index_reads.Ties.{ArePlain, Tied}
 use Rattle.index_tie.specs.Cleaning.{is_filed_name, IsWithin}
 use Rattle.index_tie.specs.Filed.{Filed, row_at, rows_at}
 use Rattle.index_tie.specs.Net as index
 use Rattle.index_tie.specs.Net.{IsInHand}
 use Rattle.log_protocol.specs.Tables.{In}
-use Rattle.node_ties.specs.node_tie.CleanerLogs.{LiveTold}
+use Rattle.node_slots.specs.node_tie.CleanerLogs.{LiveTold}
 use Rattle.segment_format.specs.declared.segment.Item.TheVariants.{Block}
 use Rattle.segment_format.specs.declared.segment.Segment.{Segment}
 use Rattle.segment_format.specs.Rows.{rows_of}

@@ -5,20 +5,20 @@ use Rattle.client_node.specs.declared.phase.Phase.TheVariants.{Down, Opening, Se
 use Rattle.client_node.specs.declared.phase.Phase.{Phase}
 use Rattle.client_node.specs.Phases.{takes}
 use Rattle.client_node.specs.Starting.{first_client}
-use Rattle.client_parts.specs.Reads.{reading_in}
+use Rattle.client_call.specs.Reads.{reading_in}
 use Rattle.client_serving.specs.declared.serving.Serving.{Serving}
 use Rattle.client_serving.specs.Flights.{held_at}
 use Rattle.core_world.specs.declared.any_node.AnyNode.{AnyNode}
 use Rattle.core_world.specs.declared.any_node.AnyNode.TheVariants as any
-use Rattle.telling_ties.specs.entry_tie.ClientTells.{ServingHolds}
-use Rattle.telling_ties.specs.entry_tie.Told.{told_by_rows}
+use Rattle.node_tellings.specs.entry_tie.ClientTells.{ServingHolds}
+use Rattle.node_tellings.specs.entry_tie.Told.{told_by_rows}
 use Rattle.run_laws.specs.index_reads.Ties.{BooksAre, ArePlain}
 use Rattle.index_tie.specs.Filed.{Filed, rows_at}
 use Rattle.log_protocol.specs.Tables.{In}
-use Rattle.node_ties.specs.node_index_tie.Sight.{Texts}
-use Rattle.node_ties.specs.node_tie.ClientEvents.{ServingReads}
-use Rattle.telling_ties.specs.reading_tie.Arrivals.{Cuts, answered_in, cut_by}
-use Rattle.telling_ties.specs.reading_tie.ClientReads.{ServesSo}
+use Rattle.node_slots.specs.node_index_tie.Sight.{Texts}
+use Rattle.node_slots.specs.node_tie.ClientEvents.{ServingReads}
+use Rattle.node_tellings.specs.reading_tie.Arrivals.{Cuts, answered_in, cut_by}
+use Rattle.node_tellings.specs.reading_tie.ClientReads.{ServesSo}
 use Rattle.segment_reading.specs.declared.target.BlockAt.{BlockAt}
 use Rattle.segment_reading.specs.Reading.{ReadingState}
 use Rattle.token_client.specs.declared.held.Fetch.{Fetch}

@@ -1,17 +1,17 @@
 -- What the cleaner reads of the segment in its hand is the segment that was filed at its number, where that bears its name.
 use Rattle.std.specs.Prelude.{◌≡◌, ℕ, List, Option, Some, None}
-use Rattle.cleaner_emptying.specs.declared.emptying.Emptying.{Emptying}
-use Rattle.cleaner_parts.specs.declared.hand.Hand.{Hand}
-use Rattle.cleaner_parts.specs.Jobs.{hand_of}
+use Rattle.cleaner_serving.specs.declared.emptying.Emptying.{Emptying}
+use Rattle.cleaner_job.specs.declared.hand.Hand.{Hand}
+use Rattle.cleaner_job.specs.Jobs.{hand_of}
 use Rattle.index_tie.specs.Cleaning.{IsWithin}
 use Rattle.index_tie.specs.Filed.{Filed}
 use Rattle.index_tie.specs.Net as index
 use Rattle.log_owner.specs.Sending.{server_in}
 use Rattle.log_protocol.specs.Tables.{In}
-use Rattle.node_ties.specs.node_index_tie.Sight.{Texts}
-use Rattle.node_ties.specs.owner_index_tie.CleanerEvents.{ReadGets}
-use Rattle.telling_ties.specs.reading_tie.Arrivals.{Cuts, answered_in, cut_by}
-use Rattle.telling_ties.specs.reading_tie.CleanerReads.{ServesSo}
+use Rattle.node_slots.specs.node_index_tie.Sight.{Texts}
+use Rattle.node_slots.specs.owner_index_tie.CleanerEvents.{ReadGets}
+use Rattle.node_tellings.specs.reading_tie.Arrivals.{Cuts, answered_in, cut_by}
+use Rattle.node_tellings.specs.reading_tie.CleanerReads.{ServesSo}
 use Rattle.stripe_cleaner.specs.declared.phase.Phase.{Phase}
 use Rattle.stripe_cleaner.specs.declared.phase.Phase.TheVariants.{Reading}
 use Rattle.stripe_code.specs.declared.round.Told.TheVariants.{Held, Missing}

@@ -7,11 +7,11 @@ use Rattle.log_law.specs.Net.Packet.{FragmentSent}
 use Rattle.log_protocol.specs.Tables.{In}
 use Rattle.log_tie.specs.Setting.{Setting}
 use Rattle.log_tie.specs.Shelves.{is_of_log}
-use Rattle.node_ties.specs.node_index_tie.ManagerEvents.{completes_at}
-use Rattle.node_ties.specs.node_index_tie.Sight.{Texts, IsRead, AreTexts}
-use Rattle.telling_ties.specs.reading_tie.Arrivals.{Cuts, answered_in, cut_by, AnsweredIn}
-use Rattle.telling_ties.specs.reading_tie.Came.{ReadsJoined}
-use Rattle.telling_ties.specs.reading_tie.TakeoverReads.{TakeHolds}
+use Rattle.node_slots.specs.node_index_tie.ManagerEvents.{completes_at}
+use Rattle.node_slots.specs.node_index_tie.Sight.{Texts, IsRead, AreTexts}
+use Rattle.node_tellings.specs.reading_tie.Arrivals.{Cuts, answered_in, cut_by, AnsweredIn}
+use Rattle.node_tellings.specs.reading_tie.Came.{ReadsJoined}
+use Rattle.node_tellings.specs.reading_tie.TakeoverReads.{TakeHolds}
 use Rattle.segment_format.specs.declared.segment.Segment.{Segment}
 use Rattle.stripe_code.specs.declared.round.Told.{Told as Answered}
 use Rattle.takeover.specs.declared.source.Present.{Present}

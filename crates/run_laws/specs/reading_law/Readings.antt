@@ -6,11 +6,11 @@ use Rattle.core_world.specs.declared.any_node.AnyNode.{AnyNode}
 use Rattle.core_world.specs.declared.any_node.AnyNode.TheVariants as any
 use Rattle.group_map.specs.declared.group.Group.{Group}
 use Rattle.node_base.specs.Setups.{IsSetup}
-use Rattle.telling_ties.specs.reading_tie.Arrivals.{Cut, Cuts, answered_in, cut_by, BodyMaps}
-use Rattle.telling_ties.specs.reading_tie.CleanerMeets.{CleanerMeets, listed_in}
-use Rattle.telling_ties.specs.reading_tie.CleanerReads.{CleanerHolds}
-use Rattle.telling_ties.specs.reading_tie.ClientReads.{ClientHolds}
-use Rattle.telling_ties.specs.reading_tie.ManagerReads.{ManagerHolds}
+use Rattle.node_tellings.specs.reading_tie.Arrivals.{Cut, Cuts, answered_in, cut_by, BodyMaps}
+use Rattle.node_tellings.specs.reading_tie.CleanerMeets.{CleanerMeets, listed_in}
+use Rattle.node_tellings.specs.reading_tie.CleanerReads.{CleanerHolds}
+use Rattle.node_tellings.specs.reading_tie.ClientReads.{ClientHolds}
+use Rattle.node_tellings.specs.reading_tie.ManagerReads.{ManagerHolds}
 use Rattle.token_protocol.specs.Basics.{In}
 use Rattle.wire_msg.specs.declared.packet.Packet.{Packet}
 use Rattle.world_base.specs.declared.estate.Estate.{Estate}

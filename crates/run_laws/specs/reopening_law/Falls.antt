@@ -5,7 +5,7 @@ use Rattle.client_node.specs.declared.client.Client.{Client as AClient}
 use Rattle.client_node.specs.declared.phase.Phase.TheVariants.{Down, Opening, Serving as Serves}
 use Rattle.client_node.specs.declared.phase.Phase.{Phase}
 use Rattle.client_node.specs.Phases.{lasting_of, takes}
-use Rattle.client_parts.specs.Crash.{flight_of}
+use Rattle.client_call.specs.Crash.{flight_of}
 use Rattle.log_flight.specs.Flights.{FlightState}
 use Rattle.node_base.specs.Effects.{acts_of}
 use Rattle.version_model.specs.declared.act.Act.{Act}

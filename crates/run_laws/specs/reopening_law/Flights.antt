@@ -7,10 +7,10 @@ use Rattle.log_law.specs.Net.Owner.{Serving}
 use Rattle.log_law.specs.Net.{Net}
 use Rattle.log_law.specs.Restarts.{is_serving, last_flight}
 use Rattle.log_law.specs.Tails.{then_on}
-use Rattle.log_ties.specs.client_log_tie.ClientEvents.{NeverServes}
+use Rattle.node_logs.specs.client_log_tie.ClientEvents.{NeverServes}
 use Rattle.log_tie.specs.Setting.{Setting}
-use Rattle.node_ties.specs.node_tie.LogRows.{LogSeen, rows_told}
-use Rattle.node_ties.specs.node_tie.Sight.{SameLog}
+use Rattle.node_slots.specs.node_tie.LogRows.{LogSeen, rows_told}
+use Rattle.node_slots.specs.node_tie.Sight.{SameLog}
 use Rattle.token_law.specs.Books.{Books}
 
 -- The books have the flight as the segment behind the end of the log.

@@ -1,7 +1,7 @@
 -- The event that ends a restart, in the small world of the log: what of it the small worlds of tokens and of the index are owed.
 use Rattle.std.specs.Prelude.{◌≡◌, ◌<◌, ◌≤◌, ℕ, Bool, false, List, [], Some, None}
 use Rattle.client_log.specs.LogState.{LogState}
-use Rattle.client_parts.specs.Crash.{flight_of}
+use Rattle.client_call.specs.Crash.{flight_of}
 use Rattle.index_tie.specs.Filed.{Filed}
 use Rattle.log_flight.specs.Flights.{FlightState}
 use Rattle.log_law.specs.Events.{Happens}
@@ -15,11 +15,11 @@ use Rattle.log_owner.specs.declared.opened.Opened.{Opened}
 use Rattle.log_owner.specs.Opened.{names_in}
 use Rattle.log_protocol.specs.Tables.{In}
 use Rattle.log_tie.specs.Setting.{Setting}
-use Rattle.node_ties.specs.node_index_tie.Sight.{Texts, RowsFit}
-use Rattle.node_ties.specs.node_tie.CleanerLogs.{ReopensAt, its_log}
-use Rattle.node_ties.specs.node_tie.ClientLogs.{ReopensSo}
-use Rattle.node_ties.specs.node_tie.LogRows.{rows_told}
-use Rattle.node_ties.specs.owner_index_tie.Owners.{ReadBack}
+use Rattle.node_slots.specs.node_index_tie.Sight.{Texts, RowsFit}
+use Rattle.node_slots.specs.node_tie.CleanerLogs.{ReopensAt, its_log}
+use Rattle.node_slots.specs.node_tie.ClientLogs.{ReopensSo}
+use Rattle.node_slots.specs.node_tie.LogRows.{rows_told}
+use Rattle.node_slots.specs.owner_index_tie.Owners.{ReadBack}
 use Rattle.segment_format.specs.declared.segment.Item.{Item}
 use Rattle.segment_format.specs.declared.segment.Segment.{Segment}
 use Rattle.segment_format.specs.Rows.{rows_of}

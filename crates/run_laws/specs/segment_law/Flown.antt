@@ -1,7 +1,7 @@
 -- What was ever in flight in the log of a client: each such segment tells of blocks at first hand, in every run of the nodes.
 use Rattle.std.specs.Prelude.{ℕ}
-use Rattle.log_ties.specs.client_log_tie.ClientEvents.{ServesStraight}
-use Rattle.log_ties.specs.client_log_tie.Puts.{PutsOwn, ServesBy}
+use Rattle.node_logs.specs.client_log_tie.ClientEvents.{ServesStraight}
+use Rattle.node_logs.specs.client_log_tie.Puts.{PutsOwn, ServesBy}
 use Rattle.core_world.specs.declared.any_node.AnyNode.{AnyNode}
 use Rattle.log_law.specs.Events.{Runs}
 use Rattle.log_law.specs.Net.{Net, Owner}

@@ -1,12 +1,12 @@
 -- What the cleaner writes to its log: while it serves, what it moves; while it opens its log, nothing.
 use Rattle.std.specs.Prelude.{◌<◌, List}
-use Rattle.cleaner_emptying.specs.declared.emptying.Emptying.{Emptying}
+use Rattle.cleaner_serving.specs.declared.emptying.Emptying.{Emptying}
 use Rattle.cleaner_node.specs.CleanerEvents.{cleaner_start, cleaner_step}
 use Rattle.cleaner_node.specs.declared.cleaner.Cleaner.{Cleaner}
 use Rattle.cleaner_node.specs.declared.cleaner.Phase.{Phase}
 use Rattle.cleaner_node.specs.declared.cleaner.Phase.TheVariants.{Down, Opening, Serving}
-use Rattle.telling_ties.specs.entry_tie.CleanerTells.{JobTold}
-use Rattle.telling_ties.specs.entry_tie.Told.{Told}
+use Rattle.node_tellings.specs.entry_tie.CleanerTells.{JobTold}
+use Rattle.node_tellings.specs.entry_tie.Told.{Told}
 use Rattle.version_model.specs.declared.work.Work.{Work}
 use Rattle.wire_msg.specs.declared.body.Body.{Body}
 use Rattle.wire_msg.specs.declared.body.Body.TheVariants as body

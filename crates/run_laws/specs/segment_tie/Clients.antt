@@ -7,7 +7,7 @@ use Rattle.client_node.specs.Phases.{client_step}
 use Rattle.client_node.specs.Starting.{first_client}
 use Rattle.log_owner.specs.declared.opening.Stage.{Stage}
 use Rattle.log_owner.specs.declared.opening.Stage.TheVariants as stage
-use Rattle.node_ties.specs.node_tie.AskingEvents.{PhaseAsks}
+use Rattle.node_slots.specs.node_tie.AskingEvents.{PhaseAsks}
 use Rattle.version_model.specs.declared.work.Work.{Work}
 use Rattle.wire_msg.specs.declared.packet.Do.{Do}
 use Rattle.xfs_base.specs.declared.setup.Setup.{Setup}

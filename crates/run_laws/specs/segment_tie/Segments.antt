@@ -7,7 +7,7 @@ use Rattle.run_laws.specs.index_reads.Rows.{IsPlain, AreVersioned}
 use Rattle.index_tie.specs.Filed.{IsNoPart}
 use Rattle.log_flight.specs.declared.dirty.Change.{Change}
 use Rattle.log_flight.specs.Flights.{FlightState}
-use Rattle.node_ties.specs.node_tie.LogRows.{told}
+use Rattle.node_slots.specs.node_tie.LogRows.{told}
 use Rattle.segment_format.specs.declared.segment.Item.{Item}
 use Rattle.segment_format.specs.declared.segment.Item.TheVariants.{Block, Delta, Part}
 use Rattle.segment_format.specs.declared.segment.Segment.{Segment}

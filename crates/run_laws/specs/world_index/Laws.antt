@@ -6,8 +6,8 @@ use Rattle.index_tie.specs.Cleaning.{has_block, is_filed_name}
 use Rattle.index_tie.specs.Filed.{Filed}
 use Rattle.index_tie.specs.Laws.{IsJoinOfApplied, IsNewest}
 use Rattle.node_base.specs.Setups.{IsSetup}
-use Rattle.node_ties.specs.node_index_tie.Sight.{AreTexts, Texts}
-use Rattle.node_ties.specs.node_tie.RegistryEvents.{RegistrySound}
+use Rattle.node_slots.specs.node_index_tie.Sight.{AreTexts, Texts}
+use Rattle.node_slots.specs.node_tie.RegistryEvents.{RegistrySound}
 use Rattle.segment_format.specs.declared.segment.Segment.{Segment}
 use Rattle.token_manager.specs.SlotState.{SlotState}
 use Rattle.wire_msg.specs.declared.body.Body.TheVariants as body

@@ -1,7 +1,7 @@
 -- What logs owe an event of a node, as the small world of one slot's index sees it, what tokens give it, and what the event makes of that world.
 use Rattle.std.specs.Prelude.{◌≡◌, ◌<◌, ◌≤◌, ℕ, List, None, Some}
 use Rattle.std.specs.List.{AllByRecursion}
-use Rattle.cleaner_emptying.specs.declared.emptying.Emptying.{Emptying}
+use Rattle.cleaner_serving.specs.declared.emptying.Emptying.{Emptying}
 use Rattle.cleaner_node.specs.CleanerEvents as cleaners
 use Rattle.cleaner_node.specs.declared.cleaner.Cleaner.{Cleaner as CleanerNode}
 use Rattle.cleaner_node.specs.declared.cleaner.Phase.{Phase as CleanerPhase}
@@ -18,14 +18,14 @@ use Rattle.manager_node.specs.declared.phase.Phase.{Phase as ManagerPhase}
 use Rattle.manager_node.specs.declared.phase.Phase.TheVariants as managing
 use Rattle.manager_node.specs.Events.{happens}
 use Rattle.manager_node.specs.Phases as managers
-use Rattle.manager_parts.specs.declared.slot_phase.SlotPhase.{SlotPhase}
-use Rattle.node_ties.specs.node_index_tie.ManagerEvents.{FoundGets, AbsentGets, ManagedAt, rest}
-use Rattle.node_ties.specs.node_index_tie.ManagerEvents as managed
-use Rattle.node_ties.specs.node_index_tie.Sight.{Texts, Questions}
-use Rattle.node_ties.specs.node_tie.ManagerEvents.{HeldAt, Names, epoch_in, phase_at, slot_in}
-use Rattle.node_ties.specs.owner_index_tie.CleanerEvents.{EffectOwed, IsAway, NewFor, PollGets, ReadGets, ReopensOn, WritesTexts}
-use Rattle.node_ties.specs.owner_index_tie.ClientEvents.{ClientOwed}
-use Rattle.node_ties.specs.owner_index_tie.Filing.{FilesOwed, filed_after, filing}
+use Rattle.manager_slots.specs.declared.slot_phase.SlotPhase.{SlotPhase}
+use Rattle.node_slots.specs.node_index_tie.ManagerEvents.{FoundGets, AbsentGets, ManagedAt, rest}
+use Rattle.node_slots.specs.node_index_tie.ManagerEvents as managed
+use Rattle.node_slots.specs.node_index_tie.Sight.{Texts, Questions}
+use Rattle.node_slots.specs.node_tie.ManagerEvents.{HeldAt, Names, epoch_in, phase_at, slot_in}
+use Rattle.node_slots.specs.owner_index_tie.CleanerEvents.{EffectOwed, IsAway, NewFor, PollGets, ReadGets, ReopensOn, WritesTexts}
+use Rattle.node_slots.specs.owner_index_tie.ClientEvents.{ClientOwed}
+use Rattle.node_slots.specs.owner_index_tie.Filing.{FilesOwed, filed_after, filing}
 use Rattle.stripe_code.specs.declared.round.Told.TheVariants.{Held, Missing as Lacks}
 use Rattle.token_manager.specs.SlotState.{SlotState}
 use Rattle.token_protocol.specs.Basics.{In}

@@ -7,14 +7,14 @@ use Rattle.core_world.specs.declared.any_node.AnyNode.TheVariants as any
 use Rattle.index_tie.specs.Net.{Net, Runs, opening}
 use Rattle.log_protocol.specs.Tables as tables
 use Rattle.manager_node.specs.declared.manager.Manager.{Manager as ManagerNode}
-use Rattle.manager_parts.specs.declared.slot_phase.SlotPhase.{SlotPhase}
-use Rattle.node_ties.specs.node_index_tie.ManagerEvents.{ManagerAgrees}
-use Rattle.node_ties.specs.node_index_tie.RegistryEvents.{IsHorizon, RegistryAgrees}
-use Rattle.node_ties.specs.node_index_tie.Sight.{Texts, Questions, held_in, AreTexts, CheckKnown, DeltasKnown, ManagerSends, ReportKnown}
-use Rattle.node_ties.specs.node_tie.ManagerEvents.{HeldAt, Names, epoch_in, is_serving, slot_in}
-use Rattle.node_ties.specs.owner_index_tie.CleanerEvents.{CleanerAgrees}
-use Rattle.node_ties.specs.owner_index_tie.ClientEvents.{ClientAgrees}
-use Rattle.node_ties.specs.owner_index_tie.ServerEvents.{SaysNothing}
+use Rattle.manager_slots.specs.declared.slot_phase.SlotPhase.{SlotPhase}
+use Rattle.node_slots.specs.node_index_tie.ManagerEvents.{ManagerAgrees}
+use Rattle.node_slots.specs.node_index_tie.RegistryEvents.{IsHorizon, RegistryAgrees}
+use Rattle.node_slots.specs.node_index_tie.Sight.{Texts, Questions, held_in, AreTexts, CheckKnown, DeltasKnown, ManagerSends, ReportKnown}
+use Rattle.node_slots.specs.node_tie.ManagerEvents.{HeldAt, Names, epoch_in, is_serving, slot_in}
+use Rattle.node_slots.specs.owner_index_tie.CleanerEvents.{CleanerAgrees}
+use Rattle.node_slots.specs.owner_index_tie.ClientEvents.{ClientAgrees}
+use Rattle.node_slots.specs.owner_index_tie.ServerEvents.{SaysNothing}
 use Rattle.segment_format.specs.declared.segment.Segment.{Segment}
 use Rattle.registry_node.specs.declared.node.RegistryNode.{RegistryNode}
 use Rattle.store_nodes.specs.declared.server.Server.{Server as ServerNode}

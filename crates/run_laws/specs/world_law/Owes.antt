@@ -9,13 +9,13 @@ use Rattle.core_world.specs.declared.any_node.AnyNode.{AnyNode}
 use Rattle.core_world.specs.declared.any_node.AnyNode.TheVariants as any
 use Rattle.manager_node.specs.declared.phase.Phase.{Phase as ManagerPhase}
 use Rattle.manager_node.specs.declared.phase.Phase.TheVariants as managing
-use Rattle.manager_parts.specs.declared.slot_phase.SlotPhase.{SlotPhase}
-use Rattle.node_ties.specs.node_tie.CleanerLogs.{CleanerTold, OwnGoes, its_log}
-use Rattle.node_ties.specs.node_tie.CleanerEvents as cleaner
-use Rattle.node_ties.specs.node_tie.ClientEvents as client
-use Rattle.node_ties.specs.node_tie.ClientEvents.{EndsInTime, LogGoes, ReadsSo}
-use Rattle.node_ties.specs.node_tie.ManagerEvents.{AbsentGets, DeltasGets, FoundGets, LastReportGets, slot_in}
-use Rattle.node_ties.specs.node_tie.Sight.{SameLog}
+use Rattle.manager_slots.specs.declared.slot_phase.SlotPhase.{SlotPhase}
+use Rattle.node_slots.specs.node_tie.CleanerLogs.{CleanerTold, OwnGoes, its_log}
+use Rattle.node_slots.specs.node_tie.CleanerEvents as cleaner
+use Rattle.node_slots.specs.node_tie.ClientEvents as client
+use Rattle.node_slots.specs.node_tie.ClientEvents.{EndsInTime, LogGoes, ReadsSo}
+use Rattle.node_slots.specs.node_tie.ManagerEvents.{AbsentGets, DeltasGets, FoundGets, LastReportGets, slot_in}
+use Rattle.node_slots.specs.node_tie.Sight.{SameLog}
 use Rattle.token_law.specs.Net.{Net}
 use Rattle.token_protocol.specs.Premises.{Premise}
 use Rattle.wire_msg.specs.declared.body.Body.{Body}

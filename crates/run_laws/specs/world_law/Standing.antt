@@ -9,18 +9,18 @@ use Rattle.manager_node.specs.declared.manager.Manager.{Manager as ManagerNode}
 use Rattle.manager_node.specs.declared.phase.Phase.{Phase as ManagerPhase}
 use Rattle.manager_node.specs.declared.phase.Phase.TheVariants as managing
 use Rattle.manager_node.specs.Phases as managers
-use Rattle.node_ties.specs.node_tie.CleanerEvents.{CleanerStands, CleanerWelcomed}
-use Rattle.node_ties.specs.node_tie.CleanerLogs.{CleanerCopies, its_log}
-use Rattle.node_ties.specs.node_tie.ClientEvents.{ClientAgrees, ClientStands, WelcomeRises}
-use Rattle.node_ties.specs.node_tie.ManagerEvents.{ManagerAgrees, HeldAt, epoch_in, slot_in, is_serving}
-use Rattle.node_ties.specs.node_tie.Sight.{ClientSends, CleanerSends, ManagerSends, ServerSends}
+use Rattle.node_slots.specs.node_tie.CleanerEvents.{CleanerStands, CleanerWelcomed}
+use Rattle.node_slots.specs.node_tie.CleanerLogs.{CleanerCopies, its_log}
+use Rattle.node_slots.specs.node_tie.ClientEvents.{ClientAgrees, ClientStands, WelcomeRises}
+use Rattle.node_slots.specs.node_tie.ManagerEvents.{ManagerAgrees, HeldAt, epoch_in, slot_in, is_serving}
+use Rattle.node_slots.specs.node_tie.Sight.{ClientSends, CleanerSends, ManagerSends, ServerSends}
 use Rattle.registry.specs.Board.{inc_of}
 use Rattle.registry.specs.Slots.{entry_of}
 use Rattle.cleaner_node.specs.CleanerEvents as cleaners
 use Rattle.cleaner_node.specs.declared.cleaner.Cleaner.{Cleaner as CleanerNode}
 use Rattle.registry_node.specs.declared.node.RegistryNode.{RegistryNode}
 use Rattle.store_nodes.specs.declared.server.Server.{Server as ServerNode}
-use Rattle.node_ties.specs.node_tie.Promised.{with_promise}
+use Rattle.node_slots.specs.node_tie.Promised.{with_promise}
 use Rattle.token_law.specs.Net.{Net, Runs, opening}
 use Rattle.token_manager.specs.SlotState.{SlotState}
 use Rattle.token_protocol.specs.Basics.{In}

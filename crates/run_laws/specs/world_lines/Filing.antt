@@ -1,15 +1,15 @@
 -- What owners act to be filed flew before the event: what one that serves had in flight, and what one that opens its log had read back.
 use Rattle.std.specs.Prelude.{◌≡◌, ◌<◌, ℕ, true, false, List, IfSome}
 use Rattle.std.specs.List.{AllByRecursion}
-use Rattle.cleaner_emptying.specs.declared.emptying.Emptying.{Emptying}
-use Rattle.log_ties.specs.cleaner_log_tie.Owner as cleaner_log
+use Rattle.cleaner_serving.specs.declared.emptying.Emptying.{Emptying}
+use Rattle.node_logs.specs.cleaner_log_tie.Owner as cleaner_log
 use Rattle.cleaner_node.specs.CleanerEvents as cleaners
 use Rattle.cleaner_node.specs.declared.cleaner.Cleaner.{Cleaner}
 use Rattle.cleaner_node.specs.declared.cleaner.Phase.TheVariants as cleaning
 use Rattle.client_log.specs.LogState.{LogState}
 use Rattle.client_log.specs.Transition.{has_next}
-use Rattle.log_ties.specs.client_log_tie.ClientEvents.{ServesStraight}
-use Rattle.log_ties.specs.client_log_tie.Owner.{Scene, ClientAgrees}
+use Rattle.node_logs.specs.client_log_tie.ClientEvents.{ServesStraight}
+use Rattle.node_logs.specs.client_log_tie.Owner.{Scene, ClientAgrees}
 use Rattle.client_node.specs.declared.client.Client.{Client}
 use Rattle.client_node.specs.declared.phase.Phase.TheVariants as client
 use Rattle.client_node.specs.Phases as clients
@@ -23,10 +23,10 @@ use Rattle.log_law.specs.Restarts.{is_serving}
 use Rattle.log_protocol.specs.Tables.{In}
 use Rattle.log_tie.specs.Setting.{Setting}
 use Rattle.node_base.specs.declared.effects.Effect.{Effect}
-use Rattle.node_ties.specs.node_index_tie.Sight.{Texts}
-use Rattle.node_ties.specs.owner_index_tie.Acting.{IsFlight}
-use Rattle.node_ties.specs.owner_index_tie.CleanerEvents as cleaner_index
-use Rattle.node_ties.specs.owner_index_tie.ClientEvents as client_index
+use Rattle.node_slots.specs.node_index_tie.Sight.{Texts}
+use Rattle.node_slots.specs.owner_index_tie.Acting.{IsFlight}
+use Rattle.node_slots.specs.owner_index_tie.CleanerEvents as cleaner_index
+use Rattle.node_slots.specs.owner_index_tie.ClientEvents as client_index
 use Rattle.segment_format.specs.declared.segment.Segment.{Segment}
 use Rattle.wire_msg.specs.declared.packet.Do.{Do}
 use Rattle.xfs_base.specs.declared.segment.SegName.{SegName}

@@ -1,18 +1,18 @@
 -- What the owner of a log has in flight is the text of its name.
 use Rattle.std.specs.Prelude.{ℕ}
-use Rattle.log_ties.specs.cleaner_log_tie.Owner as cleaner
+use Rattle.node_logs.specs.cleaner_log_tie.Owner as cleaner
 use Rattle.cleaner_node.specs.declared.cleaner.Phase as cleaners
-use Rattle.log_ties.specs.client_log_tie.Owner.{Scene, ClientAgrees}
+use Rattle.node_logs.specs.client_log_tie.Owner.{Scene, ClientAgrees}
 use Rattle.client_node.specs.declared.phase.Phase as clients
 use Rattle.index_tie.specs.Net as index
 use Rattle.log_law.specs.Laws.{Moment}
 use Rattle.log_tie.specs.Setting.{Setting}
-use Rattle.log_ties.specs.manager_log_tie.Owner as manager
+use Rattle.node_logs.specs.manager_log_tie.Owner as manager
 use Rattle.manager_node.specs.declared.phase.Phase as managers
-use Rattle.node_ties.specs.node_index_tie.ManagerEvents as manager_writes
-use Rattle.node_ties.specs.node_index_tie.Sight.{Texts, Questions}
-use Rattle.node_ties.specs.owner_index_tie.CleanerEvents as cleaner_writes
-use Rattle.node_ties.specs.owner_index_tie.ClientEvents as client_writes
+use Rattle.node_slots.specs.node_index_tie.ManagerEvents as manager_writes
+use Rattle.node_slots.specs.node_index_tie.Sight.{Texts, Questions}
+use Rattle.node_slots.specs.owner_index_tie.CleanerEvents as cleaner_writes
+use Rattle.node_slots.specs.owner_index_tie.ClientEvents as client_writes
 use Rattle.run_laws.specs.world_lines.Lines.{FlownAreTexts}
 
 -- of a client, as of what its small world had in flight

@@ -1,12 +1,12 @@
 -- The lines of a client's log and of the cleaner's in their own events: numbers of what is filed have one after them, and the line goes on as the small
 -- world of one slot's index has it then.
 use Rattle.std.specs.Prelude.{◌≡◌, ◌≤◌, ◌⊎◌, ℕ, true, false, List}
-use Rattle.log_ties.specs.cleaner_log_tie.Owner as cleaner_log
+use Rattle.node_logs.specs.cleaner_log_tie.Owner as cleaner_log
 use Rattle.cleaner_node.specs.CleanerEvents as cleaners
 use Rattle.cleaner_node.specs.declared.cleaner.Cleaner.{Cleaner}
 use Rattle.client_log.specs.Transition.{has_next}
-use Rattle.log_ties.specs.client_log_tie.ClientEvents.{FliesInBoot, ServesStraight}
-use Rattle.log_ties.specs.client_log_tie.Owner.{Scene, ClientAgrees}
+use Rattle.node_logs.specs.client_log_tie.ClientEvents.{FliesInBoot, ServesStraight}
+use Rattle.node_logs.specs.client_log_tie.Owner.{Scene, ClientAgrees}
 use Rattle.client_node.specs.Phases as clients
 use Rattle.client_node.specs.declared.client.Client.{Client}
 use Rattle.index_tie.specs.Net as index
@@ -19,9 +19,9 @@ use Rattle.log_protocol.specs.Tables.{In}
 use Rattle.log_tie.specs.Setting.{Setting}
 use Rattle.node_base.specs.Effects.{acts_of}
 use Rattle.node_base.specs.declared.effects.Effect.{Effect}
-use Rattle.node_ties.specs.node_index_tie.Sight.{Questions, Texts}
-use Rattle.node_ties.specs.owner_index_tie.CleanerEvents.{CleanerGoes}
-use Rattle.node_ties.specs.owner_index_tie.ClientEvents.{ClientGoes}
+use Rattle.node_slots.specs.node_index_tie.Sight.{Questions, Texts}
+use Rattle.node_slots.specs.owner_index_tie.CleanerEvents.{CleanerGoes}
+use Rattle.node_slots.specs.owner_index_tie.ClientEvents.{ClientGoes}
 use Rattle.segment_format.specs.declared.segment.Segment.{Segment}
 use Rattle.token_protocol.specs.Basics as basics
 use Rattle.version_model.specs.declared.act.Act.TheVariants.{Filed as ActsFiled}

@@ -2,7 +2,7 @@
 use Rattle.std.specs.Prelude.{◌≡◌, ◌<◌, ◌≤◌, ◌⊎◌, ℕ, Some, List}
 use Rattle.client_log.specs.LogState.{LogState}
 use Rattle.log_flight.specs.Flights.{FlightState}
-use Rattle.cleaner_emptying.specs.declared.emptying.Emptying.{Emptying}
+use Rattle.cleaner_serving.specs.declared.emptying.Emptying.{Emptying}
 use Rattle.cleaner_node.specs.declared.cleaner.Phase as cleaners
 use Rattle.cleaner_node.specs.declared.cleaner.Phase.TheVariants as cleaning
 use Rattle.client_node.specs.declared.phase.Phase as clients
@@ -18,14 +18,14 @@ use Rattle.log_law.specs.Net.Owner.{Serving}
 use Rattle.log_owner.specs.Promised.{epoch_of}
 use Rattle.log_tie.specs.Setting.{Setting}
 use Rattle.node_base.specs.declared.effects.Effect.{Effect}
-use Rattle.node_ties.specs.node_index_tie.Pages.{FlightIsText}
-use Rattle.node_ties.specs.node_index_tie.RegistryEvents.{RegistryAgrees}
-use Rattle.node_ties.specs.node_index_tie.Sight.{Texts}
-use Rattle.log_ties.specs.node_log_tie.RegistryEvents.{RegistrySeen}
-use Rattle.node_ties.specs.owner_index_tie.CleanerEvents.{PollGets}
-use Rattle.node_ties.specs.owner_index_tie.ClientEvents.{EventGets}
-use Rattle.node_ties.specs.owner_index_tie.Filing.{IsSameLog, filed_after}
-use Rattle.node_ties.specs.owner_index_tie.Owners.{IsLastFiled}
+use Rattle.node_slots.specs.node_index_tie.Pages.{FlightIsText}
+use Rattle.node_slots.specs.node_index_tie.RegistryEvents.{RegistryAgrees}
+use Rattle.node_slots.specs.node_index_tie.Sight.{Texts}
+use Rattle.node_logs.specs.node_log_tie.RegistryEvents.{RegistrySeen}
+use Rattle.node_slots.specs.owner_index_tie.CleanerEvents.{PollGets}
+use Rattle.node_slots.specs.owner_index_tie.ClientEvents.{EventGets}
+use Rattle.node_slots.specs.owner_index_tie.Filing.{IsSameLog, filed_after}
+use Rattle.node_slots.specs.owner_index_tie.Owners.{IsLastFiled}
 use Rattle.registry_node.specs.declared.node.RegistryNode.{RegistryNode}
 use Rattle.token_client.specs.State as tokens
 use Rattle.wire_msg.specs.declared.deltas.Poll.{Poll}

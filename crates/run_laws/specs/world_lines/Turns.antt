@@ -14,11 +14,11 @@ use Rattle.log_protocol.specs.Tables.{In}
 use Rattle.log_tie.specs.Setting.{Setting}
 use Rattle.node_base.specs.declared.effects.Effect.{Effect}
 use Rattle.node_base.specs.declared.effects.Effect.TheVariants.{Send, Answer, Lose, Does}
-use Rattle.node_ties.specs.node_index_tie.Sight.{Texts}
-pub use Rattle.node_ties.specs.owner_index_tie.Acting.{ActSo, AllSo, EffectSo}
-use Rattle.node_ties.specs.owner_index_tie.CleanerEvents.{NewFor}
-use Rattle.node_ties.specs.owner_index_tie.ClientEvents.{IsNewerAtSlot}
-use Rattle.node_ties.specs.owner_index_tie.Filing.{FilesOwed, IsSameLog, after_effect, filed_after}
+use Rattle.node_slots.specs.node_index_tie.Sight.{Texts}
+pub use Rattle.node_slots.specs.owner_index_tie.Acting.{ActSo, AllSo, EffectSo}
+use Rattle.node_slots.specs.owner_index_tie.CleanerEvents.{NewFor}
+use Rattle.node_slots.specs.owner_index_tie.ClientEvents.{IsNewerAtSlot}
+use Rattle.node_slots.specs.owner_index_tie.Filing.{FilesOwed, IsSameLog, after_effect, filed_after}
 use Rattle.segment_format.specs.declared.segment.Segment.{Segment}
 use Rattle.version_model.specs.declared.act.Act.{Act}
 use Rattle.version_model.specs.declared.act.Act.TheVariants.{Filed as ActsFiled}

@@ -1,7 +1,7 @@
 -- What the owner of a log did in a run, a client, the cleaner or a manager: the acts of its events.
 use Rattle.std.specs.Prelude.{ℕ, ◌==◌, Bool, false, List, [], ◌∷◌, ◌++◌, drop, length, take, if◌then◌else◌}
-use Rattle.cleaner_parts.specs.Starting.{cleaner_log}
-use Rattle.manager_parts.specs.Lasting.{log_of}
+use Rattle.cleaner_job.specs.Starting.{cleaner_log}
+use Rattle.manager_slots.specs.Lasting.{log_of}
 use Rattle.core_world.specs.AnyNode.{any_start, any_step}
 use Rattle.core_world.specs.declared.any_node.AnyNode.{AnyNode}
 use Rattle.version_model.specs.declared.act.Act.{Act}

@@ -1,6 +1,6 @@
 -- Horizons of logs: how far those that the registry keeps may be, by what the owner of a log did.
 use Rattle.std.specs.Prelude.{◌≡◌, ◌≤◌, ◌⊎◌, ℕ, suc, List, Option, Some, None}
-use Rattle.cleaner_parts.specs.Starting.{cleaner_log}
+use Rattle.cleaner_job.specs.Starting.{cleaner_log}
 use Rattle.core_world.specs.AnyNode.{any_start, any_step}
 use Rattle.core_world.specs.declared.any_node.AnyNode.{AnyNode}
 use Rattle.core_world.specs.declared.any_node.AnyNode.TheVariants as any

@@ -1,9 +1,9 @@
 -- The line of a log over a run: its small world at each count of the events, each of which runs on to the next.
 use Rattle.std.specs.Prelude.{◌≡◌, ℕ, suc, Some, None, slice_get}
-use Rattle.log_ties.specs.cleaner_log_tie.OwnerEvents.{Grows}
-use Rattle.log_ties.specs.client_log_tie.ClientEvents.{Grown, ServesStraight}
-use Rattle.log_ties.specs.client_log_tie.Owner.{Scene}
-use Rattle.log_ties.specs.client_log_tie.Puts.{PutsOwn, ServesBy}
+use Rattle.node_logs.specs.cleaner_log_tie.OwnerEvents.{Grows}
+use Rattle.node_logs.specs.client_log_tie.ClientEvents.{Grown, ServesStraight}
+use Rattle.node_logs.specs.client_log_tie.Owner.{Scene}
+use Rattle.node_logs.specs.client_log_tie.Puts.{PutsOwn, ServesBy}
 use Rattle.core_world.specs.AnyNode.{any_start, any_step}
 use Rattle.core_world.specs.declared.any_node.AnyNode.{AnyNode}
 use Rattle.log_law.specs.Events.{Runs}

@@ -1,12 +1,12 @@
 -- Logs of clients, of the cleaner and of managers: what holds at each moment of a run of the segments that their owners told to be filed, and of all that is
 -- held or sent under a name.
 use Rattle.std.specs.Prelude.{◌≡◌, ◌≤◌, ℕ, Some}
-use Rattle.cleaner_parts.specs.Starting.{cleaner_log}
+use Rattle.cleaner_job.specs.Starting.{cleaner_log}
 use Rattle.core_world.specs.AnyNode.{any_start, any_step}
 use Rattle.core_world.specs.declared.any_node.AnyNode.{AnyNode}
 use Rattle.fragment_store.specs.ShelfState.{ShelfState, held_at}
 use Rattle.group_map.specs.declared.group.Group.{Group}
-use Rattle.manager_parts.specs.Lasting.{log_of as managers_log}
+use Rattle.manager_slots.specs.Lasting.{log_of as managers_log}
 use Rattle.node_base.specs.Setups.{IsSetup}
 use Rattle.segment_format.specs.declared.segment.Segment.{Segment}
 use Rattle.token_protocol.specs.Basics.{In}

@@ -1,10 +1,10 @@
 -- Whose log it is: a client's, the cleaner's, or a manager's. The small world of a log has its owner by name and by number.
 use Rattle.std.specs.Prelude.{◌≡◌, ◌≤◌, ◌<◌, ℕ, Bool, true, false}
-use Rattle.cleaner_parts.specs.Starting.{cleaner_log}
-use Rattle.log_ties.specs.client_log_tie.Owner.{Scene}
+use Rattle.cleaner_job.specs.Starting.{cleaner_log}
+use Rattle.node_logs.specs.client_log_tie.Owner.{Scene}
 use Rattle.log_tie.specs.Setting.{Setting}
-use Rattle.manager_parts.specs.Lasting.{log_of}
-use Rattle.log_ties.specs.node_log_tie.Sight.{Asker}
+use Rattle.manager_slots.specs.Lasting.{log_of}
+use Rattle.node_logs.specs.node_log_tie.Sight.{Asker}
 use Rattle.xfs_base.specs.declared.node.NodeId.{NodeId}
 use Rattle.xfs_base.specs.declared.node.NodeId.TheVariants.{Client, Manager, Cleaner}
 

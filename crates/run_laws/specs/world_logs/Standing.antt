@@ -1,11 +1,11 @@
 -- How a moment of a run stands to a moment of the small world of one log, a client's, the cleaner's or a manager's: each node is seen there, and what was sent,
 -- filed and deleted is so there.
 use Rattle.std.specs.Prelude.{◌≡◌, ◌⊎◌, ◌≤◌, ℕ, true, List, Some}
-use Rattle.log_ties.specs.cleaner_log_tie.Owner.{CleanerAgrees}
+use Rattle.node_logs.specs.cleaner_log_tie.Owner.{CleanerAgrees}
 use Rattle.cleaner_node.specs.declared.cleaner.Phase.{Phase as CleanerPhase}
 use Rattle.client_log.specs.Transition.{has_next}
-use Rattle.log_ties.specs.client_log_tie.ClientEvents.{PhaseWritten}
-use Rattle.log_ties.specs.client_log_tie.Owner.{Scene, ClientAgrees}
+use Rattle.node_logs.specs.client_log_tie.ClientEvents.{PhaseWritten}
+use Rattle.node_logs.specs.client_log_tie.Owner.{Scene, ClientAgrees}
 use Rattle.client_node.specs.declared.phase.Phase.{Phase}
 use Rattle.core_world.specs.declared.any_node.AnyNode.{AnyNode}
 use Rattle.core_world.specs.declared.any_node.AnyNode.TheVariants as any
@@ -14,12 +14,12 @@ use Rattle.log_law.specs.Net.{Net}
 use Rattle.log_law.specs.Openings.{next_number}
 use Rattle.log_protocol.specs.Tables as tables
 use Rattle.log_tie.specs.Setting.{Setting}
-use Rattle.log_ties.specs.manager_log_tie.Owner.{ManagerAgrees}
+use Rattle.node_logs.specs.manager_log_tie.Owner.{ManagerAgrees}
 use Rattle.manager_node.specs.declared.phase.Phase.{Phase as ManagerPhase}
-use Rattle.log_ties.specs.node_log_tie.CleanerEvents.{CleanerSeen}
-use Rattle.log_ties.specs.node_log_tie.RegistryEvents.{RegistrySeen}
-use Rattle.log_ties.specs.node_log_tie.ServerEvents.{ServerSeen}
-use Rattle.log_ties.specs.node_log_tie.Sight.{PacketSeen}
+use Rattle.node_logs.specs.node_log_tie.CleanerEvents.{CleanerSeen}
+use Rattle.node_logs.specs.node_log_tie.RegistryEvents.{RegistrySeen}
+use Rattle.node_logs.specs.node_log_tie.ServerEvents.{ServerSeen}
+use Rattle.node_logs.specs.node_log_tie.Sight.{PacketSeen}
 use Rattle.segment_format.specs.declared.segment.Segment.{Segment}
 use Rattle.token_protocol.specs.Basics.{In}
 use Rattle.version_model.specs.declared.act.Act.{Act}

@@ -2,10 +2,10 @@
 use Rattle.std.specs.Prelude.{List}
 use Rattle.act_tie.specs.BlockActs.{acts_of}
 use Rattle.act_tie.specs.Shown.{FallsApart}
-use Rattle.telling_ties.specs.entry_tie.CleanerTells.{CleanerHoldsRise, CleanerStartsTold, CleanerTellsTold}
-use Rattle.telling_ties.specs.entry_tie.ClientTells.{ClientHoldsRise, ClientStartsTold, ClientsTellTold}
-use Rattle.telling_ties.specs.entry_tie.ManagerTells.{ManagerHoldsRise, ManagerStartsTold, ManagersTellTold}
-use Rattle.telling_ties.specs.entry_tie.OtherTells.{RegistryTellsNone, ServersTellNone}
+use Rattle.node_tellings.specs.entry_tie.CleanerTells.{CleanerHoldsRise, CleanerStartsTold, CleanerTellsTold}
+use Rattle.node_tellings.specs.entry_tie.ClientTells.{ClientHoldsRise, ClientStartsTold, ClientsTellTold}
+use Rattle.node_tellings.specs.entry_tie.ManagerTells.{ManagerHoldsRise, ManagerStartsTold, ManagersTellTold}
+use Rattle.node_tellings.specs.entry_tie.OtherTells.{RegistryTellsNone, ServersTellNone}
 use Rattle.run_laws.specs.epoch_law.Managers.{TokensAreGiven}
 use Rattle.run_laws.specs.epoch_law.Polls.{CleanerPollsAreLow, ClientPollsAreLow, HorizonsStay}
 use Rattle.run_laws.specs.epoch_law.Slots.{SlotsStartSame, SlotsStaySame}
@@ -20,25 +20,25 @@ use Rattle.log_law.specs.Openings.{NothingFiledOpening}
 use Rattle.log_law.specs.Places.{APlaceNamesOneContent}
 use Rattle.log_law.specs.Tails.{ARestartFilesTheTail}
 use Rattle.log_law.specs.Written.{WhatFlewIsWritten}
-use Rattle.node_ties.specs.node_index_tie.ManagerEvents as managers
-use Rattle.node_ties.specs.node_index_tie.ManagerEvents.{ManagersStay}
-use Rattle.node_ties.specs.node_index_tie.RegistryEvents as registries
-use Rattle.node_ties.specs.node_tie.AskingEvents.{EventsKeepAsking, StartsAsking}
-use Rattle.node_ties.specs.node_tie.CleanerEvents.{CleanerStarts, CleanerTakes}
-use Rattle.node_ties.specs.node_tie.ClientEvents.{ClientTakes}
-use Rattle.node_ties.specs.node_tie.ManagerEvents.{FirstManagerAgrees, ManagerEventGoes}
-use Rattle.node_ties.specs.node_tie.RegistryEvents.{RegistryEventGoes, RegistryStarts}
-use Rattle.node_ties.specs.node_tie.StoreEvents.{ServersSay}
-use Rattle.node_ties.specs.owner_index_tie.CleanerEvents.{CleanerEventGoes, CleanerStartAgrees, CleanerStays}
-use Rattle.node_ties.specs.owner_index_tie.ClientEvents.{ClientEventGoes, ClientsStay, FirstClientAgrees}
-use Rattle.node_ties.specs.owner_index_tie.ServerEvents.{ServerEventGoes}
+use Rattle.node_slots.specs.node_index_tie.ManagerEvents as managers
+use Rattle.node_slots.specs.node_index_tie.ManagerEvents.{ManagersStay}
+use Rattle.node_slots.specs.node_index_tie.RegistryEvents as registries
+use Rattle.node_slots.specs.node_tie.AskingEvents.{EventsKeepAsking, StartsAsking}
+use Rattle.node_slots.specs.node_tie.CleanerEvents.{CleanerStarts, CleanerTakes}
+use Rattle.node_slots.specs.node_tie.ClientEvents.{ClientTakes}
+use Rattle.node_slots.specs.node_tie.ManagerEvents.{FirstManagerAgrees, ManagerEventGoes}
+use Rattle.node_slots.specs.node_tie.RegistryEvents.{RegistryEventGoes, RegistryStarts}
+use Rattle.node_slots.specs.node_tie.StoreEvents.{ServersSay}
+use Rattle.node_slots.specs.owner_index_tie.CleanerEvents.{CleanerEventGoes, CleanerStartAgrees, CleanerStays}
+use Rattle.node_slots.specs.owner_index_tie.ClientEvents.{ClientEventGoes, ClientsStay, FirstClientAgrees}
+use Rattle.node_slots.specs.owner_index_tie.ServerEvents.{ServerEventGoes}
 use Rattle.run_laws.specs.place_law.Answers.{RunsAnswer}
 use Rattle.run_laws.specs.place_law.Copies.{ChecksAreOfRows, LivesTellCopies}
 use Rattle.run_laws.specs.place_law.Fetches.{FetchesReadThere, RunsReadTheirFetches}
 use Rattle.run_laws.specs.place_law.Hands.{HandsReadTexts}
 use Rattle.run_laws.specs.place_law.Reads.{TakeoversReadTexts}
 use Rattle.run_laws.specs.reading_law.Readings.{RunsReadWhatCame}
-use Rattle.telling_ties.specs.reading_tie.TakeoverReads.{TakeoversReadWhatCame}
+use Rattle.node_tellings.specs.reading_tie.TakeoverReads.{TakeoversReadWhatCame}
 use Rattle.run_laws.specs.reopening_law.Falls.{FallsGoOn, FallsStay}
 use Rattle.run_laws.specs.reopening_law.Flights.{FlightsOfOwners, OthersLeaveFlights}
 use Rattle.run_laws.specs.reopening_law.Openings.{ClientsComeBack, EndsAreReopenings, OpeningsEndByOne}

@@ -4,15 +4,15 @@ use Rattle.std.specs.Prelude.{◌≡◌, ℕ, List}
 use Rattle.std.specs.List.{AllByRecursion}
 use Rattle.core_world.specs.declared.any_node.AnyNode.{AnyNode}
 use Rattle.core_world.specs.declared.any_node.AnyNode.TheVariants as any
-use Rattle.telling_ties.specs.entry_tie.CleanerTells.{CleanerHolds}
-use Rattle.telling_ties.specs.entry_tie.ClientTells.{ClientHolds}
-use Rattle.telling_ties.specs.entry_tie.ManagerTells.{ManagerHolds, PartTold}
-use Rattle.telling_ties.specs.entry_tie.Told.{FiledRows, PacketTold, told_by_rows}
+use Rattle.node_tellings.specs.entry_tie.CleanerTells.{CleanerHolds}
+use Rattle.node_tellings.specs.entry_tie.ClientTells.{ClientHolds}
+use Rattle.node_tellings.specs.entry_tie.ManagerTells.{ManagerHolds, PartTold}
+use Rattle.node_tellings.specs.entry_tie.Told.{FiledRows, PacketTold, told_by_rows}
 use Rattle.log_protocol.specs.Tables as tables
 use Rattle.log_tie.specs.Setting.{Setting}
-use Rattle.telling_ties.specs.part_tie.ManagerNames.{ManagerNames}
-use Rattle.telling_ties.specs.part_tie.Names.{Known, PacketNames}
-use Rattle.telling_ties.specs.part_tie.RegistryNames.{RegistryNames}
+use Rattle.node_tellings.specs.part_tie.ManagerNames.{ManagerNames}
+use Rattle.node_tellings.specs.part_tie.Names.{Known, PacketNames}
+use Rattle.node_tellings.specs.part_tie.RegistryNames.{RegistryNames}
 use Rattle.segment_format.specs.declared.segment.Segment.{Segment}
 use Rattle.token_protocol.specs.Basics.{In}
 use Rattle.version_model.specs.declared.act.Act.TheVariants as act

@@ -8,8 +8,8 @@ use Rattle.log_flight.specs.Flights.{FlightState}
 use Rattle.log_law.specs.Net.{Net as LogNet}
 use Rattle.log_law.specs.Restarts.{IsSureRun, last_flight}
 use Rattle.log_tie.specs.Setting.{Setting}
-use Rattle.node_ties.specs.node_tie.RegistryEvents.{RegistrySound}
-use Rattle.node_ties.specs.owner_index_tie.CleanerMoves.{ItemMoves}
+use Rattle.node_slots.specs.node_tie.RegistryEvents.{RegistrySound}
+use Rattle.node_slots.specs.owner_index_tie.CleanerMoves.{ItemMoves}
 use Rattle.run_laws.specs.reopening_law.Falls.{FallKnown}
 use Rattle.run_laws.specs.reopening_law.Flights.{LastFlew}
 use Rattle.segment_format.specs.declared.segment.Segment.{Segment}

@@ -5,9 +5,9 @@ use Rattle.core_world.specs.declared.any_node.AnyNode.{AnyNode}
 use Rattle.core_world.specs.declared.any_node.AnyNode.TheVariants as any
 use Rattle.log_protocol.specs.Tables as tables
 use Rattle.log_tie.specs.Setting.{Setting}
-use Rattle.telling_ties.specs.reference_tie.Managers.{ManagerRefers}
-use Rattle.telling_ties.specs.reference_tie.References.{PacketRefers, References}
-use Rattle.telling_ties.specs.reference_tie.Registries.{RegistryRefers}
+use Rattle.node_tellings.specs.reference_tie.Managers.{ManagerRefers}
+use Rattle.node_tellings.specs.reference_tie.References.{PacketRefers, References}
+use Rattle.node_tellings.specs.reference_tie.Registries.{RegistryRefers}
 use Rattle.segment_format.specs.declared.segment.Segment.{Segment}
 use Rattle.token_protocol.specs.Basics.{In}
 use Rattle.wire_msg.specs.declared.packet.Packet.{Packet}

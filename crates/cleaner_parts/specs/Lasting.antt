@@ -1,7 +1,0 @@
--- What of the cleaner outlives a crash.
-use Rattle.std.specs.Prelude.{Bool, ◌&&◌}
-use Rattle.node_base.specs.Room.{has_room}
-use Rattle.cleaner_parts.specs.declared.lasting.Lasting.{Lasting}
-
-abbrev pub lasting_room : Lasting → Bool
-lasting_room l = has_room l.inc && has_room l.questions.last

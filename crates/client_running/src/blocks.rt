@@ -1,0 +1,199 @@
+//! Calls on blocks.
+ghost use Rattle.std.specs.Prelude.{◌≡◌, ◌++◌, IfOk, OnOk, true};
+ghost use Rattle.client_running.specs.Blocks.{gets, puts, puts_at, puts_again, syncs, changes_if_fits, lets_go, makes};
+ghost use Rattle.client_serving.specs.Flights.{held_at};
+ghost use Rattle.token_client.specs.Held.{may_write};
+
+use client_call::blocks::{fits, is_settled, may_put, note_written, read, synced};
+use client_serving::Serving;
+use file_plan::{BlockAnswer, BlockCall};
+use node_base::Effects;
+use std::alloc::Global;
+use token_client::In;
+use version_model::Act;
+use xfs_base::{BlockId, Entry, Mem, Mode, Value};
+
+/// Makes a call on blocks: its answer, or none where it must wait.
+#[tactic(auto, unfolding(crate::specs::Blocks::makes))]
+pub(crate) fn make(
+    alloc: Global,
+    effects: &mut Effects,
+    serving: &mut Serving,
+    call: &BlockCall,
+) -> Mem<Option<BlockAnswer>>
+    ensures state { OnOk result (serving.new ≡ (makes serving.old call.now).done.state) }
+    ensures effects { OnOk result (effects.new ≡ effects.old ++ (makes serving.old call.now).done.outs) }
+    ensures answer { IfOk result (λ answer. answer ≡ (makes serving.old call.now).answer) }
+{
+    match call {
+        BlockCall::Get(block) => get(alloc, effects, serving, *block),
+        BlockCall::Put(block, value) => put(alloc, effects, serving, *block, value),
+        BlockCall::PutAt(block, ver, value) => {
+            put_at(alloc, effects, serving, *block, *ver, value)
+        }
+        BlockCall::Sync => sync(alloc, effects, serving),
+    }
+}
+
+#[tactic(auto, unfolding(crate::specs::Blocks::gets))]
+fn get(
+    alloc: Global,
+    effects: &mut Effects,
+    serving: &mut Serving,
+    block: BlockId,
+) -> Mem<Option<BlockAnswer>>
+    ensures state { OnOk result (serving.new ≡ (gets serving.old block).done.state) }
+    ensures effects { OnOk result (effects.new ≡ effects.old ++ (gets serving.old block).done.outs) }
+    ensures answer { IfOk result (λ answer. answer ≡ (gets serving.old block).answer) }
+{
+    if serving.tokens.mode(block).is_nothing() {
+        serving.hand(
+            alloc,
+            effects,
+            In::Need {
+                block,
+                mode: Mode::Copy,
+            },
+        )?;
+        return Ok(None);
+    }
+    drop(serving.cache.take(alloc, coop_cache::In::Touch(block))?);
+    let answer = read(
+        alloc,
+        effects,
+        serving.lasting.number,
+        &serving.tokens,
+        block,
+    )?;
+    Ok(Some(answer))
+}
+
+#[tactic(auto, unfolding(crate::specs::Blocks::puts))]
+fn put(
+    alloc: Global,
+    effects: &mut Effects,
+    serving: &mut Serving,
+    block: BlockId,
+    value: &Value,
+) -> Mem<Option<BlockAnswer>>
+    ensures state { OnOk result (serving.new ≡ (puts serving.old block value.now).done.state) }
+    ensures effects { OnOk result (effects.new ≡ effects.old ++ (puts serving.old block value.now).done.outs) }
+    ensures answer { IfOk result (λ answer. answer ≡ (puts serving.old block value.now).answer) }
+{
+    if !may_put(&serving.tokens, block) {
+        serving.hand(
+            alloc,
+            effects,
+            In::Need {
+                block,
+                mode: Mode::Own,
+            },
+        )?;
+        return Ok(None);
+    }
+    change(alloc, effects, serving, block, value)
+}
+
+#[tactic(auto, unfolding(crate::specs::Blocks::puts_at))]
+fn put_at(
+    alloc: Global,
+    effects: &mut Effects,
+    serving: &mut Serving,
+    block: BlockId,
+    ver: u64,
+    value: &Value,
+) -> Mem<Option<BlockAnswer>>
+    ensures state { OnOk result (serving.new ≡ (puts_at serving.old block ver value.now).done.state) }
+    ensures effects { OnOk result (effects.new ≡ effects.old ++ (puts_at serving.old block ver value.now).done.outs) }
+    ensures answer { IfOk result (λ answer. answer ≡ (puts_at serving.old block ver value.now).answer) }
+{
+    if !may_put(&serving.tokens, block) {
+        serving.hand(
+            alloc,
+            effects,
+            In::Need {
+                block,
+                mode: Mode::Own,
+            },
+        )?;
+        return Ok(None);
+    }
+    put_again(alloc, effects, serving, block, ver, value)
+}
+
+// A block that may be written is, where its version is still this one.
+fn put_again(
+    alloc: Global,
+    effects: &mut Effects,
+    serving: &mut Serving,
+    block: BlockId,
+    ver: u64,
+    value: &Value,
+) -> Mem<Option<BlockAnswer>>
+    requires { may_write (held_at serving.old block) ≡ true }
+    ensures state { OnOk result (serving.new ≡ (puts_again serving.old block ver value.now).done.state) }
+    ensures effects { OnOk result (effects.new ≡ effects.old ++ (puts_again serving.old block ver value.now).done.outs) }
+    ensures answer { IfOk result (λ answer. answer ≡ (puts_again serving.old block ver value.now).answer) }
+{
+    if serving.tokens.ver(block) == ver {
+        return change(alloc, effects, serving, block, value);
+    }
+    let_go(alloc, serving, block)?;
+    Ok(Some(BlockAnswer::Changed))
+}
+
+#[tactic(auto, unfolding(crate::specs::Blocks::syncs))]
+fn sync(alloc: Global, effects: &mut Effects, serving: &mut Serving) -> Mem<Option<BlockAnswer>>
+    ensures state { OnOk result (serving.new ≡ (syncs serving.old).done.state) }
+    ensures effects { OnOk result (effects.new ≡ effects.old ++ (syncs serving.old).done.outs) }
+    ensures answer { IfOk result (λ answer. answer ≡ (syncs serving.old).answer) }
+{
+    serving.seal(alloc, effects)?;
+    synced(effects, serving.lasting.number, is_settled(&serving.log))
+}
+
+// Writes a block that may be written, as a segment can hold what is put.
+#[tactic(auto, unfolding(crate::specs::Blocks::changes_if_fits, crate::specs::Blocks::changes))]
+fn change(
+    alloc: Global,
+    effects: &mut Effects,
+    serving: &mut Serving,
+    block: BlockId,
+    value: &Value,
+) -> Mem<Option<BlockAnswer>>
+    requires { may_write (held_at serving.old block) ≡ true }
+    ensures state { OnOk result (serving.new ≡ (changes_if_fits serving.old block value.now).done.state) }
+    ensures effects { OnOk result (effects.new ≡ effects.old ++ (changes_if_fits serving.old block value.now).done.outs) }
+    ensures answer { IfOk result (λ answer. answer ≡ (changes_if_fits serving.old block value.now).answer) }
+{
+    fits(&serving.tokens, block, value);
+    effects.act(Act::Wrote {
+        client: serving.lasting.number,
+        block,
+        value: value.copy(alloc)?,
+    })?;
+    note_written(alloc, &mut serving.tokens, &mut serving.cache, block, value)?;
+    let ver = serving.tokens.ver(block);
+    let put = client_log::In::Put {
+        block,
+        entry: Entry {
+            ver,
+            hop: 0,
+            place: None,
+        },
+        value: value.copy(alloc)?,
+    };
+    serving.write(alloc, effects, put)?;
+    Ok(Some(BlockAnswer::Put(ver)))
+}
+
+// A block that was granted to be written, and wasn't, is let go: it has no value yet.
+fn let_go(alloc: Global, serving: &mut Serving, block: BlockId) -> Mem<()>
+    ensures { OnOk result (serving.new ≡ lets_go serving.old block) }
+{
+    if !serving.tokens.value(block).is_none() {
+        return Ok(());
+    }
+    drop(serving.tokens.take(alloc, In::Evict { block })?);
+    serving.note_gone(alloc, block)
+}

@@ -1,7 +1,0 @@
-use Rattle.earned_losses.proofs.fetching_law.Present.{reads_by_present_groups}
-use Rattle.earned_losses.proofs.fetching_law.reads_by_present_groups.Goals as goal
-
-pub returns : goal.returns
-returns c = record {
-  present = reads_by_present_groups;
-}

@@ -1,9 +1,0 @@
-use Rattle.log_ties.proofs.client_log_tie.ClientTakes.{client_takes}
-use Rattle.log_ties.proofs.client_log_tie.Starts.{client_starts}
-use Rattle.log_ties.proofs.client_log_tie.client_log_events_are_seen.Goals as goal
-
-pub returns : goal.returns
-returns c = record {
-  start = client_starts;
-  events = client_takes;
-}

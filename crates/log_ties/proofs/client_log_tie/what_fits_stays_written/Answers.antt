@@ -1,5 +1,0 @@
-use Rattle.log_ties.proofs.client_log_tie.Written.{what_fits_stays_written}
-use Rattle.log_ties.proofs.client_log_tie.what_fits_stays_written.Goals as goal
-
-pub returns : goal.returns
-returns c = what_fits_stays_written

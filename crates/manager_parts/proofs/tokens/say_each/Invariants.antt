@@ -1,8 +1,0 @@
-use Rattle.std.proofs.Common.{◌≡◌, ◌++◌, drop}
-use Rattle.std.specs.List.{flat_map}
-use Rattle.manager_parts.specs.Tokens.{said}
-use Rattle.manager_parts.proofs.tokens.say_each.Given as goal
-
--- what is sent so far and what is to be sent is all
-abbrev pub invariant-loop-out : goal.invariant-loop-out
-invariant-loop-out l = l.effects ++ flat_map (said l.slot l.epoch) (drop l.out-index l.outs) ≡ l.initial.effects ++ flat_map (said l.slot l.epoch) l.outs

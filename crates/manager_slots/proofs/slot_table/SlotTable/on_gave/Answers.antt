@@ -1,0 +1,23 @@
+use Rattle.std.proofs.Common.{List, Option, ◌++◌, sym, ◌∙◌}
+use Rattle.std.proofs.lemmas.List.{append-nil}
+use Rattle.manager_slots.specs.SlotTable.{on_gave, in_slot}
+use Rattle.manager_slots.specs.Tokens as tokens
+use Rattle.xfs_base.specs.Blocks.{slot_of}
+use Rattle.node_base.specs.declared.effects.Effect.{Effect}
+use Rattle.manager_slots.specs.declared.slot_phase.SlotPhase.{SlotPhase}
+use Rattle.manager_slots.proofs.Lent.{as_found, as_missing}
+use Rattle.manager_slots.proofs.slot_table.SlotTable.on_gave.Goals as goal
+use Rattle.manager_slots.proofs.slot_table.SlotTable.on_gave.Goals.{in-Some, in-None}
+
+pub returns-clause-effects : goal.returns-clause-effects
+unfolding on_gave
+returns-clause-effects c =
+    let made = c.args.effects.now in
+    let f : Option SlotPhase → List Effect =
+    λ o. made ++ (in_slot c.args.self.now (slot_of c.args.gave.block.ino.0) (λ p. tokens.on_gave p c.args.client c.args.gave) o).outs in
+    elim c.match-get_mut.branch [
+      | in-Some w ↦ as_found f _ _ _ _ _ c.get_mut.ensures.item c.self.view_is
+          (c.from.ensures ∙ c.slot-slot.ensures) _ _ _ w.in-Some.is _ _ w.effects-is w.result-is w.on_gave.ensures.effects
+      | in-None w ↦ as_missing f _ _ _ _ _ c.get_mut.ensures.item c.self.view_is (c.from.ensures ∙ c.slot-slot.ensures) _ w.in-None.is _ _ w.effects-is
+          (sym (append-nil made))
+    ]

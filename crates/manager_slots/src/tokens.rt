@@ -1,0 +1,299 @@
+//! What a manager does for the clients and the cleaner in a slot.
+ghost use Rattle.std.specs.Prelude.{◌≡◌, ◌++◌, OnOk};
+ghost use Rattle.std.specs.List.{flat_map};
+ghost use Rattle.manager_slots.specs.Tokens.{owner_of, grants, forwards, said, takes, on_want, on_gave, on_deltas, check_said, on_check, on_usage_ask, on_tick};
+
+use crate::slot_phase::SlotPhase;
+use node_base::Effects;
+use std::alloc::Global;
+use token_manager::{In, Out};
+use wire_msg::{
+    Body, Check, Dead, DeltaAck, Deltas, Forward, Gave, Gone, Grant, Live, Recall, Usage, UsageAsk,
+    Want,
+};
+use xfs_base::{LogId, Mem, NodeId};
+
+/// A client wants a block.
+#[tactic(auto, unfolding(crate::specs::Tokens::on_want))]
+pub(crate) fn on_want(
+    alloc: Global,
+    effects: &mut Effects,
+    phase: &mut SlotPhase,
+    client: u8,
+    want: Want,
+) -> Mem<()>
+    ensures state { OnOk result (phase.new ≡ (on_want phase.old client want).state) }
+    ensures effects { OnOk result (effects.new ≡ effects.old ++ (on_want phase.old client want).outs) }
+{
+    match phase {
+        SlotPhase::Broken { epoch, seg } => {
+            let gone = Gone {
+                block: want.block,
+                epoch: *epoch,
+                inc: want.inc,
+                req: want.req,
+                seg: *seg,
+            };
+            effects.send(NodeId::Client(client), Body::Gone(gone))
+        }
+        _ => {
+            let input = In::Want {
+                client,
+                block: want.block,
+                inc: want.inc,
+                req: want.req,
+                again: want.again,
+                mode: want.mode,
+                end: want.end,
+            };
+            take(alloc, effects, phase, want.block.ino.slot(), input)
+        }
+    }
+}
+
+/// A client has given a block up.
+pub(crate) fn on_gave(
+    alloc: Global,
+    effects: &mut Effects,
+    phase: &mut SlotPhase,
+    client: u8,
+    gave: Gave,
+) -> Mem<()>
+    ensures state { OnOk result (phase.new ≡ (on_gave phase.old client gave).state) }
+    ensures effects { OnOk result (effects.new ≡ effects.old ++ (on_gave phase.old client gave).outs) }
+{
+    let input = In::Gave {
+        client,
+        block: gave.block,
+        stamp: gave.stamp,
+        end: gave.end,
+    };
+    take(alloc, effects, phase, gave.block.ino.slot(), input)
+}
+
+/// A log tells what its segments say of the slot's blocks.
+pub(crate) fn on_deltas(
+    alloc: Global,
+    effects: &mut Effects,
+    phase: &mut SlotPhase,
+    log: LogId,
+    deltas: &Deltas,
+) -> Mem<()>
+    ensures state { OnOk result (phase.new ≡ (on_deltas phase.old log deltas.now).state) }
+    ensures effects { OnOk result (effects.new ≡ effects.old ++ (on_deltas phase.old log deltas.now).outs) }
+{
+    let input = In::Deltas {
+        log,
+        first: deltas.first,
+        upto: deltas.upto,
+        rows: deltas.rows.copy(alloc)?,
+    };
+    take(alloc, effects, phase, deltas.slot, input)
+}
+
+/// The cleaner asks whether a block's newest version lies at a place.
+#[tactic(auto, unfolding(crate::specs::Tokens::on_check))]
+pub(crate) fn on_check(
+    alloc: Global,
+    effects: &mut Effects,
+    phase: &mut SlotPhase,
+    check: Check,
+) -> Mem<()>
+    ensures state { OnOk result (phase.new ≡ (on_check phase.old check).state) }
+    ensures effects { OnOk result (effects.new ≡ effects.old ++ (on_check phase.old check).outs) }
+{
+    let SlotPhase::Active(active) = phase else {
+        return Ok(());
+    };
+    let epoch = active.slot.epoch();
+    let input = In::Check {
+        block: check.block,
+        place: check.place,
+    };
+    let outs = active.slot.take(alloc, input)?;
+    answer_each(effects, check, epoch, outs.as_slice())
+}
+
+fn answer_each(effects: &mut Effects, check: Check, epoch: u32, outs: &[Out]) -> Mem<()>
+    ensures { OnOk result (effects.new ≡ effects.old ++ flat_map (check_said check epoch) outs.now) }
+{
+    for out in outs {
+        answer(effects, check, epoch, *out)?;
+    }
+    Ok(())
+}
+
+// Whether the block's newest version lies at the place.
+#[tactic(auto, unfolding(crate::specs::Tokens::check_said))]
+fn answer(effects: &mut Effects, check: Check, epoch: u32, out: Out) -> Mem<()>
+    ensures { OnOk result (effects.new ≡ effects.old ++ check_said check epoch out) }
+{
+    let Check { block, ask, .. } = check;
+    let body = match out {
+        Out::Live { entry } => Body::Live(Live {
+            block,
+            ask,
+            epoch,
+            entry,
+        }),
+        _ => Body::Dead(Dead { block, ask, epoch }),
+    };
+    effects.send(NodeId::Cleaner, body)
+}
+
+/// The cleaner asks how many live blocks each segment has.
+#[tactic(auto, unfolding(crate::specs::Tokens::on_usage_ask))]
+pub(crate) fn on_usage_ask(
+    alloc: Global,
+    effects: &mut Effects,
+    phase: &SlotPhase,
+    asked: UsageAsk,
+) -> Mem<()>
+    ensures { OnOk result (effects.new ≡ effects.old ++ on_usage_ask phase.now asked) }
+{
+    let SlotPhase::Active(active) = phase else {
+        return Ok(());
+    };
+    let usage = Usage {
+        slot: asked.slot,
+        ask: asked.ask,
+        epoch: active.slot.epoch(),
+        counts: active.slot.usage(alloc)?,
+    };
+    effects.send(NodeId::Cleaner, Body::Usage(usage))
+}
+
+/// Time passes: recalls that aren't answered are sent again.
+pub(crate) fn on_tick(
+    alloc: Global,
+    effects: &mut Effects,
+    phase: &mut SlotPhase,
+    slot: u8,
+) -> Mem<()>
+    ensures state { OnOk result (phase.new ≡ (on_tick phase.old slot).state) }
+    ensures effects { OnOk result (effects.new ≡ effects.old ++ (on_tick phase.old slot).outs) }
+{
+    take(alloc, effects, phase, slot, In::Tick)
+}
+
+// A slot that is managed takes an input, and what it says is sent.
+#[tactic(auto, unfolding(crate::specs::Tokens::takes))]
+fn take(
+    alloc: Global,
+    effects: &mut Effects,
+    phase: &mut SlotPhase,
+    number: u8,
+    input: In,
+) -> Mem<()>
+    ensures state { OnOk result (phase.new ≡ (takes phase.old number input).state) }
+    ensures effects { OnOk result (effects.new ≡ effects.old ++ (takes phase.old number input).outs) }
+{
+    let SlotPhase::Active(active) = phase else {
+        drop(input);
+        return Ok(());
+    };
+    let epoch = active.slot.epoch();
+    let outs = active.slot.take(alloc, input)?;
+    say_each(effects, number, epoch, outs.as_slice())
+}
+
+fn say_each(effects: &mut Effects, slot: u8, epoch: u32, outs: &[Out]) -> Mem<()>
+    ensures { OnOk result (effects.new ≡ effects.old ++ flat_map (said slot epoch) outs.now) }
+{
+    for out in outs {
+        say(effects, slot, epoch, *out)?;
+    }
+    Ok(())
+}
+
+// What a slot says is sent. A check is answered where it is asked.
+#[tactic(auto, unfolding(crate::specs::Tokens::said))]
+fn say(effects: &mut Effects, slot: u8, epoch: u32, out: Out) -> Mem<()>
+    ensures { OnOk result (effects.new ≡ effects.old ++ said slot epoch out) }
+{
+    match out {
+        Out::Grant { .. } => say_grant(effects, out),
+        Out::Forward { .. } => say_forward(effects, out),
+        Out::Recall {
+            client,
+            block,
+            stamp,
+            keep,
+        } => {
+            let recall = Recall { block, stamp, keep };
+            effects.send(NodeId::Client(client), Body::Recall(recall))
+        }
+        Out::Applied { log, applied } => {
+            let ack = DeltaAck {
+                slot,
+                epoch,
+                applied,
+            };
+            effects.send(owner_of(log), Body::DeltaAck(ack))
+        }
+        Out::Live { .. } | Out::Dead => Ok(()),
+    }
+}
+
+fn say_grant(effects: &mut Effects, out: Out) -> Mem<()>
+    ensures { OnOk result (effects.new ≡ effects.old ++ grants out) }
+{
+    let Out::Grant {
+        client,
+        block,
+        stamp,
+        inc,
+        req,
+        mode,
+        entry,
+    } = out
+    else {
+        return Ok(());
+    };
+    let grant = Grant {
+        block,
+        stamp,
+        inc,
+        req,
+        mode,
+        entry,
+    };
+    effects.send(NodeId::Client(client), Body::Grant(grant))
+}
+
+fn say_forward(effects: &mut Effects, out: Out) -> Mem<()>
+    ensures { OnOk result (effects.new ≡ effects.old ++ forwards out) }
+{
+    let Out::Forward {
+        client,
+        block,
+        stamp,
+        to,
+        inc,
+        req,
+        ver,
+    } = out
+    else {
+        return Ok(());
+    };
+    let forward = Forward {
+        block,
+        stamp,
+        to,
+        inc,
+        req,
+        ver,
+    };
+    effects.send(NodeId::Client(client), Body::Forward(forward))
+}
+
+// The client or the cleaner, whichever writes this log.
+fn owner_of(log: LogId) -> NodeId
+    ensures { result ≡ owner_of log }
+{
+    if log.0 == 9 {
+        NodeId::Cleaner
+    } else {
+        NodeId::Client(log.0)
+    }
+}

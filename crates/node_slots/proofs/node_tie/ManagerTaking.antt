@@ -1,0 +1,379 @@
+-- What a takeover makes of its inputs in the small world: nothing, or in the end that the slot is active there.
+use Rattle.std.proofs.Common.{◌≡◌, ℕ, ◌+◌, ◌==◌, ◌≤◌, ◌<◌, nat_lt, Bool, List, [], ◌∷◌, inl, inr, ⊎_elim, filter, Some, None, refl, sym, ap, subst, ◌∙◌, arith}
+use Rattle.std.proofs.lemmas.Bool.{eqb-true, ltb-false, ltb-true}
+use Rattle.std.proofs.lemmas.List.Elements.{All-nil}
+use Rattle.xfs_base.proofs.Booleans.{by_test}
+use Rattle.xfs_base.specs.Blocks.{slot_of}
+use Rattle.xfs_base.specs.declared.block.BlockId.{BlockId}
+use Rattle.xfs_base.specs.declared.entry.Entry.{Entry}
+use Rattle.xfs_base.specs.declared.news.SlotNews.{SlotNews}
+use Rattle.xfs_base.specs.declared.node.NodeId.{NodeId}
+use Rattle.xfs_base.specs.declared.node.NodeId.TheVariants.{Client, Manager, Server, Cleaner, Registry}
+use Rattle.xfs_base.specs.declared.segment.SegName.{SegName}
+use Rattle.xfs_base.specs.Steps.{still}
+use Rattle.xfs_base.proofs.Alls.{all_append}
+use Rattle.group_map.specs.GroupMapState.{GroupMapState}
+use Rattle.node_base.specs.declared.effects.Effect.{Effect}
+use Rattle.node_base.specs.declared.questions.Asked.{Asked}
+use Rattle.node_base.specs.declared.questions.Questions.{Questions}
+use Rattle.slot_beliefs.specs.declared.job.Job.{Job}
+use Rattle.takeover.specs.declared.input.In.{In as Input}
+use Rattle.takeover.specs.declared.input.In.TheVariants as input
+use Rattle.takeover.specs.declared.output.Out.{Out}
+use Rattle.takeover.specs.declared.output.Out.TheVariants as out
+use Rattle.takeover.specs.declared.report.Report.{Report as Heard}
+use Rattle.takeover.specs.Reports.{beliefs_of, applied_of}
+use Rattle.takeover.specs.TakeState.{TakeState, started}
+use Rattle.takeover.specs.Transition.{active, transition}
+use Rattle.token_law.specs.Net.{Net}
+use Rattle.token_law.specs.Net.Packet.{ReportSent}
+use Rattle.token_law.specs.Net.Runs.{Begun, On}
+use Rattle.token_manager.specs.SlotState.{SlotState}
+use Rattle.token_manager.specs.Transition.{started as slot_started}
+use Rattle.token_protocol.specs.Basics.{put, In}
+use Rattle.token_protocol.specs.Premises.{Premise}
+use Rattle.token_protocol.proofs.Refining.{put_each}
+use Rattle.wire_msg.specs.declared.deltas.Report.{Report}
+use Rattle.manager_slots.specs.declared.slot_phase.SlotPhase.{SlotPhase}
+use Rattle.manager_slots.specs.declared.slot_phase.SlotPhase.TheVariants as phase
+use Rattle.manager_slots.specs.declared.slot_phase.Taking.{Taking}
+use Rattle.manager_slots.specs.Slots.{epoch_of}
+use Rattle.manager_slots.specs.SlotTable.{Hearer, hears_of}
+use Rattle.manager_slots.specs.Takeovers.{Asker, asker, Done, fetches, says, says_each, heard, takes, is_wanted, asks_again, report_input, on_report, phase_of}
+use Rattle.node_slots.specs.node_tie.ManagerEvents.{HeldAt, ReportKnown, TakingAgrees, PhaseAgrees, OtherAgrees, ReportGets, NewsGets, HasGathered, Completes, TakeoverGets, LastReportGets}
+use Rattle.node_slots.proofs.node_tie.SmallWorld.{premise, premise_by}
+use Rattle.node_slots.proofs.node_tie.ManagerActive.{put_here, put_there, some_none, Event, event_staying, event_same, Other}
+use Rattle.node_slots.proofs.node_tie.ManagerMoves.{held_is, DoesAt, Stays, Rises, stays_same, stays_then, rises_of}
+use Rattle.node_slots.proofs.node_tie.ManagerPlain.{plain_hands_nothing, maps_said}
+use Rattle.node_slots.proofs.node_tie.ManagerReports.{activates, cleaner_promised}
+use Rattle.node_slots.proofs.node_tie.ManagerTakes.{IsPlain, ArePlain, Hands, Brings, took, tick_said, kept_plain}
+
+-- what a question of a takeover, and a lost segment, leave true of a slot
+pub record Lasts (A : SlotPhase → Type 0) : Type 0 where
+  pub asked : (t : Taking) (f : Asked) → A (phase.Taking t) → A (phase.Taking (record t { fetches = f }))
+  pub broken : (e : ℕ) (seg : SegName) → A (phase.Broken e seg)
+
+module _ (logs : Bool) (members part limit life : ℕ) where
+  pub phases_last : (n : Net) → Lasts (PhaseAgrees members part n)
+  phases_last n = record {
+    asked = λ t f h. record { free = h.free; slot = h.slot; epoch = h.epoch; clients = h.clients; reported = h.reported; once = h.once; ready = h.ready };
+    broken = λ e seg. tt;
+  }
+
+  pub others_last : (k : ℕ) → Lasts (OtherAgrees k)
+  others_last k = record { asked = λ t f h. tt; broken = λ e seg. tt }
+
+  -- ---- what is said but that the slot is active
+
+  pub record Quiet (A : SlotPhase → Type 0) (n : Net) (p : SlotPhase) (d : Done) : Type 0 where
+    pub agrees : A d.state.phase
+    pub stays : Stays logs members part limit life n p d.state.phase d.outs
+
+  -- its polls name an epoch that is within the bound
+  abbrev pub IsLow : ℕ → SlotPhase → Type 0
+  IsLow k p = k ≡ part → epoch_of p ≤ limit
+
+  module _ (A : SlotPhase → Type 0) (lasts : Lasts A) (n : Net) (k : ℕ) where
+    quiet_still : (a : Asker) → A a.phase → Quiet A n a.phase (still a)
+    quiet_still a agrees = record { agrees = agrees; stays = stays_same logs members part limit life n a.phase [] tt }
+
+    quiet_fetches : (p : SlotPhase) (q : Questions) (server : ℕ) (name : SegName) (own : ℕ) → A p → Quiet A n p (fetches p q server name own)
+    quiet_fetches (phase.Taking t) q server name own agrees =
+        record { agrees = lasts.asked t _ agrees; stays = record { epoch = refl; taking = λ e h. h; held = λ e h. h; does = (tt, tt) } }
+    quiet_fetches (phase.Away epoch) q server name own agrees = quiet_still (asker (phase.Away epoch) q) agrees
+    quiet_fetches (phase.Active active) q server name own agrees = quiet_still (asker (phase.Active active) q) agrees
+    quiet_fetches (phase.Broken epoch seg) q server name own agrees = quiet_still (asker (phase.Broken epoch seg) q) agrees
+
+    quiet_says : (a : Asker) (o : Out) → IsPlain o → A a.phase → IsLow k a.phase → Quiet A n a.phase (says k a o)
+    unfolding says
+    quiet_says a (out.Poll to) plain agrees low = record { agrees = agrees; stays = stays_same logs members part limit life n a.phase _ (low, tt) }
+    quiet_says a (out.Fetch server name own) plain agrees low = quiet_fetches a.phase a.questions server name own agrees
+    quiet_says a (out.Active epoch index beliefs applied) plain agrees low = absurd plain
+    quiet_says a (out.Lost seg) plain agrees low = record {
+      agrees = lasts.broken
+          (epoch_of a.phase) seg;
+      stays = record { epoch = refl; taking = λ e h. absurd h; held = λ e h. absurd h; does = (tt, tt) };
+    }
+
+    pub quiet_each : (a : Asker) (outs : List Out) → ArePlain outs → A a.phase → IsLow k a.phase → Quiet A n a.phase (says_each k a outs)
+    unfolding says_each
+    quiet_each a [] plain agrees low = quiet_still a agrees
+    quiet_each a (o ∷ os) plain agrees low =
+        let one = quiet_says a o plain.0 agrees low in
+        let rest = quiet_each (says k a o).state os plain.1 one.agrees (λ same. let l = low same in let e = one.stays.epoch in omega arith) in
+        record {
+          agrees = rest.agrees;
+          stays = stays_then logs members part limit life n a.phase (says k a o).state.phase _ (says k a o).outs _ one.stays rest.stays;
+        }
+
+    -- time alone says nothing else
+    pub quiet_ticks : (p : SlotPhase) (q : Questions) → A p → IsLow k p → Quiet A n p (takes (asker p q) k input.Tick)
+    unfolding takes heard
+    quiet_ticks (phase.Taking t) q agrees low = quiet_each (asker (phase.Taking t) q) (transition t.take input.Tick).outs (tick_said t.take) agrees low
+    quiet_ticks (phase.Away epoch) q agrees low = quiet_each (asker (phase.Away epoch) q) [] tt agrees low
+    quiet_ticks (phase.Active active) q agrees low = quiet_each (asker (phase.Active active) q) [] tt agrees low
+    quiet_ticks (phase.Broken epoch seg) q agrees low = quiet_each (asker (phase.Broken epoch seg) q) [] tt agrees low
+
+    pub quiet_asks : (p : SlotPhase) (q : Questions) (polls : Bool) → A p → IsLow k p → Quiet A n p (asks_again (asker p q) k polls)
+    unfolding asks_again heard
+    quiet_asks (phase.Taking t) q polls agrees low = quiet_each (asker (phase.Taking t) q) (filter (is_wanted polls) (transition t.take input.Tick).outs)
+        (kept_plain (is_wanted polls) (transition t.take input.Tick).outs (tick_said t.take)) agrees low
+    quiet_asks (phase.Away epoch) q polls agrees low = quiet_each (asker (phase.Away epoch) q) [] tt agrees low
+    quiet_asks (phase.Active active) q polls agrees low = quiet_each (asker (phase.Active active) q) [] tt agrees low
+    quiet_asks (phase.Broken epoch seg) q polls agrees low = quiet_each (asker (phase.Broken epoch seg) q) [] tt agrees low
+
+  -- ---- any input, of the slot
+
+  abbrev pub AskEvent : Net → SlotPhase → Done → Type 0
+  AskEvent n p d = Event logs members part limit life n p d.state.phase d.outs
+
+  event_of : (n : Net) (p : SlotPhase) (d : Done) → Quiet (PhaseAgrees members part n) n p d → AskEvent n p d
+  event_of n p d t = event_staying logs members part limit life n p d.state.phase d.outs t.stays t.agrees
+
+  -- the takeover hands the slot out
+  handed : (n : Net) (t : Taking) (q : Questions) (k : ℕ) (index : List (BlockId × Entry)) → TakingAgrees members part n t
+      → Hands t.take (active t.take index ∷ []) → Premise logs (HasGathered members part n t.take index)
+      → AskEvent n (phase.Taking t) (says_each k (asker (phase.Taking t) q) (active t.take index ∷ []))
+  unfolding says_each says applied_of
+  handed n t q k index agrees hands gathered =
+      let e = t.take.news.epoch in
+      let of : e ≡ t.epoch = agrees.epoch in
+      let applied = applied_of t.take.news.horizon t.take.reports in
+      let z : SlotState = slot_started e index (beliefs_of t.take.reports) applied in
+      let next : Net = record n { slots = put n.slots e (Some z) } in
+      record {
+        next = next;
+        moves = record {
+          runs = On Begun (activates members part n logs t.take e index applied (ap n.slots of ∙ agrees.free) agrees.clients hands.reported agrees.once
+              (λ r fact. subst (λ x. ReportKnown members part n x r.from r.held r.end) (sym of) (agrees.reported r fact)) gathered);
+          tokens = refl;
+          up = refl;
+          books = refl;
+          acts = refl;
+          epoch = of;
+          slots = λ k other. put_there n.slots e (Some z) k (λ same. other (sym (same ∙ of)));
+          entered = put_each (λ k o. (y : SlotState) → o ≡ Some y → n.slots k ≡ None → (t.epoch ≡ k) × (k ≤ n.promised)) n.slots e (Some z)
+              (λ y _ _. (sym of, subst (λ x. x ≤ n.promised) (sym of) (cleaner_promised members part n t.take t.epoch hands.reported agrees.reported)))
+              (λ k other y some none. absurd (some_none y (sym some ∙ none)));
+          taking = λ k h. absurd h;
+          held = λ k h. sym of ∙ h;
+          grows = λ x fact. fact;
+          does = tt;
+        };
+        agrees = record { slot = z; there = put_here n.slots e (Some z); same = refl; nine = refl };
+      }
+
+  taken_on : (n : Net) (t : Taking) (given : Input) → TakingAgrees members part n t
+      → ((r : Heard) → Brings given r → ReportKnown members part n t.epoch r.from r.held r.end)
+      → TakingAgrees members part n (record t { take = (transition t.take given).state })
+  taken_on n t given agrees known =
+      let h = took t.take given agrees.ready agrees.once in
+      record {
+        free = agrees.free;
+        slot = ap (λ (x : SlotNews). x.slot) h.news ∙ agrees.slot;
+        epoch = ap (λ (x : SlotNews). x.epoch) h.news ∙ agrees.epoch;
+        clients = ap (λ c. c + 1) h.clients ∙ agrees.clients;
+        reported = λ r fact. ⊎_elim (λ old. agrees.reported r old) (λ new. known r new) (h.reports r fact);
+        once = h.once;
+        ready = h.ready;
+      }
+
+  -- what a takeover has taken doesn't count
+  from_taking : (n : Net) (t : Taking) (take : TakeState) (r : SlotPhase) (outs : List Effect)
+      → Event logs members part limit life n (phase.Taking (record t { take = take })) r outs → Event logs members part limit life n (phase.Taking t) r outs
+  from_taking n t take r outs h = record {
+    next = h.next;
+    moves = record {
+      runs = h.moves.runs;
+      tokens = h.moves.tokens;
+      up = h.moves.up;
+      books = h.moves.books;
+      acts = h.moves.acts;
+      epoch = h.moves.epoch;
+      slots = h.moves.slots;
+      entered = h.moves.entered;
+      taking = h.moves.taking;
+      held = h.moves.held;
+      grows = h.moves.grows;
+      does = h.moves.does;
+    };
+    agrees = h.agrees;
+  }
+
+  pub slot_hears : (n : Net) (k : ℕ) (p : SlotPhase) (q : Questions) (given : Input) → PhaseAgrees members part n p → IsLow k p
+      → ((r : Heard) → Brings given r → ReportKnown members part n (epoch_of p) r.from r.held r.end) → TakeoverGets logs members part n p given
+      → AskEvent n p (takes (asker p q) k given)
+  unfolding takes heard
+  slot_hears n k (phase.Away epoch) q given agrees low known owed = event_of n (phase.Away epoch) _
+      (quiet_each (PhaseAgrees members part n) (phases_last n) n k (asker (phase.Away epoch) q) [] tt agrees low)
+  slot_hears n k (phase.Active a) q given agrees low known owed = event_of n (phase.Active a) _
+      (quiet_each (PhaseAgrees members part n) (phases_last n) n k (asker (phase.Active a) q) [] tt agrees low)
+  slot_hears n k (phase.Broken epoch seg) q given agrees low known owed = event_of n (phase.Broken epoch seg) _
+      (quiet_each (PhaseAgrees members part n) (phases_last n) n k (asker (phase.Broken epoch seg) q) [] tt agrees low)
+  slot_hears n k (phase.Taking t) q given agrees low known owed =
+      let u : Taking = record t { take = (transition t.take given).state } in
+      let on = taken_on n t given agrees known in
+      ⊎_elim
+      (λ plain. event_of n (phase.Taking t) (says_each k (asker (phase.Taking u) q) (transition t.take given).outs)
+      (let d = quiet_each (PhaseAgrees members part n) (phases_last n) n k (asker (phase.Taking u) q) (transition t.take given).outs plain on low in
+      record { agrees = d.agrees; stays = record { epoch = d.stays.epoch; taking = d.stays.taking; held = d.stays.held; does = d.stays.does } }))
+      (λ hands. subst (λ os. AskEvent n (phase.Taking t) (says_each k (asker (phase.Taking u) q) os)) (sym hands.says_active)
+      (from_taking n t u.take _ _ (handed n u q k hands.index on (record { index = hands.index; says_active = refl; reported = hands.reported })
+      (premise_by logs (λ (owed : Completes members part n t.take given). owed hands.index (subst (In _) (sym hands.says_active) (inl refl))) owed))))
+      (took t.take given agrees.ready agrees.once).said
+
+  -- a report, where it is of the slot
+  pub slot_reports : (n : Net) (p : SlotPhase) (q : Questions) (from : NodeId) (report : Report) → PhaseAgrees members part n p → epoch_of p ≤ limit
+      → report.slot ≡ part → ReportGets part n members from report → LastReportGets logs members part n p from report
+      → AskEvent n p (on_report (asker p q) from report)
+  slot_reports n p q from report agrees low of gets owed =
+      by_test (AskEvent n p) (report.epoch == epoch_of p) (takes (asker p q) report.slot (report_input from report)) (still (asker p q))
+      (λ same. slot_hears n report.slot p q (report_input from report) agrees (λ _. low)
+      (λ r fact. known from gets (eqb-true report.epoch (epoch_of p) same) r fact) (owed of (eqb-true report.epoch (epoch_of p) same)))
+      (λ _. event_same logs members part limit life n p [] agrees tt)
+    where
+      of_node : (node : NodeId) → ReportGets part n members node report → report.epoch ≡ epoch_of p
+          → ReportKnown members part n (epoch_of p) node report.held report.end
+      of_node (Client c) g same = (g.0, g.1, subst (λ e. In (ReportSent c e report.held report.end.seq) n.sent) same (g.2 of))
+      of_node (Manager c) g same = tt
+      of_node (Server c) g same = tt
+      of_node Cleaner g same = subst (λ e. e ≤ n.promised) same (g of)
+      of_node Registry g same = tt
+
+      known : (node : NodeId) → ReportGets part n members node report → report.epoch ≡ epoch_of p → (r : Heard)
+          → r ≡ record { from = node; held = report.held; end = report.end } → ReportKnown members part n (epoch_of p) r.from r.held r.end
+      known node g same r fact = subst (λ (x : Heard). ReportKnown members part n (epoch_of p) x.from x.held x.end) (sym fact) (of_node node g same)
+
+  -- newer groups complete no takeover
+  pub maps_owed : (n : Net) (p : SlotPhase) (groups : GroupMapState) → TakeoverGets logs members part n p (input.Maps groups)
+  maps_owed n (phase.Taking t) groups = premise logs
+      (λ index fact _. absurd (plain_hands_nothing (transition t.take (input.Maps groups)).outs (maps_said t.take groups) _ _ _ _ fact))
+  maps_owed n (phase.Active a) groups = tt
+  maps_owed n (phase.Away epoch) groups = tt
+  maps_owed n (phase.Broken epoch seg) groups = tt
+
+  -- ---- any input, of another slot
+
+  pub other_says : (n : Net) (k : ℕ) (a : Asker) (o : Out) → (k ≡ part → ⊥) → OtherAgrees k a.phase
+      → Other logs members part limit life n k (says k a o).state.phase (says k a o).outs
+  unfolding says
+  other_says n k a (out.Poll to) other agrees = record { agrees = agrees; does = (λ same. absurd (other same), tt) }
+  other_says n k a (out.Fetch server name own) other agrees = let d = quiet_fetches (OtherAgrees k)
+      (others_last k) n k a.phase a.questions server name own agrees in record { agrees = d.agrees; does = d.stays.does }
+  other_says n k a (out.Active epoch index beliefs applied) other agrees =
+      record { agrees = All-nil (λ (e : BlockId × Job). (slot_of e.0.ino.0 ≡ k) × (slot_of e.1.want.block.ino.0 ≡ k)); does = tt }
+  other_says n k a (out.Lost seg) other agrees = record { agrees = tt; does = (tt, tt) }
+
+  other_each : (n : Net) (k : ℕ) (a : Asker) (outs : List Out) → (k ≡ part → ⊥) → OtherAgrees k a.phase
+      → Other logs members part limit life n k (says_each k a outs).state.phase (says_each k a outs).outs
+  unfolding says_each
+  other_each n k a [] other agrees = record { agrees = agrees; does = tt }
+  other_each n k a (o ∷ os) other agrees =
+      let one = other_says n k a o other agrees in
+      let rest = other_each n k (says k a o).state os other one.agrees in
+      record { agrees = rest.agrees; does = all_append (DoesAt logs members part limit life n) (says k a o).outs _ one.does rest.does }
+
+  abbrev pub OtherAsks : Net → ℕ → Done → Type 0
+  OtherAsks n k d = Other logs members part limit life n k d.state.phase d.outs
+
+  other_heard : (k : ℕ) (p : SlotPhase) (given : Input) → OtherAgrees k p → OtherAgrees k (heard p given).state
+  unfolding heard
+  other_heard k (phase.Taking t) given agrees = tt
+  other_heard k (phase.Away epoch) given agrees = tt
+  other_heard k (phase.Active active) given agrees = agrees
+  other_heard k (phase.Broken epoch seg) given agrees = tt
+
+  pub other_hears : (n : Net) (k : ℕ) (a : Asker) (given : Input) → (k ≡ part → ⊥) → OtherAgrees k a.phase → OtherAsks n k (takes a k given)
+  unfolding takes
+  other_hears n k a given other agrees = other_each n k (record a { phase = (heard a.phase given).state }) (heard a.phase given).outs other
+      (other_heard k a.phase given agrees)
+
+  pub other_asks : (n : Net) (k : ℕ) (a : Asker) (polls : Bool) → (k ≡ part → ⊥) → OtherAgrees k a.phase → OtherAsks n k (asks_again a k polls)
+  unfolding asks_again
+  other_asks n k a polls other agrees = other_each n k (record a { phase = (heard a.phase input.Tick).state })
+      (filter (is_wanted polls) (heard a.phase input.Tick).outs) other (other_heard k a.phase input.Tick agrees)
+
+  pub other_reports : (n : Net) (a : Asker) (from : NodeId) (report : Report) → (report.slot ≡ part → ⊥) → OtherAgrees report.slot a.phase
+      → OtherAsks n report.slot (on_report a from report)
+  other_reports n a from report other agrees =
+      by_test (OtherAsks n report.slot) (report.epoch == epoch_of a.phase) (takes a report.slot (report_input from report)) (still a)
+      (λ _. other_hears n report.slot a (report_input from report) other agrees) (λ _. record { agrees = agrees; does = tt })
+
+  -- ---- news of the slot, and of another
+
+  pub record Rose (named : ℕ → Type 0) (n : Net) (p : SlotPhase) (news : SlotNews) (d : Done) : Type 0 where
+    pub rises : Rises logs members part limit life named n p d.state.phase d.outs
+    pub agrees : PhaseAgrees members part n d.state.phase
+    pub within : epoch_of d.state.phase ≤ limit
+    pub above : news.epoch ≤ epoch_of d.state.phase
+
+  record Begins (named : ℕ → Type 0) (n : Net) (news : SlotNews) (r : SlotPhase) : Type 0 where
+    agrees : PhaseAgrees members part n r
+    epoch : epoch_of r ≡ news.epoch
+    held : (e : ℕ) → HeldAt r e → named e
+
+  begins : (named : ℕ → Type 0) (j : ℕ) (n : Net) (number : ℕ) (news : SlotNews) (groups : GroupMapState) (clients known : ℕ) → number ≡ j
+      → clients + 1 ≡ members → news.slot ≡ part → known < news.epoch → NewsGets part limit j n known news
+      → (news.manager ≡ j → named news.epoch) → Begins named n news (phase_of number news groups clients)
+  begins named j n number news groups clients known is_j many of later gets named_ =
+      by_test (Begins named n news) (news.manager == number)
+      (phase.Taking (record { epoch = news.epoch; take = started news groups clients; fetches = record { own = 0; ask = 0 } })) (phase.Away news.epoch)
+      (λ same. let ours : news.manager ≡ j = eqb-true news.manager number same ∙ is_j in record {
+        agrees = record {
+          free = gets.new ours later;
+          slot = of;
+          epoch = refl;
+          clients = many;
+          reported = λ r fact. absurd fact;
+          once = λ r q fact. absurd fact;
+          ready = λ p fact. absurd (some_none p (sym fact));
+        };
+        epoch = refl;
+        held = λ e h. subst named h (named_ ours);
+      })
+      (λ _. record { agrees = tt; epoch = refl; held = λ e h. absurd h })
+
+  pub slot_hears_of : (named : ℕ → Type 0) (j : ℕ) (n : Net) (h : Hearer) (news : SlotNews) (one : Asker) → h.ears.number ≡ j → h.ears.clients + 1 ≡ members
+      → news.slot ≡ part → PhaseAgrees members part n one.phase → epoch_of one.phase ≤ limit
+      → NewsGets part limit j n (epoch_of one.phase) news → (news.manager ≡ j → named news.epoch) → Rose named n one.phase news (hears_of h news one)
+  unfolding hears_of
+  slot_hears_of named j n h news one is_j many of agrees low gets named_ =
+      let begun = phase_of h.ears.number news h.groups h.ears.clients in
+      by_test (Rose named n one.phase news) (nat_lt (epoch_of one.phase) news.epoch) (takes (record one { phase = begun }) news.slot input.Tick) (still one)
+      (λ less.
+      let later : epoch_of one.phase < news.epoch = ltb-true (epoch_of one.phase) news.epoch less in
+      let b = begins named j n h.ears.number news h.groups h.ears.clients (epoch_of one.phase) is_j many of later gets named_ in
+      let in_bound = gets.within in
+      let first : epoch_of begun ≡ news.epoch = b.epoch in
+      let t = quiet_ticks (PhaseAgrees members part n) (phases_last n) n news.slot begun one.questions b.agrees (λ _. omega arith) in
+      let last = t.stays.epoch in
+      record {
+        rises = record {
+          rises = omega arith;
+          held = λ e k. let there = t.stays.held e k in let at = held_is begun e there in inr
+              (b.held e there, omega arith);
+          does = t.stays.does;
+        };
+        agrees = t.agrees;
+        within = omega arith;
+        above = omega arith;
+      })
+      (λ no. record {
+        rises = rises_of logs members part limit life named n one.phase one.phase []
+            (stays_same logs members part limit life n one.phase [] tt);
+        agrees = agrees;
+        within = low;
+        above = ltb-false (epoch_of one.phase) news.epoch no;
+      })
+
+  pub other_hears_of : (n : Net) (h : Hearer) (news : SlotNews) (one : Asker) → (news.slot ≡ part → ⊥) → OtherAgrees news.slot one.phase
+      → OtherAsks n news.slot (hears_of h news one)
+  unfolding hears_of
+  other_hears_of n h news one other agrees =
+      let begun = phase_of h.ears.number news h.groups h.ears.clients in
+      by_test (OtherAsks n news.slot) (nat_lt (epoch_of one.phase) news.epoch) (takes (record one { phase = begun }) news.slot input.Tick) (still one)
+      (λ _. other_hears n news.slot (record one { phase = begun }) input.Tick other
+      (by_test (OtherAgrees news.slot) (news.manager == h.ears.number)
+      (phase.Taking (record { epoch = news.epoch; take = started news h.groups h.ears.clients; fetches = record { own = 0; ask = 0 } }))
+      (phase.Away news.epoch) (λ _. tt) (λ _. tt)))
+      (λ _. record { agrees = agrees; does = tt })

@@ -1,0 +1,182 @@
+-- What a client that serves does once its log takes an input: it files nothing, or what was in flight first.
+use Rattle.std.proofs.Common.{⊎_elim, ◌≡◌, ◌≤◌, ◌<◌, ℕ, suc, ◌&&◌, Bool, List, [], ◌∷◌, Option, Some, None, sym, ap, subst, ◌∙◌}
+use Rattle.std.specs.List.{AllByRecursion, list_any}
+use Rattle.client_log.specs.declared.input.In.{In as Input}
+use Rattle.client_log.specs.declared.input.In.TheVariants as log_in
+use Rattle.client_log.specs.declared.output.Out.{Out}
+use Rattle.client_log.specs.declared.output.Out.TheVariants.{Send, Settled}
+use Rattle.client_log.specs.Transition as log
+use Rattle.client_log.specs.Transition.{end_from}
+use Rattle.client_call.specs.Flights.{is_settling, is_giving}
+use Rattle.client_call.specs.Lasting.{log_of}
+use Rattle.client_serving.specs.declared.serving.Serving.{Serving}
+use Rattle.client_serving.specs.Flights.{held_at, gives_up, gives_if_clean, feeds, settled_rows, settles, writes_one, seals_again, writes}
+use Rattle.client_serving.specs.Follow.{seals}
+use Rattle.client_serving.specs.Sends.{Done, gives}
+use Rattle.delta_feed.specs.Transition as feeding
+use Rattle.index_tie.specs.Filed.{Filed}
+use Rattle.index_tie.specs.Net.{Net}
+use Rattle.log_owner.specs.Sending.{store, name_of, pushes_all}
+use Rattle.node_slots.specs.node_index_tie.Pages.{FlightIsText}
+use Rattle.node_slots.specs.node_index_tie.Sight.{Texts}
+use Rattle.node_slots.proofs.node_index_tie.Flights.{IsSend}
+use Rattle.segment_format.specs.Rows.{rows_of}
+use Rattle.segment_format.specs.declared.segment.Segment.{Segment}
+use Rattle.token_client.specs.declared.held.Giving.{Giving}
+use Rattle.token_client.specs.Held.{is_dirty}
+use Rattle.token_client.specs.State.{dirty_in}
+use Rattle.version_model.specs.declared.act.Act.TheVariants.{Filed as ActsFiled}
+use Rattle.xfs_base.proofs.Booleans.{by_test}
+use Rattle.xfs_base.specs.declared.block.BlockId.{BlockId}
+use Rattle.xfs_base.specs.declared.entry.Entry.{Entry}
+use Rattle.xfs_base.specs.declared.segment.LogId.{LogId}
+use Rattle.xfs_base.specs.declared.segment.SegName.{SegName}
+use Rattle.xfs_base.specs.Steps.{still, saying, steps}
+use Rattle.node_slots.specs.owner_index_tie.Filing.{with_name, OwedAct}
+use Rattle.node_slots.specs.owner_index_tie.Owners.{LogNext}
+use Rattle.node_slots.proofs.owner_index_tie.Caching as cache
+use Rattle.node_slots.proofs.owner_index_tie.Frames as frames
+use Rattle.node_slots.proofs.owner_index_tie.Growing.{filed_stands}
+use Rattle.node_slots.proofs.owner_index_tie.ServingTokens as tokens
+use Rattle.node_slots.proofs.owner_index_tie.Standing.{Stands, rested, pushes_all_plain}
+use Rattle.node_slots.proofs.owner_index_tie.Turns.{Rests, Lands, Turns, Stays, put_stays, tick_stays, log_turns}
+
+-- ---- what files nothing
+
+module _ (part : ℕ) (n : Net) (l since : ℕ) (some : 0 < l) (limit : l ≤ 9) (f : Filed) where
+  abbrev At : Serving → Type 0
+  At s = tokens.At part n l since some limit f s
+
+  abbrev Goes : Done → Type 0
+  Goes d = tokens.Goes part n l since some limit f d
+
+  gives_up_so : (s : Serving) (block : BlockId) (giving : Option Giving) → At s → Goes (gives_up s block giving)
+  gives_up_so s block None h = tokens.still_so part n l since some limit f s h
+  gives_up_so s block (Some giving) h = tokens.takes_back_so part n l since some limit f s block giving.stamp giving.keep h
+
+  gives_if_clean_so : (s : Serving) (block : BlockId) → At s → Goes (gives_if_clean s block)
+  unfolding gives_if_clean
+  gives_if_clean_so s block h =
+      by_test (λ (d : Done). Goes d) (is_dirty (held_at s block)) (still s) (gives_up s block (held_at s block).giving)
+      (λ t. tokens.still_so part n l since some limit f s h) (λ t. gives_up_so s block (held_at s block).giving h)
+
+  pub given_up : (s : Serving) (blocks : List BlockId) → At s → Goes (steps gives_if_clean s blocks)
+  given_up s blocks h = frames.quiet_steps part n l since f At gives_if_clean gives_if_clean_so s blocks h
+
+  pub sends_so : (s : Serving) (outs : List Out) → At s → AllByRecursion IsSend outs → Goes (steps writes_one s outs)
+  unfolding writes_one
+  sends_so s [] h all = tokens.still_so part n l since some limit f s h
+  sends_so s (Send fragment member ∷ outs) h all =
+      frames.quiet_on part n l since f At (gives s (store fragment member ∷ [])) (steps writes_one s outs)
+      (tokens.plain_so part n l since some limit f s (store fragment member ∷ []) h (tt, tt))
+      (λ k. sends_so s outs k all.1)
+  sends_so s (Settled end rows ∷ outs) h all = absurd all.0
+
+  pub seals_again_so : (s : Serving) (settling : Bool) → At s → Goes (seals_again s settling)
+  seals_again_so s settling h =
+      by_test (λ (d : Done). Goes d) (settling && is_giving s.tokens) (seals s) (still s) (λ t. tokens.seals_so part n l since some limit f s h)
+      (λ t. tokens.still_so part n l since some limit f s h)
+
+  -- what the log said is done
+  abbrev pub said : Serving → List Out → Done
+  said s outs = (let d : Done = steps writes_one s outs in saying d.outs (seals_again d.state (list_any is_settling outs)))
+
+  pub rests_so : (s : Serving) (r : log.Done) → At s → Stays l s.log r → Goes (said (record s { log = r.state }) r.outs)
+  rests_so s r h k =
+      let t : Serving = record s { log = r.state } in
+      let d : Done = steps writes_one t r.outs in
+      frames.quiet_on part n l since f At d (seals_again d.state (list_any is_settling r.outs))
+      (sends_so t r.outs (rested part n l since f s.lasting.number s.log r.state s.feed h k.next k.rests.same) k.rests.sends)
+      (λ k. seals_again_so d.state (list_any is_settling r.outs) k)
+
+  -- a version is put, and time passes
+  pub puts_so : (s : Serving) (block : BlockId) (entry : Entry) (value : Option (List ℕ)) → At s → Goes (writes s (log_in.Put block entry value))
+  unfolding writes
+  puts_so s block entry value h =
+      let i = log_in.Put block entry value in rests_so s (log.transition s.log i) h
+      (put_stays l s.log h.seen.log block (record { entry = entry; value = value }))
+
+  pub ticks_so : (s : Serving) → At s → Goes (writes s log_in.Tick)
+  unfolding writes
+  ticks_so s h = rests_so s (log.transition s.log log_in.Tick) h (tick_stays l s.log h.seen.log)
+
+-- ---- what files
+
+module _ (New : Filed → Segment → Type 0) (part : ℕ) (texts : Texts) (n : Net) (l since : ℕ) (some : 0 < l) (limit : l ≤ 9) where
+  abbrev Stood : Filed → Serving → Type 0
+  Stood f s = Stands part n l since f s.lasting.number s.log s.feed
+
+  abbrev pub Files : Filed → Done → Type 0
+  Files f d = frames.Goes New part texts n l since Stood f d
+
+  -- what was in flight is settled
+  module _ (f : Filed) (s : Serving) (h : Stood f s) (text : FlightIsText texts s.log) (r : log.Done) (next : LogNext l r.state) (k : Lands s.log r) where
+    abbrev old : Segment
+    old = k.old.segment
+
+    abbrev name : SegName
+    name = name_of (log_of s.lasting) (end_from old)
+
+    name_is : name ≡ old.name
+    name_is = ap (λ (x : LogId). record { log = x; seq = old.name.seq; pass = old.name.pass })
+        (ap (λ m. record { 0 = m }) h.seen.number_is ∙ sym h.seen.log.own ∙ sym (h.seen.log.of k.old k.was))
+
+    at_next : old.name.seq ≡ suc (f.head l)
+    at_next = h.seen.log.next k.old k.was ∙ ap suc h.seen.end.seq
+
+    abbrev g : Filed
+    g = with_name texts l f name
+
+    abbrev t : Serving
+    t = record s { log = r.state }
+
+    abbrev fed : Serving
+    fed = feeds (settled_rows t (rows_of old)) (end_from old) (rows_of old)
+
+    fed_stands : OwedAct New texts l f (ActsFiled name) → Stood g fed
+    fed_stands owed = cache.settled_rows_so (λ number log feed. Stands part n l since g number log (feeding.settled feed old.name.seq (rows_of old))) t
+        (rows_of old)
+        (filed_stands part texts n l since f s.lasting.number r.state s.feed old New s.log name h at_next (ap texts name_is ∙ text k.old k.was)
+        (owed at_next) next
+        k.end at_next)
+
+    -- what comes after
+    abbrev gone : Done
+    gone = saying (pushes_all fed.managers fed.feed) (steps gives_if_clean fed (dirty_in t.tokens.blocks))
+
+    abbrev sent : Done
+    sent = saying gone.outs (steps writes_one gone.state k.rest)
+
+    abbrev behind : Done
+    behind = saying sent.outs (seals_again sent.state (list_any is_settling (Settled (end_from old) (rows_of old) ∷ k.rest)))
+
+    behind_so : OwedAct New texts l f (ActsFiled name) → frames.Quiet part n l since g (Stood g) behind
+    behind_so owed =
+        let at = fed_stands owed in
+        frames.quiet_on part n l since g (Stood g) sent (seals_again sent.state (list_any is_settling (Settled (end_from old) (rows_of old) ∷ k.rest)))
+        (frames.quiet_on part n l since g (Stood g) gone (steps writes_one gone.state k.rest)
+        (frames.quiet_after part n l since g (Stood g) (pushes_all fed.managers fed.feed) (steps gives_if_clean fed (dirty_in t.tokens.blocks))
+        (pushes_all_plain part n l since g some limit fed.managers fed.feed at.seen.feed)
+        (given_up part n l since some limit g fed (dirty_in t.tokens.blocks) at))
+        (λ i. sends_so part n l since some limit g gone.state k.rest i k.sends))
+        (λ i. seals_again_so part n l since some limit g sent.state (list_any is_settling (Settled (end_from old) (rows_of old) ∷ k.rest)) i)
+
+    lands_so : Files f (said part n l since some limit f t (Settled (end_from old) (rows_of old) ∷ k.rest))
+    unfolding writes_one settles
+    lands_so = frames.goes_filed New part texts n l since Stood f name behind
+        (ap (λ (x : Segment). x.name) (ap texts name_is ∙ text k.old k.was) ∙ sym name_is) behind_so
+
+  turns_so : (f : Filed) (s : Serving) (r : log.Done) → Stood f s → FlightIsText texts s.log → Turns l s.log r
+      → Files f (said part n l since some limit f (record s { log = r.state }) r.outs)
+  turns_so f s r h text turns =
+      ⊎_elim
+      (λ (rests : Rests s.log r). frames.goes_quiet New part texts n l since Stood f (said part n l since some limit f (record s { log = r.state }) r.outs)
+      (rests_so part n l since some limit f s r h (record { next = turns.next; rests = rests })))
+      (λ (lands : Lands s.log r). subst (λ outs. Files f (said part n l since some limit f (record s { log = r.state }) outs)) (sym lands.outs)
+      (lands_so f s h text r turns.next lands))
+      turns.went
+
+  -- any input
+  pub writes_so : (f : Filed) (s : Serving) (i : Input) → Stood f s → FlightIsText texts s.log → Files f (writes s i)
+  unfolding writes
+  writes_so f s i h text = turns_so f s (log.transition s.log i) h text (log_turns l s.log h.seen.log i)

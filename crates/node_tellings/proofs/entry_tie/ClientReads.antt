@@ -1,0 +1,260 @@
+-- What the tokens of a client have it read from logs, at each input: a block is read where a grant tells it to lie; and a reading that is begun is of one
+-- place.
+use Rattle.std.proofs.Common.{ℕ, Bool, List, [], ◌∷◌, Option, Some, None, is_some}
+use Rattle.std.specs.List.{AllByRecursion, list_any}
+use Rattle.std.specs.Map.{values_of}
+use Rattle.client_call.specs.Calls.{going_by, after_answer, may_make, file_call, call_of}
+use Rattle.client_call.specs.declared.call.Call.{Call}
+use Rattle.client_call.specs.declared.call.Going.TheVariants.{On, Ends}
+use Rattle.client_call.specs.declared.call.Going.{Going}
+use Rattle.client_call.specs.declared.call.Plan.TheVariants.{One, File}
+use Rattle.client_call.specs.declared.call.Plan.{Plan}
+use Rattle.client_call.specs.Reads.{heard, reading_in, call_with, is_fetched, kept_while}
+use Rattle.file_plan.specs.declared.block_call.BlockAnswer.{BlockAnswer}
+use Rattle.file_plan.specs.declared.block_call.Next.{Next as Planned}
+use Rattle.file_plan.specs.declared.block_call.Next.TheVariants.{Step as Steps, Reply}
+use Rattle.file_plan.specs.declared.state.PlanState.{PlanState}
+use Rattle.file_plan.specs.Plan as plans
+use Rattle.group_map.specs.GroupMapState.{GroupMapState}
+use Rattle.segment_format.specs.declared.segment.Segment.{Segment}
+use Rattle.segment_reading.specs.declared.reading.Next.TheVariants as next
+use Rattle.segment_reading.specs.declared.reading.Stage.{Stage}
+use Rattle.segment_reading.specs.declared.reading.Stage.TheVariants.{Asking, Between, Doubted, Over}
+use Rattle.segment_reading.specs.Reading.{ReadingState, Step, counts, read_as, judged, on_answer, goes_on, on_confirmed}
+use Rattle.stripe_code.specs.declared.round.RoundState.{RoundState}
+use Rattle.stripe_code.specs.declared.round.RoundState.TheVariants as rounds
+use Rattle.stripe_code.specs.declared.round.Told.{Told as Answered}
+use Rattle.stripe_code.specs.Round.{taken, state_of}
+use Rattle.token_client.specs.declared.held.Wanted.{Wanted}
+use Rattle.token_client.specs.declared.input.In.{In}
+use Rattle.token_client.specs.declared.input.In.TheVariants as input
+use Rattle.token_client.specs.declared.output.Out.{Out}
+use Rattle.token_client.specs.declared.output.Out.TheVariants as output
+use Rattle.token_client.specs.Held.{is_dirty, is_asking, must_ask, may_write, is_settled_by, may_end_fetch, may_evict}
+use Rattle.token_client.specs.State.{TokensState, held_of}
+use Rattle.token_client.specs.Transition.{Done, new_want, on_need, accepts, copy_next, on_granted, on_supplied, serves, supplies, on_forwarded, refetch, give, can_refetch, recalled_above, was_answered, recalled_again, recalled, is_promised, on_recalled, on_wrote, on_settled, on_fetched, on_evict, on_reask, on_quit, wanted_in, is_spent, repeated, ask_again, on_tick, transition}
+use Rattle.version_model.specs.declared.file_call.FileCall.{FileCall}
+use Rattle.version_model.specs.declared.work.Work.{Work}
+use Rattle.version_model.specs.declared.work.Work.TheVariants as work
+use Rattle.xfs_base.proofs.Booleans.{by_test}
+use Rattle.xfs_base.specs.declared.block.BlockId.{BlockId}
+use Rattle.xfs_base.specs.declared.entry.Entry.{Entry}
+use Rattle.xfs_base.specs.declared.entry.Place.{Place}
+use Rattle.xfs_base.specs.declared.token.Mode.{Mode}
+use Rattle.xfs_base.specs.declared.token.Mode.TheVariants.{Copy}
+use Rattle.xfs_base.specs.declared.token.Stamp.{Stamp}
+use Rattle.xfs_base.specs.Modes.{is_own}
+use Rattle.xfs_base.specs.Stamps.{is_later}
+use Rattle.xfs_base.specs.Steps.{still, saying, steps}
+use Rattle.xfs_base.proofs.Alls.{all_append, all_weaker}
+use Rattle.node_tellings.specs.entry_tie.ClientTells.{LiesTold, BlockTold, ReadingTold}
+use Rattle.node_tellings.specs.entry_tie.Told.{Told}
+use Rattle.node_tellings.proofs.entry_tie.ClientTokens.{InputTold, IsWant, asked_for, promise_wants}
+
+module _ (told : Told) where
+  -- ---- what the tokens say
+
+  -- a block is to be read where it is told to lie
+  abbrev pub OutTold : Out → Type 0
+  OutTold (output.Read block place) = LiesTold told block place
+  OutTold _ = Unit {0}
+
+  abbrev AllOut : Done → Type 0
+  AllOut d = AllByRecursion OutTold d.outs
+
+  a_want : (o : Out) → IsWant o → OutTold o
+  a_want (output.Want block req again mode) fact = tt
+  a_want (output.Gave block stamp) fact = tt
+  a_want (output.Flush block) fact = tt
+  a_want (output.Read block place) fact = absurd fact
+  a_want (output.Ready block) fact = tt
+  a_want (output.Supply block ver value) fact = tt
+
+  pub wants_told : (outs : List Out) → AllByRecursion IsWant outs → AllByRecursion OutTold outs
+  wants_told outs all = all_weaker IsWant OutTold a_want outs all
+
+  new_want_out : (s : TokensState) (block : BlockId) (mode : Mode) → AllOut (new_want s block mode)
+  new_want_out s block mode = wants_told (new_want s block mode).outs (asked_for s block mode)
+
+  need_out : (s : TokensState) (block : BlockId) (mode : Mode) → AllOut (on_need s block mode)
+  unfolding on_need
+  need_out s block mode =
+      by_test AllOut (must_ask (held_of s.blocks block) mode) (new_want s block mode) (still s) (λ _. new_want_out s block mode) (λ _. tt)
+
+  copy_out : (block : BlockId) (ver hop : ℕ) (place : Option Place) → told block (record {
+    ver =
+        ver;
+    hop = hop;
+    place = place;
+  }) → OutTold (copy_next block place)
+  copy_out block ver hop None fact = tt
+  copy_out block ver hop (Some place) fact = record { ver = ver; there = record { hop = hop; place_told = fact } }
+
+  granted_out : (s : TokensState) (block : BlockId) (stamp : Stamp) (inc req : ℕ) (mode : Mode) (entry : Entry) → told block entry
+      → AllOut (on_granted s block stamp inc req mode entry)
+  unfolding on_granted
+  granted_out s block stamp inc req mode entry fact =
+      by_test AllOut (accepts s block stamp inc req mode) _ (still s)
+      (λ _. (
+        by_test OutTold (is_own mode) (output.Ready block) (copy_next block entry.place) (λ _. tt)
+            (λ _. copy_out block entry.ver entry.hop entry.place fact),
+        tt,
+      ))
+      (λ _. tt)
+
+  supplied_out : (s : TokensState) (block : BlockId) (stamp : Stamp) (inc req ver : ℕ) (value : Option (List ℕ))
+      → AllOut (on_supplied s block stamp inc req ver value)
+  unfolding on_supplied
+  supplied_out s block stamp inc req ver value = by_test AllOut (accepts s block stamp inc req Copy) _ (still s) (λ _. (tt, tt)) (λ _. tt)
+
+  supplies_out : (block : BlockId) (ver : ℕ) (value : Option (Option (List ℕ))) → AllByRecursion OutTold (supplies block ver value)
+  supplies_out block ver None = tt
+  supplies_out block ver (Some value) = (tt, tt)
+
+  forwarded_out : (s : TokensState) (block : BlockId) (stamp : Stamp) (ver : ℕ) → AllOut (on_forwarded s block stamp ver)
+  unfolding on_forwarded
+  forwarded_out s block stamp ver =
+      by_test AllOut (serves s block stamp ver) (record { state = s; outs = supplies block ver (held_of s.blocks block).value }) (still s)
+      (λ _. supplies_out block ver (held_of s.blocks block).value) (λ _. tt)
+
+  refetch_out : (s : TokensState) (block : BlockId) → AllOut (refetch s block)
+  unfolding refetch
+  refetch_out s block = by_test AllOut (is_some (held_of s.blocks block).fetch) (new_want _ block Copy) (still s) (λ _. new_want_out _ block Copy) (λ _. tt)
+
+  give_out : (s : TokensState) (block : BlockId) (stamp : Stamp) (keep : Bool) → AllOut (give s block stamp keep)
+  unfolding give
+  give_out s block stamp keep = by_test AllOut (is_dirty (held_of s.blocks block)) _ _ (λ _. (tt, tt)) (λ _. (tt, tt))
+
+  above_out : (s : TokensState) (block : BlockId) (stamp : Stamp) (keep : Bool) → AllOut (recalled_above s block stamp keep)
+  unfolding recalled_above
+  above_out s block stamp keep =
+      by_test AllOut (can_refetch s block) (saying (refetch s block).outs (give (refetch s block).state block stamp keep)) (still s)
+      (λ _. all_append OutTold (refetch s block).outs (give (refetch s block).state block stamp keep).outs (refetch_out s block)
+      (give_out (refetch s block).state block stamp keep))
+      (λ _. tt)
+
+  again_out : (s : TokensState) (block : BlockId) (stamp : Stamp) → AllOut (recalled_again s block stamp)
+  unfolding recalled_again
+  again_out s block stamp = by_test AllOut (was_answered (held_of s.blocks block) stamp) _ (still s) (λ _. (tt, tt)) (λ _. tt)
+
+  recalled_out : (s : TokensState) (block : BlockId) (stamp : Stamp) (keep : Bool) → AllOut (recalled s block stamp keep)
+  unfolding recalled
+  recalled_out s block stamp keep =
+      by_test AllOut (is_later stamp (held_of s.blocks block).stamp) (recalled_above s block stamp keep) (recalled_again s block stamp)
+      (λ _. above_out s block stamp keep) (λ _. again_out s block stamp)
+
+  on_recalled_out : (s : TokensState) (block : BlockId) (stamp : Stamp) (keep : Bool) → AllOut (on_recalled s block stamp keep)
+  unfolding on_recalled
+  on_recalled_out s block stamp keep =
+      by_test AllOut (is_promised s block stamp) (recalled s block stamp keep) (still s) (λ _. recalled_out s block stamp keep) (λ _. tt)
+
+  repeated_out : (s : TokensState) (block : BlockId) (want : Option Wanted) → AllOut (repeated s block want)
+  repeated_out s block None = tt
+  repeated_out s block (Some w) = (tt, tt)
+
+  ask_again_out : (s : TokensState) (block : BlockId) → AllOut (ask_again s block)
+  unfolding ask_again
+  ask_again_out s block =
+      by_test AllOut (is_spent (held_of s.blocks block).want) (still s) (repeated s block (held_of s.blocks block).want) (λ _. tt)
+      (λ _. repeated_out s block (held_of s.blocks block).want)
+
+  all_asked_again : (s : TokensState) (blocks : List BlockId) → AllOut (steps ask_again s blocks)
+  all_asked_again s [] = tt
+  all_asked_again s (b ∷ bs) =
+      all_append OutTold (ask_again s b).outs (steps ask_again (ask_again s b).state bs).outs (ask_again_out s b) (all_asked_again (ask_again s b).state bs)
+
+  pub tokens_say : (s : TokensState) (i : In) → InputTold told i → AllByRecursion OutTold (transition s i).outs
+  unfolding on_wrote on_settled on_fetched on_evict on_reask on_quit on_tick
+  tokens_say s (input.Need block mode) fact = need_out s block mode
+  tokens_say s (input.Granted block stamp inc req mode entry) fact = granted_out s block stamp inc req mode entry fact
+  tokens_say s (input.Supplied block stamp inc req ver value) fact = supplied_out s block stamp inc req ver value
+  tokens_say s (input.Forwarded block stamp ver) fact = forwarded_out s block stamp ver
+  tokens_say s (input.Recalled block stamp keep) fact = on_recalled_out s block stamp keep
+  tokens_say s (input.Wrote block value) fact = by_test AllOut (may_write (held_of s.blocks block)) _ (still s) (λ _. tt) (λ _. tt)
+  tokens_say s (input.Settled block ver) fact = by_test AllOut (is_settled_by (held_of s.blocks block) ver) _ (still s) (λ _. tt) (λ _. tt)
+  tokens_say s (input.Fetched block value) fact = by_test AllOut (may_end_fetch (held_of s.blocks block)) _ (still s) (λ _. (tt, tt)) (λ _. tt)
+  tokens_say s (input.Evict block) fact = by_test AllOut (may_evict (held_of s.blocks block)) _ (still s) (λ _. tt) (λ _. tt)
+  tokens_say s (input.Reask block) fact =
+      by_test AllOut (is_some (held_of s.blocks block).fetch) (new_want s block Copy) (still s) (λ _. new_want_out s block Copy) (λ _. tt)
+  tokens_say s (input.Quit block) fact = by_test AllOut (is_asking (held_of s.blocks block)) _ (still s) (λ _. tt) (λ _. tt)
+  tokens_say s (input.Promise slot epoch) fact = wants_told (transition s (input.Promise slot epoch)).outs (promise_wants s slot epoch)
+  tokens_say s input.Tick fact =
+      by_test AllOut (list_any (λ h. is_spent h.want) (values_of s.blocks)) (still s) (steps ask_again s (wanted_in s.blocks)) (λ _. tt)
+      (λ _. all_asked_again s (wanted_in s.blocks))
+
+  -- ---- a reading is of one place
+
+  -- a reading of a block that is read where it is told to lie
+  abbrev pub ReadTold : ReadingState → Type 0
+  ReadTold r = BlockTold told r.target.seg r.target.block
+
+  read_as_told : (r : ReadingState) (found : Option Segment) → ReadTold r → ReadTold (read_as r found).state
+  read_as_told r None fact = fact
+  read_as_told r (Some s) fact = fact
+
+  judged_told : (r : ReadingState) (groups : GroupMapState) (now : RoundState) → ReadTold r → ReadTold (judged r groups now).state
+  judged_told r groups (rounds.Read bytes) fact = read_as_told r _ fact
+  judged_told r groups (rounds.Short pairs) fact = fact
+  judged_told r groups rounds.Waiting fact = fact
+
+  answered_told : (r : ReadingState) (groups : GroupMapState) (ask server : ℕ) (t : Answered) → ReadTold r → ReadTold (on_answer r groups ask server t).state
+  unfolding on_answer
+  answered_told r groups ask server t fact =
+      by_test (λ (x : Step). ReadTold x.state) (counts r ask server t)
+      (judged (record r { round = taken r.round server t }) groups (state_of (taken r.round server t))) (record { state = r; next = next.Wait })
+      (λ _. judged_told (record r { round = taken r.round server t }) groups (state_of (taken r.round server t)) fact) (λ _. fact)
+
+  goes_on_told : (r : ReadingState) (ask : ℕ) (stage : Stage) → ReadTold r → ReadTold (goes_on r ask stage).state
+  goes_on_told r ask Asking fact = fact
+  goes_on_told r ask Between fact = fact
+  goes_on_told r ask Doubted fact = fact
+  goes_on_told r ask Over fact = fact
+
+  pub confirmed_told : (r : ReadingState) (ask : ℕ) → ReadTold r → ReadTold (on_confirmed r ask).state
+  unfolding on_confirmed
+  confirmed_told r ask fact = goes_on_told r ask r.stage fact
+
+  -- ---- the reading of the open call
+
+  pub call_told : (call : Option Call) (r : Option ReadingState) → ReadingTold told r → ReadingTold told (reading_in (call_with call r))
+  call_told None r fact = tt
+  call_told (Some call) r fact = fact
+
+  pub kept_told : (tokens : TokensState) (r : Option ReadingState) → ReadingTold told r → ReadingTold told (kept_while tokens r)
+  kept_told tokens None fact = tt
+  kept_told tokens (Some r) fact = by_test (ReadingTold told) (is_fetched tokens r.target.block) (Some r) None (λ _. fact) (λ _. tt)
+
+  pub heard_told : (r : Option ReadingState) (groups : Option GroupMapState) (ask server : ℕ) (t : Answered) → ReadingTold told r
+      → ReadingTold told (heard r groups ask server t).reading
+  heard_told None groups ask server t fact = tt
+  heard_told (Some r) None ask server t fact = fact
+  heard_told (Some r) (Some groups) ask server t fact = answered_told r groups ask server t fact
+
+  -- a call that goes on reads where it is told
+  abbrev pub GoingTold : Going → Type 0
+  GoingTold (On call) = ReadingTold told call.reading
+  GoingTold (Ends answer) = Unit {0}
+
+  abbrev pub CallTold : Option Going → Type 0
+  CallTold None = Unit {0}
+  CallTold (Some g) = GoingTold g
+
+  going_told : (p : PlanState) (n : Planned) → GoingTold (going_by p n)
+  going_told p (Steps step) = tt
+  going_told p (Reply answer) = tt
+
+  pub next_told : (plan : Plan) (a : BlockAnswer) → GoingTold (after_answer plan a)
+  next_told One a = tt
+  next_told (File p) a = going_told (plans.after_answer p a) (plans.next_call (plans.after_answer p a))
+
+  file_told : (call : FileCall) (number self : ℕ) → CallTold (file_call call number self)
+  file_told call number self =
+      by_test CallTold (may_make number self) _ None (λ _. going_told _ (plans.next_call (plans.start call (plans.made_by number self)))) (λ _. tt)
+
+  -- one that begins reads nothing yet
+  pub begun_told : (w : Work) (number self : ℕ) → CallTold (call_of w number self)
+  begun_told (work.Bput client block value) number self = tt
+  begun_told (work.Bget client block) number self = tt
+  begun_told (work.Sync client) number self = tt
+  begun_told (work.File client call) number self = file_told call number self
+  begun_told _ number self = tt

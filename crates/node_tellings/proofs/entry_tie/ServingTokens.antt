@@ -1,0 +1,215 @@
+-- What a client that serves does at an input of its tokens: it fetches, and tells managers, what is told.
+use Rattle.std.proofs.Common.{ℕ, ◌==◌, Bool, List, [], ◌∷◌, Option, Some, None, is_none}
+use Rattle.std.specs.List.{AllByRecursion, flat_map}
+use Rattle.client_log.specs.declared.output.Out.{Out as LogOut}
+use Rattle.client_log.specs.declared.output.Out.TheVariants as log_out
+use Rattle.client_log.specs.Transition as log
+use Rattle.client_call.specs.declared.call.Call.{Call}
+use Rattle.client_call.specs.Reads.{reading_in, kept_while, fetches, target_of, same_target}
+use Rattle.client_serving.specs.declared.serving.Serving.{Serving}
+use Rattle.client_serving.specs.Follow.{evicts, notes_clean, notes_gone, notes_copy, seals, follows_one, follows, hands, takes_back}
+use Rattle.client_serving.specs.Reads.{ends_reading, with_reading, draws, loses, loses_at, group_in, begins_over, begins, confirmed_next, ask_after, drawn_after, confirms, reads_over, reads}
+use Rattle.client_serving.specs.Sends.{Done, gives, deltas, want, before_want, gave}
+use Rattle.coop_cache.specs.declared.output.Out as cache_out
+use Rattle.coop_cache.specs.declared.output.Out.TheVariants.{Victim}
+use Rattle.coop_cache.specs.Transition.{cleaned, left}
+use Rattle.delta_feed.specs.FeedState.{FeedState}
+use Rattle.group_map.specs.declared.group.Group.{Group}
+use Rattle.log_owner.specs.Opening.{stored}
+use Rattle.log_owner.specs.Sending.{fetch}
+use Rattle.node_base.specs.Asking.{next_ask}
+use Rattle.node_base.specs.Beginning.{answered, answers_unanswered}
+use Rattle.node_base.specs.declared.effects.Effect.{Effect}
+use Rattle.node_base.specs.declared.effects.Effect.TheVariants.{Lose}
+use Rattle.segment_reading.specs.declared.reading.Next.{Next}
+use Rattle.segment_reading.specs.declared.reading.Next.TheVariants as next
+use Rattle.segment_reading.specs.declared.reading.Stage.{Stage}
+use Rattle.segment_reading.specs.declared.reading.Stage.TheVariants.{Asking, Between, Doubted, Over}
+use Rattle.segment_reading.specs.declared.target.BlockAt.{BlockAt}
+use Rattle.segment_reading.specs.declared.target.Target.{Target}
+use Rattle.segment_reading.specs.Reading.{ReadingState, Step, begun, to_ask, on_confirmed}
+use Rattle.token_client.specs.declared.input.In as inputs
+use Rattle.token_client.specs.declared.input.In.TheVariants as input
+use Rattle.token_client.specs.declared.output.Out as outputs
+use Rattle.token_client.specs.declared.output.Out.TheVariants as output
+use Rattle.token_client.specs.State.{TokensState, held_of}
+use Rattle.token_client.specs.Transition as client
+use Rattle.version_model.specs.declared.act.Act.{Act}
+use Rattle.version_model.specs.declared.answer.Answer.TheVariants.{Lost}
+use Rattle.xfs_base.proofs.Booleans.{by_test}
+use Rattle.xfs_base.specs.declared.block.BlockId.{BlockId}
+use Rattle.xfs_base.specs.declared.entry.Place.{Place}
+use Rattle.xfs_base.specs.declared.segment.SegName.{SegName}
+use Rattle.xfs_base.specs.declared.token.Mode.TheVariants.{Copy}
+use Rattle.xfs_base.specs.declared.token.Stamp.{Stamp}
+use Rattle.xfs_base.specs.Modes.{same_mode, is_nothing}
+use Rattle.xfs_base.specs.Steps.{still}
+use Rattle.xfs_base.proofs.Alls.{all_map}
+use Rattle.node_tellings.specs.entry_tie.ClientTells.{FeedTold, LiesTold, BlockTold, ReadingTold}
+use Rattle.node_tellings.specs.entry_tie.Told.{Told}
+use Rattle.node_tellings.proofs.entry_tie.ClientReads as reads_told
+use Rattle.node_tellings.proofs.entry_tie.ClientTokens as tokens
+use Rattle.node_tellings.proofs.entry_tie.Feeds as feeds
+use Rattle.node_tellings.proofs.entry_tie.Frames as frames
+
+module _ (told : Told) (done : List Act) where
+  -- what it fetches and reads lies where it is told, and its feed keeps what is told
+  pub record Stands (its : TokensState) (kept : FeedState) (open_call : Option Call) : Type 0 where
+    pub fetches : tokens.FetchesTold told its
+    pub feed : FeedTold told kept
+    pub reading : ReadingTold told (reading_in open_call)
+
+  abbrev pub At : Serving → Type 0
+  At s = Stands s.tokens s.feed s.call
+
+  abbrev pub Goes : Done → Type 0
+  Goes d = frames.Goes told done At d
+
+  abbrev pub AllSay : List Effect → Type 0
+  AllSay outs = frames.AllSay told done outs
+
+  pub still_so : (s : Serving) → At s → Goes (still s)
+  still_so s h = frames.goes_still told done At s h
+
+  pub plain_so : (s : Serving) (outs : List Effect) → At s → AllSay outs → Goes (gives s outs)
+  plain_so s outs h says = frames.goes_plain told done At s outs h says
+
+  -- what a log sends tells nothing
+  stored_say : (outs : List LogOut) → AllSay (flat_map stored outs)
+  stored_say [] = tt
+  stored_say (log_out.Send fragment member ∷ outs) = (tt, stored_say outs)
+  stored_say (log_out.Settled end rows ∷ outs) = stored_say outs
+
+  pub fetches_say : (r : ReadingState) → AllSay (fetches r)
+  fetches_say r = all_map (frames.Says told done) (fetch r.target.seg.name r.ask) (λ server. tt) (to_ask r)
+
+  -- ---- the cache
+
+  evicts_so : (s : Serving) (o : cache_out.Out) → At s → At (evicts s o)
+  unfolding evicts
+  evicts_so s (Victim block) h = record { fetches = tokens.evict_so told s.tokens block h.fetches; feed = h.feed; reading = h.reading }
+
+  pub notes_clean_so : (s : Serving) (block : BlockId) → At s → At (notes_clean s block)
+  unfolding notes_clean
+  notes_clean_so s block h =
+      frames.stands_fold told done At evicts evicts_so (record s { cache = (cleaned s.cache block).state }) (cleaned s.cache block).outs h
+
+  pub notes_gone_so : (s : Serving) (block : BlockId) → At s → At (notes_gone s block)
+  unfolding notes_gone
+  notes_gone_so s block h =
+      by_test (λ (t : Serving). At t) (is_nothing (held_of s.tokens.blocks block).mode) (record s { cache = left s.cache block }) s (λ t. h) (λ t. h)
+
+  notes_copy_so : (s : Serving) (block : BlockId) → At s → At (notes_copy s block)
+  unfolding notes_copy
+  notes_copy_so s block h =
+      by_test (λ (t : Serving). At t) (same_mode (held_of s.tokens.blocks block).mode Copy) (notes_clean s block) s (λ t. notes_clean_so s block h) (λ t. h)
+
+  -- ---- the log
+
+  pub seals_so : (s : Serving) → At s → Goes (seals s)
+  unfolding seals
+  seals_so s h = plain_so (record s { log = (log.on_seal s.log).state }) (flat_map stored (log.on_seal s.log).outs) h (stored_say (log.on_seal s.log).outs)
+
+  -- ---- readings
+
+  pub loses_so : (s : Serving) (block : BlockId) (seg : SegName) → At s → Goes (loses s block seg)
+  unfolding loses
+  loses_so s block seg h =
+      plain_so (record s { lasting = record s.lasting { items = answered s.lasting.items }; call = None; tokens = (client.on_quit s.tokens block).state })
+      (Lose seg ∷ answers_unanswered s.lasting.items.unanswered (Lost seg))
+      (record { fetches = tokens.quit_so told s.tokens block h.fetches; feed = h.feed; reading = tt })
+      (tt, frames.answers_say told done s.lasting.items.unanswered (Lost seg))
+
+  loses_at_so : (s : Serving) (at : Option BlockAt) (seg : SegName) → At s → Goes (loses_at s at seg)
+  loses_at_so s None seg h = still_so s h
+  loses_at_so s (Some at) seg h = loses_so s at.block seg h
+
+  -- the open call reads this
+  pub read_so : (s : Serving) (r : Option ReadingState) → ReadingTold told r → At s → At (with_reading s r)
+  read_so s r fact h = record { fetches = h.fetches; feed = h.feed; reading = reads_told.call_told told s.call r fact }
+
+  pub ends_so : (s : Serving) → At s → At (ends_reading s)
+  ends_so s h = read_so s (kept_while s.tokens (reading_in s.call)) (reads_told.kept_told told s.tokens (reading_in s.call) h.reading) h
+
+  abbrev TargetTold : Target → Type 0
+  TargetTold target = BlockTold told target.seg target.block
+
+  begins_over_so : (s : Serving) (target : Target) (group : Option Group) → TargetTold target → At s → Goes (begins_over s target group)
+  begins_over_so s target None fact h = still_so s h
+  begins_over_so s target (Some group) fact h =
+      let r : ReadingState = begun target group (next_ask s.lasting.questions) in
+      plain_so (with_reading (draws s) (Some r)) (fetches r) (read_so (draws s) (Some r) fact h) (fetches_say r)
+
+  begins_so : (s : Serving) (target : Target) → TargetTold target → At s → Goes (begins s target)
+  unfolding begins
+  begins_so s target fact h = begins_over_so s target (group_in s.maps.groups target.seg.group) fact h
+
+  confirmed_next_so : (s : Serving) (r : ReadingState) (x : Next) → TargetTold r.target → At s → Goes (confirmed_next s r x)
+  confirmed_next_so s r next.Lost fact h = loses_at_so s r.target.block r.target.seg.name h
+  confirmed_next_so s r next.Ask fact h = plain_so (with_reading s (Some r)) (fetches r) (read_so s (Some r) fact h) (fetches_say r)
+  confirmed_next_so s r next.Wait fact h = still_so (with_reading s (Some r)) (read_so s (Some r) fact h)
+  confirmed_next_so s r next.Again fact h = still_so (with_reading s (Some r)) (read_so s (Some r) fact h)
+  confirmed_next_so s r (next.Read segment) fact h = still_so (with_reading s (Some r)) (read_so s (Some r) fact h)
+
+  drawn_after_so : (s : Serving) (r : ReadingState) (x : Next) (stage : Stage) → TargetTold r.target → At s → Goes (confirmed_next (drawn_after s stage) r x)
+  drawn_after_so s r x Between fact h = confirmed_next_so (draws s) r x fact h
+  drawn_after_so s r x Asking fact h = confirmed_next_so s r x fact h
+  drawn_after_so s r x Doubted fact h = confirmed_next_so s r x fact h
+  drawn_after_so s r x Over fact h = confirmed_next_so s r x fact h
+
+  confirms_so : (s : Serving) (r : ReadingState) → TargetTold r.target → At s → Goes (confirms s r)
+  unfolding confirms
+  confirms_so s r fact h =
+      let step : Step = on_confirmed r (ask_after s r.ask r.stage) in
+      drawn_after_so s step.state step.next r.stage (reads_told.confirmed_told told r (ask_after s r.ask r.stage) fact) h
+
+  reads_over_so : (s : Serving) (target : Target) (reading : Option ReadingState) → TargetTold target → ReadingTold told reading → At s
+      → Goes (reads_over s target reading)
+  reads_over_so s target None fact was h = begins_so s target fact h
+  reads_over_so s target (Some r) fact was h =
+      by_test (λ (d : Done). Goes d) (same_target r.target target) (confirms s r) (begins s target) (λ t. confirms_so s r was h)
+      (λ t. begins_so s target fact h)
+
+  reads_so : (s : Serving) (block : BlockId) (place : Place) → LiesTold told block place → At s → Goes (reads s block place)
+  unfolding reads
+  reads_so s block place fact h =
+      by_test (λ (d : Done). Goes d) (is_none s.call) (still s) (reads_over (with_reading s None) (target_of block place) (reading_in s.call))
+      (λ t. still_so s h)
+      (λ t. reads_over_so (with_reading s None) (target_of block place) (reading_in s.call) fact h.reading (read_so s None tt h))
+
+  -- ---- what the tokens say
+
+  before_says : (s : Serving) (block : BlockId) (again : ℕ) → At s → AllSay (before_want s block again)
+  before_says s block again h =
+      by_test (λ (es : List Effect). AllSay es) (again == 0) (deltas s block) [] (λ t. feeds.pushes_say told done s.managers s.feed h.feed _) (λ t. tt)
+
+  follows_one_so : (s : Serving) (o : outputs.Out) → reads_told.OutTold told o → At s → Goes (follows_one s o)
+  unfolding follows_one
+  follows_one_so s (output.Want block req again mode) fact h =
+      frames.goes_after told done At (before_want s block again) (gives s (want s block req again mode ∷ [])) (before_says s block again h)
+      (plain_so s (want s block req again mode ∷ []) h (tt, tt))
+  follows_one_so s (output.Gave block stamp) fact h =
+      frames.goes_after told done At (deltas s block) (gives s (gave s block stamp ∷ [])) (feeds.pushes_say told done s.managers s.feed h.feed _)
+      (plain_so s (gave s block stamp ∷ []) h (tt, tt))
+  follows_one_so s (output.Flush block) fact h = seals_so s h
+  follows_one_so s (output.Read block place) fact h = reads_so s block place fact h
+  follows_one_so s (output.Ready block) fact h = still_so (notes_copy s block) (notes_copy_so s block h)
+  follows_one_so s (output.Supply block ver value) fact h = still_so s h
+
+  pub follows_so : (s : Serving) (outs : List outputs.Out) → AllByRecursion (reads_told.OutTold told) outs → At s → Goes (follows s outs)
+  unfolding follows
+  follows_so s outs all h = frames.goes_each told done At (reads_told.OutTold told) follows_one follows_one_so s outs all h
+
+  pub hands_so : (s : Serving) (i : inputs.In) → tokens.InputTold told i → At s → Goes (hands s i)
+  unfolding hands
+  hands_so s i fact h =
+      let r : client.Done = client.transition s.tokens i in
+      follows_so (ends_reading (record s { tokens = r.state })) r.outs (reads_told.tokens_say told s.tokens i fact)
+      (ends_so (record s { tokens = r.state }) (record { fetches = tokens.tokens_so told s.tokens i fact h.fetches; feed = h.feed; reading = h.reading }))
+
+  pub takes_back_so : (s : Serving) (block : BlockId) (stamp : Stamp) (keep : Bool) → At s → Goes (takes_back s block stamp keep)
+  unfolding takes_back
+  takes_back_so s block stamp keep h acts =
+      let d : Done = hands s (input.Recalled block stamp keep) in
+      let p : At d.state × AllSay d.outs = hands_so s (input.Recalled block stamp keep) tt h acts in
+      (notes_gone_so d.state block p.0, p.1)

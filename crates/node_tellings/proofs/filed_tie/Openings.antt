@@ -1,0 +1,352 @@
+-- What each event makes of the opening of a log: it holds nothing beyond what was filed, and nor does the log that is open then, with its feed, since the
+-- opening acts the chain that was read back and its opening segment to be filed.
+use Rattle.std.proofs.Common.{⊎_elim, ◌≡◌, ℕ, ◌≤◌, ◌==◌, ◌&&◌, true, List, [], ◌∷◌, map, Option, Some, None, refl, sym, subst, nat_le, arith}
+use Rattle.std.specs.Prelude.{length}
+use Rattle.std.specs.List.{AllByRecursion}
+use Rattle.std.proofs.lemmas.Bool.Decides.{nat_tests}
+use Rattle.xfs_base.proofs.Booleans.{by_test, and_first}
+use Rattle.xfs_base.specs.declared.node.NodeId.{NodeId}
+use Rattle.xfs_base.specs.declared.node.NodeId.TheVariants.{Client, Manager, Server, Cleaner, Registry}
+use Rattle.xfs_base.specs.declared.segment.End.{End}
+use Rattle.xfs_base.specs.Steps.{still, steps}
+use Rattle.xfs_base.proofs.Alls.{all_append, all_map}
+use Rattle.segment_format.specs.declared.segment.Segment.{Segment}
+use Rattle.group_map.specs.GroupMapState.{GroupMapState}
+use Rattle.client_log.specs.declared.input.In.{In as LogIn}
+use Rattle.client_log.specs.declared.input.In.TheVariants as log_in
+use Rattle.client_log.specs.declared.output.Out.{Out as LogOut}
+use Rattle.client_log.specs.declared.output.Out.TheVariants as log_out
+use Rattle.client_log.specs.Transition as log_steps
+use Rattle.log_owner.specs.declared.ended.Owner.{Owner}
+use Rattle.log_owner.specs.declared.known.Known.{Known}
+use Rattle.log_owner.specs.declared.opened.Progress.{Progress}
+use Rattle.log_owner.specs.declared.opened.Progress.TheVariants as progress
+use Rattle.log_owner.specs.declared.opening.Opening.{Opening}
+use Rattle.log_owner.specs.declared.opening.Scanning.{Scanning}
+use Rattle.log_owner.specs.declared.opening.Settling.{Settling}
+use Rattle.log_owner.specs.declared.opening.Stage.{Stage}
+use Rattle.log_owner.specs.declared.opening.Stage.TheVariants as stage
+use Rattle.log_owner.specs.Opened.{filed}
+use Rattle.log_owner.specs.Opening.{Went, Moved, stays, drops, at_scan, at_log, said, scanned, wrote_one, written, opens, logged, writes, behind, starts_log, settles_over, follows, stepped, scans_on, scans_at, scans, at_first, welcomed_with, welcomed, welcomed_as, is_meant, welcomed_in, on_welcome, regrouped, on_news, is_fenced, fenced_by, on_fenced, own_in, answers, on_found, on_missing, on_stored, on_tick, on_body, on_packet, went, nothing_asked}
+use Rattle.log_owner.specs.Promised.{promised_in}
+use Rattle.log_owner.specs.Sending.{hello}
+use Rattle.log_scan.specs.declared.input.In.{In}
+use Rattle.log_scan.specs.declared.input.In.TheVariants as input
+use Rattle.log_scan.specs.declared.output.Out.{Out}
+use Rattle.log_scan.specs.declared.output.Out.TheVariants as out
+use Rattle.log_scan.specs.Transition as scan
+use Rattle.node_base.specs.Asking.{next_ask, drawn, own_of, asked_as, drawn_for}
+use Rattle.node_base.specs.declared.effects.Effect.{Effect}
+use Rattle.node_base.specs.declared.effects.Effect.TheVariants.{Lose}
+use Rattle.node_base.specs.declared.maps.Maps.{Maps}
+use Rattle.node_base.specs.declared.questions.Asked.{Asked}
+use Rattle.node_base.specs.declared.questions.Questions.{Questions}
+use Rattle.node_base.specs.Known.{names_known}
+use Rattle.node_base.specs.Maps.{fits, is_older, taken}
+use Rattle.node_base.specs.Shape.{is_log, has_logs, is_news}
+use Rattle.wire_msg.specs.declared.body.Body.{Body}
+use Rattle.wire_msg.specs.declared.body.Body.TheVariants as body
+use Rattle.wire_msg.specs.declared.packet.Packet.{Packet}
+use Rattle.wire_msg.specs.declared.registry.News.{News}
+use Rattle.wire_msg.specs.declared.registry.Welcome.{Welcome}
+use Rattle.wire_msg.specs.declared.storage.Fenced.{Fenced}
+use Rattle.wire_msg.specs.declared.storage.Found.{Found}
+use Rattle.wire_msg.specs.declared.storage.Missing.{Missing}
+use Rattle.wire_msg.specs.declared.storage.Stored.{Stored}
+use Rattle.node_tellings.specs.filed_tie.OpeningReach.{AreOfLog, ScanReaches, SettlingReaches, StageReaches, OpeningReaches}
+use Rattle.node_tellings.specs.filed_tie.Reach.{Reach, BodyTells}
+use Rattle.node_tellings.proofs.filed_tie.Feeds.{opened_end}
+use Rattle.node_tellings.proofs.filed_tie.Frames as frames
+use Rattle.node_tellings.proofs.filed_tie.LogTurns.{IsSend, Rests, Lands, Turns, log_turns}
+use Rattle.node_tellings.proofs.filed_tie.Scans.{ChainTells, NewsReach, InputTells, ScanKeeps, scan_keeps}
+
+-- maps in a packet of the right shape are of some slots
+some_slots : (news : News) → is_news news ≡ true → 1 ≤ length news.slots
+some_slots news fact =
+    let eight : (length news.slots == 8) ≡ true = and_first (length news.slots == 8) _ fact in
+    grind (arith, nat_tests)
+
+module _ (reach : Reach) (node : NodeId) (log : ℕ) where
+  -- the log is open with nothing beyond what was filed
+  pub record OpensReaching (end fed : ℕ) : Type 0 where
+    pub end_reached : end ≤ reach log
+    pub feed_reached : fed ≤ reach log
+
+  abbrev pub ProgressReaches : Progress → Type 0
+  ProgressReaches (progress.Opening o) = OpeningReaches reach log o
+  ProgressReaches (progress.Opened r) = OpensReaching r.log.end.seq r.feed.end
+  ProgressReaches (progress.Lost seg) = Unit {0}
+
+  abbrev AllSay : List Effect → Type 0
+  AllSay outs = frames.AllSay reach node outs
+
+  abbrev Goes : Moved → Type 0
+  Goes m = frames.Goes reach node ProgressReaches m
+
+  -- an event of an opening, where it acts nothing to be filed that isn't reached
+  abbrev pub WentSo : Went → Type 0
+  WentSo w = frames.Goes reach node ProgressReaches (record { state = w.progress; outs = w.effects })
+
+  opening_so : (o : Opening) (q : Questions) → OpeningReaches reach log o → WentSo (drops o q)
+  opening_so o q h = frames.goes_still reach node ProgressReaches (progress.Opening o) h
+
+  -- ---- the log of an opening
+
+  module _ (k : Known) (own : k.owner.log.0 ≡ log) where
+    at_scan_so : (s : Scanning) → ScanReaches reach log s.scan → ProgressReaches (at_scan k s)
+    at_scan_so s h = record { own = own; stage = h }
+
+    at_log_so : (s : Settling) → SettlingReaches reach log s → ProgressReaches (at_log k s)
+    at_log_so s h = record { own = own; stage = h }
+
+    filed_reached : (chain : List Segment) → AreOfLog log chain → frames.AllReached reach node (map filed chain)
+        → AllByRecursion (λ s. s.name.seq ≤ reach log) chain
+    filed_reached [] of_log acts = tt
+    filed_reached (s ∷ chain) of_log acts = (subst (λ l. s.name.seq ≤ reach l) of_log.0 acts.0, filed_reached chain of_log.1 acts.1)
+
+    filed_said : (chain : List Segment) → AllSay (map filed chain)
+    filed_said chain = all_map (frames.Says reach node) filed (λ s. tt) chain
+
+    -- the log is open: what was read back and its end are filed
+    opened_so : (s : Settling) → SettlingReaches reach log s → Goes (opens k s (Some s.log.end))
+    opened_so s h acts =
+        let last : s.log.end.seq ≤ reach log =
+        subst (λ l. s.log.end.seq ≤ reach l) own (frames.all_behind (frames.Reached reach node) (map filed s.chain) _ acts).0 in
+        let chain : AllByRecursion (λ x. x.name.seq ≤ reach log) s.chain =
+        filed_reached s.chain h.chain (frames.all_before (frames.Reached reach node) (map filed s.chain) _ acts) in (
+          record { end_reached = last; feed_reached = opened_end (reach log) s.low s.chain s.log.end h.low chain last },
+          all_append (frames.Says reach node) (map filed s.chain) _ (filed_said s.chain) (tt, tt),
+        )
+
+    written_sends : (before : Option End) (outs : List LogOut) → AllByRecursion IsSend outs → (steps wrote_one before outs).state ≡ before
+    unfolding wrote_one
+    written_sends before [] all = refl
+    written_sends before (log_out.Send fragment member ∷ outs) all = written_sends before outs all.1
+    written_sends before (log_out.Settled end rows ∷ outs) all = absurd all.0
+
+    written_says : (before : Option End) (outs : List LogOut) → AllSay (steps wrote_one before outs).outs
+    unfolding wrote_one
+    written_says before [] = tt
+    written_says before (log_out.Send fragment member ∷ outs) = (tt, written_says before outs)
+    written_says before (log_out.Settled end rows ∷ outs) = written_says (Some end) outs
+
+    landed_at : (r : log_steps.Done) → Lands r → (written r.outs).state ≡ Some r.state.end
+    unfolding wrote_one
+    landed_at r l = subst (λ outs. (written outs).state ≡ Some r.state.end) (sym l.outs) (written_sends (Some r.state.end) l.rest l.sends)
+
+    logged_so : (s : Settling) (end : End) (r : log_steps.Done) → SettlingReaches reach log s → Turns end r → Goes (logged k s r)
+    logged_so s end r h turns =
+        let then_is : Settling = record s { log = r.state } in
+        let g : SettlingReaches reach log then_is = record { low = h.low; chain = h.chain } in
+        frames.goes_after reach node ProgressReaches (written r.outs).outs (opens k then_is (written r.outs).state) (written_says None r.outs)
+        (⊎_elim
+        (λ (rests : Rests end r). subst (λ o. Goes (opens k then_is o)) (sym (written_sends None r.outs rests.sends))
+        (frames.goes_still reach node ProgressReaches (at_log k then_is) (at_log_so then_is g)))
+        (λ (lands : Lands r). subst (λ o. Goes (opens k then_is o)) (sym (landed_at r lands)) (opened_so then_is g)) turns)
+
+    writes_so : (s : Settling) (i : LogIn) → SettlingReaches reach log s → Goes (writes k s i)
+    unfolding writes
+    writes_so s i h = logged_so s s.log.end (log_steps.transition s.log i) h (log_turns s.log i)
+
+    -- ---- the end of the scan
+
+    starts_so : (s : Scanning) (segments : List Segment) (end : End) (low : ℕ) (groups : GroupMapState) → ScanReaches reach log s.scan → AreOfLog log segments
+        → s.scan.opening.low ≡ low → Goes (starts_log k s (record { segments = segments; end = end; low = low }) groups)
+    starts_so s segments end low groups h of_log fact =
+        by_test (λ (m : Moved). Goes m) (is_log k.owner.log.0)
+        (writes k (behind k (record { segments = segments; end = end; low = low }) groups) (log_in.Parts [])) (still (at_scan k s))
+        (λ t. writes_so (behind k (record { segments = segments; end = end; low = low }) groups) (log_in.Parts [])
+        (record { low = (let a = h.low (some t) in omega (arith, a, fact)); chain = of_log }))
+        (λ t. frames.goes_still reach node ProgressReaches (at_scan k s) (at_scan_so s h))
+      where
+        some : is_log k.owner.log.0 ≡ true → 1 ≤ log
+        some t = (let one : nat_le 1 k.owner.log.0 ≡ true = and_first (nat_le 1 k.owner.log.0) _ t in subst (λ l. 1 ≤ l) own (grind (arith, nat_tests)))
+
+    settles_so : (s : Scanning) (segments : List Segment) (end : End) (low : ℕ) (groups : Option GroupMapState) → ScanReaches reach log s.scan
+        → AreOfLog log segments
+        → s.scan.opening.low ≡ low → Goes (settles_over k s (record { segments = segments; end = end; low = low }) groups)
+    settles_so s segments end low None h of_log fact = frames.goes_still reach node ProgressReaches (at_scan k s) (at_scan_so s h)
+    settles_so s segments end low (Some groups) h of_log fact = starts_so s segments end low groups h of_log fact
+
+    module _ (low : ℕ) where
+      -- whatever the scan tells, what is next behind it goes so
+      scanned_ends : (a : Asked) (q : Questions) (e : _) (outs : List Out) → AllByRecursion (ChainTells log) outs
+          → ((s : Scanning) → ScanReaches reach log s.scan → s.scan.opening.low ≡ low → Goes (follows k s e))
+          → (s : Scanning) → ScanReaches reach log s.scan → s.scan.opening.low ≡ low
+          → Goes (follows k s (steps (said k.owner low) (record { asked = a; questions = q; ended = e }) outs).state.ended)
+      unfolding follows said
+      scanned_ends a q e [] all ends = ends
+      scanned_ends a q e (out.Hello own ∷ outs) all ends = scanned_ends (asked_as a q own) (drawn_for a q own) e outs all.1 ends
+      scanned_ends a q e (out.Fence server ∷ outs) all ends = scanned_ends a q e outs all.1 ends
+      scanned_ends a q e (out.Fetch server name own ∷ outs) all ends = scanned_ends (asked_as a q own) (drawn_for a q own) e outs all.1 ends
+      scanned_ends a q e (out.Chain segments end prior ∷ outs) all ends =
+          scanned_ends a q _ outs all.1 (λ s h fact. settles_so s segments end low k.maps.groups h all.0 fact)
+      scanned_ends a q e (out.Lost name ∷ outs) all ends =
+          scanned_ends a q _ outs all.1 (λ s h fact. frames.goes_plain reach node ProgressReaches (progress.Lost name) (Lose name ∷ []) tt (tt, tt))
+
+      none_ends : (s : Scanning) → ScanReaches reach log s.scan → s.scan.opening.low ≡ low → Goes (follows k s None)
+      unfolding follows
+      none_ends s h fact = frames.goes_still reach node ProgressReaches (at_scan k s) (at_scan_so s h)
+
+      one_said : (st : _) (o : Out) → AllSay (said k.owner low st o).outs
+      unfolding said
+      one_said st (out.Hello own) = (tt, tt)
+      one_said st (out.Fence server) = (tt, tt)
+      one_said st (out.Fetch server name own) = (tt, tt)
+      one_said st (out.Chain segments end prior) = tt
+      one_said st (out.Lost name) = tt
+
+      scanned_says : (st : _) (outs : List Out) → AllSay (steps (said k.owner low) st outs).outs
+      scanned_says st [] = tt
+      scanned_says st (o ∷ outs) =
+          all_append (frames.Says reach node) (said k.owner low st o).outs (steps (said k.owner low) (said k.owner low st o).state outs).outs
+          (one_said st o)
+          (scanned_says (said k.owner low st o).state outs)
+
+    stepped_so : (q : Questions) (s : Scanning) (r : scan.Done) → ScanKeeps reach log r → WentSo (stepped k q s r)
+    stepped_so q s r kept =
+        let low : ℕ = r.state.opening.low in
+        let e = scanned k.owner low s.asked q r.outs in
+        let next : Scanning = record { scan = r.state; asked = e.state.asked } in
+        frames.goes_after reach node ProgressReaches e.outs (follows k next e.state.ended)
+        (scanned_says low (record { asked = s.asked; questions = q; ended = None }) r.outs)
+        (scanned_ends low s.asked q None r.outs kept.outs (none_ends low) next kept.state refl)
+
+    scans_so : (q : Questions) (s : Scanning) (i : In) → ScanReaches reach log s.scan → InputTells reach log i → WentSo (scans_on k q s i)
+    unfolding scans_on
+    scans_so q s i h tells = stepped_so q s (scan.transition s.scan i) (scan_keeps reach log s.scan i h tells)
+
+    scans_at_so : (q : Questions) (i : In) (at : Stage) → StageReaches reach log at → InputTells reach log i → WentSo (scans_at k q i at)
+    scans_at_so q i (stage.Scanning s) h tells = scans_so q s i h tells
+    scans_at_so q i (stage.Settling s) h tells = frames.goes_still reach node ProgressReaches (at_log k s) (at_log_so s h)
+
+  -- ---- the events
+
+  -- one that just began
+  pub first_so : (owner : Owner) (servers : ℕ) (q : Questions) → owner.log.0 ≡ log → OpeningReaches reach log (at_first owner servers q)
+  first_so owner servers q own = record { own = own; stage = record { own = own; low = λ some. omega arith; chain = tt } }
+
+  module _ (o : Opening) (q : Questions) (h : OpeningReaches reach log o) where
+    dropped : WentSo (drops o q)
+    dropped = opening_so o q h
+
+    -- ---- answers of servers
+
+    by_scan : (i : In) → InputTells reach log i → WentSo (scans o q i)
+    by_scan i tells = scans_at_so o.known h.own q i o.stage h.stage tells
+
+    fenced_by_so : (f : Fenced) (server : ℕ) → WentSo (fenced_by o q f server)
+    fenced_by_so f server =
+        by_test (λ (w : Went). WentSo w) (is_fenced o f) (scans o q (input.Fenced server f.generation f.held)) (drops o q)
+        (λ t. by_scan (input.Fenced server f.generation f.held) tt) (λ t. dropped)
+
+    fenced_so : (from : NodeId) (f : Fenced) → WentSo (on_fenced o q from f)
+    unfolding on_fenced
+    fenced_so (Server v) f = fenced_by_so f v
+    fenced_so (Client v) f = dropped
+    fenced_so (Manager v) f = dropped
+    fenced_so Cleaner f = dropped
+    fenced_so Registry f = dropped
+
+    answers_so : (f : ℕ → In) → ((own : ℕ) → InputTells reach log (f own)) → (own : Option ℕ) → WentSo (answers o q f own)
+    answers_so f tells None = dropped
+    answers_so f tells (Some own) = by_scan (f own) (tells own)
+
+    found_so : (from : NodeId) (f : Found) → WentSo (on_found o q from f)
+    unfolding on_found
+    found_so (Server v) f = answers_so (λ own. input.Got own v f.generation f.fragment) (λ own. tt) (own_in o.stage f.ask)
+    found_so (Client v) f = dropped
+    found_so (Manager v) f = dropped
+    found_so Cleaner f = dropped
+    found_so Registry f = dropped
+
+    missing_so : (from : NodeId) (m : Missing) → WentSo (on_missing o q from m)
+    unfolding on_missing
+    missing_so (Server v) m = answers_so (λ own. input.Missing own v m.generation) (λ own. tt) (own_in o.stage m.ask)
+    missing_so (Client v) m = dropped
+    missing_so (Manager v) m = dropped
+    missing_so Cleaner m = dropped
+    missing_so Registry m = dropped
+
+  -- ---- the log, and time
+
+  stored_so : (k : Known) (at : Stage) (q : Questions) (m : Stored) → k.owner.log.0 ≡ log → StageReaches reach log at
+      → WentSo (on_stored (record { known = k; stage = at }) q m)
+  unfolding on_stored
+  stored_so k (stage.Scanning s) q m own h = frames.goes_still reach node ProgressReaches (at_scan k s) (at_scan_so k own s h)
+  stored_so k (stage.Settling s) q m own h = writes_so k own s (log_in.Acked m.name m.index m.generation) h
+
+  tick_so : (k : Known) (at : Stage) (q : Questions) → k.owner.log.0 ≡ log → StageReaches reach log at → WentSo (on_tick (record { known = k; stage = at }) q)
+  unfolding on_tick
+  tick_so k (stage.Scanning s) q own h = scans_so k own q s input.Tick h tt
+  tick_so k (stage.Settling s) q own h = writes_so k own s log_in.Tick h
+
+  -- ---- maps
+
+  regrouped_so : (k : Known) (q : Questions) (groups : GroupMapState) (at : Stage) → k.owner.log.0 ≡ log → StageReaches reach log at
+      → WentSo (regrouped k q groups at)
+  regrouped_so k q groups (stage.Scanning s) own h = scans_so k own q s (input.Maps groups) h tt
+  regrouped_so k q groups (stage.Settling s) own h = writes_so k own s (log_in.Maps groups) h
+
+  news_so : (o : Opening) (q : Questions) (news : News) → OpeningReaches reach log o → WentSo (on_news o q news)
+  unfolding on_news
+  news_so o q news h =
+      by_test (λ (w : Went). WentSo w) (fits o.known.maps news && is_older o.known.maps news)
+      (regrouped (record o.known { maps = taken o.known.maps news }) q news.groups o.stage) (drops o q)
+      (λ t. regrouped_so (record o.known { maps = taken o.known.maps news }) q news.groups o.stage h.own h.stage) (λ t. opening_so o q h)
+
+  module _ (k : Known) (own : k.owner.log.0 ≡ log) (q : Questions) (s : Scanning) (h : ScanReaches reach log s.scan) where
+    rests : WentSo (stays (at_scan k s) q)
+    rests = frames.goes_still reach node ProgressReaches (at_scan k s) (at_scan_so k own s h)
+
+    welcomed_with_so : (maps : Maps) (news : News) (asked : ℕ) (groups : Option GroupMapState) → NewsReach reach log news.slots
+        → WentSo (welcomed_with (record k { maps = maps }) q s news asked groups)
+    welcomed_with_so maps news asked None tells =
+        frames.goes_still reach node ProgressReaches (at_scan (record k { maps = maps }) s) (at_scan_so (record k { maps = maps }) own s h)
+    welcomed_with_so maps news asked (Some groups) tells =
+        scans_so (record k { maps = maps; promised = promised_in news.slots }) own q (record s { asked = nothing_asked })
+        (input.Welcome asked news.slots groups) h tells
+
+    welcomed_so : (news : News) (asked : ℕ) → NewsReach reach log news.slots → WentSo (welcomed k q s news asked)
+    unfolding welcomed
+    welcomed_so news asked tells = (let maps : Maps = taken k.maps news in welcomed_with_so maps news asked maps.groups tells)
+
+    welcomed_as_so : (news : News) (asked : Option ℕ) → NewsReach reach log news.slots → WentSo (welcomed_as k q s news asked)
+    welcomed_as_so news None tells = rests
+    welcomed_as_so news (Some asked) tells = welcomed_so news asked tells
+
+    welcomed_in_so : (m : Welcome) → NewsReach reach log m.news.slots → WentSo (welcomed_in k q s m)
+    welcomed_in_so m tells =
+        by_test (λ (w : Went). WentSo w) (is_meant k m) (welcomed_as k q s m.news (own_of s.asked m.ask)) (stays (at_scan k s) q)
+        (λ t. welcomed_as_so m.news (own_of s.asked m.ask) tells) (λ t. rests)
+
+  welcome_so : (k : Known) (at : Stage) (q : Questions) (m : Welcome) → k.owner.log.0 ≡ log → StageReaches reach log at → NewsReach reach log m.news.slots
+      → WentSo (on_welcome (record { known = k; stage = at }) q m)
+  unfolding on_welcome
+  welcome_so k (stage.Scanning s) q m own h tells = welcomed_in_so k own q s h m tells
+  welcome_so k (stage.Settling s) q m own h tells = frames.goes_still reach node ProgressReaches (at_log k s) (at_log_so k own s h)
+
+  -- ---- a packet
+
+  body_so : (o : Opening) (q : Questions) (from : NodeId) (b : Body) → OpeningReaches reach log o → has_logs b ≡ true → BodyTells reach from b
+      → WentSo (on_body o q from b)
+  unfolding on_body
+  body_so o q from (body.Welcome m) h shape tells = welcome_so o.known o.stage q m h.own h.stage (some_slots m.news shape, tells)
+  body_so o q from (body.MapNews m) h shape tells = news_so o q m h
+  body_so o q from (body.Fenced m) h shape tells = fenced_so o q h from m
+  body_so o q from (body.Fragment m) h shape tells = found_so o q h from m
+  body_so o q from (body.Missing m) h shape tells = missing_so o q h from m
+  body_so o q from (body.Stored m) h shape tells = stored_so o.known o.stage q m h.own h.stage
+  body_so o q from _ h shape tells = opening_so o q h
+
+  pub packet_goes : (o : Opening) (q : Questions) (p : Packet) → OpeningReaches reach log o → has_logs p.body ≡ true → BodyTells reach p.from p.body
+      → WentSo (on_packet o q p)
+  unfolding on_packet
+  packet_goes o q p h shape tells =
+      by_test (λ (w : Went). WentSo w) (names_known o.known.maps p.body) (on_body o q p.from p.body)
+      (went (progress.Opening o) (drawn q) (hello o.known.owner.inc (next_ask q) ∷ []))
+      (λ t. body_so o q p.from p.body h shape tells)
+      (λ t. frames.goes_plain reach node ProgressReaches (progress.Opening o) (hello o.known.owner.inc (next_ask q) ∷ []) h (tt, tt))
+
+  pub tick_goes : (o : Opening) (q : Questions) → OpeningReaches reach log o → WentSo (on_tick o q)
+  tick_goes o q h = tick_so o.known o.stage q h.own h.stage

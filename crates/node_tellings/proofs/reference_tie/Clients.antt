@@ -1,0 +1,201 @@
+-- Whatever happens to a client that serves, whichever Report it sends bears the end that its log had before.
+use Rattle.std.specs.List.{AllByRecursion}
+use Rattle.client_node.specs.Phases.{Went_to, crashed, owner_of, restarted, after_opening, opened_on, answers, serves_on, wish_of, down_begins, opening_begins, serving_begins, lasting_of, begins_item, on_begin, on_deliver, on_time, delivers, happens, client_room, takes}
+use Rattle.client_call.specs.Lasting.{next_life}
+use Rattle.client_node.specs.Crash.{falls}
+use Rattle.client_running.specs.Opens.{begins_call, call_at, opens}
+use Rattle.log_owner.proofs.Behaving as behaving
+use Rattle.log_owner.specs.Behaves.{Behaves, MayDo, MaySay}
+use Rattle.log_owner.specs.declared.ended.Owner.{Owner}
+use Rattle.log_owner.specs.declared.opened.Progress.{Progress}
+use Rattle.log_owner.specs.declared.opened.Progress.TheVariants as progress
+use Rattle.log_owner.specs.declared.opening.Opening as openings
+use Rattle.log_owner.specs.Opening as opening
+use Rattle.log_owner.specs.Opening.{Went}
+use Rattle.log_owner.specs.Sending.{pushes_all}
+use Rattle.node_base.specs.declared.effects.Effect.{Effect}
+use Rattle.node_base.specs.declared.effects.Effect.TheVariants.{Send, Answer as Answers, Lose, Does}
+use Rattle.wire_msg.specs.declared.body.Body.{Body}
+use Rattle.wire_msg.specs.declared.body.Body.TheVariants as body
+use Rattle.xfs_base.specs.declared.node.NodeId.{NodeId}
+use Rattle.client_node.specs.declared.phase.Phase.TheVariants.{Down, Opening, Serving as Serves}
+use Rattle.client_node.specs.declared.phase.Phase.{Phase}
+use Rattle.node_tellings.proofs.reference_tie.Feeding.{pushes_all_say}
+use Rattle.node_tellings.specs.reference_tie.Owners.{ClientsReportTheirEnd, ReportsEnd}
+use Rattle.std.proofs.Common.{◌≡◌, ℕ, List, [], ◌∷◌, Option, Some, None, is_some, refl}
+use Rattle.node_base.specs.Beginning.{next_item, begun, work_at, waiting, answered}
+use Rattle.xfs_base.specs.declared.segment.End.{End}
+use Rattle.client_node.specs.declared.client.Client.{Client}
+use Rattle.client_call.specs.declared.call.Going.{Going}
+use Rattle.client_call.specs.declared.lasting.Lasting.{Lasting}
+use Rattle.client_serving.specs.declared.serving.Serving.{Serving}
+use Rattle.client_serving.specs.Packets as packets
+use Rattle.client_running.specs.Running.{goes_on}
+use Rattle.client_serving.specs.Sends.{Done, gives}
+use Rattle.node_base.specs.declared.peers.Peers.{Peers}
+use Rattle.node_base.specs.Shape.{is_well_formed}
+use Rattle.version_model.specs.declared.answer.Answer.{Answer}
+use Rattle.version_model.specs.declared.answer.Answer.TheVariants as answer
+use Rattle.version_model.specs.declared.work.Work.{Work}
+use Rattle.version_model.specs.declared.work.Work.TheVariants as work
+use Rattle.wire_msg.specs.declared.packet.Do.{Do}
+use Rattle.wire_msg.specs.declared.packet.Do.TheVariants.{Begin, Deliver, Tick}
+use Rattle.wire_msg.specs.declared.packet.Packet.{Packet}
+use Rattle.xfs_base.proofs.Booleans.{by_test}
+use Rattle.xfs_base.specs.declared.node.NodeId.TheVariants.{Client as AClient}
+use Rattle.xfs_base.specs.Steps.{still}
+use Rattle.xfs_base.proofs.Alls.{all_append}
+use Rattle.node_tellings.proofs.reference_tie.Reporting as frames
+use Rattle.node_tellings.proofs.reference_tie.ClientCalls as calls
+use Rattle.node_tellings.proofs.reference_tie.ClientPackets as serving
+use Rattle.node_tellings.proofs.reference_tie.ClientTokens as tokens
+
+module _ (told : End) where
+  abbrev PhaseSo : Phase → Type 0
+  PhaseSo p = Unit {0}
+
+  abbrev Goes : Went_to → Type 0
+  Goes w = frames.Goes told PhaseSo w
+
+  still_so : (p : Phase) → Goes (still p)
+  still_so p = frames.goes_still told PhaseSo p tt
+
+  answers_so : (p : Phase) (number : ℕ) (a : Answer) → Goes (answers p number a)
+  answers_so p number a = frames.goes_plain told PhaseSo p (Answers number a ∷ []) tt (tt, tt)
+
+  -- ---- falls and restarts
+
+  crashes_so : (l : Lasting) (number : ℕ) → Goes (crashed l number)
+  crashes_so l number =
+      frames.goes_plain told PhaseSo (Down (record l { items = answered l.items })) (crashed l number).outs tt
+      (frames.both_say told l.items.unanswered answer.Cut number answer.Done)
+
+  -- ---- the next item begins
+
+  serves_so : (d : Done) → tokens.Goes told d → Goes (serves_on d)
+  serves_so d p = (tt, p.1)
+
+  begins_so : (s : Serving) (number : ℕ) (going : Option Going) → tokens.At told s → tokens.Goes told (begins_call s number going)
+  begins_so s number None h = tokens.plain_so told s (Answers number answer.Done ∷ []) h (tt, tt)
+  begins_so s number (Some x) h =
+      let t : Serving = record s { lasting = record s.lasting { items = waiting s.lasting.items number } } in
+      serving.runs_after told (goes_on t x) (calls.goes_on_so told t x h)
+
+  opens_so : (s : Serving) (number : ℕ) → tokens.At told s → tokens.Goes told (opens s number)
+  unfolding opens
+  opens_so s number h =
+      by_test (λ (d : Done). tokens.Goes told d) (is_some s.lasting.items.unanswered) (gives s (Answers number answer.Busy ∷ []))
+      (begins_call s number (call_at s number (work_at s.lasting.items number)))
+      (λ t. tokens.plain_so told s (Answers number answer.Busy ∷ []) h (tt, tt))
+      (λ t. begins_so s number (call_at s number (work_at s.lasting.items number)) h)
+
+  serving_so : (s : Serving) (number : ℕ) (wanted : Option Work) → tokens.At told s → Goes (serving_begins s number (wish_of wanted))
+  serving_so s number (Some (work.Crash node)) h =
+      frames.goes_after told PhaseSo (falls s ∷ []) (crashed s.lasting number) (tt, tt) (crashes_so s.lasting number)
+  serving_so s number (Some (work.Restart node)) h = answers_so (Serves s) number answer.Up
+  serving_so s number (Some _) h = serves_so (opens s number) (opens_so s number h)
+  serving_so s number None h = serves_so (opens s number) (opens_so s number h)
+
+  -- ---- an opening, which reports nothing
+
+  may_say : (owner : Owner) (to : NodeId) (said : Body) → MaySay owner to said → ReportsEnd told said
+  may_say owner to (body.Report m) may = absurd may
+  may_say owner to (body.CkptDone m) may = absurd may
+  may_say owner to (body.MapNews m) may = absurd may
+  may_say owner to (body.Welcome m) may = absurd may
+  may_say owner to _ may = tt
+
+  may_do : (owner : Owner) (es : List Effect) → AllByRecursion (MayDo owner) es → frames.AllSay told es
+  may_do owner [] all = tt
+  may_do owner (Send to said ∷ es) all = (may_say owner to said all.0, may_do owner es all.1)
+  may_do owner (Answers item answer ∷ es) all = absurd all.0
+  may_do owner (Lose seg ∷ es) all = (tt, may_do owner es all.1)
+  may_do owner (Does act ∷ es) all = (tt, may_do owner es all.1)
+
+  after_opening_so : (l : Lasting) (capacity : ℕ) (p : Progress) → Goes (after_opening l capacity p)
+  after_opening_so l capacity (progress.Opening o) = still_so (Opening l o)
+  after_opening_so l capacity (progress.Opened o) = (
+    tt,
+    (
+      tt,
+      all_append (frames.Says told) (pushes_all o.promised.managers o.feed) _ (pushes_all_say told o.promised.managers o.feed)
+          (frames.answers_say told l.items.unanswered answer.Done),
+    ),
+  )
+  after_opening_so l capacity (progress.Lost seg) = (tt, frames.answers_say told l.items.unanswered (answer.Lost seg))
+
+  opened_on_so : (l : Lasting) (capacity : ℕ) (owner : Owner) (w : Went) → Behaves owner w → Goes (opened_on l capacity w)
+  opened_on_so l capacity owner w b =
+      let e : Went_to = after_opening (record l { questions = w.questions }) capacity w.progress in (
+        tt,
+        all_append (frames.Says told) w.effects e.outs (may_do owner w.effects b.does)
+            (after_opening_so (record l { questions = w.questions }) capacity w.progress).1,
+      )
+
+  restarts_so : (servers : ℕ) (l : Lasting) → Goes (restarted servers l)
+  restarts_so servers l =
+      (tt, may_do (owner_of l) (opening.on_start (owner_of l) servers l.questions).effects (behaving.begin_so (owner_of l) servers l.questions).does)
+
+  down_so : (servers number : ℕ) (l : Lasting) (wanted : Option Work) → Goes (down_begins servers l number (wish_of wanted))
+  down_so servers number l (Some (work.Restart node)) = restarts_so servers (next_life l number)
+  down_so servers number l (Some _) = answers_so (Down l) number answer.Down
+  down_so servers number l None = answers_so (Down l) number answer.Down
+
+  opening_so : (l : Lasting) (o : openings.Opening) (number : ℕ) (wanted : Option Work) → Goes (opening_begins l o number (wish_of wanted))
+  opening_so l o number (Some (work.Crash node)) = crashes_so l number
+  opening_so l o number (Some (work.Restart node)) = answers_so (Opening l o) number answer.Up
+  opening_so l o number (Some _) = answers_so (Opening l o) number answer.Down
+  opening_so l o number None = answers_so (Opening l o) number answer.Down
+
+  -- ---- the events
+
+  item_so : (servers : ℕ) (p : Phase) (item : Option ℕ) → Goes (begins_item servers p item)
+  item_so servers p None = still_so p
+  item_so servers (Down l) (Some number) = down_so servers number (record l { items = begun l.items }) (work_at (begun l.items) number)
+  item_so servers (Opening l o) (Some number) = opening_so (record l { items = begun l.items }) o number (work_at (begun l.items) number)
+  item_so servers (Serves s) (Some number) =
+      serving_so (record s { lasting = record s.lasting { items = begun s.lasting.items } }) number (work_at (begun s.lasting.items) number) tt
+
+  on_begin_so : (servers : ℕ) (p : Phase) → Goes (on_begin servers p)
+  unfolding on_begin
+  on_begin_so servers p = item_so servers p (next_item (lasting_of p).items)
+
+  -- the end of its log, where it serves
+  abbrev Ends : Phase → Type 0
+  Ends p = (s : Serving) → p ≡ Serves s → s.log.end ≡ told
+
+  on_deliver_so : (capacity : ℕ) (p : Phase) (packet : Packet) → Ends p → Goes (on_deliver capacity p packet)
+  unfolding on_deliver
+  on_deliver_so capacity (Down l) packet fact = still_so (Down l)
+  on_deliver_so capacity (Opening l o) packet fact =
+      opened_on_so l capacity o.known.owner (opening.on_packet o l.questions packet) (behaving.packet_so o l.questions packet)
+  on_deliver_so capacity (Serves s) packet fact =
+      serves_so (serving.and_runs told (packets.on_packet s packet)) (serving.packet_so told s packet (fact s refl) tt)
+
+  delivers_so : (peers : Peers) (capacity : ℕ) (p : Phase) (packet : Packet) → Ends p → Goes (delivers peers capacity p packet)
+  delivers_so peers capacity p packet fact =
+      by_test (λ (x : Went_to). Goes x) (is_well_formed peers packet) (on_deliver capacity p packet) (still p)
+      (λ t. on_deliver_so capacity p packet fact) (λ t. still_so p)
+
+  on_time_so : (capacity : ℕ) (p : Phase) → Goes (on_time capacity p)
+  unfolding on_time
+  on_time_so capacity (Down l) = still_so (Down l)
+  on_time_so capacity (Opening l o) =
+      opened_on_so l capacity o.known.owner (opening.on_tick o l.questions) (behaving.tick_so o l.questions)
+  on_time_so capacity (Serves s) = serves_so (serving.and_runs told (packets.on_tick s)) (serving.time_so told s tt)
+
+  happens_so : (client : Client) (what : Do) → Ends client.phase → Goes (happens client what)
+  happens_so client Begin fact = on_begin_so client.peers.servers client.phase
+  happens_so client (Deliver packet) fact = delivers_so client.peers client.cache client.phase packet fact
+  happens_so client Tick fact = on_time_so client.cache client.phase
+
+  takes_so : (client : Client) (what : Do) → Ends client.phase → Goes (takes client what)
+  takes_so client what fact =
+      by_test (λ (x : Went_to). Goes x) (client_room client) (happens client what) (still client.phase) (λ t. happens_so client what fact)
+      (λ t. still_so client.phase)
+
+-- ---- the law
+
+pub clients_report : ClientsReportTheirEnd
+clients_report end client what fact =
+    frames.packets_say end (AClient (lasting_of client.phase).number) (takes client what).outs (takes_so end client what fact).1

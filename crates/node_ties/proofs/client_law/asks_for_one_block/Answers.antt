@@ -1,7 +1,0 @@
-use Rattle.node_ties.proofs.client_law.Asking.{asks_for_one_block}
-use Rattle.node_ties.proofs.client_law.asks_for_one_block.Goals as goal
-
-pub returns : goal.returns
-returns c = record {
-  one = asks_for_one_block;
-}

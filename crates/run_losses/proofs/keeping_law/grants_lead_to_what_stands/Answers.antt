@@ -1,0 +1,28 @@
+use Rattle.run_losses.proofs.keeping_law.ManagerGrants.{managers_grant_what_they_hold}
+use Rattle.run_losses.proofs.keeping_law.Standing.{grants_lead_to_what_stands}
+use Rattle.run_losses.proofs.keeping_law.grants_lead_to_what_stands.Goals as goal
+
+pub returns : goal.returns
+returns c = record {
+  told = managers_grant_what_they_hold;
+  stood = grants_lead_to_what_stands (record {
+    nodes = record {
+      starts_asking = c.clients_ask_for_their_call.ensures.start;
+      keeps_asking = c.clients_ask_for_their_call.ensures.events;
+      client = c.client_events_are_seen.ensures.events;
+      first_manager = c.manager_events_are_seen.ensures.start;
+      manager = c.manager_events_are_seen.ensures.events;
+      begins = c.other_events_are_seen.ensures.start;
+      registry = c.other_events_are_seen.ensures.events;
+      server = c.other_events_are_seen.ensures.servers;
+      cleaner_starts = c.other_events_are_seen.ensures.cleaner_start;
+      cleaner = c.other_events_are_seen.ensures.cleaner;
+    };
+    promised = c.tokens_keep_their_word.ensures.promised;
+    newest = c.grants_tell_the_newest.ensures.newest;
+    outdated = c.cleaning_loses_nothing.ensures.outdated;
+    moments = c.every_runs_acts_are_legal.ensures.moments;
+    undoubted = c.undoubted_runs_are_sure.ensures.sure;
+    give = c.lines_are_filed.ensures.give;
+  }) c.items_say_all.ensures.setting c.runs_keep_logs.ensures.lines c.runs_keep_logs.ensures.texts;
+}

@@ -1,5 +1,0 @@
-use Rattle.telling_ties.proofs.entry_tie.Servers.{servers_tell}
-use Rattle.telling_ties.proofs.entry_tie.servers_tell_no_entries.Goals as goal
-
-pub returns : goal.returns
-returns c = record { events = servers_tell }

@@ -1,8 +1,0 @@
-use Rattle.telling_ties.proofs.filed_tie.Floors.{managers_start_above, managers_stay_above}
-use Rattle.telling_ties.proofs.filed_tie.managers_stay_above_their_floor.Goals as goal
-
-pub returns : goal.returns
-returns c = record {
-  start = managers_start_above;
-  events = managers_stay_above;
-}

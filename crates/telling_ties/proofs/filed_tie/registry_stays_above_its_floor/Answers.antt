@@ -1,8 +1,0 @@
-use Rattle.telling_ties.proofs.filed_tie.Floors.{registry_starts_above, registry_keeps_above}
-use Rattle.telling_ties.proofs.filed_tie.registry_stays_above_its_floor.Goals as goal
-
-pub returns : goal.returns
-returns c = record {
-  start = registry_starts_above;
-  events = registry_keeps_above;
-}

@@ -1,8 +1,0 @@
-use Rattle.telling_ties.proofs.filed_tie.Servers.{servers_tell, servers_tell_alone}
-use Rattle.telling_ties.proofs.filed_tie.servers_tell_what_is_filed.Goals as goal
-
-pub returns : goal.returns
-returns c = record {
-  events = servers_tell;
-  alone = servers_tell_alone;
-}

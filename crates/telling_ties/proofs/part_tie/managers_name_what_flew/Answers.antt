@@ -1,9 +1,0 @@
-use Rattle.telling_ties.proofs.part_tie.Managers.{manager_names_rise, managers_name, managers_start}
-use Rattle.telling_ties.proofs.part_tie.managers_name_what_flew.Goals as goal
-
-pub returns : goal.returns
-returns c = record {
-  start = managers_start;
-  rises = manager_names_rise;
-  events = managers_name;
-}

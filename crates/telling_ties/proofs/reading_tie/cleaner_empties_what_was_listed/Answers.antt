@@ -1,9 +1,0 @@
-use Rattle.telling_ties.proofs.reading_tie.MeetingEvents.{cleaner_events_meet, cleaner_meets_rise, cleaner_starts_met}
-use Rattle.telling_ties.proofs.reading_tie.cleaner_empties_what_was_listed.Goals as goal
-
-pub returns : goal.returns
-returns c = record {
-  start = cleaner_starts_met;
-  rises = cleaner_meets_rise;
-  events = cleaner_events_meet;
-}
