@@ -3,9 +3,9 @@ ghost use Rattle.std.specs.Prelude.{◌≡◌, ◌++◌, IfOk, OnOk};
 ghost use Rattle.node_base.specs.Setups.{IsSetup};
 ghost use Rattle.cleaner_node.specs.CleanerEvents.{first_life, cleaner_start, crashes, next_life, says_back, back, after_opening, restarts_in, restarts, wish_at, answers, down_begins, opening_begins, serving_begins, down_wishes, opening_wishes, serving_wishes, on_begin, hears, on_deliver, on_time, happens, phase_room, takes};
 
-use cleaner_serving::Emptying;
 use cleaner_job::Lasting;
 use cleaner_job::starting::cleaner_log;
+use cleaner_serving::Emptying;
 use log_owner::{Opened, Opening, Owner, Progress};
 use node_base::{Effects, Items, Peers, Questions, groups_of, is_well_formed};
 use std::alloc::Global;

@@ -8,8 +8,8 @@ ghost use Rattle.log_owner.specs.declared.opening.Opening.{Opening as AnOpening}
 ghost use Rattle.node_base.specs.Beginning.{answered};
 
 use crate::crash::fall;
-use client_running::open;
 use client_call::Lasting;
+use client_running::open;
 use client_serving::Serving;
 use log_owner::{Opening, Owner};
 use node_base::Effects;

@@ -4,9 +4,9 @@ ghost use Rattle.client_node.specs.Serving.{first_serving, returned};
 ghost use Rattle.segment_format.specs.Format.{IsLog};
 ghost use Rattle.token_client.specs.State.{started};
 
-use client_log::Log;
 use client_call::Lasting;
 use client_call::starting::{first_log, fresh};
+use client_log::Log;
 use client_serving::Serving;
 use delta_feed::Feed;
 use group_map::GroupMap;

@@ -5,8 +5,8 @@ ghost use Rattle.log_owner.specs.Sending.{pushes_all};
 ghost use Rattle.xfs_base.specs.Steps.{steps};
 
 use crate::Serving;
-use client_log::{In, Out};
 use client_call::flights::{feed_rows, is_any_settling, is_dirty, is_giving, note_settled};
+use client_log::{In, Out};
 use log_owner::name_of;
 use log_owner::sending::{push_all, send_store};
 use node_base::Effects;

@@ -3,12 +3,12 @@ ghost use Rattle.std.specs.Prelude.{◌≡◌, ◌++◌, OnOk};
 ghost use Rattle.client_serving.specs.Bodies.{on_log_body};
 ghost use Rattle.client_serving.specs.Packets.{on_ack, on_body, on_packet, on_tick};
 
-use client_log::Log;
 use client_call::flights::acked;
 use client_call::grants::forward;
 use client_call::promises::ask_for_maps;
 use client_call::reads::fetch_again;
 use client_call::{Call, Lasting};
+use client_log::Log;
 use coop_cache::Cache;
 use delta_feed::Feed;
 use log_owner::Managers;

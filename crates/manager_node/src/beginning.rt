@@ -9,8 +9,8 @@ ghost use Rattle.manager_serving.specs.Checkpoints as checkpoints;
 
 use crate::phase::Phase;
 use log_owner::sending::send_hello;
-use manager_slots::Lasting;
 use manager_serving::Serving;
+use manager_slots::Lasting;
 use node_base::Effects;
 use std::alloc::Global;
 use version_model::{Answer, Work};

@@ -2,8 +2,8 @@
 ghost use Rattle.std.specs.Prelude.{◌≡◌};
 ghost use Rattle.manager_node.specs.Phases.{lasting_of, phase_has_room};
 
-use manager_slots::Lasting;
 use manager_serving::Serving;
+use manager_slots::Lasting;
 
 /// What a manager has: in each phase what outlives a crash, and in each what exists in it alone.
 #[derive(Drop)]

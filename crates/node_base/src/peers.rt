@@ -80,7 +80,7 @@ fn others_among(alloc: Global, node: NodeId, all: &[NodeId]) -> Mem<List<NodeId>
 fn is_other(node: NodeId, other: NodeId) -> bool
     ensures { result ≡ is_other node other }
 {
-    !other.order(node).is_eq()
+    !other.is_same(node)
 }
 
 fn add_clients(nodes: &mut List<NodeId>, count: u8) -> Mem<()>

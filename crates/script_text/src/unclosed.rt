@@ -14,7 +14,7 @@ use xfs_base::{List, Mem, NodeId};
 fn has(nodes: &[NodeId], node: NodeId) -> bool
     ensures { result ≡ list_any (λ n. same_node n node) nodes.now }
 {
-    nodes.iter().any(|other| other.order(node).is_eq())
+    nodes.iter().any(|other| other.is_same(node))
 }
 
 /// Adds a node, unless it is one of these.

@@ -57,14 +57,14 @@ fn polled(alloc: Global, clients: u8) -> Mem<List<NodeId>>
 fn is_heard(reports: &[Report], node: NodeId) -> bool
     ensures { result ≡ is_heard reports.now node }
 {
-    reports.iter().any(|report| report.from.order(node).is_eq())
+    reports.iter().any(|report| report.from.is_same(node))
 }
 
 /// Whether the node is one of these.
 pub(crate) fn is_among(nodes: &[NodeId], node: NodeId) -> bool
     ensures { result ≡ list_any (λ n. same_node n node) nodes.now }
 {
-    nodes.iter().any(|other| other.order(node).is_eq())
+    nodes.iter().any(|other| other.is_same(node))
 }
 
 /// The node that writes a log, 1 to 9.

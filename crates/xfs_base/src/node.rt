@@ -1,7 +1,7 @@
 //! Names of nodes.
-ghost use Rattle.std.specs.Prelude.{◌≡◌, ◌↔◌, IsTrue};
+ghost use Rattle.std.specs.Prelude.{◌≡◌};
 ghost use Rattle.xfs_base.specs.Logs.{log_of, WritesLog};
-ghost use Rattle.xfs_base.specs.Nodes.{node_cmp};
+ghost use Rattle.xfs_base.specs.Nodes.{node_cmp, same_node};
 
 use crate::LogId;
 use std::cmp::Ordering;
@@ -46,8 +46,8 @@ impl NodeId {
 
     /// Whether both name one node.
     pub fn is_same(self, other: NodeId) -> bool
-        ensures { IsTrue result ↔ (self ≡ other) }
+        ensures { result ≡ same_node self other }
     {
-        self == other
+        self.order(other).is_eq()
     }
 }

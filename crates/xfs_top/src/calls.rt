@@ -6,14 +6,14 @@ ghost use Rattle.top_call.specs.Commands.{command_of, reads};
 ghost use Rattle.xfs_top.specs.Headline.{Headline};
 
 use core_world::AnyNode;
-use run_losses::answer_law::lost_answers_are_said;
-use run_losses::earned_law::each_lost_act_is_earned;
 use run_laws::restart_law::without_losses_no_restart_is_doubtful;
 use run_laws::world_law::{
     every_run_has_one_manager, every_run_has_one_owner, what_fell_is_held_by_nobody,
 };
 use run_laws::world_logs::runs_keep_logs;
 use run_laws::world_reads::every_runs_acts_are_legal;
+use run_losses::answer_law::lost_answers_are_said;
+use run_losses::earned_law::each_lost_act_is_earned;
 use std::alloc::Global;
 use std::sync::Wait;
 use std::thread::Threads;
