@@ -14,12 +14,19 @@ use stripe_code::{Round, RoundState, Told};
 use xfs_base::{List, Mem, SegName};
 
 /// The segment that is read at present.
-#[derive(Drop)]
 pub(crate) struct Present {
     /// What is wanted of it.
     pub wanted: Wanted,
     /// The round over the other members.
     pub round: Round,
+}
+
+impl Drop for Present {
+    fn drop(self) {
+        let Present { wanted, round } = self;
+        drop(wanted);
+        drop(round);
+    }
 }
 
 /// The segments that are still to be read, that which is read, and how many were.
@@ -134,10 +141,10 @@ impl Reads {
         ensures outs { OnOk result
             (outs.new ≡ outs.old ++ (judged self.old present.wanted (taken present.round server told) (state_of (taken present.round server told))).outs) }
     {
-        let Present { wanted, mut round } = present;
-        match round.take(alloc, server, told)? {
+        let mut present = present;
+        match present.round.take(alloc, server, told)? {
             RoundState::Waiting => {
-                self.present = Some(Present { wanted, round });
+                self.present = Some(present);
                 Ok(())
             }
             RoundState::Short(_) => {
@@ -146,7 +153,7 @@ impl Reads {
             }
             RoundState::Read(text) => {
                 self.filled = self.filled.saturating_add(1);
-                outs.push(Out::Fill(refilled(alloc, &wanted, text.as_slice())?))?;
+                outs.push(Out::Fill(refilled(alloc, &present.wanted, text.as_slice())?))?;
                 self.go_on(alloc, outs)
             }
         }

@@ -83,7 +83,7 @@ fn end_from(reports: &[Report], node: NodeId) -> End
     ensures { result ≡ end_from node reports.now }
 {
     for report in reports {
-        if report.from.order(node).is_eq() {
+        if report.from.is_same(node) {
             return report.end;
         }
     }
