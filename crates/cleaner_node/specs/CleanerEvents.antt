@@ -1,5 +1,5 @@
 -- What an event makes of the cleaner.
-use Rattle.std.specs.Prelude.{ℕ, ◌+◌, Bool, ◌&&◌, nat_lt, if◌then◌else◌, List, [], ◌∷◌, ◌++◌, Option, Some, None}
+use Rattle.std.specs.Prelude.{ℕ, ◌+◌, ◌×◌, Bool, ◌&&◌, nat_lt, if◌then◌else◌, List, [], ◌∷◌, ◌++◌, Option, Some, None}
 use Rattle.cleaner_serving.specs.declared.emptying.Emptying.{Emptying}
 use Rattle.cleaner_serving.specs.EmptyingEvents.{at_first, served, on_clean, on_packet, on_tick, emptying_room}
 use Rattle.cleaner_serving.specs.Jobs.{Done}
@@ -44,6 +44,12 @@ use Rattle.cleaner_node.specs.declared.cleaner.Wish.TheVariants.{Crash, Restart,
 -- the phase of the cleaner after an event, and what the event has it do
 abbrev pub Went_to : Type 0
 Went_to = Stepped Phase Effect
+
+-- what a cleaner has that opens its log
+abbrev pub opening_of : Phase → Option (Lasting × openings.Opening)
+opening_of (Down kept) = None
+opening_of (Opening kept o) = Some (kept, o)
+opening_of (Serving e) = None
 
 -- it serves on
 abbrev pub serves_on : Done → Went_to

@@ -1,7 +1,8 @@
 //! The cleaner as a node.
 ghost use Rattle.std.specs.Prelude.{◌≡◌, ◌++◌, IfOk, OnOk};
 ghost use Rattle.node_base.specs.Setups.{IsSetup};
-ghost use Rattle.cleaner_node.specs.CleanerEvents.{first_life, cleaner_start, crashes, next_life, says_back, back, after_opening, restarts_in, restarts, wish_at, answers, down_begins, opening_begins, serving_begins, down_wishes, opening_wishes, serving_wishes, on_begin, hears, on_deliver, on_time, happens, phase_room, takes};
+ghost use Rattle.cleaner_node.specs.CleanerEvents.{first_life, cleaner_start, crashes, next_life, says_back, back, after_opening, restarts_in, restarts, wish_at, answers, down_begins, opening_begins, serving_begins, down_wishes, opening_wishes, serving_wishes, on_begin, hears, on_deliver, on_time, happens, phase_room, opening_of, takes, cleaner_step};
+ghost use Rattle.cleaner_node.specs.declared.cleaner.Phase.TheVariants.{Opening as Opens};
 
 use cleaner_job::Lasting;
 use cleaner_job::starting::cleaner_log;
@@ -9,6 +10,7 @@ use cleaner_serving::Emptying;
 use log_owner::{Opened, Opening, Owner, Progress};
 use node_base::{Effects, Items, Peers, Questions, groups_of, is_well_formed};
 use std::alloc::Global;
+use std::mem;
 use version_model::{Act, Answer, Work};
 use wire_msg::{Actor, Do, Packet};
 use xfs_base::{Crosses, List, Mem, NodeId, Setup};
@@ -56,17 +58,8 @@ impl Actor for Cleaner {
 
     ghost transition = { cleaner_step };
 
-    fn step(self, alloc: Global, what: &Do) -> Mem<(Cleaner, List<Packet>, List<Act>)> {
-        let Cleaner { peers, phase } = self;
-        let mut effects = Effects::new(alloc);
-        let phase = takes(alloc, &mut effects, peers, phase, what)?;
-        match effects.into_parts(alloc, NodeId::Cleaner) {
-            Ok((packets, acts)) => Ok((Cleaner { peers, phase }, packets, acts)),
-            Err(error) => {
-                drop(phase);
-                Err(error)
-            }
-        }
+    fn step(&mut self, alloc: Global, what: &Do) -> Mem<(List<Packet>, List<Act>)> {
+        self.turn(alloc, what)
     }
 
     ghost no_clock = { cleaner_sends_clock_0 };
@@ -99,7 +92,57 @@ impl Cleaner {
     }
 }
 
+impl Cleaner {
+    // An event, with what the world sees of it.
+    fn turn(&mut self, alloc: Global, what: &Do) -> Mem<(List<Packet>, List<Act>)>
+        ensures state { OnOk result (self.new ≡ (cleaner_step self.old what.now).node) }
+        ensures packets { IfOk result (λ parts. parts.0 ≡ (cleaner_step self.old what.now).packets) }
+        ensures acts { IfOk result (λ parts. parts.1 ≡ (cleaner_step self.old what.now).acts) }
+    {
+        let mut effects = Effects::new(alloc);
+        takes(alloc, &mut effects, self.peers, &mut self.phase, what)?;
+        effects.into_parts(alloc, NodeId::Cleaner)
+    }
+}
+
 impl Phase {
+    // A cleaner that is down and has nothing to do: it stands in while a phase is handed on.
+    fn idle(alloc: Global) -> Phase {
+        Phase::Down(first_life(List::new(alloc)))
+    }
+
+    // The phase, which is handed on: until `turn_to` another stands in for it.
+    fn take(&mut self, alloc: Global) -> Phase
+        ensures { result ≡ self.old }
+    {
+        mem::replace(self, Phase::idle(alloc))
+    }
+
+    // What a cleaner has that opens its log, which is handed on: until `turn_to` another phase stands in. None in
+    // any other phase.
+    fn take_opening(&mut self, alloc: Global) -> Option<(Lasting, Opening)>
+        ensures { result ≡ opening_of self.old }
+    {
+        match self.take(alloc) {
+            Phase::Down(lasting) => {
+                drop(lasting);
+                None
+            }
+            Phase::Opening(lasting, opening) => Some((lasting, opening)),
+            Phase::Serving(emptying) => {
+                drop(emptying);
+                None
+            }
+        }
+    }
+
+    // The cleaner is in this phase from now on.
+    fn turn_to(&mut self, phase: Phase)
+        ensures { self.new ≡ phase }
+    {
+        drop(mem::replace(self, phase));
+    }
+
     // Whether each counter is at least 65,536 below its end.
     fn has_room(&self) -> bool
         ensures { result ≡ phase_room self.now }
@@ -123,12 +166,18 @@ fn first_life(items: List<Work>) -> Lasting
 }
 
 // An event is taken where each counter is at least 65,536 below its end.
-fn takes(alloc: Global, effects: &mut Effects, peers: Peers, phase: Phase, what: &Do) -> Mem<Phase>
-    ensures phase { IfOk result (λ p. p ≡ (takes peers phase what.now).state) }
-    ensures effects { OnOk result (effects.new ≡ effects.old ++ (takes peers phase what.now).outs) }
+fn takes(
+    alloc: Global,
+    effects: &mut Effects,
+    peers: Peers,
+    phase: &mut Phase,
+    what: &Do,
+) -> Mem<()>
+    ensures phase { OnOk result (phase.new ≡ (takes peers phase.old what.now).state) }
+    ensures effects { OnOk result (effects.new ≡ effects.old ++ (takes peers phase.old what.now).outs) }
 {
     if !phase.has_room() {
-        return Ok(phase);
+        return Ok(());
     }
     happens(alloc, effects, peers, phase, what)
 }
@@ -137,14 +186,18 @@ fn happens(
     alloc: Global,
     effects: &mut Effects,
     peers: Peers,
-    phase: Phase,
+    phase: &mut Phase,
     what: &Do,
-) -> Mem<Phase>
-    ensures phase { IfOk result (λ p. p ≡ (happens peers phase what.now).state) }
-    ensures effects { OnOk result (effects.new ≡ effects.old ++ (happens peers phase what.now).outs) }
+) -> Mem<()>
+    ensures phase { OnOk result (phase.new ≡ (happens peers phase.old what.now).state) }
+    ensures effects { OnOk result (effects.new ≡ effects.old ++ (happens peers phase.old what.now).outs) }
 {
     match what {
-        Do::Begin => on_begin(alloc, effects, peers.servers, phase),
+        Do::Begin => {
+            let begun = on_begin(alloc, effects, peers.servers, phase.take(alloc))?;
+            phase.turn_to(begun);
+            Ok(())
+        }
         Do::Deliver(packet) => on_deliver(alloc, effects, peers, phase, packet),
         Do::Tick => on_time(alloc, effects, phase),
     }
@@ -357,66 +410,84 @@ fn on_deliver(
     alloc: Global,
     effects: &mut Effects,
     peers: Peers,
-    phase: Phase,
+    phase: &mut Phase,
     packet: &Packet,
-) -> Mem<Phase>
-    ensures phase { IfOk result (λ p. p ≡ (on_deliver peers phase packet.now).state) }
-    ensures effects { OnOk result (effects.new ≡ effects.old ++ (on_deliver peers phase packet.now).outs) }
+) -> Mem<()>
+    ensures phase { OnOk result (phase.new ≡ (on_deliver peers phase.old packet.now).state) }
+    ensures effects { OnOk result (effects.new ≡ effects.old ++ (on_deliver peers phase.old packet.now).outs) }
 {
     if !is_well_formed(peers, packet) {
-        return Ok(phase);
+        return Ok(());
     }
     hear(alloc, effects, phase, packet)
 }
 
 // A cleaner that is down takes no packet.
 #[tactic(auto, unfolding(crate::specs::CleanerEvents::hears))]
-fn hear(alloc: Global, effects: &mut Effects, phase: Phase, packet: &Packet) -> Mem<Phase>
-    ensures phase { IfOk result (λ p. p ≡ (hears phase packet.now).state) }
-    ensures effects { OnOk result (effects.new ≡ effects.old ++ (hears phase packet.now).outs) }
+fn hear(alloc: Global, effects: &mut Effects, phase: &mut Phase, packet: &Packet) -> Mem<()>
+    ensures phase { OnOk result (phase.new ≡ (hears phase.old packet.now).state) }
+    ensures effects { OnOk result (effects.new ≡ effects.old ++ (hears phase.old packet.now).outs) }
 {
     match phase {
-        Phase::Down(lasting) => Ok(Phase::Down(lasting)),
-        Phase::Opening(mut lasting, opening) => {
-            let progress = opening.take(alloc, effects, &mut lasting.questions, packet)?;
-            after_opening(alloc, effects, lasting, progress)
-        }
-        Phase::Serving(emptying) => {
-            let mut emptying = emptying;
-            match emptying.on_packet(alloc, effects, packet) {
-                Ok(()) => Ok(Phase::Serving(emptying)),
-                Err(error) => {
-                    drop(emptying);
-                    Err(error)
-                }
+        Phase::Down(_) => Ok(()),
+        Phase::Opening(_, _) => match phase.take_opening(alloc) {
+            Some((lasting, opening)) => {
+                let after = hear_opening(alloc, effects, lasting, opening, packet)?;
+                phase.turn_to(after);
+                Ok(())
             }
-        }
+            None => Ok(()),
+        },
+        Phase::Serving(emptying) => emptying.on_packet(alloc, effects, packet),
     }
+}
+
+// A packet comes to a cleaner that opens its log.
+#[tactic(auto, unfolding(crate::specs::CleanerEvents::hears))]
+fn hear_opening(
+    alloc: Global,
+    effects: &mut Effects,
+    lasting: Lasting,
+    opening: Opening,
+    packet: &Packet,
+) -> Mem<Phase>
+    ensures phase { IfOk result (λ p. p ≡ (hears (Opens lasting opening) packet.now).state) }
+    ensures effects { OnOk result (effects.new ≡ effects.old ++ (hears (Opens lasting opening) packet.now).outs) }
+{
+    let mut lasting = lasting;
+    let progress = opening.take(alloc, effects, &mut lasting.questions, packet)?;
+    after_opening(alloc, effects, lasting, progress)
 }
 
 // Time passes.
 #[tactic(auto, unfolding(crate::specs::CleanerEvents::on_time))]
-fn on_time(alloc: Global, effects: &mut Effects, phase: Phase) -> Mem<Phase>
-    ensures phase { IfOk result (λ p. p ≡ (on_time phase).state) }
-    ensures effects { OnOk result (effects.new ≡ effects.old ++ (on_time phase).outs) }
+fn on_time(alloc: Global, effects: &mut Effects, phase: &mut Phase) -> Mem<()>
+    ensures phase { OnOk result (phase.new ≡ (on_time phase.old).state) }
+    ensures effects { OnOk result (effects.new ≡ effects.old ++ (on_time phase.old).outs) }
 {
     match phase {
-        Phase::Down(lasting) => Ok(Phase::Down(lasting)),
-        Phase::Opening(mut lasting, opening) => {
-            let progress = opening.tick(alloc, effects, &mut lasting.questions)?;
-            after_opening(alloc, effects, lasting, progress)
-        }
-        Phase::Serving(emptying) => {
-            let mut emptying = emptying;
-            match emptying.on_tick(alloc, effects) {
-                Ok(()) => Ok(Phase::Serving(emptying)),
-                Err(error) => {
-                    drop(emptying);
-                    Err(error)
-                }
+        Phase::Down(_) => Ok(()),
+        Phase::Opening(_, _) => match phase.take_opening(alloc) {
+            Some((lasting, opening)) => {
+                let after = ask_again(alloc, effects, lasting, opening)?;
+                phase.turn_to(after);
+                Ok(())
             }
-        }
+            None => Ok(()),
+        },
+        Phase::Serving(emptying) => emptying.on_tick(alloc, effects),
     }
+}
+
+// Time passes at a cleaner that opens its log.
+#[tactic(auto, unfolding(crate::specs::CleanerEvents::on_time))]
+fn ask_again(alloc: Global, effects: &mut Effects, lasting: Lasting, opening: Opening) -> Mem<Phase>
+    ensures phase { IfOk result (λ p. p ≡ (on_time (Opens lasting opening)).state) }
+    ensures effects { OnOk result (effects.new ≡ effects.old ++ (on_time (Opens lasting opening)).outs) }
+{
+    let mut lasting = lasting;
+    let progress = opening.tick(alloc, effects, &mut lasting.questions)?;
+    after_opening(alloc, effects, lasting, progress)
 }
 
 // The phase after an event of an opening.

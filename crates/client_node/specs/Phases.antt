@@ -1,5 +1,5 @@
 -- What an event makes of a client.
-use Rattle.std.specs.Prelude.{ℕ, Bool, true, ◌&&◌, if◌then◌else◌, [], ◌∷◌, ◌++◌, Option, Some, None}
+use Rattle.std.specs.Prelude.{ℕ, Bool, true, ◌×◌, ◌&&◌, if◌then◌else◌, [], ◌∷◌, ◌++◌, Option, Some, None}
 use Rattle.client_node.specs.declared.beginning.Wish.TheVariants as wish
 use Rattle.client_node.specs.declared.beginning.Wish.{Wish}
 use Rattle.client_node.specs.declared.client.Client.{Client}
@@ -130,6 +130,12 @@ abbrev pub lasting_of : Phase → Lasting
 lasting_of (Down l) = l
 lasting_of (Opening l o) = l
 lasting_of (Serves s) = s.lasting
+
+-- what a client has that opens its log
+abbrev pub opening_of : Phase → Option (Lasting × openings.Opening)
+opening_of (Down l) = None
+opening_of (Opening l o) = Some (l, o)
+opening_of (Serves s) = None
 
 -- the phase, once its next item is begun
 abbrev pub with_begun : Phase → Phase

@@ -1,7 +1,7 @@
 //! The client as a node: what each event makes of it.
 ghost use Rattle.std.specs.Prelude.{◌≡◌, ◌++◌, ℕ, IfOk, OnOk};
 ghost use Rattle.client_node.specs.declared.phase.Phase.TheVariants.{Opening as Opens};
-ghost use Rattle.client_node.specs.Phases.{on_begin, delivers, on_time, on_event, client_room, takes};
+ghost use Rattle.client_node.specs.Phases.{client_step, on_begin, on_deliver, delivers, on_time, on_event, client_room, takes};
 ghost use Rattle.client_node.specs.Starting.{first_client};
 ghost use Rattle.client_serving.specs.Packets.{on_packet, on_tick};
 ghost use Rattle.client_running.specs.Running.{runs};
@@ -49,22 +49,8 @@ impl Actor for Client {
 
     ghost transition = { client_step };
 
-    fn step(self, alloc: Global, what: &Do) -> Mem<(Client, List<Packet>, List<Act>)> {
-        let node = NodeId::Client(self.phase.lasting().number);
-        let mut effects = Effects::new(alloc);
-        match self.takes(alloc, &mut effects, what) {
-            Ok(client) => match effects.into_parts(alloc, node) {
-                Ok((packets, acts)) => Ok((client, packets, acts)),
-                Err(error) => {
-                    drop(client);
-                    Err(error)
-                }
-            },
-            Err(error) => {
-                drop(effects);
-                Err(error)
-            }
-        }
+    fn step(&mut self, alloc: Global, what: &Do) -> Mem<(List<Packet>, List<Act>)> {
+        self.turn(alloc, what)
     }
 
     ghost no_clock = { client_sends_clock_0 };
@@ -97,25 +83,34 @@ impl Client {
         has_room(lasting.inc) && (has_room(lasting.questions.last) && phase_has_room(&self.phase))
     }
 
+    // An event, with what the world sees of it.
+    fn turn(&mut self, alloc: Global, what: &Do) -> Mem<(List<Packet>, List<Act>)>
+        ensures state { OnOk result (self.new ≡ (client_step self.old what.now).node) }
+        ensures packets { IfOk result (λ parts. parts.0 ≡ (client_step self.old what.now).packets) }
+        ensures acts { IfOk result (λ parts. parts.1 ≡ (client_step self.old what.now).acts) }
+    {
+        let node = NodeId::Client(self.phase.lasting().number);
+        let mut effects = Effects::new(alloc);
+        self.takes(alloc, &mut effects, what)?;
+        effects.into_parts(alloc, node)
+    }
+
     // An event is taken where each counter is at least 65,536 below its end.
-    fn takes(self, alloc: Global, effects: &mut Effects, what: &Do) -> Mem<Client>
-        ensures client { IfOk result (λ client. client ≡ record self { phase = (takes self what.now).state }) }
-        ensures effects { OnOk result (effects.new ≡ effects.old ++ (takes self what.now).outs) }
+    fn takes(&mut self, alloc: Global, effects: &mut Effects, what: &Do) -> Mem<()>
+        ensures client { OnOk result (self.new ≡ record self.old { phase = (takes self.old what.now).state }) }
+        ensures effects { OnOk result (effects.new ≡ effects.old ++ (takes self.old what.now).outs) }
     {
         if !self.has_room() {
-            return Ok(self);
+            return Ok(());
         }
-        let Client {
-            peers,
-            cache,
-            phase,
-        } = self;
-        let phase = on_event(alloc, effects, peers, cache, phase, what)?;
-        Ok(Client {
-            peers,
-            cache,
-            phase,
-        })
+        on_event(
+            alloc,
+            effects,
+            self.peers,
+            self.cache,
+            &mut self.phase,
+            what,
+        )
     }
 }
 
@@ -124,14 +119,18 @@ fn on_event(
     effects: &mut Effects,
     peers: Peers,
     cache: u16,
-    phase: Phase,
+    phase: &mut Phase,
     what: &Do,
-) -> Mem<Phase>
-    ensures phase { IfOk result (λ after. after ≡ (on_event peers cache phase what.now).state) }
-    ensures effects { OnOk result (effects.new ≡ effects.old ++ (on_event peers cache phase what.now).outs) }
+) -> Mem<()>
+    ensures phase { OnOk result (phase.new ≡ (on_event peers cache phase.old what.now).state) }
+    ensures effects { OnOk result (effects.new ≡ effects.old ++ (on_event peers cache phase.old what.now).outs) }
 {
     match what {
-        Do::Begin => begin(alloc, effects, peers, phase),
+        Do::Begin => {
+            let begun = begin(alloc, effects, peers, phase.take(alloc))?;
+            phase.turn_to(begun);
+            Ok(())
+        }
         Do::Deliver(packet) => deliver(alloc, effects, peers, cache, phase, packet),
         Do::Tick => tick(alloc, effects, cache, phase),
     }
@@ -197,36 +196,48 @@ fn deliver(
     effects: &mut Effects,
     peers: Peers,
     cache: u16,
-    phase: Phase,
+    phase: &mut Phase,
     packet: &Packet,
-) -> Mem<Phase>
-    ensures phase { IfOk result (λ after. after ≡ (delivers peers cache phase packet.now).state) }
-    ensures effects { OnOk result (effects.new ≡ effects.old ++ (delivers peers cache phase packet.now).outs) }
+) -> Mem<()>
+    ensures phase { OnOk result (phase.new ≡ (delivers peers cache phase.old packet.now).state) }
+    ensures effects { OnOk result (effects.new ≡ effects.old ++ (delivers peers cache phase.old packet.now).outs) }
 {
     if !is_well_formed(peers, packet) {
-        return Ok(phase);
+        return Ok(());
     }
     match phase {
-        Phase::Down(lasting) => Ok(Phase::Down(lasting)),
-        Phase::Opening(lasting, opening) => {
-            let mut lasting = lasting;
-            match opening.take(alloc, effects, &mut lasting.questions, packet) {
-                Ok(progress) => phase_after(alloc, effects, lasting, cache, progress),
-                Err(error) => {
-                    drop(lasting);
-                    Err(error)
-                }
+        Phase::Down(_) => Ok(()),
+        Phase::Opening(_, _) => match phase.take_opening(alloc) {
+            Some((lasting, opening)) => {
+                let after = hear(alloc, effects, lasting, opening, cache, packet)?;
+                phase.turn_to(after);
+                Ok(())
             }
-        }
-        Phase::Serving(serving) => {
-            let mut serving = serving;
-            match take_and_run(alloc, effects, &mut serving, packet) {
-                Ok(()) => Ok(Phase::Serving(serving)),
-                Err(error) => {
-                    drop(serving);
-                    Err(error)
-                }
-            }
+            None => Ok(()),
+        },
+        Phase::Serving(serving) => take_and_run(alloc, effects, serving, packet),
+    }
+}
+
+// A packet comes to a client that opens its log.
+#[tactic(auto, unfolding(crate::specs::Phases::on_deliver))]
+fn hear(
+    alloc: Global,
+    effects: &mut Effects,
+    lasting: Lasting,
+    opening: Opening,
+    cache: u16,
+    packet: &Packet,
+) -> Mem<Phase>
+    ensures phase { IfOk result (λ after. after ≡ (on_deliver cache (Opens lasting opening) packet.now).state) }
+    ensures effects { OnOk result (effects.new ≡ effects.old ++ (on_deliver cache (Opens lasting opening) packet.now).outs) }
+{
+    let mut lasting = lasting;
+    match opening.take(alloc, effects, &mut lasting.questions, packet) {
+        Ok(progress) => phase_after(alloc, effects, lasting, cache, progress),
+        Err(error) => {
+            drop(lasting);
+            Err(error)
         }
     }
 }
@@ -257,31 +268,42 @@ fn tick_and_run(alloc: Global, effects: &mut Effects, serving: &mut Serving) -> 
 
 // Time passes.
 #[tactic(auto, unfolding(crate::specs::Phases::on_time))]
-fn tick(alloc: Global, effects: &mut Effects, cache: u16, phase: Phase) -> Mem<Phase>
-    ensures phase { IfOk result (λ after. after ≡ (on_time cache phase).state) }
-    ensures effects { OnOk result (effects.new ≡ effects.old ++ (on_time cache phase).outs) }
+fn tick(alloc: Global, effects: &mut Effects, cache: u16, phase: &mut Phase) -> Mem<()>
+    ensures phase { OnOk result (phase.new ≡ (on_time cache phase.old).state) }
+    ensures effects { OnOk result (effects.new ≡ effects.old ++ (on_time cache phase.old).outs) }
 {
     match phase {
-        Phase::Down(lasting) => Ok(Phase::Down(lasting)),
-        Phase::Opening(lasting, opening) => {
-            let mut lasting = lasting;
-            match opening.tick(alloc, effects, &mut lasting.questions) {
-                Ok(progress) => phase_after(alloc, effects, lasting, cache, progress),
-                Err(error) => {
-                    drop(lasting);
-                    Err(error)
-                }
+        Phase::Down(_) => Ok(()),
+        Phase::Opening(_, _) => match phase.take_opening(alloc) {
+            Some((lasting, opening)) => {
+                let after = ask_again(alloc, effects, lasting, opening, cache)?;
+                phase.turn_to(after);
+                Ok(())
             }
-        }
-        Phase::Serving(serving) => {
-            let mut serving = serving;
-            match tick_and_run(alloc, effects, &mut serving) {
-                Ok(()) => Ok(Phase::Serving(serving)),
-                Err(error) => {
-                    drop(serving);
-                    Err(error)
-                }
-            }
+            None => Ok(()),
+        },
+        Phase::Serving(serving) => tick_and_run(alloc, effects, serving),
+    }
+}
+
+// Time passes at a client that opens its log.
+#[tactic(auto, unfolding(crate::specs::Phases::on_time))]
+fn ask_again(
+    alloc: Global,
+    effects: &mut Effects,
+    lasting: Lasting,
+    opening: Opening,
+    cache: u16,
+) -> Mem<Phase>
+    ensures phase { IfOk result (λ after. after ≡ (on_time cache (Opens lasting opening)).state) }
+    ensures effects { OnOk result (effects.new ≡ effects.old ++ (on_time cache (Opens lasting opening)).outs) }
+{
+    let mut lasting = lasting;
+    match opening.tick(alloc, effects, &mut lasting.questions) {
+        Ok(progress) => phase_after(alloc, effects, lasting, cache, progress),
+        Err(error) => {
+            drop(lasting);
+            Err(error)
         }
     }
 }

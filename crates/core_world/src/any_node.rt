@@ -42,28 +42,13 @@ impl Actor for AnyNode {
 
     ghost transition = { any_step };
 
-    fn step(self, alloc: Global, what: &Do) -> Mem<(AnyNode, List<Packet>, List<Act>)> {
+    fn step(&mut self, alloc: Global, what: &Do) -> Mem<(List<Packet>, List<Act>)> {
         match self {
-            AnyNode::Client(node) => {
-                let (node, packets, acts) = node.step(alloc, what)?;
-                Ok((AnyNode::Client(node), packets, acts))
-            }
-            AnyNode::Manager(node) => {
-                let (node, packets, acts) = node.step(alloc, what)?;
-                Ok((AnyNode::Manager(node), packets, acts))
-            }
-            AnyNode::Server(node) => {
-                let (node, packets, acts) = node.step(alloc, what)?;
-                Ok((AnyNode::Server(node), packets, acts))
-            }
-            AnyNode::Cleaner(node) => {
-                let (node, packets, acts) = node.step(alloc, what)?;
-                Ok((AnyNode::Cleaner(node), packets, acts))
-            }
-            AnyNode::Registry(node) => {
-                let (node, packets, acts) = node.step(alloc, what)?;
-                Ok((AnyNode::Registry(node), packets, acts))
-            }
+            AnyNode::Client(node) => node.step(alloc, what),
+            AnyNode::Manager(node) => node.step(alloc, what),
+            AnyNode::Server(node) => node.step(alloc, what),
+            AnyNode::Cleaner(node) => node.step(alloc, what),
+            AnyNode::Registry(node) => node.step(alloc, what),
         }
     }
 

@@ -1,5 +1,5 @@
 -- Where a manager stands, and what its next item makes of it.
-use Rattle.std.specs.Prelude.{ℕ, Bool, [], ◌∷◌, ◌++◌, Option, Some, None}
+use Rattle.std.specs.Prelude.{ℕ, ◌×◌, Bool, [], ◌∷◌, ◌++◌, Option, Some, None}
 use Rattle.log_owner.specs.Sending.{hello}
 use Rattle.manager_slots.specs.declared.lasting.Lasting.{Lasting as Kept}
 use Rattle.manager_slots.specs.Lasting.{kept_has_room, with_answer}
@@ -30,6 +30,12 @@ abbrev pub lasting_of : Phase → Kept
 lasting_of (Down kept) = kept
 lasting_of (Waiting kept hello) = kept
 lasting_of (Serves s) = s.lasting
+
+-- what a manager has that awaits its Welcome
+abbrev pub waiting_of : Phase → Option (Kept × ℕ)
+waiting_of (Down kept) = None
+waiting_of (Waiting kept hello) = Some (kept, hello)
+waiting_of (Serves s) = None
 
 -- each counter is at least 65,536 below its end
 abbrev pub phase_has_room : Phase → Bool

@@ -3,9 +3,7 @@ ghost use Rattle.std.specs.Prelude.{◌≡◌, ◌++◌, IfOk, OnOk};
 ghost use Rattle.node_base.specs.Setups.{IsSetup};
 ghost use Rattle.manager_node.specs.Phases.{on_begin};
 ghost use Rattle.node_base.specs.Maps.{forgotten};
-ghost use Rattle.manager_node.specs.declared.phase.Phase.TheVariants.{Waiting};
-ghost use Rattle.manager_node.specs.Phases.{serves};
-ghost use Rattle.manager_node.specs.Events.{first_manager, takes_welcome, on_welcome, on_waiting, on_packet, on_deliver, on_time, on_event, happens};
+ghost use Rattle.manager_node.specs.Events.{first_manager, takes_welcome, on_welcome, on_waiting, on_packet, on_deliver, on_time, on_event, happens, manager_step};
 ghost use Rattle.manager_serving.specs.Serving as servings;
 
 use crate::beginning::{begin_down, begin_serving, begin_waiting};
@@ -16,7 +14,7 @@ use manager_serving::Serving;
 use manager_slots::Lasting;
 use node_base::{Effects, Items, Maps, Peers, Questions, groups_of, is_well_formed};
 use std::alloc::Global;
-use version_model::Work;
+use version_model::{Act, Work};
 use wire_msg::{Body, Do, Packet, Welcome};
 use xfs_base::{List, Mem, NodeId, Setup};
 
@@ -54,17 +52,28 @@ impl Manager {
         })
     }
 
+    // An event, with what the world sees of it.
+    pub(crate) fn turn(&mut self, alloc: Global, what: &Do) -> Mem<(List<Packet>, List<Act>)>
+        ensures state { OnOk result (self.new ≡ (manager_step self.old what.now).node) }
+        ensures packets { IfOk result (λ parts. parts.0 ≡ (manager_step self.old what.now).packets) }
+        ensures acts { IfOk result (λ parts. parts.1 ≡ (manager_step self.old what.now).acts) }
+    {
+        let node = NodeId::Manager(self.phase.lasting().number);
+        let mut effects = Effects::new(alloc);
+        self.happens(alloc, &mut effects, what)?;
+        effects.into_parts(alloc, node)
+    }
+
     // Where a counter isn't at least 65,536 below its end, the event changes nothing.
     #[tactic(auto, unfolding(crate::specs::Events::happens))]
-    pub(crate) fn happens(self, alloc: Global, effects: &mut Effects, what: &Do) -> Mem<Phase>
-        ensures state { IfOk result (λ phase. phase ≡ (happens self what.now).state) }
-        ensures effects { OnOk result (effects.new ≡ effects.old ++ (happens self what.now).outs) }
+    fn happens(&mut self, alloc: Global, effects: &mut Effects, what: &Do) -> Mem<()>
+        ensures state { OnOk result (self.new ≡ record self.old { phase = (happens self.old what.now).state }) }
+        ensures effects { OnOk result (effects.new ≡ effects.old ++ (happens self.old what.now).outs) }
     {
-        let Manager { peers, phase } = self;
-        if phase.has_room() {
-            on_event(alloc, effects, peers, phase, what)
+        if self.phase.has_room() {
+            on_event(alloc, effects, self.peers, &mut self.phase, what)
         } else {
-            Ok(phase)
+            Ok(())
         }
     }
 }
@@ -73,14 +82,18 @@ fn on_event(
     alloc: Global,
     effects: &mut Effects,
     peers: Peers,
-    phase: Phase,
+    phase: &mut Phase,
     what: &Do,
-) -> Mem<Phase>
-    ensures state { IfOk result (λ after. after ≡ (on_event peers phase what.now).state) }
-    ensures effects { OnOk result (effects.new ≡ effects.old ++ (on_event peers phase what.now).outs) }
+) -> Mem<()>
+    ensures state { OnOk result (phase.new ≡ (on_event peers phase.old what.now).state) }
+    ensures effects { OnOk result (effects.new ≡ effects.old ++ (on_event peers phase.old what.now).outs) }
 {
     match what {
-        Do::Begin => on_begin(alloc, effects, phase),
+        Do::Begin => {
+            let begun = on_begin(alloc, effects, phase.take(alloc))?;
+            phase.turn_to(begun);
+            Ok(())
+        }
         Do::Deliver(packet) => on_deliver(alloc, effects, peers, phase, packet),
         Do::Tick => on_time(alloc, effects, phase),
     }
@@ -104,16 +117,16 @@ fn on_deliver(
     alloc: Global,
     effects: &mut Effects,
     peers: Peers,
-    phase: Phase,
+    phase: &mut Phase,
     packet: &Packet,
-) -> Mem<Phase>
-    ensures state { IfOk result (λ after. after ≡ (on_deliver peers phase packet.now).state) }
-    ensures effects { OnOk result (effects.new ≡ effects.old ++ (on_deliver peers phase packet.now).outs) }
+) -> Mem<()>
+    ensures state { OnOk result (phase.new ≡ (on_deliver peers phase.old packet.now).state) }
+    ensures effects { OnOk result (effects.new ≡ effects.old ++ (on_deliver peers phase.old packet.now).outs) }
 {
     if is_well_formed(peers, packet) {
         on_packet(alloc, effects, peers, phase, packet)
     } else {
-        Ok(phase)
+        Ok(())
     }
 }
 
@@ -122,40 +135,23 @@ fn on_packet(
     alloc: Global,
     effects: &mut Effects,
     peers: Peers,
-    phase: Phase,
+    phase: &mut Phase,
     packet: &Packet,
-) -> Mem<Phase>
-    ensures state { IfOk result (λ after. after ≡ (on_packet peers phase packet.now).state) }
-    ensures effects { OnOk result (effects.new ≡ effects.old ++ (on_packet peers phase packet.now).outs) }
+) -> Mem<()>
+    ensures state { OnOk result (phase.new ≡ (on_packet peers phase.old packet.now).state) }
+    ensures effects { OnOk result (effects.new ≡ effects.old ++ (on_packet peers phase.old packet.now).outs) }
 {
     match phase {
-        Phase::Down(lasting) => Ok(Phase::Down(lasting)),
-        Phase::Waiting(lasting, hello) => {
-            on_waiting(alloc, effects, peers, lasting, hello, &packet.body)
-        }
-        Phase::Serving(serving) => hear(alloc, effects, peers, serving, packet),
-    }
-}
-
-// A packet comes to a manager that serves, which is dropped by a call, here and below, so that each part of
-// it is dropped in one proof.
-fn hear(
-    alloc: Global,
-    effects: &mut Effects,
-    peers: Peers,
-    serving: Serving,
-    packet: &Packet,
-) -> Mem<Phase>
-    ensures state { IfOk result (λ after. after ≡ (serves (servings.hears serving peers.clients packet.now)).state) }
-    ensures effects { OnOk result (effects.new ≡ effects.old ++ (servings.hears serving peers.clients packet.now).outs) }
-{
-    let mut serving = serving;
-    match serving.hear(alloc, effects, peers.clients, packet) {
-        Ok(()) => Ok(Phase::Serving(serving)),
-        Err(error) => {
-            drop(serving);
-            Err(error)
-        }
+        Phase::Down(_) => Ok(()),
+        Phase::Waiting(_, _) => match phase.take_waiting(alloc) {
+            Some((lasting, hello)) => {
+                let after = on_waiting(alloc, effects, peers, lasting, hello, &packet.body)?;
+                phase.turn_to(after);
+                Ok(())
+            }
+            None => Ok(()),
+        },
+        Phase::Serving(serving) => serving.hear(alloc, effects, peers.clients, packet),
     }
 }
 
@@ -223,44 +219,15 @@ fn again(alloc: Global, peers: Peers, lasting: Lasting, groups: &GroupMap) -> Me
     }
 }
 
-// Time passes.
+// Time passes: a manager that awaits its Welcome asks for the maps again.
 #[tactic(auto, unfolding(crate::specs::Events::on_time))]
-fn on_time(alloc: Global, effects: &mut Effects, phase: Phase) -> Mem<Phase>
-    ensures state { IfOk result (λ after. after ≡ (on_time phase).state) }
-    ensures effects { OnOk result (effects.new ≡ effects.old ++ (on_time phase).outs) }
+fn on_time(alloc: Global, effects: &mut Effects, phase: &mut Phase) -> Mem<()>
+    ensures state { OnOk result (phase.new ≡ (on_time phase.old).state) }
+    ensures effects { OnOk result (effects.new ≡ effects.old ++ (on_time phase.old).outs) }
 {
     match phase {
-        Phase::Down(lasting) => Ok(Phase::Down(lasting)),
-        Phase::Waiting(lasting, hello) => wait_on(effects, lasting, hello),
-        Phase::Serving(serving) => tick(alloc, effects, serving),
-    }
-}
-
-// The maps are asked for again.
-#[tactic(auto, unfolding(crate::specs::Events::on_time))]
-fn wait_on(effects: &mut Effects, lasting: Lasting, hello: u32) -> Mem<Phase>
-    ensures state { IfOk result (λ after. after ≡ Waiting lasting hello) }
-    ensures effects { OnOk result (effects.new ≡ effects.old ++ (on_time (Waiting lasting hello)).outs) }
-{
-    match send_hello(effects, lasting.inc, hello) {
-        Ok(()) => Ok(Phase::Waiting(lasting, hello)),
-        Err(error) => {
-            drop(lasting);
-            Err(error)
-        }
-    }
-}
-
-fn tick(alloc: Global, effects: &mut Effects, serving: Serving) -> Mem<Phase>
-    ensures state { IfOk result (λ after. after ≡ (serves (servings.on_tick serving)).state) }
-    ensures effects { OnOk result (effects.new ≡ effects.old ++ (servings.on_tick serving).outs) }
-{
-    let mut serving = serving;
-    match serving.on_tick(alloc, effects) {
-        Ok(()) => Ok(Phase::Serving(serving)),
-        Err(error) => {
-            drop(serving);
-            Err(error)
-        }
+        Phase::Down(_) => Ok(()),
+        Phase::Waiting(lasting, hello) => send_hello(effects, lasting.inc, *hello),
+        Phase::Serving(serving) => serving.on_tick(alloc, effects),
     }
 }

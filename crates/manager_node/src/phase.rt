@@ -1,9 +1,13 @@
 //! Where a manager stands.
 ghost use Rattle.std.specs.Prelude.{◌≡◌};
-ghost use Rattle.manager_node.specs.Phases.{lasting_of, phase_has_room};
+ghost use Rattle.manager_node.specs.Phases.{lasting_of, phase_has_room, waiting_of};
 
 use manager_serving::Serving;
 use manager_slots::Lasting;
+use node_base::{Items, Questions};
+use std::alloc::Global;
+use std::mem;
+use xfs_base::List;
 
 /// What a manager has: in each phase what outlives a crash, and in each what exists in it alone.
 #[derive(Drop)]
@@ -17,6 +21,48 @@ pub(crate) enum Phase {
 }
 
 impl Phase {
+    // A manager that is down and has nothing to do: it stands in while a phase is handed on.
+    fn idle(alloc: Global) -> Phase {
+        Phase::Down(Lasting {
+            number: 1,
+            inc: 1,
+            questions: Questions::new(),
+            items: Items::start(List::new(alloc)),
+        })
+    }
+
+    /// The phase, which is handed on: until `turn_to` another stands in for it.
+    pub fn take(&mut self, alloc: Global) -> Phase
+        ensures { result ≡ self.old }
+    {
+        mem::replace(self, Phase::idle(alloc))
+    }
+
+    /// What a manager has that awaits its Welcome, which is handed on: until `turn_to` another phase stands in. None
+    /// in any other phase.
+    pub fn take_waiting(&mut self, alloc: Global) -> Option<(Lasting, u32)>
+        ensures { result ≡ waiting_of self.old }
+    {
+        match self.take(alloc) {
+            Phase::Down(lasting) => {
+                drop(lasting);
+                None
+            }
+            Phase::Waiting(lasting, hello) => Some((lasting, hello)),
+            Phase::Serving(serving) => {
+                drop(serving);
+                None
+            }
+        }
+    }
+
+    /// The manager is in this phase from now on.
+    pub fn turn_to(&mut self, phase: Phase)
+        ensures { self.new ≡ phase }
+    {
+        drop(mem::replace(self, phase));
+    }
+
     /// What outlives a crash.
     pub fn lasting(&self) -> &Lasting
         ensures { result.now ≡ lasting_of self.now }

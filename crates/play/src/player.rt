@@ -112,128 +112,113 @@ impl<N: Member> Player<N> {
 
     /// An event happens.
     #[tactic(auto, unfolding(crate::specs::Plays::happens))]
-    fn happen(self, alloc: Global, event: Event) -> Mem<Player<N>>
-        ensures exact { IfOk result (λ player. player ≡ happens N.transition self event) }
-        ensures no_more { IfOk result (λ player. player.unanswered ≤ self.unanswered) }
+    fn happen(&mut self, alloc: Global, event: Event) -> Mem<()>
+        ensures exact { OnOk result (self.new ≡ happens N.transition self.old event) }
+        ensures no_more { OnOk result (self.new.unanswered ≤ self.old.unanswered) }
     {
-        let Player {
-            world,
-            mut events,
-            mut schedule,
-            unanswered,
-        } = self;
-        let sent = world.sent.len();
-        let done = world.acts.len();
+        let sent = self.world.sent.len();
+        let done = self.world.acts.len();
         let (node, what) = event.into_parts();
-        let world = world.happen(alloc, node, &what)?;
-        send_since(&mut schedule, sent, world.sent.len())?;
-        let answered = answers_since(world.acts.as_slice(), done);
-        events.push(Event::of(node, what))?;
-        Ok(Player {
-            world,
-            events,
-            schedule,
-            unanswered: unanswered.saturating_sub(answered),
-        })
+        self.world.happen(alloc, node, &what)?;
+        send_since(&mut self.schedule, sent, self.world.sent.len())?;
+        let answered = answers_since(self.world.acts.as_slice(), done);
+        self.events.push(Event::of(node, what))?;
+        self.unanswered = self.unanswered.saturating_sub(answered);
+        Ok(())
     }
 
     /// A node begins its next item.
     #[tactic(auto, unfolding(crate::specs::Plays::begins))]
-    fn begin(self, alloc: Global, node: NodeId) -> Mem<Player<N>>
-        requires { self.unanswered + 1 < 2 ^ 64 }
-        ensures exact { IfOk result (λ player. player ≡ begins N.transition self node) }
-        ensures one_more { IfOk result (λ player. player.unanswered ≤ self.unanswered + 1) }
+    fn begin(&mut self, alloc: Global, node: NodeId) -> Mem<()>
+        requires { self.old.unanswered + 1 < 2 ^ 64 }
+        ensures exact { OnOk result (self.new ≡ begins N.transition self.old node) }
+        ensures one_more { OnOk result (self.new.unanswered ≤ self.old.unanswered + 1) }
     {
-        let mut player = self;
-        player.unanswered += 1;
-        let mut player = player.happen(alloc, Event::Begin(node))?;
-        player.schedule.item(player.unanswered);
-        Ok(player)
+        self.unanswered += 1;
+        self.happen(alloc, Event::Begin(node))?;
+        self.schedule.item(self.unanswered);
+        Ok(())
     }
 
     /// The packet of this number is delivered.
     #[tactic(auto, unfolding(crate::specs::Plays::delivered))]
-    fn deliver(self, alloc: Global, number: usize) -> Mem<Player<N>>
-        ensures exact { IfOk result (λ player. player ≡ delivered N.transition self number) }
-        ensures no_more { IfOk result (λ player. player.unanswered ≤ self.unanswered) }
+    fn deliver(&mut self, alloc: Global, number: usize) -> Mem<()>
+        ensures exact { OnOk result (self.new ≡ delivered N.transition self.old number) }
+        ensures no_more { OnOk result (self.new.unanswered ≤ self.old.unanswered) }
     {
         let packet = match self.world.sent.get(number) {
             Some(packet) => packet.copy(alloc)?,
-            None => return Ok(self),
+            None => return Ok(()),
         };
-        let mut player = self.happen(alloc, Event::Deliver(packet))?;
-        player.schedule.delivered(number)?;
-        Ok(player)
+        self.happen(alloc, Event::Deliver(packet))?;
+        self.schedule.delivered(number)
     }
 
     /// Time passes at every node, in their order.
     #[tactic(auto, unfolding(crate::specs::Plays::rounded))]
-    fn round(self, alloc: Global) -> Mem<Player<N>>
-        ensures exact { IfOk result (λ player. player ≡ rounded N.transition self) }
-        ensures no_more { IfOk result (λ player. player.unanswered ≤ self.unanswered) }
+    fn round(&mut self, alloc: Global) -> Mem<()>
+        ensures exact { OnOk result (self.new ≡ rounded N.transition self.old) }
+        ensures no_more { OnOk result (self.new.unanswered ≤ self.old.unanswered) }
     {
         let cluster = self.world.cluster;
-        let mut player = self;
         for place in 0..cluster.count() {
-            player = player.happen(alloc, Event::Tick(cluster.node_at(place)))?;
+            self.happen(alloc, Event::Tick(cluster.node_at(place)))?;
         }
-        Ok(player)
+        Ok(())
     }
 
     /// What comes next happens.
-    fn come(self, alloc: Global, next: Next) -> Mem<Player<N>>
-        ensures exact { IfOk result (λ player. player ≡ comes N.transition self next) }
-        ensures no_more { IfOk result (λ player. player.unanswered ≤ self.unanswered) }
+    fn come(&mut self, alloc: Global, next: Next) -> Mem<()>
+        ensures exact { OnOk result (self.new ≡ comes N.transition self.old next) }
+        ensures no_more { OnOk result (self.new.unanswered ≤ self.old.unanswered) }
     {
         match next {
             Next::Deliver(number) => self.deliver(alloc, number),
             Next::Round => self.round(alloc),
-            Next::Done => Ok(self),
+            Next::Done => Ok(()),
         }
     }
 
     /// All that the schedule says happens for the line in hand.
     #[tactic(auto, unfolding(crate::specs::Plays::goes_out))]
-    fn go(self, alloc: Global) -> Mem<Player<N>>
-        ensures exact { IfOk result (λ player. player ≡ goes_out N.transition self) }
-        ensures no_more { IfOk result (λ player. player.unanswered ≤ self.unanswered) }
+    fn go(&mut self, alloc: Global) -> Mem<()>
+        ensures exact { OnOk result (self.new ≡ goes_out N.transition self.old) }
+        ensures no_more { OnOk result (self.new.unanswered ≤ self.old.unanswered) }
     {
-        let mut player = self;
         loop {
-            let next = player.schedule.next(player.unanswered);
+            let next = self.schedule.next(self.unanswered);
             if next.is_done() {
-                return Ok(player);
+                return Ok(());
             }
-            player = player.come(alloc, next)?;
+            self.come(alloc, next)?;
         }
     }
 
     /// Begins what a line asks for, or tells the schedule of it.
     #[tactic(auto, unfolding(crate::specs::Plays::opens))]
-    fn open(self, alloc: Global, work: &Work) -> Mem<Player<N>>
-        requires { self.unanswered + 1 < 2 ^ 64 }
-        ensures exact { IfOk result (λ player. player ≡ opens N.transition self work.now) }
-        ensures one_more { IfOk result (λ player. player.unanswered ≤ self.unanswered + 1) }
+    fn open(&mut self, alloc: Global, work: &Work) -> Mem<()>
+        requires { self.old.unanswered + 1 < 2 ^ 64 }
+        ensures exact { OnOk result (self.new ≡ opens N.transition self.old work.now) }
+        ensures one_more { OnOk result (self.new.unanswered ≤ self.old.unanswered + 1) }
     {
         match actor_of(work) {
             Some(node) => self.begin(alloc, node),
             None => {
-                let mut player = self;
-                player.schedule.take(work, player.unanswered);
-                Ok(player)
+                self.schedule.take(work, self.unanswered);
+                Ok(())
             }
         }
     }
 
     /// Plays a line.
     #[tactic(auto, unfolding(crate::specs::Plays::plays_line))]
-    fn line(self, alloc: Global, line: &Line) -> Mem<Player<N>>
-        requires { self.unanswered + 1 < 2 ^ 64 }
-        ensures exact { IfOk result (λ player. player ≡ plays_line N.transition self line.now) }
-        ensures one_more { IfOk result (λ player. player.unanswered ≤ self.unanswered + 1) }
+    fn line(&mut self, alloc: Global, line: &Line) -> Mem<()>
+        requires { self.old.unanswered + 1 < 2 ^ 64 }
+        ensures exact { OnOk result (self.new ≡ plays_line N.transition self.old line.now) }
+        ensures one_more { OnOk result (self.new.unanswered ≤ self.old.unanswered + 1) }
     {
-        let player = self.open(alloc, &line.work)?;
-        player.go(alloc)
+        self.open(alloc, &line.work)?;
+        self.go(alloc)
     }
 
     /// Plays all lines of a script.
@@ -244,7 +229,7 @@ impl<N: Member> Player<N> {
     {
         let mut player = Player::start(alloc, script)?;
         for line in script.lines.as_slice() {
-            player = player.line(alloc, line)?;
+            player.line(alloc, line)?;
         }
         Ok(player)
     }

@@ -83,16 +83,8 @@ impl Actor for Server {
 
     ghost transition = { server_step };
 
-    fn step(self, alloc: Global, what: &Do) -> Mem<(Server, List<Packet>, List<Act>)> {
-        let mut node = self;
-        // It is dropped by a call, here and below, so that each part of it is dropped in one proof.
-        match node.turn(alloc, what) {
-            Ok((packets, acts)) => Ok((node, packets, acts)),
-            Err(error) => {
-                drop(node);
-                Err(error)
-            }
-        }
+    fn step(&mut self, alloc: Global, what: &Do) -> Mem<(List<Packet>, List<Act>)> {
+        self.turn(alloc, what)
     }
 
     ghost no_clock = { server_sends_clock_0 };

@@ -14,9 +14,10 @@ pub trait Actor: Sized {
     /// The node's transition: what an event makes of the node, and what the node sends and does.
     ghost transition: { Self → Do → NodeStep Self };
 
-    /// One step: the node after the event, the packets that it sends and the acts that it does.
-    fn step(self, alloc: Global, what: &Do) -> Mem<(Self, List<Packet>, List<Act>)>
-        ensures { IfOk result (λ stepped. record { node = stepped.0; packets = stepped.1; acts = stepped.2 } ≡ transition self what.now) };
+    /// One step: the packets that the node sends at the event, and the acts that it does. A node that wants memory is
+    /// given up with its run.
+    fn step(&mut self, alloc: Global, what: &Do) -> Mem<(List<Packet>, List<Act>)>
+        ensures { IfOk result (λ told. record { node = self.new; packets = told.0; acts = told.1 } ≡ transition self.old what.now) };
 
     /// A transition sends its packets with clock 0.
     ghost no_clock: { (node : Self) (what : Do) → HaveNoClock (transition node what).packets };

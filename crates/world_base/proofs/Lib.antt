@@ -1,3 +1,3 @@
-pub mod PutBack
+pub mod Turns
 pub mod Ranges
 pub mod Standing

@@ -10,7 +10,7 @@ use Rattle.xfs_base.specs.declared.node.NodeId.{NodeId}
 use Rattle.xfs_base.specs.declared.setup.Setup.{Setup}
 use Rattle.world_base.specs.declared.cluster.Cluster.{Cluster}
 use Rattle.world_base.specs.declared.event.Event.{Event}
-use Rattle.world_base.specs.declared.turn.Turn.{Turn}
+use Rattle.version_model.specs.declared.act.Act.{Act}
 use Rattle.world_base.specs.declared.world.World.{World}
 use Rattle.world_base.specs.Cluster.{cluster_of, node_count, nodes_of, place_of}
 use Rattle.world_base.specs.Events.{node_of, what_of}
@@ -50,6 +50,12 @@ module _ {N : Type 0} (first : NodeId → Setup → List Work → N) where
 -- the clock of an event of the node at a place; none where there is no such node
 abbrev pub clock_at : {N : Type 0} → World N → ℕ → Do → Option ℕ
 clock_at w place what = if nat_lt place (length w.nodes) && nat_lt place (length w.clocks) then clock_after (slice_index w.clocks place) what else None
+
+-- what a turn leaves: all nodes, in their order, what is sent, with clock 0, and what is done
+pub record Turn (N : Type 0) : Type 0 where
+  pub nodes : List N
+  pub packets : List Packet
+  pub acts : List Act
 
 module _ {N : Type 0} (step : N → Do → NodeStep N) where
   -- the nodes after this one, which stands at a place, had its turn, and what it sends and does

@@ -4,20 +4,10 @@ ghost use Rattle.world_base.specs.NextWorld.{clock_after, clock_at_most, sent_at
 
 use crate::Member;
 use std::alloc::Global;
+use std::mem;
 use version_model::Act;
 use wire_msg::{Do, Packet};
 use xfs_base::{List, Mem};
-
-/// What a turn leaves: all nodes, and what the one that had it sends and does.
-#[derive(Drop)]
-pub struct Turn<N> {
-    /// The nodes, in their order.
-    pub nodes: List<N>,
-    /// What is sent, with clock 0.
-    pub packets: List<Packet>,
-    /// What is done.
-    pub acts: List<Act>,
-}
 
 // The clock that follows this one; none past the end of all clocks.
 fn next_clock(clock: u64) -> Option<u64>
@@ -41,22 +31,20 @@ pub fn clock_after(clock: u64, what: &Do) -> Option<u64>
     }
 }
 
-/// Lets the node at a place have its turn.
-pub fn turn_of<N: Member>(alloc: Global, nodes: List<N>, place: usize, what: &Do) -> Mem<Turn<N>>
-    requires { place < length nodes }
-    ensures { IfOk result (λ turn. turn ≡ turn_of N.transition nodes place what.now) }
+/// Lets the node at a place have its turn: what it sends, with clock 0, and what it does.
+pub fn turn_of<N: Member>(
+    alloc: Global,
+    nodes: &mut List<N>,
+    place: usize,
+    what: &Do,
+) -> Mem<(List<Packet>, List<Act>)>
+    requires { place < length nodes.old }
+    ensures { IfOk result (λ told. record { nodes = nodes.new; packets = told.0; acts = told.1 } ≡ turn_of N.transition nodes.old place what.now) }
 {
-    let mut nodes = nodes.into_vec();
-    let node = nodes.swap_remove(place);
-    let (node, packets, acts) = node.step(alloc, what)?;
-    let last = nodes.len();
-    nodes.push(node)?;
-    nodes.swap(place, last);
-    Ok(Turn {
-        nodes: List::from_vec(nodes),
-        packets,
-        acts,
-    })
+    let mut all = mem::replace(nodes, List::new(alloc)).into_vec();
+    let told = all[place].step(alloc, what)?;
+    drop(mem::replace(nodes, List::from_vec(all)));
+    Ok(told)
 }
 
 /// Puts packets behind those that were sent, with this clock.
@@ -82,11 +70,11 @@ pub fn note_all(done: &mut List<Act>, acts: List<Act>) -> Mem<()>
 }
 
 /// The clocks after an event of the node at a place.
-pub fn set_clock(clocks: List<u64>, place: usize, clock: u64) -> List<u64>
-    requires { place < length clocks }
-    ensures { result ≡ slice_set clocks place clock }
+pub fn set_clock(alloc: Global, clocks: &mut List<u64>, place: usize, clock: u64)
+    requires { place < length clocks.old }
+    ensures { clocks.new ≡ slice_set clocks.old place clock }
 {
-    let mut clocks = clocks.into_vec();
-    clocks[place] = clock;
-    List::from_vec(clocks)
+    let mut all = mem::replace(clocks, List::new(alloc)).into_vec();
+    all[place] = clock;
+    drop(mem::replace(clocks, List::from_vec(all)));
 }

@@ -1,11 +1,11 @@
 //! All nodes of a run, what they sent and what they did.
-ghost use Rattle.std.specs.Prelude.{◌≡◌, ◌<◌, length, Some, IfOk, IfSome};
+ghost use Rattle.std.specs.Prelude.{◌≡◌, ◌<◌, length, Some, IfOk, IfSome, OnOk};
 ghost use Rattle.world_base.specs.Cluster.{HasNode, cluster_of};
-ghost use Rattle.world_base.specs.NextWorld.{after_turn, clock_at, first_node, first_nodes, happened, happened_at, next_world, start_world, turn_of};
+ghost use Rattle.world_base.specs.NextWorld.{after_turn, clock_at, first_node, first_nodes, happened, happened_at, start_world, turn_of};
 ghost use Rattle.node_base.specs.Setups.{IsSetup};
 
-use crate::turn::{Turn, clock_after, note_all, send_all, set_clock, turn_of};
-use crate::{Cluster, Event, Member, items_of};
+use crate::turn::{clock_after, note_all, send_all, set_clock, turn_of};
+use crate::{Cluster, Member, items_of};
 use script_text::Script;
 use std::alloc::Global;
 use version_model::Act;
@@ -86,33 +86,17 @@ impl<N: Member> World<N> {
         })
     }
 
-    /// The world after the node at a place had its turn at this clock.
-    fn turned(self, alloc: Global, place: usize, clock: u64, what: &Do) -> Mem<World<N>>
-        requires node { place < length self.nodes }
-        requires clock { place < length self.clocks }
-        ensures { IfOk result (λ world. world ≡ after_turn N.transition self place clock (turn_of N.transition self.nodes place what.now)) }
+    /// The node at a place has its turn at this clock.
+    fn turn(&mut self, alloc: Global, place: usize, clock: u64, what: &Do) -> Mem<()>
+        requires node { place < length self.old.nodes }
+        requires clock { place < length self.old.clocks }
+        ensures { OnOk result (self.new ≡ after_turn N.transition self.old place clock (turn_of N.transition self.old.nodes place what.now)) }
     {
-        let World {
-            cluster,
-            nodes,
-            clocks,
-            mut sent,
-            mut acts,
-        } = self;
-        let Turn {
-            nodes,
-            packets,
-            acts: done,
-        } = turn_of(alloc, nodes, place, what)?;
-        send_all(&mut sent, clock, packets)?;
-        note_all(&mut acts, done)?;
-        Ok(World {
-            cluster,
-            nodes,
-            clocks: set_clock(clocks, place, clock),
-            sent,
-            acts,
-        })
+        let (packets, acts) = turn_of(alloc, &mut self.nodes, place, what)?;
+        send_all(&mut self.sent, clock, packets)?;
+        note_all(&mut self.acts, acts)?;
+        set_clock(alloc, &mut self.clocks, place, clock);
+        Ok(())
     }
 
     /// The clock of an event of the node at a place; none where there is no such node.
@@ -127,34 +111,26 @@ impl<N: Member> World<N> {
         }
     }
 
-    /// The world after this happened to the node at a place; nothing does where there is none.
+    /// This happens to the node at a place; nothing does where there is none.
     #[tactic(auto, unfolding(crate::specs::NextWorld::happened_at))]
-    fn happen_at(self, alloc: Global, place: usize, what: &Do) -> Mem<World<N>>
-        ensures { IfOk result (λ world. world ≡ happened_at N.transition self place what.now) }
+    fn happen_at(&mut self, alloc: Global, place: usize, what: &Do) -> Mem<()>
+        ensures { OnOk result (self.new ≡ happened_at N.transition self.old place what.now) }
     {
         match self.clock_at(place, what) {
-            None => Ok(self),
-            Some(clock) => self.turned(alloc, place, clock, what),
+            None => Ok(()),
+            Some(clock) => self.turn(alloc, place, clock, what),
         }
     }
 
-    /// The world after this happened to a node. Nothing changes where the run has no such node, or where
-    /// the clock of the event would pass its end.
+    /// This happens to a node. Nothing changes where the run has no such node, or where the clock of the event
+    /// would pass its end. Where memory is wanting the world is given up.
     #[tactic(auto, unfolding(crate::specs::NextWorld::happened))]
-    pub fn happen(self, alloc: Global, node: NodeId, what: &Do) -> Mem<World<N>>
-        ensures { IfOk result (λ world. world ≡ happened N.transition self node what.now) }
+    pub fn happen(&mut self, alloc: Global, node: NodeId, what: &Do) -> Mem<()>
+        ensures { OnOk result (self.new ≡ happened N.transition self.old node what.now) }
     {
         match self.cluster.place(node) {
-            None => Ok(self),
+            None => Ok(()),
             Some(place) => self.happen_at(alloc, place, what),
         }
-    }
-
-    /// The world after an event: the next world.
-    pub fn apply(self, alloc: Global, event: &Event) -> Mem<World<N>>
-        ensures { IfOk result (λ world. world ≡ next_world N.transition self event.now) }
-    {
-        let what = event.what(alloc)?;
-        self.happen(alloc, event.node(), &what)
     }
 }
