@@ -1,3 +1,5 @@
-pub mod Turns
+pub mod Dues
+pub mod Places
 pub mod Ranges
 pub mod Standing
+pub mod Turns

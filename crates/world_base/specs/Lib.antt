@@ -1,4 +1,5 @@
 pub mod Cluster
+pub mod Dues
 pub mod Events
 pub mod Items
 pub mod NextWorld

@@ -35,7 +35,7 @@ pub fn actor_of(work: &Work) -> Option<NodeId>
 }
 
 /// Whether a work is an item of a node's list.
-fn is_for(work: &Work, node: NodeId) -> bool
+pub(crate) fn is_for(work: &Work, node: NodeId) -> bool
     ensures { result ≡ is_for node work.now }
 {
     match actor_of(work) {

@@ -4,6 +4,7 @@
 #![tactic(auto)]
 
 pub mod cluster;
+pub mod due;
 pub mod estate;
 pub mod event;
 pub mod items;
@@ -13,6 +14,7 @@ pub mod turn;
 pub mod world;
 
 pub use cluster::Cluster;
+pub use due::{Due, dues_of};
 pub use estate::Estate;
 pub use event::Event;
 pub use items::{actor_of, items_of};

@@ -113,7 +113,7 @@ impl<N: Member> World<N> {
 
     /// This happens to the node at a place; nothing does where there is none.
     #[tactic(auto, unfolding(crate::specs::NextWorld::happened_at))]
-    fn happen_at(&mut self, alloc: Global, place: usize, what: &Do) -> Mem<()>
+    pub fn happen_at(&mut self, alloc: Global, place: usize, what: &Do) -> Mem<()>
         ensures { OnOk result (self.new ≡ happened_at N.transition self.old place what.now) }
     {
         match self.clock_at(place, what) {
