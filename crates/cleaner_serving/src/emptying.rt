@@ -1,7 +1,7 @@
 //! A cleaner that serves.
 ghost use Rattle.std.specs.Prelude.{◌≡◌, ◌++◌, [], IfOk, OnOk};
 ghost use Rattle.cleaner_serving.specs.EmptyingEvents.{at_first, served, promises_slot, promises_all, begins_job, on_clean, settles, writes_one, writes, on_stored, on_ack, asks_for_maps, on_body, on_packet, on_tick, emptying_room};
-ghost use Rattle.log_owner.specs.Sending.{pushes_all, server_in};
+ghost use Rattle.log_owner.specs.Sending.{pushes_all};
 ghost use Rattle.xfs_base.specs.Steps.{steps};
 
 use cleaner_job::job::note_moved;
@@ -12,7 +12,7 @@ use delta_feed::Feed;
 use group_map::GroupMap;
 use log_owner::sending::{push_all, send_hello, send_store};
 use log_owner::{Opened, Promised, log_has_room, name_of};
-use node_base::{Effects, Maps, has_room, names_known_groups};
+use node_base::{Effects, Maps, has_room, names_known_groups, server_in};
 use std::alloc::Global;
 use std::mem;
 use stripe_cleaner::In;
@@ -341,15 +341,5 @@ impl Emptying {
         self.push_all(alloc, effects)?;
         note_moved(&mut self.job);
         self.clean(alloc, effects, In::Moved)
-    }
-}
-
-// The number of a server.
-fn server_in(node: NodeId) -> Option<u8>
-    ensures { result ≡ server_in node }
-{
-    match node {
-        NodeId::Server(number) => Some(number),
-        NodeId::Client(_) | NodeId::Manager(_) | NodeId::Cleaner | NodeId::Registry => None,
     }
 }

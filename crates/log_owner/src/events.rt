@@ -1,7 +1,6 @@
 //! What a packet makes of an opening.
 ghost use Rattle.std.specs.Prelude.{◌≡◌, ◌++◌, IfOk, OnOk};
 ghost use Rattle.log_owner.specs.Opening.{scans, own_in, on_welcome, on_news, regrouped, on_fenced, fenced_by, is_fenced, on_found, found_by, on_missing, missing_by, on_stored};
-ghost use Rattle.log_owner.specs.Sending.{server_in};
 ghost use Rattle.log_scan.specs.declared.input.In.TheVariants.{Got};
 ghost use Rattle.node_base.specs.Maps.{taken};
 
@@ -11,7 +10,7 @@ use crate::{Opening, Progress};
 use client_log::In as LogIn;
 use group_map::GroupMap;
 use log_scan::In;
-use node_base::{Effects, Questions};
+use node_base::{Effects, Questions, server_in};
 use std::alloc::Global;
 use wire_msg::{Fenced, Found, Missing, News, Stored, Welcome};
 use xfs_base::{Mem, NodeId};
@@ -328,15 +327,5 @@ impl Known {
                 self.write(alloc, effects, settling, LogIn::Maps(groups))
             }
         }
-    }
-}
-
-// The number of a server.
-fn server_in(node: NodeId) -> Option<u8>
-    ensures { result ≡ server_in node }
-{
-    match node {
-        NodeId::Server(number) => Some(number),
-        NodeId::Client(_) | NodeId::Manager(_) | NodeId::Cleaner | NodeId::Registry => None,
     }
 }

@@ -1,6 +1,5 @@
 //! Who sends, as a manager asks of a packet.
 ghost use Rattle.std.specs.Prelude.{◌≡◌};
-ghost use Rattle.log_owner.specs.Sending.{server_in};
 ghost use Rattle.manager_serving.specs.Serving.{client_in, fed_log};
 
 use xfs_base::{LogId, NodeId};
@@ -12,16 +11,6 @@ pub fn client_in(node: NodeId) -> Option<u8>
     match node {
         NodeId::Client(number) => Some(number),
         NodeId::Manager(_) | NodeId::Server(_) | NodeId::Cleaner | NodeId::Registry => None,
-    }
-}
-
-/// The number of a server.
-pub fn server_in(node: NodeId) -> Option<u8>
-    ensures { result ≡ server_in node }
-{
-    match node {
-        NodeId::Server(number) => Some(number),
-        NodeId::Client(_) | NodeId::Manager(_) | NodeId::Cleaner | NodeId::Registry => None,
     }
 }
 

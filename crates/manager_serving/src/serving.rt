@@ -7,14 +7,14 @@ ghost use Rattle.manager_slots.specs.SlotTable as tables;
 ghost use Rattle.manager_serving.specs.Serving.{no_end, begun, first, again, serving_room, on_want, on_gave, on_deltas, on_check, on_usage_ask, takes, on_report, fetch_of, on_found, on_missing, regroups, hears_slots, on_newer, on_news, on_fitting_news, on_welcome, asks_for_maps, on_body, hears, recalls_again, asks_again, on_tick};
 
 use crate::checkpointing::Checkpointing;
-use crate::senders::{client_in, fed_log, server_in};
+use crate::senders::{client_in, fed_log};
 use checkpoint::Writer;
 use client_log::Log;
 use group_map::GroupMap;
 use log_owner::log_has_room;
 use log_owner::sending::send_hello;
 use manager_slots::{Ears, Lasting, SlotTable};
-use node_base::{Effects, Maps, has_room, names_known_groups};
+use node_base::{Effects, Maps, has_room, names_known_groups, server_in};
 use std::alloc::Global;
 use takeover::In;
 use wire_msg::{

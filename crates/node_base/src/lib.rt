@@ -18,7 +18,7 @@ pub use effects::Effects;
 pub use items::Items;
 pub use known::names_known_groups;
 pub use maps::Maps;
-pub use peers::Peers;
+pub use peers::{Peers, server_in};
 pub use questions::{Asked, Questions};
 pub use setups::{groups_of, is_setup};
 pub use shape::is_well_formed;

@@ -1,6 +1,6 @@
 //! The nodes of a run.
 ghost use Rattle.std.specs.Prelude.{◌≡◌, ◌++◌, IfOk, OnOk, filter};
-ghost use Rattle.node_base.specs.Nodes.{peers_of, has_node, is_other, all_nodes, others, clients, managers, servers};
+ghost use Rattle.node_base.specs.Nodes.{peers_of, server_in, has_node, is_other, all_nodes, others, clients, managers, servers};
 
 use std::alloc::Global;
 use xfs_base::{List, Mem, NodeId, Setup};
@@ -14,6 +14,16 @@ pub struct Peers {
     pub managers: u8,
     /// Storage servers are numbered from 1 to this.
     pub servers: u8,
+}
+
+/// The number of a storage server; none of another node.
+pub fn server_in(node: NodeId) -> Option<u8>
+    ensures { result ≡ server_in node }
+{
+    match node {
+        NodeId::Server(number) => Some(number),
+        NodeId::Client(_) | NodeId::Manager(_) | NodeId::Cleaner | NodeId::Registry => None,
+    }
 }
 
 impl Peers {

@@ -2,7 +2,6 @@
 ghost use Rattle.std.specs.Prelude.{◌≡◌, ◌++◌, ◌∷◌, [], IfOk, OnOk};
 ghost use Rattle.node_base.specs.Beginning.{work_at};
 ghost use Rattle.node_base.specs.Setups.{IsSetup};
-ghost use Rattle.store_nodes.specs.Rebuilds.{server_in};
 ghost use Rattle.store_nodes.specs.ServerEvents.{server_start, hello_of, takes_news, on_news, left_hello, on_welcome, asks_for_maps, hears, hears_known, on_body, on_packet, on_lose, begins_rebuild, on_rebuild, wish_of, on_wish, on_begin, hello_again, on_tick, on_event, is_far_from_ends, takes, server_step};
 
 use fragment_store::Shelf;
@@ -10,7 +9,7 @@ use group_map::GroupMap;
 use group_rebuild::{In, Rebuild};
 use node_base::{
     Asked, Effects, Items, Maps, Peers, Questions, groups_of, has_room, is_well_formed,
-    names_known_groups,
+    names_known_groups, server_in,
 };
 use std::alloc::Global;
 use std::mem;
@@ -389,15 +388,5 @@ fn left_hello(hello: Option<u32>, ask: u32) -> Option<u32>
     match hello {
         Some(awaited) => { if awaited == ask { None } else { Some(awaited) } }
         None => None,
-    }
-}
-
-// The number of a server.
-fn server_in(node: NodeId) -> Option<u8>
-    ensures { result ≡ server_in node }
-{
-    match node {
-        NodeId::Server(number) => Some(number),
-        NodeId::Client(_) | NodeId::Manager(_) | NodeId::Cleaner | NodeId::Registry => None,
     }
 }
