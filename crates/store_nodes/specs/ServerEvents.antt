@@ -119,16 +119,11 @@ takes_news node news = if is_older node.maps news then rebuilds (record node { m
 abbrev pub on_news : Node → News → Done
 on_news node news = if fits node.maps news then takes_news node news else still node
 
--- the question that still waits for its Welcome
-abbrev pub left_hello : Option ℕ → ℕ → Option ℕ
-left_hello None ask = None
-left_hello (Some hello) ask = if hello == ask then None else Some hello
-
--- the registry answers a Hello of this generation
+-- The registry answers a Hello of this generation, under whichever question: it knows the generation then, so none is said again.
 unfoldable pub on_welcome : Node → Welcome → Done
 on_welcome node welcome =
     if (welcome.inc == node.shelf.generation) && fits node.maps welcome.news
-    then takes_news (record node { hello = left_hello node.hello welcome.ask }) welcome.news
+    then takes_news (record node { hello = None }) welcome.news
     else still node
 
 -- a packet names a group that is not known: it is dropped, and the maps are asked for

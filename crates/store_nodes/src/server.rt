@@ -2,7 +2,7 @@
 ghost use Rattle.std.specs.Prelude.{◌≡◌, ◌++◌, ◌∷◌, [], IfOk, OnOk};
 ghost use Rattle.node_base.specs.Beginning.{work_at};
 ghost use Rattle.node_base.specs.Setups.{IsSetup};
-ghost use Rattle.store_nodes.specs.ServerEvents.{server_start, hello_of, takes_news, on_news, left_hello, on_welcome, asks_for_maps, hears, hears_known, on_body, on_packet, on_lose, begins_rebuild, on_rebuild, wish_of, on_wish, on_begin, hello_again, on_tick, on_event, is_far_from_ends, takes, server_step};
+ghost use Rattle.store_nodes.specs.ServerEvents.{server_start, hello_of, takes_news, on_news, on_welcome, asks_for_maps, hears, hears_known, on_body, on_packet, on_lose, begins_rebuild, on_rebuild, wish_of, on_wish, on_begin, hello_again, on_tick, on_event, is_far_from_ends, takes, server_step};
 
 use fragment_store::Shelf;
 use group_map::GroupMap;
@@ -320,7 +320,7 @@ impl Server {
         self.rebuilds(alloc, effects, In::Maps(groups))
     }
 
-    // The registry answers a Hello of this generation.
+    // The registry answers a Hello of this generation, under whichever question: none is said again.
     #[tactic(auto, unfolding(crate::specs::ServerEvents::on_welcome))]
     fn on_welcome(&mut self, alloc: Global, effects: &mut Effects, welcome: &Welcome) -> Mem<()>
         ensures state { OnOk result (self.new ≡ (on_welcome self.old welcome.now).state) }
@@ -329,7 +329,7 @@ impl Server {
         if welcome.inc != self.shelf.generation() || !self.maps.fits(&welcome.news) {
             return Ok(());
         }
-        self.hello = left_hello(self.hello, welcome.ask);
+        self.hello = None;
         self.takes_news(alloc, effects, &welcome.news)
     }
 
@@ -378,15 +378,5 @@ fn wish_at(items: &Items, number: u32) -> Wish
         Some(Work::Lose { server: _ }) => Wish::Lose,
         Some(Work::Rebuild { server: _ }) => Wish::Rebuild,
         _ => Wish::Other,
-    }
-}
-
-// The question that still waits for its Welcome.
-fn left_hello(hello: Option<u32>, ask: u32) -> Option<u32>
-    ensures { result ≡ left_hello hello ask }
-{
-    match hello {
-        Some(awaited) => { if awaited == ask { None } else { Some(awaited) } }
-        None => None,
     }
 }

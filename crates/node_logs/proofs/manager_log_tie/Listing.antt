@@ -50,7 +50,7 @@ use Rattle.store_nodes.specs.declared.server.Server as nodes
 use Rattle.store_nodes.specs.declared.server.Wish.{Wish}
 use Rattle.store_nodes.specs.declared.server.Wish.TheVariants.{Lose, Rebuild, Other}
 use Rattle.store_nodes.specs.Rebuilds.{Done, lists_asked, fetch_asked, says, goes_on, rebuilds, server_in, awaits_list, fetch_of, on_listed, found_for, on_found, missing_for, on_missing}
-use Rattle.store_nodes.specs.ServerEvents.{on_store, found_or_missing, fence_told, on_fence, on_delete, takes_news, on_news, left_hello, on_welcome, asks_for_maps, tells, hears, hears_known, on_body, on_packet, on_lose, begins_rebuild, on_rebuild, on_wish, at_item, wish_of, on_begin, hello_again, on_tick, on_event, is_far_from_ends, takes}
+use Rattle.store_nodes.specs.ServerEvents.{on_store, found_or_missing, fence_told, on_fence, on_delete, takes_news, on_news, on_welcome, asks_for_maps, tells, hears, hears_known, on_body, on_packet, on_lose, begins_rebuild, on_rebuild, on_wish, at_item, wish_of, on_begin, hello_again, on_tick, on_event, is_far_from_ends, takes}
 use Rattle.stripe_code.specs.declared.round.RoundState.{RoundState}
 use Rattle.stripe_code.specs.declared.round.RoundState.TheVariants.{Read, Short, Waiting}
 use Rattle.stripe_code.specs.declared.round.Told.{Told}
@@ -353,9 +353,9 @@ module _ (test : LogId → Bool) where
   welcomed : (node : nodes.Server) (m : Welcome) → ServerHolds test node → Goes (on_welcome node m)
   unfolding on_welcome
   welcomed node m h =
-      by_test Goes ((m.inc == node.shelf.generation) && fits node.maps m.news) (takes_news (record node { hello = left_hello node.hello m.ask }) m.news)
+      by_test Goes ((m.inc == node.shelf.generation) && fits node.maps m.news) (takes_news (record node { hello = None }) m.news)
       (still node)
-      (λ t. news_go (record node { hello = left_hello node.hello m.ask }) m.news (record { shelf = h.shelf; rebuild = h.rebuild }))
+      (λ t. news_go (record node { hello = None }) m.news (record { shelf = h.shelf; rebuild = h.rebuild }))
       (λ t. quiet node [] h tt)
 
   asks_go : (node : nodes.Server) → ServerHolds test node → Goes (asks_for_maps node)

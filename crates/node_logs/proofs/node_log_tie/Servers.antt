@@ -45,7 +45,7 @@ use Rattle.store_nodes.specs.declared.server.Server as nodes
 use Rattle.store_nodes.specs.declared.server.Wish.{Wish}
 use Rattle.store_nodes.specs.declared.server.Wish.TheVariants.{Lose, Rebuild, Other}
 use Rattle.store_nodes.specs.Rebuilds.{Done, lists_asked, fetch_asked, says, goes_on, rebuilds, server_in, awaits_list, fetch_of, on_listed, found_for, on_found, missing_for, on_missing}
-use Rattle.store_nodes.specs.ServerEvents.{server_start, hello_of, takes_news, on_news, left_hello, on_welcome, asks_for_maps, tells, hears, hears_known, on_body, on_packet, on_lose, begins_rebuild, on_rebuild, on_wish, at_item, wish_of, on_begin, hello_again, on_tick, on_event, is_far_from_ends, takes}
+use Rattle.store_nodes.specs.ServerEvents.{server_start, hello_of, takes_news, on_news, on_welcome, asks_for_maps, tells, hears, hears_known, on_body, on_packet, on_lose, begins_rebuild, on_rebuild, on_wish, at_item, wish_of, on_begin, hello_again, on_tick, on_event, is_far_from_ends, takes}
 use Rattle.log_tie.specs.Setting.{Setting}
 use Rattle.log_law.specs.Net.{Net}
 use Rattle.node_logs.specs.node_log_tie.Sight.{Asker, BodySeen, PacketSeen, EffectSeen, ListedSeen, FragmentSeen, NewsSeen, WelcomeSeen, Later}
@@ -166,7 +166,7 @@ module _ (g : Setting) (owner : Asker) (v : ℕ) (some : 0 < v) (other : owner.n
     unfolding on_welcome
     welcomed node to m seen sent =
         by_test (Goes n) ((m.inc == node.shelf.generation) && fits node.maps m.news) _ (still node)
-        (λ t. news_taken (record node { hello = left_hello node.hello m.ask }) m.news
+        (λ t. news_taken (record node { hello = None }) m.news
         (record { number = seen.number; shelf = seen.shelf; maps = seen.maps; rebuild = seen.rebuild }) sent.map)
         (λ t. stays g owner v n node seen)
 

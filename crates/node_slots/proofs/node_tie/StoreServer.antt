@@ -20,7 +20,7 @@ use Rattle.store_nodes.specs.declared.server.Server.{Server as Node}
 use Rattle.store_nodes.specs.declared.server.Wish.{Wish}
 use Rattle.store_nodes.specs.declared.server.Wish.TheVariants.{Lose, Rebuild, Other}
 use Rattle.store_nodes.specs.Rebuilds.{Done, lists_asked, fetch_asked, says, goes_on, rebuilds, server_in, awaits_list, fetch_of, on_listed, found_for, on_found, missing_for, on_missing}
-use Rattle.store_nodes.specs.ServerEvents.{on_store, found_or_missing, on_fetch, fence_told, on_fence, on_delete, takes_news, on_news, left_hello, on_welcome, asks_for_maps, hears, hears_known, on_body, on_packet, on_lose, begins_rebuild, on_rebuild, on_wish, at_item, wish_of, on_begin, hello_again, on_tick, on_event, is_far_from_ends, takes, server_step}
+use Rattle.store_nodes.specs.ServerEvents.{on_store, found_or_missing, on_fetch, fence_told, on_fence, on_delete, takes_news, on_news, on_welcome, asks_for_maps, hears, hears_known, on_body, on_packet, on_lose, begins_rebuild, on_rebuild, on_wish, at_item, wish_of, on_begin, hello_again, on_tick, on_event, is_far_from_ends, takes, server_step}
 use Rattle.version_model.specs.declared.answer.Answer.TheVariants as answers
 use Rattle.wire_msg.specs.declared.body.Body.{Body}
 use Rattle.wire_msg.specs.declared.body.Body.TheVariants as body
@@ -145,7 +145,7 @@ welcomed : (node : Node) (m : Welcome) → ServerDoes (on_welcome node m)
 unfolding on_welcome
 welcomed node m =
     by_test ServerDoes ((m.inc == node.shelf.generation) && fits node.maps m.news) _ (still node)
-    (λ t. news_taken (record node { hello = left_hello node.hello m.ask }) m.news) (λ t. tt)
+    (λ t. news_taken (record node { hello = None }) m.news) (λ t. tt)
 
 maps_asked : (node : Node) → ServerDoes (asks_for_maps node)
 unfolding asks_for_maps

@@ -44,7 +44,7 @@ use Rattle.store_nodes.specs.declared.server.Server as nodes
 use Rattle.store_nodes.specs.declared.server.Wish.{Wish}
 use Rattle.store_nodes.specs.declared.server.Wish.TheVariants.{Lose, Rebuild, Other}
 use Rattle.store_nodes.specs.Rebuilds.{Done, lists_asked, fetch_asked, says, goes_on, rebuilds, server_in, awaits_list, fetch_of, on_listed, found_for, on_found, missing_for, on_missing}
-use Rattle.store_nodes.specs.ServerEvents.{server_step, on_store, found_or_missing, fence_told, on_fence, on_delete, takes_news, on_news, left_hello, on_welcome, asks_for_maps, tells, hears, hears_known, on_body, on_packet, on_lose, begins_rebuild, on_rebuild, on_wish, at_item, wish_of, on_begin, hello_again, on_tick, on_event, is_far_from_ends, takes}
+use Rattle.store_nodes.specs.ServerEvents.{server_step, on_store, found_or_missing, fence_told, on_fence, on_delete, takes_news, on_news, on_welcome, asks_for_maps, tells, hears, hears_known, on_body, on_packet, on_lose, begins_rebuild, on_rebuild, on_wish, at_item, wish_of, on_begin, hello_again, on_tick, on_event, is_far_from_ends, takes}
 use Rattle.node_tellings.specs.entry_tie.OtherTells.{ServersTellNone}
 use Rattle.node_tellings.specs.entry_tie.Told.{Told, PacketTold, told_by_rows}
 use Rattle.node_tellings.proofs.entry_tie.Frames as frames
@@ -139,9 +139,9 @@ module _ (told : Told) where
   welcomed : (node : nodes.Server) (m : Welcome) → Quiet (on_welcome node m)
   unfolding on_welcome
   welcomed node m =
-      by_test Quiet ((m.inc == node.shelf.generation) && fits node.maps m.news) (takes_news (record node { hello = left_hello node.hello m.ask }) m.news)
+      by_test Quiet ((m.inc == node.shelf.generation) && fits node.maps m.news) (takes_news (record node { hello = None }) m.news)
       (still node)
-      (λ t. news_say (record node { hello = left_hello node.hello m.ask }) m.news) (λ t. tt)
+      (λ t. news_say (record node { hello = None }) m.news) (λ t. tt)
 
   asks_say : (node : nodes.Server) → Quiet (asks_for_maps node)
   unfolding asks_for_maps

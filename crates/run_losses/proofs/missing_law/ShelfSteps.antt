@@ -32,7 +32,7 @@ use Rattle.store_nodes.specs.declared.server.Server.{Server as Node}
 use Rattle.store_nodes.specs.declared.server.Wish.{Wish}
 use Rattle.store_nodes.specs.declared.server.Wish.TheVariants.{Lose, Rebuild, Other}
 use Rattle.store_nodes.specs.Rebuilds.{Done, says, fetch_asked, goes_on, rebuilds, server_in, awaits_list, fetch_of, on_listed, found_for, on_found, missing_for, on_missing}
-use Rattle.store_nodes.specs.ServerEvents.{on_store, on_fence, on_delete, takes_news, on_news, left_hello, on_welcome, asks_for_maps, hears, hears_known, on_body, on_packet, on_lose, begins_rebuild, on_rebuild, on_wish, at_item, wish_of, on_begin, on_tick, on_event, is_far_from_ends, server_step}
+use Rattle.store_nodes.specs.ServerEvents.{on_store, on_fence, on_delete, takes_news, on_news, on_welcome, asks_for_maps, hears, hears_known, on_body, on_packet, on_lose, begins_rebuild, on_rebuild, on_wish, at_item, wish_of, on_begin, on_tick, on_event, is_far_from_ends, server_step}
 use Rattle.wire_msg.specs.declared.body.Body.{Body}
 use Rattle.wire_msg.specs.declared.body.Body.TheVariants as body
 use Rattle.wire_msg.specs.declared.packet.Do.{Do}
@@ -197,8 +197,8 @@ module _ (Told : SegName → Type 0) where
   unfolding on_welcome
   welcomed node m =
       by_test (ServerOn node) ((m.inc == node.shelf.generation) && fits node.maps m.news)
-      (takes_news (record node { hello = left_hello node.hello m.ask }) m.news) (still node)
-      (λ t. news_taken (record node { hello = left_hello node.hello m.ask }) m.news) (λ t. stays node)
+      (takes_news (record node { hello = None }) m.news) (still node)
+      (λ t. news_taken (record node { hello = None }) m.news) (λ t. stays node)
 
   maps_asked : (node : Node) → ServerOn node (asks_for_maps node)
   unfolding asks_for_maps
