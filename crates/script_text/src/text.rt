@@ -187,7 +187,7 @@ fn repeat_within(alloc: Global, limit: usize, parts: &Repeated) -> Result<Text, 
     let count = parts.count;
     let mut text = Text::new(alloc);
     for _ in 0..count {
-        if text.len() + piece.len() > limit {
+        if piece.len() > limit - text.len() {
             return Err(LineError::Bad(Kind::TooLong));
         }
         text.add(piece)?;

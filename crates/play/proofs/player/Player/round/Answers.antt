@@ -10,13 +10,13 @@ use Rattle.play.proofs.player.Player.round.Goals as goal
 pub loop-place-preserved : goal.loop-place-preserved
 loop-place-preserved g c =
     let step = g.N.Actor.transition in
-    let p = c.loop-place.player in
-    let cluster = c.args.self.world.cluster in
+    let p = c.loop-place.self in
+    let cluster = c.args.self.now.world.cluster in
     let i = c.loop-place.place in
     let end = c.count-place-end.result in
-    let ticked = c.in_ok-player.ensures.exact ∙ ap (λ node. happens step p (Tick node)) c.node_at.ensures ∙ ticks_is step p (node_at cluster i) in (
+    let ticked = c.in_ok-happen.ensures.exact ∙ ap (λ node. happens step p (Tick node)) c.node_at.ensures ∙ ticks_is step p (node_at cluster i) in (
       ap (λ q. fold (ticks step) q (map (node_at cluster) (range_with_len (i + 1) (end - (i + 1))))) ticked
           ∙ ap (λ places. fold (ticks step) p (map (node_at cluster) places)) (sym (range_step i end c.loop-place-test.true))
           ∙ c.loop-place.invariant.0,
-      omega (arith, c.in_ok-player.ensures.no_more, c.loop-place.invariant.1),
+      omega (arith, c.in_ok-happen.ensures.no_more, c.loop-place.invariant.1),
     )

@@ -7,6 +7,6 @@ use Rattle.play.proofs.player.Player.round.Given as goal
 -- the nodes so far and those to come are all
 abbrev pub invariant-loop-place : goal.invariant-loop-place
 invariant-loop-place g l =
-    (fold (ticks g.N.Actor.transition) l.player (map (node_at l.cluster) (range_with_len l.place (l.place-end - l.place))) ≡ fold
-    (ticks g.N.Actor.transition) l.initial.player (nodes_of l.cluster))
-    × (l.player.unanswered ≤ l.initial.player.unanswered)
+    (fold (ticks g.N.Actor.transition) l.self (map (node_at l.cluster) (range_with_len l.place (l.place-end - l.place))) ≡ fold
+    (ticks g.N.Actor.transition) l.initial.self (nodes_of l.cluster))
+    × (l.self.unanswered ≤ l.initial.self.unanswered)
