@@ -1,0 +1,14 @@
+mod Changes
+mod Crash
+mod Deeds
+mod Drives
+mod Lists
+mod Moments
+mod OneState
+mod Openings
+mod Overwriting
+mod Pieces
+mod Replays
+mod Rest
+mod Told
+mod Writes

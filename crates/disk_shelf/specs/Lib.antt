@@ -1,0 +1,9 @@
+pub mod Asks
+pub mod Deeds
+pub mod Disk
+pub mod Gates
+pub mod Kept
+pub mod MemDisk
+pub mod Opening
+pub mod Reading
+pub mod Records
