@@ -1,0 +1,9 @@
+pub mod Gets
+pub mod Known
+pub mod Least
+pub mod Lefts
+pub mod Packets
+pub mod Rising
+pub mod Stamps
+pub mod Starts
+pub mod Steps

@@ -1,0 +1,106 @@
+//! Merging journals to one run.
+ghost use Rattle.std.specs.Prelude.{◌≡◌, ◌<◌, ℕ, List as Seq, [], ◌∷◌, length, slice_get, slice_set, Some, MatchOption, IfOk};
+ghost use Rattle.std.specs.List.{Contains};
+ghost use Rattle.node_base.specs.Setups.{IsSetup};
+ghost use Rattle.version_model.specs.declared.act.Act.{Act as Deed};
+ghost use Rattle.world_base.specs.Cluster.{cluster_of, node_at};
+ghost use Rattle.world_base.specs.NextWorld.{first_node, start_world};
+ghost use Rattle.world_base.specs.Runs.{IsRun};
+ghost use Rattle.journals.specs.declared.moment.Moment.{Moment as One};
+ghost use Rattle.journals.specs.Journals.{acts_in, whats};
+ghost use Rattle.journals.specs.Merging.{AllEmpty, IsNext, Rises, Standing, better, least_of, whats_of};
+
+use crate::{Moment, Rest};
+use script_text::Script;
+use std::alloc::Global;
+use world_base::{Estate, Event, Member, World};
+use xfs_base::{List, Mem};
+
+/// The better of two places to go on from: the one with the lesser clock, of equal ones the earlier.
+fn better(best: Option<(usize, u64)>, place: usize, clock: Option<u64>) -> Option<(usize, u64)>
+    ensures { result ≡ better best place clock }
+{
+    match clock {
+        None => best,
+        Some(clock) => match best {
+            None => Some((place, clock)),
+            Some((other, least)) => {
+                if clock < least {
+                    Some((place, clock))
+                } else {
+                    Some((other, least))
+                }
+            }
+        },
+    }
+}
+
+/// The place of the rest that begins with the least clock, and that clock; the least place of several;
+/// none where all are empty.
+fn least(rests: &[Rest]) -> Option<(usize, u64)>
+    ensures { result ≡ least_of rests.now }
+{
+    let mut best = None;
+    for place in 0..rests.len() {
+        best = better(best, place, rests[place].clock());
+    }
+    best
+}
+
+/// Takes the first moment at a place.
+fn pop_at(rests: &mut Vec<Rest>, place: usize) -> Option<Moment>
+    requires { place < length rests.old.items }
+    ensures { MatchOption result (slice_get rests.old.items place ≡ Some [])
+        (λ moment. (tail : Seq One) × (slice_get rests.old.items place ≡ Some (moment ∷ tail)) × (rests.new.items ≡ slice_set rests.old.items place tail)) }
+{
+    rests[place].pop()
+}
+
+/// Takes the moment that comes next, by clock and place; none where none is left.
+fn next_moment(rests: &mut Vec<Rest>) -> Option<(usize, Moment)>
+    ensures { MatchOption result (AllEmpty rests.old.items) (λ next. IsNext rests.old.items rests.new.items next.0 next.1) }
+{
+    let place = match least(rests.as_slice()) {
+        None => return None,
+        Some((place, _)) => place,
+    };
+    match pop_at(rests, place) {
+        None => None,
+        Some(moment) => Some((place, moment)),
+    }
+}
+
+/// Merges journals, which are in order of nodes, to one run of a script, and leads the world through it.
+/// Its events rise by clock and place. To each node happened just what its journal has, and what each node
+/// did is among the acts.
+pub fn merge<N: Member>(alloc: Global, script: &Script, journals: Vec<Rest>) -> Mem<Estate<N>>
+    requires setup { IsSetup script.now.setup }
+    requires standing { Standing N.transition (start_world N.first script.now) journals.items }
+    ensures script { IfOk result (λ e. e.script ≡ script.now) }
+    ensures run { IfOk result (λ e. IsRun N.transition N.first script.now e.events e.world) }
+    ensures rises { IfOk result (λ e. Rises N.transition (start_world N.first script.now) 0 0 e.events) }
+    ensures each { IfOk result (λ e. (p : ℕ) (j : Seq One) → slice_get journals.items p ≡ Some j
+        → whats_of (node_at (cluster_of script.now.setup) p) e.events ≡ whats j) }
+    ensures acts { IfOk result (λ e. (p : ℕ) (j : Seq One) (a : Deed) → slice_get journals.items p ≡ Some j
+        → Contains (acts_in N.transition (first_node N.first script.now (node_at (cluster_of script.now.setup) p)) (whats j)) a
+        → Contains e.world.acts a) }
+{
+    let mut world: World<N> = World::start(alloc, script)?;
+    let mut events = List::new(alloc);
+    let mut rests = journals;
+    loop {
+        let (place, moment) = match next_moment(&mut rests) {
+            None => {
+                return Ok(Estate {
+                    script: script.copy(alloc)?,
+                    events,
+                    world,
+                });
+            }
+            Some(next) => next,
+        };
+        let node = world.cluster.node_at(place);
+        world.happen_at(alloc, place, &moment.what)?;
+        events.push(Event::of(node, moment.into_what()))?;
+    }
+}
