@@ -1,0 +1,2 @@
+pub mod WholeCommands
+pub mod BallotLaws

@@ -1,0 +1,7 @@
+pub mod Ballots
+pub mod Comparing
+pub mod Heard
+pub mod Lengths
+pub mod State
+pub mod Transition
+pub mod Waiting

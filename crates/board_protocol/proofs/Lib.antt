@@ -1,0 +1,12 @@
+pub mod Prefixes
+pub mod Facts
+pub mod Growing
+pub mod Standing
+pub mod Sending
+pub mod Electing
+pub mod Agreeing
+pub mod Heading
+pub mod Invariant
+pub mod Laws
+pub mod Having
+pub mod ExampleRun

@@ -1,0 +1,12 @@
+pub mod Basics
+pub mod Board
+pub mod Packets
+pub mod World
+pub mod Leading
+pub mod Following
+pub mod Step
+pub mod Kind
+pub mod Kinds
+pub mod Laws
+pub mod Growth
+pub mod Example
