@@ -1,5 +1,5 @@
 -- What an event makes of the cleaner.
-use Rattle.std.specs.Prelude.{ℕ, ◌+◌, ◌×◌, Bool, ◌&&◌, nat_lt, if◌then◌else◌, List, [], ◌∷◌, ◌++◌, Option, Some, None}
+use Rattle.std.specs.Prelude.{ℕ, ◌+◌, Bool, ◌&&◌, nat_lt, if◌then◌else◌, List, [], ◌∷◌, ◌++◌, Option, Some, None}
 use Rattle.cleaner_serving.specs.declared.emptying.Emptying.{Emptying}
 use Rattle.cleaner_serving.specs.EmptyingEvents.{at_first, served, on_clean, on_packet, on_tick, emptying_room}
 use Rattle.cleaner_serving.specs.Jobs.{Done}

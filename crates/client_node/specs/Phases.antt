@@ -1,5 +1,5 @@
 -- What an event makes of a client.
-use Rattle.std.specs.Prelude.{ℕ, Bool, true, ◌×◌, ◌&&◌, if◌then◌else◌, [], ◌∷◌, ◌++◌, Option, Some, None}
+use Rattle.std.specs.Prelude.{ℕ, Bool, true, ◌&&◌, if◌then◌else◌, [], ◌∷◌, ◌++◌, Option, Some, None}
 use Rattle.client_node.specs.declared.beginning.Wish.TheVariants as wish
 use Rattle.client_node.specs.declared.beginning.Wish.{Wish}
 use Rattle.client_node.specs.declared.client.Client.{Client}

@@ -1,5 +1,5 @@
 -- Where a manager stands, and what its next item makes of it.
-use Rattle.std.specs.Prelude.{ℕ, ◌×◌, Bool, [], ◌∷◌, ◌++◌, Option, Some, None}
+use Rattle.std.specs.Prelude.{ℕ, Bool, [], ◌∷◌, ◌++◌, Option, Some, None}
 use Rattle.log_owner.specs.Sending.{hello}
 use Rattle.manager_slots.specs.declared.lasting.Lasting.{Lasting as Kept}
 use Rattle.manager_slots.specs.Lasting.{kept_has_room, with_answer}
