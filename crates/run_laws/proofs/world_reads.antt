@@ -80,5 +80,7 @@ pub mod EntriesManagers
 pub mod EntriesSame
 pub mod EntriesThen
 pub mod WholeLaws
+pub mod OwnActs
+pub mod OwnTable
 pub mod LegalJoints
 pub mod LegalRuns

@@ -4,5 +4,6 @@ pub mod Joint
 pub mod Chains
 pub mod References
 pub mod Moments
+pub mod OwnTable
 pub mod Indexes
 pub mod Legal

@@ -143,7 +143,8 @@ fn lines_below()
 ///   acts up to there are legal.
 /// - `unlost`: where the script has no line by which a server loses its disk, no restart is doubtful, and all acts of the run are legal.
 /// - `indexes`: up to there the index of each manager that manages a slot is the join of what it has applied, and the
-///   newest row of a block is in no segment that a server was told to delete (on the imap and on cleaning).
+///   newest row of a block is in no segment that a server was told to delete (on the imap and on cleaning); both by the run's own
+///   table of what logs filed: of logs 1 to 9 just the segments that were acted to be filed, as they were stored, one of each number.
 /// - `moments`: what all of it stands on: each such moment stands to the small worlds of tokens, of each slot's index
 ///   and of all logs, and comes of the start by moments that stand so, each of which follows the one before it.
 pub fn every_runs_acts_are_legal()

@@ -29,7 +29,7 @@ use Rattle.run_laws.proofs.world_index.Senders.{kinds_of_tokens}
 use Rattle.run_laws.proofs.world_index.Start.{start_scene, start_stands}
 use Rattle.run_laws.proofs.world_index.Tokens.{Entered, entered_starts, entered_stays, tokens_give}
 use Rattle.run_laws.proofs.world_index.Turns.{NodeLaws, event_turns}
-use Rattle.run_laws.specs.world_index.Laws.{EveryRunKeepsIndexes, KeepsIndexes, WasDeleted}
+use Rattle.run_laws.specs.world_index.Laws.{EveryRunKeepsIndexes, KeepsBy, WasDeleted}
 use Rattle.run_laws.specs.world_index.Owes.{IndexOwes}
 use Rattle.run_laws.specs.world_index.Standing.{Scene, SentBy, Stands}
 use Rattle.run_laws.proofs.world_law.Laws as tokens
@@ -130,10 +130,8 @@ module _ (laws : NodeLaws) (token_laws : tokens.NodeLaws) (k : Cluster) (part : 
         subst (λ b. SentBy part s.net s.asked Cleaner b) d.deletes
         (subst (λ n. SentBy part s.net s.asked n d.packet.body) d.from (st.facts d.packet (was_sent w.sent d.packet d.sent)))
 
-    pub keeps : KeepsIndexes w part texts
+    pub keeps : KeepsBy w part s.net.filed
     keeps = record {
-      filed = s.net.filed;
-      named = st.texts_of;
       joins = λ j z b premise inside. small_joins part (held_in part texts) s.net b z.epoch z (record { any = first; run = st.runs; inside = inside })
           (manager_there j z (subst (λ c. active_of part (node_in w.nodes (place_of c (Manager j))) ≡ Some z) cluster premise));
       kept = λ name b d inside filed has newest.
@@ -161,4 +159,8 @@ every_run_keeps laws token_laws small_joins small_kept e setup run part of_eight
     } in
     let good = front_keeps laws token_laws k part of_eight texts first e.events count w e.world run
     (λ n event premise s node st there. owed n event s node premise st there) start in
-    keeps laws token_laws k part of_eight texts first small_joins small_kept (moment e count) good.cluster good.scene good.stands
+    record {
+      filed = good.scene.net.filed;
+      named = good.stands.texts_of;
+      keeps = keeps laws token_laws k part of_eight texts first small_joins small_kept (moment e count) good.cluster good.scene good.stands;
+    }

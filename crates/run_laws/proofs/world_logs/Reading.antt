@@ -220,6 +220,26 @@ module _ (base : Setting) (end w : World AnyNode) (servers : ℕ) (r : Role) (k 
     pub has_text : (segment : Segment) × (group : Group) × IsText w name segment group
     has_text = (segment_here, group_here, text law name of segment_here picked.1 group_here (λ i. refl))
 
+  -- ---- the text of what flew
+
+  -- a segment that was in flight is the one of its name, cut for its group
+  module _ (law : LogsStayWhole) (texts : OneNameOneText) (s : Segment) (flew : tables.In s net.flown) (of : s.name.log ≡ log_of c) where
+    abbrev its_group : (group : Group) × (group_at end s.group ≡ Some group)
+    its_group = striped base end servers (group_at end s.group) ((law g net st.moment).striped s flew)
+
+    pub flown_text : IsText w s.name s its_group.0
+    flown_text =
+        text texts s.name of s (λ t fact e. (texts g net st.moment).one t s fact flew e) its_group.0
+        (λ i. ap (λ (z : Stripe). fragment_over s z i) (ap stripe_by its_group.1))
+
+  pub what_flew_is_text : LogsStayWhole → OneNameOneText → (s : Segment) → tables.In s net.flown → s.name.log ≡ log_of c
+      → (group : Group) × (group_at end s.group ≡ Some group) × IsText w s.name s group
+  what_flew_is_text law texts s flew of = (
+    (its_group law texts s flew of).0,
+    (its_group law texts s flew of).1,
+    flown_text law texts s flew of,
+  )
+
   -- ---- the registry's groups
 
   -- each member of a group of the registry's is a server of the run

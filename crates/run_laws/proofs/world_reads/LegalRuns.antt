@@ -13,16 +13,16 @@ use Rattle.world_base.specs.Cluster.{cluster_of}
 use Rattle.world_base.specs.declared.estate.Estate.{Estate}
 use Rattle.world_base.specs.Runs.{IsRun}
 use Rattle.run_laws.proofs.world_index.Laws.{keeps}
-use Rattle.run_laws.specs.world_index.Laws.{KeepsIndexes}
 use Rattle.run_laws.specs.world_law.Owners.{moment}
 use Rattle.run_laws.specs.world_logs.Lines.{HasLines, Texts}
 use Rattle.run_laws.proofs.world_reads.LegalJoints.{acts_are_legal}
+use Rattle.run_laws.proofs.world_reads.OwnTable.{is_own_table}
 use Rattle.run_laws.proofs.world_reads.TurnRun.{moment_cluster}
 use Rattle.run_laws.proofs.world_reads.TurnWhole.{whole_at}
 use Rattle.run_laws.proofs.world_reads.WholeLaws.{index_nodes, token_nodes, whole_below}
 use Rattle.run_laws.specs.world_reads.Below.{Below}
-use Rattle.run_laws.specs.world_reads.Indexes.{EveryRunKeepsItsIndexes}
-use Rattle.run_laws.specs.world_reads.Joint.{Joint}
+use Rattle.run_laws.specs.world_reads.Indexes.{EveryRunKeepsItsIndexes, KeepsItsIndexes}
+use Rattle.run_laws.specs.world_reads.Joint.{IsSureUpto, Joint}
 use Rattle.run_laws.specs.world_reads.Legal.{EveryRunWithoutLossesIsLegal, EveryRunsActsAreLegal}
 use Rattle.run_laws.specs.world_reads.Moments.{EveryMomentStands, MomentStands, first_of}
 
@@ -41,11 +41,20 @@ module _ (below : Below) where
         acts_are_legal below.tokens.acts_are_legal below.tokens.blocks_make_legal base e lines texts (first_of base e lines texts) count
         (below.tokens.every_run_has_falls_apart e setup run count) stands.joints
 
-    kept : (part : ℕ) → part < 8 → KeepsIndexes (moment e count) part texts.text
+    sure : (part : ℕ) → IsSureUpto base e lines texts part (first_of base e lines texts) count
+    sure part r there keeps_on = below.lines.undoubted_runs_are_sure base e lines count none r there keeps_on
+
+    kept : (part : ℕ) → part < 8 → KeepsItsIndexes e count part texts.text
     kept part of_eight =
         let joint : Joint base e lines texts part (first_of base e lines texts) count = stands.joints part of_eight in
-        keeps (index_nodes below) (token_nodes below) (cluster_of e.script.setup) part of_eight texts.text (first_of base e lines texts)
-        below.index.each_index_is_the_join below.index.newest_is_never_deleted (moment e count) (moment_cluster e count) joint.idx joint.index_stands
+        record {
+          filed = joint.idx.net.filed;
+          own = is_own_table below.lines.lines_give below.logs.logs_stay_whole below.logs.one_name_one_text below.logs.what_flew_is_of_the_log
+              (token_nodes below) below.index.server_event_goes base e setup run lines texts part (first_of base e lines texts) count (sure part) joint;
+          named = joint.index_stands.texts_of;
+          keeps = keeps (index_nodes below) (token_nodes below) (cluster_of e.script.setup) part of_eight texts.text (first_of base e lines texts)
+              below.index.each_index_is_the_join below.index.newest_is_never_deleted (moment e count) (moment_cluster e count) joint.idx joint.index_stands;
+        }
 
   pub every_moment_stands : EveryMomentStands
   every_moment_stands base apart e setup run lines texts count none = stands base apart e setup run lines texts count none

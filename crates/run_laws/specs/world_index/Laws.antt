@@ -51,15 +51,19 @@ pub record WasDeleted (w : World AnyNode) (name : SegName) : Type 0 where
   pub from : packet.from ≡ Cleaner
   pub deletes : packet.body ≡ body.Delete (record { name = name })
 
--- At a moment of a run, of a slot of the map, by what logs filed up to then:
-pub record KeepsIndexes (w : World AnyNode) (part : ℕ) (texts : Texts) : Type 0 where
-  pub filed : Filed
-  pub named : AreTexts texts filed
+-- At a moment of a run, of a slot of the map, by this table of what logs filed up to then:
+pub record KeepsBy (w : World AnyNode) (part : ℕ) (filed : Filed) : Type 0 where
   -- the index of each manager that manages the slot, deposed or not, is the join of what it has applied
   pub joins : (j : ℕ) (s : SlotState) (b : BlockId) → active_at w part j ≡ Some s → slot_of b.ino.0 ≡ part → IsJoinOfApplied b filed s
   -- and cleaning loses nothing: the newest row of a block isn't in a segment that a server was told to delete
   pub kept : (name : SegName) (b : BlockId) → WasDeleted w name → slot_of b.ino.0 ≡ part → is_filed_name filed name ≡ true → has_block b filed name ≡ true
       → IsNewest b filed name.log.0 name.seq → ⊥
+
+-- so it is by some table, of texts of their names
+pub record KeepsIndexes (w : World AnyNode) (part : ℕ) (texts : Texts) : Type 0 where
+  pub filed : Filed
+  pub named : AreTexts texts filed
+  pub keeps : KeepsBy w part filed
 
 -- So it is at each moment of each run of a script of whose setup a run can be started, where its events are given what they are owed.
 abbrev pub EveryRunKeepsIndexes : Type 0

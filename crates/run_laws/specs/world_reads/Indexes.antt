@@ -4,19 +4,29 @@
 use Rattle.std.specs.Prelude.{◌<◌, ℕ}
 use Rattle.core_world.specs.AnyNode.{any_start, any_step}
 use Rattle.core_world.specs.declared.any_node.AnyNode.{AnyNode}
+use Rattle.index_tie.specs.Filed.{Filed}
 use Rattle.log_tie.specs.Setting.{Setting}
 use Rattle.node_base.specs.Setups.{IsSetup}
+use Rattle.node_slots.specs.node_index_tie.Sight.{AreTexts, Texts}
 use Rattle.run_laws.specs.reopening_law.Reopens.{TellsApart}
 use Rattle.run_laws.specs.restart_law.Restarts.{NoDoubtfulRestart}
 use Rattle.world_base.specs.declared.estate.Estate.{Estate}
 use Rattle.world_base.specs.Runs.{IsRun}
-use Rattle.run_laws.specs.world_index.Laws.{KeepsIndexes}
+use Rattle.run_laws.specs.world_index.Laws.{KeepsBy}
 use Rattle.run_laws.specs.world_law.Owners.{moment}
-use Rattle.run_laws.specs.world_logs.Lines.{HasLines, Texts}
+use Rattle.run_laws.specs.world_logs.Lines.{HasLines, Texts as RunTexts}
+use Rattle.run_laws.specs.world_reads.OwnTable.{IsOwnTable}
+
+-- It is so by the run's own table of what logs filed, of texts of their names.
+pub record KeepsItsIndexes (e : Estate AnyNode) (count part : ℕ) (texts : Texts) : Type 0 where
+  pub filed : Filed
+  pub own : IsOwnTable e count filed
+  pub named : AreTexts texts filed
+  pub keeps : KeepsBy (moment e count) part filed
 
 -- So it is of each slot, for any lines of the run's logs and the one text that each name has there.
 abbrev pub EveryRunKeepsItsIndexes : Type 0
 EveryRunKeepsItsIndexes =
     (base : Setting) → TellsApart base → (e : Estate AnyNode) → IsSetup e.script.setup → IsRun any_step any_start e.script e.events e.world
-    → (lines : HasLines base e) (texts : Texts base e lines) (count : ℕ) → NoDoubtfulRestart e count
-    → (part : ℕ) → part < 8 → KeepsIndexes (moment e count) part texts.text
+    → (lines : HasLines base e) (texts : RunTexts base e lines) (count : ℕ) → NoDoubtfulRestart e count
+    → (part : ℕ) → part < 8 → KeepsItsIndexes e count part texts.text
