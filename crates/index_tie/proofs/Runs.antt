@@ -9,6 +9,7 @@ use Rattle.segment_format.specs.declared.segment.Segment.{Segment}
 use Rattle.checkpoint.specs.WriterState.{Rows}
 use Rattle.delta_index.specs.Entries.{no_entry}
 use Rattle.delta_index.specs.Join.{join}
+use Rattle.slot_beliefs.specs.Recalls.{applied_of}
 use Rattle.token_manager.specs.SlotState.{SlotState}
 use Rattle.token_manager.specs.Transition.{started}
 use Rattle.log_protocol.specs.Tables.{In}
@@ -26,7 +27,7 @@ use Rattle.index_tie.specs.Net.{Net, Happens, Runs, opening, ones, zeros}
 use Rattle.index_tie.specs.Net.Happens.{ClientFiles, CleanerFiles, GetsDeltas, GetsOther, Answers, Plans, Cleans, Checkpoints, Keeps, Moves, Activates, Promises, JobPromises, JobWelcomed, Reports, JobBegins, JobReads, Asks, JobHearsDead, JobTakes}
 use Rattle.index_tie.specs.Net.Packet.{CheckpointDone}
 use Rattle.index_tie.specs.Net.Runs.{Begun, On}
-use Rattle.index_tie.specs.NetLaws.{Moment, EachIndexIsTheJoin, NewestIsNeverDeleted, ReigningIsOutdated, CheckpointsHaveManagers}
+use Rattle.index_tie.specs.NetLaws.{Moment, EachIndexIsTheJoin, ManagersCoverTheirHorizon, NewestIsNeverDeleted, ReigningIsOutdated, CheckpointsHaveManagers}
 use Rattle.index_tie.proofs.JobsStay.{jobs_begin}
 use Rattle.index_tie.proofs.Events.{some_is, some_none, gets_deltas, gets_other, client_files, cleaner_files_one}
 use Rattle.index_tie.proofs.Jobs.{job_takes, job_reads, job_hears_dead, job_promises, job_welcomed, cleaner_promises, job_begins}
@@ -185,6 +186,17 @@ each_index_is_the_join part holds n b e s m at =
     let g = good_always part holds n b m in
     let i = g.views b m.inside in
     indexes_are_joins b n.filed i.state s i.reached g.filed i.tells (i.slots e s at)
+
+pub managers_cover_their_horizon : ManagersCoverTheirHorizon
+managers_cover_their_horizon part holds n b e s m at l some limit =
+    let g = good_always part holds n b m in
+    let i = g.views b m.inside in
+    let manages = i.slots e s at in
+    let epoch = g.epochs e s at in
+    let covered = (index_in_bounds_always i.state i.reached).active_covered e l (subst (λ d. i.state.active d ≡ 1) epoch manages.active) in
+    let applied = subst (λ d. i.state.applied d l ≡ applied_of s.applied l) epoch (manages.applied l some) in
+    let horizon = i.horizon e l some limit in
+    omega arith
 
 is_dropped : (b : BlockId) (f : Filed) (dropped : ℕ → ℕ → ℕ) (name : SegName) (names : List SegName) → AllByRecursion (IsDropped b f dropped) names
     → In name names → IsDropped b f dropped name

@@ -1,5 +1,5 @@
 -- The laws of every run of the small world.
-use Rattle.std.specs.Prelude.{◌≡◌, ℕ, ◌≤◌, true, List, Some, None}
+use Rattle.std.specs.Prelude.{◌≡◌, ℕ, suc, ◌<◌, ◌≤◌, true, List, Some, None}
 use Rattle.segment_format.specs.declared.segment.Segment.{Segment}
 use Rattle.xfs_base.specs.declared.block.BlockId.{BlockId}
 use Rattle.xfs_base.specs.declared.entry.Place.{Place}
@@ -7,6 +7,7 @@ use Rattle.xfs_base.specs.declared.segment.SegName.{SegName}
 use Rattle.xfs_base.specs.declared.segment.SegRef.{SegRef}
 use Rattle.xfs_base.specs.Blocks.{slot_of}
 use Rattle.checkpoint.specs.WriterState.{Rows}
+use Rattle.slot_beliefs.specs.Recalls.{applied_of}
 use Rattle.token_manager.specs.SlotState.{SlotState}
 use Rattle.token_manager.specs.Transition.{entry_at}
 use Rattle.log_protocol.specs.Tables.{In}
@@ -14,6 +15,7 @@ use Rattle.index_tie.specs.Cleaning.{is_filed_name, has_block}
 use Rattle.index_tie.specs.Laws.{IsJoinOfApplied, IsNewest, IsOutdated}
 use Rattle.index_tie.specs.Net.{Net, Runs, opening}
 use Rattle.index_tie.specs.Net.Packet.{CheckpointDone}
+use Rattle.index_tie.specs.Takeovers.{of_log}
 
 -- a moment of a run, and a block of the slot
 pub record Moment (part : ℕ) (holds : SegRef → Rows) (n : Net) (b : BlockId) : Type 0 where
@@ -26,6 +28,12 @@ abbrev pub EachIndexIsTheJoin : Type 0
 EachIndexIsTheJoin =
     (part : ℕ) (holds : SegRef → Rows) (n : Net) (b : BlockId) (e : ℕ) (s : SlotState) → Moment part holds n b → n.slots e ≡ Some s
     → IsJoinOfApplied b n.filed s
+
+-- Each manager, deposed or not, has applied of each log all that the horizon passes that the registry had last kept at its epoch.
+abbrev pub ManagersCoverTheirHorizon : Type 0
+ManagersCoverTheirHorizon =
+    (part : ℕ) (holds : SegRef → Rows) (n : Net) (b : BlockId) (e : ℕ) (s : SlotState) → Moment part holds n b → n.slots e ≡ Some s
+    → (l : ℕ) → 0 < l → l ≤ 9 → of_log (n.horizon e) l ≤ suc (applied_of s.applied l)
 
 -- Cleaning loses nothing: the newest row of a block isn't in a segment that was to be deleted.
 abbrev pub NewestIsNeverDeleted : Type 0

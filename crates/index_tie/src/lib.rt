@@ -9,7 +9,7 @@ ghost use Rattle.index_tie.specs.Feeds.{RangesTellWhatIsFiled};
 ghost use Rattle.index_tie.specs.Growth.{ClientsFile, CleanerFiles, SlotsStay, PartsStay, DeltasStay, MoreIsFiled};
 ghost use Rattle.index_tie.specs.Laws.{IndexesAreJoins, PlacesAreExact, DroppedIsOutdated, NewestIsKept};
 ghost use Rattle.index_tie.specs.Lines.{LinesAreFiled, LinesAreLinked, FiledNamesAreEnds, FeedsAreFed, LinesGrow};
-ghost use Rattle.index_tie.specs.NetLaws.{CheckpointsHaveManagers, EachIndexIsTheJoin, NewestIsNeverDeleted, ReigningIsOutdated, TakenOver};
+ghost use Rattle.index_tie.specs.NetLaws.{CheckpointsHaveManagers, EachIndexIsTheJoin, ManagersCoverTheirHorizon, NewestIsNeverDeleted, ReigningIsOutdated, TakenOver};
 ghost use Rattle.index_tie.specs.Slots.{AppliesAreMerges};
 ghost use Rattle.index_tie.specs.Takeovers.{TakeoversAreActivations};
 
@@ -112,11 +112,13 @@ pub fn the_index_is_the_join()
 /// The law of every run of a small world of these machines, in which a slot of the map goes from manager to manager, is checkpointed, taken over and cleaned.
 ///
 /// - `joins`: the index of each slot that a manager ever had is the join of what it has applied.
+/// - `covers`: and that is at least what the checkpoint covers that the registry had last kept at its epoch.
 /// - `kept`: the newest row of a block is in no segment that was to be deleted.
 /// - `outdated`: where the reigning slot's entry lies in such a segment, a newer version is filed.
 /// - `managed`: a checkpoint is sent only at an epoch that has a manager.
 pub fn cleaning_loses_nothing()
     ensures joins { EachIndexIsTheJoin }
+    ensures covers { ManagersCoverTheirHorizon }
     ensures kept { NewestIsNeverDeleted }
     ensures outdated { ReigningIsOutdated }
     ensures managed { CheckpointsHaveManagers }

@@ -1,5 +1,5 @@
 -- What is claimed of the run that a call of the program played: the headline, in one record. Two premises stand before all of it: the registry does not
--- fail, no line of a script stops it; and want of memory ends the call, and then there is no run. What is said of versions (`legal_acts`), of what clients
+-- fail, no line of a script stops it; and want of memory ends the call, and then there is no run. What is said of versions (`legal_acts`), of indexes (`indexes`), of what clients
 -- that serve lose, and that what takeovers lose had been filed (both in `losses_earned`), ends with the first restart that is doubtful; nothing else does.
 -- A script without a line by which a server loses its disk has no such restart (`undoubted`).
 use Rattle.core_world.specs.AnyNode.{any_start, any_step}
@@ -13,6 +13,7 @@ use Rattle.run_laws.specs.world_law.Managers.{OneManagerThroughout}
 use Rattle.run_laws.specs.world_law.Owners.{OneOwnerThroughout}
 use Rattle.run_laws.specs.world_logs.Horizons.{HorizonsReached}
 use Rattle.run_laws.specs.world_logs.Logs.{CleanersLogStands, LogsStand, ManagersLogsStand}
+use Rattle.run_laws.specs.world_reads.Indexes.{IndexesAreItsOwn}
 use Rattle.run_laws.specs.world_reads.Legal.{LegalActs, LegalWithoutLosses}
 use Rattle.std.specs.Prelude.{ℕ}
 use Rattle.top_call.specs.Claim.{IsPlayed}
@@ -52,6 +53,9 @@ pub record Headline (e : Estate AnyNode) : Type 0 where
   pub legal_acts : LegalActs e
   -- and throughout, where no line of the script has a server lose its disk
   pub legal_without_losses : LegalWithoutLosses e
+  -- the index of each slot is the join of what its manager has applied of the segments that were filed, at least of what the kept checkpoint covers; these are
+  -- one line in each log, and the newest row of a block is in no segment that a server was told to delete: up to the first doubtful restart
+  pub indexes : IndexesAreItsOwn e
   -- only what is gone is refused as lost
   pub losses_earned : LossesEarned e
   -- and where no line of the script has a server lose its disk, no restart is doubtful

@@ -1,9 +1,11 @@
 -- Every run keeps the index of each slot: each event keeps a moment standing to the small world of it, in which indexes are joins and cleaning loses nothing.
-use Rattle.std.proofs.Common.{false, ◌≡◌, ℕ, zero, suc, ◌<◌, List, [], ◌∷◌, Option, None, Some, take, slice_get, refl, sym, ap, subst, ◌∙◌}
+use Rattle.std.proofs.Common.{false, ◌≡◌, ℕ, zero, suc, ◌<◌, ◌≤◌, List, [], ◌∷◌, Option, None, Some, take, slice_get, refl, sym, ap, subst, ◌∙◌, arith}
 use Rattle.std.specs.List.{fold}
 use Rattle.core_world.specs.AnyNode.{any_start, any_step}
 use Rattle.core_world.specs.declared.any_node.AnyNode.{AnyNode}
-use Rattle.index_tie.specs.NetLaws.{EachIndexIsTheJoin, NewestIsNeverDeleted}
+use Rattle.core_world.specs.declared.any_node.AnyNode.TheVariants as any
+use Rattle.index_tie.specs.NetLaws.{EachIndexIsTheJoin, ManagersCoverTheirHorizon, NewestIsNeverDeleted}
+use Rattle.index_tie.specs.Takeovers.{of_log}
 use Rattle.log_protocol.specs.Tables as tables
 use Rattle.manager_node.specs.declared.phase.Phase.{Phase as ManagerPhase}
 use Rattle.manager_node.specs.declared.phase.Phase.TheVariants as managing
@@ -13,8 +15,11 @@ use Rattle.node_slots.specs.node_index_tie.ManagerEvents.{ManagerAgrees, PhaseAg
 use Rattle.node_slots.specs.node_index_tie.Pages.{Desk, desk_of}
 use Rattle.node_slots.specs.node_index_tie.Sight.{Texts, held_in}
 use Rattle.node_slots.specs.node_tie.ManagerEvents.{phase_at, slot_in}
-use Rattle.node_slots.specs.node_tie.RegistryEvents.{RegistrySound}
+use Rattle.node_slots.specs.node_tie.RegistryEvents.{RegistrySound, epoch_in}
+use Rattle.registry.specs.Checkpoints.{horizon_at}
+use Rattle.registry_node.specs.declared.node.RegistryNode.{RegistryNode}
 use Rattle.segment_format.specs.declared.segment.Segment.{Segment}
+use Rattle.slot_beliefs.specs.Recalls.{applied_of}
 use Rattle.token_manager.specs.SlotState.{SlotState}
 use Rattle.wire_msg.specs.declared.packet.Do.TheVariants.{Deliver}
 use Rattle.wire_msg.specs.declared.packet.Packet.{Packet}
@@ -41,8 +46,25 @@ use Rattle.run_laws.proofs.world_law.Turning.{next_cluster}
 use Rattle.run_laws.proofs.world_law.Turns.{delivered_fact, event_turns as token_turns}
 use Rattle.run_laws.specs.world_law.Managers.{active_in, active_of}
 use Rattle.run_laws.specs.world_law.Owners.{moment, node_in}
-use Rattle.xfs_base.specs.declared.node.NodeId.TheVariants.{Cleaner, Manager}
+use Rattle.xfs_base.specs.Blocks.{slot_of}
+use Rattle.xfs_base.specs.declared.block.BlockId.{BlockId}
+use Rattle.xfs_base.specs.declared.node.NodeId.TheVariants.{Cleaner, Manager, Registry}
 use Rattle.xfs_base.specs.declared.segment.SegName.{SegName}
+
+-- a slot's number is that of its own slot
+slot_of_slot : (part : ℕ) → part < 8 → slot_of part ≡ part
+slot_of_slot part of_eight = omega arith
+
+is_registry : (a b : RegistryNode) → Some (any.Registry a) ≡ Some (any.Registry b) → a ≡ b
+is_registry a b same = ap (λ o. registry_in o a) same
+  where
+    registry_in : Option AnyNode → RegistryNode → RegistryNode
+    registry_in (Some (any.Registry r)) other = r
+    registry_in (Some (any.Client n)) other = other
+    registry_in (Some (any.Manager n)) other = other
+    registry_in (Some (any.Server n)) other = other
+    registry_in (Some (any.Cleaner n)) other = other
+    registry_in None other = other
 
 module _ (laws : NodeLaws) (token_laws : tokens.NodeLaws) (k : Cluster) (part : ℕ) (of_eight : part < 8) (texts : Texts) (first : ℕ → ℕ → Segment) where
   abbrev pub StandsIn : World AnyNode → Scene → Type 0
@@ -102,7 +124,7 @@ module _ (laws : NodeLaws) (token_laws : tokens.NodeLaws) (k : Cluster) (part : 
 
   -- ---- what is read off
 
-  module _ (small_joins : EachIndexIsTheJoin) (small_kept : NewestIsNeverDeleted) (w : World AnyNode) (cluster : w.cluster ≡ k) (s : Scene)
+  module _ (small_joins : EachIndexIsTheJoin) (small_covers : ManagersCoverTheirHorizon) (small_kept : NewestIsNeverDeleted) (w : World AnyNode) (cluster : w.cluster ≡ k) (s : Scene)
       (st : StandsIn w s) where
     -- a slot that a manager manages is the small world's of its epoch
     slot_there : (desk : Desk) (p : SlotPhase) → PhaseAgrees part texts s.net desk p → (z : SlotState) → active_in p ≡ Some z → s.net.slots z.epoch ≡ Some z
@@ -130,18 +152,35 @@ module _ (laws : NodeLaws) (token_laws : tokens.NodeLaws) (k : Cluster) (part : 
         subst (λ b. SentBy part s.net s.asked Cleaner b) d.deletes
         (subst (λ n. SentBy part s.net s.asked n d.packet.body) d.from (st.facts d.packet (was_sent w.sent d.packet d.sent)))
 
+    -- a block of the slot
+    block : BlockId
+    block = record { ino = record { 0 = part }; blk = 0 }
+
+    covered : (registry : RegistryNode) (z : SlotState) → s.registry ≡ registry → s.net.slots z.epoch ≡ Some z → z.epoch ≡ epoch_in registry.board part
+        → (l : ℕ) → 0 < l → l ≤ 9 → of_log (horizon_at registry.board.checkpoints part) l ≤ suc (applied_of z.applied l)
+    covered registry z refl there same l some limit =
+        let agreed = st.registry in
+        subst (λ h. of_log h l ≤ suc (applied_of z.applied l)) (ap s.net.horizon (same ∙ agreed.epoch) ∙ sym agreed.horizon)
+        (small_covers part (held_in part texts) s.net block z.epoch z (record { any = first; run = st.runs; inside = slot_of_slot part of_eight }) there l some
+        limit)
+
     pub keeps : KeepsBy w part s.net.filed
     keeps = record {
       joins = λ j z b premise inside. small_joins part (held_in part texts) s.net b z.epoch z (record { any = first; run = st.runs; inside = inside })
           (manager_there j z (subst (λ c. active_of part (node_in w.nodes (place_of c (Manager j))) ≡ Some z) cluster premise));
+      covers = λ registry j z there premise same l some limit.
+          covered registry z
+          (is_registry s.registry registry
+          (sym st.placed.registry ∙ subst (λ c. node_in w.nodes (place_of c Registry) ≡ Some (any.Registry registry)) cluster there))
+          (manager_there j z (subst (λ c. active_of part (node_in w.nodes (place_of c (Manager j))) ≡ Some z) cluster premise)) same l some limit;
       kept = λ name b d inside filed has newest.
           small_kept part (held_in part texts) s.net b name (record { any = first; run = st.runs; inside = inside })
           (was_to_be_deleted name d) filed has newest;
     }
 
-pub every_run_keeps : NodeLaws → tokens.NodeLaws → EachIndexIsTheJoin → NewestIsNeverDeleted → EveryRunKeepsIndexes
+pub every_run_keeps : NodeLaws → tokens.NodeLaws → EachIndexIsTheJoin → ManagersCoverTheirHorizon → NewestIsNeverDeleted → EveryRunKeepsIndexes
 unfolding start_world
-every_run_keeps laws token_laws small_joins small_kept e setup run part of_eight texts first owed count =
+every_run_keeps laws token_laws small_joins small_covers small_kept e setup run part of_eight texts first owed count =
     let k = cluster_of e.script.setup in
     let w = start_world any_start e.script in
     let tokens_start =
@@ -162,5 +201,5 @@ every_run_keeps laws token_laws small_joins small_kept e setup run part of_eight
     record {
       filed = good.scene.net.filed;
       named = good.stands.texts_of;
-      keeps = keeps laws token_laws k part of_eight texts first small_joins small_kept (moment e count) good.cluster good.scene good.stands;
+      keeps = keeps laws token_laws k part of_eight texts first small_joins small_covers small_kept (moment e count) good.cluster good.scene good.stands;
     }

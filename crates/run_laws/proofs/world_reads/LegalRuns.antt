@@ -21,7 +21,7 @@ use Rattle.run_laws.proofs.world_reads.TurnRun.{moment_cluster}
 use Rattle.run_laws.proofs.world_reads.TurnWhole.{whole_at}
 use Rattle.run_laws.proofs.world_reads.WholeLaws.{index_nodes, token_nodes, whole_below}
 use Rattle.run_laws.specs.world_reads.Below.{Below}
-use Rattle.run_laws.specs.world_reads.Indexes.{EveryRunKeepsItsIndexes, KeepsItsIndexes}
+use Rattle.run_laws.specs.world_reads.Indexes.{EveryRunKeepsItsIndexes, EveryRunsIndexesAreItsOwn, KeepsItsIndexes}
 use Rattle.run_laws.specs.world_reads.Joint.{IsSureUpto, Joint}
 use Rattle.run_laws.specs.world_reads.Legal.{EveryRunWithoutLossesIsLegal, EveryRunsActsAreLegal}
 use Rattle.run_laws.specs.world_reads.Moments.{EveryMomentStands, MomentStands, first_of}
@@ -53,7 +53,7 @@ module _ (below : Below) where
               (token_nodes below) below.index.server_event_goes base e setup run lines texts part (first_of base e lines texts) count (sure part) joint;
           named = joint.index_stands.texts_of;
           keeps = keeps (index_nodes below) (token_nodes below) (cluster_of e.script.setup) part of_eight texts.text (first_of base e lines texts)
-              below.index.each_index_is_the_join below.index.newest_is_never_deleted (moment e count) (moment_cluster e count) joint.idx joint.index_stands;
+              below.index.each_index_is_the_join below.index.managers_cover_their_horizon below.index.newest_is_never_deleted (moment e count) (moment_cluster e count) joint.idx joint.index_stands;
         }
 
   pub every_moment_stands : EveryMomentStands
@@ -62,11 +62,19 @@ module _ (below : Below) where
   pub every_run_keeps_its_indexes : EveryRunKeepsItsIndexes
   every_run_keeps_its_indexes base apart e setup run lines texts count none = kept base apart e setup run lines texts count none
 
+  -- for the lines that each run has, and their texts
   pub every_runs_acts_are_legal : EveryRunsActsAreLegal
   every_runs_acts_are_legal e setup run count none =
       let lines = below.logs.runs_have_lines below.lines.telling_setting.0 e setup run in
       legal below.lines.telling_setting.0 below.lines.telling_setting.1 e setup run lines
       (below.logs.lines_have_texts below.lines.telling_setting.0 e setup lines) count none
+
+  pub every_runs_indexes_are_its_own : EveryRunsIndexesAreItsOwn
+  every_runs_indexes_are_its_own e setup run count none part of_eight =
+      let lines = below.logs.runs_have_lines below.lines.telling_setting.0 e setup run in
+      let texts = below.logs.lines_have_texts below.lines.telling_setting.0 e setup lines in
+      let k = kept below.lines.telling_setting.0 below.lines.telling_setting.1 e setup run lines texts count none part of_eight in
+      record { filed = k.filed; own = k.own; keeps = k.keeps }
 
 -- where the script has no server lose its disk, up to each moment
 pub every_run_without_losses_is_legal : EveryRunsActsAreLegal → ScriptsWithoutLossesAreUndoubted → EveryRunWithoutLossesIsLegal

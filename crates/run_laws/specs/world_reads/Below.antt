@@ -11,7 +11,7 @@ use Rattle.run_laws.specs.epoch_law.Polls.{CleanerPollsAreLow, ClientPollsAreLow
 use Rattle.run_laws.specs.epoch_law.Slots.{SlotsStartSame, SlotsStaySame}
 use Rattle.run_laws.specs.index_reads.Clients.{FlightsAreNews, NothingIsNewer}
 use Rattle.run_laws.specs.index_reads.Managers.{DeltasAreCovered}
-use Rattle.index_tie.specs.NetLaws.{CheckpointsHaveManagers, EachIndexIsTheJoin, NewestIsNeverDeleted}
+use Rattle.index_tie.specs.NetLaws.{CheckpointsHaveManagers, EachIndexIsTheJoin, ManagersCoverTheirHorizon, NewestIsNeverDeleted}
 use Rattle.log_law.specs.Ends.{EndsAreLast}
 use Rattle.log_law.specs.Groups.{EndsNameGroups, PriorsNameGroups}
 use Rattle.log_law.specs.Held.{WhatFlewIsOfTheLog, WhatIsHeldFlew, WhatIsListedFlew}
@@ -106,6 +106,7 @@ pub record IndexBelow : Type 0 where
   pub registry_starts : registries.RegistryStarts
   pub registry_event_goes : registries.RegistryEventGoes
   pub each_index_is_the_join : EachIndexIsTheJoin
+  pub managers_cover_their_horizon : ManagersCoverTheirHorizon
   pub newest_is_never_deleted : NewestIsNeverDeleted
   pub checkpoints_have_managers : CheckpointsHaveManagers
   pub flights_are_news : FlightsAreNews

@@ -1,6 +1,6 @@
 -- In every run the index of each slot stays what logs say, up to each moment up to which no restart was doubtful: the index of each manager that manages the
--- slot, deposed or not, is the join of what it has applied, and the newest row of a block is in no segment that a server was told to delete (the 1996 paper, on
--- the imap and on cleaning).
+-- slot, deposed or not, is the join of what it has applied, which of the present one is at least what the kept checkpoint covers, and the newest row of a block
+-- is in no segment that a server was told to delete (the 1996 paper, on the imap and on cleaning).
 use Rattle.std.specs.Prelude.{◌<◌, ℕ}
 use Rattle.core_world.specs.AnyNode.{any_start, any_step}
 use Rattle.core_world.specs.declared.any_node.AnyNode.{AnyNode}
@@ -30,3 +30,15 @@ EveryRunKeepsItsIndexes =
     (base : Setting) → TellsApart base → (e : Estate AnyNode) → IsSetup e.script.setup → IsRun any_step any_start e.script e.events e.world
     → (lines : HasLines base e) (texts : RunTexts base e lines) (count : ℕ) → NoDoubtfulRestart e count
     → (part : ℕ) → part < 8 → KeepsItsIndexes e count part texts.text
+
+-- So it is in every run, at each moment up to which no restart was doubtful, with nothing given: by a table that is the run's own.
+pub record IndexIsItsOwn (e : Estate AnyNode) (count part : ℕ) : Type 0 where
+  pub filed : Filed
+  pub own : IsOwnTable e count filed
+  pub keeps : KeepsBy (moment e count) part filed
+
+abbrev pub IndexesAreItsOwn : Estate AnyNode → Type 0
+IndexesAreItsOwn e = (count : ℕ) → NoDoubtfulRestart e count → (part : ℕ) → part < 8 → IndexIsItsOwn e count part
+
+abbrev pub EveryRunsIndexesAreItsOwn : Type 0
+EveryRunsIndexesAreItsOwn = (e : Estate AnyNode) → IsSetup e.script.setup → IsRun any_step any_start e.script e.events e.world → IndexesAreItsOwn e

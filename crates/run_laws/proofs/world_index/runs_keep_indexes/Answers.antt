@@ -33,5 +33,5 @@ returns c = record {
         cleaner_starts = c.other_events_are_seen.ensures.cleaner_start;
         cleaner = c.other_events_are_seen.ensures.cleaner;
       })
-      c.cleaning_loses_nothing.ensures.joins c.cleaning_loses_nothing.ensures.kept;
+      c.cleaning_loses_nothing.ensures.joins c.cleaning_loses_nothing.ensures.covers c.cleaning_loses_nothing.ensures.kept;
 }

@@ -15,6 +15,7 @@ returns c = record {
   registry_starts = c.registry_events_are_seen.ensures.start;
   registry_event_goes = c.registry_events_are_seen.ensures.events;
   each_index_is_the_join = c.cleaning_loses_nothing.ensures.joins;
+  managers_cover_their_horizon = c.cleaning_loses_nothing.ensures.covers;
   newest_is_never_deleted = c.cleaning_loses_nothing.ensures.kept;
   checkpoints_have_managers = c.cleaning_loses_nothing.ensures.managed;
   flights_are_news = c.flights_are_news.ensures.news;

@@ -28,6 +28,7 @@ returns-clause-headline g c = played_has Headline law c.answer.result.estate c.a
       horizons_filed = c.runs_keep_logs.ensures.horizons e p.setup p.one_run;
       legal_acts = c.every_runs_acts_are_legal.ensures.legal e p.setup p.one_run;
       legal_without_losses = c.every_runs_acts_are_legal.ensures.unlost e p.setup p.one_run;
+      indexes = c.every_runs_acts_are_legal.ensures.own e p.setup p.one_run;
       losses_earned = record {
         each = c.each_lost_act_is_earned.ensures.earned e p.setup p.one_run;
         answers = c.lost_answers_are_said.ensures.runs e;
