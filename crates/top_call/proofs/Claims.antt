@@ -55,10 +55,12 @@ module _ {N : Type 0} (step : N → Do → NodeStep N) (first : NodeId → Setup
   is_played script e setup k run order all =
       let same : script ≡ e.script = sym (ap (λ (x : Estate N). x.script) k) in
       record {
-        setup = subst (λ (x : Script). IsSetup x.setup) same setup;
-        one_run = subst (λ x. IsRun step first x e.events e.world) same run;
+        whole = record {
+          setup = subst (λ (x : Script). IsSetup x.setup) same setup;
+          one_run = subst (λ x. IsRun step first x e.events e.world) same run;
+          complete = subst (λ (x : Script). BeginsAll x.lines e.events) same all;
+        };
         in_order = subst (λ (x : Script). begun_in e.events ≡ actors_of x.lines) same order;
-        complete = subst (λ (x : Script). BeginsAll x.lines e.events) same all;
       }
 
   pub some_played : (o : Option (Estate N)) (e : Estate N) → IfSome o (λ x. x ≡ e) → IsPlayed step first e → IfSome o (λ x. IsPlayed step first x)

@@ -2,7 +2,6 @@
 use Rattle.std.specs.Prelude.{◌≡◌, ◌⊎◌, ◌≤◌, ℕ, ◌==◌, Bool, true, false, IsTrue, IfSome, List, [], length, Option, Some, None, Err, if◌then◌else◌}
 use Rattle.std.specs.Io.KnownBytes.{Appends, Consumes, Keeps}
 use Rattle.audit.specs.Journal.{IsAudited, read_journal}
-use Rattle.node_base.specs.Setups.{IsSetup}
 use Rattle.play.specs.Plays.{actors_of, estate_of}
 use Rattle.script_print.specs.Generator.{generated}
 use Rattle.script_print.specs.Printing.{printed}
@@ -18,7 +17,7 @@ use Rattle.version_model.specs.declared.work.Work.{Work}
 use Rattle.wire_msg.specs.declared.packet.Do.{Do}
 use Rattle.wire_msg.specs.NodeStep.{NodeStep}
 use Rattle.world_base.specs.declared.estate.Estate.{Estate}
-use Rattle.world_base.specs.Runs.{BeginsAll, IsRun, begun_in}
+use Rattle.world_base.specs.Runs.{IsWholeRun, begun_in}
 use Rattle.xfs_base.specs.declared.node.NodeId.{NodeId}
 use Rattle.xfs_base.specs.declared.setup.Setup.{Setup}
 use Rattle.xfs_base.specs.Causes.{Rose}
@@ -159,13 +158,10 @@ module _ {N : Type 0} (step : N → Do → NodeStep N) (first : NodeId → Setup
       ((input : List ℕ) × IsInput command r input × Answers command input s o)
       ⊎ (GivesUp s o ⊎ (IsTrue (reads command) × CannotRead r s o))
 
-  -- of its script's setup a run can be started; the events of a run lead from its script's start to its world; each item is begun once, at its line, and
-  -- none is left out
+  -- it is a whole run of its script, played by one thread: all items are begun in the order of their lines
   pub record IsPlayed (e : Estate N) : Type 0 where
-    pub setup : IsSetup e.script.setup
-    pub one_run : IsRun step first e.script e.events e.world
+    pub whole : IsWholeRun step first e
     pub in_order : begun_in e.events ≡ actors_of e.script.lines
-    pub complete : BeginsAll e.script.lines e.events
 
   -- what a call of the program answers
   pub record Claim (command : Option Command) (r : Reading) (s : Writing) (o : Outcome N) : Type 0 where

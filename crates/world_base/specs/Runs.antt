@@ -1,6 +1,7 @@
--- The runs of a script: what may happen, in any order.
+-- The runs of a script: what may happen, in any order; and what is a whole run.
 use Rattle.std.specs.Prelude.{◌≡◌, ℕ, List, [], ◌∷◌, length, filter, slice_get, Option, Some, None}
 use Rattle.std.specs.List.{filter_map}
+use Rattle.node_base.specs.Setups.{IsSetup}
 use Rattle.script_text.specs.declared.script.Line.{Line}
 use Rattle.script_text.specs.declared.script.Script.{Script}
 use Rattle.version_model.specs.declared.work.Work.{Work}
@@ -10,6 +11,7 @@ use Rattle.wire_msg.specs.NodeStep.{NodeStep}
 use Rattle.xfs_base.specs.declared.node.NodeId.{NodeId}
 use Rattle.xfs_base.specs.declared.setup.Setup.{Setup}
 use Rattle.xfs_base.specs.Nodes.{same_node}
+use Rattle.world_base.specs.declared.estate.Estate.{Estate}
 use Rattle.world_base.specs.declared.event.Event.{Event}
 use Rattle.world_base.specs.declared.event.Event.TheVariants.{Begin, Deliver, Tick}
 use Rattle.world_base.specs.declared.world.World.{World}
@@ -54,3 +56,10 @@ begins_of node events = length (filter (λ begun. same_node begun node) (begun_i
 -- each node begins its items, each once and none left out: a Begin takes the next one
 abbrev pub BeginsAll : List Line → List Event → Type 0
 BeginsAll lines events = (node : NodeId) → begins_of node events ≡ length (items_of lines node)
+
+-- A whole run, by however many threads: of its script's setup a run can be started; its events lead from the start of the script to its world; and each node
+-- begins its items in their order, each once, and none is left out.
+pub record IsWholeRun {N : Type 0} (step : N → Do → NodeStep N) (first : NodeId → Setup → List Work → N) (e : Estate N) : Type 0 where
+  pub setup : IsSetup e.script.setup
+  pub one_run : IsRun step first e.script e.events e.world
+  pub complete : BeginsAll e.script.lines e.events

@@ -1,7 +1,8 @@
--- What is claimed of the run that a call of the program played: the headline, in one record. Two premises stand before all of it: the registry does not
--- fail, no line of a script stops it; and want of memory ends the call, and then there is no run. What is said of versions (`legal_acts`), of indexes (`indexes`), of what clients
--- that serve lose, and that what takeovers lose had been filed (both in `losses_earned`), ends with the first restart that is doubtful; nothing else does.
--- A script without a line by which a server loses its disk has no such restart (`undoubted`).
+-- What is claimed of the run that a call of the program played: the headline, in one record, of a run in whatever order its items begin; in which order one
+-- thread begins them the claim of the call says (`run`). Two premises stand before all of it: the registry does not fail, no line of a script stops it; and
+-- want of memory ends the call, and then there is no run. What is said of versions (`legal_acts`), of indexes (`indexes`), of what clients that serve lose, and
+-- that what takeovers lose had been filed (both in `losses_earned`), ends with the first restart that is doubtful; nothing else does. A script without a line
+-- by which a server loses its disk has no such restart (`undoubted`).
 use Rattle.core_world.specs.AnyNode.{any_start, any_step}
 use Rattle.core_world.specs.declared.any_node.AnyNode.{AnyNode}
 use Rattle.run_losses.specs.answer_law.Runs.{LostAnswersEarned}
@@ -16,9 +17,9 @@ use Rattle.run_laws.specs.world_logs.Logs.{CleanersLogStands, LogsStand, Manager
 use Rattle.run_laws.specs.world_reads.Indexes.{IndexesAreItsOwn}
 use Rattle.run_laws.specs.world_reads.Legal.{LegalActs, LegalWithoutLosses}
 use Rattle.std.specs.Prelude.{ℕ}
-use Rattle.top_call.specs.Claim.{IsPlayed}
 use Rattle.world_base.specs.declared.estate.Estate.{Estate}
 use Rattle.world_base.specs.Items.{works_of}
+use Rattle.world_base.specs.Runs.{IsWholeRun}
 
 -- Only what is gone is refused as lost.
 pub record LossesEarned (e : Estate AnyNode) : Type 0 where
@@ -33,8 +34,8 @@ WithoutLossesNoDoubt e = LosesNone (works_of e.script.lines) → (count : ℕ) �
 
 -- Whatever messages are lost, repeated or reordered and whichever nodes stop:
 pub record Headline (e : Estate AnyNode) : Type 0 where
-  -- the journal is one run of the xFS nodes, of the script that was read or drawn, each item begun in order
-  pub played : IsPlayed any_step any_start e
+  -- the journal is one run of the xFS nodes, of the script that was read or drawn: each node begins its items in order, each once, and none is left out
+  pub whole : IsWholeRun any_step any_start e
   -- at no moment has a block two owners, nor another holder beside an owner
   pub one_owner : OneOwnerThroughout e
   -- nor has a slot two managers at one epoch

@@ -17,21 +17,21 @@ returns-clause-headline g c = played_has Headline law c.answer.result.estate c.a
   where
     law : (e : Estate AnyNode) → IsPlayed any_step any_start e → Headline e
     law e p = record {
-      played = p;
-      one_owner = c.every_run_has_one_owner.ensures.one_owner e p.setup p.one_run;
-      one_manager = c.every_run_has_one_manager.ensures.one_manager e p.setup p.one_run;
-      nobody_holds = c.what_fell_is_held_by_nobody.ensures.nobody e p.setup p.one_run;
-      falls_apart = c.what_fell_is_held_by_nobody.ensures.apart e p.setup p.one_run;
-      logs_stand = c.runs_keep_logs.ensures.keeps e p.setup p.one_run;
-      cleaners_log_stands = c.runs_keep_logs.ensures.cleaners e p.setup p.one_run;
-      managers_logs_stand = c.runs_keep_logs.ensures.managers e p.setup p.one_run;
-      horizons_filed = c.runs_keep_logs.ensures.horizons e p.setup p.one_run;
-      legal_acts = c.every_runs_acts_are_legal.ensures.legal e p.setup p.one_run;
-      legal_without_losses = c.every_runs_acts_are_legal.ensures.unlost e p.setup p.one_run;
-      indexes = c.every_runs_acts_are_legal.ensures.own e p.setup p.one_run;
+      whole = p.whole;
+      one_owner = c.every_run_has_one_owner.ensures.one_owner e p.whole.setup p.whole.one_run;
+      one_manager = c.every_run_has_one_manager.ensures.one_manager e p.whole.setup p.whole.one_run;
+      nobody_holds = c.what_fell_is_held_by_nobody.ensures.nobody e p.whole.setup p.whole.one_run;
+      falls_apart = c.what_fell_is_held_by_nobody.ensures.apart e p.whole.setup p.whole.one_run;
+      logs_stand = c.runs_keep_logs.ensures.keeps e p.whole.setup p.whole.one_run;
+      cleaners_log_stands = c.runs_keep_logs.ensures.cleaners e p.whole.setup p.whole.one_run;
+      managers_logs_stand = c.runs_keep_logs.ensures.managers e p.whole.setup p.whole.one_run;
+      horizons_filed = c.runs_keep_logs.ensures.horizons e p.whole.setup p.whole.one_run;
+      legal_acts = c.every_runs_acts_are_legal.ensures.legal e p.whole.setup p.whole.one_run;
+      legal_without_losses = c.every_runs_acts_are_legal.ensures.unlost e p.whole.setup p.whole.one_run;
+      indexes = c.every_runs_acts_are_legal.ensures.own e p.whole.setup p.whole.one_run;
       losses_earned = record {
-        each = c.each_lost_act_is_earned.ensures.earned e p.setup p.one_run;
+        each = c.each_lost_act_is_earned.ensures.earned e p.whole.setup p.whole.one_run;
         answers = c.lost_answers_are_said.ensures.runs e;
       };
-      undoubted = λ none. (c.without_losses_no_restart_is_doubtful.ensures.scripts e p.setup p.one_run none).1;
+      undoubted = λ none. (c.without_losses_no_restart_is_doubtful.ensures.scripts e p.whole.setup p.whole.one_run none).1;
     }
