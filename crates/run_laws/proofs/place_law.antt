@@ -5,7 +5,9 @@ pub mod Fetching
 pub mod Checking
 pub mod Copying
 pub mod Saying
+pub mod SlotSays
 pub mod SlotAnswers
+pub mod ManagerSays
 pub mod ManagerAnswers
 pub mod Answering
 pub mod Handling

@@ -1,5 +1,3 @@
-pub mod Saying
-pub mod SlotSays
 pub mod Granted
 pub mod SlotGrants
 pub mod ManagerGrants

@@ -56,306 +56,68 @@ use Rattle.wire_msg.specs.declared.cleaning.Live.{Live}
 use Rattle.xfs_base.specs.Steps.{saying}
 use Rattle.xfs_base.proofs.Alls.{all_append, all_flat_map}
 use Rattle.run_laws.specs.place_law.Answers.{AnswersBody, AnswersDo, IfLive, ManagersAnswer}
-use Rattle.run_laws.proofs.place_law.Saying.{AllSay, Says, answers_say, steps_say}
-use Rattle.run_laws.proofs.place_law.SlotAnswers.{asks_say, checks_say, deltas_say, gaves_say, hears_say, recalls_say, regroups_say, reports_say, takes_say, usages_say, wants_say}
+use Rattle.run_laws.proofs.place_law.ManagerSays.{AsksIndex, begins_so, body_so, time_so, waits_so}
+use Rattle.run_laws.proofs.place_law.Saying.{AllSay, IsOfEntries, packets_say}
+use Rattle.run_laws.proofs.place_law.SlotAnswers.{checks_say, deltas_say, gaves_say, wants_say}
 
 -- of each Live that is sent this is so
 module _ (A : Live → Type 0) where
-  says_after : (outs : List Effect) (d : Done) → AllSay A outs → AllSay A d.outs → AllSay A (saying outs d).outs
-  says_after outs d first then_so = all_append (Says A) outs d.outs first then_so
+  silent : IsOfEntries (IfLive A)
+  silent (body.Live m) tells = absurd tells
+  silent _ tells = tt
 
-  -- ---- the log
-
-  stored_so : (o : LogOut) → AllSay A (checkpoints.stored o)
-  unfolding checkpoints.stored
-  stored_so (log_out.Send f member) = (tt, tt)
-  stored_so (log_out.Settled end rows) = tt
-
-  parts_so : (s : Serving) (items : List Item) → AllSay A (checkpoints.gives_parts s items).outs
-  unfolding checkpoints.gives_parts
-  parts_so s items = all_flat_map (Says A) checkpoints.stored stored_so (log.transition s.log (log_in.Parts items)).outs
-
-  -- ---- the writer
-
-  says_so : (s : Serving) (o : Out) → AllSay A (checkpoints.says s o).outs
-  unfolding checkpoints.says checkpoints.registers
-  says_so s (out.Parts items) = parts_so s items
-  says_so s (out.Done slot epoch parts horizon) = (tt, tt)
-  says_so s out.Kept = tt
-  says_so s (out.Stale epoch) = tt
-
-  takes_so : (s : Serving) (given : In) → AllSay A (checkpoints.writer_takes s given).outs
-  unfolding checkpoints.writer_takes checkpoints.says_each
-  takes_so s given = (let r = writer.transition s.writer given in steps_say A checkpoints.says says_so (record s { writer = r.state }) r.outs)
-
-  log_so : (s : Serving) (o : LogOut) → AllSay A (checkpoints.log_says s o).outs
-  unfolding checkpoints.log_says checkpoints.on_settled
-  log_so s (log_out.Send f member) = (tt, tt)
-  log_so s (log_out.Settled end rows) =
-      says_after (checkpoints.filed s end) (checkpoints.writer_takes s (input.Settled end)) (tt, tt) (takes_so s (input.Settled end))
-
-  writes_so : (s : Serving) (given : LogIn) → AllSay A (checkpoints.writes s given).outs
-  unfolding checkpoints.writes checkpoints.log_says_each
-  writes_so s given =
-      steps_say A checkpoints.log_says log_so (record s { log = (log.transition s.log given).state }) (log.transition s.log given).outs
-
-  -- ---- checkpoints
-
-  slot_so : (s : Serving) (given : Option In) → AllSay A (checkpoints.writes_slot s given).outs
-  slot_so s None = tt
-  slot_so s (Some given) = takes_so s given
-
-  next_at : (s : Serving) (job : Checkpointing) (slot : Option ℕ) → AllSay A (checkpoints.next_from s job slot).outs
-  unfolding checkpoints.begins_slot
-  next_at s job None = answers_say A s.lasting.items.unanswered (answer.Count job.count)
-  next_at s job (Some slot) = slot_so (record s { checkpoint = _; slots = _ }) (table.begin_at s.slots slot)
-
-  next_for_so : (s : Serving) (job : Option Checkpointing) → AllSay A (checkpoints.next_for s job).outs
-  next_for_so s None = tt
-  next_for_so s (Some job) = next_at s job (table.next_active s.slots job.next)
-
-  next_so : (s : Serving) → AllSay A (checkpoints.next_slot s).outs
-  unfolding checkpoints.next_slot
-  next_so s = next_for_so s s.checkpoint
-
-  checkpoint_so : (s : Serving) (number : ℕ) → AllSay A (checkpoints.on_checkpoint s number).outs
-  unfolding checkpoints.on_checkpoint
-  checkpoint_so s number =
-      by_test (λ (d : Done). AllSay A d.outs) (is_some s.lasting.items.unanswered) (checkpoints.gives s _) (checkpoints.next_slot (checkpoints.waits s number))
-      (λ t. (tt, tt))
-      (λ t. next_so (checkpoints.waits s number))
-
-  ack_so : (s : Serving) (ack : CkptAck) → AllSay A (checkpoints.on_ckpt_ack s ack).outs
-  unfolding checkpoints.on_ckpt_ack
-  ack_so s ack =
-      let r = writer.transition s.writer (input.Ack ack.epoch s.dones) in
-      by_test (λ (d : Done). AllSay A d.outs) (checkpoints.awaits s.checkpoint ack.ask) (checkpoints.answered_by s r) (still s)
-      (λ t. by_test (λ (d : Done). AllSay A d.outs) (length r.outs == 0) (still (record s { writer = r.state }))
-      (checkpoints.next_slot (record s { writer = r.state; checkpoint = fold checkpoints.counted s.checkpoint r.outs }))
-      (λ u. tt)
-      (λ u. next_so (record s { writer = r.state; checkpoint = fold checkpoints.counted s.checkpoint r.outs })))
-      (λ t. tt)
-
-  again_so : (job : Option Checkpointing) → AllSay A (checkpoints.told_again job)
-  again_so None = tt
-  again_so (Some job) = by job.done
-    where
-      by : (o : Option CkptDone) → AllSay A (checkpoints.done_again o)
-      by None = tt
-      by (Some done) = (tt, tt)
-
-  -- ---- the maps
-
-  hears_with_so : (s : Serving) (clients : ℕ) (slots : List SlotNews) (groups : Option GroupMapState)
-      → AllSay A (serving.hears_with s clients slots groups).outs
-  hears_with_so s clients slots None = tt
-  hears_with_so s clients slots (Some groups) = hears_say A (serving.hearer_of s clients groups) (serving.asker_of s) slots
-
-  hears_slots_so : (s : Serving) (clients : ℕ) (slots : List SlotNews) → AllSay A (serving.hears_slots s clients slots).outs
-  unfolding serving.hears_slots
-  hears_slots_so s clients slots = hears_with_so s clients slots s.maps.groups
-
-  regroups_so : (s : Serving) (groups : GroupMapState) → AllSay A (serving.regroups s groups).outs
-  unfolding serving.regroups
-  regroups_so s groups = regroups_say A groups (serving.asker_of s)
-
-  newer_so : (s : Serving) (clients : ℕ) (news : News) → AllSay A (serving.on_newer s clients news).outs
-  unfolding serving.on_newer
-  newer_so s clients news =
-      let a : Done = serving.regroups s news.groups in
-      let b : Done = serving.and_then a (λ t. serving.hears_slots t clients news.slots) in
-      says_after b.outs (checkpoints.writes b.state (log_in.Maps news.groups))
-      (says_after a.outs (serving.hears_slots a.state clients news.slots) (regroups_so s news.groups) (hears_slots_so a.state clients news.slots))
-      (writes_so b.state (log_in.Maps news.groups))
-
-  news_so : (s : Serving) (clients : ℕ) (news : News) → AllSay A (serving.on_news s clients news).outs
-  unfolding serving.on_news
-  news_so s clients news =
-      by_test (λ (d : Done). AllSay A d.outs) (is_older s.maps news) (serving.on_newer (record s { maps = taken s.maps news }) clients news)
-      (serving.hears_slots s clients news.slots)
-      (λ t. newer_so (record s { maps = taken s.maps news }) clients news) (λ t. hears_slots_so s clients news.slots)
-
-  fitting_so : (s : Serving) (clients : ℕ) (news : News) → AllSay A (serving.on_fitting_news s clients news).outs
-  fitting_so s clients news =
-      by_test (λ (d : Done). AllSay A d.outs) (fits s.maps news) (serving.on_news s clients news) (still s) (λ t. news_so s clients news) (λ t. tt)
-
-  welcome_so : (s : Serving) (clients : ℕ) (m : Welcome) → AllSay A (serving.on_welcome s clients m).outs
-  welcome_so s clients m =
-      by_test (λ (d : Done). AllSay A d.outs) (m.inc == s.lasting.inc) (serving.on_fitting_news s clients m.news) (still s) (λ t. fitting_so s clients m.news)
-      (λ t. tt)
-
-  -- ---- packets
-
-  want_so : (s : Serving) (client : Option ℕ) (m : _) → AllSay A (serving.on_want s client m).outs
+  want_so : (s : Serving) (client : Option ℕ) (m : _) → AllSay (IfLive A) (serving.on_want s client m).outs
   unfolding serving.on_want
   want_so s None m = tt
   want_so s (Some client) m = wants_say A s.slots client m
 
-  gave_so : (s : Serving) (client : Option ℕ) (m : _) → AllSay A (serving.on_gave s client m).outs
+  gave_so : (s : Serving) (client : Option ℕ) (m : _) → AllSay (IfLive A) (serving.on_gave s client m).outs
   unfolding serving.on_gave
   gave_so s None m = tt
   gave_so s (Some client) m = gaves_say A s.slots client m
 
-  deltas_so : (s : Serving) (log : Option LogId) (m : _) → AllSay A (serving.on_deltas s log m).outs
+  deltas_so : (s : Serving) (log : Option LogId) (m : _) → AllSay (IfLive A) (serving.on_deltas s log m).outs
   unfolding serving.on_deltas
   deltas_so s None m = tt
   deltas_so s (Some log) m = deltas_say A s.slots log m
 
-  answered_so : (s : Serving) (which : Option (ℕ × ℕ)) (given : ℕ → _) → AllSay A (serving.answered_by s which given).outs
-  unfolding serving.takes
-  answered_so s None given = tt
-  answered_so s (Some which) given = takes_say A (serving.asker_of s) which.0 (given which.1)
+  own_so : (s : Serving) (clients : ℕ) (from : NodeId) (m : Body) → ((l : Live) → AnswersBody m l → A l) → AsksIndex m
+      → AllSay (IfLive A) (serving.on_body s clients from m).outs
+  unfolding serving.on_check
+  own_so s clients from (body.Want m) may asks = want_so s (serving.client_in from) m
+  own_so s clients from (body.Gave m) may asks = gave_so s (serving.client_in from) m
+  own_so s clients from (body.Deltas m) may asks = deltas_so s (serving.fed_log from) m
+  own_so s clients from (body.Check m) may asks = checks_say A s.slots m may
+  own_so s clients from _ may asks = absurd asks
 
-  found_so : (s : Serving) (server : Option ℕ) (m : _) → AllSay A (serving.on_found s server m).outs
-  unfolding serving.on_found
-  found_so s None m = tt
-  found_so s (Some server) m = answered_so s (serving.fetch_of s m.ask) _
-
-  missing_so : (s : Serving) (server : Option ℕ) (m : _) → AllSay A (serving.on_missing s server m).outs
-  unfolding serving.on_missing
-  missing_so s None m = tt
-  missing_so s (Some server) m = answered_so s (serving.fetch_of s m.ask) _
-
-  body_so : (s : Serving) (clients : ℕ) (from : NodeId) (m : Body) → ((l : Live) → AnswersBody m l → A l) → AllSay A (serving.on_body s clients from m).outs
-  unfolding serving.on_check serving.on_usage_ask serving.on_report
-  body_so s clients from (body.MapNews m) may = fitting_so s clients m
-  body_so s clients from (body.Welcome m) may = welcome_so s clients m
-  body_so s clients from (body.Want m) may = want_so s (serving.client_in from) m
-  body_so s clients from (body.Gave m) may = gave_so s (serving.client_in from) m
-  body_so s clients from (body.Deltas m) may = deltas_so s (serving.fed_log from) m
-  body_so s clients from (body.Check m) may = checks_say A s.slots m may
-  body_so s clients from (body.UsageAsk m) may = usages_say A s.slots m
-  body_so s clients from (body.Report m) may = reports_say A (serving.asker_of s) from m
-  body_so s clients from (body.Fragment m) may = found_so s _ m
-  body_so s clients from (body.Missing m) may = missing_so s _ m
-  body_so s clients from (body.Stored m) may = writes_so s (log_in.Acked m.name m.index m.generation)
-  body_so s clients from (body.CkptAck m) may = ack_so s m
-  body_so s clients from _ may = tt
-
-  hears_so : (s : Serving) (clients : ℕ) (packet : Packet) → ((l : Live) → AnswersBody packet.body l → A l) → AllSay A (serving.hears s clients packet).outs
+  hears_so : (s : Serving) (clients : ℕ) (packet : Packet) → ((l : Live) → AnswersBody packet.body l → A l)
+      → AllSay (IfLive A) (serving.hears s clients packet).outs
   unfolding serving.hears serving.asks_for_maps
   hears_so s clients packet may =
-      by_test (λ (d : Done). AllSay A d.outs) (names_known s.maps packet.body) (serving.on_body s clients packet.from packet.body) _
-      (λ t. body_so s clients packet.from packet.body may) (λ t. (tt, tt))
+      by_test (λ (d : Done). AllSay (IfLive A) d.outs) (names_known s.maps packet.body) (serving.on_body s clients packet.from packet.body) _
+      (λ t. body_so (IfLive A) silent s clients packet.from packet.body (own_so s clients packet.from packet.body may)) (λ t. (tt, tt))
 
-  tick_so : (s : Serving) → AllSay A (serving.on_tick s).outs
-  unfolding serving.on_tick serving.recalls_again serving.asks_again checkpoints.tells_again
-  tick_so s =
-      let a : Done = serving.recalls_again s in
-      let b : Done = serving.and_then a (λ t. serving.asks_again t true) in
-      let c : Done = serving.and_then b (λ t. serving.asks_again t false) in
-      let d : Done = serving.and_then c (λ t. checkpoints.writes t log_in.Tick) in
-      says_after d.outs (checkpoints.tells_again d.state)
-      (says_after c.outs (checkpoints.writes c.state log_in.Tick)
-      (says_after b.outs (serving.asks_again b.state false)
-      (says_after a.outs (serving.asks_again a.state true) (recalls_say A s.slots) (asks_say A true (serving.asker_of a.state)))
-      (asks_say A false (serving.asker_of b.state)))
-      (writes_so c.state log_in.Tick))
-      (again_so d.state.checkpoint)
-
-  -- ---- phases
-
-  crash_so : (kept : Kept) (number : ℕ) → AllSay A (phases.crashes kept number).outs
-  unfolding phases.crashes
-  crash_so kept number = all_append (Says A) _ _ (answers_say A kept.items.unanswered answer.Cut) (tt, tt)
-
-  restart_so : (kept : Kept) (number : ℕ) → AllSay A (phases.restarts kept number).outs
-  unfolding phases.restarts
-  restart_so kept number = (tt, (tt, tt))
-
-  down_so : (kept : Kept) (number : ℕ) (asked : Option Work) → AllSay A (phases.down_wish kept number (phases.wish_at asked)).outs
-  down_so kept number (Some (work.Restart node)) = restart_so kept number
-  down_so kept number (Some (work.Crash node)) = (tt, tt)
-  down_so kept number (Some _) = (tt, tt)
-  down_so kept number None = (tt, tt)
-
-  waiting_so : (kept : Kept) (hello number : ℕ) (asked : Option Work) → AllSay A (phases.waiting_wish kept hello number (phases.wish_at asked)).outs
-  waiting_so kept hello number (Some (work.Crash node)) = crash_so kept number
-  waiting_so kept hello number (Some (work.Restart node)) = (tt, tt)
-  waiting_so kept hello number (Some _) = (tt, tt)
-  waiting_so kept hello number None = (tt, tt)
-
-  serving_so : (s : Serving) (number : ℕ) (asked : Option Work) → AllSay A (phases.serving_wish s number (phases.wish_at asked)).outs
-  serving_so s number (Some (work.Crash node)) = crash_so s.lasting number
-  serving_so s number (Some (work.Restart node)) = (tt, tt)
-  serving_so s number (Some _) = checkpoint_so s number
-  serving_so s number None = checkpoint_so s number
-
-  begins_so : (p : Phase) → AllSay A (phases.on_begin p).outs
-  unfolding phases.begin_down phases.begin_waiting phases.begin_serving
-  begins_so (Down kept) = by (next_item kept.items)
-    where
-      by : (o : Option ℕ) → AllSay A (phases.down_item (phases.with_begun kept) o).outs
-      by None = tt
-      by (Some number) = down_so (phases.with_begun kept) number (work_at (phases.with_begun kept).items number)
-  begins_so (Waiting kept hello) = by (next_item kept.items)
-    where
-      by : (o : Option ℕ) → AllSay A (phases.waiting_item (phases.with_begun kept) hello o).outs
-      by None = tt
-      by (Some number) = waiting_so (phases.with_begun kept) hello number (work_at (phases.with_begun kept).items number)
-  begins_so (Serves s) = by (next_item s.lasting.items)
-    where
-      t : Serving
-      t = record s { lasting = phases.with_begun s.lasting }
-
-      by : (o : Option ℕ) → AllSay A (phases.serving_item t o).outs
-      by None = tt
-      by (Some number) = serving_so t number (work_at t.lasting.items number)
-
-  -- ---- events
-
-  welcomed_so : (peers : _) (kept : Kept) (hello : ℕ) (m : Welcome) → AllSay A (events.on_welcome peers kept hello m).outs
-  unfolding events.on_welcome
-  welcomed_so peers kept hello m =
-      let s : Serving = serving.again kept (forgotten peers.servers) m.news.groups in
-      by_test (λ (w : Went_to). AllSay A w.outs) (events.takes_welcome peers kept hello m) (serves (serving.on_news s peers.clients m.news))
-      (still (Waiting kept hello))
-      (λ t. news_so s peers.clients m.news)
-      (λ t. tt)
-
-  waits_so : (peers : _) (kept : Kept) (hello : ℕ) (m : Body) → AllSay A (events.on_waiting peers kept hello m).outs
-  waits_so peers kept hello (body.Welcome m) = welcomed_so peers kept hello m
-  waits_so peers kept hello _ = tt
-
-  packet_so : (peers : _) (p : Phase) (packet : Packet) → ((l : Live) → AnswersBody packet.body l → A l) → AllSay A (events.on_packet peers p packet).outs
+  packet_so : (peers : _) (p : Phase) (packet : Packet) → ((l : Live) → AnswersBody packet.body l → A l) → AllSay (IfLive A) (events.on_packet peers p packet).outs
   packet_so peers (Down kept) packet may = tt
-  packet_so peers (Waiting kept hello) packet may = waits_so peers kept hello packet.body
+  packet_so peers (Waiting kept hello) packet may = waits_so (IfLive A) silent peers kept hello packet.body
   packet_so peers (Serves s) packet may = hears_so s peers.clients packet may
 
-  time_so : (p : Phase) → AllSay A (events.on_time p).outs
-  unfolding events.on_time
-  time_so (Down kept) = tt
-  time_so (Waiting kept ask) = (tt, tt)
-  time_so (Serves s) = tick_so s
-
-  event_so : (peers : _) (p : Phase) (what : Do) → ((l : Live) → AnswersDo what l → A l) → AllSay A (events.on_event peers p what).outs
+  event_so : (peers : _) (p : Phase) (what : Do) → ((l : Live) → AnswersDo what l → A l) → AllSay (IfLive A) (events.on_event peers p what).outs
   unfolding events.on_deliver
-  event_so peers p Begin may = begins_so p
+  event_so peers p Begin may = begins_so (IfLive A) silent p
   event_so peers p (Deliver packet) may =
-      by_test (λ (w : Went_to). AllSay A w.outs) (is_well_formed peers packet) (events.on_packet peers p packet) (still p) (λ t. packet_so peers p packet may)
-      (λ t. tt)
-  event_so peers p Tick may = time_so p
+      by_test (λ (w : Went_to). AllSay (IfLive A) w.outs) (is_well_formed peers packet) (events.on_packet peers p packet) (still p)
+      (λ t. packet_so peers p packet may) (λ t. tt)
+  event_so peers p Tick may = time_so (IfLive A) silent p
 
-  happens_so : (m : ManagerNode) (what : Do) → ((l : Live) → AnswersDo what l → A l) → AllSay A (events.happens m what).outs
+  happens_so : (m : ManagerNode) (what : Do) → ((l : Live) → AnswersDo what l → A l) → AllSay (IfLive A) (events.happens m what).outs
   unfolding events.happens
   happens_so m what may =
-      by_test (λ (w : Went_to). AllSay A w.outs) (phases.phase_has_room m.phase) (events.on_event m.peers m.phase what) (still m.phase)
+      by_test (λ (w : Went_to). AllSay (IfLive A) w.outs) (phases.phase_has_room m.phase) (events.on_event m.peers m.phase what) (still m.phase)
       (λ t. event_so m.peers m.phase what may)
       (λ t. tt)
 
-  -- ---- the packets that are sent
-
-  packet_live : (node : NodeId) (e : Effect) → Says A e → AllByRecursion (λ (p : Packet). IfLive A p.body) (packet_of node e)
-  packet_live node (Send to said) h = (h, tt)
-  packet_live node (Answer item answer) h = tt
-  packet_live node (Lose seg) h = tt
-  packet_live node (Does act) h = tt
-
-  packets_live : (node : NodeId) (es : List Effect) → AllSay A es → AllByRecursion (λ (p : Packet). IfLive A p.body) (packets_of node es)
-  packets_live node [] all = tt
-  packets_live node (e ∷ es) all =
-      all_append (λ (p : Packet). IfLive A p.body) (packet_of node e) (packets_of node es) (packet_live node e all.0) (packets_live node es all.1)
-
 pub managers_answer : ManagersAnswer
 managers_answer m what =
-    packets_live (AnswersDo what) (Manager (phases.lasting_of m.phase).number) (events.happens m what).outs (happens_so (AnswersDo what) m what (λ l h. h))
+    packets_say (IfLive (AnswersDo what)) (Manager (phases.lasting_of m.phase).number) (events.happens m what).outs
+    (happens_so (AnswersDo what) m what (λ l h. h))
