@@ -70,11 +70,17 @@ module _ (below : Below) where
       (below.logs.lines_have_texts below.lines.telling_setting.0 e setup lines) count none
 
   pub every_runs_indexes_are_its_own : EveryRunsIndexesAreItsOwn
-  every_runs_indexes_are_its_own e setup run count none part of_eight =
-      let lines = below.logs.runs_have_lines below.lines.telling_setting.0 e setup run in
-      let texts = below.logs.lines_have_texts below.lines.telling_setting.0 e setup lines in
-      let k = kept below.lines.telling_setting.0 below.lines.telling_setting.1 e setup run lines texts count none part of_eight in
-      record { filed = k.filed; own = k.own; keeps = k.keeps }
+  every_runs_indexes_are_its_own e setup run =
+      let base = below.lines.telling_setting.0 in
+      let apart = below.lines.telling_setting.1 in
+      let lines = below.logs.runs_have_lines base e setup run in
+      let texts = below.logs.lines_have_texts base e setup lines in
+      record {
+        text = texts.text;
+        each = λ count none part of_eight.
+            let k = kept base apart e setup run lines texts count none part of_eight in
+            record { filed = k.filed; own = k.own; named = k.named; keeps = k.keeps };
+      }
 
 -- where the script has no server lose its disk, up to each moment
 pub every_run_without_losses_is_legal : EveryRunsActsAreLegal → ScriptsWithoutLossesAreUndoubted → EveryRunWithoutLossesIsLegal

@@ -10,12 +10,14 @@ use Rattle.node_base.specs.Setups.{IsSetup}
 use Rattle.node_slots.specs.node_index_tie.Sight.{AreTexts, Texts}
 use Rattle.run_laws.specs.reopening_law.Reopens.{TellsApart}
 use Rattle.run_laws.specs.restart_law.Restarts.{NoDoubtfulRestart}
+use Rattle.segment_format.specs.declared.segment.Segment.{Segment}
 use Rattle.world_base.specs.declared.estate.Estate.{Estate}
 use Rattle.world_base.specs.Runs.{IsRun}
 use Rattle.run_laws.specs.world_index.Laws.{KeepsBy}
 use Rattle.run_laws.specs.world_law.Owners.{moment}
 use Rattle.run_laws.specs.world_logs.Lines.{HasLines, Texts as RunTexts}
 use Rattle.run_laws.specs.world_reads.OwnTable.{IsOwnTable}
+use Rattle.xfs_base.specs.declared.segment.SegName.{SegName}
 
 -- It is so by the run's own table of what logs filed, of texts of their names.
 pub record KeepsItsIndexes (e : Estate AnyNode) (count part : ℕ) (texts : Texts) : Type 0 where
@@ -31,14 +33,17 @@ EveryRunKeepsItsIndexes =
     → (lines : HasLines base e) (texts : RunTexts base e lines) (count : ℕ) → NoDoubtfulRestart e count
     → (part : ℕ) → part < 8 → KeepsItsIndexes e count part texts.text
 
--- So it is in every run, at each moment up to which no restart was doubtful, with nothing given: by a table that is the run's own.
-pub record IndexIsItsOwn (e : Estate AnyNode) (count part : ℕ) : Type 0 where
+-- So it is in every run, with nothing given: by the run's own table at each moment up to which no restart was doubtful. What is filed under a name is one
+-- segment throughout the run, so that none that was filed ever changes.
+pub record IndexIsItsOwn (e : Estate AnyNode) (text : SegName → Segment) (count part : ℕ) : Type 0 where
   pub filed : Filed
   pub own : IsOwnTable e count filed
+  pub named : AreTexts text filed
   pub keeps : KeepsBy (moment e count) part filed
 
-abbrev pub IndexesAreItsOwn : Estate AnyNode → Type 0
-IndexesAreItsOwn e = (count : ℕ) → NoDoubtfulRestart e count → (part : ℕ) → part < 8 → IndexIsItsOwn e count part
+pub record IndexesAreItsOwn (e : Estate AnyNode) : Type 0 where
+  pub text : SegName → Segment
+  pub each : (count : ℕ) → NoDoubtfulRestart e count → (part : ℕ) → part < 8 → IndexIsItsOwn e text count part
 
 abbrev pub EveryRunsIndexesAreItsOwn : Type 0
 EveryRunsIndexesAreItsOwn = (e : Estate AnyNode) → IsSetup e.script.setup → IsRun any_step any_start e.script e.events e.world → IndexesAreItsOwn e
