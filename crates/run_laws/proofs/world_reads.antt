@@ -83,4 +83,5 @@ pub mod WholeLaws
 pub mod OwnActs
 pub mod OwnTable
 pub mod LegalJoints
+pub mod Holders
 pub mod LegalRuns

@@ -7,3 +7,4 @@ pub mod Moments
 pub mod OwnTable
 pub mod Indexes
 pub mod Legal
+pub mod Holders

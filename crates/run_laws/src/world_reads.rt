@@ -4,6 +4,7 @@
 //! says how a moment of the run stands to all of them.
 
 ghost use Rattle.run_laws.specs.world_reads.Below.{IndexBelow, LinesBelow, LogsBelow, ReadsBelow, TokensBelow};
+ghost use Rattle.run_laws.specs.world_reads.Holders.{EveryRunsHoldersAreNewest};
 ghost use Rattle.run_laws.specs.world_reads.Indexes.{EveryRunKeepsItsIndexes, EveryRunsIndexesAreItsOwn};
 ghost use Rattle.run_laws.specs.world_reads.Legal.{EveryRunWithoutLossesIsLegal, EveryRunsActsAreLegal};
 ghost use Rattle.run_laws.specs.world_reads.Moments.{EveryMomentStands};
@@ -147,6 +148,7 @@ fn lines_below()
 ///   table of what logs filed: of logs 1 to 9 just the segments that were acted to be filed, as they were stored, one of each number.
 ///   What the slot's present manager has applied is at least what the checkpoint covers that the registry keeps.
 /// - `own`: so it is with nothing given, by the run's own table at each such moment.
+/// - `holders`: up to there what a client holds of a block is its newest version, with that version's value.
 /// - `moments`: what all of it stands on: each such moment stands to the small worlds of tokens, of each slot's index
 ///   and of all logs, and comes of the start by moments that stand so, each of which follows the one before it.
 pub fn every_runs_acts_are_legal()
@@ -154,6 +156,7 @@ pub fn every_runs_acts_are_legal()
     ensures unlost { EveryRunWithoutLossesIsLegal }
     ensures indexes { EveryRunKeepsItsIndexes }
     ensures own { EveryRunsIndexesAreItsOwn }
+    ensures holders { EveryRunsHoldersAreNewest }
     ensures moments { EveryMomentStands }
 {
     tokens_below();

@@ -1,8 +1,8 @@
 -- What is claimed of the run that a call of the program played: the headline, in one record, of a run in whatever order its items begin; in which order one
 -- thread begins them the claim of the call says (`run`). Two premises stand before all of it: the registry does not fail, no line of a script stops it; and
--- want of memory ends the call, and then there is no run. What is said of versions (`legal_acts`), of indexes (`indexes`), of what clients that serve lose, and
--- that what takeovers lose had been filed (both in `losses_earned`), ends with the first restart that is doubtful; nothing else does. A script without a line
--- by which a server loses its disk has no such restart (`undoubted`).
+-- want of memory ends the call, and then there is no run. What is said of versions (`legal_acts`, `holders_newest`), of indexes (`indexes`), of what clients
+-- that serve lose, and that what takeovers lose had been filed (both in `losses_earned`), ends with the first restart that is doubtful; nothing else does. A
+-- script without a line by which a server loses its disk has no such restart (`undoubted`).
 use Rattle.core_world.specs.AnyNode.{any_start, any_step}
 use Rattle.core_world.specs.declared.any_node.AnyNode.{AnyNode}
 use Rattle.run_losses.specs.answer_law.Runs.{LostAnswersEarned}
@@ -14,6 +14,7 @@ use Rattle.run_laws.specs.world_law.Managers.{OneManagerThroughout}
 use Rattle.run_laws.specs.world_law.Owners.{OneOwnerThroughout}
 use Rattle.run_laws.specs.world_logs.Horizons.{HorizonsReached}
 use Rattle.run_laws.specs.world_logs.Logs.{CleanersLogStands, LogsStand, ManagersLogsStand}
+use Rattle.run_laws.specs.world_reads.Holders.{HoldersAreNewestThroughout}
 use Rattle.run_laws.specs.world_reads.Indexes.{IndexesAreItsOwn}
 use Rattle.run_laws.specs.world_reads.Legal.{LegalActs, LegalWithoutLosses}
 use Rattle.std.specs.Prelude.{ℕ}
@@ -38,6 +39,8 @@ pub record Headline (e : Estate AnyNode) : Type 0 where
   pub whole : IsWholeRun any_step any_start e
   -- at no moment has a block two owners, nor another holder beside an owner
   pub one_owner : OneOwnerThroughout e
+  -- and who holds one has its newest version, with its value: up to the first doubtful restart
+  pub holders_newest : HoldersAreNewestThroughout e
   -- nor has a slot two managers at one epoch
   pub one_manager : OneManagerThroughout e
   -- nobody holds what a client fell with until it is back, and no client falls again before

@@ -23,7 +23,7 @@ use Rattle.xfs_base.proofs.Booleans.{equal_itself}
 module _ (law : ActsAreLegal) (blocks : BlocksMakeLegal) (base : Setting) (e : Estate AnyNode) (lines : HasLines base e) (texts : Texts base e lines)
     (first : ℕ → ℕ → Segment) (count : ℕ) (apart : FallsApart (moment e count).acts)
     (joints : (part : ℕ) → part < 8 → Joint base e lines texts part first count) where
-  of_block : (b : BlockId) → LegalActs (acts_of b (moment e count).acts)
+  pub of_block : (b : BlockId) → LegalActs (acts_of b (moment e count).acts)
   of_block b =
       subst (λ acts. LegalActs (acts_of b acts)) joint.tokens_stand.acts
       (law (members (k base e lines texts part first) part) part (with_promise 1 joint.tok.net) b

@@ -15,12 +15,14 @@ use Rattle.world_base.specs.Runs.{IsRun}
 use Rattle.run_laws.proofs.world_index.Laws.{keeps}
 use Rattle.run_laws.specs.world_law.Owners.{moment}
 use Rattle.run_laws.specs.world_logs.Lines.{HasLines, Texts}
+use Rattle.run_laws.proofs.world_reads.Holders.{holders_are_newest}
 use Rattle.run_laws.proofs.world_reads.LegalJoints.{acts_are_legal}
 use Rattle.run_laws.proofs.world_reads.OwnTable.{is_own_table}
 use Rattle.run_laws.proofs.world_reads.TurnRun.{moment_cluster}
 use Rattle.run_laws.proofs.world_reads.TurnWhole.{whole_at}
 use Rattle.run_laws.proofs.world_reads.WholeLaws.{index_nodes, token_nodes, whole_below}
 use Rattle.run_laws.specs.world_reads.Below.{Below}
+use Rattle.run_laws.specs.world_reads.Holders.{EveryRunsHoldersAreNewest}
 use Rattle.run_laws.specs.world_reads.Indexes.{EveryRunKeepsItsIndexes, EveryRunsIndexesAreItsOwn, KeepsItsIndexes}
 use Rattle.run_laws.specs.world_reads.Joint.{IsSureUpto, Joint}
 use Rattle.run_laws.specs.world_reads.Legal.{EveryRunWithoutLossesIsLegal, EveryRunsActsAreLegal}
@@ -68,6 +70,15 @@ module _ (below : Below) where
       let lines = below.logs.runs_have_lines below.lines.telling_setting.0 e setup run in
       legal below.lines.telling_setting.0 below.lines.telling_setting.1 e setup run lines
       (below.logs.lines_have_texts below.lines.telling_setting.0 e setup lines) count none
+
+  pub every_runs_holders_are_newest : EveryRunsHoldersAreNewest
+  every_runs_holders_are_newest e setup run count none =
+      let base = below.lines.telling_setting.0 in
+      let apart = below.lines.telling_setting.1 in
+      let lines = below.logs.runs_have_lines base e setup run in
+      let texts = below.logs.lines_have_texts base e setup lines in
+      holders_are_newest below.tokens.acts_are_legal below.tokens.blocks_make_legal (token_nodes below) base e lines texts (first_of base e lines texts) count
+      (below.tokens.every_run_has_falls_apart e setup run count) (stands base apart e setup run lines texts count none).joints
 
   pub every_runs_indexes_are_its_own : EveryRunsIndexesAreItsOwn
   every_runs_indexes_are_its_own e setup run =

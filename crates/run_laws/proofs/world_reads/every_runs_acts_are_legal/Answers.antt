@@ -1,4 +1,4 @@
-use Rattle.run_laws.proofs.world_reads.LegalRuns.{every_moment_stands, every_run_keeps_its_indexes, every_run_without_losses_is_legal, every_runs_acts_are_legal, every_runs_indexes_are_its_own}
+use Rattle.run_laws.proofs.world_reads.LegalRuns.{every_moment_stands, every_run_keeps_its_indexes, every_run_without_losses_is_legal, every_runs_acts_are_legal, every_runs_holders_are_newest, every_runs_indexes_are_its_own}
 use Rattle.run_laws.proofs.world_reads.every_runs_acts_are_legal.Goals as goal
 use Rattle.run_laws.specs.world_reads.Below.{Below}
 use Rattle.run_laws.specs.world_reads.Legal.{EveryRunsActsAreLegal}
@@ -18,5 +18,6 @@ returns c =
       unlost = every_run_without_losses_is_legal legal c.without_losses_no_restart_is_doubtful.ensures.scripts;
       indexes = every_run_keeps_its_indexes below;
       own = every_runs_indexes_are_its_own below;
+      holders = every_runs_holders_are_newest below;
       moments = every_moment_stands below;
     }

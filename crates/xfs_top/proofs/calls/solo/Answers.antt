@@ -19,6 +19,7 @@ returns-clause-headline g c = played_has Headline law c.answer.result.estate c.a
     law e p = record {
       whole = p.whole;
       one_owner = c.every_run_has_one_owner.ensures.one_owner e p.whole.setup p.whole.one_run;
+      holders_newest = c.every_runs_acts_are_legal.ensures.holders e p.whole.setup p.whole.one_run;
       one_manager = c.every_run_has_one_manager.ensures.one_manager e p.whole.setup p.whole.one_run;
       nobody_holds = c.what_fell_is_held_by_nobody.ensures.nobody e p.whole.setup p.whole.one_run;
       falls_apart = c.what_fell_is_held_by_nobody.ensures.apart e p.whole.setup p.whole.one_run;
