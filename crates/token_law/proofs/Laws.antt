@@ -46,7 +46,7 @@ holds_none Copy h = absurd (omega arith)
 holds_none Own h = absurd (omega arith)
 
 module _ (logs : Bool) (members part : ℕ) (n : Net) (b : BlockId) (m : Moment logs members part n b) where
-  seen : (c : ℕ) → IsClient members c → View logs members part b n
+  pub seen : (c : ℕ) → IsClient members c → View logs members part b n
   seen c fact = (always logs members part n (let w = fact.within in omega arith) m.run).good.views b m.inside
 
   is_owned : (v : View logs members part b n) → Owned v.world

@@ -15,4 +15,5 @@ pub mod SlotEvents
 pub mod Events
 pub mod Start
 pub mod Laws
+pub mod Leading
 pub mod ExampleRun

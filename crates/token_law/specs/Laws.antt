@@ -1,5 +1,5 @@
 -- What holds of the small world in every run, whichever managers follow each other: each law speaks of a block of the slot and of the clients' tokens.
-use Rattle.std.specs.Prelude.{◌≡◌, ℕ, suc, ◌<◌, ◌≤◌, Bool, true, false, Some}
+use Rattle.std.specs.Prelude.{◌≡◌, ℕ, suc, ◌<◌, ◌≤◌, Bool, true, false, List, Some, length, slice_get}
 use Rattle.xfs_base.specs.declared.block.BlockId.{BlockId}
 use Rattle.xfs_base.specs.declared.entry.Entry.{Entry}
 use Rattle.xfs_base.specs.declared.token.Mode.{Mode}
@@ -15,6 +15,9 @@ use Rattle.token_tie.specs.Seen.{mode_number}
 use Rattle.act_tie.specs.BlockActs.{acts_of}
 use Rattle.act_tie.specs.Shown.{FallsApart}
 use Rattle.token_protocol.specs.Acts.{LegalActs}
+use Rattle.version_model.specs.declared.history.Version.{Version}
+use Rattle.version_model.specs.Effects.{history_after}
+use Rattle.version_model.specs.History.{nothing_yet}
 use Rattle.token_law.specs.Books.{said}
 use Rattle.token_law.specs.Net.{Net, Runs, opening}
 use Rattle.token_law.specs.Net.Packet.{GrantSent}
@@ -94,3 +97,27 @@ GrantsAreOfTheNewest =
     (members part : ℕ) (n : Net) (b : BlockId) → Moment true members part n b → (c : ℕ) → IsClient members c → n.up c ≡ true
     → (stamp : Stamp) (inc req : ℕ) (mode : Mode) (entry : Entry) → In (GrantSent c b stamp inc req mode entry) n.sent
     → accepts (n.tokens c) b stamp inc req mode ≡ true → (l q : ℕ) → q ≤ n.books.end l → (said n.books l q b).version ≤ entry.ver
+
+-- the versions of a block that the acts made
+abbrev pub versions_of : Net → BlockId → List Version
+versions_of n b = ((history_after n.acts nothing_yet).of_block b).versions
+
+-- No version of the block that a log has filed is above this one; and where it is above 0, a log has filed it.
+pub record IsGreatestFiled (n : Net) (b : BlockId) (version : ℕ) : Type 0 where
+  pub upper : (l q : ℕ) → q ≤ n.books.end l → (said n.books l q b).version ≤ version
+  pub log : ℕ
+  pub seq : ℕ
+  pub filed : 0 < version → seq ≤ n.books.end log
+  pub attained : 0 < version → (said n.books log seq b).version ≡ version
+
+-- of a block that a client has dirty the greatest filed version is the one that the client knows as settled, its own is the newest, and all between are its
+pub record Leads (n : Net) (b : BlockId) (c : ℕ) : Type 0 where
+  pub settled : IsGreatestFiled n b (held_of (n.tokens c).blocks b).settled
+  pub newest : (held_of (n.tokens c).blocks b).ver ≡ length (versions_of n b)
+  pub own : (place : ℕ) (v : Version) → slice_get (versions_of n b) place ≡ Some v → (held_of (n.tokens c).blocks b).settled ≤ place → v.writer ≡ c
+
+-- Where logs keep their word: so it is of each block of the slot that a client has dirty.
+abbrev pub DirtyBlocksLead : Type 0
+DirtyBlocksLead =
+    (members part : ℕ) (n : Net) (b : BlockId) → Moment true members part n b → (c : ℕ) → IsClient members c → n.up c ≡ true
+    → is_dirty (held_of (n.tokens c).blocks b) ≡ true → Leads n b c

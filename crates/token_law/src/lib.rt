@@ -3,7 +3,7 @@
 #![tactic(auto)]
 
 ghost use Rattle.token_law.specs.Example.{IsShared};
-ghost use Rattle.token_law.specs.Laws.{OneOwner, ActiveEpochsPromised, HoldingsBelieved, GrantsBelieved, NobodyHoldsAfterFall, ActsAreLegal, FallsAreApart, FlightsAreNewer, GrantsAreOfTheNewest};
+ghost use Rattle.token_law.specs.Laws.{OneOwner, ActiveEpochsPromised, HoldingsBelieved, GrantsBelieved, NobodyHoldsAfterFall, ActsAreLegal, DirtyBlocksLead, FallsAreApart, FlightsAreNewer, GrantsAreOfTheNewest};
 
 /// The law of every run of the small world, however managers follow each other, clients fall and return, and packets come, whether or not logs keep their
 /// word (the 1996 paper, on cache consistency).
@@ -36,6 +36,14 @@ pub fn acts_are_legal()
 /// - `newer`: what a client has in flight of a block, or had when it fell, is above all that any log has filed of the block.
 pub fn flights_are_newer()
     ensures newer { FlightsAreNewer }
+{}
+
+/// The law of dirty blocks, where logs keep their word.
+///
+/// - `lead`: of a block that a client has dirty the greatest version that a log has filed is the one that the client knows as settled, its own is the newest,
+///   and every version between is the client's.
+pub fn dirty_blocks_lead()
+    ensures lead { DirtyBlocksLead }
 {}
 
 /// The law of Grants, where logs keep their word.

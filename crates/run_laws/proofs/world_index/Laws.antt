@@ -1,5 +1,5 @@
 -- Every run keeps the index of each slot: each event keeps a moment standing to the small world of it, in which indexes are joins and cleaning loses nothing.
-use Rattle.std.proofs.Common.{false, ◌≡◌, ℕ, zero, suc, ◌<◌, ◌≤◌, List, [], ◌∷◌, Option, None, Some, take, slice_get, refl, sym, ap, subst, ◌∙◌, arith}
+use Rattle.std.proofs.Common.{false, ◌≡◌, ℕ, zero, suc, ◌<◌, ◌≤◌, List, [], ◌∷◌, Option, None, Some, take, slice_get, refl, sym, ap, subst, ◌∙◌, mod-eq_of_lt}
 use Rattle.std.specs.List.{fold}
 use Rattle.core_world.specs.AnyNode.{any_start, any_step}
 use Rattle.core_world.specs.declared.any_node.AnyNode.{AnyNode}
@@ -46,14 +46,9 @@ use Rattle.run_laws.proofs.world_law.Turning.{next_cluster}
 use Rattle.run_laws.proofs.world_law.Turns.{delivered_fact, event_turns as token_turns}
 use Rattle.run_laws.specs.world_law.Managers.{active_in, active_of}
 use Rattle.run_laws.specs.world_law.Owners.{moment, node_in}
-use Rattle.xfs_base.specs.Blocks.{slot_of}
 use Rattle.xfs_base.specs.declared.block.BlockId.{BlockId}
 use Rattle.xfs_base.specs.declared.node.NodeId.TheVariants.{Cleaner, Manager, Registry}
 use Rattle.xfs_base.specs.declared.segment.SegName.{SegName}
-
--- a slot's number is that of its own slot
-slot_of_slot : (part : ℕ) → part < 8 → slot_of part ≡ part
-slot_of_slot part of_eight = omega arith
 
 is_registry : (a b : RegistryNode) → Some (any.Registry a) ≡ Some (any.Registry b) → a ≡ b
 is_registry a b same = ap (λ o. registry_in o a) same
@@ -161,7 +156,7 @@ module _ (laws : NodeLaws) (token_laws : tokens.NodeLaws) (k : Cluster) (part : 
     covered registry z refl there same l some limit =
         let agreed = st.registry in
         subst (λ h. of_log h l ≤ suc (applied_of z.applied l)) (ap s.net.horizon (same ∙ agreed.epoch) ∙ sym agreed.horizon)
-        (small_covers part (held_in part texts) s.net block z.epoch z (record { any = first; run = st.runs; inside = slot_of_slot part of_eight }) there l some
+        (small_covers part (held_in part texts) s.net block z.epoch z (record { any = first; run = st.runs; inside = mod-eq_of_lt of_eight }) there l some
         limit)
 
     pub keeps : KeepsBy w part s.net.filed
