@@ -84,4 +84,5 @@ pub mod OwnActs
 pub mod OwnTable
 pub mod LegalJoints
 pub mod Holders
+pub mod Dirty
 pub mod LegalRuns

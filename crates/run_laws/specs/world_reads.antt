@@ -5,6 +5,7 @@ pub mod Chains
 pub mod References
 pub mod Moments
 pub mod OwnTable
-pub mod Indexes
 pub mod Legal
 pub mod Holders
+pub mod Dirty
+pub mod Indexes

@@ -47,7 +47,7 @@ use node_tellings::entry_tie::{
     registry_tells_no_entries, servers_tell_no_entries,
 };
 use node_tellings::reading_tie::managers_read_what_came;
-use token_law::{acts_are_legal, tokens_keep_their_word};
+use token_law::{acts_are_legal, dirty_blocks_lead, tokens_keep_their_word};
 
 /// What nodes do is seen in the small world of tokens, and what stands of that.
 fn tokens_below()
@@ -59,6 +59,7 @@ fn tokens_below()
     manager_tokens_are_seen();
     tokens_keep_their_word();
     acts_are_legal();
+    dirty_blocks_lead();
     polls_are_low();
     slots_are_the_same();
     tokens_are_given();

@@ -58,7 +58,8 @@ pub record Headline (e : Estate AnyNode) : Type 0 where
   -- and throughout, where no line of the script has a server lose its disk
   pub legal_without_losses : LegalWithoutLosses e
   -- the index of each slot is the join of what its manager has applied of the segments that were filed, at least of what the kept checkpoint covers; these are
-  -- one line in each log, none ever changes, and the newest row of a block is in none that a server was told to delete: up to the first doubtful restart
+  -- one line in each log, none ever changes, and the newest row of a block is in none that a server was told to delete; and none is newer than what a client
+  -- that has the block dirty knows as settled, all versions above that being its own: up to the first doubtful restart
   pub indexes : IndexesAreItsOwn e
   -- only what is gone is refused as lost
   pub losses_earned : LossesEarned e

@@ -15,6 +15,7 @@ use Rattle.world_base.specs.Runs.{IsRun}
 use Rattle.run_laws.proofs.world_index.Laws.{keeps}
 use Rattle.run_laws.specs.world_law.Owners.{moment}
 use Rattle.run_laws.specs.world_logs.Lines.{HasLines, Texts}
+use Rattle.run_laws.proofs.world_reads.Dirty.{dirty_blocks_lead}
 use Rattle.run_laws.proofs.world_reads.Holders.{holders_are_newest}
 use Rattle.run_laws.proofs.world_reads.LegalJoints.{acts_are_legal}
 use Rattle.run_laws.proofs.world_reads.OwnTable.{is_own_table}
@@ -55,7 +56,10 @@ module _ (below : Below) where
               (token_nodes below) below.index.server_event_goes base e setup run lines texts part (first_of base e lines texts) count (sure part) joint;
           named = joint.index_stands.texts_of;
           keeps = keeps (index_nodes below) (token_nodes below) (cluster_of e.script.setup) part of_eight texts.text (first_of base e lines texts)
-              below.index.each_index_is_the_join below.index.managers_cover_their_horizon below.index.newest_is_never_deleted (moment e count) (moment_cluster e count) joint.idx joint.index_stands;
+              below.index.each_index_is_the_join below.index.managers_cover_their_horizon below.index.newest_is_never_deleted (moment e count)
+              (moment_cluster e count) joint.idx joint.index_stands;
+          leads = dirty_blocks_lead below.tokens.dirty_blocks_lead (token_nodes below) base e lines texts part of_eight (first_of base e lines texts) count
+              joint;
         }
 
   pub every_moment_stands : EveryMomentStands
@@ -90,7 +94,7 @@ module _ (below : Below) where
         text = texts.text;
         each = λ count none part of_eight.
             let k = kept base apart e setup run lines texts count none part of_eight in
-            record { filed = k.filed; own = k.own; named = k.named; keeps = k.keeps };
+            record { filed = k.filed; own = k.own; named = k.named; keeps = k.keeps; leads = k.leads };
       }
 
 -- where the script has no server lose its disk, up to each moment

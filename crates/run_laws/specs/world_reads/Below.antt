@@ -48,7 +48,7 @@ use Rattle.run_laws.specs.segment_law.Flown.{ClientsFlewOriginals}
 use Rattle.run_laws.specs.segment_tie.Runs.{RunsWriteCopies, RunsWriteOriginals}
 use Rattle.run_laws.specs.segment_tie.Segments.{AttemptsAreAlike, NothingIsAnyKind}
 use Rattle.run_laws.specs.segment_tie.Settings.{TellingSetting}
-use Rattle.token_law.specs.Laws.{ActiveEpochsPromised, ActsAreLegal}
+use Rattle.token_law.specs.Laws.{ActiveEpochsPromised, ActsAreLegal, DirtyBlocksLead}
 use Rattle.token_protocol.specs.Acts.{LegalActs}
 use Rattle.version_model.specs.Legal.{AreLegal}
 use Rattle.version_model.specs.declared.act.Act.{Act}
@@ -82,6 +82,7 @@ pub record TokensBelow : Type 0 where
   pub cleaner_starts : CleanerStarts
   pub active_epochs_promised : ActiveEpochsPromised
   pub acts_are_legal : ActsAreLegal
+  pub dirty_blocks_lead : DirtyBlocksLead
   pub horizons_stay : HorizonsStay
   pub slots_start_same : SlotsStartSame
   pub client_polls_are_low : ClientPollsAreLow

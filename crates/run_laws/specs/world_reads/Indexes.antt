@@ -16,6 +16,7 @@ use Rattle.world_base.specs.Runs.{IsRun}
 use Rattle.run_laws.specs.world_index.Laws.{KeepsBy}
 use Rattle.run_laws.specs.world_law.Owners.{moment}
 use Rattle.run_laws.specs.world_logs.Lines.{HasLines, Texts as RunTexts}
+use Rattle.run_laws.specs.world_reads.Dirty.{DirtyBlocksLead}
 use Rattle.run_laws.specs.world_reads.OwnTable.{IsOwnTable}
 use Rattle.xfs_base.specs.declared.segment.SegName.{SegName}
 
@@ -25,6 +26,8 @@ pub record KeepsItsIndexes (e : Estate AnyNode) (count part : ℕ) (texts : Text
   pub own : IsOwnTable e count filed
   pub named : AreTexts texts filed
   pub keeps : KeepsBy (moment e count) part filed
+  -- what a client has dirty leads it
+  pub leads : DirtyBlocksLead (moment e count) part filed
 
 -- So it is of each slot, for any lines of the run's logs and the one text that each name has there.
 abbrev pub EveryRunKeepsItsIndexes : Type 0
@@ -40,6 +43,8 @@ pub record IndexIsItsOwn (e : Estate AnyNode) (text : SegName → Segment) (coun
   pub own : IsOwnTable e count filed
   pub named : AreTexts text filed
   pub keeps : KeepsBy (moment e count) part filed
+  -- what a client has dirty leads it
+  pub leads : DirtyBlocksLead (moment e count) part filed
 
 pub record IndexesAreItsOwn (e : Estate AnyNode) : Type 0 where
   pub text : SegName → Segment

@@ -14,6 +14,7 @@ returns c = record {
   cleaner_starts = c.other_events_are_seen.ensures.cleaner_start;
   active_epochs_promised = c.tokens_keep_their_word.ensures.promised;
   acts_are_legal = c.acts_are_legal.ensures.legal;
+  dirty_blocks_lead = c.dirty_blocks_lead.ensures.lead;
   horizons_stay = c.polls_are_low.ensures.horizons;
   slots_start_same = c.slots_are_the_same.ensures.start;
   client_polls_are_low = c.polls_are_low.ensures.clients;
