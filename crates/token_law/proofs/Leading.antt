@@ -1,5 +1,5 @@
 -- Of a dirty block the settled version is the join, and all above it is its owner's: read off how the block is seen in the abstract token protocol.
-use Rattle.std.proofs.Common.{◌≡◌, ℕ, suc, ◌≤◌, ◌<◌, true, length, Some, slice_get, sym, ap, subst, ◌∙◌, arith}
+use Rattle.std.proofs.Common.{◌≡◌, ℕ, suc, ◌≤◌, true, length, Some, slice_get, sym, ap, subst, ◌∙◌, arith}
 use Rattle.std.proofs.lemmas.Bool.{ltb-true}
 use Rattle.std.proofs.lemmas.Option.{slice_get_within}
 use Rattle.act_tie.proofs.Legality.{are_shown}
@@ -27,19 +27,19 @@ use Rattle.xfs_base.specs.declared.block.BlockId.{BlockId}
 
 module _ (members part : ℕ) (n : Net) (b : BlockId) (m : Moment true members part n b) (c : ℕ) (fact : IsClient members c) (up : n.up c ≡ true)
     (dirty : is_dirty (held_of (n.tokens c).blocks b) ≡ true) where
-  v : View true members part b n
+  abbrev v : View true members part b n
   v = seen true members part n b m c fact
 
-  w : World
+  abbrev w : World
   w = v.world
 
   whole : Invariant w
   whole = invariant members w v.steps
 
-  settled : ℕ
+  abbrev settled : ℕ
   settled = (held_of (n.tokens c).blocks b).settled
 
-  version : ℕ
+  abbrev version : ℕ
   version = (held_of (n.tokens c).blocks b).ver
 
   is_settled : (w.client c).settled ≡ settled

@@ -32,7 +32,7 @@ use Rattle.xfs_base.specs.declared.node.NodeId.TheVariants.{Client}
 
 module _ (law : small.DirtyBlocksLead) (laws : tokens.NodeLaws) (base : Setting) (e : Estate AnyNode) (lines : HasLines base e) (texts : Texts base e lines)
     (part : ℕ) (of_eight : part < 8) (first : ℕ → ℕ → Segment) (count : ℕ) (joint : Joint base e lines texts part first count) where
-  net : Net
+  abbrev net : Net
   net = with_promise 1 joint.tok.net
 
   abbrev all_members : ℕ

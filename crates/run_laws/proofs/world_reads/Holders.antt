@@ -50,17 +50,17 @@ untold false xs fact = refl
 module _ (law : ActsAreLegal) (blocks : BlocksMakeLegal) (laws : tokens.NodeLaws) (base : Setting) (e : Estate AnyNode) (lines : HasLines base e)
     (texts : Texts base e lines) (first : ℕ → ℕ → Segment) (count : ℕ) (apart : FallsApart (moment e count).acts)
     (joints : (part : ℕ) → part < 8 → Joint base e lines texts part first count) where
-  all : List Act
+  abbrev all : List Act
   all = (moment e count).acts
 
   module _ (b : BlockId) where
-    part : ℕ
+    abbrev part : ℕ
     part = slot_of b.ino.0
 
-    joint : Joint base e lines texts part first count
+    abbrev joint : Joint base e lines texts part first count
     joint = joints part (slot_below b.ino.0)
 
-    net : Net
+    abbrev net : Net
     net = with_promise 1 joint.tok.net
 
     abbrev Serves : ℕ → TokensState → Type 0
@@ -69,7 +69,7 @@ module _ (law : ActsAreLegal) (blocks : BlocksMakeLegal) (laws : tokens.NodeLaws
     -- the client reads the block
     module _ (c : ℕ) (t : TokensState) (value : Content) (there : Serves c t) (held : is_held (held_of (net.tokens c).blocks b).mode ≡ true)
         (has : (held_of (net.tokens c).blocks b).value ≡ Some value) where
-      read : Act
+      abbrev read : Act
       read = act.Read c b (held_of (net.tokens c).blocks b).ver value
 
       runs : Runs true (members (k base e lines texts part first) part) part opening (acted net (read ∷ []))
