@@ -1,6 +1,7 @@
 //! The bytes of a file, block by block.
 ghost use Rattle.std.specs.Prelude.{◌≡◌, ◌<◌, ◌≤◌, min, IfOk, IfSome};
 ghost use Rattle.xfs_base.specs.Limits.{max_bytes};
+ghost use Rattle.file_plan.specs.Calls.{block_size};
 ghost use Rattle.file_plan.specs.Plan.{filling, putting, fetching, in_block, emptying, blocks_of, measured_as, measured};
 
 use crate::places::{BLOCK_SIZE, FILE_END};
@@ -66,7 +67,7 @@ pub(crate) fn fetching(ino: Ino, blk: u32, low: u32, left: u32, got: List<u8>) -
 
 /// How many of the wanted bytes stand in a block.
 pub(crate) fn in_block(low: u32, left: u32) -> u32
-    requires { low < 4096 }
+    requires { low < block_size }
     ensures { result ≡ in_block low left }
 {
     left.min(BLOCK_SIZE - low)
