@@ -3,12 +3,14 @@ pub mod Buckets
 pub mod Exact
 pub mod Filling
 pub mod Frames
+pub mod Halves
 pub mod Histories
 pub mod InRange
 pub mod Listing
 pub mod Machine
 pub mod Making
 pub mod Measuring
+pub mod Merging
 pub mod MoveOrder
 pub mod Moving
 pub mod Overlays

@@ -116,10 +116,6 @@ reads_step rows rest all row now more has fact e f r =
 
 -- ---- names
 
-pub no_name : (b : Bool) (name : List ℕ) (o : Option (List ℕ)) → o ≡ cond b (Some name) None → o ≡ None → b ≡ true → ⊥
-no_name true name o e f h = cc
-no_name false name o e f h = cc
-
 -- a name has at most 60 bytes
 pub good_short : (name : List ℕ) → is_good name ≡ true → length name ≤ 60
 unfolding is_good

@@ -20,7 +20,7 @@ use Rattle.file_plan.proofs.Buckets.{name_total, one_name, is_T, from_T, first, 
 abbrev pub put_from : List Row → Name → Node → ℕ → List Row
 put_from rows name node i = take i rows ++ insert_entry name_cmp (drop i rows) name node
 
-put_step : (row : Row) (rest : List Row) (name : Name) (node : Node) (o : Ordering) → name_cmp name row.0 ≡ o
+pub put_step : (row : Row) (rest : List Row) (name : Name) (node : Node) (o : Ordering) → name_cmp name row.0 ≡ o
     → insert_entry name_cmp (row ∷ rest) name node ≡ match_ordering o ((name, node) ∷ row ∷ rest) ((row.0, node) ∷ rest)
     (row ∷ insert_entry name_cmp rest name node)
 put_step row rest name node o e =
@@ -96,7 +96,7 @@ cut_last rows name i past =
 
 -- ---- rising names
 
-less_all : (x y : Name) (rows : List Row) → name_cmp x y ≡ Less → T (below_all name_cmp y rows) → T (below_all name_cmp x rows)
+pub less_all : (x y : Name) (rows : List Row) → name_cmp x y ≡ Less → T (below_all name_cmp y rows) → T (below_all name_cmp x rows)
 less_all x y [] less below = tt
 less_all x y (row ∷ rows) less below =
     let here = first (is_lt (name_cmp y row.0)) (below_all name_cmp y rows) below in

@@ -3,6 +3,7 @@ pub mod Driving
 pub mod Example
 pub mod Format
 pub mod Formats
+pub mod Merging
 pub mod Names
 pub mod Plan
 pub mod Ranges

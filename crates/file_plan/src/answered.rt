@@ -4,7 +4,6 @@ ghost use Rattle.file_plan.specs.Plan.{after_answer, on_got, on_written, on_chan
 ghost use Rattle.xfs_base.specs.Value.{IsValue};
 ghost use Rattle.file_plan.specs.Ranges.{IsInRange};
 
-use crate::bucket::read_bucket;
 use crate::bytes::{add_cut, after_first, bytes_of};
 use crate::content::{emptying, fetching, filling, in_block, measured};
 use crate::entry::{entered, looked};
@@ -51,10 +50,8 @@ fn got(alloc: Global, state: PlanState, ver: u64, value: &Value) -> Mem<PlanStat
             onto,
             rest,
             job,
-        } => Ok(walked(&name, onto, rest, job, read_bucket(alloc, block)?)),
-        PlanState::Looks { dir, name, job } => {
-            looked(alloc, dir, name, ver, job, read_bucket(alloc, block)?)
-        }
+        } => walked(alloc, &name, onto, rest, job, block),
+        PlanState::Looks { dir, name, job } => looked(alloc, dir, name, ver, job, block),
         PlanState::Measures { ino, task } => { measured(alloc, ino, task, ver, read_size(block)) }
         PlanState::Fetches {
             ino,
@@ -87,7 +84,7 @@ fn got(alloc: Global, state: PlanState, ver: u64, value: &Value) -> Mem<PlanStat
             blk,
             left,
             rows,
-        } => gathered(alloc, dir, blk, left, rows, read_bucket(alloc, block)?),
+        } => gathered(alloc, dir, blk, left, rows, block),
         state => Ok(state),
     }
 }

@@ -1,6 +1,6 @@
 //! The form of a bucket: its entries in strictly rising order of names, each the byte of its kind, its
 //! index number in four bytes, the length of its name in one, and its name.
-ghost use Rattle.std.specs.Prelude.{◌≡◌, ◌&&◌, ◌++◌, ◌<◌, ◌+◌, IfOk, OnOk, None, Some, length, IsTrue};
+ghost use Rattle.std.specs.Prelude.{◌≡◌, ◌&&◌, ◌++◌, ◌<◌, ◌+◌, IfOk, IfSome, OnOk, None, Some, length, IsTrue};
 ghost use Rattle.std.specs.FinMap.Entries.{is_sorted};
 ghost use Rattle.file_plan.specs.Names.{name_cmp, is_good};
 ghost use Rattle.file_plan.specs.Format.{kind_byte, kind_of, is_kind_byte, row_text, rows_text, has_row, front_row, rest_of_rows, rows_from, read_rows};
@@ -90,10 +90,7 @@ fn front_row(alloc: Global, bytes: &[u8]) -> Mem<(Name, Node)>
         kind: kind_of(bytes[0]),
         ino: Ino(ino),
     };
-    match Name::of(alloc, name)? {
-        None => unreachable!(),
-        Some(name) => Ok((name, node)),
-    }
+    Ok((Name::of_good(alloc, name)?, node))
 }
 
 fn rest_of_rows(bytes: &[u8]) -> &[u8]
@@ -139,7 +136,8 @@ fn is_rising(rows: &[(Name, Node)]) -> bool
 /// The entries of the bucket that these bytes are: none where they are not the bytes of entries in
 /// strictly rising order of names. No bytes are the bucket with no entry.
 pub fn read_bucket(alloc: Global, bytes: &[u8]) -> Mem<Option<List<(Name, Node)>>>
-    ensures { IfOk result (λ rows. rows ≡ read_rows bytes.now) }
+    ensures exact { IfOk result (λ rows. rows ≡ read_rows bytes.now) }
+    ensures rising { IfOk result (λ rows. IfSome rows (λ rows. IsTrue (is_sorted name_cmp rows))) }
 {
     match rows_from(alloc, bytes)? {
         None => Ok(None),

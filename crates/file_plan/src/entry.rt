@@ -1,8 +1,9 @@
 //! What is done at the last name of a path.
 ghost use Rattle.std.specs.Prelude.{◌≡◌, IfOk};
+ghost use Rattle.file_plan.specs.Format.{read_rows};
 ghost use Rattle.file_plan.specs.Plan.{fits, entering, leaving, needs_file, at_entry, found, unfound, looked, entered};
 
-use crate::bucket::bucket_bytes;
+use crate::bucket::{bucket_bytes, read_bucket};
 use crate::content::putting;
 use crate::gather::gathering;
 use crate::places::{BLOCK_SIZE, BUCKETS};
@@ -174,11 +175,11 @@ pub(crate) fn looked(
     name: Name,
     ver: u64,
     job: Job,
-    rows: Option<List<(Name, Node)>>,
+    block: &[u8],
 ) -> Mem<PlanState>
-    ensures { IfOk result (λ state. state ≡ looked dir name ver job rows) }
+    ensures { IfOk result (λ state. state ≡ looked dir name ver job (read_rows block.now)) }
 {
-    match rows {
+    match read_bucket(alloc, block)? {
         None => Ok(refuses(FileFault::BadDir)),
         Some(rows) => match named(rows.as_slice(), &name) {
             None => unfound(alloc, dir, name, ver, rows, job),

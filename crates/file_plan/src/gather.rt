@@ -1,7 +1,9 @@
 //! The listing of a directory: its eight buckets in turn.
 ghost use Rattle.std.specs.Prelude.{◌≡◌, ◌+◌, ◌<◌, ◌^◌, IfOk, map};
+ghost use Rattle.file_plan.specs.Format.{read_rows};
 ghost use Rattle.file_plan.specs.Plan.{gathering, gathered, shown};
 
+use crate::bucket::read_bucket;
 use crate::rows::insert_all;
 use crate::walk::refuses;
 use crate::{Name, Node, PlanState};
@@ -22,7 +24,7 @@ fn shown(alloc: Global, name: &Name, node: Node) -> Mem<Text>
 fn all_shown(alloc: Global, rows: &[(Name, Node)]) -> Mem<List<Text>>
     ensures { IfOk result (λ names. names ≡ map shown rows.now) }
 {
-    let mut names = List::new(alloc);
+    let mut names = List::from_vec(Vec::with_capacity(alloc, rows.len())?);
     for (name, node) in rows {
         names.push(shown(alloc, name, *node)?)?;
     }
@@ -58,13 +60,13 @@ pub(crate) fn gathered(
     blk: u32,
     left: u32,
     rows: List<(Name, Node)>,
-    more: Option<List<(Name, Node)>>,
+    block: &[u8],
 ) -> Mem<PlanState>
     requires { blk + 1 < 2 ^ 32 }
-    ensures { IfOk result (λ state. state ≡ gathered dir blk left rows more) }
+    ensures { IfOk result (λ state. state ≡ gathered dir blk left rows (read_rows block.now)) }
 {
-    match more {
+    match read_bucket(alloc, block)? {
         None => Ok(refuses(FileFault::BadDir)),
-        Some(more) => gathering(alloc, dir, blk + 1, left, insert_all(rows, more)?),
+        Some(more) => gathering(alloc, dir, blk + 1, left, insert_all(alloc, rows, more)?),
     }
 }

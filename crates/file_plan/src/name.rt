@@ -40,9 +40,17 @@ impl Name {
         if !is_good(bytes) {
             return Ok(None);
         }
-        Ok(Some(Name {
+        Ok(Some(Name::of_good(alloc, bytes)?))
+    }
+
+    /// The name of these bytes, which are one.
+    pub(crate) fn of_good(alloc: Global, bytes: &[u8]) -> Mem<Name>
+        requires { IsTrue (is_good bytes.now) }
+        ensures { IfOk result (λ name. name ≡ bytes.now) }
+    {
+        Ok(Name {
             text: Text::of(alloc, bytes)?,
-        }))
+        })
     }
 
     /// Its bytes.

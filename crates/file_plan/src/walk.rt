@@ -2,8 +2,10 @@
 ghost use Rattle.std.specs.Prelude.{◌≡◌, ◌∷◌, [], ◌&&◌, MatchOption, IfOk, if◌then◌else◌};
 ghost use Rattle.std.specs.List.{list_all};
 ghost use Rattle.file_plan.specs.Names.{is_good};
+ghost use Rattle.file_plan.specs.Format.{read_rows};
 ghost use Rattle.file_plan.specs.Plan.{refuses, walking, walking_path, walked_to, walked, listing, start};
 
+use crate::bucket::read_bucket;
 use crate::gather::gathering;
 use crate::name::names_of;
 use crate::places::{BUCKETS, ROOT};
@@ -73,17 +75,18 @@ fn walked_to(onto: Name, rest: List<Name>, job: Job, found: Option<Node>) -> Pla
 
 /// The bucket of a name was read, with more names to come.
 pub(crate) fn walked(
+    alloc: Global,
     name: &Name,
     onto: Name,
     rest: List<Name>,
     job: Job,
-    rows: Option<List<(Name, Node)>>,
-) -> PlanState
-    ensures { result ≡ walked name.now onto rest job rows }
+    block: &[u8],
+) -> Mem<PlanState>
+    ensures { IfOk result (λ state. state ≡ walked name.now onto rest job (read_rows block.now)) }
 {
-    match rows {
-        None => refuses(FileFault::BadDir),
-        Some(rows) => walked_to(onto, rest, job, named(rows.as_slice(), name)),
+    match read_bucket(alloc, block)? {
+        None => Ok(refuses(FileFault::BadDir)),
+        Some(rows) => Ok(walked_to(onto, rest, job, named(rows.as_slice(), name))),
     }
 }
 

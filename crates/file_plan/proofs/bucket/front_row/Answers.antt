@@ -1,7 +1,7 @@
-use Rattle.std.proofs.Common.{arith, ap, ◌∙◌, take, ◌≡◌, true, List, ℕ}
+use Rattle.std.proofs.Common.{arith, ap, ◌∙◌, take, List, ℕ}
 use Rattle.file_plan.specs.Names.{is_good}
 use Rattle.file_plan.specs.Format.{name_length}
-use Rattle.file_plan.proofs.Parsing.{row_length, row_name, no_name}
+use Rattle.file_plan.proofs.Parsing.{row_length, row_name}
 use Rattle.file_plan.proofs.bucket.front_row.Goals as goal
 
 pub bounds-bytes-5 : goal.bounds-bytes-5
@@ -13,9 +13,7 @@ split_at-requires c = let h = row_length c.args.bytes.now c.requires in omega (a
 pub split_at-requires-2 : goal.split_at-requires-2
 split_at-requires-2 c = let h = row_length c.args.bytes.now c.requires in omega (arith, h, c.split_at.ensures.back_len)
 
-pub unreachable-requires : goal.unreachable-requires
-unreachable-requires c =
-    let good : is_good c.split_at-2.result.0.now ≡ true =
+pub of_good-requires : goal.of_good-requires
+of_good-requires c =
     ap (λ (n : List ℕ). is_good n) (c.split_at-2.ensures.front ∙ ap (λ (bs : List ℕ). take (name_length c.args.bytes.now) bs) c.split_at.ensures.back)
-    ∙ row_name c.args.bytes.now c.requires in
-    no_name (is_good c.split_at-2.result.0.now) c.split_at-2.result.0.now c.in_ok-of.field-0 c.in_ok-of.ensures c.in-None.is good
+    ∙ row_name c.args.bytes.now c.requires
