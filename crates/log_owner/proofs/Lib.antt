@@ -1,3 +1,4 @@
 pub mod Behaving
+pub mod Keeping
 pub mod Promising
 pub mod Starting

@@ -1,4 +1,5 @@
 pub mod Behaves
+pub mod Keeps
 pub mod Opened
 pub mod Opening
 pub mod Promised
