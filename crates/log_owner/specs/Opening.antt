@@ -1,6 +1,6 @@
 -- What each event makes of an opening: one definition for each, named for it.
 use Rattle.std.specs.List.{list_all}
-use Rattle.std.specs.Prelude.{ℕ, Bool, true, ◌==◌, ◌&&◌, if◌then◌else◌, List, [], ◌∷◌, Option, Some, None}
+use Rattle.std.specs.Prelude.{◌≡◌, ℕ, Bool, true, ◌==◌, ◌&&◌, if◌then◌else◌, List, [], ◌∷◌, ◌++◌, Option, Some, None, Result, IfOk, OnOk}
 use Rattle.client_log.specs.declared.input.In.{In as LogIn}
 use Rattle.client_log.specs.declared.input.In.TheVariants as log_in
 use Rattle.client_log.specs.declared.output.Out.{Out as LogOut}
@@ -357,3 +357,9 @@ stage_room (stage.Settling s) = log_room s.log
 -- each counter is at least 65,536 below its end; the questions of the scan are fewer than those of the node
 abbrev pub opening_room : Opening → Bool
 opening_room o = has_room o.known.maps.version && (list_all has_room o.known.promised.epochs && stage_room o.stage)
+
+-- ---- what a call of an event leaves
+
+-- the call ends where the event went: with its progress, the questions as it left them, and its effects behind those before
+abbrev pub Goes : {E : Type 0} → Result Progress E → Questions → List Effect → List Effect → Went → Type 0
+Goes result questions before after w = IfOk result (λ p. p ≡ w.progress) × OnOk result (questions ≡ w.questions) × OnOk result (after ≡ before ++ w.effects)

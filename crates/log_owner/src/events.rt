@@ -1,6 +1,6 @@
 //! What a packet makes of an opening.
-ghost use Rattle.std.specs.Prelude.{◌≡◌, ◌++◌, IfOk, OnOk};
-ghost use Rattle.log_owner.specs.Opening.{scans, own_in, on_welcome, on_news, regrouped, on_fenced, fenced_by, is_fenced, on_found, found_by, on_missing, missing_by, on_stored};
+ghost use Rattle.std.specs.Prelude.{◌≡◌, IfOk, OnOk};
+ghost use Rattle.log_owner.specs.Opening.{Goes, scans, own_in, on_welcome, on_news, regrouped, on_fenced, fenced_by, is_fenced, on_found, found_by, on_missing, missing_by, on_stored};
 ghost use Rattle.log_scan.specs.declared.input.In.TheVariants.{Got};
 ghost use Rattle.node_base.specs.Maps.{taken};
 
@@ -25,9 +25,7 @@ impl Opening {
         questions: &mut Questions,
         welcome: &Welcome,
     ) -> Mem<Progress>
-        ensures progress { IfOk result (λ progress. progress ≡ (on_welcome self questions.old welcome.now).progress) }
-        ensures questions { OnOk result (questions.new ≡ (on_welcome self questions.old welcome.now).questions) }
-        ensures effects { OnOk result (effects.new ≡ effects.old ++ (on_welcome self questions.old welcome.now).effects) }
+        ensures { Goes result questions.new effects.old effects.new (on_welcome self questions.old welcome.now) }
     {
         let (known, stage) = self.into_parts();
         match stage {
@@ -47,9 +45,7 @@ impl Opening {
         questions: &mut Questions,
         news: &News,
     ) -> Mem<Progress>
-        ensures progress { IfOk result (λ progress. progress ≡ (on_news self questions.old news.now).progress) }
-        ensures questions { OnOk result (questions.new ≡ (on_news self questions.old news.now).questions) }
-        ensures effects { OnOk result (effects.new ≡ effects.old ++ (on_news self questions.old news.now).effects) }
+        ensures { Goes result questions.new effects.old effects.new (on_news self questions.old news.now) }
     {
         if !self.known.maps.fits(news) || !self.known.maps.is_older(news) {
             return Ok(Progress::Opening(self));
@@ -75,9 +71,7 @@ impl Opening {
         from: NodeId,
         fenced: &Fenced,
     ) -> Mem<Progress>
-        ensures progress { IfOk result (λ progress. progress ≡ (on_fenced self questions.old from fenced.now).progress) }
-        ensures questions { OnOk result (questions.new ≡ (on_fenced self questions.old from fenced.now).questions) }
-        ensures effects { OnOk result (effects.new ≡ effects.old ++ (on_fenced self questions.old from fenced.now).effects) }
+        ensures { Goes result questions.new effects.old effects.new (on_fenced self questions.old from fenced.now) }
     {
         match server_in(from) {
             None => Ok(Progress::Opening(self)),
@@ -93,9 +87,7 @@ impl Opening {
         server: u8,
         fenced: &Fenced,
     ) -> Mem<Progress>
-        ensures progress { IfOk result (λ progress. progress ≡ (fenced_by self questions.old fenced.now server).progress) }
-        ensures questions { OnOk result (questions.new ≡ (fenced_by self questions.old fenced.now server).questions) }
-        ensures effects { OnOk result (effects.new ≡ effects.old ++ (fenced_by self questions.old fenced.now server).effects) }
+        ensures { Goes result questions.new effects.old effects.new (fenced_by self questions.old fenced.now server) }
     {
         if !self.is_fenced(fenced) {
             return Ok(Progress::Opening(self));
@@ -133,9 +125,7 @@ impl Opening {
         from: NodeId,
         found: &Found,
     ) -> Mem<Progress>
-        ensures progress { IfOk result (λ progress. progress ≡ (on_found self questions.old from found.now).progress) }
-        ensures questions { OnOk result (questions.new ≡ (on_found self questions.old from found.now).questions) }
-        ensures effects { OnOk result (effects.new ≡ effects.old ++ (on_found self questions.old from found.now).effects) }
+        ensures { Goes result questions.new effects.old effects.new (on_found self questions.old from found.now) }
     {
         match server_in(from) {
             None => Ok(Progress::Opening(self)),
@@ -151,9 +141,7 @@ impl Opening {
         server: u8,
         found: &Found,
     ) -> Mem<Progress>
-        ensures progress { IfOk result (λ progress. progress ≡ (found_by self questions.old found.now server).progress) }
-        ensures questions { OnOk result (questions.new ≡ (found_by self questions.old found.now server).questions) }
-        ensures effects { OnOk result (effects.new ≡ effects.old ++ (found_by self questions.old found.now server).effects) }
+        ensures { Goes result questions.new effects.old effects.new (found_by self questions.old found.now server) }
     {
         match self.own(found.ask) {
             None => Ok(Progress::Opening(self)),
@@ -171,10 +159,7 @@ impl Opening {
         ask: u32,
         found: &Found,
     ) -> Mem<Progress>
-        ensures progress { IfOk result (λ progress. progress ≡ (scans self questions.old (Got ask server found.now.generation found.now.fragment)).progress) }
-        ensures questions { OnOk result (questions.new ≡ (scans self questions.old (Got ask server found.now.generation found.now.fragment)).questions) }
-        ensures effects { OnOk result
-            (effects.new ≡ effects.old ++ (scans self questions.old (Got ask server found.now.generation found.now.fragment)).effects) }
+        ensures { Goes result questions.new effects.old effects.new (scans self questions.old (Got ask server found.now.generation found.now.fragment)) }
     {
         let generation = found.generation;
         match found.fragment.copy(alloc) {
@@ -204,9 +189,7 @@ impl Opening {
         from: NodeId,
         missing: &Missing,
     ) -> Mem<Progress>
-        ensures progress { IfOk result (λ progress. progress ≡ (on_missing self questions.old from missing.now).progress) }
-        ensures questions { OnOk result (questions.new ≡ (on_missing self questions.old from missing.now).questions) }
-        ensures effects { OnOk result (effects.new ≡ effects.old ++ (on_missing self questions.old from missing.now).effects) }
+        ensures { Goes result questions.new effects.old effects.new (on_missing self questions.old from missing.now) }
     {
         match server_in(from) {
             None => Ok(Progress::Opening(self)),
@@ -222,9 +205,7 @@ impl Opening {
         server: u8,
         missing: &Missing,
     ) -> Mem<Progress>
-        ensures progress { IfOk result (λ progress. progress ≡ (missing_by self questions.old missing.now server).progress) }
-        ensures questions { OnOk result (questions.new ≡ (missing_by self questions.old missing.now server).questions) }
-        ensures effects { OnOk result (effects.new ≡ effects.old ++ (missing_by self questions.old missing.now server).effects) }
+        ensures { Goes result questions.new effects.old effects.new (missing_by self questions.old missing.now server) }
     {
         match self.own(missing.ask) {
             None => Ok(Progress::Opening(self)),
@@ -248,9 +229,7 @@ impl Opening {
         questions: &mut Questions,
         stored: &Stored,
     ) -> Mem<Progress>
-        ensures progress { IfOk result (λ progress. progress ≡ (on_stored self questions.old stored.now).progress) }
-        ensures questions { OnOk result (questions.new ≡ (on_stored self questions.old stored.now).questions) }
-        ensures effects { OnOk result (effects.new ≡ effects.old ++ (on_stored self questions.old stored.now).effects) }
+        ensures { Goes result questions.new effects.old effects.new (on_stored self questions.old stored.now) }
     {
         let (known, stage) = self.into_parts();
         match stage {
@@ -284,9 +263,7 @@ impl Opening {
         questions: &mut Questions,
         input: In,
     ) -> Mem<Progress>
-        ensures progress { IfOk result (λ progress. progress ≡ (scans self questions.old input).progress) }
-        ensures questions { OnOk result (questions.new ≡ (scans self questions.old input).questions) }
-        ensures effects { OnOk result (effects.new ≡ effects.old ++ (scans self questions.old input).effects) }
+        ensures { Goes result questions.new effects.old effects.new (scans self questions.old input) }
     {
         let (known, stage) = self.into_parts();
         match stage {
@@ -315,9 +292,7 @@ impl Known {
         stage: Stage,
         groups: GroupMap,
     ) -> Mem<Progress>
-        ensures progress { IfOk result (λ progress. progress ≡ (regrouped self questions.old groups stage).progress) }
-        ensures questions { OnOk result (questions.new ≡ (regrouped self questions.old groups stage).questions) }
-        ensures effects { OnOk result (effects.new ≡ effects.old ++ (regrouped self questions.old groups stage).effects) }
+        ensures { Goes result questions.new effects.old effects.new (regrouped self questions.old groups stage) }
     {
         match stage {
             Stage::Scanning(scanning) => {

@@ -1,6 +1,6 @@
 //! What an opening knows, and how it goes on from stage to stage.
 ghost use Rattle.std.specs.Prelude.{◌≡◌, ◌++◌, [], IfOk, OnOk};
-ghost use Rattle.log_owner.specs.Opening.{at_scan, at_log, behind, nothing_asked, opens, opened, writes, wrote_one, written, scanned, starts_log, settles, follows, scans_on, welcomed, welcomed_in, is_meant};
+ghost use Rattle.log_owner.specs.Opening.{Goes, at_scan, at_log, behind, nothing_asked, opens, opened, writes, wrote_one, written, scanned, starts_log, settles, follows, scans_on, welcomed, welcomed_in, is_meant};
 ghost use Rattle.log_owner.specs.Opened.{feed_of, files, names_in};
 ghost use Rattle.client_log.specs.declared.input.In.TheVariants.{Parts};
 ghost use Rattle.client_log.specs.Transition as log_steps;
@@ -76,9 +76,7 @@ impl Known {
         scanning: Scanning,
         welcome: &Welcome,
     ) -> Mem<Progress>
-        ensures progress { IfOk result (λ progress. progress ≡ (welcomed_in self questions.old scanning welcome.now).progress) }
-        ensures questions { OnOk result (questions.new ≡ (welcomed_in self questions.old scanning welcome.now).questions) }
-        ensures effects { OnOk result (effects.new ≡ effects.old ++ (welcomed_in self questions.old scanning welcome.now).effects) }
+        ensures { Goes result questions.new effects.old effects.new (welcomed_in self questions.old scanning welcome.now) }
     {
         if !self.is_meant(welcome) {
             return Ok(self.scanning(scanning));
@@ -106,9 +104,7 @@ impl Known {
         news: &News,
         own: u32,
     ) -> Mem<Progress>
-        ensures progress { IfOk result (λ progress. progress ≡ (welcomed self questions.old scanning news.now own).progress) }
-        ensures questions { OnOk result (questions.new ≡ (welcomed self questions.old scanning news.now own).questions) }
-        ensures effects { OnOk result (effects.new ≡ effects.old ++ (welcomed self questions.old scanning news.now own).effects) }
+        ensures { Goes result questions.new effects.old effects.new (welcomed self questions.old scanning news.now own) }
     {
         let mut known = self;
         match known.take_maps(alloc, news) {
@@ -145,12 +141,7 @@ impl Known {
         own: u32,
         groups: GroupMap,
     ) -> Mem<Progress>
-        ensures progress { IfOk result
-            (λ progress. progress ≡ (scans_on self questions.old (record scanning { asked = nothing_asked }) (Hears own news.now.slots groups)).progress) }
-        ensures questions { OnOk result
-            (questions.new ≡ (scans_on self questions.old (record scanning { asked = nothing_asked }) (Hears own news.now.slots groups)).questions) }
-        ensures effects { OnOk result
-            (effects.new ≡ effects.old ++ (scans_on self questions.old (record scanning { asked = nothing_asked }) (Hears own news.now.slots groups)).effects) }
+        ensures { Goes result questions.new effects.old effects.new (scans_on self questions.old (record scanning { asked = nothing_asked }) (Hears own news.now.slots groups)) }
     {
         let mut scanning = scanning;
         scanning.asked = Asked::new();
@@ -182,9 +173,7 @@ impl Known {
         scanning: Scanning,
         input: In,
     ) -> Mem<Progress>
-        ensures progress { IfOk result (λ progress. progress ≡ (scans_on self questions.old scanning input).progress) }
-        ensures questions { OnOk result (questions.new ≡ (scans_on self questions.old scanning input).questions) }
-        ensures effects { OnOk result (effects.new ≡ effects.old ++ (scans_on self questions.old scanning input).effects) }
+        ensures { Goes result questions.new effects.old effects.new (scans_on self questions.old scanning input) }
     {
         let Scanning { mut scan, asked } = scanning;
         match scan_one(

@@ -1,7 +1,7 @@
 //! Opening a log again.
 ghost use Rattle.std.specs.Prelude.{◌≡◌, ◌++◌, IfOk, OnOk};
 ghost use Rattle.node_base.specs.Room.{has_room};
-ghost use Rattle.log_owner.specs.Opening.{at_first, on_start, on_packet, on_body, on_tick, opening_room, stage_room, log_room, attempt_of};
+ghost use Rattle.log_owner.specs.Opening.{Goes, at_first, on_start, on_packet, on_body, on_tick, opening_room, stage_room, log_room, attempt_of};
 
 use crate::ended::send_scanned;
 use crate::known::Known;
@@ -141,9 +141,7 @@ impl Opening {
         from: NodeId,
         body: &Body,
     ) -> Mem<Progress>
-        ensures progress { IfOk result (λ progress. progress ≡ (on_body self questions.old from body.now).progress) }
-        ensures questions { OnOk result (questions.new ≡ (on_body self questions.old from body.now).questions) }
-        ensures effects { OnOk result (effects.new ≡ effects.old ++ (on_body self questions.old from body.now).effects) }
+        ensures { Goes result questions.new effects.old effects.new (on_body self questions.old from body.now) }
     {
         match body {
             Body::Welcome(welcome) => self.on_welcome(alloc, effects, questions, welcome),
