@@ -190,7 +190,7 @@ pub nobody_waits : Waiting []
 unfolding IsStrictlySortedBy
 nobody_waits = record { sorted = tt; own = λ b job fact. absurd (cc) }
 
-waiting-all : (s : SlotState) (inputs : List In) → Waiting s.jobs → Waiting (state_after s inputs).jobs
+pub waiting-all : (s : SlotState) (inputs : List In) → Waiting s.jobs → Waiting (state_after s inputs).jobs
 waiting-all = steps_keep transition (λ t. Waiting t.jobs) (λ t input w. (barred-transition t input w).waiting)
 
 pub barred-all : (epoch : ℕ) (index : List (BlockId × Entry)) (beliefs : List (BlockId × ℕ × Mode)) (applied : List ℕ) (inputs : List In) (input : In)

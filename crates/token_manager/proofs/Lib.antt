@@ -6,3 +6,4 @@ pub mod Guarded
 pub mod AwaitsJust
 pub mod RecallTurns
 pub mod Stamps
+pub mod Wants

@@ -1,5 +1,5 @@
 -- What the laws of a slot say.
-use Rattle.std.specs.Prelude.{◌≡◌, ◌↔◌, ℕ, ◌+◌, ◌<◌, ◌≤◌, Bool, List, [], ◌∷◌, ◌++◌, ◌⊎◌, All, map, Some, None}
+use Rattle.std.specs.Prelude.{◌≡◌, ◌↔◌, ℕ, ◌+◌, ◌<◌, ◌≤◌, Bool, true, false, not, List, [], ◌∷◌, ◌++◌, ◌⊎◌, All, length, map, Some, None}
 use Rattle.std.specs.List.{range_with_len}
 use Rattle.xfs_base.specs.Steps.{steps}
 use Rattle.xfs_base.specs.declared.block.BlockId.{BlockId}
@@ -7,7 +7,8 @@ use Rattle.slot_beliefs.specs.declared.job.Holder.{Holder}
 use Rattle.slot_beliefs.specs.declared.job.Wanted.{Wanted}
 use Rattle.slot_beliefs.specs.declared.job.Awaited.{Awaited}
 use Rattle.slot_beliefs.specs.declared.job.Job.{Job}
-use Rattle.slot_beliefs.specs.Beliefs.{share_of, wanted_share}
+use Rattle.xfs_base.specs.Modes.{is_own}
+use Rattle.slot_beliefs.specs.Beliefs.{others, share_of, wanted_share}
 use Rattle.slot_beliefs.specs.Recalls.{stamp, job_at}
 use Rattle.xfs_base.specs.declared.token.Stamp.{Stamp}
 use Rattle.token_manager.specs.declared.output.Out.{Out}
@@ -15,7 +16,7 @@ use Rattle.token_manager.specs.declared.output.Out.TheVariants.{Grant, Forward, 
 use Rattle.token_manager.specs.declared.input.In.{In}
 use Rattle.token_manager.specs.declared.input.In.TheVariants.{Want, Gave, Deltas, Check, Tick}
 use Rattle.token_manager.specs.SlotState.{SlotState}
-use Rattle.token_manager.specs.Transition.{transition}
+use Rattle.token_manager.specs.Transition.{has_turns, is_dropped, transition}
 
 -- the state after any inputs, in order
 abbrev pub state_after : SlotState → List In → SlotState
@@ -107,3 +108,28 @@ pub record IsGivenOut (epoch turn : ℕ) (a : Awaited) : Type 0 where
 -- each recall of a want that waits was given out in the epoch of the slot, under a turn up to the last
 abbrev pub RecallsAreGivenOut : SlotState → Type 0
 RecallsAreGivenOut s = (block : BlockId) (job : Job) → job_at s.jobs block ≡ Some job → All (IsGivenOut s.epoch s.turn) job.awaited
+
+-- ---- wants
+
+-- the want waits for its block
+abbrev pub WaitsAt : SlotState → BlockId → Wanted → Type 0
+WaitsAt s block want = (awaited : List Awaited) × (job_at s.jobs block ≡ Some (record { want = want; awaited = awaited }))
+
+-- the answer to this very request of the asker
+abbrev pub IsAnswerTo : Wanted → ℕ → BlockId → ℕ → ℕ → Type 0
+IsAnswerTo want client block inc req = (client ≡ want.client) × (block ≡ want.block) × (inc ≡ want.inc) × (req ≡ want.req)
+
+-- the want is answered by one of these: its block is granted to the asker, or another client is told to pass a copy on to it
+abbrev pub IsAnswered : Wanted → List Out → Type 0
+IsAnswered want [] = ⊥
+IsAnswered want (Grant client block said inc req mode entry ∷ outs) = IsAnswerTo want client block inc req ⊎ IsAnswered want outs
+IsAnswered want (Forward client block said to inc req ver ∷ outs) = IsAnswerTo want to block inc req ⊎ IsAnswered want outs
+IsAnswered want (Recall client block said keep ∷ outs) = IsAnswered want outs
+IsAnswered want (Applied log upto ∷ outs) = IsAnswered want outs
+IsAnswered want (Live entry ∷ outs) = IsAnswered want outs
+IsAnswered want (Dead ∷ outs) = IsAnswered want outs
+
+-- a want that is no cause to be dropped, where turns are left for its answer and its recalls
+pub record IsTaken (s : SlotState) (want : Wanted) (end : ℕ) : Type 0 where
+  pub sound : is_dropped s want end ≡ false
+  pub turns : has_turns s.turn (1 + length (others s.beliefs want.block want.client (not (is_own want.mode)))) ≡ true

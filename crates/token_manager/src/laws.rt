@@ -1,16 +1,17 @@
 //! What holds over any list of inputs. Each function stands for the law that its contract states; a call
 //! of it does nothing.
-ghost use Rattle.std.specs.Prelude.{◌≡◌, ◌≤◌, ℕ, List, None, length};
+ghost use Rattle.std.specs.Prelude.{◌≡◌, ◌≤◌, ◌⊎◌, ℕ, List, None, length};
 ghost use Rattle.xfs_base.specs.declared.block.BlockId.{BlockId};
 ghost use Rattle.xfs_base.specs.declared.entry.Entry.{Entry};
 ghost use Rattle.xfs_base.specs.declared.token.Mode.{Mode};
 ghost use Rattle.token_manager.specs.declared.input.In.{In};
 ghost use Rattle.index_pages.specs.Pages.{put_newer, cleaned};
 ghost use Rattle.slot_beliefs.specs.Index.{Indexed, indexed, pages_of, cleaned_index, IsCounted};
+ghost use Rattle.slot_beliefs.specs.declared.job.Wanted.{Wanted};
 ghost use Rattle.slot_beliefs.specs.Recalls.{applied_of, job_at};
 ghost use Rattle.token_manager.specs.SlotState.{SlotState};
-ghost use Rattle.token_manager.specs.Transition.{started, transition};
-ghost use Rattle.token_manager.specs.Laws.{state_after, CountsTurns, IsNotTick, given_out, stamps_after, HandsOut, OwnsAlone, IsGuarded, RecallsAreGivenOut};
+ghost use Rattle.token_manager.specs.Transition.{on_want, started, transition};
+ghost use Rattle.token_manager.specs.Laws.{state_after, CountsTurns, IsNotTick, given_out, stamps_after, HandsOut, OwnsAlone, IsGuarded, RecallsAreGivenOut, IsAnswered, IsTaken, WaitsAt};
 
 /// Whatever a slot took, the live blocks that it counts in each segment are those that a count from
 /// scratch over the places of its index gives.
@@ -68,4 +69,20 @@ pub fn recalls_are_given_out()
 pub fn pages_follow_the_index()
     ensures merged { (i : Indexed) (m : BlockId × Entry) → pages_of (indexed i m) ≡ put_newer (pages_of i) m.0 m.1 }
     ensures cleaned { (i : Indexed) → pages_of (cleaned_index i) ≡ cleaned (pages_of i) }
+{}
+
+/// A want that is no cause to be dropped is answered at once, or waits for its block: that is, one that wants
+/// something, of a block for which no other waits, by a client whose log is applied up to the end that it names.
+pub fn each_want_is_answered_or_waits()
+    ensures { (s : SlotState) (want : Wanted) (end : ℕ) → IsTaken s want end
+        → IsAnswered want (on_want s want end).outs ⊎ WaitsAt (on_want s want end).state want.block want }
+{}
+
+/// Whatever a slot took, a want that waits is not forgotten at the next input: it is answered, or goes on waiting.
+pub fn no_want_is_forgotten()
+    ensures { (epoch : ℕ) (index : List (BlockId × Entry)) (beliefs : List (BlockId × ℕ × Mode)) (applied : List ℕ) (inputs : List In) (input : In)
+        (block : BlockId) (want : Wanted)
+        → WaitsAt (state_after (started epoch index beliefs applied) inputs) block want
+        → IsAnswered want (transition (state_after (started epoch index beliefs applied) inputs) input).outs
+        ⊎ WaitsAt (transition (state_after (started epoch index beliefs applied) inputs) input).state block want }
 {}
