@@ -1,10 +1,10 @@
 -- The least of what is left.
-use Rattle.std.proofs.Common.{◌≡◌, refl, sym, ap, subst, ◌∙◌, ℕ, zero, suc, ◌+◌, ◌<◌, ◌≤◌, Bool, true, false, cond, List, [], ◌∷◌, ◌++◌, length, Option, Some, None, ◌⊎◌, inl, inr, arith, nat_lt, append_assoc, append-nil, length-append}
+use Rattle.std.proofs.Common.{◌≡◌, refl, sym, ap, subst, ◌∙◌, ℕ, ◌+◌, ◌<◌, ◌≤◌, Bool, true, false, cond, List, [], ◌∷◌, ◌++◌, length, Option, Some, None, ◌⊎◌, inl, inr, arith, nat_lt, append_assoc, append-nil, length-append}
 use Rattle.std.specs.Prelude.{slice_get, slice_set}
 use Rattle.std.proofs.lemmas.Bool.Decides.{nat_tests}
 use Rattle.std.proofs.lemmas.Option.{slice_get_within, same_Some}
 use Rattle.journals.specs.declared.moment.Moment.{Moment}
-use Rattle.journals.specs.Merging.{AllEmpty, IsLeast, IsNext, better, better_of, head_clock, least_from, least_of}
+use Rattle.journals.specs.Merging.{AllEmpty, IsLeast, IsNext, better, head_clock, least_from, least_of}
 use Rattle.journals.proofs.Gets.{get_end, get_front, get_snoc}
 
 -- this place and clock are those of the least

@@ -1,5 +1,5 @@
 -- The earliest of what is left may happen next, and what is left then can go on.
-use Rattle.std.proofs.Common.{◌≡◌, refl, sym, ap, subst, ◌∙◌, ℕ, ◌+◌, ◌<◌, ◌≤◌, ◌≢◌, Bool, true, List, [], ◌∷◌, ◌++◌, length, map, Option, Some, None, ◌⊎◌, inl, inr, arith, nat_lt}
+use Rattle.std.proofs.Common.{◌≡◌, refl, sym, ap, subst, ◌∙◌, ℕ, ◌+◌, ◌<◌, ◌≤◌, ◌≢◌, true, List, [], ◌∷◌, ◌++◌, length, map, Option, Some, None, ◌⊎◌, inl, inr, arith, nat_lt}
 use Rattle.std.specs.Prelude.{slice_get, slice_set, slice_index}
 use Rattle.std.specs.List.{Contains, cons_option}
 use Rattle.std.proofs.lemmas.Bool.Decides.{nat_tests}
@@ -12,7 +12,6 @@ use Rattle.wire_msg.specs.declared.packet.Packet.{Packet}
 use Rattle.wire_msg.specs.NodeStep.{NodeStep}
 use Rattle.xfs_base.specs.declared.node.NodeId.{NodeId}
 use Rattle.world_base.specs.declared.world.World.{World}
-use Rattle.world_base.specs.declared.event.Event.{Event}
 use Rattle.world_base.specs.Cluster.{node_at, node_count, place_of}
 use Rattle.world_base.specs.Events.{event_of, node_of, what_of}
 use Rattle.world_base.specs.NextWorld.{after_turn, at_place, clock_after, clock_at, happened, happened_at, next_world, sent_at, turn_by, turn_of, turned}

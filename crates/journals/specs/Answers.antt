@@ -1,6 +1,6 @@
 -- Which items of a node have an answer.
-use Rattle.std.specs.Prelude.{◌≡◌, ℕ, ◌≤◌, Bool, true, false, ◌&&◌, ◌==◌, List, ◌⊎◌}
-use Rattle.std.specs.List.{Contains, list_any}
+use Rattle.std.specs.Prelude.{◌≡◌, ℕ, ◌+◌, ◌≤◌, nat_lt, nat_le, Bool, true, false, ◌&&◌, ◌||◌, ◌==◌, List}
+use Rattle.std.specs.List.{list_any}
 use Rattle.version_model.specs.declared.act.Act.{Act}
 use Rattle.version_model.specs.declared.act.Act.TheVariants as acts
 use Rattle.xfs_base.specs.declared.node.NodeId.{NodeId}
@@ -20,10 +20,18 @@ has_answer node k done = list_any (is_answer_to node k) done
 abbrev pub AreAnswered : NodeId → ℕ → List Act → Type 0
 AreAnswered node count done = (k : ℕ) → 1 ≤ k → k ≤ count → has_answer node k done ≡ true
 
--- the items that are known to have an answer: all up to a number, and some more
-abbrev pub Knows : Answers → ℕ → Type 0
-Knows a k = ((1 ≤ k) × (k ≤ a.all)) ⊎ Contains a.more k
+-- whether a number is one of these
+abbrev pub is_among : ℕ → List ℕ → Bool
+is_among k numbers = list_any (λ n. n == k) numbers
 
--- what is known to have an answer has one among these acts
+-- whether the item of this number is known to have an answer: all are up to a number, and some more
+abbrev pub knows : Answers → ℕ → Bool
+knows a k = (nat_lt 0 k && nat_le k a.all) || is_among k a.more
+
+-- those that are known to have an answer are just those that have one among these acts
 abbrev pub AreKnown : NodeId → Answers → List Act → Type 0
-AreKnown node a done = (k : ℕ) → Knows a k → has_answer node k done ≡ true
+AreKnown node a done = (k : ℕ) → knows a k ≡ has_answer node k done
+
+-- all are known up to the last number up to which all have an answer
+abbrev pub IsSettled : Answers → Type 0
+IsSettled a = knows a (a.all + 1) ≡ false

@@ -1,7 +1,6 @@
 //! Which items of a node have an answer.
-ghost use Rattle.std.specs.Prelude.{◌≡◌, ◌⊎◌, ◌+◌, ℕ, true, OnOk, IfSome};
-ghost use Rattle.std.specs.List.{Contains};
-ghost use Rattle.journals.specs.Answers.{Knows, has_answer, is_answer_to};
+ghost use Rattle.std.specs.Prelude.{◌≡◌, ◌+◌, ◌||◌, ◌==◌, ℕ, true, false, OnOk, MatchOption};
+ghost use Rattle.journals.specs.Answers.{IsSettled, has_answer, is_among, is_answer_to, knows};
 
 use std::alloc::Global;
 use version_model::Act;
@@ -24,7 +23,7 @@ impl Drop for Answers {
 
 /// The number of the item of a node that an act answers; none where it answers no item of that node.
 fn number_of(act: &Act, node: NodeId) -> Option<u32>
-    ensures { IfSome result (λ k. is_answer_to node k act.now ≡ true) }
+    ensures { MatchOption result ((k : ℕ) → is_answer_to node k act.now ≡ false) (λ number. (k : ℕ) → is_answer_to node k act.now ≡ (number == k)) }
 {
     match act {
         Act::Answered {
@@ -36,17 +35,22 @@ fn number_of(act: &Act, node: NodeId) -> Option<u32>
     }
 }
 
-/// Whether a number is among these.
-fn is_among(numbers: &[u32], number: u32) -> bool
-    ensures { result ≡ true → Contains numbers.now number }
+/// The number that is this one, where it is among these.
+fn find(numbers: &[u32], wanted: u64) -> Option<u32>
+    ensures { MatchOption result (is_among wanted numbers.now ≡ false) (λ number. (number ≡ wanted) × (is_among wanted numbers.now ≡ true)) }
 {
-    numbers.contains(&number)
+    for number in numbers {
+        if u64::from(*number) == wanted {
+            return Some(*number);
+        }
+    }
+    None
 }
 
 impl Answers {
     /// No item has an answer. It takes no memory.
     pub fn none(alloc: Global) -> Answers
-        ensures { (k : ℕ) → Knows result k → ⊥ }
+        ensures { (k : ℕ) → knows result k ≡ false }
     {
         Answers {
             all: 0,
@@ -55,8 +59,9 @@ impl Answers {
     }
 
     /// The item of this number has an answer.
+    #[tactic(auto, using(crate::proofs::Known::next_noted, crate::proofs::Known::more_noted))]
     fn note(&mut self, number: u32) -> Mem<()>
-        ensures { OnOk result ((k : ℕ) → Knows self.new k → Knows self.old k ⊎ (k ≡ number)) }
+        ensures { OnOk result ((k : ℕ) → knows self.new k ≡ (knows self.old k || (number == k))) }
     {
         if number > 0 && number - 1 == self.all {
             self.all = number;
@@ -67,42 +72,27 @@ impl Answers {
 
     /// What follows the last of those that all have an answer, where it has one too.
     fn next(&self) -> Option<u32>
-        ensures { IfSome result (λ next. (next ≡ self.now.all + 1) × Contains self.now.more next) }
+        ensures { MatchOption result (IsSettled self.now) (λ next. (next ≡ self.now.all + 1) × (is_among next self.now.more ≡ true)) }
     {
-        if self.all < u32::MAX && is_among(self.more.as_slice(), self.all + 1) {
-            Some(self.all + 1)
-        } else {
-            None
-        }
-    }
-
-    /// Goes on by one item, where the one that follows has an answer too, and says whether it did.
-    fn go_on(&mut self) -> bool
-        ensures { (k : ℕ) → Knows self.new k → Knows self.old k }
-    {
-        match self.next() {
-            None => false,
-            Some(next) => {
-                self.all = next;
-                true
-            }
-        }
+        find(self.more.as_slice(), u64::from(self.all) + 1)
     }
 
     /// Goes on to the last item up to which all have an answer.
     fn advance(&mut self)
-        ensures { (k : ℕ) → Knows self.new k → Knows self.old k }
+        ensures same { (k : ℕ) → knows self.new k ≡ knows self.old k }
+        ensures settled { IsSettled self.new }
     {
-        for _ in 0..self.more.len() {
-            if !self.go_on() {
-                return;
+        loop {
+            match self.next() {
+                None => return,
+                Some(next) => self.all = next,
             }
         }
     }
 
     /// What an act answers has an answer, if it is of this node.
     fn note_one(&mut self, node: NodeId, act: &Act) -> Mem<()>
-        ensures { OnOk result ((k : ℕ) → Knows self.new k → Knows self.old k ⊎ (is_answer_to node k act.now ≡ true)) }
+        ensures { OnOk result ((k : ℕ) → knows self.new k ≡ (knows self.old k || is_answer_to node k act.now)) }
     {
         match number_of(act, node) {
             None => Ok(()),
@@ -115,7 +105,7 @@ impl Answers {
 
     /// What these acts answer has an answer, as far as it is of this node.
     fn note_each(&mut self, node: NodeId, acts: &[Act]) -> Mem<()>
-        ensures { OnOk result ((k : ℕ) → Knows self.new k → Knows self.old k ⊎ (has_answer node k acts.now ≡ true)) }
+        ensures { OnOk result ((k : ℕ) → knows self.new k ≡ (knows self.old k || has_answer node k acts.now)) }
     {
         for act in acts {
             self.note_one(node, act)?;
@@ -123,10 +113,11 @@ impl Answers {
         Ok(())
     }
 
-    /// What these acts answer has an answer, as far as it is of this node. What is known then was known
+    /// What these acts answer has an answer, as far as it is of this node: known is then just what was known
     /// before or is answered by one of them.
     pub fn note_all(&mut self, node: NodeId, acts: &[Act]) -> Mem<()>
-        ensures { OnOk result ((k : ℕ) → Knows self.new k → Knows self.old k ⊎ (has_answer node k acts.now ≡ true)) }
+        ensures noted { OnOk result ((k : ℕ) → knows self.new k ≡ (knows self.old k || has_answer node k acts.now)) }
+        ensures settled { OnOk result (IsSettled self.new) }
     {
         self.note_each(node, acts)?;
         self.advance();

@@ -1,7 +1,8 @@
+use Rattle.std.proofs.Common.{refl, ◌∙◌}
+use Rattle.journals.proofs.Known.{gone_on}
 use Rattle.journals.proofs.answers.Answers.advance.Goals as goal
 
-pub returns-then-not-go_on : goal.returns-then-not-go_on
-returns-then-not-go_on c k knows = c.loop.invariant k (c.go_on.ensures k knows)
-
-pub loop-preserved : goal.loop-preserved
-loop-preserved c k knows = c.loop.invariant k (c.go_on.ensures k knows)
+pub loop-next-preserved : goal.loop-next-preserved
+loop-next-preserved c k =
+    let old = c.loop-next.self in
+    gone_on old (record old { all = c.in-Some.next }) k c.in-Some.ensures.0 refl c.in-Some.ensures.1 ∙ c.loop-next.invariant k

@@ -1,7 +1,11 @@
-use Rattle.std.proofs.Common.{ℕ}
-use Rattle.journals.specs.Answers.{Knows}
+use Rattle.std.proofs.Common.{◌≡◌, ℕ, ◌-◌, ◌^◌}
+use Rattle.journals.specs.Answers.{knows}
 use Rattle.journals.proofs.answers.Answers.advance.Given as goal
 
--- no more is known than before
-abbrev pub invariant-loop : goal.invariant-loop
-invariant-loop l = (k : ℕ) → Knows l.self k → Knows l.fn.self k
+-- the same are known as before
+abbrev pub invariant-loop-next : goal.invariant-loop-next
+invariant-loop-next l = (k : ℕ) → knows l.self k ≡ knows l.fn.self k
+
+-- the number rises
+abbrev pub decreases-loop-next : goal.decreases-loop-next
+decreases-loop-next l = 2 ^ 32 - l.self.all

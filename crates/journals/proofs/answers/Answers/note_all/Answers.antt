@@ -1,4 +1,5 @@
+use Rattle.std.proofs.Common.{◌∙◌}
 use Rattle.journals.proofs.answers.Answers.note_all.Goals as goal
 
-pub returns : goal.returns
-returns c k knows = c.in_ok-note_each.ensures k (c.advance.ensures k knows)
+pub returns-clause-noted : goal.returns-clause-noted
+returns-clause-noted c k = c.advance.ensures.same k ∙ c.in_ok-note_each.ensures k
