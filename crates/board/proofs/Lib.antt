@@ -1,2 +1,4 @@
 pub mod WholeCommands
 pub mod BallotLaws
+pub mod Applying
+pub mod Offers

@@ -133,10 +133,10 @@ do_is Tick (Deliver b) e = contrary e
 do_is Tick Tick e = refl
 
 -- That a command is one of the registry's is shown in one way at most.
-abbrev command : (what : Do) → ℕ → is_heard what ≡ true → Command
+abbrev pub command : (what : Do) → ℕ → is_heard what ≡ true → Command
 command what item heard = record { what = what; item = item; heard = heard }
 
-heard_once : (what : Do) (item : ℕ) (h k : is_heard what ≡ true) → command what item h ≡ command what item k
+pub heard_once : (what : Do) (item : ℕ) (h k : is_heard what ≡ true) → command what item h ≡ command what item k
 heard_once what item h k = ap (command what item) (Bool-set (is_heard what) true h k)
 
 same_what : (what other : Do) → what ≡ other → (item : ℕ) (h : is_heard what ≡ true) (k : is_heard other ≡ true) → command what item h ≡ command other item k

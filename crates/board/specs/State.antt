@@ -1,7 +1,8 @@
 -- The state of a board.
-use Rattle.std.specs.Prelude.{ℕ, Bool, true, false, ◌==◌, List, [], Some}
+use Rattle.std.specs.Prelude.{ℕ, Bool, true, false, ◌==◌, List, [], take, Some, if◌then◌else◌}
 use Rattle.board.specs.declared.command.Command.{Command}
 use Rattle.board.specs.declared.lengths.Lengths.{Lengths}
+use Rattle.board.specs.Ballots.{owner_of}
 use Rattle.board.specs.Lengths.{all_known}
 
 pub record BoardState : Type 0 where
@@ -39,3 +40,8 @@ started number = record {
   applied = 0;
   heard = false;
 }
+
+-- the commands at the front of its list that are surely chosen: all of a list that another board leads, since then two have it, and
+-- what is done of one that it leads
+abbrev pub chosen_part : BoardState → List Command
+chosen_part s = if s.leads then take s.done s.list else (if owner_of s.ballot == s.number then [] else s.list)

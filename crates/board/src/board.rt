@@ -1,14 +1,15 @@
 //! A board: its state, its start, and what it takes.
 ghost use Rattle.std.specs.Prelude.{◌≡◌, ◌++◌, length, OnOk, IfOk, IsTrue};
-ghost use Rattle.board.specs.State.{started};
+ghost use Rattle.board.specs.State.{started, chosen_part};
 ghost use Rattle.board.specs.Transition.{transition, has_room, has_all_room, is_ready, is_for, has_short, is_short, on_body, on_mail};
 
-use crate::ballots::next_ballot;
+use crate::ballots::{next_ballot, owner_of};
 use crate::command::Command;
 use crate::input::In;
 use crate::lengths::Lengths;
 use crate::output::Out;
 use crate::packet::{BoardBody, BoardPacket};
+use crate::waiting::first_of;
 use std::alloc::Global;
 use std::marker::Model;
 use xfs_base::limits::COUNTER_ROOM;
@@ -148,6 +149,20 @@ impl Board {
         ensures { result ≡ self.now.up }
     {
         self.up
+    }
+
+    /// The commands at the front of its list that are surely chosen: all of a list that is led by another board, since
+    /// then two have it, and what is done of one that it leads.
+    pub fn chosen_part(&self) -> &[Command]
+        ensures { result.now ≡ chosen_part self.now }
+    {
+        if self.leads {
+            return first_of(self.list.as_slice(), self.done);
+        }
+        if owner_of(self.ballot) == u32::from(self.number) {
+            return &[];
+        }
+        self.list.as_slice()
     }
 
     // Whether each counter is at least 65,536 below its end.

@@ -6,7 +6,7 @@ use xfs_base::Crosses;
 
 /// For each board the length of a leader's list that it is known to have accepted; none until it said so. Of the leader
 /// itself nothing is noted.
-#[derive(Clone, Copy, Debug, PartialEq, Eq)]
+#[derive(Clone, Copy, PartialEq, Eq)]
 pub struct Lengths {
     /// Of board 1.
     pub one: Option<u32>,

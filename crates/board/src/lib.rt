@@ -13,6 +13,7 @@ pub mod input;
 pub mod laws;
 mod leading;
 pub mod lengths;
+pub mod offering;
 pub mod output;
 pub mod packet;
 mod waiting;

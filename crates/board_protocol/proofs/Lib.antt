@@ -7,6 +7,7 @@ pub mod Electing
 pub mod Agreeing
 pub mod Heading
 pub mod Invariant
+pub mod Owning
 pub mod Laws
 pub mod Having
 pub mod ExampleRun

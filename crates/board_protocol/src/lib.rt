@@ -32,11 +32,14 @@ pub fn chosen<C>()
 ///
 /// - `done`: what a leader holds for done is a chosen part of its list.
 /// - `applied`: what a board has applied, in order, is chosen, so a prefix of each chosen list that is as long.
+/// - `followed`: what a board has of a ballot that is another's is chosen.
 /// - `one_leader`: a ballot has one leader.
 /// - `booked`: what the ghosts say of the lists that boards have.
 pub fn boards<C>()
     ensures done { (owner : ℕ → ℕ) (w : World C) → Steps (start owner) w → (k : ℕ) → k < 3 → Leads w k → DoneChosen w k }
     ensures applied { (owner : ℕ → ℕ) (w : World C) → Steps (start owner) w → (k : ℕ) → k < 3 → AppliedChosen w k }
+    ensures followed { (owner : ℕ → ℕ) (w : World C) → Steps (start owner) w → (k : ℕ) → k < 3 → w.owner (w.board k).ballot < 3
+        → (k ≡ w.owner (w.board k).ballot → ⊥) → Chosen w (w.board k).list }
     ensures one_leader { (owner : ℕ → ℕ) (w : World C) → Steps (start owner) w → OneLeader w }
     ensures booked { (owner : ℕ → ℕ) (w : World C) → Steps (start owner) w → (k : ℕ) → Booked w k }
 {}
