@@ -44,7 +44,7 @@ last_legal (x ∷ acts) a h legal = last_legal acts a (after_act x h) legal.1
 
 -- what isn't told
 untold : {X : Type 0} (t : Bool) (xs : List X) → t ≡ false → (if t then xs else []) ≡ []
-untold true xs fact = contrary fact
+untold true xs fact = contrary (sym fact)
 untold false xs fact = refl
 
 module _ (law : ActsAreLegal) (blocks : BlocksMakeLegal) (laws : tokens.NodeLaws) (base : Setting) (e : Estate AnyNode) (lines : HasLines base e)

@@ -7,8 +7,8 @@ use Rattle.run_laws.specs.world_law.Owners.{tokens_at}
 use Rattle.run_laws.specs.world_reads.Holders.{history_at}
 use Rattle.token_client.specs.Held.{is_dirty}
 use Rattle.token_client.specs.State.{TokensState, held_of}
+use Rattle.version_model.specs.declared.history.BlockHistory.{BlockHistory}
 use Rattle.version_model.specs.declared.history.Version.{Version}
-use Rattle.version_model.specs.History.{BlockHistory}
 use Rattle.world_base.specs.declared.world.World.{World}
 use Rattle.xfs_base.specs.Blocks.{slot_of}
 use Rattle.xfs_base.specs.declared.block.BlockId.{BlockId}

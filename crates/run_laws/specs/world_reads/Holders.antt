@@ -7,8 +7,9 @@ use Rattle.node_base.specs.Setups.{IsSetup}
 use Rattle.run_laws.specs.restart_law.Restarts.{NoDoubtfulRestart}
 use Rattle.run_laws.specs.world_law.Owners.{moment, tokens_at}
 use Rattle.token_client.specs.State.{TokensState, held_of}
+use Rattle.version_model.specs.declared.history.BlockHistory.{BlockHistory}
 use Rattle.version_model.specs.Effects.{history_after}
-use Rattle.version_model.specs.History.{BlockHistory, Content, content_at, nothing_yet}
+use Rattle.version_model.specs.History.{Content, content_at, nothing_yet}
 use Rattle.world_base.specs.declared.estate.Estate.{Estate}
 use Rattle.world_base.specs.declared.world.World.{World}
 use Rattle.world_base.specs.Runs.{IsRun}
