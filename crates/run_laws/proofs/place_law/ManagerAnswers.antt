@@ -1,60 +1,27 @@
 -- Whatever happens to a manager, each Live that it sends answers the Check that was delivered.
-use Rattle.std.proofs.Common.{ℕ, ◌==◌, List, [], ◌∷◌, true, false, Option, None, Some, is_some, length}
-use Rattle.std.specs.List.{AllByRecursion}
-use Rattle.std.specs.Prelude.{fold}
-use Rattle.checkpoint.specs.declared.input.In.{In}
-use Rattle.checkpoint.specs.declared.input.In.TheVariants as input
-use Rattle.checkpoint.specs.declared.output.Out.{Out}
-use Rattle.checkpoint.specs.declared.output.Out.TheVariants as out
-use Rattle.checkpoint.specs.Transition as writer
-use Rattle.client_log.specs.declared.input.In.{In as LogIn}
-use Rattle.client_log.specs.declared.input.In.TheVariants as log_in
-use Rattle.client_log.specs.declared.output.Out.{Out as LogOut}
-use Rattle.client_log.specs.Transition as log
-use Rattle.group_map.specs.GroupMapState.{GroupMapState}
+use Rattle.std.proofs.Common.{ℕ, Option, None, Some}
 use Rattle.manager_node.specs.declared.manager.Manager.{Manager as ManagerNode}
 use Rattle.manager_node.specs.declared.phase.Phase.{Phase}
 use Rattle.manager_node.specs.declared.phase.Phase.TheVariants.{Down, Waiting, Serving as Serves}
 use Rattle.manager_node.specs.Events as events
 use Rattle.manager_node.specs.Phases as phases
 use Rattle.manager_node.specs.Phases.{Went_to, serves}
-use Rattle.manager_slots.specs.declared.lasting.Lasting.{Lasting as Kept}
-use Rattle.manager_slots.specs.SlotTable as table
-use Rattle.manager_serving.specs.Checkpoints as checkpoints
 use Rattle.manager_serving.specs.Checkpoints.{Done}
-use Rattle.manager_serving.specs.declared.checkpointing.Checkpointing.{Checkpointing}
 use Rattle.manager_serving.specs.declared.serving.Serving.{Serving}
 use Rattle.manager_serving.specs.Serving as serving
-use Rattle.node_base.specs.Beginning.{next_item, work_at}
-use Rattle.node_base.specs.declared.effects.Effect.{Effect}
 use Rattle.node_base.specs.Known.{names_known}
-use Rattle.node_base.specs.Maps.{fits, forgotten, is_older, taken}
 use Rattle.node_base.specs.Shape.{is_well_formed}
-use Rattle.segment_format.specs.declared.segment.Item.{Item}
-use Rattle.version_model.specs.declared.answer.Answer.TheVariants as answer
-use Rattle.version_model.specs.declared.work.Work.{Work}
-use Rattle.version_model.specs.declared.work.Work.TheVariants as work
 use Rattle.wire_msg.specs.declared.body.Body.{Body}
 use Rattle.wire_msg.specs.declared.body.Body.TheVariants as body
 use Rattle.wire_msg.specs.declared.packet.Do.{Do}
 use Rattle.wire_msg.specs.declared.packet.Do.TheVariants.{Begin, Deliver, Tick}
 use Rattle.wire_msg.specs.declared.packet.Packet.{Packet}
-use Rattle.wire_msg.specs.declared.registry.CkptAck.{CkptAck}
-use Rattle.wire_msg.specs.declared.registry.CkptDone.{CkptDone}
-use Rattle.wire_msg.specs.declared.registry.News.{News}
-use Rattle.wire_msg.specs.declared.registry.Welcome.{Welcome}
 use Rattle.xfs_base.proofs.Booleans.{by_test}
-use Rattle.xfs_base.specs.declared.news.SlotNews.{SlotNews}
 use Rattle.xfs_base.specs.declared.node.NodeId.{NodeId}
 use Rattle.xfs_base.specs.declared.node.NodeId.TheVariants.{Manager}
 use Rattle.xfs_base.specs.declared.segment.LogId.{LogId}
 use Rattle.xfs_base.specs.Steps.{still}
-use Rattle.client_log.specs.declared.output.Out.TheVariants as log_out
-use Rattle.node_base.specs.declared.effects.Effect.TheVariants.{Send, Answer, Lose, Does}
-use Rattle.node_base.specs.Effects.{packet_of, packets_of}
 use Rattle.wire_msg.specs.declared.cleaning.Live.{Live}
-use Rattle.xfs_base.specs.Steps.{saying}
-use Rattle.xfs_base.proofs.Alls.{all_append, all_flat_map}
 use Rattle.run_laws.specs.place_law.Answers.{AnswersBody, AnswersDo, IfLive, ManagersAnswer}
 use Rattle.run_laws.proofs.place_law.ManagerSays.{AsksIndex, begins_so, body_so, time_so, waits_so}
 use Rattle.run_laws.proofs.place_law.Saying.{AllSay, IsOfEntries, packets_say}

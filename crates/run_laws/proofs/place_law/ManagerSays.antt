@@ -1,6 +1,6 @@
 -- Whatever happens to a manager, it tells entries of its index in answer to a Want, a Gave, Deltas or a Check alone: whatever is said of Grants and Lives, and
 -- holds of what it says to those, holds of all that it says.
-use Rattle.std.proofs.Common.{ℕ, ◌==◌, List, [], ◌∷◌, true, false, Option, None, Some, is_some, length}
+use Rattle.std.proofs.Common.{ℕ, ◌==◌, List, true, false, Option, None, Some, is_some, length}
 use Rattle.std.specs.Prelude.{fold}
 use Rattle.checkpoint.specs.declared.input.In.{In}
 use Rattle.checkpoint.specs.declared.input.In.TheVariants as input

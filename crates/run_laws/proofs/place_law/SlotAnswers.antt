@@ -1,46 +1,30 @@
 -- A manager's slots answer Live only to a Check, at the place of the block's entry.
-use Rattle.std.proofs.Common.{◌≡◌, ℕ, Bool, true, false, cond, ◌&&◌, nat_lt, ◌==◌, List, [], ◌∷◌, Option, None, Some, filter, slice_get, refl}
+use Rattle.std.proofs.Common.{◌≡◌, ℕ, Bool, true, false, cond, ◌&&◌, ◌==◌, [], ◌∷◌, Option, None, Some, slice_get, refl}
 use Rattle.std.specs.List.{flat_map}
 use Rattle.std.specs.Ordering.{is_eq}
 use Rattle.std.proofs.lemmas.Map.Views.{tells_apart}
 use Rattle.std.proofs.lemmas.Bool.{eqb-true}
 use Rattle.token_manager.specs.Transition as slot
 use Rattle.token_manager.specs.Transition.{entry_at, is_place, transition}
-use Rattle.xfs_base.proofs.Booleans.{and_first, and_second, by_test, contrary}
+use Rattle.xfs_base.proofs.Booleans.{and_first, and_second, contrary}
 use Rattle.xfs_base.proofs.Orders.{seg_cmp_exact}
 use Rattle.xfs_base.specs.Segments.{seg_cmp}
 use Rattle.xfs_base.specs.declared.entry.Entry.{Entry}
 use Rattle.xfs_base.specs.declared.entry.Place.{Place}
-use Rattle.group_map.specs.GroupMapState.{GroupMapState}
 use Rattle.manager_slots.specs.declared.slot_phase.SlotPhase.{SlotPhase}
 use Rattle.manager_slots.specs.declared.slot_phase.SlotPhase.TheVariants as phase
-use Rattle.manager_slots.specs.Slots.{epoch_of}
 use Rattle.manager_slots.specs.SlotTable as table
 use Rattle.manager_slots.specs.SlotTable.{Hearer, Table, TableAsker}
-use Rattle.manager_slots.specs.Takeovers as takeovers
-use Rattle.manager_slots.specs.Takeovers.{Asker}
 use Rattle.manager_slots.specs.Tokens as tokens
-use Rattle.node_base.specs.declared.effects.Effect.{Effect}
-use Rattle.node_base.specs.declared.questions.Questions.{Questions}
-use Rattle.takeover.specs.declared.input.In.{In as Given}
-use Rattle.takeover.specs.declared.input.In.TheVariants as given_in
-use Rattle.takeover.specs.declared.output.Out.{Out as Told}
-use Rattle.takeover.specs.declared.output.Out.TheVariants as told
 use Rattle.token_manager.specs.declared.input.In.{In}
 use Rattle.token_manager.specs.declared.output.Out.{Out}
 use Rattle.token_manager.specs.declared.output.Out.TheVariants as out
 use Rattle.wire_msg.specs.declared.cleaning.Check.{Check}
-use Rattle.wire_msg.specs.declared.cleaning.UsageAsk.{UsageAsk}
 use Rattle.wire_msg.specs.declared.deltas.Deltas.{Deltas}
-use Rattle.wire_msg.specs.declared.deltas.Report.{Report}
 use Rattle.wire_msg.specs.declared.tokens.Gave.{Gave}
 use Rattle.wire_msg.specs.declared.tokens.Want.{Want}
 use Rattle.xfs_base.specs.Blocks.{slot_of}
-use Rattle.xfs_base.specs.declared.news.SlotNews.{SlotNews}
-use Rattle.xfs_base.specs.declared.node.NodeId.{NodeId}
 use Rattle.xfs_base.specs.declared.segment.LogId.{LogId}
-use Rattle.xfs_base.specs.declared.segment.SegName.{SegName}
-use Rattle.xfs_base.specs.Steps.{Stepped}
 use Rattle.xfs_base.proofs.Alls.{all_flat_map}
 use Rattle.run_laws.proofs.place_law.Saying.{AllSay, Says}
 use Rattle.run_laws.proofs.place_law.SlotSays.{in_slot_so}

@@ -148,12 +148,12 @@ module _ (laws : NodeLaws) (token_laws : tokens.NodeLaws) (k : Cluster) (part : 
         (subst (λ n. SentBy part s.net s.asked n d.packet.body) d.from (st.facts d.packet (was_sent w.sent d.packet d.sent)))
 
     -- a block of the slot
-    block : BlockId
+    abbrev block : BlockId
     block = record { ino = record { 0 = part }; blk = 0 }
 
-    covered : (registry : RegistryNode) (z : SlotState) → s.registry ≡ registry → s.net.slots z.epoch ≡ Some z → z.epoch ≡ epoch_in registry.board part
-        → (l : ℕ) → 0 < l → l ≤ 9 → of_log (horizon_at registry.board.checkpoints part) l ≤ suc (applied_of z.applied l)
-    covered registry z refl there same l some limit =
+    covered : (z : SlotState) → s.net.slots z.epoch ≡ Some z → z.epoch ≡ epoch_in s.registry.board part → (l : ℕ) → 0 < l → l ≤ 9
+        → of_log (horizon_at s.registry.board.checkpoints part) l ≤ suc (applied_of z.applied l)
+    covered z there same l some limit =
         let agreed = st.registry in
         subst (λ h. of_log h l ≤ suc (applied_of z.applied l)) (ap s.net.horizon (same ∙ agreed.epoch) ∙ sym agreed.horizon)
         (small_covers part (held_in part texts) s.net block z.epoch z (record { any = first; run = st.runs; inside = mod-eq_of_lt of_eight }) there l some
@@ -164,10 +164,13 @@ module _ (laws : NodeLaws) (token_laws : tokens.NodeLaws) (k : Cluster) (part : 
       joins = λ j z b premise inside. small_joins part (held_in part texts) s.net b z.epoch z (record { any = first; run = st.runs; inside = inside })
           (manager_there j z (subst (λ c. active_of part (node_in w.nodes (place_of c (Manager j))) ≡ Some z) cluster premise));
       covers = λ registry j z there premise same l some limit.
-          covered registry z
+          subst
+          (λ (r : RegistryNode). z.epoch ≡ epoch_in r.board part → of_log (horizon_at r.board.checkpoints part) l ≤ suc (applied_of z.applied l))
           (is_registry s.registry registry
           (sym st.placed.registry ∙ subst (λ c. node_in w.nodes (place_of c Registry) ≡ Some (any.Registry registry)) cluster there))
-          (manager_there j z (subst (λ c. active_of part (node_in w.nodes (place_of c (Manager j))) ≡ Some z) cluster premise)) same l some limit;
+          (λ fact. covered z (manager_there j z (subst (λ c. active_of part (node_in w.nodes (place_of c (Manager j))) ≡ Some z) cluster premise)) fact l some
+          limit)
+          same;
       kept = λ name b d inside filed has newest.
           small_kept part (held_in part texts) s.net b name (record { any = first; run = st.runs; inside = inside })
           (was_to_be_deleted name d) filed has newest;

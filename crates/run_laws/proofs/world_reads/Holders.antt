@@ -24,7 +24,7 @@ use Rattle.run_laws.proofs.world_law.Laws as tokens
 use Rattle.run_laws.proofs.world_law.RegistryTurns.{slot_below}
 use Rattle.run_laws.proofs.world_reads.LegalJoints.{of_block}
 use Rattle.run_laws.proofs.world_reads.TurnRun.{moment_cluster}
-use Rattle.run_laws.specs.world_law.Owners.{moment, node_in, tokens_at, tokens_of}
+use Rattle.run_laws.specs.world_law.Owners.{moment, node_in, tokens_of}
 use Rattle.run_laws.specs.world_law.Standing.{members}
 use Rattle.run_laws.specs.world_logs.Lines.{HasLines, Texts}
 use Rattle.run_laws.specs.world_reads.Below.{BlocksMakeLegal}
