@@ -1,24 +1,23 @@
 -- What a server holds and lists is of logs of which some was stored there or listed to it, whatever happens to it.
-use Rattle.std.proofs.Common.{ℕ, ◌==◌, ◌&&◌, ◌||◌, not, List, [], ◌∷◌, length, Option, Some, None}
-use Rattle.std.specs.Prelude.{Bool, IfSome, filter_map, map, if◌then◌else◌}
+use Rattle.std.proofs.Common.{ℕ, ◌==◌, ◌&&◌, ◌||◌, not, List, [], ◌∷◌, length, Option, Some, None, subst}
+use Rattle.std.specs.Prelude.{Bool, IfSome, filter_map, map}
 use Rattle.std.specs.List.{AllByRecursion, cons_option}
 use Rattle.std.specs.Option.{is_some}
-use Rattle.std.specs.Ordering.{is_eq, match_ordering}
+use Rattle.std.specs.Ordering.{match_ordering}
 use Rattle.xfs_base.proofs.Booleans.{by_test}
 use Rattle.xfs_base.specs.declared.fragment.FragMeta.{FragMeta}
 use Rattle.xfs_base.specs.declared.fragment.Fragment.{Fragment}
 use Rattle.xfs_base.specs.declared.node.NodeId.{NodeId}
-use Rattle.xfs_base.specs.declared.node.NodeId.TheVariants.{Server}
 use Rattle.xfs_base.specs.declared.segment.LogId.{LogId}
 use Rattle.xfs_base.specs.declared.segment.Pass.{Pass}
 use Rattle.xfs_base.specs.declared.segment.SegName.{SegName}
 use Rattle.xfs_base.specs.Segments.{pass_cmp, seg_cmp}
 use Rattle.xfs_base.specs.Stamps.{is_greater}
 use Rattle.xfs_base.specs.Steps.{Stepped, still}
-use Rattle.xfs_base.proofs.Alls.{all_append, all_filter, all_map}
-use Rattle.xfs_base.proofs.Leaving.{Leaves, goes_after, leaves_each, stays}
-use Rattle.fragment_store.specs.Calls.{barred, kept, on_fence as fenced_at, store_refused, with_fragment}
-use Rattle.fragment_store.specs.ShelfState.{ShelfState, fence_of, held_at, is_held, is_marked, same_name}
+use Rattle.xfs_base.proofs.Alls.{all_filter, all_map}
+use Rattle.xfs_base.proofs.Leaving.{Leaves, goes_after, stays}
+use Rattle.fragment_store.specs.Calls.{kept, on_fence as fenced_at, on_fill, with_fragment}
+use Rattle.fragment_store.specs.ShelfState.{ShelfState, fence_of, is_held, is_marked, same_name}
 use Rattle.group_map.specs.GroupMapState.{GroupMapState}
 use Rattle.group_map.specs.Groups.{group_of}
 use Rattle.group_rebuild.specs.declared.input.In.{In as Input}
@@ -33,46 +32,31 @@ use Rattle.group_rebuild.specs.RebuildState.{RebuildState}
 use Rattle.group_rebuild.specs.Transition as rebuild
 use Rattle.group_rebuild.specs.Transition.{awaited, awaits, begun as begun_rebuild, begun_if_all, heard_from, listed_with, told_by, repeated, transition, without}
 use Rattle.group_rebuild.specs.Wanted.{in_group, of_group, refilled, wanted_in, wanted_of}
-use Rattle.node_base.specs.Beginning.{answers_unanswered, begun, next_item, work_at}
-use Rattle.node_base.specs.declared.effects.Effect.{Effect}
-use Rattle.node_base.specs.declared.effects.Effect.TheVariants.{Answer, Does, Lose as Loses, Send}
-use Rattle.node_base.specs.Effects.{packets_of}
-use Rattle.node_base.specs.Known.{names_known}
-use Rattle.node_base.specs.Maps.{fits, is_older, taken as taken_maps}
-use Rattle.node_base.specs.Shape.{is_well_formed}
 use Rattle.std.specs.Map.{remove_entry, values_of}
 use Rattle.std.specs.BTreeMap.{insert_entry, is_at}
 use Rattle.std.specs.declared.cmp.Ordering.{Ordering}
 use Rattle.std.specs.declared.cmp.Ordering.TheVariants.{Less, Equal, Greater}
 use Rattle.group_map.specs.declared.group.Group.{Group}
-use Rattle.store_nodes.specs.declared.server.Rebuilding.{Rebuilding}
-use Rattle.store_nodes.specs.declared.server.Server as nodes
-use Rattle.store_nodes.specs.declared.server.Wish.{Wish}
-use Rattle.store_nodes.specs.declared.server.Wish.TheVariants.{Lose, Rebuild, Other}
-use Rattle.store_nodes.specs.Rebuilds.{Done, lists_asked, fetch_asked, says, goes_on, rebuilds, server_in, awaits_list, fetch_of, on_listed, found_for, on_found, missing_for, on_missing}
-use Rattle.store_nodes.specs.ServerEvents.{on_store, found_or_missing, fence_told, on_fence, on_delete, takes_news, on_news, on_welcome, asks_for_maps, tells, hears, hears_known, on_body, on_packet, on_lose, begins_rebuild, on_rebuild, on_wish, at_item, wish_of, on_begin, hello_again, on_tick, on_event, is_far_from_ends, takes}
+use Rattle.store_nodes.specs.Rebuilds.{says, on_listed}
+use Rattle.store_nodes.specs.ServerEvents.{takes}
 use Rattle.stripe_code.specs.declared.round.RoundState.{RoundState}
 use Rattle.stripe_code.specs.declared.round.RoundState.TheVariants.{Read, Short, Waiting}
 use Rattle.stripe_code.specs.declared.round.Told.{Told}
 use Rattle.stripe_code.specs.declared.round.Told.TheVariants.{Held, Missing}
 use Rattle.stripe_code.specs.Round.{RoundSoFar, state_of, taken}
-use Rattle.version_model.specs.declared.answer.Answer.{Answer as Answered}
-use Rattle.version_model.specs.declared.answer.Answer.TheVariants as answers
+use Rattle.version_model.specs.declared.work.Work.{Work}
 use Rattle.wire_msg.specs.declared.body.Body.{Body}
 use Rattle.wire_msg.specs.declared.body.Body.TheVariants as body
 use Rattle.wire_msg.specs.declared.packet.Do.{Do}
-use Rattle.wire_msg.specs.declared.packet.Do.TheVariants.{Begin, Deliver, Tick}
+use Rattle.wire_msg.specs.declared.packet.Do.TheVariants.{Tick}
 use Rattle.wire_msg.specs.declared.packet.Packet.{Packet}
-use Rattle.wire_msg.specs.declared.registry.News.{News}
-use Rattle.wire_msg.specs.declared.registry.Welcome.{Welcome}
-use Rattle.wire_msg.specs.declared.storage.Fence.{Fence}
 use Rattle.wire_msg.specs.declared.storage.Fetch.{Fetch}
-use Rattle.wire_msg.specs.declared.storage.Found.{Found}
 use Rattle.wire_msg.specs.declared.storage.Listed.{Listed}
-use Rattle.wire_msg.specs.declared.storage.Missing.{Missing as Absent}
-use Rattle.wire_msg.specs.declared.storage.Store.{Store}
-use Rattle.node_logs.proofs.node_log_tie.Lists.{answers_send}
-use Rattle.node_logs.specs.manager_log_tie.Listing.{CarriesOf, ComesOf, EntryOf, FragmentOf, MetasOf, NameOf, PresentOf, ReadsOf, RebuildOf, RebuildingOf, ServerHolds, ServersListWhatWasStored, ServersStartBare, WantedOf}
+use Rattle.node_moves.proofs.server_moves.Keeping.{Keeps, event_keeps, packets_say}
+use Rattle.node_moves.specs.server_moves.Moves.{Given, Sent}
+use Rattle.node_moves.specs.server_moves.Moves.Given.{ListCame}
+use Rattle.node_moves.specs.server_moves.Moves.Sent.{ListSent}
+use Rattle.node_logs.specs.manager_log_tie.Listing.{CarriesOf, ComesOf, EntryOf, FragmentOf, MetasOf, NameOf, PresentOf, ReadsOf, RebuildOf, ServersListWhatWasStored, ServersStartBare, WantedOf}
 
 all_cons : {X : Type 0} (P : X → Type 0) (o : Option X) (xs : List X) → IfSome o P → AllByRecursion P xs → AllByRecursion P (cons_option o xs)
 all_cons P None xs fact all = all
@@ -103,6 +87,9 @@ module _ (test : LogId → Bool) where
 
   fenced_so : (s : ShelfState) (log : LogId) (pass : Pass) → Shelf s → Shelf (fenced_at s log pass)
   fenced_so s log pass h = by_test Shelf (is_greater (pass_cmp pass (fence_of s.fences log))) _ s (λ t. h) (λ t. h)
+
+  filled_so : (s : ShelfState) (f : Fragment) → Shelf s → FragmentOf test f → Shelf (on_fill s f)
+  filled_so s f h new = by_test Shelf (is_marked s.marks f.meta.name) s (kept s f) (λ t. h) (λ t. kept_so s f h new)
 
   listed_so : (held : List Fragment) → Fragments held → MetasOf test (map (λ (f : Fragment). f.meta) held)
   listed_so [] all = tt
@@ -242,226 +229,31 @@ module _ (test : LogId → Bool) where
   rebuild_so s (input.Maps groups) h new = record { state = record { listed = h.listed; reads = h.reads }; outs = tt }
   rebuild_so s input.Tick h new = record { state = h; outs = repeated_so s s.reads }
 
-  -- ---- what the server does for it
+  -- ---- events
 
-  -- what is sent carries such
-  abbrev Says : Effect → Type 0
-  Says (Send to said) = CarriesOf test said
-  Says (Answer item answer) = Unit {0}
-  Says (Loses seg) = Unit {0}
-  Says (Does act) = Unit {0}
+  -- what the rebuild takes in an event is of such logs
+  given_so : (what : Do) (shelf : ShelfState) (given : Input) → ComesOf test what → Given what shelf given → InputOf given
+  given_so what shelf given new (ListCame packet server m came) = subst (CarriesOf test) came.says (subst (ComesOf test) came.event new)
+  given_so what shelf given new _ = tt
 
-  abbrev AllSay : List Effect → Type 0
-  AllSay outs = AllByRecursion Says outs
+  abbrev SendsOf : NodeId → Body → Type 0
+  SendsOf to said = CarriesOf test said
 
-  abbrev Goes : Done → Type 0
-  Goes d = Leaves (ServerHolds test) Says d
+  sends_so : (first : ShelfState) (what : Do) (s : ShelfState) (to : NodeId) (said : Body) → Shelf s → Sent first what s to said → CarriesOf test said
+  sends_so first what s to said h (ListSent packet m came) = listed_so s.held h
+  sends_so first what s to said h _ = tt
 
-  answers_say : (item : Option ℕ) (answer : Answered) → AllSay (answers_unanswered item answer)
-  answers_say item answer = answers_send Says (λ number said. tt) item answer
-
-  quiet : (node : nodes.Server) (outs : List Effect) → ServerHolds test node → AllSay outs → Goes (record { state = node; outs = outs })
-  quiet node outs h said = record { state = h; outs = said }
-
-  asks_say : (r : Option Rebuilding) (server : ℕ) → AllSay (lists_asked r server)
-  asks_say None server = tt
-  asks_say (Some r) server = (tt, tt)
-
-  fetch_goes : (node : nodes.Server) (r : Option Rebuilding) (server : ℕ) (name : SegName) (own : ℕ) → ServerHolds test node
-      → IfSome r (RebuildingOf test)
-      → Goes (fetch_asked node r server name own)
-  fetch_goes node None server name own h here = quiet node [] h tt
-  fetch_goes node (Some r) server name own h here = record { state = record { shelf = h.shelf; rebuild = here }; outs = (tt, tt) }
-
-  filled_so : (s : ShelfState) (f : Fragment) → Shelf s → FragmentOf test f → Shelf (if is_marked s.marks f.meta.name then s else kept s f)
-  filled_so s f h new = by_test Shelf (is_marked s.marks f.meta.name) s (kept s f) (λ t. h) (λ t. kept_so s f h new)
-
-  one_goes : (node : nodes.Server) (o : Out) → ServerHolds test node → OutOf o → Goes (says node o)
-  unfolding says
-  one_goes node (out.List server) h new = quiet node (lists_asked node.rebuilding server) h (asks_say node.rebuilding server)
-  one_goes node (out.Fetch server name own) h new = fetch_goes node node.rebuilding server name own h h.rebuild
-  one_goes node (out.Fill f) h new = record { state = record { shelf = filled_so node.shelf f h.shelf new; rebuild = h.rebuild }; outs = tt }
-  one_goes node (out.Finished filled gone) h new = record {
-    state = record { shelf = h.shelf; rebuild = tt };
-    outs = answers_say node.items.unanswered (answers.Rebuilt filled gone);
+  keeps : (first : ShelfState) (what : Do) → ComesOf test what → Keeps first what Shelf (RebuildOf test) (λ (works : List Work). Unit {0}) OutOf SendsOf
+  keeps first what new = record {
+    stores = λ packet m came s h. kept_so s m.fragment h (subst (CarriesOf test) came.says (subst (ComesOf test) came.event new));
+    fences = λ log pass s h. fenced_so s log pass h;
+    deletes = λ packet m came s h. all_filter (FragmentOf test) (λ (f : Fragment). not (same_name m.name f.meta.name)) s.held h;
+    fills = λ f so s h. filled_so s f h so;
+    loses = λ items number server asked works s room h. tt;
+    begins = λ server groups. record { listed = tt; reads = tt };
+    takes = λ s r given came h. rebuild_so r given h (given_so what s given new came);
+    sends = λ s to said h sent. sends_so first what s to said h sent;
   }
-
-  goes_on_goes : (node : nodes.Server) (r : Option Rebuilding) (given : Input) → ServerHolds test node → IfSome r (RebuildingOf test) → InputOf given
-      → Goes (goes_on node r given)
-  goes_on_goes node None given h here new = quiet node [] h tt
-  goes_on_goes node (Some r) given h here new =
-      (let d = rebuild_so r.rebuild given here new in
-      leaves_each (ServerHolds test) Says OutOf says one_goes (record node { rebuilding = Some (record r { rebuild = (transition r.rebuild given).state }) })
-      (transition r.rebuild given).outs (record { shelf = h.shelf; rebuild = d.state }) d.outs)
-
-  rebuilds_go : (node : nodes.Server) (given : Input) → ServerHolds test node → InputOf given → Goes (rebuilds node given)
-  unfolding rebuilds
-  rebuilds_go node given h new = goes_on_goes node node.rebuilding given h h.rebuild new
-
-  listed_goes : (node : nodes.Server) (server : Option ℕ) (m : Listed) → ServerHolds test node → MetasOf test m.held → Goes (on_listed node server m)
-  unfolding on_listed
-  listed_goes node None m h new = quiet node [] h tt
-  listed_goes node (Some server) m h new =
-      by_test Goes (awaits_list node.rebuilding m.ask) (rebuilds node (input.Listed server m.held (barred node.shelf))) (still node)
-      (λ t. rebuilds_go node (input.Listed server m.held (barred node.shelf)) h new) (λ t. quiet node [] h tt)
-
-  found_for_goes : (node : nodes.Server) (server : ℕ) (m : Found) (own : Option ℕ) → ServerHolds test node → Goes (found_for node server m own)
-  found_for_goes node server m None h = quiet node [] h tt
-  found_for_goes node server m (Some own) h = rebuilds_go node (input.Got own server m.generation m.fragment) h tt
-
-  found_goes : (node : nodes.Server) (server : Option ℕ) (m : Found) → ServerHolds test node → Goes (on_found node server m)
-  unfolding on_found
-  found_goes node None m h = quiet node [] h tt
-  found_goes node (Some server) m h = found_for_goes node server m (fetch_of node.rebuilding m.ask) h
-
-  missing_for_goes : (node : nodes.Server) (server : ℕ) (m : Absent) (own : Option ℕ) → ServerHolds test node → Goes (missing_for node server m own)
-  missing_for_goes node server m None h = quiet node [] h tt
-  missing_for_goes node server m (Some own) h = rebuilds_go node (input.Missing own server m.generation) h tt
-
-  missing_goes : (node : nodes.Server) (server : Option ℕ) (m : Absent) → ServerHolds test node → Goes (on_missing node server m)
-  unfolding on_missing
-  missing_goes node None m h = quiet node [] h tt
-  missing_goes node (Some server) m h = missing_for_goes node server m (fetch_of node.rebuilding m.ask) h
-
-  -- ---- fragments
-
-  store_goes : (node : nodes.Server) (from : NodeId) (m : Store) → ServerHolds test node → FragmentOf test m.fragment → Goes (on_store node from m)
-  unfolding on_store
-  store_goes node from m h new =
-      by_test Goes (is_some (store_refused node.shelf m.fragment.meta.name m.generation)) (still node) _ (λ t. quiet node [] h tt)
-      (λ t. record { state = record { shelf = kept_so node.shelf m.fragment h.shelf new; rebuild = h.rebuild }; outs = (tt, tt) })
-
-  answer_says : (from : NodeId) (s : ShelfState) (m : Fetch) (found : Option Fragment) → Says (Send from (found_or_missing s m found))
-  answer_says from s m None = tt
-  answer_says from s m (Some f) = tt
-
-  fence_says : (from : NodeId) (m : Fence) (s : ShelfState) → AllSay (fence_told from m s)
-  fence_says from m s = by_test AllSay (is_eq (pass_cmp (fence_of s.fences m.log) m.pass)) _ [] (λ t. (tt, tt)) (λ t. tt)
-
-  -- ---- the maps
-
-  news_go : (node : nodes.Server) (news : News) → ServerHolds test node → Goes (takes_news node news)
-  unfolding takes_news
-  news_go node news h =
-      by_test Goes (is_older node.maps news) (rebuilds (record node { maps = taken_maps node.maps news }) (input.Maps news.groups)) (still node)
-      (λ t. rebuilds_go (record node { maps = taken_maps node.maps news }) (input.Maps news.groups) (record { shelf = h.shelf; rebuild = h.rebuild }) tt)
-      (λ t. quiet node [] h tt)
-
-  news_heard : (node : nodes.Server) (news : News) → ServerHolds test node → Goes (on_news node news)
-  news_heard node news h = by_test Goes (fits node.maps news) (takes_news node news) (still node) (λ t. news_go node news h) (λ t. quiet node [] h tt)
-
-  welcomed : (node : nodes.Server) (m : Welcome) → ServerHolds test node → Goes (on_welcome node m)
-  unfolding on_welcome
-  welcomed node m h =
-      by_test Goes ((m.inc == node.shelf.generation) && fits node.maps m.news) (takes_news (record node { hello = None }) m.news)
-      (still node)
-      (λ t. news_go (record node { hello = None }) m.news (record { shelf = h.shelf; rebuild = h.rebuild }))
-      (λ t. quiet node [] h tt)
-
-  asks_go : (node : nodes.Server) → ServerHolds test node → Goes (asks_for_maps node)
-  unfolding asks_for_maps
-  asks_go node h = record { state = record { shelf = h.shelf; rebuild = h.rebuild }; outs = (tt, tt) }
-
-  -- ---- packets
-
-  heard : (node : nodes.Server) (from : NodeId) (said : Body) → ServerHolds test node → CarriesOf test said → Goes (hears node from said)
-  unfolding on_fence on_delete
-  heard node from (body.Store m) h new = store_goes node from m h new
-  heard node from (body.Fetch m) h new =
-      quiet node (Send from (found_or_missing node.shelf m (held_at node.shelf.held m.name)) ∷ []) h
-      (answer_says from node.shelf m (held_at node.shelf.held m.name), tt)
-  heard node from (body.Fence m) h new = record {
-    state = record { shelf = fenced_so node.shelf m.log m.pass h.shelf; rebuild = h.rebuild };
-    outs = fence_says from m (fenced_at node.shelf m.log m.pass);
-  }
-  heard node from (body.List m) h new = record { state = h; outs = (listed_so node.shelf.held h.shelf, tt) }
-  heard node from (body.Delete m) h new = record {
-    state = record {
-      shelf = all_filter (FragmentOf test) (λ (f : Fragment). not (same_name m.name f.meta.name)) node.shelf.held h.shelf;
-      rebuild = h.rebuild;
-    };
-    outs = (tt, tt);
-  }
-  heard node from (body.Listed m) h new = listed_goes node (server_in from) m h new
-  heard node from (body.Fragment m) h new = found_goes node (server_in from) m h
-  heard node from (body.Missing m) h new = missing_goes node (server_in from) m h
-  heard node from _ h new = quiet node [] h tt
-
-  heard_known : (node : nodes.Server) (from : NodeId) (said : Body) → ServerHolds test node → CarriesOf test said → Goes (hears_known node from said)
-  heard_known node from said h new =
-      by_test Goes (names_known node.maps said) (hears node from said) (asks_for_maps node) (λ t. heard node from said h new) (λ t. asks_go node h)
-
-  body_heard : (node : nodes.Server) (from : NodeId) (said : Body) → ServerHolds test node → CarriesOf test said → Goes (on_body node from said)
-  body_heard node from (body.MapNews news) h new = news_heard node news h
-  body_heard node from (body.Welcome m) h new = welcomed node m h
-  body_heard node from said h new = heard_known node from said h new
-
-  packet_heard : (node : nodes.Server) (packet : Packet) → ServerHolds test node → CarriesOf test packet.body → Goes (on_packet node packet)
-  unfolding on_packet
-  packet_heard node packet h new =
-      by_test Goes (is_well_formed node.peers packet) (on_body node packet.from packet.body) (still node)
-      (λ t. body_heard node packet.from packet.body h new) (λ t. quiet node [] h tt)
-
-  -- ---- items
-
-  lose_goes : (node : nodes.Server) (number : ℕ) → ServerHolds test node → Goes (on_lose node number)
-  unfolding on_lose
-  lose_goes node number h = record {
-    state = record { shelf = tt; rebuild = tt };
-    outs = all_append Says (answers_unanswered node.items.unanswered answers.Cut) _ (answers_say node.items.unanswered answers.Cut) (tt, (tt, tt));
-  }
-
-  begun_goes : (node : nodes.Server) (number : ℕ) (groups : Option GroupMapState) → ServerHolds test node → Goes (begins_rebuild node number groups)
-  begun_goes node number None h = quiet node [] h tt
-  begun_goes node number (Some groups) h = rebuilds_go _ input.Tick (record { shelf = h.shelf; rebuild = record { listed = tt; reads = tt } }) tt
-
-  rebuild_wished : (node : nodes.Server) (number : ℕ) → ServerHolds test node → Goes (on_rebuild node number)
-  unfolding on_rebuild
-  rebuild_wished node number h =
-      by_test Goes (is_some node.items.unanswered) (tells node (Answer number answers.Busy ∷ [])) (begins_rebuild node number node.maps.groups)
-      (λ t. quiet node (Answer number answers.Busy ∷ []) h (tt, tt))
-      (λ t. begun_goes node number node.maps.groups h)
-
-  wished : (node : nodes.Server) (number : ℕ) (wish : Wish) → ServerHolds test node → Goes (on_wish node number wish)
-  wished node number Lose h = lose_goes node number h
-  wished node number Rebuild h = rebuild_wished node number h
-  wished node number Other h = quiet node [] h tt
-
-  item_goes : (node : nodes.Server) (item : Option ℕ) → ServerHolds test node → Goes (at_item node item)
-  item_goes node None h = quiet node [] h tt
-  item_goes node (Some number) h = wished node number (wish_of (work_at node.items number)) h
-
-  begins : (node : nodes.Server) → ServerHolds test node → Goes (on_begin node)
-  unfolding on_begin
-  begins node h = item_goes (record node { items = begun node.items }) (next_item node.items) (record { shelf = h.shelf; rebuild = h.rebuild })
-
-  -- ---- all events
-
-  hello_says : (node : nodes.Server) (hello : Option ℕ) → AllSay (hello_again node hello)
-  hello_says node None = tt
-  hello_says node (Some ask) = (tt, tt)
-
-  ticks : (node : nodes.Server) → ServerHolds test node → Goes (on_tick node)
-  unfolding on_tick
-  ticks node h =
-      goes_after (ServerHolds test) Says (hello_again node node.hello) (rebuilds node input.Tick) (hello_says node node.hello)
-      (rebuilds_go node input.Tick h tt)
-
-  happens : (node : nodes.Server) (what : Do) → ServerHolds test node → ComesOf test what → Goes (on_event node what)
-  happens node Begin h new = begins node h
-  happens node (Deliver packet) h new = packet_heard node packet h new
-  happens node Tick h new = ticks node h
-
-  takes_goes : (node : nodes.Server) (what : Do) → ServerHolds test node → ComesOf test what → Goes (takes node what)
-  takes_goes node what h new =
-      by_test Goes (is_far_from_ends node) (on_event node what) (still node) (λ t. happens node what h new) (λ t. quiet node [] h tt)
-
-  sent_so : (node : NodeId) (es : List Effect) → AllSay es → AllByRecursion (λ (p : Packet). CarriesOf test p.body) (packets_of node es)
-  sent_so node [] all = tt
-  sent_so node (Send to said ∷ es) all = (all.0, sent_so node es all.1)
-  sent_so node (Answer item answer ∷ es) all = sent_so node es all.1
-  sent_so node (Loses seg ∷ es) all = sent_so node es all.1
-  sent_so node (Does act ∷ es) all = sent_so node es all.1
 
 -- ---- the law
 
@@ -470,5 +262,9 @@ servers_bare test number setup works = record { shelf = tt; rebuild = tt }
 
 pub servers_list : ServersListWhatWasStored
 servers_list test node what h new =
-    (let d = takes_goes test node what h new in
-    record { node = d.state; packets = sent_so test (Server node.number) (takes node what).outs d.outs })
+    let d = event_keeps node what (Shelf test) (RebuildOf test) (λ works. Unit {0}) (OutOf test) (SendsOf test) (keeps test node.shelf what new)
+    (record { shelf = h.shelf; rebuild = h.rebuild; works = tt }) in
+    record {
+      node = record { shelf = d.state.shelf; rebuild = d.state.rebuild };
+      packets = packets_say node what (λ (p : Packet). CarriesOf test p.body) (takes node what).outs d.outs;
+    }

@@ -1,26 +1,23 @@
 -- What a server holds and tells is bytes, whatever happens to it.
-use Rattle.std.proofs.Common.{ℕ, zero, suc, ◌<◌, ◌==◌, ◌&&◌, ◌||◌, not, List, [], ◌∷◌, length, Option, Some, None}
-use Rattle.std.specs.Prelude.{IfSome, slice_get, unwrap_or, if◌then◌else◌}
+use Rattle.std.proofs.Common.{ℕ, zero, suc, ◌<◌, ◌==◌, ◌&&◌, ◌||◌, not, List, [], ◌∷◌, length, Option, Some, None, subst}
+use Rattle.std.specs.Prelude.{IfSome, slice_get, unwrap_or}
 use Rattle.std.specs.List.{AllByRecursion}
 use Rattle.std.specs.Option.{is_some}
-use Rattle.std.specs.Ordering.{is_eq}
 use Rattle.std.proofs.lemmas.List.Elements.{All-from_recursion}
 use Rattle.xfs_base.proofs.Booleans.{by_test}
 use Rattle.xfs_base.specs.declared.fragment.FragMeta.{FragMeta}
 use Rattle.xfs_base.specs.declared.fragment.Fragment.{Fragment}
 use Rattle.xfs_base.specs.declared.node.NodeId.{NodeId}
-use Rattle.xfs_base.specs.declared.node.NodeId.TheVariants.{Server}
 use Rattle.xfs_base.specs.declared.segment.LogId.{LogId}
 use Rattle.xfs_base.specs.declared.segment.Pass.{Pass}
 use Rattle.xfs_base.specs.declared.segment.SegName.{SegName}
 use Rattle.xfs_base.specs.Segments.{pass_cmp, seg_cmp}
 use Rattle.xfs_base.specs.Stamps.{is_greater}
 use Rattle.xfs_base.specs.Steps.{Stepped, still}
-use Rattle.xfs_base.proofs.Alls.{all_append, all_filter, all_map}
-use Rattle.xfs_base.proofs.Leaving.{Leaves, goes_after, leaves_each, stays}
-use Rattle.fragment_store.specs.Calls.{barred, kept, on_fence as fenced_at, store_refused, with_fragment}
+use Rattle.xfs_base.proofs.Alls.{all_filter, all_map}
+use Rattle.xfs_base.proofs.Leaving.{Leaves, goes_after, stays}
+use Rattle.fragment_store.specs.Calls.{kept, on_fence as fenced_at, on_fill, with_fragment}
 use Rattle.fragment_store.specs.ShelfState.{ShelfState, fence_of, held_at, is_held, is_marked, same_name}
-use Rattle.group_map.specs.GroupMapState.{GroupMapState}
 use Rattle.group_rebuild.specs.declared.input.In.{In as Input}
 use Rattle.group_rebuild.specs.declared.input.In.TheVariants as input
 use Rattle.group_rebuild.specs.declared.output.Out.{Out}
@@ -33,45 +30,30 @@ use Rattle.group_rebuild.specs.RebuildState.{RebuildState}
 use Rattle.group_rebuild.specs.Transition as rebuild
 use Rattle.group_rebuild.specs.Transition.{awaited, awaits, begun as begun_rebuild, begun_if_all, heard_from, told_by, repeated, transition, without}
 use Rattle.group_rebuild.specs.Wanted.{refilled, wanted_in}
-use Rattle.node_base.specs.Beginning.{answers_unanswered, begun, next_item, work_at}
-use Rattle.node_base.specs.declared.effects.Effect.{Effect}
-use Rattle.node_base.specs.declared.effects.Effect.TheVariants.{Answer, Does, Lose as Loses, Send}
-use Rattle.node_base.specs.Effects.{packets_of}
-use Rattle.node_base.specs.Known.{names_known}
-use Rattle.node_base.specs.Maps.{fits, is_older, taken as taken_maps}
-use Rattle.node_base.specs.Shape.{is_well_formed}
 use Rattle.std.specs.Map.{values_of}
-use Rattle.store_nodes.specs.declared.server.Rebuilding.{Rebuilding}
-use Rattle.store_nodes.specs.declared.server.Server as nodes
-use Rattle.store_nodes.specs.declared.server.Wish.{Wish}
-use Rattle.store_nodes.specs.declared.server.Wish.TheVariants.{Lose, Rebuild, Other}
-use Rattle.store_nodes.specs.Rebuilds.{Done, lists_asked, fetch_asked, says, goes_on, rebuilds, server_in, awaits_list, fetch_of, on_listed, found_for, on_found, missing_for, on_missing}
-use Rattle.store_nodes.specs.ServerEvents.{on_store, found_or_missing, fence_told, on_fence, on_delete, takes_news, on_news, on_welcome, asks_for_maps, tells, hears, hears_known, on_body, on_packet, on_lose, begins_rebuild, on_rebuild, on_wish, at_item, wish_of, on_begin, hello_again, on_tick, on_event, is_far_from_ends, takes}
+use Rattle.store_nodes.specs.Rebuilds.{says, on_listed}
+use Rattle.store_nodes.specs.ServerEvents.{takes}
 use Rattle.stripe_code.specs.declared.round.RoundState.{RoundState}
 use Rattle.stripe_code.specs.declared.round.RoundState.TheVariants.{Read, Short, Waiting}
 use Rattle.stripe_code.specs.declared.round.Told.{Told}
 use Rattle.stripe_code.specs.declared.round.Told.TheVariants.{Held, Missing}
 use Rattle.stripe_code.specs.Round.{RoundSoFar, state_of, taken}
 use Rattle.stripe_code.specs.Stripe.{stripe_of}
-use Rattle.version_model.specs.declared.answer.Answer.{Answer as Answered}
-use Rattle.version_model.specs.declared.answer.Answer.TheVariants as answers
+use Rattle.version_model.specs.declared.work.Work.{Work}
 use Rattle.wire_msg.specs.declared.body.Body.{Body}
 use Rattle.wire_msg.specs.declared.body.Body.TheVariants as body
 use Rattle.wire_msg.specs.declared.packet.Do.{Do}
-use Rattle.wire_msg.specs.declared.packet.Do.TheVariants.{Begin, Deliver, Tick}
+use Rattle.wire_msg.specs.declared.packet.Do.TheVariants.{Tick}
 use Rattle.wire_msg.specs.declared.packet.Packet.{Packet}
-use Rattle.wire_msg.specs.declared.registry.News.{News}
-use Rattle.wire_msg.specs.declared.registry.Welcome.{Welcome}
-use Rattle.wire_msg.specs.declared.storage.Fence.{Fence}
 use Rattle.wire_msg.specs.declared.storage.Fetch.{Fetch}
-use Rattle.wire_msg.specs.declared.storage.Found.{Found}
 use Rattle.wire_msg.specs.declared.storage.Listed.{Listed}
-use Rattle.wire_msg.specs.declared.storage.Missing.{Missing as Absent}
-use Rattle.wire_msg.specs.declared.storage.Store.{Store}
-use Rattle.node_logs.proofs.node_log_tie.Lists.{answers_send}
+use Rattle.node_moves.proofs.server_moves.Keeping.{Keeps, event_keeps, packets_say}
+use Rattle.node_moves.specs.server_moves.Moves.{Given, Sent}
+use Rattle.node_moves.specs.server_moves.Moves.Given.{FragmentCame}
+use Rattle.node_moves.specs.server_moves.Moves.Sent.{Held as HeldSent}
 use Rattle.node_logs.specs.cleaner_log_tie.Fitting.{RoundFits, ToldFits}
 use Rattle.node_logs.proofs.cleaner_log_tie.Bytes.{Bytes, StateBytes, state_bytes, taken_fits}
-use Rattle.node_logs.specs.manager_log_tie.Servers.{CarriesBytes, ComesInBytes, FragmentFits, PresentFits, ReadsFit, RebuildFits, ServerFits, ServersStartEmpty, ServersTellBytes, ShelfFits}
+use Rattle.node_logs.specs.manager_log_tie.Servers.{CarriesBytes, ComesInBytes, FragmentFits, PresentFits, ReadsFit, ServersStartEmpty, ServersTellBytes, ShelfFits}
 use Rattle.node_logs.proofs.manager_log_tie.Told.{stripe_bytes}
 
 -- ---- a shelf
@@ -87,6 +69,9 @@ kept_bytes s f h new = by_test ShelfFits (is_held s f.meta.name) s _ (λ t. h) (
 
 fenced_bytes : (s : ShelfState) (log : LogId) (pass : Pass) → ShelfFits s → ShelfFits (fenced_at s log pass)
 fenced_bytes s log pass h = by_test ShelfFits (is_greater (pass_cmp pass (fence_of s.fences log))) _ s (λ t. h) (λ t. h)
+
+filled_bytes : (s : ShelfState) (f : Fragment) → ShelfFits s → FragmentFits f → ShelfFits (on_fill s f)
+filled_bytes s f h new = by_test ShelfFits (is_marked s.marks f.meta.name) s (kept s f) (λ t. h) (λ t. kept_bytes s f h new)
 
 found_bytes : (held : List Fragment) (name : SegName) → AllByRecursion FragmentFits held → IfSome (held_at held name) FragmentFits
 found_bytes [] name all = tt
@@ -192,227 +177,42 @@ rebuild_fits s (input.Missing ask server generation) h new = told_fits s s.reads
 rebuild_fits s (input.Maps groups) h new = record { state = h; outs = tt }
 rebuild_fits s input.Tick h new = record { state = h; outs = repeated_fits s s.reads }
 
--- ---- what the server does for it
+-- ---- events
 
--- what is sent carries bytes
-abbrev Says : Effect → Type 0
-Says (Send to said) = CarriesBytes said
-Says (Answer item answer) = Unit {0}
-Says (Loses seg) = Unit {0}
-Says (Does act) = Unit {0}
+-- what the rebuild takes in an event came in bytes
+given_fits : (what : Do) (shelf : ShelfState) (given : Input) → ComesInBytes what → Given what shelf given → InputFits given
+given_fits what shelf given new (FragmentCame packet own server m came) = subst CarriesBytes came.says (subst ComesInBytes came.event new)
+given_fits what shelf given new _ = tt
 
-abbrev AllSay : List Effect → Type 0
-AllSay outs = AllByRecursion Says outs
+abbrev SendsBytes : NodeId → Body → Type 0
+SendsBytes to said = CarriesBytes said
 
-abbrev Goes : Done → Type 0
-Goes d = Leaves ServerFits Says d
+sends_fit : (first : ShelfState) (what : Do) (s : ShelfState) (to : NodeId) (said : Body) → ShelfFits s → Sent first what s to said → CarriesBytes said
+sends_fit first what s to said h (HeldSent packet m f came fact) = subst (λ o. IfSome o FragmentFits) fact (found_bytes s.held m.name h)
+sends_fit first what s to said h _ = tt
 
-answers_say : (item : Option ℕ) (answer : Answered) → AllSay (answers_unanswered item answer)
-answers_say item answer = answers_send Says (λ number said. tt) item answer
-
-quiet : (node : nodes.Server) (outs : List Effect) → ServerFits node → AllSay outs → Goes (record { state = node; outs = outs })
-quiet node outs h said = record { state = h; outs = said }
-
-lists_say : (r : Option Rebuilding) (server : ℕ) → AllSay (lists_asked r server)
-lists_say None server = tt
-lists_say (Some r) server = (tt, tt)
-
-fetch_goes : (node : nodes.Server) (r : Option Rebuilding) (server : ℕ) (name : SegName) (own : ℕ) → ServerFits node → IfSome r RebuildFits
-    → Goes (fetch_asked node r server name own)
-fetch_goes node None server name own h here = quiet node [] h tt
-fetch_goes node (Some r) server name own h here = record { state = record { shelf = h.shelf; rebuild = here }; outs = (tt, tt) }
-
-filled_bytes : (s : ShelfState) (f : Fragment) → ShelfFits s → FragmentFits f → ShelfFits (if is_marked s.marks f.meta.name then s else kept s f)
-filled_bytes s f h new = by_test ShelfFits (is_marked s.marks f.meta.name) s (kept s f) (λ t. h) (λ t. kept_bytes s f h new)
-
-one_goes : (node : nodes.Server) (o : Out) → ServerFits node → OutFits o → Goes (says node o)
-unfolding says
-one_goes node (out.List server) h new = quiet node (lists_asked node.rebuilding server) h (lists_say node.rebuilding server)
-one_goes node (out.Fetch server name own) h new = fetch_goes node node.rebuilding server name own h h.rebuild
-one_goes node (out.Fill f) h new = record { state = record { shelf = filled_bytes node.shelf f h.shelf new; rebuild = h.rebuild }; outs = tt }
-one_goes node (out.Finished filled gone) h new = record {
-  state = record { shelf = h.shelf; rebuild = tt };
-  outs = answers_say node.items.unanswered (answers.Rebuilt filled gone);
+keeps : (first : ShelfState) (what : Do) → ComesInBytes what → Keeps first what ShelfFits StateFits (λ (works : List Work). Unit {0}) OutFits SendsBytes
+keeps first what new = record {
+  stores = λ packet m came s h. kept_bytes s m.fragment h (subst CarriesBytes came.says (subst ComesInBytes came.event new));
+  fences = λ log pass s h. fenced_bytes s log pass h;
+  deletes = λ packet m came s h. all_filter FragmentFits (λ (f : Fragment). not (same_name m.name f.meta.name)) s.held h;
+  fills = λ f so s h. filled_bytes s f h so;
+  loses = λ items number server asked works s room h. tt;
+  begins = λ server groups. tt;
+  takes = λ s r given came h. rebuild_fits r given h (given_fits what s given new came);
+  sends = λ s to said h sent. sends_fit first what s to said h sent;
 }
-
-goes_on_goes : (node : nodes.Server) (r : Option Rebuilding) (given : Input) → ServerFits node → IfSome r RebuildFits → InputFits given
-    → Goes (goes_on node r given)
-goes_on_goes node None given h here new = quiet node [] h tt
-goes_on_goes node (Some r) given h here new =
-    (let d = rebuild_fits r.rebuild given here new in
-    leaves_each ServerFits Says OutFits says one_goes (record node { rebuilding = Some (record r { rebuild = (transition r.rebuild given).state }) })
-    (transition r.rebuild given).outs (record { shelf = h.shelf; rebuild = d.state }) d.outs)
-
-rebuilds_go : (node : nodes.Server) (given : Input) → ServerFits node → InputFits given → Goes (rebuilds node given)
-unfolding rebuilds
-rebuilds_go node given h new = goes_on_goes node node.rebuilding given h h.rebuild new
-
-listed_goes : (node : nodes.Server) (server : Option ℕ) (m : Listed) → ServerFits node → Goes (on_listed node server m)
-unfolding on_listed
-listed_goes node None m h = quiet node [] h tt
-listed_goes node (Some server) m h =
-    by_test Goes (awaits_list node.rebuilding m.ask) (rebuilds node (input.Listed server m.held (barred node.shelf))) (still node)
-    (λ t. rebuilds_go node (input.Listed server m.held (barred node.shelf)) h tt) (λ t. quiet node [] h tt)
-
-found_for_goes : (node : nodes.Server) (server : ℕ) (m : Found) (own : Option ℕ) → ServerFits node → FragmentFits m.fragment
-    → Goes (found_for node server m own)
-found_for_goes node server m None h new = quiet node [] h tt
-found_for_goes node server m (Some own) h new = rebuilds_go node (input.Got own server m.generation m.fragment) h new
-
-found_goes : (node : nodes.Server) (server : Option ℕ) (m : Found) → ServerFits node → FragmentFits m.fragment → Goes (on_found node server m)
-unfolding on_found
-found_goes node None m h new = quiet node [] h tt
-found_goes node (Some server) m h new = found_for_goes node server m (fetch_of node.rebuilding m.ask) h new
-
-missing_for_goes : (node : nodes.Server) (server : ℕ) (m : Absent) (own : Option ℕ) → ServerFits node → Goes (missing_for node server m own)
-missing_for_goes node server m None h = quiet node [] h tt
-missing_for_goes node server m (Some own) h = rebuilds_go node (input.Missing own server m.generation) h tt
-
-missing_goes : (node : nodes.Server) (server : Option ℕ) (m : Absent) → ServerFits node → Goes (on_missing node server m)
-unfolding on_missing
-missing_goes node None m h = quiet node [] h tt
-missing_goes node (Some server) m h = missing_for_goes node server m (fetch_of node.rebuilding m.ask) h
-
--- ---- fragments
-
-store_goes : (node : nodes.Server) (from : NodeId) (m : Store) → ServerFits node → FragmentFits m.fragment → Goes (on_store node from m)
-unfolding on_store
-store_goes node from m h new =
-    by_test Goes (is_some (store_refused node.shelf m.fragment.meta.name m.generation)) (still node) _ (λ t. quiet node [] h tt)
-    (λ t. record { state = record { shelf = kept_bytes node.shelf m.fragment h.shelf new; rebuild = h.rebuild }; outs = (tt, tt) })
-
-answer_says : (from : NodeId) (s : ShelfState) (m : Fetch) (found : Option Fragment) → IfSome found FragmentFits → Says (Send from (found_or_missing s m found))
-answer_says from s m None h = tt
-answer_says from s m (Some f) h = h
-
-fence_says : (from : NodeId) (m : Fence) (s : ShelfState) → AllSay (fence_told from m s)
-fence_says from m s = by_test AllSay (is_eq (pass_cmp (fence_of s.fences m.log) m.pass)) _ [] (λ t. (tt, tt)) (λ t. tt)
-
--- ---- the maps
-
-news_go : (node : nodes.Server) (news : News) → ServerFits node → Goes (takes_news node news)
-unfolding takes_news
-news_go node news h =
-    by_test Goes (is_older node.maps news) (rebuilds (record node { maps = taken_maps node.maps news }) (input.Maps news.groups)) (still node)
-    (λ t. rebuilds_go (record node { maps = taken_maps node.maps news }) (input.Maps news.groups) (record { shelf = h.shelf; rebuild = h.rebuild }) tt)
-    (λ t. quiet node [] h tt)
-
-news_heard : (node : nodes.Server) (news : News) → ServerFits node → Goes (on_news node news)
-news_heard node news h = by_test Goes (fits node.maps news) (takes_news node news) (still node) (λ t. news_go node news h) (λ t. quiet node [] h tt)
-
-welcomed : (node : nodes.Server) (m : Welcome) → ServerFits node → Goes (on_welcome node m)
-unfolding on_welcome
-welcomed node m h =
-    by_test Goes ((m.inc == node.shelf.generation) && fits node.maps m.news) (takes_news (record node { hello = None }) m.news)
-    (still node)
-    (λ t. news_go (record node { hello = None }) m.news (record { shelf = h.shelf; rebuild = h.rebuild })) (λ t. quiet node [] h tt)
-
-asks_go : (node : nodes.Server) → ServerFits node → Goes (asks_for_maps node)
-unfolding asks_for_maps
-asks_go node h = record { state = record { shelf = h.shelf; rebuild = h.rebuild }; outs = (tt, tt) }
-
--- ---- packets
-
-heard : (node : nodes.Server) (from : NodeId) (said : Body) → ServerFits node → CarriesBytes said → Goes (hears node from said)
-unfolding on_fence on_delete
-heard node from (body.Store m) h new = store_goes node from m h new
-heard node from (body.Fetch m) h new =
-    quiet node (Send from (found_or_missing node.shelf m (held_at node.shelf.held m.name)) ∷ []) h
-    (answer_says from node.shelf m (held_at node.shelf.held m.name) (found_bytes node.shelf.held m.name h.shelf), tt)
-heard node from (body.Fence m) h new = record {
-  state = record { shelf = fenced_bytes node.shelf m.log m.pass h.shelf; rebuild = h.rebuild };
-  outs = fence_says from m (fenced_at node.shelf m.log m.pass);
-}
-heard node from (body.List m) h new = record { state = h; outs = (tt, tt) }
-heard node from (body.Delete m) h new = record {
-  state = record { shelf = all_filter FragmentFits (λ (f : Fragment). not (same_name m.name f.meta.name)) node.shelf.held h.shelf; rebuild = h.rebuild };
-  outs = (tt, tt);
-}
-heard node from (body.Listed m) h new = listed_goes node (server_in from) m h
-heard node from (body.Fragment m) h new = found_goes node (server_in from) m h new
-heard node from (body.Missing m) h new = missing_goes node (server_in from) m h
-heard node from _ h new = quiet node [] h tt
-
-heard_known : (node : nodes.Server) (from : NodeId) (said : Body) → ServerFits node → CarriesBytes said → Goes (hears_known node from said)
-heard_known node from said h new =
-    by_test Goes (names_known node.maps said) (hears node from said) (asks_for_maps node) (λ t. heard node from said h new) (λ t. asks_go node h)
-
-body_heard : (node : nodes.Server) (from : NodeId) (said : Body) → ServerFits node → CarriesBytes said → Goes (on_body node from said)
-body_heard node from (body.MapNews news) h new = news_heard node news h
-body_heard node from (body.Welcome m) h new = welcomed node m h
-body_heard node from said h new = heard_known node from said h new
-
-packet_heard : (node : nodes.Server) (packet : Packet) → ServerFits node → CarriesBytes packet.body → Goes (on_packet node packet)
-unfolding on_packet
-packet_heard node packet h new =
-    by_test Goes (is_well_formed node.peers packet) (on_body node packet.from packet.body) (still node) (λ t. body_heard node packet.from packet.body h new)
-    (λ t. quiet node [] h tt)
-
--- ---- items
-
-lose_goes : (node : nodes.Server) (number : ℕ) → ServerFits node → Goes (on_lose node number)
-unfolding on_lose
-lose_goes node number h = record {
-  state = record { shelf = tt; rebuild = tt };
-  outs = all_append Says (answers_unanswered node.items.unanswered answers.Cut) _ (answers_say node.items.unanswered answers.Cut) (tt, (tt, tt));
-}
-
-begun_goes : (node : nodes.Server) (number : ℕ) (groups : Option GroupMapState) → ServerFits node → Goes (begins_rebuild node number groups)
-begun_goes node number None h = quiet node [] h tt
-begun_goes node number (Some groups) h = rebuilds_go _ input.Tick (record { shelf = h.shelf; rebuild = tt }) tt
-
-rebuild_wished : (node : nodes.Server) (number : ℕ) → ServerFits node → Goes (on_rebuild node number)
-unfolding on_rebuild
-rebuild_wished node number h =
-    by_test Goes (is_some node.items.unanswered) (tells node (Answer number answers.Busy ∷ [])) (begins_rebuild node number node.maps.groups)
-    (λ t. quiet node (Answer number answers.Busy ∷ []) h (tt, tt))
-    (λ t. begun_goes node number node.maps.groups h)
-
-wished : (node : nodes.Server) (number : ℕ) (wish : Wish) → ServerFits node → Goes (on_wish node number wish)
-wished node number Lose h = lose_goes node number h
-wished node number Rebuild h = rebuild_wished node number h
-wished node number Other h = quiet node [] h tt
-
-item_goes : (node : nodes.Server) (item : Option ℕ) → ServerFits node → Goes (at_item node item)
-item_goes node None h = quiet node [] h tt
-item_goes node (Some number) h = wished node number (wish_of (work_at node.items number)) h
-
-begins : (node : nodes.Server) → ServerFits node → Goes (on_begin node)
-unfolding on_begin
-begins node h = item_goes (record node { items = begun node.items }) (next_item node.items) (record { shelf = h.shelf; rebuild = h.rebuild })
-
--- ---- all events
-
-hello_says : (node : nodes.Server) (hello : Option ℕ) → AllSay (hello_again node hello)
-hello_says node None = tt
-hello_says node (Some ask) = (tt, tt)
-
-ticks : (node : nodes.Server) → ServerFits node → Goes (on_tick node)
-unfolding on_tick
-ticks node h =
-    goes_after ServerFits Says (hello_again node node.hello) (rebuilds node input.Tick) (hello_says node node.hello) (rebuilds_go node input.Tick h tt)
-
-happens : (node : nodes.Server) (what : Do) → ServerFits node → ComesInBytes what → Goes (on_event node what)
-happens node Begin h new = begins node h
-happens node (Deliver packet) h new = packet_heard node packet h new
-happens node Tick h new = ticks node h
-
-takes_goes : (node : nodes.Server) (what : Do) → ServerFits node → ComesInBytes what → Goes (takes node what)
-takes_goes node what h new =
-    by_test Goes (is_far_from_ends node) (on_event node what) (still node) (λ t. happens node what h new) (λ t. quiet node [] h tt)
 
 -- ---- the law
 
 pub servers_start : ServersStartEmpty
 servers_start number setup works = record { shelf = tt; rebuild = tt }
 
-sent_so : (node : NodeId) (es : List Effect) → AllSay es → AllByRecursion (λ (p : Packet). CarriesBytes p.body) (packets_of node es)
-sent_so node [] all = tt
-sent_so node (Send to said ∷ es) all = (all.0, sent_so node es all.1)
-sent_so node (Answer item answer ∷ es) all = sent_so node es all.1
-sent_so node (Loses seg ∷ es) all = sent_so node es all.1
-sent_so node (Does act ∷ es) all = sent_so node es all.1
-
 pub servers_tell : ServersTellBytes
-servers_tell node what h new = (let d = takes_goes node what h new in
-    record { node = d.state; packets = sent_so (Server node.number) (takes node what).outs d.outs })
+servers_tell node what h new =
+    let d = event_keeps node what ShelfFits StateFits (λ works. Unit {0}) OutFits SendsBytes (keeps node.shelf what new)
+    (record { shelf = h.shelf; rebuild = h.rebuild; works = tt }) in
+    record {
+      node = record { shelf = d.state.shelf; rebuild = d.state.rebuild };
+      packets = packets_say node what (λ (p : Packet). CarriesBytes p.body) (takes node what).outs d.outs;
+    }
