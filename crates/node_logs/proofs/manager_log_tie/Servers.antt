@@ -31,7 +31,6 @@ use Rattle.group_rebuild.specs.Transition as rebuild
 use Rattle.group_rebuild.specs.Transition.{awaited, awaits, begun as begun_rebuild, begun_if_all, heard_from, told_by, repeated, transition, without}
 use Rattle.group_rebuild.specs.Wanted.{refilled, wanted_in}
 use Rattle.std.specs.Map.{values_of}
-use Rattle.store_nodes.specs.Rebuilds.{says, on_listed}
 use Rattle.store_nodes.specs.ServerEvents.{takes}
 use Rattle.stripe_code.specs.declared.round.RoundState.{RoundState}
 use Rattle.stripe_code.specs.declared.round.RoundState.TheVariants.{Read, Short, Waiting}
@@ -43,10 +42,7 @@ use Rattle.version_model.specs.declared.work.Work.{Work}
 use Rattle.wire_msg.specs.declared.body.Body.{Body}
 use Rattle.wire_msg.specs.declared.body.Body.TheVariants as body
 use Rattle.wire_msg.specs.declared.packet.Do.{Do}
-use Rattle.wire_msg.specs.declared.packet.Do.TheVariants.{Tick}
 use Rattle.wire_msg.specs.declared.packet.Packet.{Packet}
-use Rattle.wire_msg.specs.declared.storage.Fetch.{Fetch}
-use Rattle.wire_msg.specs.declared.storage.Listed.{Listed}
 use Rattle.node_moves.proofs.server_moves.Keeping.{Keeps, event_keeps, packets_say}
 use Rattle.node_moves.specs.server_moves.Moves.{Given, Sent}
 use Rattle.node_moves.specs.server_moves.Moves.Given.{FragmentCame}
