@@ -1,5 +1,5 @@
 -- Each event of a storage server is a list of moves: the one walk through all that can happen to it.
-use Rattle.std.proofs.Common.{◌≡◌, ℕ, true, ◌==◌, ◌&&◌, List, [], ◌∷◌, Option, Some, None, refl, ap}
+use Rattle.std.proofs.Common.{◌≡◌, ℕ, true, ◌==◌, ◌&&◌, [], ◌∷◌, Option, Some, None, refl, ap}
 use Rattle.std.specs.Option.{is_some}
 use Rattle.fragment_store.specs.Calls.{barred, on_lose as lost}
 use Rattle.group_map.specs.GroupMapState.{GroupMapState}

@@ -1,5 +1,5 @@
 -- The moves of a storage server: what it does in an event, one thing at a time, and what for.
-use Rattle.std.specs.Prelude.{◌≡◌, ℕ, true, List, [], ◌∷◌, Option, Some, None}
+use Rattle.std.specs.Prelude.{◌≡◌, ℕ, true, [], ◌∷◌, Option, Some, None}
 use Rattle.fragment_store.specs.Calls.{barred, on_fence as fenced_at, on_list as listed_on, on_lose as lost}
 use Rattle.fragment_store.specs.ShelfState.{ShelfState, held_at}
 use Rattle.group_map.specs.GroupMapState.{GroupMapState}
