@@ -39,7 +39,7 @@ pub record Headline (e : Estate AnyNode) : Type 0 where
   pub whole : IsWholeRun any_step any_start e
   -- at no moment has a block two owners, nor another holder beside an owner
   pub one_owner : OneOwnerThroughout e
-  -- and who holds one has its newest version, with its value: up to the first doubtful restart
+  -- what a client that serves holds of a block, where it keeps a value, is the newest version, with its value: up to the first doubtful restart
   pub holders_newest : HoldersAreNewestThroughout e
   -- nor has a slot two managers at one epoch
   pub one_manager : OneManagerThroughout e
@@ -57,9 +57,10 @@ pub record Headline (e : Estate AnyNode) : Type 0 where
   pub legal_acts : LegalActs e
   -- and throughout, where no line of the script has a server lose its disk
   pub legal_without_losses : LegalWithoutLosses e
-  -- the index of each slot is the join of what its manager has applied of the segments that were filed, at least of what the kept checkpoint covers; these are
-  -- one line in each log, none ever changes, and the newest row of a block is in none that a server was told to delete; and none is newer than what a client
-  -- that has the block dirty knows as settled, all versions above that being its own: up to the first doubtful restart
+  -- the index of each slot is the join of what its manager has applied of the segments that were filed, and a present manager has applied at least what the
+  -- kept checkpoint covers; these segments are one line in each log, none ever changes, and the newest row of a block is in none that a server was told to
+  -- delete; no row is newer than what a client that has the block dirty knows as settled, all versions above that being its own: up to the first doubtful
+  -- restart
   pub indexes : IndexesAreItsOwn e
   -- only what is gone is refused as lost
   pub losses_earned : LossesEarned e
