@@ -1,5 +1,5 @@
 -- The texts of values and names.
-use Rattle.std.specs.Prelude.{ℕ, ◌-◌, ◌==◌, nat_lt, List, ◌∷◌, ◌++◌, codes, Option, Some, None, if◌then◌else◌}
+use Rattle.std.specs.Prelude.{ℕ, List, ◌∷◌, ◌++◌, codes, Option, Some, None}
 use Rattle.std.specs.Fmt.{decimal}
 use Rattle.script_text.specs.Text.{quoted}
 use Rattle.script_print.specs.Printing.{text_body}
@@ -7,6 +7,7 @@ use Rattle.xfs_base.specs.declared.block.BlockId.{BlockId}
 use Rattle.xfs_base.specs.declared.node.NodeId.{NodeId}
 use Rattle.xfs_base.specs.declared.node.NodeId.TheVariants as nodes
 use Rattle.xfs_base.specs.declared.segment.SegName.{SegName}
+use Rattle.xfs_base.specs.Logs.{writer_of}
 
 -- a text between quotes
 abbrev pub quoted_text : List ℕ → List ℕ
@@ -28,10 +29,6 @@ node_text (nodes.Manager k) = 109 ∷ decimal k
 node_text (nodes.Server k) = 115 ∷ decimal k
 node_text nodes.Cleaner = codes "cl"
 node_text nodes.Registry = codes "reg"
-
--- the node that writes a log: 1 to 8 are the clients', 9 is the cleaner's, the others are the managers'
-abbrev pub writer_of : ℕ → NodeId
-writer_of log = if nat_lt log 9 then nodes.Client log else if log == 9 then nodes.Cleaner else nodes.Manager (log - 9)
 
 -- a log and a number in it, as `c1.1`
 abbrev pub log_seq_text : SegName → List ℕ

@@ -1,11 +1,11 @@
 //! The texts of numbers, names and values.
 ghost use Rattle.std.specs.Prelude.{◌≡◌, ◌++◌, OnOk};
 ghost use Rattle.std.specs.Fmt.{decimal};
-ghost use Rattle.act_text.specs.Pieces.{value_text, block_text, node_text, writer_of, log_seq_text, segment_text};
+ghost use Rattle.act_text.specs.Pieces.{value_text, block_text, node_text, log_seq_text, segment_text};
 
 use script_print::spelling::add_quoted;
 use std::alloc::Global;
-use xfs_base::{BlockId, LogId, Mem, NodeId, SegName, Text, Value};
+use xfs_base::{BlockId, Mem, NodeId, SegName, Text, Value};
 
 /// Appends a number in decimal.
 pub fn add_number(alloc: Global, text: &mut Text, number: u64) -> Mem<()>
@@ -53,25 +53,11 @@ pub fn add_node(alloc: Global, text: &mut Text, node: NodeId) -> Mem<()>
     }
 }
 
-/// The node that writes a log.
-fn writer_of(log: LogId) -> NodeId
-    ensures { result ≡ writer_of log.0 }
-{
-    if log.0 < 9 {
-        return NodeId::Client(log.0);
-    }
-    if log.0 == 9 {
-        NodeId::Cleaner
-    } else {
-        NodeId::Manager(log.0 - 9)
-    }
-}
-
 /// Appends a log and a number in it, as `c1.1`.
 pub fn add_log_seq(alloc: Global, text: &mut Text, seg: SegName) -> Mem<()>
     ensures { OnOk result (text.new ≡ text.old ++ log_seq_text seg) }
 {
-    add_node(alloc, text, writer_of(seg.log))?;
+    add_node(alloc, text, seg.log.writer())?;
     add_marked(alloc, text, b".", u64::from(seg.seq))
 }
 

@@ -1,5 +1,5 @@
 -- What a line of an act says: the act, or the kind of the first part at fault, from left to right.
-use Rattle.std.specs.Prelude.{◌≡◌, ◌≤◌, ℕ, ◌+◌, ◌^◌, ◌==◌, Bool, false, ◌&&◌, nat_lt, nat_le, List, [], ◌∷◌, codes, length, drop, Option, Some, None, Result, Ok, Err, if◌then◌else◌}
+use Rattle.std.specs.Prelude.{◌≡◌, ◌≤◌, ℕ, ◌^◌, ◌==◌, Bool, false, ◌&&◌, nat_lt, nat_le, List, [], ◌∷◌, codes, length, drop, Option, Some, None, Result, Ok, Err, if◌then◌else◌}
 use Rattle.std.specs.Fmt.{decimal}
 use Rattle.std.specs.Str.{bytes_eq}
 use Rattle.std.specs.Str.Parse.{digits_value}
@@ -16,7 +16,8 @@ use Rattle.xfs_base.specs.declared.block.BlockId.{BlockId}
 use Rattle.xfs_base.specs.declared.node.NodeId.{NodeId}
 use Rattle.xfs_base.specs.declared.node.NodeId.TheVariants as nodes
 use Rattle.xfs_base.specs.declared.segment.SegName.{SegName}
-use Rattle.xfs_base.specs.Limits.{max_value}
+use Rattle.xfs_base.specs.Limits.{max_value, most_clients, most_managers}
+use Rattle.xfs_base.specs.Logs.{log_of}
 use Rattle.audit.specs.declared.shape.Verb.{Verb}
 use Rattle.audit.specs.declared.shape.Verb.TheVariants as verbs
 use Rattle.audit.specs.Shapes.{front, back, shape_of}
@@ -43,38 +44,30 @@ read_long word = or_fault BadNumber (long_of word)
 abbrev pub read_node : ℕ → List ℕ → Result ℕ Kind
 read_node limit word = judge BadNumber NoNode (is_one_of limit) (number_of (drop 1 word))
 
--- one of at most 8 clients
+-- one of the clients that a run may have
 abbrev pub read_client : List ℕ → Result ℕ Kind
-read_client word = read_node 8 word
+read_client word = read_node most_clients word
 
 abbrev pub first_is : ℕ → List ℕ → Bool
 first_is letter [] = false
 first_is letter (b ∷ bytes) = b == letter
 
--- a client, one of at most 4 managers, or the cleaner
+-- a client, one of the managers that a run may have, or the cleaner
 abbrev pub read_writer : List ℕ → Result NodeId Kind
 read_writer word =
     if bytes_eq word (codes "cl") then Ok nodes.Cleaner
     else if first_is 99 word then (read_client word >>= λ n. Ok (nodes.Client n))
-    else (read_node 4 word >>= λ n. Ok (nodes.Manager n))
+    else (read_node most_managers word >>= λ n. Ok (nodes.Manager n))
 
 abbrev pub read_block : List ℕ → Result BlockId Kind
 read_block word = read_number (front 47 word) >>= λ ino. read_number (back 47 word) >>= λ blk. Ok (block_at ino blk)
 
--- a manager that writes a log has one of four numbers
+-- a manager that writes a log is one of those that a run may have
 abbrev pub IsFew : NodeId → Type 0
-IsFew node = (n : ℕ) → node ≡ nodes.Manager n → n ≤ 4
-
--- the log of a node that writes one
-abbrev pub log_of : NodeId → ℕ
-log_of (nodes.Client n) = n
-log_of (nodes.Manager n) = 9 + n
-log_of (nodes.Server n) = 9
-log_of nodes.Cleaner = 9
-log_of nodes.Registry = 9
+IsFew node = (n : ℕ) → node ≡ nodes.Manager n → n ≤ most_managers
 
 abbrev pub segment_at : NodeId → ℕ → ℕ → ℕ → SegName
-segment_at node seq inc att = record { log = record { 0 = log_of node }; seq = seq; pass = record { inc = inc; att = att } }
+segment_at node seq inc att = record { log = log_of node; seq = seq; pass = record { inc = inc; att = att } }
 
 abbrev pub read_segment : List ℕ → Result SegName Kind
 read_segment word =

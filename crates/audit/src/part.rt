@@ -3,7 +3,7 @@ ghost use Rattle.std.specs.Prelude.{◌≡◌, ◌≢◌, ◌<◌, ◌≤◌, �
 ghost use Rattle.std.specs.Fmt.{decimal};
 ghost use Rattle.script_text.specs.Outcome.{Answers};
 ghost use Rattle.audit.specs.Shapes.{front, back};
-ghost use Rattle.audit.specs.Acts.{read_number, read_counted, long_of, read_long, read_node, read_client, first_is, read_writer, read_block, read_version, value_of, read_value, read_flight, read_fall, IsFew, log_of, read_segment};
+ghost use Rattle.audit.specs.Acts.{read_number, read_counted, long_of, read_long, read_node, read_client, first_is, read_writer, read_block, read_version, value_of, read_value, read_flight, read_fall, IsFew, read_segment};
 
 use crate::shape::parts_at;
 use script_text::text::quoted_text;
@@ -12,14 +12,14 @@ use script_text::{Kind, LineError};
 use std::alloc::Global;
 use std::str;
 use version_model::Fall;
-use xfs_base::limits::MAX_VALUE;
-use xfs_base::{BlockId, Ino, LogId, NodeId, Pass, SegName, Text, Value, ValueError};
+use xfs_base::limits::{MAX_VALUE, MOST_CLIENTS, MOST_MANAGERS};
+use xfs_base::{BlockId, Ino, NodeId, Pass, SegName, Text, Value, ValueError};
 
 /// The most clients that a run has.
-const CLIENTS: u32 = 8;
+const CLIENTS: u32 = MOST_CLIENTS as u32;
 
 /// The most managers that a run has.
-const MANAGERS: u32 = 4;
+const MANAGERS: u32 = MOST_MANAGERS as u32;
 
 /// The number of a word.
 fn read_number(word: &[u8]) -> Result<u32, LineError>
@@ -222,18 +222,6 @@ pub fn read_fall(word: &[u8]) -> Result<Fall, LineError>
     Ok(Fall { block, low, high })
 }
 
-/// The log of a node that writes one.
-fn log_of(node: NodeId) -> LogId
-    requires { IsFew node }
-    ensures { result.0 ≡ log_of node }
-{
-    match node {
-        NodeId::Client(number) => LogId(number),
-        NodeId::Manager(number) => LogId(9 + number),
-        _ => LogId(9),
-    }
-}
-
 /// The segment of a word.
 pub fn read_segment(word: &[u8]) -> Result<SegName, LineError>
     ensures { Answers result (read_segment word.now) }
@@ -241,7 +229,7 @@ pub fn read_segment(word: &[u8]) -> Result<SegName, LineError>
     let (log, numbers) = cut(word, b'.');
     let (seq, pass) = cut(numbers, b'.');
     let (inc, att) = cut(pass, b'.');
-    let log = log_of(read_writer(log)?);
+    let log = read_writer(log)?.log();
     let seq = read_counted(seq)?;
     let inc = read_counted(inc)?;
     let att = read_counted(att)?;

@@ -103,7 +103,7 @@ fn is_delivery(a: &Packet, b: &Do) -> bool
 {
     match b {
         Do::Begin => false,
-        Do::Deliver(b) => same_packet(a, b),
+        Do::Deliver(b) => same_packet(a, b.as_packet()),
         Do::Tick => false,
     }
 }
@@ -113,7 +113,7 @@ fn same_do(a: &Do, b: &Do) -> bool
 {
     match a {
         Do::Begin => is_begin(b),
-        Do::Deliver(a) => is_delivery(a, b),
+        Do::Deliver(a) => is_delivery(a.as_packet(), b),
         Do::Tick => is_tick(b),
     }
 }

@@ -23,7 +23,7 @@ fn is_heard(what: &Do) -> bool
 {
     match what {
         Do::Begin => true,
-        Do::Deliver(packet) => is_told(&packet.body),
+        Do::Deliver(packet) => is_told(&packet.as_packet().body),
         Do::Tick => true,
     }
 }

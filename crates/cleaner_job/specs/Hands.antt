@@ -1,10 +1,10 @@
 -- The segment that a job of the cleaner has in hand: how it is read, and under which questions its blocks are checked.
-use Rattle.std.specs.Prelude.{ℕ, Bool, false, ◌==◌, ◌&&◌, if◌then◌else◌, List, [], map, Option, Some, None}
+use Rattle.std.specs.Prelude.{ℕ, Bool, false, if◌then◌else◌, List, [], map, Option, Some, None}
 use Rattle.std.specs.BTreeMap.{is_at, insert_entry}
 use Rattle.std.specs.Map.{lookup}
 use Rattle.group_map.specs.declared.group.Group.{Group}
 use Rattle.group_map.specs.GroupMapState.{GroupMapState}
-use Rattle.group_map.specs.Groups.{group_of}
+pub use Rattle.group_map.specs.Groups.{known_group}
 use Rattle.log_owner.specs.Sending.{fetch}
 use Rattle.node_base.specs.Asking.{next_ask, drawn}
 use Rattle.node_base.specs.declared.effects.Effect.{Effect}
@@ -13,26 +13,18 @@ use Rattle.segment_reading.specs.declared.reading.Next.{Next}
 use Rattle.segment_reading.specs.declared.reading.Next.TheVariants.{Wait}
 use Rattle.segment_reading.specs.Reading.{ReadingState, Step, begun, to_ask, on_answer, on_confirmed}
 use Rattle.stripe_code.specs.declared.round.Told.{Told}
-use Rattle.stripe_code.specs.Fragments.{same_name}
 use Rattle.xfs_base.specs.Blocks.{block_cmp}
 use Rattle.xfs_base.specs.declared.block.BlockId.{BlockId}
 use Rattle.xfs_base.specs.declared.segment.SegName.{SegName}
 use Rattle.xfs_base.specs.declared.segment.SegRef.{SegRef}
+use Rattle.xfs_base.specs.Segments.{same_segment}
 use Rattle.cleaner_job.specs.declared.hand.Hand.{Hand}
 
 -- ---- taking a segment in hand
 
-abbrev pub same_segment : SegRef → SegRef → Bool
-same_segment a b = same_name a.name b.name && (a.group == b.group)
-
 abbrev pub is_in_hand : Option Hand → SegRef → Bool
 is_in_hand None seg = false
 is_in_hand (Some hand) seg = same_segment hand.seg seg
-
--- the group of this id, where groups are known and it is among them
-abbrev pub known_group : Option GroupMapState → ℕ → Option Group
-known_group None id = None
-known_group (Some groups) id = group_of groups id
 
 -- the first round of its reading begins under a question
 abbrev pub begun_hand : SegRef → Group → ℕ → Hand

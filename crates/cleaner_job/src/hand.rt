@@ -1,14 +1,14 @@
 //! The segment that a job of the cleaner has in hand.
-ghost use Rattle.std.specs.Prelude.{◌≡◌, ◌++◌, [], length, IfOk, IfSome, OnOk, MatchOption, None, Some};
+ghost use Rattle.std.specs.Prelude.{◌≡◌, ◌++◌, [], length, IfOk, OnOk, None, Some};
 ghost use Rattle.std.specs.BTreeMap.{insert_entry};
 ghost use Rattle.stripe_code.specs.Stripe.{IsCut};
 ghost use Rattle.xfs_base.specs.Blocks.{block_cmp};
-ghost use Rattle.cleaner_job.specs.Hands.{same_segment, is_in_hand, known_group, begun_hand, taken_over, takes_in_hand, fetches_for, fetches, hand_hears, hand_confirmed, asked_of, kept_ask, checks};
+ghost use Rattle.cleaner_job.specs.Hands.{is_in_hand, known_group, begun_hand, taken_over, takes_in_hand, fetches_for, fetches, hand_hears, hand_confirmed, asked_of, kept_ask, checks};
 
 use group_map::{Group, GroupMap};
 use log_owner::send_fetch;
 use node_base::{Effects, Questions};
-use segment_reading::{Next, Reading, Target};
+use segment_reading::{Next, Reading, Target, known_group};
 use std::alloc::Global;
 use std::collections::BTreeMap;
 use std::marker::Model;
@@ -219,28 +219,8 @@ fn is_in_hand(hand: &Option<Hand>, seg: SegRef) -> bool
     ensures { result ≡ is_in_hand hand.now seg }
 {
     match hand {
-        Some(hand) => same_segment(hand.seg, seg),
+        Some(hand) => hand.seg.is_same(seg),
         None => false,
-    }
-}
-
-fn same_segment(a: SegRef, b: SegRef) -> bool
-    ensures { result ≡ same_segment a b }
-{
-    a == b
-}
-
-// The group of this id, where groups are known and it is among them.
-fn known_group(groups: &Option<GroupMap>, id: u32) -> Option<&Group>
-    ensures group { MatchOption result (known_group groups.now id ≡ None) (λ group. known_group groups.now id ≡ Some group.now) }
-    ensures cut { IfSome result (λ group. IsCut (length group.now.members) group.now.parity) }
-{
-    match groups {
-        None => None,
-        Some(groups) => match groups.lookup(id) {
-            Ok(group) => Some(group),
-            Err(_) => None,
-        },
     }
 }
 

@@ -8,7 +8,7 @@ use client_log::Log;
 use delta_feed::Feed;
 use group_map::GroupMap;
 use std::alloc::Global;
-use xfs_base::{End, LogId, Mem, Pass};
+use xfs_base::{End, LogId, Mem, NodeId};
 
 /// A log in which nothing is settled, and its deltas.
 pub fn start_log(alloc: Global, inc: u32, groups: &GroupMap) -> Mem<(Log, Feed)>
@@ -17,7 +17,7 @@ pub fn start_log(alloc: Global, inc: u32, groups: &GroupMap) -> Mem<(Log, Feed)>
 {
     let feed = Feed::start(alloc, 0)?;
     let copy = groups.copy(alloc)?;
-    let log = Log::start(alloc, cleaner_log(), inc, no_end(), copy)?;
+    let log = Log::start(alloc, cleaner_log(), inc, End::none(), copy)?;
     Ok((log, feed))
 }
 
@@ -25,16 +25,5 @@ pub fn start_log(alloc: Global, inc: u32, groups: &GroupMap) -> Mem<(Log, Feed)>
 pub fn cleaner_log() -> LogId
     ensures { result ≡ cleaner_log }
 {
-    LogId(9)
-}
-
-// The end of a log in which nothing is settled.
-fn no_end() -> End
-    ensures { result ≡ no_end }
-{
-    End {
-        seq: 0,
-        pass: Pass { inc: 0, att: 0 },
-        group: 0,
-    }
+    NodeId::Cleaner.log()
 }

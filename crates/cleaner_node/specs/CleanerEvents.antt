@@ -1,5 +1,5 @@
 -- What an event makes of the cleaner.
-use Rattle.std.specs.Prelude.{ℕ, ◌+◌, Bool, ◌&&◌, nat_lt, if◌then◌else◌, List, [], ◌∷◌, ◌++◌, Option, Some, None}
+use Rattle.std.specs.Prelude.{ℕ, ◌+◌, Bool, true, false, ◌&&◌, nat_lt, if◌then◌else◌, List, [], ◌∷◌, ◌++◌, Option, Some, None}
 use Rattle.cleaner_serving.specs.declared.emptying.Emptying.{Emptying}
 use Rattle.cleaner_serving.specs.EmptyingEvents.{at_first, served, on_clean, on_packet, on_tick, emptying_room}
 use Rattle.cleaner_serving.specs.Jobs.{Done}
@@ -44,6 +44,12 @@ use Rattle.cleaner_node.specs.declared.cleaner.Wish.TheVariants.{Crash, Restart,
 -- the phase of the cleaner after an event, and what the event has it do
 abbrev pub Went_to : Type 0
 Went_to = Stepped Phase Effect
+
+-- whether the cleaner serves: it neither is down nor opens its log
+abbrev pub is_serving : Phase → Bool
+is_serving (Down kept) = false
+is_serving (Opening kept o) = false
+is_serving (Serving e) = true
 
 -- what a cleaner has that opens its log
 abbrev pub opening_of : Phase → Option (Lasting × openings.Opening)

@@ -1,7 +1,7 @@
 //! The cleaner as a node.
 ghost use Rattle.std.specs.Prelude.{◌≡◌, ◌++◌, IfOk, OnOk};
 ghost use Rattle.node_base.specs.Setups.{IsSetup};
-ghost use Rattle.cleaner_node.specs.CleanerEvents.{first_life, cleaner_start, crashes, next_life, says_back, back, after_opening, restarts_in, restarts, wish_at, answers, down_begins, opening_begins, serving_begins, down_wishes, opening_wishes, serving_wishes, on_begin, hears, on_deliver, on_time, happens, phase_room, opening_of, takes, cleaner_step};
+ghost use Rattle.cleaner_node.specs.CleanerEvents.{first_life, cleaner_start, crashes, next_life, says_back, back, after_opening, restarts_in, restarts, wish_at, answers, down_begins, opening_begins, serving_begins, down_wishes, opening_wishes, serving_wishes, on_begin, hears, on_deliver, on_time, happens, phase_room, opening_of, is_serving, takes, cleaner_step};
 ghost use Rattle.cleaner_node.specs.declared.cleaner.Phase.TheVariants.{Opening as Opens};
 
 use cleaner_job::Lasting;
@@ -93,6 +93,17 @@ impl Cleaner {
 }
 
 impl Cleaner {
+    /// Whether it serves: it neither is down nor opens its log.
+    pub fn is_serving(&self) -> bool
+        ensures { result ≡ is_serving self.now.phase }
+    {
+        match &self.phase {
+            Phase::Down(_) => false,
+            Phase::Opening(_, _) => false,
+            Phase::Serving(_) => true,
+        }
+    }
+
     // An event, with what the world sees of it.
     fn turn(&mut self, alloc: Global, what: &Do) -> Mem<(List<Packet>, List<Act>)>
         ensures state { OnOk result (self.new ≡ (cleaner_step self.old what.now).node) }
@@ -198,7 +209,7 @@ fn happens(
             phase.turn_to(begun);
             Ok(())
         }
-        Do::Deliver(packet) => on_deliver(alloc, effects, peers, phase, packet),
+        Do::Deliver(packet) => on_deliver(alloc, effects, peers, phase, packet.as_packet()),
         Do::Tick => on_time(alloc, effects, phase),
     }
 }

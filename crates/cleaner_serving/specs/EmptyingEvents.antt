@@ -43,6 +43,7 @@ use Rattle.xfs_base.specs.declared.node.NodeId.{NodeId}
 use Rattle.xfs_base.specs.declared.node.NodeId.TheVariants as node
 use Rattle.xfs_base.specs.declared.segment.End.{End}
 use Rattle.xfs_base.specs.Steps.{still, saying, steps}
+use Rattle.xfs_base.specs.Limits.{slot_count}
 use Rattle.cleaner_serving.specs.declared.emptying.Emptying.{Emptying}
 use Rattle.cleaner_serving.specs.Jobs.{Done, with_questions, cleans, on_listed, on_usage, on_live, on_dead, on_deleted, on_found, on_missing}
 
@@ -71,7 +72,7 @@ promises_slot e slot = cleans e (input.Promise slot (epoch_of e.promised slot))
 
 -- the job is told what each slot is promised to
 unfoldable pub promises_all : Emptying → Done
-promises_all e = steps promises_slot e (range_with_len 0 8)
+promises_all e = steps promises_slot e (range_with_len 0 slot_count)
 
 abbrev pub with_new_job : Emptying → ℕ → ℕ → Emptying
 with_new_job e number count = record e { lasting = record e.lasting { items = waiting e.lasting.items number }; job = Some (new_job count) }

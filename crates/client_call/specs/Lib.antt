@@ -1,11 +1,4 @@
 pub mod Blocks
 pub mod Calls
-pub mod Crash
 pub mod Fitting
-pub mod Flights
-pub mod Follow
-pub mod Grants
-pub mod Lasting
-pub mod Promises
 pub mod Reads
-pub mod Starting

@@ -90,14 +90,6 @@ pub fn is_settled(log: &Log) -> bool
     log.is_settled()
 }
 
-/// Whether a block may be written: it is owned, no recall of it is put off, and its version isn't the last of
-/// its type.
-pub fn may_put(tokens: &Tokens, block: BlockId) -> bool
-    ensures { result ≡ may_write (held_of tokens.now.blocks block) }
-{
-    tokens.mode(block).is_own() && tokens.giving(block).is_none() && tokens.ver(block) < u64::MAX
-}
-
 /// A segment can hold each version of each block that may be written.
 pub fn fits(tokens: &Tokens, block: BlockId, value: &Value)
     requires { may_write (held_of tokens.now.blocks block) ≡ true }

@@ -2,7 +2,7 @@
 use Rattle.std.specs.Prelude.{Bool, true, false, Option, Some, None}
 use Rattle.client_node.specs.declared.phase.Phase.TheVariants.{Down, Opening as Opens, Serving as Serves}
 use Rattle.client_node.specs.declared.phase.Phase.{Phase}
-use Rattle.client_call.specs.declared.lasting.Lasting.{Lasting}
+use Rattle.client_serving.specs.declared.lasting.Lasting.{Lasting}
 use Rattle.client_serving.specs.declared.serving.Serving.{Serving}
 use Rattle.log_owner.specs.declared.opening.Opening.{Opening}
 

@@ -1,15 +1,15 @@
 -- What an event makes of a client.
-use Rattle.std.specs.Prelude.{ℕ, Bool, true, ◌&&◌, if◌then◌else◌, [], ◌∷◌, ◌++◌, Option, Some, None}
+use Rattle.std.specs.Prelude.{ℕ, Bool, true, false, ◌&&◌, if◌then◌else◌, [], ◌∷◌, ◌++◌, Option, Some, None}
 use Rattle.client_node.specs.declared.beginning.Wish.TheVariants as wish
 use Rattle.client_node.specs.declared.beginning.Wish.{Wish}
 use Rattle.client_node.specs.declared.client.Client.{Client}
 use Rattle.client_node.specs.declared.phase.Phase.TheVariants.{Down, Opening, Serving as Serves}
 use Rattle.client_node.specs.declared.phase.Phase.{Phase}
-use Rattle.client_call.specs.declared.lasting.Lasting.{Lasting}
-use Rattle.client_call.specs.Lasting.{next_life}
 use Rattle.client_node.specs.Crash.{falls}
+use Rattle.client_serving.specs.declared.lasting.Lasting.{Lasting}
 use Rattle.client_serving.specs.declared.serving.Serving.{Serving}
 use Rattle.client_running.specs.Opens.{opens}
+use Rattle.client_serving.specs.Lasting.{next_life}
 use Rattle.client_serving.specs.Packets.{on_packet, on_tick}
 use Rattle.client_node.specs.Room.{serving_room}
 use Rattle.client_running.specs.Running.{runs}
@@ -41,6 +41,12 @@ use Rattle.wire_msg.specs.declared.packet.Packet.{Packet}
 use Rattle.wire_msg.specs.NodeStep.{NodeStep}
 use Rattle.xfs_base.specs.declared.node.NodeId.TheVariants.{Client as AClient}
 use Rattle.xfs_base.specs.Steps.{Stepped, still, saying}
+
+-- whether a client serves: it neither is down nor opens its log
+abbrev pub is_serving : Phase → Bool
+is_serving (Down l) = false
+is_serving (Opening l o) = false
+is_serving (Serves s) = true
 
 -- the phase of a client after an event, and what the event has it do
 abbrev pub Went_to : Type 0

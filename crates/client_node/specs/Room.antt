@@ -1,14 +1,18 @@
 -- The ends of counters: whether each of a client that serves is at least 65,536 below its end.
 use Rattle.std.specs.Prelude.{ℕ, Bool, ◌&&◌, Option, Some, None}
+use Rattle.std.specs.List.{list_all, range_with_len}
 use Rattle.client_call.specs.Calls.{block_of}
 use Rattle.client_call.specs.declared.call.Call.{Call}
-use Rattle.client_call.specs.Promises.{epochs_room}
 use Rattle.client_serving.specs.declared.serving.Serving.{Serving}
 use Rattle.log_owner.specs.Opening.{log_room}
 use Rattle.node_base.specs.Room.{has_room}
 use Rattle.token_client.specs.Repetitions.{repetition}
-use Rattle.token_client.specs.State.{TokensState, held_of}
+use Rattle.token_client.specs.State.{TokensState, epoch_of, held_of}
 use Rattle.xfs_base.specs.declared.block.BlockId.{BlockId}
+
+-- each promised epoch is at least 65,536 below its end
+unfoldable pub epochs_room : TokensState → Bool
+epochs_room t = list_all (λ slot. has_room (epoch_of t.epochs slot)) (range_with_len 0 8)
 
 -- the block that the open call is on
 abbrev pub open_block : Option Call → Option BlockId

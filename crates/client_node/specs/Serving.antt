@@ -1,9 +1,9 @@
 -- A client that begins to serve.
-use Rattle.std.specs.Prelude.{ℕ, None, replicate}
+use Rattle.std.specs.Prelude.{ℕ, ◌==◌, if◌then◌else◌, None, replicate}
+use Rattle.xfs_base.specs.Limits.{slot_count}
 use Rattle.client_log.specs.LogState as log
 use Rattle.client_log.specs.LogState.{LogState}
-use Rattle.client_call.specs.declared.lasting.Lasting.{Lasting}
-use Rattle.client_call.specs.Starting.{cached_upto, empty_end}
+use Rattle.client_serving.specs.declared.lasting.Lasting.{Lasting}
 use Rattle.client_serving.specs.declared.serving.Serving.{Serving}
 use Rattle.coop_cache.specs.CacheState as cache
 use Rattle.delta_feed.specs.FeedState as feed
@@ -15,6 +15,15 @@ use Rattle.node_base.specs.declared.maps.Maps.{Maps}
 use Rattle.node_base.specs.Maps.{at_start}
 use Rattle.token_client.specs.State as tokens
 use Rattle.token_client.specs.State.{started}
+use Rattle.xfs_base.specs.declared.segment.End.{End}
+
+-- the end of an empty log
+abbrev pub empty_end : End
+empty_end = record { seq = 0; pass = record { inc = 0; att = 0 }; group = 0 }
+
+-- a client caches one block at least
+abbrev pub cached_upto : ℕ → ℕ
+cached_upto capacity = if capacity == 0 then 1 else capacity
 
 -- nothing is cached, and the log is empty
 abbrev pub first_serving : Lasting → ℕ → ℕ → GroupMapState → Serving
@@ -23,7 +32,7 @@ first_serving l managers capacity groups =
       lasting = l;
       maps = at_start groups;
       managers = first_managers managers;
-      tokens = tokens.started 1 (replicate 8 1);
+      tokens = tokens.started 1 (replicate slot_count 1);
       log = log.started (record { 0 = l.number }) 1 empty_end groups;
       feed = feed.started 0;
       cache = cache.started (cached_upto capacity);

@@ -2,8 +2,8 @@
 use Rattle.std.specs.Prelude.{ℕ, List}
 use Rattle.client_node.specs.declared.client.Client.{Client}
 use Rattle.client_node.specs.declared.phase.Phase.TheVariants.{Serving as Serves}
-use Rattle.client_call.specs.Lasting.{first_lasting}
 use Rattle.client_node.specs.Serving.{first_serving}
+use Rattle.client_serving.specs.Lasting.{first_lasting}
 use Rattle.group_map.specs.Groups as groups
 use Rattle.node_base.specs.Nodes.{peers_of}
 use Rattle.version_model.specs.declared.work.Work.{Work}

@@ -3,14 +3,13 @@ ghost use Rattle.std.specs.Prelude.{◌≡◌, ◌++◌, ℕ, IfOk, OnOk};
 ghost use Rattle.client_node.specs.declared.phase.Phase.TheVariants.{Down, Opening as Opens, Serving as Serves};
 ghost use Rattle.client_node.specs.Parts.{after_down, after_opening, after_serving};
 ghost use Rattle.client_node.specs.Phases.{wish_at, on_begin, crashed, restarted};
-ghost use Rattle.client_call.specs.Lasting.{next_life};
+ghost use Rattle.client_serving.specs.Lasting.{next_life};
 ghost use Rattle.log_owner.specs.declared.opening.Opening.{Opening as AnOpening};
 ghost use Rattle.node_base.specs.Beginning.{answered};
 
 use crate::crash::fall;
-use client_call::Lasting;
 use client_running::open;
-use client_serving::Serving;
+use client_serving::{Lasting, Serving};
 use log_owner::{Opening, Owner};
 use node_base::Effects;
 use std::alloc::Global;

@@ -1,7 +1,7 @@
 //! The client as a node: what each event makes of it.
 ghost use Rattle.std.specs.Prelude.{◌≡◌, ◌++◌, ℕ, IfOk, OnOk};
 ghost use Rattle.client_node.specs.declared.phase.Phase.TheVariants.{Opening as Opens};
-ghost use Rattle.client_node.specs.Phases.{client_step, on_begin, on_deliver, delivers, on_time, on_event, client_room, takes};
+ghost use Rattle.client_node.specs.Phases.{client_step, on_begin, on_deliver, delivers, on_time, on_event, client_room, is_serving, takes};
 ghost use Rattle.client_node.specs.Starting.{first_client};
 ghost use Rattle.client_serving.specs.Packets.{on_packet, on_tick};
 ghost use Rattle.client_running.specs.Running.{runs};
@@ -13,9 +13,8 @@ use crate::beginning::{begin_down, begin_opening, begin_serving};
 use crate::returning::phase_after;
 use crate::room::phase_has_room;
 use crate::serving::serves_first;
-use client_call::Lasting;
 use client_running::run;
-use client_serving::Serving;
+use client_serving::{Lasting, Serving};
 use log_owner::Opening;
 use node_base::{Effects, Peers, groups_of, has_room, is_well_formed};
 use std::alloc::Global;
@@ -75,6 +74,13 @@ impl Client {
         })
     }
 
+    /// Whether it serves: it neither is down nor opens its log.
+    pub fn is_serving(&self) -> bool
+        ensures { result ≡ is_serving self.now.phase }
+    {
+        self.phase.is_serving()
+    }
+
     // Whether each counter is at least 65,536 below its end.
     fn has_room(&self) -> bool
         ensures { result ≡ client_room self.now }
@@ -131,7 +137,7 @@ fn on_event(
             phase.turn_to(begun);
             Ok(())
         }
-        Do::Deliver(packet) => deliver(alloc, effects, peers, cache, phase, packet),
+        Do::Deliver(packet) => { deliver(alloc, effects, peers, cache, phase, packet.as_packet()) }
         Do::Tick => tick(alloc, effects, cache, phase),
     }
 }

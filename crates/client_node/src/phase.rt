@@ -1,9 +1,8 @@
 //! The phases of a client.
 ghost use Rattle.std.specs.Prelude.{◌≡◌};
-ghost use Rattle.client_node.specs.Phases.{lasting_of, opening_of};
+ghost use Rattle.client_node.specs.Phases.{is_serving, lasting_of, opening_of};
 
-use client_call::Lasting;
-use client_serving::Serving;
+use client_serving::{Lasting, Serving};
 use log_owner::Opening;
 use std::alloc::Global;
 use std::mem;
@@ -56,6 +55,17 @@ impl Phase {
         ensures { self.new ≡ phase }
     {
         drop(mem::replace(self, phase));
+    }
+
+    /// Whether the client serves.
+    pub(crate) fn is_serving(&self) -> bool
+        ensures { result ≡ is_serving self.now }
+    {
+        match self {
+            Phase::Down(_) => false,
+            Phase::Opening(_, _) => false,
+            Phase::Serving(_) => true,
+        }
     }
 
     /// What outlives a crash.

@@ -9,8 +9,7 @@ ghost use Rattle.version_model.specs.declared.answer.Answer.TheVariants as answe
 
 use crate::Phase;
 use crate::serving::serves_again;
-use client_call::Lasting;
-use client_serving::Serving;
+use client_serving::{Lasting, Serving};
 use log_owner::sending::push_all;
 use log_owner::{Opened, Progress};
 use node_base::Effects;

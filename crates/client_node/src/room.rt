@@ -1,13 +1,13 @@
 //! The ends of counters: whether each is at least 65,536 below its end.
 ghost use Rattle.std.specs.Prelude.{◌≡◌};
 ghost use Rattle.client_node.specs.Phases.{phase_room};
-ghost use Rattle.client_node.specs.Room.{asked_again, open_block, serving_room};
+ghost use Rattle.client_node.specs.Room.{asked_again, epochs_room, open_block, serving_room};
 
 use crate::Phase;
-use client_call::promises::epochs_have_room;
 use client_serving::Serving;
 use log_owner::log_has_room;
 use node_base::has_room;
+use token_client::Tokens;
 
 /// Whether each counter of a phase is.
 pub(crate) fn phase_has_room(phase: &Phase) -> bool
@@ -28,6 +28,19 @@ fn serving_has_room(serving: &Serving) -> bool
         && log_has_room(&serving.log)
         && epochs_have_room(&serving.tokens)
         && has_room(asked_again(serving))
+}
+
+// Whether each promised epoch is at least 65,536 below its end.
+#[tactic(auto, unfolding(crate::specs::Room::epochs_room))]
+fn epochs_have_room(tokens: &Tokens) -> bool
+    ensures { result ≡ epochs_room tokens.now }
+{
+    for slot in 0..8 {
+        if !has_room(tokens.promised(slot)) {
+            return false;
+        }
+    }
+    true
 }
 
 // How often the open call asked again for its block.

@@ -4,7 +4,7 @@ ghost use Rattle.client_running.specs.Blocks.{gets, puts, puts_at, puts_again, s
 ghost use Rattle.client_serving.specs.Flights.{held_at};
 ghost use Rattle.token_client.specs.Held.{may_write};
 
-use client_call::blocks::{fits, is_settled, may_put, note_written, read, synced};
+use client_call::blocks::{fits, is_settled, note_written, read, synced};
 use client_serving::Serving;
 use file_plan::{BlockAnswer, BlockCall};
 use node_base::Effects;
@@ -80,7 +80,7 @@ fn put(
     ensures effects { OnOk result (effects.new ≡ effects.old ++ (puts serving.old block value.now).done.outs) }
     ensures answer { IfOk result (λ answer. answer ≡ (puts serving.old block value.now).answer) }
 {
-    if !may_put(&serving.tokens, block) {
+    if !serving.tokens.may_write(block) {
         serving.hand(
             alloc,
             effects,
@@ -107,7 +107,7 @@ fn put_at(
     ensures effects { OnOk result (effects.new ≡ effects.old ++ (puts_at serving.old block ver value.now).done.outs) }
     ensures answer { IfOk result (λ answer. answer ≡ (puts_at serving.old block ver value.now).answer) }
 {
-    if !may_put(&serving.tokens, block) {
+    if !serving.tokens.may_write(block) {
         serving.hand(
             alloc,
             effects,

@@ -1,15 +1,14 @@
 -- What changes the tokens alone changes no other part of a client that serves.
 use Rattle.std.proofs.Common.{◌≡◌, List, [], ◌∷◌, refl, ap, ◌∙◌}
 use Rattle.std.specs.Prelude.{fold}
-use Rattle.client_call.specs.Flights.{row_settled}
-use Rattle.client_call.specs.Follow.{drops}
 use Rattle.client_serving.specs.declared.serving.Serving.{Serving}
 use Rattle.client_serving.specs.Flights.{keeps_clean, notes_settled, settled_rows}
-use Rattle.client_serving.specs.Follow.{evicts, notes_clean}
+use Rattle.client_serving.specs.Follow.{drops, evicts, notes_clean}
 use Rattle.coop_cache.specs.CacheState.{CacheState}
 use Rattle.coop_cache.specs.declared.output.Out as cache_out
 use Rattle.coop_cache.specs.declared.output.Out.TheVariants.{Victim}
 use Rattle.coop_cache.specs.Transition.{cleaned}
+use Rattle.token_client.specs.Settling.{row_settled}
 use Rattle.token_client.specs.State.{TokensState}
 use Rattle.token_client.specs.Transition.{on_evict, on_settled}
 use Rattle.xfs_base.specs.declared.block.BlockId.{BlockId}

@@ -13,7 +13,7 @@ use Rattle.token_client.specs.declared.input.In.{In}
 use Rattle.token_client.specs.declared.input.In.TheVariants.{Recalled}
 use Rattle.token_client.specs.declared.output.Out.{Out}
 use Rattle.token_client.specs.declared.output.Out.TheVariants.{Want, Gave, Supply, Flush, Read, Ready}
-use Rattle.token_client.specs.State.{held_of}
+use Rattle.token_client.specs.State.{TokensState, held_of}
 use Rattle.token_client.specs.Transition.{transition, on_evict}
 use Rattle.xfs_base.specs.declared.block.BlockId.{BlockId}
 use Rattle.xfs_base.specs.declared.token.Mode.TheVariants.{Copy}
@@ -22,6 +22,10 @@ use Rattle.xfs_base.specs.Modes.{same_mode, is_nothing}
 use Rattle.xfs_base.specs.Steps.{still, steps}
 
 -- ---- the cache
+
+-- the tokens let go of what leaves the cache
+unfoldable pub drops : TokensState → cache_out.Out → TokensState
+drops tokens (Victim block) = (on_evict tokens block).state
 
 unfoldable pub evicts : Serving → cache_out.Out → Serving
 evicts s (Victim block) = record s { tokens = (on_evict s.tokens block).state }

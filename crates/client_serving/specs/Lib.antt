@@ -1,6 +1,9 @@
+pub mod Behaves
 pub mod Bodies
 pub mod Flights
 pub mod Follow
+pub mod Grants
+pub mod Lasting
 pub mod Packets
 pub mod Reads
 pub mod Sends

@@ -2,11 +2,11 @@
 use Rattle.std.specs.Prelude.{ℕ, Bool, option_map, ◌==◌, ◌&&◌, not, nat_lt, nat_le, if◌then◌else◌, List, [], ◌∷◌, ◌++◌, Option, Some, None}
 use Rattle.std.specs.List.{flat_map}
 use Rattle.client_log.specs.declared.input.In.TheVariants as log_in
-use Rattle.client_call.specs.Grants.{supplies, is_stamp, is_want}
 use Rattle.client_call.specs.Reads.{Heard, block_read, heard, fetches_again, reading_in, value_at}
 use Rattle.client_serving.specs.declared.serving.Serving.{Serving}
 use Rattle.client_serving.specs.Flights.{held_at, writes, on_stored}
 use Rattle.client_serving.specs.Follow.{follows, hands, takes_back}
+use Rattle.client_serving.specs.Grants.{supplies, is_stamp, is_want}
 use Rattle.client_serving.specs.Reads.{ends_reading, with_reading, loses}
 use Rattle.client_serving.specs.Sends.{Done, gives, gave, report}
 use Rattle.delta_feed.specs.Transition.{acknowledged, new_epoch}
@@ -47,6 +47,7 @@ use Rattle.xfs_base.specs.declared.node.NodeId.{NodeId}
 use Rattle.xfs_base.specs.declared.node.NodeId.TheVariants as node
 use Rattle.xfs_base.specs.Modes.{is_own}
 use Rattle.xfs_base.specs.Steps.{Stepped, still, saying, steps}
+use Rattle.xfs_base.specs.Limits.{slot_count}
 
 -- ---- tokens
 
@@ -93,7 +94,7 @@ unfoldable pub on_gone : Serving → Gone → Done
 on_gone s g = if is_gone s g then loses s g.block g.seg else still s
 
 abbrev pub is_acked : Serving → DeltaAck → Bool
-is_acked s a = nat_lt a.slot 8 && (epoch_of s.tokens.epochs a.slot == a.epoch)
+is_acked s a = nat_lt a.slot slot_count && (epoch_of s.tokens.epochs a.slot == a.epoch)
 
 -- DeltaAck: a manager has applied the log.
 unfoldable pub on_ack : Serving → DeltaAck → Serving
@@ -149,7 +150,7 @@ abbrev pub reports : ℕ → ℕ → Stepped Serving Out → Done
 reports slot epoch p = saying (report p.state slot epoch ∷ []) (follows p.state p.outs)
 
 abbrev pub may_report : Serving → Poll → Bool
-may_report s p = nat_lt p.slot 8 && nat_le (epoch_of s.tokens.epochs p.slot) p.epoch
+may_report s p = nat_lt p.slot slot_count && nat_le (epoch_of s.tokens.epochs p.slot) p.epoch
 
 unfoldable pub polled : Serving → ℕ → Poll → Done
 polled s manager p = if may_report s p then reports p.slot p.epoch (promises s p.slot p.epoch manager) else still s
@@ -167,7 +168,7 @@ abbrev pub promised_in : Serving → SlotNews → Done
 promised_in s news = (let p = promises s news.slot news.epoch news.manager in follows p.state p.outs)
 
 abbrev pub is_news : Serving → SlotNews → Bool
-is_news s news = nat_lt news.slot 8 && nat_lt (epoch_of s.tokens.epochs news.slot) news.epoch
+is_news s news = nat_lt news.slot slot_count && nat_lt (epoch_of s.tokens.epochs news.slot) news.epoch
 
 unfoldable pub hears : Serving → SlotNews → Done
 hears s news = if is_news s news then promised_in s news else still s

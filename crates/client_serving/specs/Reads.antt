@@ -4,8 +4,7 @@ use Rattle.client_call.specs.Reads.{reading_in, call_with, kept_while, fetches, 
 use Rattle.client_serving.specs.declared.serving.Serving.{Serving}
 use Rattle.client_serving.specs.Sends.{Done, gives}
 use Rattle.group_map.specs.declared.group.Group.{Group}
-use Rattle.group_map.specs.Groups.{group_of}
-use Rattle.group_map.specs.GroupMapState.{GroupMapState}
+pub use Rattle.group_map.specs.Groups.{known_group as group_in}
 use Rattle.node_base.specs.Asking.{next_ask, drawn}
 use Rattle.node_base.specs.Beginning.{answered, answers_unanswered}
 use Rattle.node_base.specs.declared.effects.Effect.TheVariants.{Lose}
@@ -50,10 +49,6 @@ loses_at s None seg = still s
 loses_at s (Some wanted) seg = loses s wanted.block seg
 
 -- ---- rounds
-
-abbrev pub group_in : Option GroupMapState → ℕ → Option Group
-group_in None id = None
-group_in (Some groups) id = group_of groups id
 
 abbrev pub begins_over : Serving → Target → Option Group → Done
 begins_over s target None = still s

@@ -1,6 +1,8 @@
 -- What a client that serves sends.
 use Rattle.std.specs.Prelude.{ℕ, ◌==◌, if◌then◌else◌, List, [], ◌∷◌, ◌++◌}
 use Rattle.client_serving.specs.declared.serving.Serving.{Serving}
+use Rattle.delta_feed.specs.FeedState.{FeedState}
+use Rattle.log_owner.specs.declared.promised.Managers.{Managers}
 use Rattle.log_owner.specs.Promised.{manager_of}
 use Rattle.log_owner.specs.Sending.{pushes}
 use Rattle.node_base.specs.declared.effects.Effect.{Effect}
@@ -33,9 +35,14 @@ abbrev pub want : Serving → BlockId → ℕ → ℕ → Mode → Effect
 want s block req again mode =
     Send (asked_of s block) (body.Want (record { block = block; inc = s.lasting.inc; req = req; again = again; mode = mode; end = s.log.end.seq }))
 
--- what goes before a want: the deltas, where it was never sent
+-- What goes before a want of a slot that was sent again so often. A want names the end of the client's log: before one that was never sent
+-- goes all of that log that the slot's manager has not acknowledged, and before one that is sent again nothing.
+abbrev pub ahead_of_want : Managers → FeedState → ℕ → ℕ → List Effect
+ahead_of_want managers feed slot again = if again == 0 then pushes managers feed slot else []
+
+-- what goes before a want of a client
 abbrev pub before_want : Serving → BlockId → ℕ → List Effect
-before_want s block again = if again == 0 then deltas s block else []
+before_want s block again = ahead_of_want s.managers s.feed (slot_of block.ino.0) again
 
 -- a want, and what goes before it
 abbrev pub wants : Serving → BlockId → ℕ → ℕ → Mode → List Effect

@@ -5,9 +5,9 @@ ghost use Rattle.log_owner.specs.Sending.{pushes_all};
 ghost use Rattle.xfs_base.specs.Steps.{steps};
 
 use crate::Serving;
-use client_call::flights::{feed_rows, is_any_settling, is_dirty, is_giving, note_settled};
 use client_log::{In, Out};
 use log_owner::name_of;
+use log_owner::sealing::{feed_rows, is_any_settling};
 use log_owner::sending::{push_all, send_store};
 use node_base::Effects;
 use std::alloc::Global;
@@ -53,7 +53,7 @@ impl Serving {
         ensures state { OnOk result (self.new ≡ (seals_again self.old settling).state) }
         ensures effects { OnOk result (effects.new ≡ effects.old ++ (seals_again self.old settling).outs) }
     {
-        if settling && is_giving(alloc, &self.tokens)? {
+        if settling && self.tokens.is_giving(alloc)? {
             self.seal(alloc, effects)?;
         }
         Ok(())
@@ -104,7 +104,7 @@ impl Serving {
     fn settle_rows(&mut self, alloc: Global, rows: &[(BlockId, Entry)]) -> Mem<()>
         ensures { OnOk result (self.new ≡ settled_rows self.old rows.now) }
     {
-        note_settled(alloc, &mut self.tokens, rows)?;
+        self.tokens.note_settled(rows)?;
         self.keep_clean(alloc, rows)
     }
 
@@ -122,7 +122,7 @@ impl Serving {
     fn keep_row(&mut self, alloc: Global, row: (BlockId, Entry)) -> Mem<()>
         ensures { OnOk result (self.new ≡ keeps_clean self.old row) }
     {
-        if !is_dirty(&self.tokens, row.0) && self.tokens.mode(row.0).is_held() {
+        if !self.tokens.is_dirty(row.0) && self.tokens.mode(row.0).is_held() {
             self.note_clean(alloc, row.0)?;
         }
         Ok(())
@@ -144,7 +144,7 @@ impl Serving {
         ensures state { OnOk result (self.new ≡ (gives_if_clean self.old block).state) }
         ensures effects { OnOk result (effects.new ≡ effects.old ++ (gives_if_clean self.old block).outs) }
     {
-        if is_dirty(&self.tokens, block) {
+        if self.tokens.is_dirty(block) {
             return Ok(());
         }
         match self.tokens.giving(block) {

@@ -1,14 +1,14 @@
 //! What the tokens have a client do.
-ghost use Rattle.std.specs.Prelude.{◌≡◌, ◌++◌, OnOk};
-ghost use Rattle.client_serving.specs.Follow.{follows, follows_one, hands, notes_clean, notes_copy, notes_gone, seals, takes_back};
+ghost use Rattle.std.specs.Prelude.{◌≡◌, ◌++◌, OnOk, fold};
+ghost use Rattle.client_serving.specs.Follow.{drops, follows, follows_one, hands, notes_clean, notes_copy, notes_gone, seals, takes_back};
 
 use crate::Serving;
-use client_call::flights;
-use client_call::follow::{evict_all, send_gave, send_want};
+use crate::sends::{send_gave, send_want};
 use client_call::reads::end_reading;
+use log_owner::sealing;
 use node_base::Effects;
 use std::alloc::Global;
-use token_client::{In, Out};
+use token_client::{In, Out, Tokens};
 use wire_msg::{Gave, Want};
 use xfs_base::{BlockId, List, Mem, Mode, Stamp};
 
@@ -85,7 +85,7 @@ impl Serving {
         ensures state { OnOk result (self.new ≡ (seals self.old).state) }
         ensures effects { OnOk result (effects.new ≡ effects.old ++ (seals self.old).outs) }
     {
-        flights::seal(alloc, effects, &mut self.log)
+        sealing::seal(alloc, effects, &mut self.log)
     }
 
     /// Takes a block back, as a manager recalls it; one that isn't held then leaves the cache.
@@ -134,4 +134,23 @@ impl Serving {
         }
         Ok(())
     }
+}
+
+// The tokens let go of what leaves the cache.
+fn evict_all(alloc: Global, tokens: &mut Tokens, outs: List<coop_cache::Out>) -> Mem<()>
+    ensures { OnOk result (tokens.new ≡ fold drops tokens.old outs) }
+{
+    for out in outs.into_vec() {
+        evict(alloc, tokens, out)?;
+    }
+    Ok(())
+}
+
+#[tactic(auto, unfolding(crate::specs::Follow::drops))]
+fn evict(alloc: Global, tokens: &mut Tokens, out: coop_cache::Out) -> Mem<()>
+    ensures { OnOk result (tokens.new ≡ drops tokens.old out) }
+{
+    let coop_cache::Out::Victim(block) = out;
+    drop(tokens.take(alloc, In::Evict { block })?);
+    Ok(())
 }

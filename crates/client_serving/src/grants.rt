@@ -1,15 +1,20 @@
 //! What managers and other clients say of a block.
-ghost use Rattle.std.specs.Prelude.{◌≡◌, ◌++◌, OnOk};
+ghost use Rattle.std.specs.Prelude.{◌≡◌, ◌++◌, ◌==◌, ◌&&◌, OnOk, option_map};
+ghost use Rattle.std.specs.List.{flat_map};
+ghost use Rattle.client_serving.specs.Grants.{is_stamp, is_want, supplies};
 ghost use Rattle.client_serving.specs.Packets.{again, on_gone, on_grant, on_recall, on_supply};
+ghost use Rattle.token_client.specs.State.{epoch_of, held_of};
+ghost use Rattle.token_client.specs.Transition.{on_forwarded};
+ghost use Rattle.xfs_base.specs.Blocks.{slot_of};
 
 use crate::Serving;
-use client_call::follow::say_gave;
-use client_call::grants::{is_gone, is_stamp, lose};
+use crate::reads::lose;
+use crate::sends::say_gave;
 use node_base::{Effects, has_long_room};
 use std::alloc::Global;
-use token_client::{In, Out};
-use wire_msg::{Gave, Gone, Grant, Recall, Supply};
-use xfs_base::Mem;
+use token_client::{In, Out, Tokens};
+use wire_msg::{Body, Forward, Gave, Gone, Grant, Recall, Supply};
+use xfs_base::{List, Mem, NodeId, Stamp};
 
 impl Serving {
     /// A manager grants a block. One whose version has no room for a write is not taken.
@@ -108,4 +113,76 @@ impl Serving {
             gone.seg,
         )
     }
+}
+
+/// A manager has a block supplied to another client.
+pub(crate) fn forward(
+    alloc: Global,
+    effects: &mut Effects,
+    tokens: &mut Tokens,
+    forward: Forward,
+) -> Mem<()>
+    ensures tokens { OnOk result (tokens.new ≡ (on_forwarded tokens.old forward.block forward.stamp forward.ver).state) }
+    ensures effects { OnOk result
+        (effects.new ≡ effects.old ++ flat_map (supplies forward) (on_forwarded tokens.old forward.block forward.stamp forward.ver).outs) }
+{
+    let input = In::Forwarded {
+        block: forward.block,
+        stamp: forward.stamp,
+        ver: forward.ver,
+    };
+    let outs = tokens.take(alloc, input)?;
+    send_supplies(effects, forward, outs)
+}
+
+fn send_supplies(effects: &mut Effects, forward: Forward, outs: List<Out>) -> Mem<()>
+    ensures { OnOk result (effects.new ≡ effects.old ++ flat_map (supplies forward) outs) }
+{
+    for out in outs.into_vec() {
+        send_supply(effects, forward, out)?;
+    }
+    Ok(())
+}
+
+fn send_supply(effects: &mut Effects, forward: Forward, out: Out) -> Mem<()>
+    ensures { OnOk result (effects.new ≡ effects.old ++ supplies forward out) }
+{
+    let Out::Supply { block, ver, value } = out else {
+        return Ok(());
+    };
+    let supply = Supply {
+        block,
+        stamp: forward.stamp,
+        inc: forward.inc,
+        req: forward.req,
+        ver,
+        value,
+    };
+    effects.send(NodeId::Client(forward.to), Body::Supply(supply))
+}
+
+// Whether it is the open want that can't be served, in the promised epoch.
+fn is_gone(tokens: &Tokens, inc: u32, gone: Gone) -> bool
+    ensures { result ≡ ((epoch_of tokens.now.epochs (slot_of gone.block.ino.0) == gone.epoch)
+        && ((gone.inc == inc) && is_want (option_map (λ want. want.req) (held_of tokens.now.blocks gone.block).want) gone.req)) }
+{
+    tokens.promised(gone.block.ino.slot()) == gone.epoch
+        && gone.inc == inc
+        && is_want(tokens.want(gone.block), gone.req)
+}
+
+fn is_want(want: Option<u32>, req: u32) -> bool
+    ensures { result ≡ is_want want req }
+{
+    match want {
+        Some(asked) => asked == req,
+        None => false,
+    }
+}
+
+// Whether these are the same stamp.
+fn is_stamp(a: Stamp, b: Stamp) -> bool
+    ensures { result ≡ is_stamp a b }
+{
+    a.epoch == b.epoch && a.turn == b.turn
 }

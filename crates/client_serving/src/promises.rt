@@ -1,16 +1,21 @@
 //! Promises: polls of managers, and maps.
-ghost use Rattle.std.specs.Prelude.{◌≡◌, ◌<◌, ◌++◌, IfOk, OnOk};
+ghost use Rattle.std.specs.Prelude.{◌≡◌, ◌<◌, ◌++◌, ◌∷◌, [], IfOk, OnOk};
 ghost use Rattle.client_serving.specs.Packets.{hears, on_news, on_poll, on_welcome, polled, promises, regroups, renews};
+ghost use Rattle.log_owner.specs.Sending.{hello};
+ghost use Rattle.node_base.specs.Asking.{next_ask, drawn};
 ghost use Rattle.xfs_base.specs.Steps.{steps};
+ghost use Rattle.xfs_base.specs.Limits.{slot_count};
 
-use crate::Serving;
-use client_call::promises::report;
+use crate::sends::report;
+use crate::{Lasting, Serving};
 use client_call::reads::end_reading;
 use group_map::GroupMap;
+use log_owner::sending::send_hello;
 use node_base::Effects;
 use std::alloc::Global;
 use token_client::{In, Out};
 use wire_msg::{News, Poll, Welcome};
+use xfs_base::limits::SLOT_COUNT;
 use xfs_base::{List, Mem, NodeId, SlotNews};
 
 impl Serving {
@@ -37,7 +42,7 @@ impl Serving {
         ensures effects { OnOk result (effects.new ≡ effects.old ++ (polled self.old manager poll).outs) }
     {
         let Poll { slot, epoch } = poll;
-        if 8 <= slot || epoch < self.tokens.promised(slot) {
+        if SLOT_COUNT <= slot || epoch < self.tokens.promised(slot) {
             return Ok(());
         }
         let outs = self.promise(alloc, slot, epoch, manager)?;
@@ -62,7 +67,7 @@ impl Serving {
     // The slot is promised to this epoch of this manager; what the tokens have the client do.
     #[tactic(auto, unfolding(crate::specs::Packets::promises))]
     fn promise(&mut self, alloc: Global, slot: u8, epoch: u32, manager: u8) -> Mem<List<Out>>
-        requires { slot < 8 }
+        requires { slot < slot_count }
         ensures state { OnOk result (self.new ≡ (promises self.old slot epoch manager).state) }
         ensures outs { IfOk result (λ outs. outs ≡ (promises self.old slot epoch manager).outs) }
     {
@@ -76,7 +81,7 @@ impl Serving {
     // A new manager is told all from the base on.
     #[tactic(auto, unfolding(crate::specs::Packets::renews))]
     fn renew(&mut self, alloc: Global, slot: u8, epoch: u32) -> Mem<()>
-        requires { slot < 8 }
+        requires { slot < slot_count }
         ensures { OnOk result (self.new ≡ renews self.old slot epoch) }
     {
         if self.tokens.promised(slot) < epoch {
@@ -132,7 +137,7 @@ impl Serving {
         ensures state { OnOk result (self.new ≡ (hears self.old news.now).state) }
         ensures effects { OnOk result (effects.new ≡ effects.old ++ (hears self.old news.now).outs) }
     {
-        if 8 <= news.slot || news.epoch <= self.tokens.promised(news.slot) {
+        if SLOT_COUNT <= news.slot || news.epoch <= self.tokens.promised(news.slot) {
             return Ok(());
         }
         let outs = self.promise(alloc, news.slot, news.epoch, news.manager)?;
@@ -156,4 +161,12 @@ impl Serving {
         let groups = groups.copy(alloc)?;
         self.write(alloc, effects, client_log::In::Maps(groups))
     }
+}
+
+/// The maps are asked for, under a new question.
+pub(crate) fn ask_for_maps(effects: &mut Effects, lasting: &mut Lasting) -> Mem<()>
+    ensures lasting { OnOk result (lasting.new ≡ record lasting.old { questions = drawn lasting.old.questions }) }
+    ensures effects { OnOk result (effects.new ≡ effects.old ++ hello lasting.old.inc (next_ask lasting.old.questions) ∷ []) }
+{
+    send_hello(effects, lasting.inc, lasting.questions.draw())
 }

@@ -1,10 +1,14 @@
 //! Reading a block from a log.
-ghost use Rattle.std.specs.Prelude.{◌≡◌, ◌++◌, OnOk};
+ghost use Rattle.std.specs.Prelude.{◌≡◌, ◌++◌, ◌∷◌, OnOk, None};
 ghost use Rattle.client_serving.specs.Packets.{ends_fetch, on_found, on_missing, on_told, told_by};
 ghost use Rattle.client_serving.specs.Reads.{ask_after, begins, confirmed_next, confirms, drawn_after, loses_at, reads, reads_over};
+ghost use Rattle.node_base.specs.Beginning.{answered, answers_unanswered};
+ghost use Rattle.node_base.specs.declared.effects.Effect.TheVariants.{Lose};
+ghost use Rattle.token_client.specs.Transition.{on_quit};
+ghost use Rattle.version_model.specs.declared.answer.Answer.TheVariants.{Lost};
 
-use crate::Serving;
-use client_call::grants::lose;
+use crate::{Lasting, Serving};
+use client_call::Call;
 use client_call::reads::{
     ask_reading, block_read, hear, same_target, set_reading, take_reading, target_of, value_at,
 };
@@ -12,7 +16,8 @@ use node_base::Effects;
 use segment_reading::{BlockAt, Next, Reading, Stage, Target};
 use std::alloc::Global;
 use stripe_code::Told;
-use token_client::In;
+use token_client::{In, Tokens};
+use version_model::Answer;
 use wire_msg::{Found, Missing};
 use xfs_base::{BlockId, Mem, NodeId, Place, SegName};
 
@@ -251,4 +256,26 @@ impl Serving {
             Next::Wait | Next::Ask | Next::Lost => Ok(()),
         }
     }
+}
+
+/// A segment that the open call needs is lost.
+pub(crate) fn lose(
+    alloc: Global,
+    effects: &mut Effects,
+    lasting: &mut Lasting,
+    call: &mut Option<Call>,
+    tokens: &mut Tokens,
+    block: BlockId,
+    seg: SegName,
+) -> Mem<()>
+    ensures lasting { OnOk result (lasting.new ≡ record lasting.old { items = answered lasting.old.items }) }
+    ensures call { OnOk result (call.new ≡ None) }
+    ensures tokens { OnOk result (tokens.new ≡ (on_quit tokens.old block).state) }
+    ensures effects { OnOk result (effects.new ≡ effects.old ++ Lose seg ∷ answers_unanswered lasting.old.items.unanswered (Lost seg)) }
+{
+    effects.lose(seg)?;
+    lasting.answer(effects, Answer::Lost(seg))?;
+    drop(call.take());
+    drop(tokens.take(alloc, In::Quit { block })?);
+    Ok(())
 }

@@ -3,20 +3,22 @@ ghost use Rattle.std.specs.Prelude.{◌≡◌, ◌++◌, OnOk};
 ghost use Rattle.client_serving.specs.Bodies.{on_log_body};
 ghost use Rattle.client_serving.specs.Packets.{on_ack, on_body, on_packet, on_tick};
 
-use client_call::flights::acked;
-use client_call::grants::forward;
-use client_call::promises::ask_for_maps;
+use crate::Lasting;
+use crate::grants::forward;
+use crate::promises::ask_for_maps;
+use client_call::Call;
 use client_call::reads::fetch_again;
-use client_call::{Call, Lasting};
 use client_log::Log;
 use coop_cache::Cache;
 use delta_feed::Feed;
 use log_owner::Managers;
+use log_owner::sealing::acked;
 use log_owner::sending::push_all;
 use node_base::{Effects, Maps, names_known_groups};
 use std::alloc::Global;
 use token_client::Tokens;
 use wire_msg::{Body, DeltaAck, Packet};
+use xfs_base::limits::SLOT_COUNT;
 use xfs_base::{Mem, NodeId};
 
 /// What a client that serves has. The tokens keep which epoch each slot is promised to.
@@ -160,7 +162,7 @@ impl Serving {
     fn on_ack(&mut self, alloc: Global, ack: DeltaAck) -> Mem<()>
         ensures { OnOk result (self.new ≡ on_ack self.old ack) }
     {
-        if ack.slot < 8 && self.tokens.promised(ack.slot) == ack.epoch {
+        if ack.slot < SLOT_COUNT && self.tokens.promised(ack.slot) == ack.epoch {
             let input = delta_feed::In::Ack {
                 slot: ack.slot,
                 applied: ack.applied,

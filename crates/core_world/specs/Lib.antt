@@ -1,2 +1,3 @@
 pub mod AnyNode
 pub mod Clocks
+pub mod Serving

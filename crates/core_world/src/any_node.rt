@@ -1,4 +1,7 @@
 //! A node of any kind.
+ghost use Rattle.std.specs.Prelude.{◌≡◌};
+ghost use Rattle.core_world.specs.Serving.{is_serving};
+
 use cleaner_node::Cleaner;
 use client_node::Client;
 use manager_node::Manager;
@@ -32,6 +35,21 @@ impl Drop for AnyNode {
             AnyNode::Server(part) => drop(part),
             AnyNode::Cleaner(part) => drop(part),
             AnyNode::Registry(part) => drop(part),
+        }
+    }
+}
+
+impl AnyNode {
+    /// Whether it serves: a client, a manager or the cleaner doesn't while it is down or starts again.
+    pub fn is_serving(&self) -> bool
+        ensures { result ≡ is_serving self.now }
+    {
+        match self {
+            AnyNode::Client(node) => node.is_serving(),
+            AnyNode::Manager(node) => node.is_serving(),
+            AnyNode::Server(_) => true,
+            AnyNode::Cleaner(node) => node.is_serving(),
+            AnyNode::Registry(_) => true,
         }
     }
 }

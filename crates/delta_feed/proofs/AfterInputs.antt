@@ -6,6 +6,7 @@ use Rattle.std.proofs.lemmas.Bool.Decides.{nat_tests}
 use Rattle.std.proofs.lemmas.List.{append-nil, length-set, get_or-set_same, get_or-set_other, get_or-replicate}
 use Rattle.xfs_base.specs.Steps.{steps}
 use Rattle.xfs_base.proofs.Booleans.{by_test}
+use Rattle.xfs_base.specs.Limits.{slot_count}
 use Rattle.delta_feed.specs.declared.feed.FiledDeltas.{FiledDeltas}
 use Rattle.delta_feed.specs.declared.input.In.{In}
 use Rattle.delta_feed.specs.declared.input.In.TheVariants.{Settled, Ack, NewEpoch, Push, Tick}
@@ -26,38 +27,38 @@ kept_base s (Settled seq rows) =
     by_test (λ (t : FeedState). t.base ≡ s.base) (nat_lt s.end seq) (record s { filed = s.filed ++ record { seq = seq; rows = rows } ∷ []; end = seq }) s
     (λ _. refl) (λ _. refl)
 kept_base s (Ack slot applied) =
-    by_test (λ (t : FeedState). t.base ≡ s.base) (nat_lt slot 8 && nat_lt (acked_of s slot) applied) (record s { acked = set s.acked slot applied }) s
+    by_test (λ (t : FeedState). t.base ≡ s.base) (nat_lt slot slot_count && nat_lt (acked_of s slot) applied) (record s { acked = set s.acked slot applied }) s
     (λ _. refl) (λ _. refl)
 kept_base s (NewEpoch slot) =
-    by_test (λ (t : FeedState). t.base ≡ s.base) (nat_lt slot 8) (record s { acked = set s.acked slot s.base }) s (λ _. refl) (λ _. refl)
+    by_test (λ (t : FeedState). t.base ≡ s.base) (nat_lt slot slot_count) (record s { acked = set s.acked slot s.base }) s (λ _. refl) (λ _. refl)
 kept_base s (Push slot) = refl
 kept_base s Tick = refl
 
-kept_eight : (s : FeedState) (input : In) → length s.acked ≡ 8 → length (transition s input).state.acked ≡ 8
+kept_eight : (s : FeedState) (input : In) → length s.acked ≡ slot_count → length (transition s input).state.acked ≡ slot_count
 kept_eight s (Settled seq rows) eight =
-    by_test (λ (t : FeedState). length t.acked ≡ 8) (nat_lt s.end seq) (record s { filed = s.filed ++ record { seq = seq; rows = rows } ∷ []; end = seq }) s
+    by_test (λ (t : FeedState). length t.acked ≡ slot_count) (nat_lt s.end seq) (record s { filed = s.filed ++ record { seq = seq; rows = rows } ∷ []; end = seq }) s
     (λ _. eight) (λ _. eight)
 kept_eight s (Ack slot applied) eight =
-    by_test (λ (t : FeedState). length t.acked ≡ 8) (nat_lt slot 8 && nat_lt (acked_of s slot) applied) (record s { acked = set s.acked slot applied }) s
+    by_test (λ (t : FeedState). length t.acked ≡ slot_count) (nat_lt slot slot_count && nat_lt (acked_of s slot) applied) (record s { acked = set s.acked slot applied }) s
     (λ _. length-set s.acked slot applied ∙ eight) (λ _. eight)
 kept_eight s (NewEpoch slot) eight =
-    by_test (λ (t : FeedState). length t.acked ≡ 8) (nat_lt slot 8) (record s { acked = set s.acked slot s.base }) s
+    by_test (λ (t : FeedState). length t.acked ≡ slot_count) (nat_lt slot slot_count) (record s { acked = set s.acked slot s.base }) s
     (λ _. length-set s.acked slot s.base ∙ eight) (λ _. eight)
 kept_eight s (Push slot) eight = eight
 kept_eight s Tick eight = eight
 
 -- a slot that there is
-pub acked_in : (s : FeedState) (slot : ℕ) → slot < 8 → acked_of s slot ≡ get_or s.acked slot 0
-acked_in s slot l = let p : nat_lt slot 8 ≡ true = grind (arith, nat_tests) in ap (λ t. cond t (get_or s.acked slot 0) s.base) p
+pub acked_in : (s : FeedState) (slot : ℕ) → slot < slot_count → acked_of s slot ≡ get_or s.acked slot 0
+acked_in s slot l = let p : nat_lt slot slot_count ≡ true = grind (arith, nat_tests) in ap (λ t. cond t (get_or s.acked slot 0) s.base) p
 
-module _ (slot : ℕ) (l : slot < 8) (s : FeedState) (eight : length s.acked ≡ 8) where
+module _ (slot : ℕ) (l : slot < slot_count) (s : FeedState) (eight : length s.acked ≡ slot_count) where
   abbrev now : FeedState → ℕ
   now t = get_or t.acked slot 0
 
   ack_more : (n : ℕ) → now (acknowledged s slot n) ≡ max n (now s)
   ack_more n =
       let fact : acked_of s slot ≡ now s = acked_in s slot l in
-      by_test (λ (t : FeedState). now t ≡ max n (now s)) (nat_lt slot 8 && nat_lt (acked_of s slot) n) (record s { acked = set s.acked slot n }) s
+      by_test (λ (t : FeedState). now t ≡ max n (now s)) (nat_lt slot slot_count && nat_lt (acked_of s slot) n) (record s { acked = set s.acked slot n }) s
       (λ p. let less : now s < n = grind (arith, nat_tests) in get_or-set_same s.acked slot n 0 (rw eight l) ∙ omega (arith, less))
       (λ p. let limit : n ≤ now s = grind (arith, nat_tests) in omega (arith, limit))
 
@@ -66,19 +67,19 @@ module _ (slot : ℕ) (l : slot < 8) (s : FeedState) (eight : length s.acked ≡
 
   ack_other : (acker n : ℕ) → (acker == slot) ≡ false → now (acknowledged s acker n) ≡ now s
   ack_other acker n apart =
-      by_test (λ (t : FeedState). now t ≡ now s) (nat_lt acker 8 && nat_lt (acked_of s acker) n) (record s { acked = set s.acked acker n }) s
+      by_test (λ (t : FeedState). now t ≡ now s) (nat_lt acker slot_count && nat_lt (acked_of s acker) n) (record s { acked = set s.acked acker n }) s
       (λ _. get_or-set_other s.acked acker slot n 0 (grind (arith, nat_tests))) (λ _. refl)
 
   renew_own : (renewed : ℕ) → (renewed == slot) ≡ true → now (new_epoch s renewed) ≡ s.base
   renew_own renewed one =
       let fact : renewed ≡ slot = grind (arith, nat_tests) in
-      let p : nat_lt slot 8 ≡ true = grind (arith, nat_tests) in
+      let p : nat_lt slot slot_count ≡ true = grind (arith, nat_tests) in
       ap (λ r. now (new_epoch s r)) fact ∙ ap (λ t. now (cond t (record s { acked = set s.acked slot s.base }) s)) p
       ∙ get_or-set_same s.acked slot s.base 0 (rw eight l)
 
   renew_other : (renewed : ℕ) → (renewed == slot) ≡ false → now (new_epoch s renewed) ≡ now s
   renew_other renewed apart =
-      by_test (λ (t : FeedState). now t ≡ now s) (nat_lt renewed 8) (record s { acked = set s.acked renewed s.base }) s
+      by_test (λ (t : FeedState). now t ≡ now s) (nat_lt renewed slot_count) (record s { acked = set s.acked renewed s.base }) s
       (λ _. get_or-set_other s.acked renewed slot s.base 0 (grind (arith, nat_tests))) (λ _. refl)
 
 -- ---- many inputs, from any state
@@ -90,7 +91,7 @@ base_after : (s : FeedState) (inputs : List In) → (later s inputs).base ≡ s.
 base_after s [] = refl
 base_after s (i ∷ rest) = base_after (transition s i).state rest ∙ kept_base s i
 
-eight_after : (s : FeedState) (inputs : List In) → length s.acked ≡ 8 → length (later s inputs).acked ≡ 8
+eight_after : (s : FeedState) (inputs : List In) → length s.acked ≡ slot_count → length (later s inputs).acked ≡ slot_count
 eight_after s [] eight = eight
 eight_after s (i ∷ rest) eight = eight_after (transition s i).state rest (kept_eight s i eight)
 
@@ -105,11 +106,11 @@ filed_after s (Settled seq rows ∷ rest) =
     ]
 filed_after s (Ack slot applied ∷ rest) =
     filed_after (acknowledged s slot applied) rest
-    ∙ by_test (λ (t : FeedState). t.filed ++ filed_by t.end rest ≡ s.filed ++ filed_by s.end rest) (nat_lt slot 8 && nat_lt (acked_of s slot) applied)
+    ∙ by_test (λ (t : FeedState). t.filed ++ filed_by t.end rest ≡ s.filed ++ filed_by s.end rest) (nat_lt slot slot_count && nat_lt (acked_of s slot) applied)
     (record s { acked = set s.acked slot applied }) s (λ _. refl) (λ _. refl)
 filed_after s (NewEpoch slot ∷ rest) =
     filed_after (new_epoch s slot) rest
-    ∙ by_test (λ (t : FeedState). t.filed ++ filed_by t.end rest ≡ s.filed ++ filed_by s.end rest) (nat_lt slot 8)
+    ∙ by_test (λ (t : FeedState). t.filed ++ filed_by t.end rest ≡ s.filed ++ filed_by s.end rest) (nat_lt slot slot_count)
     (record s { acked = set s.acked slot s.base }) s
     (λ _. refl) (λ _. refl)
 filed_after s (Push slot ∷ rest) = filed_after s rest
@@ -134,11 +135,11 @@ end_after s (Settled seq rows ∷ rest) =
 end_after s (Ack slot applied ∷ rest) =
     end_after (acknowledged s slot applied) rest
     ∙ by_test (λ (t : FeedState). greatest t.end (settled_numbers rest) ≡ greatest s.end (settled_numbers rest))
-    (nat_lt slot 8 && nat_lt (acked_of s slot) applied)
+    (nat_lt slot slot_count && nat_lt (acked_of s slot) applied)
     (record s { acked = set s.acked slot applied }) s (λ _. refl) (λ _. refl)
 end_after s (NewEpoch slot ∷ rest) =
     end_after (new_epoch s slot) rest
-    ∙ by_test (λ (t : FeedState). greatest t.end (settled_numbers rest) ≡ greatest s.end (settled_numbers rest)) (nat_lt slot 8)
+    ∙ by_test (λ (t : FeedState). greatest t.end (settled_numbers rest) ≡ greatest s.end (settled_numbers rest)) (nat_lt slot slot_count)
     (record s { acked = set s.acked slot s.base }) s (λ _. refl) (λ _. refl)
 end_after s (Push slot ∷ rest) = end_after s rest
 end_after s (Tick ∷ rest) = end_after s rest
@@ -159,7 +160,7 @@ renewal_counts true false base was told acks own other = ap (λ m. greatest m ac
 renewal_counts false true base was told acks own other = refl
 renewal_counts false false base was told acks own other = ap (λ m. greatest m acks) (other refl)
 
-acks_after : (slot : ℕ) → slot < 8 → (s : FeedState) → length s.acked ≡ 8 → (inputs : List In)
+acks_after : (slot : ℕ) → slot < slot_count → (s : FeedState) → length s.acked ≡ slot_count → (inputs : List In)
     → get_or (later s inputs).acked slot 0 ≡ greatest (cond (list_any (renews slot) inputs) s.base (get_or s.acked slot 0)) (acks_since slot inputs)
 acks_after slot l s eight [] = refl
 acks_after slot l s eight (Settled seq rows ∷ rest) =
@@ -190,8 +191,8 @@ pub record IsAfter (base : ℕ) (inputs : List In) (s : FeedState) : Type 0 wher
   pub base_is : s.base ≡ base
   pub filed_is : s.filed ≡ filed_by base inputs
   pub end_is : s.end ≡ end_of base inputs
-  pub eight : length s.acked ≡ 8
-  pub acked_is : (slot : ℕ) → slot < 8 → get_or s.acked slot 0 ≡ acknowledged_by base slot inputs
+  pub eight : length s.acked ≡ slot_count
+  pub acked_is : (slot : ℕ) → slot < slot_count → get_or s.acked slot 0 ≡ acknowledged_by base slot inputs
 
 either_base : (renewed : Bool) (base was : ℕ) → was ≡ base → cond renewed base was ≡ base
 either_base true base was fact = refl
@@ -206,9 +207,9 @@ is_after base inputs = record {
   acked_is = λ slot l.
       acks_after slot l (started base) refl inputs
       ∙ ap (λ m. greatest m (acks_since slot inputs))
-      (either_base (list_any (renews slot) inputs) base (get_or (started base).acked slot 0) (get_or-replicate 8 slot base 0 l));
+      (either_base (list_any (renews slot) inputs) base (get_or (started base).acked slot 0) (get_or-replicate slot_count slot base 0 l));
 }
 
-pub acked_after : (base : ℕ) (inputs : List In) (s : FeedState) → IsAfter base inputs s → (slot : ℕ) → slot < 8
+pub acked_after : (base : ℕ) (inputs : List In) (s : FeedState) → IsAfter base inputs s → (slot : ℕ) → slot < slot_count
     → acked_of s slot ≡ acknowledged_by base slot inputs
 acked_after base inputs s k slot l = acked_in s slot l ∙ k.acked_is slot l

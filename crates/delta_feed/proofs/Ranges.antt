@@ -6,6 +6,7 @@ use Rattle.std.proofs.lemmas.Bool.Decides.{nat_tests}
 use Rattle.std.proofs.lemmas.List.Elements.{All-nil, All-cons, All-append}
 use Rattle.xfs_base.specs.declared.block.BlockId.{BlockId}
 use Rattle.xfs_base.specs.declared.entry.Entry.{Entry}
+use Rattle.xfs_base.specs.Limits.{slot_count}
 use Rattle.delta_feed.specs.declared.input.In.{In}
 use Rattle.delta_feed.specs.declared.input.In.TheVariants.{Settled, Ack, NewEpoch, Push, Tick}
 use Rattle.delta_feed.specs.declared.output.Out.TheVariants.{Range}
@@ -16,7 +17,7 @@ use Rattle.delta_feed.specs.RangeLaws.{TellsRange, IsTrueRange}
 use Rattle.delta_feed.proofs.AfterInputs.{IsAfter, is_after, acked_after}
 use Rattle.delta_feed.proofs.RangeRows.{filed_rising, rising_upto, join-rows_after, own_rows_after}
 
-tells : (base : ℕ) (h : List In) (s : FeedState) (slot : ℕ) → IsAfter base h s → slot < 8 → acked_of s slot < s.end
+tells : (base : ℕ) (h : List In) (s : FeedState) (slot : ℕ) → IsAfter base h s → slot < slot_count → acked_of s slot < s.end
     → TellsRange base h slot (acked_of s slot + 1) s.end (rows_after slot (acked_of s slot) s.filed)
 tells base h s slot k in_range some = record {
   is_slot = in_range;
@@ -32,7 +33,7 @@ tells base h s slot k in_range some = record {
 pub pushes_true : (base : ℕ) (h : List In) (s : FeedState) (slot : ℕ) → IsAfter base h s → All (IsTrueRange base h) (pushed s slot)
 unfolding pushed
 pushes_true base h s slot k =
-    elim (nat_lt slot 8 && nat_lt (acked_of s slot) s.end) as (λ t. (nat_lt slot 8 && nat_lt (acked_of s slot) s.end) ≡ t
+    elim (nat_lt slot slot_count && nat_lt (acked_of s slot) s.end) as (λ t. (nat_lt slot slot_count && nat_lt (acked_of s slot) s.end) ≡ t
     → All (IsTrueRange base h) (cond t (Range slot (acked_of s slot + 1) s.end (rows_after slot (acked_of s slot) s.filed) ∷ []) [])) [
       | true ↦ λ p. All-cons (IsTrueRange base h) (Range slot (acked_of s slot + 1) s.end (rows_after slot (acked_of s slot) s.filed)) []
           (tells base h s slot k (grind (arith, nat_tests)) (grind (arith, nat_tests))) (All-nil (IsTrueRange base h))
@@ -49,26 +50,26 @@ ranges_true base h (Settled seq rows) = All-nil (IsTrueRange base h)
 ranges_true base h (Ack slot applied) = All-nil (IsTrueRange base h)
 ranges_true base h (NewEpoch slot) = All-nil (IsTrueRange base h)
 ranges_true base h (Push slot) = pushes_true base h (state_after base h) slot (is_after base h)
-ranges_true base h Tick = ticks_true base h (state_after base h) (is_after base h) (range_with_len 0 8)
+ranges_true base h Tick = ticks_true base h (state_after base h) (is_after base h) (range_with_len 0 slot_count)
 
-pub lacking_told : (base : ℕ) (h : List In) (s : FeedState) (slot : ℕ) → IsAfter base h s → slot < 8 → acknowledged_by base slot h < end_of base h
+pub lacking_told : (base : ℕ) (h : List In) (s : FeedState) (slot : ℕ) → IsAfter base h s → slot < slot_count → acknowledged_by base slot h < end_of base h
     → (rows : List (BlockId × Entry)) × (pushed s slot ≡ Range slot (acknowledged_by base slot h + 1) (end_of base h) rows ∷ [])
 unfolding pushed
 lacking_told base h s slot k in_range lacks =
     let acked : acked_of s slot ≡ acknowledged_by base slot h = acked_after base h s k slot in_range in
     let less : acked_of s slot < s.end = rw (acked, k.end_is) lacks in
-    let test : (nat_lt slot 8 && nat_lt (acked_of s slot) s.end) ≡ true = grind (arith, nat_tests) in (
+    let test : (nat_lt slot slot_count && nat_lt (acked_of s slot) s.end) ≡ true = grind (arith, nat_tests) in (
       rows_after slot (acked_of s slot) s.filed,
       ap (λ t. cond t (Range slot (acked_of s slot + 1) s.end (rows_after slot (acked_of s slot) s.filed) ∷ []) []) test
           ∙ ap (λ n. Range slot (n + 1) s.end (rows_after slot (acked_of s slot) s.filed) ∷ []) acked
           ∙ ap (λ e. Range slot (acknowledged_by base slot h + 1) e (rows_after slot (acked_of s slot) s.filed) ∷ []) k.end_is,
     )
 
-pub known_untold : (base : ℕ) (h : List In) (s : FeedState) (slot : ℕ) → IsAfter base h s → slot < 8 → end_of base h ≤ acknowledged_by base slot h
+pub known_untold : (base : ℕ) (h : List In) (s : FeedState) (slot : ℕ) → IsAfter base h s → slot < slot_count → end_of base h ≤ acknowledged_by base slot h
     → pushed s slot ≡ []
 unfolding pushed
 known_untold base h s slot k in_range knows =
     let acked : acked_of s slot ≡ acknowledged_by base slot h = acked_after base h s k slot in_range in
     let least : s.end ≤ acked_of s slot = rw (acked, k.end_is) knows in
-    let test : (nat_lt slot 8 && nat_lt (acked_of s slot) s.end) ≡ false = grind (arith, nat_tests) in
+    let test : (nat_lt slot slot_count && nat_lt (acked_of s slot) s.end) ≡ false = grind (arith, nat_tests) in
     ap (λ t. cond t (Range slot (acked_of s slot + 1) s.end (rows_after slot (acked_of s slot) s.filed) ∷ []) []) test

@@ -1,6 +1,7 @@
 -- What a feed keeps.
 use Rattle.std.specs.Prelude.{ℕ, ◌≤◌, List, [], All, replicate, nat_lt, slice_index, if◌then◌else◌}
 use Rattle.std.specs.List.Sorted.{IsNonDecreasingBy}
+use Rattle.xfs_base.specs.Limits.{slot_count}
 use Rattle.delta_feed.specs.declared.feed.FiledDeltas.{FiledDeltas}
 
 pub record FeedState : Type 0 where
@@ -20,8 +21,8 @@ pub record IsInOrder (filed : List FiledDeltas) (end : ℕ) : Type 0 where
 
 -- nothing above the base, and each slot knows the log up to it
 abbrev pub started : ℕ → FeedState
-started base = record { base = base; filed = []; end = base; acked = replicate 8 base }
+started base = record { base = base; filed = []; end = base; acked = replicate slot_count base }
 
 -- up to which segment a slot has acknowledged the log; the base at a slot that there isn't
 abbrev pub acked_of : FeedState → ℕ → ℕ
-acked_of s slot = if nat_lt slot 8 then slice_index s.acked slot else s.base
+acked_of s slot = if nat_lt slot slot_count then slice_index s.acked slot else s.base

@@ -3,6 +3,7 @@ use Rattle.std.specs.Prelude.{◌≡◌, ℕ, ◌+◌, ◌<◌, ◌≤◌, List,
 use Rattle.xfs_base.specs.declared.block.BlockId.{BlockId}
 use Rattle.xfs_base.specs.declared.entry.Entry.{Entry}
 use Rattle.xfs_base.specs.Blocks.{slot_of}
+use Rattle.xfs_base.specs.Limits.{slot_count}
 use Rattle.delta_index.specs.Join.{join}
 use Rattle.delta_feed.specs.declared.input.In.{In}
 use Rattle.delta_feed.specs.declared.output.Out.{Out}
@@ -12,7 +13,7 @@ use Rattle.delta_feed.specs.History.{end_of, filed_by, acknowledged_by, deltas_b
 -- a range of a slot, from the first number that it has not acknowledged to the last that is filed: its
 -- rows are of the slot's blocks alone, and join to what the filed segments in it join to
 pub record TellsRange (base : ℕ) (inputs : List In) (slot first upto : ℕ) (rows : List (BlockId × Entry)) : Type 0 where
-  pub is_slot : slot < 8
+  pub is_slot : slot < slot_count
   pub begins : first ≡ acknowledged_by base slot inputs + 1
   pub ends : upto ≡ end_of base inputs
   pub has_some : first ≤ upto

@@ -5,6 +5,7 @@ use Rattle.xfs_base.specs.declared.block.BlockId.{BlockId}
 use Rattle.xfs_base.specs.declared.entry.Entry.{Entry}
 use Rattle.xfs_base.specs.Blocks.{slot_of}
 use Rattle.xfs_base.specs.Steps.{Stepped, still}
+use Rattle.xfs_base.specs.Limits.{slot_count}
 use Rattle.delta_feed.specs.declared.feed.FiledDeltas.{FiledDeltas}
 use Rattle.delta_feed.specs.declared.input.In.{In}
 use Rattle.delta_feed.specs.declared.input.In.TheVariants.{Settled, Ack, NewEpoch, Push, Tick}
@@ -34,24 +35,24 @@ settled s seq rows =
 -- an acknowledgement never falls
 abbrev pub acknowledged : FeedState → ℕ → ℕ → FeedState
 acknowledged s slot upto =
-    if nat_lt slot 8 && nat_lt (acked_of s slot) upto
+    if nat_lt slot slot_count && nat_lt (acked_of s slot) upto
     then record s { acked = slice_set s.acked slot upto }
     else s
 
 -- of a new manager it is not known that it has applied more than the base
 abbrev pub new_epoch : FeedState → ℕ → FeedState
-new_epoch s slot = if nat_lt slot 8 then record s { acked = slice_set s.acked slot s.base } else s
+new_epoch s slot = if nat_lt slot slot_count then record s { acked = slice_set s.acked slot s.base } else s
 
 -- what the slot has not acknowledged, if there is anything, from there to the end
 unfoldable pub pushed : FeedState → ℕ → List Out
 pushed s slot =
-    if nat_lt slot 8 && nat_lt (acked_of s slot) s.end
+    if nat_lt slot slot_count && nat_lt (acked_of s slot) s.end
     then Range slot (acked_of s slot + 1) s.end (rows_after slot (acked_of s slot) s.filed) ∷ []
     else []
 
 -- the same for each slot in order
 abbrev pub ticked : FeedState → List Out
-ticked s = flat_map (pushed s) (range_with_len 0 8)
+ticked s = flat_map (pushed s) (range_with_len 0 slot_count)
 
 -- what each input makes of a feed
 abbrev pub transition : FeedState → In → Stepped FeedState Out

@@ -8,10 +8,8 @@ ghost use Rattle.delta_feed.specs.Transition.{slot_rows, all_rows, rows_after, s
 use crate::{In, Out};
 use std::alloc::Global;
 use std::marker::Model;
+use xfs_base::limits::{BY_SLOT, SLOT_COUNT};
 use xfs_base::{BlockId, Crosses, Entry, List, Mem};
-
-/// How many slots the manager map has.
-const SLOTS: u8 = 8;
 
 /// What one settled segment says of blocks.
 pub struct FiledDeltas {
@@ -35,7 +33,7 @@ pub struct Feed {
     base: u32,
     filed: List<FiledDeltas>,
     end: u32,
-    acked: [u32; 8],
+    acked: [u32; BY_SLOT],
 }
 
 impl Drop for Feed {
@@ -74,7 +72,7 @@ impl Feed {
             base,
             filed: List::new(alloc),
             end: base,
-            acked: [base; 8],
+            acked: [base; BY_SLOT],
         })
     }
 
@@ -100,7 +98,7 @@ impl Feed {
     pub fn acked(&self, slot: u8) -> u32
         ensures { result ≡ acked_of self.now slot }
     {
-        if slot < SLOTS {
+        if slot < SLOT_COUNT {
             self.acked[usize::from(slot)]
         } else {
             self.base
@@ -120,7 +118,7 @@ impl Feed {
     fn acknowledged(&mut self, slot: u8, applied: u32)
         ensures { self.new ≡ acknowledged self.old slot applied }
     {
-        if slot < SLOTS && self.acked(slot) < applied {
+        if slot < SLOT_COUNT && self.acked(slot) < applied {
             self.acked[usize::from(slot)] = applied;
         }
     }
@@ -128,7 +126,7 @@ impl Feed {
     fn new_epoch(&mut self, slot: u8)
         ensures { self.new ≡ new_epoch self.old slot }
     {
-        if slot < SLOTS {
+        if slot < SLOT_COUNT {
             self.acked[usize::from(slot)] = self.base;
         }
     }
@@ -138,7 +136,7 @@ impl Feed {
         ensures { OnOk result (outs.new ≡ outs.old ++ pushed self.now slot) }
     {
         let acked = self.acked(slot);
-        if slot < SLOTS && acked < self.end {
+        if slot < SLOT_COUNT && acked < self.end {
             let rows = rows_after(alloc, &self.filed, slot, acked)?;
             outs.push(Out::Range {
                 slot,
@@ -153,7 +151,7 @@ impl Feed {
     fn tick(&self, alloc: Global, outs: &mut List<Out>) -> Mem<()>
         ensures { OnOk result (outs.new ≡ outs.old ++ ticked self.now) }
     {
-        for slot in 0..SLOTS {
+        for slot in 0..SLOT_COUNT {
             self.push(alloc, outs, slot)?;
         }
         Ok(())

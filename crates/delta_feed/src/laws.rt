@@ -6,6 +6,7 @@ ghost use Rattle.std.specs.List.{flat_map, range_with_len};
 ghost use Rattle.xfs_base.specs.declared.block.BlockId.{BlockId};
 ghost use Rattle.xfs_base.specs.declared.entry.Entry.{Entry};
 ghost use Rattle.xfs_base.specs.Blocks.{slot_of};
+ghost use Rattle.xfs_base.specs.Limits.{slot_count};
 ghost use Rattle.delta_index.specs.Entries.{first_greatest};
 ghost use Rattle.delta_index.specs.Join.{join};
 ghost use Rattle.delta_feed.specs.declared.input.In.{In};
@@ -25,27 +26,27 @@ pub fn ranges_tell_what_was_filed()
 
 /// A slot is kept up to date: where its acknowledgement is below the end, a push gives a range.
 pub fn push_tells_what_is_lacking()
-    ensures { (base : ℕ) (inputs : List In) (slot : ℕ) → slot < 8 → acknowledged_by base slot inputs < end_of base inputs
+    ensures { (base : ℕ) (inputs : List In) (slot : ℕ) → slot < slot_count → acknowledged_by base slot inputs < end_of base inputs
         → (rows : List (BlockId × Entry))
         × ((transition (state_after base inputs) (Push slot)).outs ≡ Range slot (acknowledged_by base slot inputs + 1) (end_of base inputs) rows ∷ []) }
 {}
 
 /// A slot that has all is told nothing.
 pub fn push_tells_nothing_known()
-    ensures { (base : ℕ) (inputs : List In) (slot : ℕ) → slot < 8 → end_of base inputs ≤ acknowledged_by base slot inputs
+    ensures { (base : ℕ) (inputs : List In) (slot : ℕ) → slot < slot_count → end_of base inputs ≤ acknowledged_by base slot inputs
         → (transition (state_after base inputs) (Push slot)).outs ≡ [] }
 {}
 
 /// A tick gives what a push of each slot in order gives.
 pub fn tick_pushes_each_slot()
     ensures { (base : ℕ) (inputs : List In)
-        → (transition (state_after base inputs) Tick).outs ≡ flat_map (λ slot. (transition (state_after base inputs) (Push slot)).outs) (range_with_len 0 8) }
+        → (transition (state_after base inputs) Tick).outs ≡ flat_map (λ slot. (transition (state_after base inputs) (Push slot)).outs) (range_with_len 0 slot_count) }
 {}
 
 /// A feed answers of a slot the greatest acknowledgement since the slot's last new epoch, or its base
 /// where none is above it.
 pub fn acknowledgements_are_kept()
-    ensures { (base : ℕ) (inputs : List In) (slot : ℕ) → slot < 8 → acked_of (state_after base inputs) slot ≡ acknowledged_by base slot inputs }
+    ensures { (base : ℕ) (inputs : List In) (slot : ℕ) → slot < slot_count → acked_of (state_after base inputs) slot ≡ acknowledged_by base slot inputs }
 {}
 
 /// A manager that knows what the filed segments up to some number say of a block, and takes a range that

@@ -15,7 +15,7 @@ use Rattle.xfs_base.proofs.Orders.{seg_cmp_total}
 use Rattle.fragment_store.specs.ShelfState.{ShelfState, same_name, held_at, is_marked}
 use Rattle.fragment_store.specs.Calls.{on_delete}
 use Rattle.fragment_store.specs.Histories.{DeletedAreAway}
-use Rattle.fragment_store.proofs.Names.{one_name}
+use Rattle.xfs_base.proofs.SegmentNames.{one_name}
 
 -- a name among those that are greater than another is greater too
 greater_too : (first name : SegName) (names : List SegName) → AllByRecursion (λ n. seg_cmp first n ≡ Less) names → is_marked names name ≡ true

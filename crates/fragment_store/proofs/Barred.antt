@@ -8,7 +8,7 @@ use Rattle.xfs_base.specs.declared.segment.SegName.{SegName}
 use Rattle.xfs_base.specs.Segments.{seg_cmp}
 use Rattle.xfs_base.proofs.Members.{contains_nothing, contains_first, contains_rest, contains_cases}
 use Rattle.fragment_store.specs.Calls.{in_order}
-use Rattle.fragment_store.proofs.Names.{one_name}
+use Rattle.xfs_base.proofs.SegmentNames.{one_name}
 
 abbrev With : SegName → List SegName → SegName → Type 0
 With new names name = (new ≡ name) ⊎ Contains names name

@@ -16,7 +16,7 @@ use Rattle.xfs_base.proofs.Orders.{seg_cmp_total}
 use Rattle.xfs_base.proofs.Sorted.{sorted_insert, sorted_remove}
 use Rattle.fragment_store.specs.ShelfState.{same_name, held_at, is_marked, entries_of, IsShelf}
 use Rattle.fragment_store.specs.Calls.{with_fragment}
-use Rattle.fragment_store.proofs.Names.{one_name}
+use Rattle.xfs_base.proofs.SegmentNames.{one_name}
 
 pub values-entries : (fs : List Fragment) → values_of (entries_of fs) ≡ fs
 values-entries [] = refl

@@ -23,7 +23,7 @@ use Rattle.fragment_store.specs.Calls.{with_fragment, store_refused, kept, on_fe
 use Rattle.fragment_store.specs.Histories.{Call, DeletedAreAway, after_call, after_calls}
 use Rattle.fragment_store.specs.Histories.Call.{Store, Fence, Delete, Fill}
 use Rattle.fragment_store.proofs.Entries.{none_held}
-use Rattle.fragment_store.proofs.Names.{one_name, same_back}
+use Rattle.xfs_base.proofs.SegmentNames.{one_name, same_back}
 use Rattle.fragment_store.proofs.Tables.{held-with, held-without, is_marked-with, fence_of-with}
 
 -- ---- passes

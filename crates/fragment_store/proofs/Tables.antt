@@ -19,7 +19,7 @@ use Rattle.xfs_base.proofs.BlockOrder.{lookup-insert_entry}
 use Rattle.xfs_base.proofs.Booleans.{contrary}
 use Rattle.fragment_store.specs.ShelfState.{same_name, log_cmp, held_at, is_marked, fence_of}
 use Rattle.fragment_store.specs.Calls.{with_fragment}
-use Rattle.fragment_store.proofs.Names.{one_name}
+use Rattle.xfs_base.proofs.SegmentNames.{one_name}
 
 -- two names that a third is cannot differ
 one_of_two : (a b name : SegName) → same_name name a ≡ true → same_name name b ≡ true → same_name a b ≡ true

@@ -1,5 +1,5 @@
 -- What a stripe group map answers, and what a loss of a server makes of it.
-use Rattle.std.specs.Prelude.{ℕ, ◌+◌, ◌-◌, ◌%◌, Bool, true, List, [], ◌∷◌, ◌++◌, Option, ◌==◌, ◌&&◌, not, length, map, filter, find, replicate, slice_index, slice_set}
+use Rattle.std.specs.Prelude.{ℕ, ◌+◌, ◌-◌, ◌%◌, Bool, true, List, [], ◌∷◌, ◌++◌, Option, Some, None, ◌==◌, ◌&&◌, not, length, map, filter, find, replicate, slice_index, slice_set}
 use Rattle.std.specs.List.{list_any}
 use Rattle.group_map.specs.declared.group.Group.{Group}
 use Rattle.group_map.specs.declared.group.Member.{Member}
@@ -10,6 +10,11 @@ use Rattle.xfs_base.specs.declared.setup.GroupSetup.{GroupSetup}
 -- the group of this id, where there is one
 abbrev pub group_of : GroupMapState → ℕ → Option Group
 group_of state id = find (λ g. g.id == id) state.groups
+
+-- the group of this id, where groups are known and it is among them
+abbrev pub known_group : Option GroupMapState → ℕ → Option Group
+known_group None id = None
+known_group (Some state) id = group_of state id
 
 -- the generation of a server among these
 abbrev pub generation_at : List ℕ → ℕ → ℕ

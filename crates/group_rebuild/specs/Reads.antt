@@ -1,7 +1,6 @@
 -- Reading the wanted segments, one after the other: what each input makes of it.
 use Rattle.std.specs.Prelude.{ℕ, ◌+◌, Bool, true, ◌==◌, ◌&&◌, if◌then◌else◌, min, List, [], ◌∷◌, Option, Some, None, map, All}
 use Rattle.std.specs.Option.{ForSome}
-use Rattle.std.specs.Ordering.{is_eq}
 use Rattle.stripe_code.specs.Round.{RoundSoFar, new_round, asks, told_fits, taken, state_of, unanswered}
 use Rattle.stripe_code.specs.declared.round.RoundState.{RoundState}
 use Rattle.stripe_code.specs.declared.round.RoundState.TheVariants.{Read, Short, Waiting}
@@ -9,7 +8,7 @@ use Rattle.stripe_code.specs.declared.round.Told.{Told}
 use Rattle.stripe_code.specs.declared.round.Told.TheVariants.{Held, Missing}
 use Rattle.xfs_base.specs.declared.segment.SegName.{SegName}
 use Rattle.xfs_base.specs.Limits.{u32_end}
-use Rattle.xfs_base.specs.Segments.{seg_cmp}
+use Rattle.xfs_base.specs.Segments.{same_name}
 use Rattle.xfs_base.specs.Steps.{Stepped, still, saying}
 use Rattle.group_rebuild.specs.declared.output.Out.{Out}
 use Rattle.group_rebuild.specs.declared.output.Out.TheVariants.{Fetch, Fill, Finished}
@@ -53,7 +52,7 @@ go_on (w ∷ ws) r = record {
 
 -- what is told is of the segment, and says the length that was listed
 abbrev pub is_of : Wanted → Told → Bool
-is_of w (Held f) = is_eq (seg_cmp f.meta.name w.meta.name) && (f.meta.len == w.meta.len)
+is_of w (Held f) = same_name f.meta.name w.meta.name && (f.meta.len == w.meta.len)
 is_of w (Missing g) = true
 
 abbrev pub counts : Present → ℕ → Told → Bool

@@ -171,7 +171,7 @@ impl Present {
         match told {
             Told::Missing(_) => true,
             Told::Held(fragment) => {
-                fragment.meta.name.order(self.wanted.meta.name).is_eq()
+                fragment.meta.name.is_same(self.wanted.meta.name)
                     && fragment.meta.len == self.wanted.meta.len
                     && self.round.fits(fragment)
             }

@@ -10,6 +10,7 @@ use Rattle.xfs_base.specs.declared.segment.Pass.{Pass}
 use Rattle.xfs_base.specs.declared.segment.SegName.{SegName}
 use Rattle.xfs_base.specs.Blocks.{slot_of, same_block}
 use Rattle.xfs_base.proofs.BlockOrder.{same_block_exact}
+use Rattle.xfs_base.specs.Segments.{names_none}
 use Rattle.segment_format.specs.declared.segment.Item.{Item}
 use Rattle.segment_format.specs.declared.segment.Item.TheVariants.{Block, Delta, Part}
 use Rattle.segment_format.specs.declared.segment.Segment.{Segment}
@@ -20,7 +21,7 @@ use Rattle.delta_index.proofs.JoinAlgebra.{join-append, join-cons, join-one, non
 use Rattle.takeover.specs.declared.source.Source.{Source}
 use Rattle.takeover.specs.ReadBack.{IsReadBack, told_along}
 use Rattle.takeover.specs.Rows.{is_of, part_rows, told_of}
-use Rattle.takeover.specs.Sources.{log_source, is_none, prior_of, goes_back, back_from}
+use Rattle.takeover.specs.Sources.{log_source, prior_of, goes_back, back_from}
 use Rattle.index_tie.specs.Filed.{Filed, rows_at, rows_between, IsNoPart, IsSegment, IsFiled}
 use Rattle.index_tie.specs.Takeovers.{IsEnd, Linked, IsItsText}
 use Rattle.index_tie.proofs.Tables.{first_of}
@@ -124,13 +125,13 @@ module _ (f : Filed) (l low : ℕ) (end : End) (filed : IsFiled f) (some : 0 < l
       let prior : low < q → s.prior.pass ≡ (f.segment l (q - 1)).name.pass = λ less.
       let one : suc (q - 1) ≡ q = omega arith in
       ap (λ (x : Segment). x.prior.pass) fact ∙ sym (ap (λ k. (f.segment l k).prior.pass) one) ∙ linked (q - 1) (omega arith) (omega arith) in
-      let named : low < q → is_none s.prior ≡ false = λ less.
+      let named : low < q → names_none s.prior ≡ false = λ less.
       let boot = (filed.each l (q - 1) (omega arith) (omega arith)).boot in
       some_prior s.prior.pass.inc ((s.prior.pass.att == 0) && (s.prior.group == 0)) (subst (λ n. 0 < n) (sym (ap (λ (x : Pass). x.inc) (prior less))) boot) in
       let low_is = n.low_is in
       elim (goes_back at s) as (λ t. goes_back at s ≡ t → Stands f l low end.seq (cond t (Some (record { seg = prior_of s; low = at.low })) None) (s ∷ chain)) [
         | true ↦ λ back.
-            let less : low < q = deeper low q s.name.seq at.low (is_none s.prior) low_is seq back in
+            let less : low < q = deeper low q s.name.seq at.low (names_none s.prior) low_is seq back in
             let below = filed.each l (q - 1) (omega arith) (omega arith) in
             let one : q ≡ q - 1 + 1 = omega arith in
             let count : suc end.seq - q ≡ end.seq - (q - 1) = omega arith in
@@ -145,7 +146,7 @@ module _ (f : Filed) (l low : ℕ) (end : End) (filed : IsFiled f) (some : 0 < l
                   ∙ ap (λ k. map (f.segment l) (range_with_len (q - 1 + 1) k)) count;
             }
         | false ↦ λ stop.
-            let least : low ≡ q = lowest low q s.name.seq at.low (is_none s.prior) low_is seq from named stop in
+            let least : low ≡ q = lowest low q s.name.seq at.low (names_none s.prior) low_is seq from named stop in
             read ∙ ap (λ k. map (f.segment l) (range_with_len k (suc end.seq - k))) (sym least)
       ] refl
 

@@ -4,6 +4,8 @@ use Rattle.std.specs.List.{AllByRecursion, flat_map, filter_map}
 use Rattle.std.proofs.lemmas.Bool.Decides.{nat_tests}
 use Rattle.std.proofs.lemmas.Bool.{le-ltb}
 use Rattle.xfs_base.specs.declared.segment.SegRef.{SegRef}
+use Rattle.xfs_base.specs.Segments.{names_none}
+use Rattle.xfs_base.specs.Limits.{block_logs}
 use Rattle.segment_format.specs.declared.segment.Segment.{Segment}
 use Rattle.segment_format.specs.Rows.{row_of}
 use Rattle.delta_index.specs.Index.{entry_of}
@@ -11,7 +13,7 @@ use Rattle.delta_index.specs.Join.{join}
 use Rattle.takeover.specs.declared.source.Source.{Source}
 use Rattle.takeover.specs.ReadBack.{IsReadBack, told_along, told_by_all}
 use Rattle.takeover.specs.Rows.{is_of, part_rows, told_of}
-use Rattle.takeover.specs.Sources.{part_source, is_none, prior_of, goes_back, back_from}
+use Rattle.takeover.specs.Sources.{part_source, prior_of, goes_back, back_from}
 use Rattle.index_pages.specs.Pages.{PagesState}
 use Rattle.token_manager.specs.Transition.{entry_at}
 use Rattle.checkpoint.specs.Laws.{rows_in, rows_of_items, after_event, slot_after}
@@ -47,7 +49,7 @@ parts_cover b f w s holds events segments horizon reached filed tells m pages al
 -- ---- parts are read
 
 stops : (part : SegRef) (s : Segment) → s.name ≡ part.name → goes_back (part_source part) s ≡ false
-stops part s named = let seq : s.name.seq ≡ part.name.seq = ap (λ n. n.seq) named in not_below part.name.seq s.name.seq (not (is_none s.prior)) seq
+stops part s named = let seq : s.name.seq ≡ part.name.seq = ap (λ n. n.seq) named in not_below part.name.seq s.name.seq (not (names_none s.prior)) seq
   where
     not_below : (low seq : ℕ) (t : Bool) → seq ≡ low → (nat_lt low seq && t) ≡ false
     not_below low seq t fact = grind (arith, nat_tests)
@@ -117,12 +119,12 @@ parts_tell slot pages s fact =
 
 -- ---- and kept
 
-seen_in : (xs : List ℕ) (l : ℕ) → 0 < l → l ≤ 9 → horizon_seen xs l ≡ of_log xs l
-seen_in xs l some limit = first_of (nat_lt 0 l && nat_le l 9) (get_or xs (l - 1) 0) 1 (grind (arith, nat_tests)) ∙ sym (of_log_in xs l some limit)
+seen_in : (xs : List ℕ) (l : ℕ) → 0 < l → l ≤ block_logs → horizon_seen xs l ≡ of_log xs l
+seen_in xs l some limit = first_of (nat_lt 0 l && nat_le l block_logs) (get_or xs (l - 1) 0) 1 (grind (arith, nat_tests)) ∙ sym (of_log_in xs l some limit)
 
-seen_out : (xs : List ℕ) (l : ℕ) → (l ≡ 0) ⊎ (9 < l) → horizon_seen xs l ≡ 1
-seen_out xs l (inl none) = second_of (nat_lt 0 l && nat_le l 9) (get_or xs (l - 1) 0) 1 (grind (arith, nat_tests))
-seen_out xs l (inr past) = second_of (nat_lt 0 l && nat_le l 9) (get_or xs (l - 1) 0) 1 (grind (arith, nat_tests))
+seen_out : (xs : List ℕ) (l : ℕ) → (l ≡ 0) ⊎ (block_logs < l) → horizon_seen xs l ≡ 1
+seen_out xs l (inl none) = second_of (nat_lt 0 l && nat_le l block_logs) (get_or xs (l - 1) 0) 1 (grind (arith, nat_tests))
+seen_out xs l (inr past) = second_of (nat_lt 0 l && nat_le l block_logs) (get_or xs (l - 1) 0) 1 (grind (arith, nat_tests))
 
 pub checkpoints_are_kept : CheckpointsAreKept
 checkpoints_are_kept b f w horizon reached filed tells rises applied =

@@ -5,6 +5,8 @@ use Rattle.xfs_base.specs.declared.entry.Entry.{Entry}
 use Rattle.xfs_base.specs.declared.segment.LogId.{LogId}
 use Rattle.xfs_base.specs.declared.segment.SegRef.{SegRef}
 use Rattle.xfs_base.specs.Blocks.{slot_of}
+use Rattle.xfs_base.specs.Limits.{block_logs}
+use Rattle.xfs_base.specs.Logs.{cleaners_number}
 use Rattle.segment_format.specs.declared.segment.Segment.{Segment}
 use Rattle.checkpoint.specs.Laws.{rows_in}
 use Rattle.checkpoint.specs.WriterState.{Rows}
@@ -72,7 +74,7 @@ module _ (part : ℕ) (holds : SegRef → Rows) where
         horizon = λ d l some limit. i.horizon d l some limit ∙ sym (ap (λ (x : IndexState). x.floor d l) frame);
         parts = λ d. parts_stay b f f w v (n.horizon d) (rows_in holds (n.parts d)) (same_filed f) i.tells tells (i.parts d);
         promised = ap (λ (x : IndexState). x.promised) frame ∙ i.promised;
-        polled = λ d. let p = polled d in let h = ap (λ (x : IndexState). x.head 9) frame in let q = i.polled d in omega arith;
+        polled = λ d. let p = polled d in let h = ap (λ (x : IndexState). x.head cleaners_number) frame in let q = i.polled d in omega arith;
         job = jobs_stay b f f w v n.job (same_filed f) (ap (λ (x : IndexState). x.promised) frame)
             (λ l q. let c = ap (λ (x : IndexState). x.dead_at l q) frame in omega arith) (λ l q was. ap (λ (x : IndexState). x.dropped l q) frame ∙ was) i.job;
         deleted = went_on.deleted;
@@ -144,14 +146,14 @@ module _ (part : ℕ) (holds : SegRef → Rows) where
         horizon = λ d k some limit. i.horizon d k some limit ∙ sym (ap (λ (x : IndexState). x.floor d k) frame);
         parts = λ d. parts_stay b f g w v (n.horizon d) (rows_in holds (n.parts d)) more i.tells r.tells (i.parts d);
         promised = ap (λ (x : IndexState). x.promised) frame ∙ i.promised;
-        polled = λ d. let p = polled d in let h = went_on.later.past.head 9 in let q = i.polled d in omega arith;
+        polled = λ d. let p = polled d in let h = went_on.later.past.head cleaners_number in let q = i.polled d in omega arith;
         job = jobs_stay b f g w v n.job more (ap (λ (x : IndexState). x.promised) frame)
             (λ k q. let c = ap (λ (x : IndexState). x.dead_at k q) frame in omega arith) (λ k q was. ap (λ (x : IndexState). x.dropped k q) frame ∙ was) i.job;
         deleted = went_on.deleted;
         sent = went_on.sent;
       }
 
-  filing : (n : Net) (l : ℕ) (s : Segment) → Good part holds n → 0 < l → l ≤ 9 → IsSegment l (suc (n.filed.head l)) s
+  filing : (n : Net) (l : ℕ) (s : Segment) → Good part holds n → 0 < l → l ≤ block_logs → IsSegment l (suc (n.filed.head l)) s
       → ((b : BlockId) → slot_of b.ino.0 ≡ part → (i : View part holds b n) → Files b (with_segment n.filed l s) i.state)
       → Good part holds (record n { filed = with_segment n.filed l s })
   filing n l s g some limit fact files = record {
@@ -171,7 +173,7 @@ module _ (part : ℕ) (holds : SegRef → Rows) where
       by (suc v) fact = let j = (index_is_join_always w reached).all.its_version (omega arith) in let t = tells.version w.joined.log w.joined.seq in let a =
           above w.joined.log w.joined.seq in omega arith
 
-  pub client_files : (n : Net) (l : ℕ) (s : Segment) → Good part holds n → 0 < l → l < 9 → IsSegment l (suc (n.filed.head l)) s
+  pub client_files : (n : Net) (l : ℕ) (s : Segment) → Good part holds n → 0 < l → l < cleaners_number → IsSegment l (suc (n.filed.head l)) s
       → ((b : BlockId) → slot_of b.ino.0 ≡ part → IsNewer b n.filed s) → Good part holds (record n { filed = with_segment n.filed l s })
   client_files n l s g some less fact newer = filing n l s g some (omega arith) fact (λ b inside i.
       clients_file b n.filed i.state l s i.reached g.filed i.tells some fact (record {
@@ -180,9 +182,9 @@ module _ (part : ℕ) (holds : SegRef → Rows) where
         first_hand = (newer b inside).first_hand;
       }))
 
-  pub cleaner_files_one : (n : Net) (s : Segment) → Good part holds n → IsSegment 9 (suc (n.filed.head 9)) s
-      → ((b : BlockId) → slot_of b.ino.0 ≡ part → 0 < (said_of s b).ver → IsMove b n.sent s) → Good part holds (record n { filed = with_segment n.filed 9 s })
-  cleaner_files_one n s g fact moves = filing n 9 s g (omega arith) (omega arith) fact (λ b inside i.
+  pub cleaner_files_one : (n : Net) (s : Segment) → Good part holds n → IsSegment cleaners_number (suc (n.filed.head cleaners_number)) s
+      → ((b : BlockId) → slot_of b.ino.0 ≡ part → 0 < (said_of s b).ver → IsMove b n.sent s) → Good part holds (record n { filed = with_segment n.filed cleaners_number s })
+  cleaner_files_one n s g fact moves = filing n cleaners_number s g (omega arith) (omega arith) fact (λ b inside i.
       cleaner_files b n.filed i.state s i.reached g.filed i.tells fact (λ more.
       let m = moves b inside more in
       let row = found part holds b (Sound part holds b n i.state) (AnsweredLive b m.entry) n.sent i.sent m.answered refl in

@@ -4,6 +4,7 @@ use Rattle.std.specs.List.{flat_map, range_with_len}
 use Rattle.std.proofs.lemmas.Bool.Decides.{nat_tests}
 use Rattle.xfs_base.specs.declared.block.BlockId.{BlockId}
 use Rattle.xfs_base.specs.declared.entry.Entry.{Entry}
+use Rattle.xfs_base.specs.Limits.{block_logs}
 use Rattle.segment_format.specs.declared.segment.Segment.{Segment}
 use Rattle.segment_format.specs.Rows.{rows_of}
 use Rattle.delta_index.specs.Entries.{no_entry}
@@ -176,14 +177,14 @@ module _ (b : BlockId) (f : Filed) (w : IndexState) (l : ℕ) (s : Segment) wher
   }
 
 -- each segment is what it has to be
-pub filed_more : (f : Filed) (l : ℕ) (s : Segment) → IsFiled f → 0 < l → l ≤ 9 → IsSegment l (suc (f.head l)) s → IsFiled (with_segment f l s)
+pub filed_more : (f : Filed) (l : ℕ) (s : Segment) → IsFiled f → 0 < l → l ≤ block_logs → IsSegment l (suc (f.head l)) s → IsFiled (with_segment f l s)
 filed_more f l s filed some limit fact = record {
-  others = put_each (λ m n. (m ≡ 0) ⊎ (9 < m) → n ≡ 0) f.head l (suc (f.head l)) (λ out. absurd (outside out)) (λ m other out. filed.others m out);
+  others = put_each (λ m n. (m ≡ 0) ⊎ (block_logs < m) → n ≡ 0) f.head l (suc (f.head l)) (λ out. absurd (outside out)) (λ m other out. filed.others m out);
   each = λ m q more within. by m q more (m == l) (q == suc (f.head l)) within (λ e. grind (arith, nat_tests, e)) (λ e. grind (arith, nat_tests, e))
       (λ e. grind (arith, nat_tests, e));
 }
   where
-    outside : (l ≡ 0) ⊎ (9 < l) → ⊥
+    outside : (l ≡ 0) ⊎ (block_logs < l) → ⊥
     outside (inl none) = omega arith
     outside (inr past) = omega arith
 
@@ -228,7 +229,7 @@ clients_file b f w l s reached filed tells some fact news = by (said_of s b).ver
           tells = tells_more b f w l s version 0 u.joined u.version_log u.version_seq tells refl (sym (news.first_hand more));
         }
 
-cleaner_files_at : (b : BlockId) (f : Filed) (w : IndexState) (s : Segment) → IsFiled f → Tells b f w → 0 < w.cleaner → w.cleaner ≤ 9
+cleaner_files_at : (b : BlockId) (f : Filed) (w : IndexState) (s : Segment) → IsFiled f → Tells b f w → 0 < w.cleaner → w.cleaner ≤ block_logs
     → IsSegment w.cleaner (suc (f.head w.cleaner)) s → (0 < (said_of s b).ver → IsCopy b f (said_of s b))
     → Files b (with_segment f w.cleaner s) w
 cleaner_files_at b f w s filed tells some limit fact copy = by (said_of s b).ver refl

@@ -10,6 +10,7 @@ use Rattle.xfs_base.specs.declared.segment.SegRef.{SegRef}
 use Rattle.xfs_base.specs.Blocks.{slot_of}
 use Rattle.xfs_base.specs.Steps.{still}
 use Rattle.xfs_base.proofs.Booleans.{by_test}
+use Rattle.xfs_base.specs.Logs.{cleaners_number}
 use Rattle.segment_format.specs.declared.segment.Segment.{Segment}
 use Rattle.checkpoint.specs.WriterState.{Rows}
 use Rattle.stripe_cleaner.specs.declared.input.In as job_inputs
@@ -58,7 +59,7 @@ names_dropped b f dropped (o ∷ os) more all rest = names_dropped b f dropped o
 module _ (part : ℕ) (holds : SegRef → Rows) where
   job_view : (n : Net) (d : job.Done) (p : ℕ) (b : BlockId) (i : View part holds b n) (r : Cleaned b n.filed i.state d) → r.state.promised ≡ p
       → ((e : ℕ) → e ≤ i.state.promised → r.state.polled e ≤ i.state.polled e)
-      → ((e : ℕ) → r.state.polled e ≤ i.state.head 9)
+      → ((e : ℕ) → r.state.polled e ≤ i.state.head cleaners_number)
       → View part holds b (record (with_job n d) { promised = p })
   job_view n d p b i r promised polled headed =
       let w = i.state in
@@ -87,7 +88,7 @@ module _ (part : ℕ) (holds : SegRef → Rows) where
         horizon = λ e l some limit. i.horizon e l some limit ∙ sym (ap (λ (x : IndexState). x.floor e l) frame);
         parts = λ e. parts_stay b f f w v (n.horizon e) (rows_in holds (n.parts e)) (same_filed f) i.tells tells (i.parts e);
         promised = promised;
-        polled = λ e. let q = headed e in let h = kept.head 9 in omega arith;
+        polled = λ e. let q = headed e in let h = kept.head cleaners_number in omega arith;
         job = r.shows;
         deleted = names_dropped b f v.dropped d.outs n.deleted r.deletes went_on.deleted;
         sent = went_on.sent;
@@ -173,7 +174,7 @@ module _ (part : ℕ) (holds : SegRef → Rows) where
 
       polled_head : (e : ℕ)
           → (r.cleaned.state.polled e ≡ i.state.polled e) ⊎ ((i.state.promised < e) × (r.cleaned.state.polled e ≡ i.state.head i.state.cleaner))
-          → r.cleaned.state.polled e ≤ i.state.head 9
+          → r.cleaned.state.polled e ≤ i.state.head cleaners_number
       polled_head e (inl same) = let q = i.polled e in omega arith
       polled_head e (inr late) = let h = late.1 in let c = ap i.state.head i.tells.cleaner in omega arith
 
@@ -245,7 +246,7 @@ module _ (part : ℕ) (holds : SegRef → Rows) where
 
       polled_head : (d : ℕ)
           → ((promises i.state e).polled d ≡ i.state.polled d) ⊎ ((i.state.promised < d) × ((promises i.state e).polled d ≡ i.state.head i.state.cleaner))
-          → (promises i.state e).polled d ≤ (promises i.state e).head 9
+          → (promises i.state e).polled d ≤ (promises i.state e).head cleaners_number
       polled_head d (inl same) = let q = i.polled d in omega arith
       polled_head d (inr late) = let h = late.1 in let c = ap i.state.head i.tells.cleaner in omega arith
 

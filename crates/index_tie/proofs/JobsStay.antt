@@ -9,6 +9,7 @@ use Rattle.segment_format.specs.declared.segment.Segment.{Segment}
 use Rattle.xfs_base.specs.declared.block.BlockId.{BlockId}
 use Rattle.xfs_base.specs.declared.segment.SegName.{SegName}
 use Rattle.xfs_base.specs.Blocks.{slot_of, same_block}
+use Rattle.xfs_base.specs.Limits.{slot_count}
 use Rattle.stripe_cleaner.specs.declared.checks.Check.{Check}
 use Rattle.stripe_cleaner.specs.declared.phase.Phase.{Phase}
 use Rattle.stripe_cleaner.specs.declared.phase.Phase.TheVariants.{Checking, Deleting}
@@ -25,10 +26,10 @@ pub jobs_begin : JobsBegin
 jobs_begin b f w count = record { promised = inl (none_yet (slot_of b.ino.0)); known = tt }
   where
     none_yet : (slot : ℕ) → promised_at (started count).promised slot ≡ 0
-    none_yet slot = by (nat_lt slot 8) refl
+    none_yet slot = by (nat_lt slot slot_count) refl
       where
-        by : (t : Bool) → nat_lt slot 8 ≡ t → promised_at (started count).promised slot ≡ 0
-        by true less = get_or-replicate 8 slot 0 0 (grind (arith, nat_tests))
+        by : (t : Bool) → nat_lt slot slot_count ≡ t → promised_at (started count).promised slot ≡ 0
+        by true less = get_or-replicate slot_count slot 0 0 (grind (arith, nat_tests))
         by false past = get_or-eq_default (started count).promised 0 (grind (arith, nat_tests))
 
 -- ---- more is filed

@@ -6,6 +6,7 @@ use Rattle.std.proofs.lemmas.Bool.{ltb-false, ltb-true}
 use Rattle.xfs_base.specs.declared.entry.Entry.{Entry}
 use Rattle.xfs_base.specs.declared.entry.Place.{Place}
 use Rattle.xfs_base.specs.declared.segment.SegName.{SegName}
+use Rattle.xfs_base.specs.Limits.{block_logs}
 use Rattle.segment_format.specs.declared.segment.Item.{Item}
 use Rattle.segment_format.specs.declared.segment.Item.TheVariants.{Block, Delta, Part}
 use Rattle.segment_format.specs.declared.segment.Segment.{Segment}
@@ -73,7 +74,7 @@ indexes_are_joins b f w s reached filed tells m =
               j.earliest l q (omega arith) (omega arith) (omega arith) (omega arith);
         })
       where
-        somebody : (l : ℕ) → ((l ≡ 0) ⊎ (9 < l) → f.head l ≡ 0) → {q : ℕ} → 0 < q → q ≤ f.head l → 0 < l
+        somebody : (l : ℕ) → ((l ≡ 0) ⊎ (block_logs < l) → f.head l ≡ 0) → {q : ℕ} → 0 < q → q ≤ f.head l → 0 < l
         somebody zero none some limit = let h = none (inl refl) in absurd (omega arith)
         somebody (suc l) none some limit = omega arith
 

@@ -2,6 +2,7 @@
 use Rattle.std.proofs.Common.{◌≡◌, ℕ, zero, suc, ◌+◌, ◌-◌, ◌<◌, ◌≤◌, ◌&&◌, ◌⊎◌, inl, inr, nat_lt, nat_le, true, [], ◌∷◌, map, refl, sym, ap, ◌∙◌, arith}
 use Rattle.std.specs.List.{range_with_len}
 use Rattle.std.proofs.lemmas.Bool.Decides.{nat_tests}
+use Rattle.xfs_base.specs.Limits.{block_logs}
 use Rattle.segment_format.specs.declared.segment.Segment.{Segment}
 use Rattle.segment_format.specs.Rows.{rows_of}
 use Rattle.log_protocol.specs.State.{State}
@@ -17,12 +18,12 @@ use Rattle.index_tie.proofs.Takeovers.{by_log}
 use Rattle.index_tie.proofs.Tables.{first_of, second_of}
 
 -- a log that is none of 1 to 9 has no head here
-head_in : (logs : ℕ → State) (books : ℕ → ℕ → Segment) (l : ℕ) → 0 < l → l ≤ 9 → (lines logs books).head l ≡ (logs l).head
-head_in logs books l some limit = first_of (nat_lt 0 l && nat_le l 9) (logs l).head 0 (grind (arith, nat_tests))
+head_in : (logs : ℕ → State) (books : ℕ → ℕ → Segment) (l : ℕ) → 0 < l → l ≤ block_logs → (lines logs books).head l ≡ (logs l).head
+head_in logs books l some limit = first_of (nat_lt 0 l && nat_le l block_logs) (logs l).head 0 (grind (arith, nat_tests))
 
-head_out : (logs : ℕ → State) (books : ℕ → ℕ → Segment) (l : ℕ) → (l ≡ 0) ⊎ (9 < l) → (lines logs books).head l ≡ 0
-head_out logs books l (inl none) = second_of (nat_lt 0 l && nat_le l 9) (logs l).head 0 (grind (arith, nat_tests))
-head_out logs books l (inr past) = second_of (nat_lt 0 l && nat_le l 9) (logs l).head 0 (grind (arith, nat_tests))
+head_out : (logs : ℕ → State) (books : ℕ → ℕ → Segment) (l : ℕ) → (l ≡ 0) ⊎ (block_logs < l) → (lines logs books).head l ≡ 0
+head_out logs books l (inl none) = second_of (nat_lt 0 l && nat_le l block_logs) (logs l).head 0 (grind (arith, nat_tests))
+head_out logs books l (inr past) = second_of (nat_lt 0 l && nat_le l block_logs) (logs l).head 0 (grind (arith, nat_tests))
 
 is_end : (l : ℕ) (w : State) (book : ℕ → Segment) → IsLog l w book → EndIsHead w
 is_end l w book i = end_is_head_always w i.reached i.clean
@@ -75,7 +76,7 @@ same_feed l w book i serves q above within =
     let f = (feed_whole_always w i.reached i.clean serves).filed q above within in
     sym (ap w.line (sym f.1) ∙ (is_end l w book i).filed_line (w.feed q) f.0)
 
-same_feeds : (logs : ℕ → State) (books : ℕ → ℕ → Segment) (l : ℕ) → 0 < l → l ≤ 9 → IsLog l (logs l) (books l) → (logs l).phase ≡ 4 → (n q : ℕ)
+same_feeds : (logs : ℕ → State) (books : ℕ → ℕ → Segment) (l : ℕ) → 0 < l → l ≤ block_logs → IsLog l (logs l) (books l) → (logs l).phase ≡ 4 → (n q : ℕ)
     → (logs l).feed_base < q → q + n ≤ suc (logs l).head
     → map (feed_at (logs l) (books l)) (range_with_len q n) ≡ map (fed_at (lines logs books) l) (range_with_len q n)
 same_feeds logs books l some limit i serves zero q above within = refl
@@ -120,5 +121,5 @@ lines_grow logs later books more old new steps same = record {
       (λ k out within. absurd (let h = head_out logs books k out in omega arith)) l limit;
 }
   where
-    past : (l : ℕ) → 0 < l → l ≤ 9 → PastStays (logs l) (later l)
+    past : (l : ℕ) → 0 < l → l ≤ block_logs → PastStays (logs l) (later l)
     past l some limit = past_stays_always (logs l) (later l) (old l some limit).reached (steps l some limit)

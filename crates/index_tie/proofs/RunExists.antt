@@ -12,6 +12,7 @@ use Rattle.xfs_base.specs.declared.segment.SegRef.{SegRef}
 use Rattle.xfs_base.proofs.Booleans.{by_test}
 use Rattle.xfs_base.proofs.Members.{contains_first}
 use Rattle.xfs_base.specs.Nodes.{same_node}
+use Rattle.xfs_base.specs.Logs.{block_writer, cleaners_number}
 use Rattle.segment_format.specs.declared.segment.Item.TheVariants.{Delta}
 use Rattle.segment_format.specs.declared.segment.Segment.{Segment}
 use Rattle.segment_format.specs.Rows.{rows_of}
@@ -24,7 +25,7 @@ use Rattle.takeover.specs.declared.input.In.TheVariants.{Report}
 use Rattle.takeover.specs.declared.output.Out.TheVariants.{Active}
 use Rattle.takeover.specs.Course.{Course, course_of, after_input}
 use Rattle.takeover.specs.Reports as reports
-use Rattle.takeover.specs.Reports.{no_end, end_of, writer_of}
+use Rattle.takeover.specs.Reports.{no_end, end_of}
 use Rattle.takeover.specs.Transition as takeover
 use Rattle.token_manager.specs.declared.input.In.TheVariants.{Deltas}
 use Rattle.token_manager.specs.Transition.{started, cleaned, transition}
@@ -87,7 +88,7 @@ its_reports = refl
 no_ends : (l : ℕ) → (end_of course.state.reports l).seq ≡ 0
 no_ends l =
     ap (λ rs. (end_of rs l).seq) its_reports
-    ∙ by_test (λ (e : End). e.seq ≡ 0) (same_node Cleaner (writer_of l)) no_end no_end (λ _. refl) (λ _. refl)
+    ∙ by_test (λ (e : End). e.seq ≡ 0) (same_node Cleaner (block_writer l)) no_end no_end (λ _. refl) (λ _. refl)
 
 -- ---- the run
 
@@ -134,7 +135,7 @@ has_read = record {
   ends = λ l some limit within. absurd (let e = no_ends l in let o = of_log_in ones l some limit in let i = one_at (l - 1) (omega arith) in omega arith);
   linked = λ l some limit q low high. absurd (let e = no_ends l in omega arith);
   texts = tt;
-  reported = inl (ap (CleanerReported 2) (no_ends 9));
+  reported = inl (ap (CleanerReported 2) (no_ends cleaners_number));
 }
 
 its_segment : IsSegment 1 1 segment

@@ -5,6 +5,8 @@ use Rattle.xfs_base.specs.declared.block.BlockId.{BlockId}
 use Rattle.xfs_base.specs.declared.entry.Entry.{Entry}
 use Rattle.xfs_base.specs.declared.segment.SegName.{SegName}
 use Rattle.xfs_base.specs.declared.segment.SegRef.{SegRef}
+use Rattle.xfs_base.specs.Limits.{block_logs}
+use Rattle.xfs_base.specs.Logs.{cleaners_number}
 use Rattle.segment_format.specs.declared.segment.Segment.{Segment}
 use Rattle.checkpoint.specs.WriterState.{Rows}
 use Rattle.delta_index.specs.Entries.{no_entry}
@@ -82,7 +84,7 @@ nothing_joins upto = record {
   its_hop = λ some. absurd (omega arith);
 }
 
-pub one_at : (k : ℕ) → k < 9 → get_or ones k 0 ≡ 1
+pub one_at : (k : ℕ) → k < block_logs → get_or ones k 0 ≡ 1
 one_at zero h = refl
 one_at (suc zero) h = refl
 one_at (suc (suc zero)) h = refl
@@ -110,7 +112,7 @@ all_zeros = (refl, (refl, (refl, (refl, (refl, (refl, (refl, (refl, (refl, tt)))
 
 -- the first manager is active
 abbrev begun_state : IndexState
-begun_state = activates (new_block 9) 1 (λ l. 0) nothing
+begun_state = activates (new_block cleaners_number) 1 (λ l. 0) nothing
 
 module _ (any : ℕ → ℕ → Segment) (b : BlockId) where
   abbrev none_filed : Filed

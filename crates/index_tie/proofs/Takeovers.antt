@@ -19,6 +19,8 @@ use Rattle.xfs_base.specs.declared.news.SlotNews.{SlotNews}
 use Rattle.xfs_base.specs.declared.token.Mode.{Mode}
 use Rattle.xfs_base.specs.Blocks.{block_cmp, slot_of, same_block}
 use Rattle.xfs_base.proofs.BlockOrder.{same_block_exact}
+use Rattle.xfs_base.specs.Limits.{block_logs}
+use Rattle.xfs_base.specs.Logs.{cleaners_number}
 use Rattle.segment_format.specs.declared.segment.Segment.{Segment}
 use Rattle.delta_index.specs.Entries.{no_entry, first_greatest}
 use Rattle.delta_index.specs.Index.{entry_of, merged_all}
@@ -110,29 +112,29 @@ either false x y a b = b
 
 -- ---- numbers by log
 
-pub of_log_in : (xs : List ℕ) (l : ℕ) → 0 < l → l ≤ 9 → of_log xs l ≡ get_or xs (l - 1) 0
-of_log_in xs l some limit = first_of (nat_lt 0 l && nat_le l 9) (get_or xs (l - 1) 0) 0 (grind (arith, nat_tests))
+pub of_log_in : (xs : List ℕ) (l : ℕ) → 0 < l → l ≤ block_logs → of_log xs l ≡ get_or xs (l - 1) 0
+of_log_in xs l some limit = first_of (nat_lt 0 l && nat_le l block_logs) (get_or xs (l - 1) 0) 0 (grind (arith, nat_tests))
 
-pub of_log_out : (xs : List ℕ) (l : ℕ) → (l ≡ 0) ⊎ (9 < l) → of_log xs l ≡ 0
-of_log_out xs l (inl none) = second_of (nat_lt 0 l && nat_le l 9) (get_or xs (l - 1) 0) 0 (grind (arith, nat_tests))
-of_log_out xs l (inr past) = second_of (nat_lt 0 l && nat_le l 9) (get_or xs (l - 1) 0) 0 (grind (arith, nat_tests))
+pub of_log_out : (xs : List ℕ) (l : ℕ) → (l ≡ 0) ⊎ (block_logs < l) → of_log xs l ≡ 0
+of_log_out xs l (inl none) = second_of (nat_lt 0 l && nat_le l block_logs) (get_or xs (l - 1) 0) 0 (grind (arith, nat_tests))
+of_log_out xs l (inr past) = second_of (nat_lt 0 l && nat_le l block_logs) (get_or xs (l - 1) 0) 0 (grind (arith, nat_tests))
 
 -- a log is one of 1 to 9, or none of them
-pub by_log : (P : ℕ → Type 0) → ((l : ℕ) → 0 < l → l ≤ 9 → P l) → ((l : ℕ) → (l ≡ 0) ⊎ (9 < l) → P l) → (l : ℕ) → P l
+pub by_log : (P : ℕ → Type 0) → ((l : ℕ) → 0 < l → l ≤ block_logs → P l) → ((l : ℕ) → (l ≡ 0) ⊎ (block_logs < l) → P l) → (l : ℕ) → P l
 by_log P here there zero = there zero (inl refl)
-by_log P here there (suc n) = elim (nat_le (suc n) 9) as (λ t. nat_le (suc n) 9 ≡ t → P (suc n)) [
+by_log P here there (suc n) = elim (nat_le (suc n) block_logs) as (λ t. nat_le (suc n) block_logs ≡ t → P (suc n)) [
   | true ↦ λ fact. here (suc n) (omega arith) (grind (arith, nat_tests))
   | false ↦ λ fact. there (suc n) (inr (grind (arith, nat_tests)))
 ] refl
 
-pub applied_in : (horizon : List ℕ) (rs : List Report) (l : ℕ) → 0 < l → l ≤ 9 → of_log (reports.applied_of horizon rs) l ≡ applied_at horizon rs l
+pub applied_in : (horizon : List ℕ) (rs : List Report) (l : ℕ) → 0 < l → l ≤ block_logs → of_log (reports.applied_of horizon rs) l ≡ applied_at horizon rs l
 unfolding reports.applied_of
 applied_in horizon rs l some limit =
-    of_log_in (reports.applied_of horizon rs) l some limit ∙ get_or-map-range_with_len (applied_at horizon rs) 1 9 (l - 1) l 0 (omega arith) (omega arith)
+    of_log_in (reports.applied_of horizon rs) l some limit ∙ get_or-map-range_with_len (applied_at horizon rs) 1 block_logs (l - 1) l 0 (omega arith) (omega arith)
 
-pub nine : (horizon : List ℕ) (rs : List Report) → length (reports.applied_of horizon rs) ≡ 9
+pub nine : (horizon : List ℕ) (rs : List Report) → length (reports.applied_of horizon rs) ≡ block_logs
 unfolding reports.applied_of
-nine horizon rs = length-map-range_with_len (applied_at horizon rs) 1 9
+nine horizon rs = length-map-range_with_len (applied_at horizon rs) 1 block_logs
 
 pub joins_at : (version hop : ℕ → ℕ → ℕ) (u v : ℕ → ℕ) (e : index.Entry) → ((l : ℕ) → u l ≡ v l) → Joins version hop u e → Joins version hop v e
 joins_at version hop u v e same j = record {
@@ -157,9 +159,9 @@ record Gathered (b : BlockId) (f : Filed) (w : IndexState) (upto : ℕ → ℕ) 
 
 module _ (b : BlockId) (f : Filed) (w : IndexState) (slot epoch : ℕ) (horizon : List ℕ) (rs : List Report) (reached : IndexReached w) (filed : IsFiled f)
     (tells : Tells b f w) (its : slot_of b.ino.0 ≡ slot)
-    (at_floor : (l : ℕ) → 0 < l → l ≤ 9 → of_log horizon l ≡ w.floor epoch l)
-    (ends : (l : ℕ) → 0 < l → l ≤ 9 → of_log horizon l ≤ (end_of rs l).seq → IsEnd f l (end_of rs l))
-    (linked : (l : ℕ) → 0 < l → l ≤ 9 → Linked f l (of_log horizon l) (end_of rs l).seq)
+    (at_floor : (l : ℕ) → 0 < l → l ≤ block_logs → of_log horizon l ≡ w.floor epoch l)
+    (ends : (l : ℕ) → 0 < l → l ≤ block_logs → of_log horizon l ≤ (end_of rs l).seq → IsEnd f l (end_of rs l))
+    (linked : (l : ℕ) → 0 < l → l ≤ block_logs → Linked f l (of_log horizon l) (end_of rs l).seq)
   where
     abbrev applied : List ℕ
     applied = reports.applied_of horizon rs
@@ -168,23 +170,23 @@ module _ (b : BlockId) (f : Filed) (w : IndexState) (slot epoch : ℕ) (horizon 
     abbrev upto : ℕ → ℕ → ℕ
     upto k l = cond (nat_lt l k) (of_log applied l) (below horizon l)
 
-    at_k : (k : ℕ) → 0 < k → k ≤ 9 → upto k k ≡ horizon_at horizon k - 1
+    at_k : (k : ℕ) → 0 < k → k ≤ block_logs → upto k k ≡ horizon_at horizon k - 1
     at_k k some limit = second_of (nat_lt k k) (of_log applied k) (below horizon k) (grind (arith, nat_tests))
         ∙ ap (λ n. n - 1) (of_log_in horizon k some limit)
 
     -- the next log
-    next_is : (k n : ℕ) → 0 < k → k ≤ 9 → n ≡ applied_at horizon rs k → (l : ℕ) → put (upto k) k n l ≡ upto (suc k) l
+    next_is : (k n : ℕ) → 0 < k → k ≤ block_logs → n ≡ applied_at horizon rs k → (l : ℕ) → put (upto k) k n l ≡ upto (suc k) l
     next_is k n some limit fact =
         put_each (λ l m. m ≡ upto (suc k) l) (upto k) k n
         (fact ∙ sym (applied_in horizon rs k some limit) ∙ sym (first_of (nat_lt k (suc k)) (of_log applied k) (below horizon k) (grind (arith, nat_tests))))
         (λ l other. ap (λ t. cond t (of_log applied l) (below horizon l)) (same_test l k other))
 
-    stays_is : (k : ℕ) → 0 < k → k ≤ 9 → (end_of rs k).seq < horizon_at horizon k → (l : ℕ) → upto k l ≡ upto (suc k) l
+    stays_is : (k : ℕ) → 0 < k → k ≤ block_logs → (end_of rs k).seq < horizon_at horizon k → (l : ℕ) → upto k l ≡ upto (suc k) l
     stays_is k some limit past l =
         sym (put_each (λ d m. m ≡ upto k d) (upto k) k (horizon_at horizon k - 1) (sym (at_k k some limit)) (λ d other. refl) l)
         ∙ next_is k (horizon_at horizon k - 1) some limit (omega arith) l
 
-    adds : (k : ℕ) (rows : List (BlockId × Entry)) (chain : List Segment) → 0 < k → k ≤ 9 → horizon_at horizon k ≤ (end_of rs k).seq
+    adds : (k : ℕ) (rows : List (BlockId × Entry)) (chain : List Segment) → 0 < k → k ≤ block_logs → horizon_at horizon k ≤ (end_of rs k).seq
         → Gathered b f w (upto k) rows
         → IsReadBack (log_source k (horizon_at horizon k) (end_of rs k)) chain None → AllByRecursion (IsItsText f) chain
         → Gathered b f w (upto (suc k)) (rows ++ told_along slot chain)
@@ -209,7 +211,7 @@ module _ (b : BlockId) (f : Filed) (w : IndexState) (slot epoch : ℕ) (horizon 
               (merging_joins w (upto k) k low end.seq g.named r.named reached g.joins r.greatest (omega arith) (omega arith));
         }
 
-    skips : (k : ℕ) (rows : List (BlockId × Entry)) → 0 < k → k ≤ 9 → (end_of rs k).seq < horizon_at horizon k → Gathered b f w (upto k) rows
+    skips : (k : ℕ) (rows : List (BlockId × Entry)) → 0 < k → k ≤ block_logs → (end_of rs k).seq < horizon_at horizon k → Gathered b f w (upto k) rows
         → Gathered b f w (upto (suc k)) rows
     skips k rows some limit past g =
         record { named = g.named; names = g.names; joins = joins_at w.version w.hop (upto k) (upto (suc k)) g.named (stays_is k some limit past) g.joins }
@@ -247,7 +249,7 @@ module _ (b : BlockId) (f : Filed) (w : IndexState) (slot epoch : ℕ) (horizon 
 
     -- from what the parts cover to what all tell
     all_told : (parts : List Source) (chains : List (List Segment)) → Covers b f w horizon (told_by_all slot (take (length parts) chains))
-        → AreReadBack (parts ++ flat_map (log_sources horizon rs) (range_with_len 1 9)) chains
+        → AreReadBack (parts ++ flat_map (log_sources horizon rs) (range_with_len 1 block_logs)) chains
         → AllByRecursion (AllByRecursion (IsItsText f)) chains → Gathered b f w (of_log applied) (told_by_all slot chains)
     all_told parts chains covers read texts =
         let n = length parts in
@@ -259,9 +261,9 @@ module _ (b : BlockId) (f : Filed) (w : IndexState) (slot epoch : ℕ) (horizon 
         (λ l some limit. first_of (nat_lt l 10) (of_log applied l) (below horizon l) (lt-ltb l 10 (omega arith)))
         (λ l out. either (nat_lt l 10) (of_log applied l) (below horizon l) (of_log_out applied l out) (ap (λ m. m - 1) (of_log_out horizon l out))
         ∙ sym (of_log_out applied l out)) in
-        let g = gathers 9 1 (told_by_all slot (take n chains)) (drop n chains) refl (omega arith)
+        let g = gathers block_logs 1 (told_by_all slot (take n chains)) (drop n chains) refl (omega arith)
         (record { named = covers.named; names = covers.names; joins = joins_at w.version w.hop (below horizon) (upto 1) covers.named start covers.joins })
-        (split_back parts (flat_map (log_sources horizon rs) (range_with_len 1 9)) chains read) (all_dropped (AllByRecursion (IsItsText f)) n chains texts) in
+        (split_back parts (flat_map (log_sources horizon rs) (range_with_len 1 block_logs)) chains read) (all_dropped (AllByRecursion (IsItsText f)) n chains texts) in
         let whole : told_by_all slot (take n chains) ++ told_by_all slot (drop n chains) ≡ told_by_all slot chains =
         sym (flat_map-append (told_along slot) (take n chains) (drop n chains)) ∙ ap (told_by_all slot) (take-append-drop n chains) in
         record {
@@ -315,7 +317,7 @@ activated b f w news c epoch rows beliefs numbers reached filed tells its over t
     omega arith)
     (λ l out. let a = of_log_out numbers_of l out in omega arith) in
     let reported : w.polled e ≤ upto w.cleaner =
-    subst (λ l. w.polled e ≤ upto l) (sym tells.cleaner) (let a = applied_in horizon rs 9 (omega arith) (omega arith) in let r = may.reported in omega arith) in
+    subst (λ l. w.polled e ≤ upto l) (sym tells.cleaner) (let a = applied_in horizon rs cleaners_number (omega arith) (omega arith) in let r = may.reported in omega arith) in
     let can : CanActivate w e upto g.named =
     record { begun = may.begun; fresh = may.fresh; heard = may.heard; reported = reported; covered = covered; filed = most_filed; joins = g.joins } in
     let t = started e rows beliefs numbers in
@@ -333,7 +335,7 @@ activated b f w news c epoch rows beliefs numbers reached filed tells its over t
       shows = record { active = shows.active; applied = shows.applied; index = shows.index };
     }
   where
-    past : (d : ℕ) → (d ≡ 0) ⊎ (9 < d) → 0 < d → (n : ℕ) → n ≡ 9 → n ≤ d - 1
+    past : (d : ℕ) → (d ≡ 0) ⊎ (block_logs < d) → 0 < d → (n : ℕ) → n ≡ cleaners_number → n ≤ d - 1
     past d (inl none) some n fact = absurd (omega arith)
     past d (inr more) some n fact = omega arith
 

@@ -6,6 +6,8 @@ use Rattle.xfs_base.specs.declared.entry.Entry.{Entry}
 use Rattle.xfs_base.specs.declared.segment.SegName.{SegName}
 use Rattle.xfs_base.specs.declared.segment.SegRef.{SegRef}
 use Rattle.xfs_base.specs.Blocks.{slot_of}
+use Rattle.xfs_base.specs.Limits.{block_logs}
+use Rattle.xfs_base.specs.Logs.{cleaners_number}
 use Rattle.segment_format.specs.declared.segment.Segment.{Segment}
 use Rattle.checkpoint.specs.Laws.{Event, rows_in, after_event, slot_after, MayCome}
 use Rattle.checkpoint.specs.Laws.Event.{Written}
@@ -39,7 +41,7 @@ module _ (part : ℕ) (holds : SegRef → Rows) (b : BlockId) where
   -- what is planned covers what its horizon passes, once segments hold it
   pub record IsPlanned (n : Net) (w : IndexState) (e : ℕ) (events : List Event) (horizon : List ℕ) : Type 0 where
     pub active : w.active e ≡ 1
-    pub applied : (l : ℕ) → 0 < l → l ≤ 9 → of_log horizon l ≤ suc (w.applied e l)
+    pub applied : (l : ℕ) → 0 < l → l ≤ block_logs → of_log horizon l ≤ suc (w.applied e l)
     pub covers : (segments : List SegRef) → MayCome holds (slot_after events) (Written segments)
         → Covers b n.filed w horizon (rows_in holds (after_event (slot_after events) (Written segments)).parts)
 
@@ -47,7 +49,7 @@ module _ (part : ℕ) (holds : SegRef → Rows) (b : BlockId) where
   abbrev pub Sound : Net → IndexState → Packet → Type 0
   Sound n w (CheckpointPlanned e events horizon) = IsPlanned n w e events horizon
   Sound n w (CheckpointDone e horizon parts) =
-      (w.active e ≡ 1) × ((l : ℕ) → 0 < l → l ≤ 9 → of_log horizon l ≤ suc (w.applied e l)) × Covers b n.filed w horizon (rows_in holds parts)
+      (w.active e ≡ 1) × ((l : ℕ) → 0 < l → l ≤ block_logs → of_log horizon l ≤ suc (w.applied e l)) × Covers b n.filed w horizon (rows_in holds parts)
   Sound n w (CleanerReported e end) = (w.polled e ≤ end) × (e ≤ w.promised)
   Sound n w (Checked number k place d) =
       IsAsked n w place.seg.name d
@@ -64,10 +66,10 @@ module _ (part : ℕ) (holds : SegRef → Rows) (b : BlockId) where
     pub slots : (e : ℕ) (s : SlotState) → n.slots e ≡ Some s → Manages b n.filed state s
     pub none : (e : ℕ) → n.slots e ≡ None → state.active e ≡ 0
     pub epoch : state.epoch ≡ n.epoch
-    pub horizon : (e l : ℕ) → 0 < l → l ≤ 9 → of_log (n.horizon e) l ≡ state.floor e l
+    pub horizon : (e l : ℕ) → 0 < l → l ≤ block_logs → of_log (n.horizon e) l ≡ state.floor e l
     pub parts : (e : ℕ) → Covers b n.filed state (n.horizon e) (rows_in holds (n.parts e))
     pub promised : state.promised ≡ n.promised
-    pub polled : (e : ℕ) → state.polled e ≤ state.head 9
+    pub polled : (e : ℕ) → state.polled e ≤ state.head cleaners_number
     pub job : Cleans b n.filed state n.job
     pub deleted : AllByRecursion (IsDropped b n.filed state.dropped) n.deleted
     pub sent : AllByRecursion (Sound n state) n.sent

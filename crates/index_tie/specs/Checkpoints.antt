@@ -3,6 +3,7 @@ use Rattle.std.specs.Prelude.{◌≡◌, ℕ, suc, ◌-◌, ◌<◌, ◌≤◌, 
 use Rattle.std.specs.List.{AllByRecursion}
 use Rattle.xfs_base.specs.declared.block.BlockId.{BlockId}
 use Rattle.xfs_base.specs.declared.segment.SegRef.{SegRef}
+use Rattle.xfs_base.specs.Limits.{block_logs}
 use Rattle.segment_format.specs.declared.segment.Segment.{Segment}
 use Rattle.slot_beliefs.specs.Index.{pages_of}
 use Rattle.slot_beliefs.specs.Recalls.{applied_of}
@@ -22,7 +23,7 @@ use Rattle.index_tie.specs.Takeovers.{of_log, Covers}
 
 -- a horizon begins, in each log, where what the slot has applied ends
 abbrev pub IsNext : SlotState → List ℕ → Type 0
-IsNext s horizon = (l : ℕ) → 0 < l → l ≤ 9 → of_log horizon l ≡ suc (applied_of s.applied l)
+IsNext s horizon = (l : ℕ) → 0 < l → l ≤ block_logs → of_log horizon l ≡ suc (applied_of s.applied l)
 
 -- Parts cover: where segments hold the pages that are planned of the slot's index, the parts of the checkpoint tell what the logs filed below the horizon.
 abbrev pub PartsCover : Type 0
@@ -51,16 +52,16 @@ PartsTellTheirRows = (slot : ℕ) (pages : List Rows) (s : Segment) → s.items 
 
 -- a horizon, by log: 1 of a number that is none of logs 1 to 9
 abbrev pub horizon_seen : List ℕ → ℕ → ℕ
-horizon_seen horizon l = if nat_lt 0 l && nat_le l 9 then slice_index horizon (l - 1) else 1
+horizon_seen horizon l = if nat_lt 0 l && nat_le l block_logs then slice_index horizon (l - 1) else 1
 
 -- the registry keeps the horizon, and has it for this epoch and all to come
 pub record Keeps (w : IndexState) (horizon : List ℕ) : Type 0 where
   pub step : IndexStep w (keeps_horizon w (horizon_seen horizon))
-  pub floor : (e l : ℕ) → w.epoch ≤ e → 0 < l → l ≤ 9 → of_log horizon l ≡ (keeps_horizon w (horizon_seen horizon)).floor e l
+  pub floor : (e l : ℕ) → w.epoch ≤ e → 0 < l → l ≤ block_logs → of_log horizon l ≡ (keeps_horizon w (horizon_seen horizon)).floor e l
 
 -- Checkpoints are kept: a horizon that is nowhere below the kept one, of a checkpoint of the slot's epoch, whose manager has applied what it passes, is kept.
 abbrev pub CheckpointsAreKept : Type 0
 CheckpointsAreKept =
     (b : BlockId) (f : Filed) (w : IndexState) (horizon : List ℕ) → IndexReached w → IsFiled f → Tells b f w
-    → ((l : ℕ) → 0 < l → l ≤ 9 → w.floor w.epoch l ≤ of_log horizon l)
-    → ((l : ℕ) → 0 < l → l ≤ 9 → of_log horizon l ≤ suc (w.applied w.epoch l)) → Keeps w horizon
+    → ((l : ℕ) → 0 < l → l ≤ block_logs → w.floor w.epoch l ≤ of_log horizon l)
+    → ((l : ℕ) → 0 < l → l ≤ block_logs → of_log horizon l ≤ suc (w.applied w.epoch l)) → Keeps w horizon

@@ -4,6 +4,7 @@ use Rattle.std.specs.List.{range_with_len}
 use Rattle.xfs_base.specs.declared.block.BlockId.{BlockId}
 use Rattle.xfs_base.specs.declared.entry.Entry.{Entry}
 use Rattle.xfs_base.specs.Blocks.{slot_of}
+use Rattle.xfs_base.specs.Limits.{block_logs}
 use Rattle.delta_feed.specs.declared.feed.FiledDeltas.{FiledDeltas}
 use Rattle.delta_feed.specs.declared.input.In.{In}
 use Rattle.delta_feed.specs.declared.output.Out.TheVariants.{Range}
@@ -25,6 +26,6 @@ pub record IsFed (f : Filed) (l base : ℕ) (inputs : List In) : Type 0 where
 -- What is told of a range is the join of its rows: a feed's ranges, sent as Deltas, tell of each block of the slot what the log filed in them.
 abbrev pub RangesTellWhatIsFiled : Type 0
 RangesTellWhatIsFiled =
-    (b : BlockId) (f : Filed) (l base : ℕ) (inputs : List In) (input : In) (slot first upto : ℕ) (rows : List (BlockId × Entry)) → 0 < l → l ≤ 9
+    (b : BlockId) (f : Filed) (l base : ℕ) (inputs : List In) (input : In) (slot first upto : ℕ) (rows : List (BlockId × Entry)) → 0 < l → l ≤ block_logs
     → IsFed f l base inputs → slot_of b.ino.0 ≡ slot
     → Contains (transition (state_after base inputs) input).outs (Range slot first upto rows) → DeltasTell b f l first upto rows

@@ -3,6 +3,8 @@ use Rattle.std.specs.Prelude.{◌≡◌, ℕ, suc, ◌-◌, ◌<◌, ◌≤◌, 
 use Rattle.std.specs.List.{AllByRecursion, flat_map, range_with_len}
 use Rattle.xfs_base.specs.declared.block.BlockId.{BlockId}
 use Rattle.xfs_base.specs.declared.entry.Entry.{Entry}
+use Rattle.xfs_base.specs.Limits.{block_logs}
+use Rattle.xfs_base.specs.Logs.{cleaners_number}
 use Rattle.segment_format.specs.declared.segment.Item.{Item}
 use Rattle.segment_format.specs.declared.segment.Item.TheVariants.{Block, Delta, Part}
 use Rattle.segment_format.specs.declared.segment.Segment.{Segment}
@@ -45,12 +47,12 @@ pub record IsSegment (l q : ℕ) (s : Segment) : Type 0 where
 
 -- just logs 1 to 9 file what is said of blocks
 pub record IsFiled (f : Filed) : Type 0 where
-  pub others : (l : ℕ) → (l ≡ 0) ⊎ (9 < l) → f.head l ≡ 0
+  pub others : (l : ℕ) → (l ≡ 0) ⊎ (block_logs < l) → f.head l ≡ 0
   pub each : (l q : ℕ) → 0 < q → q ≤ f.head l → IsSegment l q (f.segment l q)
 
 -- The rows of the block's index are what the logs filed of the block.
 pub record Tells (b : BlockId) (f : Filed) (w : IndexState) : Type 0 where
-  pub cleaner : w.cleaner ≡ 9
+  pub cleaner : w.cleaner ≡ cleaners_number
   pub head : (l : ℕ) → w.head l ≡ f.head l
   pub version : (l q : ℕ) → w.version l q ≡ (row_at f b l q).ver
   pub hop : (l q : ℕ) → w.hop l q ≡ (row_at f b l q).hop

@@ -2,6 +2,7 @@
 use Rattle.std.specs.Prelude.{◌≡◌, ℕ, suc, ◌<◌, ◌≤◌, ◌==◌, List, if◌then◌else◌}
 use Rattle.xfs_base.specs.declared.block.BlockId.{BlockId}
 use Rattle.xfs_base.specs.declared.entry.Entry.{Entry}
+use Rattle.xfs_base.specs.Logs.{cleaners_number}
 use Rattle.segment_format.specs.declared.segment.Segment.{Segment}
 use Rattle.segment_format.specs.Rows.{rows_of}
 use Rattle.delta_index.specs.Join.{join}
@@ -27,7 +28,7 @@ said_of s b = join (rows_of s) b
 
 -- A client's log files versions above all that were filed, and no copies.
 pub record SaysNewer (w : IndexState) (l : ℕ) (said : Entry) : Type 0 where
-  pub client : l < 9
+  pub client : l < cleaners_number
   pub new : 0 < said.ver → w.joined.version < said.ver
   pub first_hand : 0 < said.ver → said.hop ≡ 0
 
@@ -66,8 +67,8 @@ ClientsFile =
 -- A segment that the cleaner settles is filed at each block: it has copies of those that it names.
 abbrev pub CleanerFiles : Type 0
 CleanerFiles =
-    (b : BlockId) (f : Filed) (w : IndexState) (s : Segment) → IndexReached w → IsFiled f → Tells b f w → IsSegment 9 (suc (f.head 9)) s
-    → (0 < (said_of s b).ver → IsCopy b f (said_of s b)) → Files b (with_segment f 9 s) w
+    (b : BlockId) (f : Filed) (w : IndexState) (s : Segment) → IndexReached w → IsFiled f → Tells b f w → IsSegment cleaners_number (suc (f.head cleaners_number)) s
+    → (0 < (said_of s b).ver → IsCopy b f (said_of s b)) → Files b (with_segment f cleaners_number s) w
 
 -- more is filed, and what was filed is as it was
 pub record IsMore (f g : Filed) : Type 0 where

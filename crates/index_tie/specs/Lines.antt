@@ -3,6 +3,7 @@ use Rattle.std.specs.Prelude.{◌≡◌, ℕ, suc, ◌-◌, ◌<◌, ◌≤◌, 
 use Rattle.std.specs.List.{AllByRecursion, range_with_len}
 use Rattle.xfs_base.specs.declared.segment.End.{End}
 use Rattle.xfs_base.specs.declared.segment.Pass.{Pass}
+use Rattle.xfs_base.specs.Limits.{block_logs}
 use Rattle.segment_format.specs.declared.segment.Segment.{Segment}
 use Rattle.segment_format.specs.Rows.{rows_of}
 use Rattle.delta_feed.specs.declared.feed.FiledDeltas.{FiledDeltas}
@@ -37,11 +38,11 @@ pub record IsLog (l : ℕ) (w : State) (book : ℕ → Segment) : Type 0 where
   pub pages : (x : ℕ) → w.filed x ≡ 1 → IsPage l w x (book x)
 
 abbrev pub AreLogs : (ℕ → State) → (ℕ → ℕ → Segment) → Type 0
-AreLogs logs books = (l : ℕ) → 0 < l → l ≤ 9 → IsLog l (logs l) (books l)
+AreLogs logs books = (l : ℕ) → 0 < l → l ≤ block_logs → IsLog l (logs l) (books l)
 
 -- what stands on the lines
 abbrev pub lines : (ℕ → State) → (ℕ → ℕ → Segment) → Filed
-lines logs books = record { head = λ l. if nat_lt 0 l && nat_le l 9 then (logs l).head else 0; segment = λ l q. books l ((logs l).line q) }
+lines logs books = record { head = λ l. if nat_lt 0 l && nat_le l block_logs then (logs l).head else 0; segment = λ l q. books l ((logs l).line q) }
 
 abbrev pub LinesAreFiled : Type 0
 LinesAreFiled = (logs : ℕ → State) (books : ℕ → ℕ → Segment) → AreLogs logs books → IsFiled (lines logs books)
@@ -49,13 +50,13 @@ LinesAreFiled = (logs : ℕ → State) (books : ℕ → ℕ → Segment) → Are
 -- Above the least horizon, filed segments are linked.
 abbrev pub LinesAreLinked : Type 0
 LinesAreLinked =
-    (logs : ℕ → State) (books : ℕ → ℕ → Segment) (l low high : ℕ) → AreLogs logs books → 0 < l → l ≤ 9 → (logs l).low ≤ low → high ≤ (logs l).head
+    (logs : ℕ → State) (books : ℕ → ℕ → Segment) (l low high : ℕ) → AreLogs logs books → 0 < l → l ≤ block_logs → (logs l).low ≤ low → high ≤ (logs l).head
     → Linked (lines logs books) l low high
 
 -- The end of a filed name is one of the filed segments.
 abbrev pub FiledNamesAreEnds : Type 0
 FiledNamesAreEnds =
-    (logs : ℕ → State) (books : ℕ → ℕ → Segment) (l x : ℕ) (end : End) → AreLogs logs books → 0 < l → l ≤ 9 → (logs l).filed x ≡ 1 → end.seq ≡ (logs l).seq_of x
+    (logs : ℕ → State) (books : ℕ → ℕ → Segment) (l x : ℕ) (end : End) → AreLogs logs books → 0 < l → l ≤ block_logs → (logs l).filed x ≡ 1 → end.seq ≡ (logs l).seq_of x
     → end.pass ≡ pass_of (logs l) x → IsEnd (lines logs books) l end
 
 -- a segment of the feed of a serving owner
@@ -65,7 +66,7 @@ feed_at w book q = record { seq = q; rows = rows_of (book (w.feed q)) }
 -- A serving owner's feed was told of what is filed above its base.
 abbrev pub FeedsAreFed : Type 0
 FeedsAreFed =
-    (logs : ℕ → State) (books : ℕ → ℕ → Segment) (l : ℕ) (inputs : List In) → AreLogs logs books → 0 < l → l ≤ 9 → (logs l).phase ≡ 4
+    (logs : ℕ → State) (books : ℕ → ℕ → Segment) (l : ℕ) (inputs : List In) → AreLogs logs books → 0 < l → l ≤ block_logs → (logs l).phase ≡ 4
     → end_of (logs l).feed_base inputs ≡ (logs l).head
     → filed_by (logs l).feed_base inputs ≡ map (feed_at (logs l) (books l)) (range_with_len (suc (logs l).feed_base) ((logs l).head - (logs l).feed_base))
     → IsFed (lines logs books) l (logs l).feed_base inputs
@@ -73,6 +74,6 @@ FeedsAreFed =
 -- Lines only grow.
 abbrev pub LinesGrow : Type 0
 LinesGrow =
-    (logs later : ℕ → State) (books more : ℕ → ℕ → Segment) → AreLogs logs books → AreLogs later more → ((l : ℕ) → 0 < l → l ≤ 9 → Steps (logs l) (later l))
+    (logs later : ℕ → State) (books more : ℕ → ℕ → Segment) → AreLogs logs books → AreLogs later more → ((l : ℕ) → 0 < l → l ≤ block_logs → Steps (logs l) (later l))
     → ((l x : ℕ) → (logs l).filed x ≡ 1 → more l x ≡ books l x)
     → IsMore (lines logs books) (lines later more)

@@ -15,6 +15,8 @@ use Rattle.xfs_base.specs.declared.segment.SegName.{SegName}
 use Rattle.xfs_base.specs.declared.segment.SegRef.{SegRef}
 use Rattle.xfs_base.specs.declared.token.Mode.{Mode}
 use Rattle.xfs_base.specs.Blocks.{slot_of}
+use Rattle.xfs_base.specs.Limits.{block_logs}
+use Rattle.xfs_base.specs.Logs.{cleaners_number}
 use Rattle.checkpoint.specs.Laws.{Event, nothing_checkpointed, after_event, slot_after, MayCome, AllMayCome}
 use Rattle.checkpoint.specs.Laws.Event.{Written}
 use Rattle.checkpoint.specs.WriterState.{Rows}
@@ -145,21 +147,21 @@ pub record HasRead (part : ℕ) (holds : SegRef → Rows) (n : Net) (e : ℕ) (n
   pub horizon : news.horizon ≡ n.horizon e
   pub parts : news.parts ≡ n.parts e
   pub written : AllByRecursion (AllByRecursion (TellsPart part holds news.parts)) (take (length news.parts) c.read.whole)
-  pub ends : (l : ℕ) → 0 < l → l ≤ 9 → of_log news.horizon l ≤ (end_of c.state.reports l).seq → IsEnd n.filed l (end_of c.state.reports l)
-  pub linked : (l : ℕ) → 0 < l → l ≤ 9 → Linked n.filed l (of_log news.horizon l) (end_of c.state.reports l).seq
+  pub ends : (l : ℕ) → 0 < l → l ≤ block_logs → of_log news.horizon l ≤ (end_of c.state.reports l).seq → IsEnd n.filed l (end_of c.state.reports l)
+  pub linked : (l : ℕ) → 0 < l → l ≤ block_logs → Linked n.filed l (of_log news.horizon l) (end_of c.state.reports l).seq
   pub texts : AllByRecursion (AllByRecursion (IsItsText n.filed)) c.read.whole
-  pub reported : In (CleanerReported e (end_of c.state.reports 9).seq) n.sent
+  pub reported : In (CleanerReported e (end_of c.state.reports cleaners_number).seq) n.sent
 
 -- ---- what can happen
 
 pub data Happens (part : ℕ) (holds : SegRef → Rows) : Net → Net → Type 0 where
   -- a client's log files a segment
-  ClientFiles : {n : Net} (l : ℕ) (s : Segment) → 0 < l → l < 9 → IsSegment l (suc (n.filed.head l)) s
+  ClientFiles : {n : Net} (l : ℕ) (s : Segment) → 0 < l → l < cleaners_number → IsSegment l (suc (n.filed.head l)) s
       → ((b : BlockId) → slot_of b.ino.0 ≡ part → IsNewer b n.filed s) → Happens part holds n (record n { filed = with_segment n.filed l s })
   -- the cleaner's log files one
-  CleanerFiles : {n : Net} (s : Segment) → IsSegment 9 (suc (n.filed.head 9)) s
+  CleanerFiles : {n : Net} (s : Segment) → IsSegment cleaners_number (suc (n.filed.head cleaners_number)) s
       → ((b : BlockId) → slot_of b.ino.0 ≡ part → 0 < (said_of s b).ver → IsMove b n.sent s)
-      → Happens part holds n (record n { filed = with_segment n.filed 9 s })
+      → Happens part holds n (record n { filed = with_segment n.filed cleaners_number s })
   -- a slot gets Deltas, which tell what their log filed
   GetsDeltas : {n : Net} (e : ℕ) (s : SlotState) (log : LogId) (first upto : ℕ) (rows : List (BlockId × Entry)) → n.slots e ≡ Some s
       → log.0 - 1 < length s.applied
@@ -183,7 +185,7 @@ pub data Happens (part : ℕ) (holds : SegRef → Rows) : Net → Net → Type 0
       → Happens part holds n (with_packet n (CheckpointDone e horizon (after_event (slot_after events) (Written segments)).parts))
   -- the registry keeps a checkpoint of its epoch
   Keeps : {n : Net} (horizon : List ℕ) (parts : List SegRef) → In (CheckpointDone n.epoch horizon parts) n.sent
-      → ((l : ℕ) → 0 < l → l ≤ 9 → of_log (n.horizon n.epoch) l ≤ of_log horizon l)
+      → ((l : ℕ) → 0 < l → l ≤ block_logs → of_log (n.horizon n.epoch) l ≤ of_log horizon l)
       → Happens part holds n
       (record n { horizon = λ e. if nat_lt e n.epoch then n.horizon e else horizon; parts = λ e. if nat_lt e n.epoch then n.parts e else parts })
   -- the registry gives the slot to another manager, or to another stay of it
@@ -207,7 +209,7 @@ pub data Happens (part : ℕ) (holds : SegRef → Rows) : Net → Net → Type 0
       (record (with_job n (job.transition n.job (job_input.Welcome slots groups)))
       { promised = promised_at (job.transition n.job (job_input.Welcome slots groups)).state.promised part })
   -- the cleaner reports what it has promised, and the end of its log
-  Reports : {n : Net} → Happens part holds n (with_packet n (CleanerReported n.promised (n.filed.head 9)))
+  Reports : {n : Net} → Happens part holds n (with_packet n (CleanerReported n.promised (n.filed.head cleaners_number)))
   -- the cleaner begins a job
   JobBegins : {n : Net} (count : ℕ) → Happens part holds n (record n { job = job_state.started count; number = suc n.number })
   -- its job reads a segment

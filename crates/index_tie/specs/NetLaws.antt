@@ -6,6 +6,7 @@ use Rattle.xfs_base.specs.declared.entry.Place.{Place}
 use Rattle.xfs_base.specs.declared.segment.SegName.{SegName}
 use Rattle.xfs_base.specs.declared.segment.SegRef.{SegRef}
 use Rattle.xfs_base.specs.Blocks.{slot_of}
+use Rattle.xfs_base.specs.Limits.{block_logs}
 use Rattle.checkpoint.specs.WriterState.{Rows}
 use Rattle.slot_beliefs.specs.Recalls.{applied_of}
 use Rattle.token_manager.specs.SlotState.{SlotState}
@@ -33,7 +34,7 @@ EachIndexIsTheJoin =
 abbrev pub ManagersCoverTheirHorizon : Type 0
 ManagersCoverTheirHorizon =
     (part : ℕ) (holds : SegRef → Rows) (n : Net) (b : BlockId) (e : ℕ) (s : SlotState) → Moment part holds n b → n.slots e ≡ Some s
-    → (l : ℕ) → 0 < l → l ≤ 9 → of_log (n.horizon e) l ≤ suc (applied_of s.applied l)
+    → (l : ℕ) → 0 < l → l ≤ block_logs → of_log (n.horizon e) l ≤ suc (applied_of s.applied l)
 
 -- Cleaning loses nothing: the newest row of a block isn't in a segment that was to be deleted.
 abbrev pub NewestIsNeverDeleted : Type 0

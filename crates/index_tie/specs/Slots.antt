@@ -2,6 +2,7 @@
 use Rattle.std.specs.Prelude.{◌≡◌, ℕ, ◌-◌, ◌<◌, ◌≤◌, List, length}
 use Rattle.xfs_base.specs.declared.block.BlockId.{BlockId}
 use Rattle.xfs_base.specs.declared.entry.Entry.{Entry}
+use Rattle.xfs_base.specs.Limits.{block_logs}
 use Rattle.delta_index.specs.Join.{join}
 use Rattle.slot_beliefs.specs.Recalls.{applied_of}
 use Rattle.token_manager.specs.declared.input.In as inputs
@@ -40,7 +41,7 @@ pub record Runs (b : BlockId) (f : Filed) (w : IndexState) (e : ℕ) (s : SlotSt
 -- Deltas tell of the block what a client's or the cleaner's log filed from one seq up to another.
 pub record DeltasTell (b : BlockId) (f : Filed) (l first upto : ℕ) (rows : List (BlockId × Entry)) : Type 0 where
   pub some : 0 < l
-  pub known : l ≤ 9
+  pub known : l ≤ block_logs
   pub filed : upto ≤ f.head l
   pub joined : join rows b ≡ join (rows_between f l first upto) b
 

@@ -8,6 +8,8 @@ use Rattle.xfs_base.specs.declared.news.SlotNews.{SlotNews}
 use Rattle.xfs_base.specs.declared.segment.End.{End}
 use Rattle.xfs_base.specs.declared.token.Mode.{Mode}
 use Rattle.xfs_base.specs.Blocks.{slot_of}
+use Rattle.xfs_base.specs.Limits.{block_logs}
+use Rattle.xfs_base.specs.Logs.{cleaners_number}
 use Rattle.segment_format.specs.declared.segment.Segment.{Segment}
 use Rattle.delta_index.specs.Join.{join}
 use Rattle.takeover.specs.declared.input.In.{In}
@@ -26,7 +28,7 @@ use Rattle.index_tie.specs.Slots.{Runs}
 
 -- what a list by log, from log 1 on, has of a log; 0 of a number that is none of logs 1 to 9
 abbrev pub of_log : List ℕ → ℕ → ℕ
-of_log numbers l = if nat_lt 0 l && nat_le l 9 then slice_index numbers (l - 1) else 0
+of_log numbers l = if nat_lt 0 l && nat_le l block_logs then slice_index numbers (l - 1) else 0
 
 -- the last seq of each log that lies below a horizon
 abbrev pub below : List ℕ → ℕ → ℕ
@@ -55,10 +57,10 @@ IsItsText f s = (l q : ℕ) → 0 < q → q ≤ f.head l → s.name ≡ (f.segme
 -- What the world owes a takeover that has read all: the horizon of its news is that of the epoch, the parts cover what is below it, ends that are reported are
 -- filed, logs are linked from the horizon to their end, and what was read is what was written.
 pub record TakeoverTold (b : BlockId) (f : Filed) (w : IndexState) (news : SlotNews) (c : Course) : Type 0 where
-  pub horizon : (l : ℕ) → 0 < l → l ≤ 9 → of_log news.horizon l ≡ w.floor news.epoch l
+  pub horizon : (l : ℕ) → 0 < l → l ≤ block_logs → of_log news.horizon l ≡ w.floor news.epoch l
   pub parts : Covers b f w news.horizon (told_by_all news.slot (take (length news.parts) c.read.whole))
-  pub ends : (l : ℕ) → 0 < l → l ≤ 9 → of_log news.horizon l ≤ (end_of c.state.reports l).seq → IsEnd f l (end_of c.state.reports l)
-  pub linked : (l : ℕ) → 0 < l → l ≤ 9 → Linked f l (of_log news.horizon l) (end_of c.state.reports l).seq
+  pub ends : (l : ℕ) → 0 < l → l ≤ block_logs → of_log news.horizon l ≤ (end_of c.state.reports l).seq → IsEnd f l (end_of c.state.reports l)
+  pub linked : (l : ℕ) → 0 < l → l ≤ block_logs → Linked f l (of_log news.horizon l) (end_of c.state.reports l).seq
   pub texts : AllByRecursion (AllByRecursion (IsItsText f)) c.read.whole
 
 -- What registry and cleaner owe it: the epoch has begun, no manager was active at it, and the cleaner, which has promised it, reported at least the end of its
@@ -67,7 +69,7 @@ pub record MayBegin (w : IndexState) (epoch : ℕ) (reports : List Report) : Typ
   pub begun : epoch ≤ w.epoch
   pub fresh : w.active epoch ≡ 0
   pub heard : epoch ≤ w.promised
-  pub reported : w.polled epoch ≤ (end_of reports 9).seq
+  pub reported : w.polled epoch ≤ (end_of reports cleaners_number).seq
 
 -- Takeovers are activations: when a takeover hands a slot out, the slot that starts with what it hands out is seen as the manager of the epoch.
 abbrev pub TakeoversAreActivations : Type 0

@@ -3,7 +3,7 @@ use Rattle.std.proofs.Common.{◌≡◌, ℕ, ◌≤◌, List, [], ◌∷◌, �
 use Rattle.std.specs.Fmt.{decimal}
 use Rattle.std.specs.List.{AllByRecursion}
 use Rattle.act_text.specs.Acts.{line_of, flight_text, fall_text, falls_text, chain_text}
-use Rattle.act_text.specs.Pieces.{value_text, block_text, node_text, writer_of, segment_text}
+use Rattle.act_text.specs.Pieces.{value_text, block_text, node_text, segment_text}
 use Rattle.script_print.proofs.Bytes.{lacks_join, lacks_test, text_lacks}
 use Rattle.script_print.specs.Printing.{spaced}
 use Rattle.script_text.proofs.Parts.{parted_cut, parted_whole}
@@ -15,6 +15,7 @@ use Rattle.xfs_base.specs.declared.block.BlockId.{BlockId}
 use Rattle.xfs_base.specs.declared.node.NodeId.{NodeId}
 use Rattle.xfs_base.specs.declared.node.NodeId.TheVariants as nodes
 use Rattle.xfs_base.specs.declared.segment.SegName.{SegName}
+use Rattle.xfs_base.specs.Logs.{writer_of}
 use Rattle.journal_law.specs.Told.{IsTold, IsLineOf}
 use Rattle.journal_law.proofs.Bytes.{Plain, decimal_plain, plain_join, plain_lacks}
 

@@ -5,7 +5,7 @@ use Rattle.std.specs.List.{AllByRecursion}
 use Rattle.std.specs.Str.{bytes_eq}
 use Rattle.std.specs.Str.Parse.{digits_value}
 use Rattle.std.proofs.lemmas.Bool.Decides.{nat_tests}
-use Rattle.audit.specs.Acts.{read_number, read_counted, long_of, read_long, read_node, read_client, first_is, read_writer, read_block, log_of, segment_at, read_segment, read_version, value_of, read_value, read_flight, read_fall, read_each, act_of, act_by}
+use Rattle.audit.specs.Acts.{read_number, read_counted, long_of, read_long, read_node, read_client, first_is, read_writer, read_block, segment_at, read_segment, read_version, value_of, read_value, read_flight, read_fall, read_each, act_of, act_by}
 use Rattle.audit.specs.Shapes.{front, back, shape_of}
 use Rattle.audit.specs.declared.shape.Verb.{Verb}
 use Rattle.audit.specs.declared.shape.Verb.TheVariants as verbs
@@ -22,12 +22,12 @@ use Rattle.script_text.specs.declared.text.Mark.TheVariants as mark
 use Rattle.version_model.specs.declared.act.Act.{Act}
 use Rattle.version_model.specs.declared.act.Act.TheVariants as acts
 use Rattle.version_model.specs.declared.act.Fall.{Fall}
-use Rattle.xfs_base.specs.Logs.{WritesLog}
+use Rattle.xfs_base.specs.Logs.{WritesLog, log_of}
 use Rattle.xfs_base.specs.declared.block.BlockId.{BlockId}
 use Rattle.xfs_base.specs.declared.node.NodeId.{NodeId}
 use Rattle.xfs_base.specs.declared.node.NodeId.TheVariants as nodes
 use Rattle.xfs_base.specs.declared.segment.SegName.{SegName}
-use Rattle.xfs_base.specs.Limits.{max_value}
+use Rattle.xfs_base.specs.Limits.{max_value, most_clients, most_managers, log_count}
 use Rattle.journal_law.specs.Told.{IsCount, IsClient, IsBlock, IsVersion, IsContent, IsSegment, IsFlight, IsFall, IsTold, NoOtherActIsRead}
 
 abbrev good : {X : Type 0} → X → Result X Kind
@@ -85,7 +85,7 @@ node_is limit n w e =
     one_of limit n (nat_lt 0 n) (nat_le n limit) refl refl j.1
 
 client_is : (n : ℕ) (w : List ℕ) → read_client w ≡ Ok n → IsClient n
-client_is n w e = node_is 8 n w e
+client_is n w e = node_is most_clients n w e
 
 -- ---- names
 
@@ -97,20 +97,20 @@ block_is w b e =
     subst IsBlock s (record { ino = number_small (front 47 w) i.0 i.1; blk = number_small (back 47 w) k.0 k.1 })
 
 writer_at : (w : List ℕ) (node : NodeId) (t u : Bool)
-    → (if t then good nodes.Cleaner else if u then (read_client w >>= λ n. good (nodes.Client n)) else (read_node 4 w >>= λ n. good (nodes.Manager n)))
+    → (if t then good nodes.Cleaner else if u then (read_client w >>= λ n. good (nodes.Client n)) else (read_node most_managers w >>= λ n. good (nodes.Manager n)))
     ≡ Ok node → WritesLog node
 writer_at w node true u e = subst WritesLog (same_ok nodes.Cleaner node e) tt
 writer_at w node false true e =
     let r = read_first (read_client w) (λ n. good (nodes.Client n)) node e in
     subst WritesLog (same_ok (nodes.Client r.0) node r.2) (client_is r.0 w r.1)
 writer_at w node false false e =
-    let r = read_first (read_node 4 w) (λ n. good (nodes.Manager n)) node e in
-    subst WritesLog (same_ok (nodes.Manager r.0) node r.2) (node_is 4 r.0 w r.1)
+    let r = read_first (read_node most_managers w) (λ n. good (nodes.Manager n)) node e in
+    subst WritesLog (same_ok (nodes.Manager r.0) node r.2) (node_is most_managers r.0 w r.1)
 
 writer_is : (w : List ℕ) (node : NodeId) → read_writer w ≡ Ok node → WritesLog node
 writer_is w node e = writer_at w node (bytes_eq w (codes "cl")) (first_is 99 w) e
 
-log_is : (node : NodeId) → WritesLog node → (1 ≤ log_of node) × (log_of node ≤ 13)
+log_is : (node : NodeId) → WritesLog node → (1 ≤ (log_of node).0) × ((log_of node).0 ≤ log_count)
 log_is (nodes.Client n) h = (h.0, omega (arith, h.1))
 log_is (nodes.Manager n) h = (omega arith, omega (arith, h.1))
 log_is (nodes.Server n) h = absurd h

@@ -4,12 +4,12 @@ use Rattle.std.specs.Fmt.{decimal}
 use Rattle.std.specs.Str.{bytes_eq}
 use Rattle.std.specs.Str.Parse.{digits_value}
 use Rattle.std.proofs.lemmas.Bool.Decides.{nat_tests}
-use Rattle.std.proofs.lemmas.Bool.{eqb-true, eqb-false}
+use Rattle.std.proofs.lemmas.Bool.{eqb-true, eqb-false, ltb-true, ltb-false}
 use Rattle.std.proofs.lemmas.Fmt.{digits_value-decimal}
 use Rattle.std.proofs.lemmas.Slice.Eq.{bytes_eq-Decides}
 use Rattle.act_text.specs.Acts.{flight_text, fall_text}
-use Rattle.act_text.specs.Pieces.{value_text, block_text, node_text, writer_of, segment_text}
-use Rattle.audit.specs.Acts.{read_number, read_counted, long_of, read_long, read_node, read_client, read_writer, read_block, log_of, segment_at, read_segment, read_version, value_of, read_value, read_flight, read_fall}
+use Rattle.act_text.specs.Pieces.{value_text, block_text, node_text, segment_text}
+use Rattle.audit.specs.Acts.{read_number, read_counted, long_of, read_long, read_node, read_client, read_writer, read_block, segment_at, read_segment, read_version, value_of, read_value, read_flight, read_fall}
 use Rattle.audit.specs.Shapes.{front, back}
 use Rattle.script_print.proofs.Bytes.{lacks_join, text_written}
 use Rattle.script_print.specs.Printing.{text_body}
@@ -23,12 +23,12 @@ use Rattle.script_text.specs.Words.{Lacks}
 use Rattle.script_text.specs.declared.refusal.Kind.{Kind}
 use Rattle.script_text.specs.declared.refusal.Kind.TheVariants.{BadNumber, BadText, NoNode}
 use Rattle.version_model.specs.declared.act.Fall.{Fall}
-use Rattle.xfs_base.specs.Logs.{WritesLog}
+use Rattle.xfs_base.specs.Logs.{WritesLog, log_of, writer_of}
 use Rattle.xfs_base.specs.declared.block.BlockId.{BlockId}
 use Rattle.xfs_base.specs.declared.node.NodeId.{NodeId}
 use Rattle.xfs_base.specs.declared.node.NodeId.TheVariants as nodes
 use Rattle.xfs_base.specs.declared.segment.SegName.{SegName}
-use Rattle.xfs_base.specs.Limits.{max_value}
+use Rattle.xfs_base.specs.Limits.{max_value, most_clients, most_managers, block_logs, log_count}
 use Rattle.journal_law.specs.Told.{IsCount, IsClient, IsBlock, IsVersion, IsContent, IsSegment, IsFlight, IsFall}
 use Rattle.journal_law.proofs.Bytes.{and_true, decimal_begins, begins_join, decimal_lacks, no_word, front_of, back_of}
 
@@ -67,7 +67,7 @@ node_read : (limit letter n : ℕ) → n < 2 ^ 32 → 1 ≤ n → n ≤ limit �
 node_read limit letter n s l u = judge_good BadNumber NoNode (is_one_of limit) (number_of (decimal n)) n (number_decimal n s) (one_of limit n l u)
 
 pub client_read : (n : ℕ) → IsClient n → read_client (99 ∷ decimal n) ≡ Ok n
-client_read n c = node_read 8 99 n (omega (arith, c.1)) c.0 c.1
+client_read n c = node_read most_clients 99 n (omega (arith, c.1)) c.0 c.1
 
 pub version_read : (n : ℕ) → IsVersion n → read_version (118 ∷ decimal n) ≡ Ok n
 version_read n l = long_read n l
@@ -92,29 +92,31 @@ writer_read (nodes.Client n) h =
     let r : read_client (99 ∷ decimal n) ≡ Ok n = client_read n h in
     rw (client_word n) (then_read (read_client (99 ∷ decimal n)) n (λ k. Ok (nodes.Client k)) r)
 writer_read (nodes.Manager n) h =
-    let r : read_node 4 (109 ∷ decimal n) ≡ Ok n = node_read 4 109 n (omega (arith, h.1)) h.0 h.1 in
-    then_read (read_node 4 (109 ∷ decimal n)) n (λ k. Ok (nodes.Manager k)) r
+    let r : read_node most_managers (109 ∷ decimal n) ≡ Ok n = node_read most_managers 109 n (omega (arith, h.1)) h.0 h.1 in
+    then_read (read_node most_managers (109 ∷ decimal n)) n (λ k. Ok (nodes.Manager k)) r
 writer_read (nodes.Server n) h = absurd h
 writer_read nodes.Cleaner h = refl
 writer_read nodes.Registry h = absurd h
 
 -- the node of a log writes it
-at_log : (log : ℕ) (s t : Bool) → nat_lt log 9 ≡ s → (log == 9) ≡ t → 1 ≤ log → log ≤ 13
-    → WritesLog (if s then nodes.Client log else if t then nodes.Cleaner else nodes.Manager (log - 9))
-    × (log_of (if s then nodes.Client log else if t then nodes.Cleaner else nodes.Manager (log - 9)) ≡ log)
-at_log log true t e f l u = ((l, grind (arith, nat_tests, e)), refl)
-at_log log false true e f l u = (tt, sym (eqb-true log 9 f))
+at_log : (log : ℕ) (s t : Bool) → nat_lt block_logs log ≡ s → (log == block_logs) ≡ t → 1 ≤ log → log ≤ log_count
+    → WritesLog (if s then nodes.Manager (log - block_logs) else if t then nodes.Cleaner else nodes.Client log)
+    × ((log_of (if s then nodes.Manager (log - block_logs) else if t then nodes.Cleaner else nodes.Client log)).0 ≡ log)
+at_log log true t e f l u =
+    let h : block_logs < log = ltb-true block_logs log e in
+    let few : log - block_logs ≤ most_managers = omega (arith, u) in
+    ((omega (arith, h), few), omega (arith, h, few))
+at_log log false true e f l u = (tt, sym (eqb-true log block_logs f))
 at_log log false false e f l u =
-    let g : 9 ≤ log = grind (arith, nat_tests, e) in
-    let n = eqb-false log 9 f in
-    let h : 10 ≤ log = above log g n in
-    ((omega (arith, h), omega (arith, u)), omega (arith, h))
+    let g : log ≤ block_logs = ltb-false block_logs log e in
+    let n = eqb-false log block_logs f in
+    ((l, below log g n), refl)
   where
-    above : (log : ℕ) → 9 ≤ log → (log ≡ 9 → ⊥) → 10 ≤ log
-    above log g n = grind (arith, g, n)
+    below : (log : ℕ) → log ≤ block_logs → (log ≡ block_logs → ⊥) → log ≤ most_clients
+    below log g n = grind (arith, g, n)
 
-pub writer_writes : (log : ℕ) → 1 ≤ log → log ≤ 13 → WritesLog (writer_of log) × (log_of (writer_of log) ≡ log)
-writer_writes log l u = at_log log (nat_lt log 9) (log == 9) refl refl l u
+pub writer_writes : (log : ℕ) → 1 ≤ log → log ≤ log_count → WritesLog (writer_of log) × ((log_of (writer_of log)).0 ≡ log)
+writer_writes log l u = at_log log (nat_lt block_logs log) (log == block_logs) refl refl l u
 
 -- ---- segments
 
@@ -170,7 +172,7 @@ segment_read seg h =
     (ap read_counted g ∙ counted_read seg.seq h.seq)
     (ap read_counted i ∙ counted_read seg.pass.inc h.inc)
     (ap read_counted a ∙ counted_read seg.pass.att h.att)
-    ∙ ap (λ x. ok_segment x) (named seg (log_of node) w.1)
+    ∙ ap (λ x. ok_segment x) (named seg (log_of node).0 w.1)
   where
     ok_segment : SegName → Result SegName Kind
     ok_segment s = Ok s

@@ -4,7 +4,7 @@ use Rattle.std.specs.Fmt.{decimal}
 use Rattle.std.specs.List.{AllByRecursion}
 use Rattle.act_text.specs.Acts.{act_text, acts_text, line_of}
 use Rattle.act_text.specs.Answers.{fault_word, more_names, names_text, answer_text}
-use Rattle.act_text.specs.Pieces.{block_text, node_text, writer_of, log_seq_text, value_text}
+use Rattle.act_text.specs.Pieces.{block_text, node_text, log_seq_text, value_text}
 use Rattle.audit.specs.Journal.{begins_end, is_skipped, read_journal, IsAudited}
 use Rattle.script_print.proofs.Bytes.{lacks_test, text_lacks}
 use Rattle.script_text.specs.Words.{Lacks}
@@ -24,6 +24,7 @@ use Rattle.world_base.specs.declared.estate.Estate.{Estate}
 use Rattle.xfs_base.specs.declared.node.NodeId.{NodeId}
 use Rattle.xfs_base.specs.declared.segment.SegName.{SegName}
 use Rattle.xfs_base.specs.Limits.{max_bytes}
+use Rattle.xfs_base.specs.Logs.{writer_of}
 use Rattle.journal_law.specs.Told.{IsTold}
 use Rattle.journal_law.specs.Journals.{Entry, Tells, Other, IsEntry, entry_text, journal_text, acts_in, numbers_from, IsJournal, JudgesByLine}
 use Rattle.journal_law.specs.Runs.{IsOneLine, IsPrinted, told, IsPrintedRun, IsReadAsPrinted, IsJudgedByItsActs}

@@ -3,12 +3,12 @@ use Rattle.std.proofs.Common.{◌≡◌, ℕ, ◌+◌, ◌==◌, true, List, [],
 use Rattle.std.specs.Fmt.{decimal}
 use Rattle.std.specs.Str.{bytes_eq}
 use Rattle.act_text.specs.Acts.{flight_text, fall_text}
-use Rattle.act_text.specs.Pieces.{block_text, node_text, writer_of, segment_text}
+use Rattle.act_text.specs.Pieces.{block_text, node_text, segment_text}
 use Rattle.audit.specs.Shapes.{is_writer, is_numbered, count_of, both, is_block, is_flight, is_fall, is_segment}
 use Rattle.script_text.specs.Words.{Lacks}
 use Rattle.script_text.proofs.Texts.{cut_there}
 use Rattle.version_model.specs.declared.act.Fall.{Fall}
-use Rattle.xfs_base.specs.Logs.{WritesLog}
+use Rattle.xfs_base.specs.Logs.{WritesLog, writer_of}
 use Rattle.xfs_base.specs.declared.block.BlockId.{BlockId}
 use Rattle.xfs_base.specs.declared.node.NodeId.{NodeId}
 use Rattle.xfs_base.specs.declared.node.NodeId.TheVariants as nodes

@@ -12,13 +12,14 @@ use Rattle.xfs_base.specs.Value.{IsValue}
 use Rattle.xfs_base.specs.declared.block.BlockId.{BlockId}
 use Rattle.xfs_base.specs.declared.node.NodeId.TheVariants as nodes
 use Rattle.xfs_base.specs.declared.segment.SegName.{SegName}
+use Rattle.xfs_base.specs.Limits.{log_count}
 
 -- a number of 32 bits that counts from 1
 pub record IsCount (n : ℕ) : Type 0 where
   pub some : 0 < n
   pub small : n < 2 ^ 32
 
--- one of at most 8 clients
+-- one of the clients that a run may have
 abbrev pub IsClient : ℕ → Type 0
 IsClient n = WritesLog (nodes.Client n)
 
@@ -43,7 +44,7 @@ pub record IsContent (value : Option (List ℕ)) : Type 0 where
 -- a segment of the log of a client, a manager or the cleaner
 pub record IsSegment (seg : SegName) : Type 0 where
   pub written : 1 ≤ seg.log.0
-  pub log : seg.log.0 ≤ 13
+  pub log : seg.log.0 ≤ log_count
   pub seq : IsCount seg.seq
   pub inc : IsCount seg.pass.inc
   pub att : IsCount seg.pass.att

@@ -8,7 +8,7 @@ use Rattle.xfs_base.specs.declared.block.BlockId.{BlockId}
 use Rattle.xfs_base.specs.declared.entry.Entry.{Entry}
 use Rattle.xfs_base.specs.declared.entry.Place.{Place}
 use Rattle.xfs_base.specs.Blocks.{same_block}
-use Rattle.xfs_base.specs.Limits.{segment_blocks}
+use Rattle.xfs_base.specs.Limits.{segment_blocks, slot_count, log_count}
 use Rattle.xfs_base.proofs.BlockOrder.{same_block_exact}
 use Rattle.xfs_base.proofs.Booleans.{and_first, and_second}
 use Rattle.segment_format.specs.declared.segment.Item.{Item}
@@ -106,7 +106,7 @@ within_of lo hi n h = (leb-true lo n (and_first (nat_le lo n) (nat_le n hi) h), 
 
 placed : (p : Option Place) (block : BlockId) (ver hop : ℕ) → is_placed p ≡ true → IsRow (block, record { ver = ver; hop = hop; place = p })
 placed None block ver hop h = tt
-placed (Some p) block ver hop h = within_of 1 13 p.seg.name.log.0 h
+placed (Some p) block ver hop h = within_of 1 log_count p.seg.name.log.0 h
 
 all_placed : (rows : List (BlockId × Entry)) → list_all (λ r. is_placed r.1.place) rows ≡ true → AllByRecursion IsRow rows
 all_placed [] h = tt
@@ -121,8 +121,8 @@ item_of_test (Block block (Some bytes)) h = within_of 1 (longest second_version)
 item_of_test (Delta block ver hop item) h = tt
 item_of_test (Part slot rows) h =
     let rest : (is_row_count (length rows) && list_all (λ r. is_placed r.1.place) rows) ≡ true =
-    and_second (nat_lt slot 8) (is_row_count (length rows) && list_all (λ r. is_placed r.1.place) rows) h in (
-      ltb-true slot 8 (and_first (nat_lt slot 8) (is_row_count (length rows) && list_all (λ r. is_placed r.1.place) rows) h),
+    and_second (nat_lt slot slot_count) (is_row_count (length rows) && list_all (λ r. is_placed r.1.place) rows) h in (
+      ltb-true slot slot_count (and_first (nat_lt slot slot_count) (is_row_count (length rows) && list_all (λ r. is_placed r.1.place) rows) h),
       within_of 1 128 (length rows) (and_first (is_row_count (length rows)) (list_all (λ r. is_placed r.1.place) rows) rest),
       all_placed rows (and_second (is_row_count (length rows)) (list_all (λ r. is_placed r.1.place) rows) rest),
     )

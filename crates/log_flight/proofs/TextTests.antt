@@ -8,6 +8,7 @@ use Rattle.xfs_base.specs.declared.entry.Entry.{Entry}
 use Rattle.xfs_base.specs.declared.entry.Place.{Place}
 use Rattle.xfs_base.specs.Blocks.{same_block}
 use Rattle.xfs_base.proofs.BlockOrder.{same_block_itself}
+use Rattle.xfs_base.specs.Limits.{slot_count, log_count}
 use Rattle.segment_format.specs.declared.segment.Item.{Item}
 use Rattle.segment_format.specs.declared.segment.Item.TheVariants.{Block, Delta, Part}
 use Rattle.segment_format.specs.Format.{most_items, second_version, longest, is_within, IsWithin, is_row_count}
@@ -21,7 +22,7 @@ within_tests lo hi n h = and_from (nat_le lo n) (nat_le n hi) (le-leb lo n h.0) 
 
 place_tests : (p : Option Place) (block : BlockId) (ver hop : ℕ) → IsRow (block, record { ver = ver; hop = hop; place = p }) → is_placed p ≡ true
 place_tests None block ver hop h = refl
-place_tests (Some p) block ver hop h = within_tests 1 13 p.seg.name.log.0 h
+place_tests (Some p) block ver hop h = within_tests 1 log_count p.seg.name.log.0 h
 
 rows_test : (rows : List (BlockId × Entry)) → AllByRecursion IsRow rows → list_all (λ r. is_placed r.1.place) rows ≡ true
 rows_test [] h = refl
@@ -33,7 +34,7 @@ item_tests (Block block None) h = absurd h
 item_tests (Block block (Some bytes)) h = within_tests 1 (longest second_version) (length bytes) h
 item_tests (Delta block ver hop item) h = refl
 item_tests (Part slot rows) h =
-    and_from (nat_lt slot 8) (is_row_count (length rows) && list_all (λ r. is_placed r.1.place) rows) (lt-ltb slot 8 h.0)
+    and_from (nat_lt slot slot_count) (is_row_count (length rows) && list_all (λ r. is_placed r.1.place) rows) (lt-ltb slot slot_count h.0)
     (and_from (is_row_count (length rows)) (list_all (λ r. is_placed r.1.place) rows) (within_tests 1 128 (length rows) h.1) (rows_test rows h.2))
 
 items_test : (items : List Item) → AllByRecursion (IsItem second_version) items → list_all is_item items ≡ true

@@ -4,6 +4,7 @@ use Rattle.std.specs.List.{list_all, AllByRecursion}
 use Rattle.xfs_base.specs.declared.block.BlockId.{BlockId}
 use Rattle.xfs_base.specs.declared.entry.Place.{Place}
 use Rattle.xfs_base.specs.Blocks.{same_block}
+use Rattle.xfs_base.specs.Limits.{slot_count}
 use Rattle.segment_format.specs.declared.segment.Item.{Item}
 use Rattle.segment_format.specs.declared.segment.Item.TheVariants.{Block, Delta, Part}
 use Rattle.segment_format.specs.Format.{most_items, second_version, is_log, is_length, is_row_count}
@@ -31,7 +32,7 @@ is_present (Some bytes) = is_length second_version (length bytes)
 abbrev pub is_item : Item → Bool
 is_item (Block block value) = is_present value
 is_item (Delta block ver hop item) = true
-is_item (Part slot rows) = nat_lt slot 8 && (is_row_count (length rows) && list_all (λ r. is_placed r.1.place) rows)
+is_item (Part slot rows) = nat_lt slot slot_count && (is_row_count (length rows) && list_all (λ r. is_placed r.1.place) rows)
 
 -- the Delta that has to come behind an item: that of a Block
 abbrev pub awaited_after : Item → Option BlockId

@@ -2,7 +2,6 @@
 ghost use Rattle.std.specs.Prelude.{◌≡◌, ◌<◌, length, slice_set, IfOk, true};
 ghost use Rattle.segment_format.specs.declared.segment.Segment.{Segment};
 ghost use Rattle.segment_format.specs.Text.{KeepsLimits};
-ghost use Rattle.stripe_code.specs.Fragments.{same_name};
 ghost use Rattle.stripe_code.specs.Stripe.{IsCut};
 ghost use Rattle.log_flight.specs.Fate.{is_lost, lost_count, is_done, all_done, fate_of};
 ghost use Rattle.log_flight.specs.Flights.{none_noted, is_noted, is_of, is_member, noting};
@@ -126,7 +125,7 @@ impl Flight {
     pub fn is_of(&self, name: SegName, index: u8, generation: u32) -> bool
         ensures { result ≡ is_of self.now name index generation }
     {
-        is_name(name, self.segment.name)
+        name.is_same(self.segment.name)
             && is_member(self.group.members.as_slice(), index, generation)
     }
 
@@ -165,12 +164,6 @@ impl Flight {
     {
         self.fragments.as_slice()[place].copy(alloc)
     }
-}
-
-fn is_name(a: SegName, b: SegName) -> bool
-    ensures { result ≡ same_name a b }
-{
-    a == b
 }
 
 // Whether the member at this place is of this generation.

@@ -6,7 +6,7 @@ ghost use Rattle.log_flight.specs.Texts.{HasText, is_placed, is_present, is_item
 
 use segment_format::Item;
 use segment_format::format::NO_ITEM;
-use xfs_base::limits::{MAX_VALUE, SEGMENT_BLOCKS};
+use xfs_base::limits::{LOG_COUNT, MAX_VALUE, SEGMENT_BLOCKS, SLOT_COUNT};
 use xfs_base::{BlockId, Entry, Value};
 
 /// Whether a segment may have these items: just where they keep the limits of a text and the rule on
@@ -51,7 +51,10 @@ fn is_item(item: &Item) -> bool
         Item::Block { value, .. } => is_present(value),
         Item::Delta { .. } => true,
         Item::Part { slot, rows } => {
-            *slot < 8 && 1 <= rows.len() && rows.len() <= 128 && are_placed(rows.as_slice())
+            *slot < SLOT_COUNT
+                && 1 <= rows.len()
+                && rows.len() <= 128
+                && are_placed(rows.as_slice())
         }
     }
 }
@@ -81,7 +84,7 @@ fn is_placed(entry: &Entry) -> bool
 {
     match entry.place {
         None => true,
-        Some(place) => 1 <= place.seg.name.log.0 && place.seg.name.log.0 <= 13,
+        Some(place) => 1 <= place.seg.name.log.0 && place.seg.name.log.0 <= LOG_COUNT,
     }
 }
 

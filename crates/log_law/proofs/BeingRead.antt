@@ -3,13 +3,14 @@ use Rattle.std.proofs.Common.{◌≡◌, ℕ, zero, suc, ◌==◌, ◌<◌, ◌�
 use Rattle.std.proofs.lemmas.Bool.{or_parts}
 use Rattle.std.proofs.lemmas.Bool.Decides.{nat_tests}
 use Rattle.xfs_base.specs.declared.segment.Pass.{Pass}
+use Rattle.xfs_base.specs.Segments.{names_none}
 use Rattle.segment_format.specs.declared.segment.Segment.{Segment}
 use Rattle.segment_reading.specs.declared.target.Target.{Target}
 use Rattle.segment_reading.specs.Reading.{ReadingState}
 use Rattle.log_scan.specs.declared.stage.Backward.{Backward}
 use Rattle.log_scan.specs.declared.stage.Stage.TheVariants.{Reads}
 use Rattle.log_scan.specs.ScanState.{ScanState}
-use Rattle.log_scan.specs.Transition.{name_at, names_none, target_at, is_bottom}
+use Rattle.log_scan.specs.Transition.{name_at, prior_at, target_at, is_bottom}
 use Rattle.log_protocol.proofs.Induction.{always}
 use Rattle.log_protocol.specs.LogLaws.{Reached}
 use Rattle.log_protocol.specs.LossLaws.{ReadBy, Whole}
@@ -62,7 +63,7 @@ module _ (k : Below) (read : ReadWhole) (g : Setting) (n : Net) (h : View g n) (
   x = point g b.next.seq b.next.pass
 
   above : s.opening.low ≤ b.next.seq
-  above = no_lower s.opening.low b.next.seq (or_parts (nat_lt b.next.seq s.opening.low) (names_none b.next) shown.1).0
+  above = no_lower s.opening.low b.next.seq (or_parts (nat_lt b.next.seq s.opening.low) (names_none (prior_at b.next)) shown.1).0
 
   some : 0 < x
   some = by x refl

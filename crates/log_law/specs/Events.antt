@@ -6,7 +6,7 @@ use Rattle.xfs_base.specs.declared.news.SlotNews.{SlotNews}
 use Rattle.xfs_base.specs.declared.segment.LogId.{LogId}
 use Rattle.xfs_base.specs.declared.segment.Pass.{Pass}
 use Rattle.xfs_base.specs.declared.segment.SegName.{SegName}
-use Rattle.xfs_base.specs.Limits.{u32_end}
+use Rattle.xfs_base.specs.Limits.{u32_end, block_logs}
 use Rattle.segment_format.specs.declared.segment.Segment.{Segment}
 use Rattle.segment_format.specs.Ranges.{Fits}
 use Rattle.segment_format.specs.Text.{text_of, IsText}
@@ -138,7 +138,7 @@ pub data Happens (g : Setting) : Net → Net → Type 0 where
   Restarts : {n : Net} → n.owner ≡ Down → Happens g n (record n { inc = suc n.inc; owner = Opening (started g.log (suc n.inc)) })
   -- The owner of a manager's log restarts in its next boot, with a map that came, and serves a log that begins anew: it opens none. Such a log is one whose
   -- restarts may be doubtful: of its line nothing is claimed.
-  Renews : {n : Net} (m : GroupMapState) → 9 < g.log.0 → g.doubts ≡ true → n.owner ≡ Down → In (MapSent m) n.sent
+  Renews : {n : Net} (m : GroupMapState) → block_logs < g.log.0 → g.doubts ≡ true → n.owner ≡ Down → In (MapSent m) n.sent
       → Happens g n (record n { inc = suc n.inc; owner = Serving (new_log g.log (suc n.inc) no_end m) })
   -- something is done to a server's shelf
   Serves : {n : Net} (v : ℕ) (deed : Deed) → 0 < v → CameToServer g n v deed

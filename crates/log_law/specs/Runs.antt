@@ -1,5 +1,6 @@
 -- Runs that exist: the laws on falls and restarts speak of something.
 use Rattle.std.specs.Prelude.{◌≡◌, ◌<◌, false, [], Some}
+use Rattle.xfs_base.specs.Limits.{block_logs}
 use Rattle.client_log.specs.LogState.{started}
 use Rattle.group_map.specs.GroupMapState.{GroupMapState}
 use Rattle.log_flight.specs.Flights.{FlightState}
@@ -28,7 +29,7 @@ pub record ATailAdopted (g : Setting) : Type 0 where
 
 -- A manager's log began anew, in its second boot.
 pub record ALogRenewed (g : Setting) : Type 0 where
-  pub managers : 9 < g.log.0
+  pub managers : block_logs < g.log.0
   pub net : Net
   pub moment : Moment g net
   pub groups : GroupMapState

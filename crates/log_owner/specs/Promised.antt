@@ -4,6 +4,7 @@ use Rattle.std.specs.List.{range_with_len}
 use Rattle.xfs_base.specs.declared.news.SlotNews.{SlotNews}
 use Rattle.xfs_base.specs.declared.node.NodeId.{NodeId}
 use Rattle.xfs_base.specs.declared.node.NodeId.TheVariants.{Manager}
+use Rattle.xfs_base.specs.Limits.{slot_count}
 use Rattle.log_owner.specs.declared.promised.Managers.{Managers}
 use Rattle.log_owner.specs.declared.promised.Promised.{Promised}
 
@@ -13,18 +14,18 @@ manager_of m slot = Manager (unwrap_or (slice_get m.numbers slot) 1)
 
 -- a slot has this manager
 abbrev pub manager_set : Managers → ℕ → ℕ → Managers
-manager_set m slot manager = if nat_lt slot 8 then record { numbers = slice_set m.numbers slot manager } else m
+manager_set m slot manager = if nat_lt slot slot_count then record { numbers = slice_set m.numbers slot manager } else m
 
 -- at the start the managers have the slots in turn
 abbrev pub first_number : ℕ → ℕ → ℕ
 first_number managers slot = if managers == 0 then 1 else slot % managers + 1
 
 abbrev pub first_managers : ℕ → Managers
-first_managers managers = record { numbers = map (first_number managers) (range_with_len 0 8) }
+first_managers managers = record { numbers = map (first_number managers) (range_with_len 0 slot_count) }
 
 -- at the start each slot is at epoch 1
 abbrev pub at_start : ℕ → Promised
-at_start managers = record { epochs = replicate 8 1; managers = first_managers managers }
+at_start managers = record { epochs = replicate slot_count 1; managers = first_managers managers }
 
 -- the epoch of a slot; 0 where there is no such slot
 abbrev pub epoch_of : Promised → ℕ → ℕ
@@ -33,7 +34,7 @@ epoch_of p slot = unwrap_or (slice_get p.epochs slot) 0
 -- a slot is promised to this epoch of this manager
 abbrev pub promised_to : Promised → ℕ → ℕ → ℕ → Promised
 promised_to p slot epoch manager =
-    if nat_lt slot 8
+    if nat_lt slot slot_count
     then record { epochs = slice_set p.epochs slot epoch; managers = manager_set p.managers slot manager }
     else p
 

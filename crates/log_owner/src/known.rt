@@ -22,6 +22,7 @@ use node_base::{Asked, Effects, Maps, Questions};
 use segment_format::Segment;
 use std::alloc::Global;
 use wire_msg::{News, Welcome};
+use xfs_base::limits::LOG_COUNT;
 use xfs_base::{End, List, LogId, Mem, SegName, copy_each};
 
 /// What an opening knows at each stage.
@@ -258,7 +259,7 @@ impl Known {
         ensures effects { OnOk result (effects.new ≡ effects.old ++ (starts_log self scanning chain groups).outs) }
     {
         let log = self.owner.log;
-        if log.0 < 1 || 13 < log.0 {
+        if log.0 < 1 || LOG_COUNT < log.0 {
             drop(chain);
             drop(groups);
             return Ok(self.scanning(scanning));

@@ -6,16 +6,14 @@ ghost use Rattle.log_owner.specs.Promised.{manager_of, manager_set, first_number
 
 use node_base::has_room;
 use std::alloc::Global;
+use xfs_base::limits::{BY_SLOT, SLOT_COUNT};
 use xfs_base::{List, Mem, NodeId, SlotNews};
-
-/// How many slots the manager map has.
-pub const SLOTS: u8 = 8;
 
 /// The manager of each slot, as the node knows them.
 #[derive(Clone, Copy, PartialEq, Eq)]
 pub struct Managers {
     /// Their numbers, by slot.
-    pub numbers: [u8; 8],
+    pub numbers: [u8; BY_SLOT],
 }
 
 impl Managers {
@@ -51,7 +49,7 @@ impl Managers {
     pub fn set(&mut self, slot: u8, manager: u8)
         ensures { self.new ≡ manager_set self.old slot manager }
     {
-        if slot < SLOTS {
+        if slot < SLOT_COUNT {
             self.numbers[usize::from(slot)] = manager;
         }
     }
@@ -72,7 +70,7 @@ fn first_number(managers: u8, slot: u8) -> u8
 #[derive(Clone, Copy, PartialEq, Eq)]
 pub struct Promised {
     /// The epochs, by slot.
-    pub epochs: [u32; 8],
+    pub epochs: [u32; BY_SLOT],
     /// The managers.
     pub managers: Managers,
 }
@@ -83,7 +81,7 @@ impl Promised {
         ensures { result ≡ at_start managers }
     {
         Promised {
-            epochs: [1; 8],
+            epochs: [1; BY_SLOT],
             managers: Managers::start(managers),
         }
     }
@@ -113,7 +111,7 @@ impl Promised {
     pub fn promise(&mut self, slot: u8, epoch: u32, manager: u8)
         ensures { self.new ≡ promised_to self.old slot epoch manager }
     {
-        if slot < SLOTS {
+        if slot < SLOT_COUNT {
             self.epochs[usize::from(slot)] = epoch;
             self.managers.set(slot, manager);
         }

@@ -4,7 +4,7 @@
 //! that it takes, and the laws; `proofs/Invariant.antt` lists the groups of the invariant and is read first.
 //! Each function below is one law: it does nothing, and its contract holds of every run, that is, of every list of
 //! steps from a new log, whatever is lost, late, repeated or never delivered. A second, smaller machine is the
-//! index of one block. `docs/PROTOCOL.md` says which transition of which node is which step.
+//! index of one block. `docs/PROTOCOL_LOGS.md` says which transition of which node is which step.
 #![tactic(auto)]
 
 ghost use Rattle.std.specs.Prelude.{◌≡◌, ℕ, ◌<◌, ◌≤◌, suc, List, [], ◌∷◌};

@@ -19,6 +19,7 @@ use Rattle.xfs_base.specs.declared.segment.SegName.{SegName}
 use Rattle.xfs_base.proofs.Booleans.{by_test}
 use Rattle.xfs_base.proofs.StepLoops.{steps_keep}
 use Rattle.xfs_base.proofs.Alls.{all_append}
+use Rattle.xfs_base.specs.Segments.{names_none}
 use Rattle.log_scan.specs.declared.input.In.{In}
 use Rattle.log_scan.specs.declared.input.In.TheVariants.{Welcome, Fenced, Got, Missing, Maps, Tick}
 use Rattle.log_scan.specs.declared.listing.Listing.{Listing}
@@ -30,7 +31,7 @@ use Rattle.log_scan.specs.declared.stage.Stage.TheVariants.{Hails, Gathers, Asks
 use Rattle.log_scan.specs.Linked.{AreLinked, TellsLinked, state_after}
 use Rattle.log_scan.specs.Pick.{known_group, start_of}
 use Rattle.log_scan.specs.ScanState.{ScanState, started}
-use Rattle.log_scan.specs.Transition.{Done, goes, stays, can_ask, asks_anew, least_horizon, rises, name_at, target_at, names_none, is_bottom, read_from, end_below, with_segment, chain_of, fetches, begins_in, begins_round, follows, goes_on, awaits_welcome, awaits, awaited, fences, picks_at, picks, confirms_by, confirms, welcomed, on_welcome, with_list, on_fenced, heard_with, heard, on_told, asked_again, on_tick, takes, transition}
+use Rattle.log_scan.specs.Transition.{Done, goes, stays, can_ask, asks_anew, least_horizon, rises, name_at, target_at, prior_at, is_bottom, read_from, end_below, with_segment, chain_of, fetches, begins_in, begins_round, follows, goes_on, awaits_welcome, awaits, awaited, fences, picks_at, picks, confirms_by, confirms, welcomed, on_welcome, with_list, on_fenced, heard_with, heard, on_told, asked_again, on_tick, takes, transition}
 use Rattle.log_scan.proofs.Targets.{ReadsName, KeepsTarget, answered_keeps, confirmed_keeps}
 
 -- ---- links
@@ -143,7 +144,7 @@ module _ (log : LogId) where
         by_test (λ (d : Done). Keeps log d) (is_bottom o.low b.next) (goes o Over (chain_of b ∷ [])) (begins_round o b)
         (λ t. keeps_chain b so)
         (λ t. (
-        let below : o.low ≤ b.next.seq = ltb-false b.next.seq o.low (or_parts (nat_lt b.next.seq o.low) (names_none b.next) t).0 in
+        let below : o.low ≤ b.next.seq = ltb-false b.next.seq o.low (or_parts (nat_lt b.next.seq o.low) (names_none (prior_at b.next)) t).0 in
         keeps_begins b so (omega (arith, below, fact.low))
         ))
 

@@ -1,7 +1,6 @@
 -- A reading keeps what it looks for, and what it reads has that name.
-use Rattle.std.proofs.Common.{◌≡◌, ℕ, true, cond, ◌&&◌, Option, Some, None, refl, arith}
+use Rattle.std.proofs.Common.{◌≡◌, ℕ, cond, ◌&&◌, Option, Some, None, refl, sym}
 use Rattle.std.specs.Prelude.{Result, Ok, Err}
-use Rattle.std.proofs.lemmas.Bool.Decides.{nat_tests}
 use Rattle.group_map.specs.GroupMapState.{GroupMapState}
 use Rattle.segment_format.specs.declared.seg_error.SegError.{SegError}
 use Rattle.segment_format.specs.declared.segment.Segment.{Segment}
@@ -14,19 +13,11 @@ use Rattle.segment_reading.specs.Reading.{ReadingState, Step, is_target, is_know
 use Rattle.stripe_code.specs.declared.round.RoundState.{RoundState}
 use Rattle.stripe_code.specs.declared.round.RoundState.TheVariants as round
 use Rattle.stripe_code.specs.declared.round.Told.{Told}
-use Rattle.stripe_code.specs.Fragments.{same_name}
+use Rattle.xfs_base.specs.Segments.{same_name}
 use Rattle.stripe_code.specs.Round.{taken, state_of}
 use Rattle.xfs_base.specs.declared.segment.SegName.{SegName}
 use Rattle.xfs_base.proofs.Booleans.{by_test, and_first}
-
--- names that pass the test are one
-one_name : (a b : SegName) → same_name a b ≡ true → b ≡ a
-one_name a b h =
-    let log : b.log.0 ≡ a.log.0 = grind (arith, nat_tests) in
-    let seq : b.seq ≡ a.seq = grind (arith, nat_tests) in
-    let inc : b.pass.inc ≡ a.pass.inc = grind (arith, nat_tests) in
-    let att : b.pass.att ≡ a.pass.att = grind (arith, nat_tests) in
-    λ i. record { log = record { 0 = log i }; seq = seq i; pass = record { inc = inc i; att = att i } }
+use Rattle.xfs_base.proofs.SegmentNames.{one_name}
 
 -- a segment that is read has this name
 abbrev pub ReadsName : SegName → Next → Type 0
@@ -45,7 +36,7 @@ as_found r groups s =
     by_test (λ (o : Option Segment). KeepsTarget r (read_as r o)) (is_target r.target groups s) (Some s) None
     (λ t. record {
       same = refl;
-      name = one_name r.target.seg.name s.name (and_first (same_name r.target.seg.name s.name) (is_known groups s.prior && has_block r.target.block s) t);
+      name = sym (one_name r.target.seg.name s.name (and_first (same_name r.target.seg.name s.name) (is_known groups s.prior && has_block r.target.block s) t));
     })
     (λ t. record { same = refl; name = tt })
 

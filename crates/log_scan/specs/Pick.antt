@@ -7,8 +7,8 @@ use Rattle.std.specs.declared.cmp.Ordering.{Ordering}
 use Rattle.group_map.specs.declared.group.Group.{Group}
 use Rattle.group_map.specs.declared.group.Member.{Member}
 use Rattle.group_map.specs.GroupMapState.{GroupMapState}
-use Rattle.group_map.specs.Groups.{group_of}
-use Rattle.stripe_code.specs.Fragments.{same_name}
+pub use Rattle.group_map.specs.Groups.{known_group}
+use Rattle.xfs_base.specs.Segments.{same_name}
 use Rattle.xfs_base.specs.declared.fragment.FragMeta.{FragMeta}
 use Rattle.xfs_base.specs.declared.segment.End.{End}
 use Rattle.xfs_base.specs.declared.segment.SegName.{SegName}
@@ -64,11 +64,6 @@ end_of_none seq = record { seq = seq; pass = record { inc = 0; att = 0 }; group 
 
 abbrev pub start_in : List Listing → FragMeta → Group → End
 start_in lists m group = if is_torn lists m.name group.members then end_before m else end_at m
-
--- the group of this id, where groups are known and it is among them
-abbrev pub known_group : Option GroupMapState → ℕ → Option Group
-known_group None id = None
-known_group (Some groups) id = group_of groups id
 
 abbrev pub start_from : Option GroupMapState → List Listing → ℕ → Option FragMeta → Option End
 start_from groups lists low None = Some (end_of_none (low - 1))

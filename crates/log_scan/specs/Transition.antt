@@ -18,6 +18,7 @@ use Rattle.xfs_base.specs.declared.segment.Prior.{Prior}
 use Rattle.xfs_base.specs.declared.segment.SegName.{SegName}
 use Rattle.xfs_base.specs.Limits.{u32_end}
 use Rattle.xfs_base.specs.Steps.{Stepped}
+use Rattle.xfs_base.specs.Segments.{names_none}
 use Rattle.log_scan.specs.declared.input.In.{In}
 use Rattle.log_scan.specs.declared.input.In.TheVariants as input
 use Rattle.log_scan.specs.declared.listing.Listing.{Listing}
@@ -76,13 +77,12 @@ name_at log e = record { log = log; seq = e.seq; pass = e.pass }
 abbrev pub target_at : LogId → End → Target
 target_at log e = record { seg = record { name = name_at log e; group = e.group }; block = None }
 
--- no segment is named
-abbrev pub names_none : End → Bool
-names_none e = (e.pass.inc == 0) && ((e.pass.att == 0) && (e.group == 0))
+abbrev pub prior_at : End → Prior
+prior_at e = record { pass = e.pass; group = e.group }
 
 -- nothing is read there: it is below the horizon, or no segment is named
 abbrev pub is_bottom : ℕ → End → Bool
-is_bottom low e = nat_lt e.seq low || names_none e
+is_bottom low e = nat_lt e.seq low || names_none (prior_at e)
 
 abbrev pub read_from : End → Backward
 read_from start = record { start = start; next = start; chain = [] }
@@ -93,9 +93,6 @@ end_below s = record { seq = s.name.seq - 1; pass = s.prior.pass; group = s.prio
 
 abbrev pub with_segment : Backward → Segment → Backward
 with_segment b s = record b { next = end_below s; chain = b.chain ++ s ∷ [] }
-
-abbrev pub prior_at : End → Prior
-prior_at e = record { pass = e.pass; group = e.group }
 
 abbrev pub chain_of : Backward → Out
 chain_of b = Chain (reverse b.chain) b.start (prior_at b.start)

@@ -2,13 +2,13 @@
 ghost use Rattle.std.specs.Prelude.{◌≡◌, ◌++◌, ◌<◌, IfOk, OnOk, Some, map};
 ghost use Rattle.xfs_base.specs.Limits.{u32_end};
 ghost use Rattle.log_scan.specs.declared.output.Out.TheVariants.{Fetch};
-ghost use Rattle.log_scan.specs.Transition.{read_from, end_below, with_segment, chain_of, fetches, target_at, names_none, is_bottom, begins_round, follows, goes_on, confirms, heard_with, heard};
+ghost use Rattle.log_scan.specs.Transition.{read_from, end_below, with_segment, chain_of, fetches, target_at, prior_at, is_bottom, begins_round, follows, goes_on, confirms, heard_with, heard};
 
 use crate::Out;
-use crate::opening::{Opening, known_group};
+use crate::opening::Opening;
 use crate::stage::{Backward, Stage};
 use segment_format::Segment;
-use segment_reading::{Next, Reading, Target};
+use segment_reading::{Next, Reading, Target, known_group};
 use std::alloc::Global;
 use stripe_code::Told;
 use xfs_base::{End, List, LogId, Mem, Prior, SegName, SegRef};
@@ -48,10 +48,7 @@ impl Backward {
         Out::Chain {
             segments: List::from_vec(segments),
             end: self.start,
-            prior: Prior {
-                pass: self.start.pass,
-                group: self.start.group,
-            },
+            prior: prior_at(self.start),
         }
     }
 }
@@ -285,16 +282,18 @@ fn target_at(log: LogId, end: End) -> Target
     }
 }
 
-// Whether no segment is named.
-fn names_none(end: End) -> bool
-    ensures { result ≡ names_none end }
+fn prior_at(end: End) -> Prior
+    ensures { result ≡ prior_at end }
 {
-    end.pass.inc == 0 && end.pass.att == 0 && end.group == 0
+    Prior {
+        pass: end.pass,
+        group: end.group,
+    }
 }
 
 // Whether nothing is read there: it is below the horizon, or no segment is named.
 fn is_bottom(low: u32, end: End) -> bool
     ensures { result ≡ is_bottom low end }
 {
-    end.seq < low || names_none(end)
+    end.seq < low || prior_at(end).names_none()
 }

@@ -1,15 +1,13 @@
 //! What an opening keeps wherever it stands.
-ghost use Rattle.std.specs.Prelude.{◌≡◌, ◌++◌, ◌∷◌, [], ◌<◌, IfOk, IfSome, OnOk, MatchOption, Some, None, length, max};
-ghost use Rattle.stripe_code.specs.Stripe.{IsCut};
+ghost use Rattle.std.specs.Prelude.{◌≡◌, ◌++◌, ◌∷◌, [], ◌<◌, IfOk, OnOk, Some, None, max};
 ghost use Rattle.xfs_base.specs.Limits.{u32_end};
 ghost use Rattle.log_scan.specs.declared.output.Out.TheVariants.{Hello};
-ghost use Rattle.log_scan.specs.Pick.{known_group};
 ghost use Rattle.log_scan.specs.ScanState.{begun};
 ghost use Rattle.log_scan.specs.Transition.{can_ask, drawn, rises, server_count, awaits, awaited};
 
 use crate::Out;
 use crate::listing::{Listing, has_list};
-use group_map::{Group, GroupMap};
+use group_map::GroupMap;
 use std::alloc::Global;
 use xfs_base::{List, LogId, Mem};
 
@@ -106,19 +104,5 @@ fn server_count(groups: &Option<GroupMap>) -> u8
     match groups {
         None => 0,
         Some(groups) => groups.servers(),
-    }
-}
-
-/// The group of this id, where groups are known and it is among them.
-pub(crate) fn known_group(groups: &Option<GroupMap>, id: u32) -> Option<&Group>
-    ensures group { MatchOption result (known_group groups.now id ≡ None) (λ group. known_group groups.now id ≡ Some group.now) }
-    ensures cut { IfSome result (λ group. IsCut (length group.now.members) group.now.parity) }
-{
-    match groups {
-        None => None,
-        Some(groups) => match groups.lookup(id) {
-            Ok(group) => Some(group),
-            Err(_) => None,
-        },
     }
 }

@@ -4,8 +4,8 @@ ghost use Rattle.std.specs.List.{list_any};
 ghost use Rattle.log_scan.specs.Pick.{above, counting, is_newer, newest, lacks, is_torn, end_at, end_before, end_of_none, start_in, start_of};
 
 use crate::listing::Listing;
-use crate::opening::known_group;
 use group_map::{Group, GroupMap, Member};
+use segment_reading::known_group;
 use xfs_base::{End, FragMeta, Pass, SegName};
 
 /// Where the log goes on: behind the newest segment that is listed and not below the horizon, or behind

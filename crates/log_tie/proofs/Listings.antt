@@ -9,12 +9,12 @@ use Rattle.xfs_base.specs.declared.segment.SegName.{SegName}
 use Rattle.xfs_base.proofs.Booleans.{contrary, and_first, and_second, not_true, or_first, or_second, equal_itself}
 use Rattle.xfs_base.proofs.Members.{contains_nothing, contains_first, contains_rest, contains_cases}
 use Rattle.group_map.specs.declared.group.Member.{Member}
-use Rattle.stripe_code.specs.Fragments.{same_name}
+use Rattle.xfs_base.specs.Segments.{same_name}
 use Rattle.log_protocol.specs.Tables.{In}
 use Rattle.log_scan.specs.declared.listing.Listing.{Listing}
 use Rattle.log_scan.specs.Pick.{above, counting, has_name, has_list, lacks, is_torn}
 use Rattle.log_tie.specs.Setting.{server_of, generation_of}
-use Rattle.log_tie.proofs.Names.{one_name}
+use Rattle.xfs_base.proofs.SegmentNames.{one_name, same_itself}
 
 -- ---- two words for membership
 
@@ -102,9 +102,6 @@ listed_counted low (k ∷ ks) l x (inr of) fact up = in_back x (above low k.held
 
 pub named_in : (name : SegName) (ms : List FragMeta) → has_name name ms ≡ true → (x : FragMeta) × In x ms × (x.name ≡ name)
 named_in name ms h = let x = some_passes (λ m. same_name m.name name) ms h in (x.0, x.1, one_name x.0.name name x.2)
-
-pub same_itself : (n : SegName) → same_name n n ≡ true
-same_itself n = grind (arith, nat_tests)
 
 pub in_named : (ms : List FragMeta) (x : FragMeta) → In x ms → has_name x.name ms ≡ true
 in_named ms x fact = it_passes (λ m. same_name m.name x.name) ms x fact (same_itself x.name)

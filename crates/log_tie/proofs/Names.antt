@@ -1,22 +1,10 @@
 -- Names and their numbers.
-use Rattle.std.proofs.Common.{◌≡◌, ℕ, zero, suc, ◌==◌, ◌<◌, Bool, true, false, cond, ◌&&◌, refl, sym, ap, arith}
-use Rattle.std.proofs.lemmas.Bool.{eqb-true, ne_eqb}
+use Rattle.std.proofs.Common.{◌≡◌, ℕ, zero, suc, ◌==◌, ◌<◌, Bool, true, false, cond, refl, sym, ap, arith}
+use Rattle.std.proofs.lemmas.Bool.{ne_eqb}
 use Rattle.xfs_base.specs.declared.segment.Pass.{Pass}
 use Rattle.xfs_base.specs.declared.segment.SegName.{SegName}
-use Rattle.xfs_base.proofs.Booleans.{contrary, and_first, and_second}
-use Rattle.stripe_code.specs.Fragments.{same_pass, same_name}
+use Rattle.xfs_base.proofs.Booleans.{contrary}
 use Rattle.log_tie.specs.Setting.{Setting, name_of, point}
-
--- a name that is tested equal is the name
-pub one_name : (a b : SegName) → same_name a b ≡ true → a ≡ b
-one_name a b h =
-    let log = eqb-true a.log.0 b.log.0 (and_first (a.log.0 == b.log.0) ((a.seq == b.seq) && same_pass a.pass b.pass) h) in
-    let rest = and_second (a.log.0 == b.log.0) ((a.seq == b.seq) && same_pass a.pass b.pass) h in
-    let seq = eqb-true a.seq b.seq (and_first (a.seq == b.seq) (same_pass a.pass b.pass) rest) in
-    let pass = and_second (a.seq == b.seq) (same_pass a.pass b.pass) rest in
-    let inc = eqb-true a.pass.inc b.pass.inc (and_first (a.pass.inc == b.pass.inc) (a.pass.att == b.pass.att) pass) in
-    let att = eqb-true a.pass.att b.pass.att (and_second (a.pass.inc == b.pass.inc) (a.pass.att == b.pass.att) pass) in
-    λ i. record { log = record { 0 = log i }; seq = seq i; pass = record { inc = inc i; att = att i } }
 
 module _ (g : Setting) where
   -- a number is the code of what it says

@@ -8,6 +8,7 @@ use Rattle.xfs_base.specs.declared.segment.End.{End}
 use Rattle.xfs_base.specs.declared.segment.LogId.{LogId}
 use Rattle.xfs_base.specs.declared.segment.SegName.{SegName}
 use Rattle.xfs_base.proofs.Booleans.{by_test, and_first}
+use Rattle.xfs_base.specs.Segments.{names_none}
 use Rattle.segment_format.specs.declared.segment.Segment.{Segment}
 use Rattle.segment_format.specs.ReadingItems.{answer_of}
 use Rattle.group_map.specs.declared.group.Group.{Group}
@@ -33,7 +34,7 @@ use Rattle.log_scan.specs.declared.stage.Backward.{Backward}
 use Rattle.log_scan.specs.declared.stage.Stage.{Stage}
 use Rattle.log_scan.specs.declared.stage.Stage.TheVariants.{Asks, Reads, Over}
 use Rattle.log_scan.specs.Pick.{has_list, known_group}
-use Rattle.log_scan.specs.Transition.{Done, goes, stays, drawn, asks_anew, name_at, target_at, is_bottom, end_below, with_segment, chain_of, fetches, begins_in, begins_round, follows, goes_on, fences, names_none}
+use Rattle.log_scan.specs.Transition.{Done, goes, stays, drawn, asks_anew, name_at, target_at, is_bottom, end_below, with_segment, chain_of, fetches, begins_in, begins_round, follows, goes_on, fences, prior_at}
 use Rattle.log_scan.proofs.Targets.{ReadsName, answered_keeps, confirmed_keeps}
 use Rattle.log_protocol.specs.LogLaws.{Reached}
 use Rattle.log_protocol.specs.State.{State}
@@ -223,7 +224,7 @@ module _ (g : Setting) (v : State) (book : ℕ → Segment) (hellos : List Asked
       → (point g b.next.seq b.next.pass ≡ 0) ⊎ (b.start.seq < v.read_low + length (reverse b.chain))
   bottom_told o b h t = by (nat_lt b.next.seq o.low) refl t
     where
-      by : (p : Bool) → nat_lt b.next.seq o.low ≡ p → (p || names_none b.next) ≡ true
+      by : (p : Bool) → nat_lt b.next.seq o.low ≡ p → (p || names_none (prior_at b.next)) ≡ true
           → (point g b.next.seq b.next.pass ≡ 0) ⊎ (b.start.seq < v.read_low + length (reverse b.chain))
       by true e k = inr (let a = ltb-true b.next.seq o.low e in let c = h.seq in let d = h.low in omega arith)
       by false e k =

@@ -37,7 +37,8 @@ use Rattle.log_tie.specs.Setting.{Setting, fragment_of}
 use Rattle.log_tie.specs.Seen.{Book}
 use Rattle.log_tie.specs.Shelves.{is_of_log, IsPiece}
 use Rattle.log_tie.specs.Rounds.{IsSpelled, IsGrouped, ToldPiece, AllTold, RoundShown}
-use Rattle.log_tie.proofs.Names.{one_name, one_number}
+use Rattle.xfs_base.proofs.SegmentNames.{one_name}
+use Rattle.log_tie.proofs.Names.{one_number}
 
 -- ---- a stripe has as many fragments as there are members
 

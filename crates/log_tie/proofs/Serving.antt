@@ -15,7 +15,7 @@ use Rattle.log_protocol.specs.Step.Steps.{Done, More}
 use Rattle.log_protocol.specs.LogLaws.{Reached}
 use Rattle.group_map.specs.GroupMapState.{GroupMapState}
 use Rattle.indexmap.specs.IndexMap.{insert_entry}
-use Rattle.stripe_code.specs.Fragments.{same_name}
+use Rattle.xfs_base.specs.Segments.{same_name}
 use Rattle.log_flight.specs.declared.dirty.Change.{Change}
 use Rattle.log_flight.specs.declared.flight.Fate.{Fate}
 use Rattle.log_flight.specs.declared.flight.Fate.TheVariants.{Restripe, Settle, Wait}
@@ -38,7 +38,8 @@ use Rattle.xfs_base.proofs.Booleans.{contrary, and_first, by_test as pick}
 use Rattle.log_tie.specs.Setting.{Setting, present_at}
 use Rattle.log_tie.specs.Seen.{EndFollows, Book, Flying, FlightShown, Serves, ByOwner, Goes, Fixed, Others, others_of, Standing}
 use Rattle.log_tie.specs.Inputs.{StoredSeen, MapSeen, TakesInputs}
-use Rattle.log_tie.proofs.Names.{one_name, one_number}
+use Rattle.xfs_base.proofs.SegmentNames.{one_name}
+use Rattle.log_tie.proofs.Names.{one_number}
 use Rattle.log_protocol.specs.Tables.{put}
 use Rattle.log_protocol.proofs.Induction.{always}
 use Rattle.log_tie.proofs.Frames.{steps_through, by_through, goes_nowhere, goes_through}

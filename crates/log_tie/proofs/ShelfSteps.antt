@@ -12,7 +12,7 @@ use Rattle.std.proofs.lemmas.Bool.{eqb-true}
 use Rattle.segment_format.specs.declared.segment.Segment.{Segment}
 use Rattle.segment_format.specs.Text.{text_of}
 use Rattle.fragment_store.specs.declared.store_error.StoreError.TheVariants.{WrongGeneration, Marked, Fenced}
-use Rattle.fragment_store.proofs.Names.{one_name}
+use Rattle.xfs_base.proofs.SegmentNames.{one_name}
 use Rattle.fragment_store.specs.ShelfState.{ShelfState, same_name, log_cmp, held_at, is_held, is_marked, fence_of}
 use Rattle.fragment_store.specs.Calls.{with_fragment, kept, on_delete, on_lose}
 use Rattle.log_protocol.specs.LogLaws.{Reached}

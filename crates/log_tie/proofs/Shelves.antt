@@ -11,7 +11,7 @@ use Rattle.xfs_base.proofs.Booleans.{contrary, equal_itself}
 use Rattle.segment_format.specs.declared.segment.Segment.{Segment}
 use Rattle.fragment_store.specs.ShelfState.{ShelfState, same_name, held_at, is_held, is_marked}
 use Rattle.fragment_store.specs.Calls.{with_fragment, on_delete, on_lose}
-use Rattle.fragment_store.proofs.Names.{one_name, same_itself}
+use Rattle.xfs_base.proofs.SegmentNames.{one_name, same_itself}
 use Rattle.fragment_store.proofs.Tables.{held-with, held-without, is_marked-with}
 use Rattle.log_tie.specs.Setting.{Setting, name_of, fragment_of}
 use Rattle.log_tie.specs.Shelves.{Kept, IsPiece, AllPieces, Shelved, flag, is_of_log}

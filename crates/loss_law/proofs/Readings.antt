@@ -7,6 +7,7 @@ use Rattle.xfs_base.specs.declared.segment.End.{End}
 use Rattle.xfs_base.specs.declared.segment.SegName.{SegName}
 use Rattle.xfs_base.specs.declared.segment.SegRef.{SegRef}
 use Rattle.xfs_base.proofs.Booleans.{by_test}
+use Rattle.xfs_base.specs.Segments.{names_none}
 use Rattle.segment_format.specs.declared.segment.Segment.{Segment}
 use Rattle.segment_format.specs.ReadingItems.{answer_of}
 use Rattle.group_map.specs.declared.group.Group.{Group}
@@ -217,7 +218,7 @@ module _ (g : Setting) (Was Now : SegRef → Type 0) (start n o : Net) (run : Ru
     unfolding scan.confirms reading.on_confirmed
     confirmed p like reached =
         by_test Goes (scan.is_bottom p.low b.next) (goes p Over (scan.chain_of b ∷ [])) (scan.confirms_by p b (Some r)) (λ t. over_goes p b)
-        (λ t. decided p r.stage like reached (no_lower p.low b.next.seq (or_parts (nat_lt b.next.seq p.low) (scan.names_none b.next) t).0) k.stage)
+        (λ t. decided p r.stage like reached (no_lower p.low b.next.seq (or_parts (nat_lt b.next.seq p.low) (names_none (scan.prior_at b.next)) t).0) k.stage)
 
     -- ---- an answer
 

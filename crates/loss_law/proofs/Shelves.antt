@@ -11,7 +11,7 @@ use Rattle.xfs_base.proofs.Booleans.{contrary, by_test, equal_itself}
 use Rattle.std.specs.BTreeMap.{insert_entry}
 use Rattle.fragment_store.specs.ShelfState.{ShelfState, same_name, log_cmp, held_at, is_held, is_marked, fence_of}
 use Rattle.fragment_store.specs.Calls.{with_fragment, kept, on_fence, on_delete}
-use Rattle.fragment_store.proofs.Names.{one_name}
+use Rattle.xfs_base.proofs.SegmentNames.{one_name}
 use Rattle.fragment_store.proofs.Tables.{held-with, held-without}
 use Rattle.log_protocol.specs.Tables.{In}
 use Rattle.log_tie.specs.Setting.{Setting}

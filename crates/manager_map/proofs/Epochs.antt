@@ -9,7 +9,7 @@ use Rattle.std.proofs.Math.ListN.{length-set}
 use Rattle.manager_map.specs.declared.entry.SlotEntry.{SlotEntry}
 use Rattle.manager_map.specs.Slots.{first_entry, start_entries, entry_at, next_entry, after_move}
 use Rattle.manager_map.specs.Moves.{Move, after_moves, moves_of}
-use Rattle.xfs_base.specs.Limits.{u32_end}
+use Rattle.xfs_base.specs.Limits.{u32_end, slot_count}
 
 -- the second entry may follow the first: its epoch is not below, and under the same epoch it is the same
 pub record Follows (before now : SlotEntry) : Type 0 where
@@ -97,7 +97,7 @@ moves_epoch slots (move ∷ moves) slot within small =
     u32_end one count
 
 -- every slot starts under epoch 1
-pub start_epoch : (managers : ℕ) (slot : ℕ) → slot < 8 → (entry_at (start_entries managers) slot).epoch ≡ 1
+pub start_epoch : (managers : ℕ) (slot : ℕ) → slot < slot_count → (entry_at (start_entries managers) slot).epoch ≡ 1
 start_epoch managers slot within = first_epoch 0 8 slot within
   where
     first_epoch : (from n at : ℕ) → at < n → (entry_at (map (first_entry managers) (range_with_len from n)) at).epoch ≡ 1

@@ -1,7 +1,7 @@
 -- The manager map, as the entries of its slots in order.
 use Rattle.std.specs.Prelude.{ℕ, ◌+◌, ◌%◌, List, map, if◌then◌else◌, nat_lt, slice_get, slice_set, unwrap_or}
 use Rattle.std.specs.List.{range_with_len}
-use Rattle.xfs_base.specs.Limits.{u32_end}
+use Rattle.xfs_base.specs.Limits.{u32_end, slot_count}
 use Rattle.manager_map.specs.declared.entry.SlotEntry.{SlotEntry}
 
 -- where a slot starts: epoch 1, and the managers in turn
@@ -10,7 +10,7 @@ first_entry managers slot = record { epoch = 1; manager = slot % managers + 1 }
 
 -- the entries of slots 0 to 7 as they start
 abbrev pub start_entries : ℕ → List SlotEntry
-start_entries managers = map (first_entry managers) (range_with_len 0 8)
+start_entries managers = map (first_entry managers) (range_with_len 0 slot_count)
 
 -- what a slot has; a slot that there isn't has epoch 0 and manager 0
 abbrev pub entry_at : List SlotEntry → ℕ → SlotEntry

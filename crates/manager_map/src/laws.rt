@@ -1,6 +1,6 @@
 //! What holds over any list of calls.
 ghost use Rattle.std.specs.Prelude.{◌≡◌, ◌<◌, ◌≤◌, ◌+◌, ℕ, List, min};
-ghost use Rattle.xfs_base.specs.Limits.{u32_end};
+ghost use Rattle.xfs_base.specs.Limits.{u32_end, slot_count};
 ghost use Rattle.manager_map.specs.declared.entry.SlotEntry.{SlotEntry};
 ghost use Rattle.manager_map.specs.Slots.{start_entries, entry_at};
 ghost use Rattle.manager_map.specs.Moves.{Move, after_moves, moves_of};
@@ -14,6 +14,6 @@ pub fn epochs_never_fall()
     ensures one_manager { (slots : List SlotEntry) (moves : List Move) (slot : ℕ)
         → (entry_at (after_moves slots moves) slot).epoch ≡ (entry_at slots slot).epoch
         → entry_at (after_moves slots moves) slot ≡ entry_at slots slot }
-    ensures counted { (managers : ℕ) (moves : List Move) (slot : ℕ) → slot < 8
+    ensures counted { (managers : ℕ) (moves : List Move) (slot : ℕ) → slot < slot_count
         → (entry_at (after_moves (start_entries managers) moves) slot).epoch ≡ min (1 + moves_of slot moves) u32_end }
 {}

@@ -6,10 +6,8 @@ ghost use Rattle.manager_map.specs.Slots.{start_entries, entry_at, after_move};
 
 use crate::SlotEntry;
 use std::marker::Model;
+use xfs_base::limits::BY_SLOT;
 use xfs_base::{Crosses, Ino};
-
-/// How many slots there are.
-const SLOTS: usize = 8;
 
 /// No slot has this number: they are 0 to 7.
 #[derive(Clone, Copy, PartialEq, Eq)]
@@ -19,18 +17,19 @@ pub struct BadSlot;
 /// index number into its manager). Contracts see it as the entries of slots 0 to 7.
 #[derive(Clone, Copy, PartialEq, Eq)]
 pub struct ManagerMap {
-    slots: [SlotEntry; SLOTS],
+    slots: [SlotEntry; BY_SLOT],
 }
 
 impl Model for ManagerMap {
     ghost use Rattle.std.specs.Prelude.{List, ◌≡◌, length};
+    ghost use Rattle.xfs_base.specs.Limits.{slot_count};
     ghost use Rattle.manager_map.specs.declared.entry.SlotEntry.{SlotEntry};
 
     ghost Value = { List SlotEntry };
 
     ghost view = { λ m. m.slots };
 
-    ghost invariant = { λ m. length m.slots ≡ 8 };
+    ghost invariant = { λ m. length m.slots ≡ slot_count };
 
     ghost inverse = { λ slots. record { slots = slots } };
 }
@@ -73,7 +72,7 @@ impl ManagerMap {
         ensures raised { (entry_at self.old slot).epoch < u32_end
             → IfOk result (λ epoch. epoch ≡ (entry_at self.old slot).epoch + 1) }
     {
-        if usize::from(slot) >= SLOTS {
+        if usize::from(slot) >= BY_SLOT {
             return Err(BadSlot);
         }
         let entry = self.slots[usize::from(slot)].moved(manager);

@@ -1,5 +1,5 @@
 -- Where a manager stands, and what its next item makes of it.
-use Rattle.std.specs.Prelude.{ℕ, Bool, [], ◌∷◌, ◌++◌, Option, Some, None}
+use Rattle.std.specs.Prelude.{ℕ, Bool, true, false, [], ◌∷◌, ◌++◌, Option, Some, None}
 use Rattle.log_owner.specs.Sending.{hello}
 use Rattle.manager_slots.specs.declared.lasting.Lasting.{Lasting as Kept}
 use Rattle.manager_slots.specs.Lasting.{kept_has_room, with_answer}
@@ -24,6 +24,12 @@ use Rattle.manager_node.specs.declared.phase.Phase.TheVariants.{Down, Waiting, S
 -- the phase of a manager after an event, and what the event has it do
 abbrev pub Went_to : Type 0
 Went_to = Stepped Phase Effect
+
+-- whether a manager serves: it neither is down nor awaits its Welcome
+abbrev pub is_serving : Phase → Bool
+is_serving (Down kept) = false
+is_serving (Waiting kept hello) = false
+is_serving (Serves s) = true
 
 -- what outlives a crash
 abbrev pub lasting_of : Phase → Kept

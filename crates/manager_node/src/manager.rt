@@ -1,7 +1,7 @@
 //! The manager.
 ghost use Rattle.std.specs.Prelude.{◌≡◌, ◌++◌, IfOk, OnOk};
 ghost use Rattle.node_base.specs.Setups.{IsSetup};
-ghost use Rattle.manager_node.specs.Phases.{on_begin};
+ghost use Rattle.manager_node.specs.Phases.{is_serving, on_begin};
 ghost use Rattle.node_base.specs.Maps.{forgotten};
 ghost use Rattle.manager_node.specs.Events.{first_manager, takes_welcome, on_welcome, on_waiting, on_packet, on_deliver, on_time, on_event, happens, manager_step};
 ghost use Rattle.manager_serving.specs.Serving as servings;
@@ -34,6 +34,13 @@ impl Drop for Manager {
 }
 
 impl Manager {
+    /// Whether it serves: it neither is down nor awaits its Welcome.
+    pub fn is_serving(&self) -> bool
+        ensures { result ≡ is_serving self.now.phase }
+    {
+        self.phase.is_serving()
+    }
+
     /// A manager at the start of a run: it manages its slots, in which nothing has happened.
     pub fn start(alloc: Global, number: u8, setup: &Setup, items: List<Work>) -> Mem<Manager>
         requires { IsSetup setup.now }
@@ -94,7 +101,7 @@ fn on_event(
             phase.turn_to(begun);
             Ok(())
         }
-        Do::Deliver(packet) => on_deliver(alloc, effects, peers, phase, packet),
+        Do::Deliver(packet) => on_deliver(alloc, effects, peers, phase, packet.as_packet()),
         Do::Tick => on_time(alloc, effects, phase),
     }
 }

@@ -1,6 +1,6 @@
 //! Where a manager stands.
 ghost use Rattle.std.specs.Prelude.{◌≡◌};
-ghost use Rattle.manager_node.specs.Phases.{lasting_of, phase_has_room, waiting_of};
+ghost use Rattle.manager_node.specs.Phases.{is_serving, lasting_of, phase_has_room, waiting_of};
 
 use manager_serving::Serving;
 use manager_slots::Lasting;
@@ -61,6 +61,17 @@ impl Phase {
         ensures { self.new ≡ phase }
     {
         drop(mem::replace(self, phase));
+    }
+
+    /// Whether the manager serves.
+    pub fn is_serving(&self) -> bool
+        ensures { result ≡ is_serving self.now }
+    {
+        match self {
+            Phase::Down(_) => false,
+            Phase::Waiting(_, _) => false,
+            Phase::Serving(_) => true,
+        }
     }
 
     /// What outlives a crash.

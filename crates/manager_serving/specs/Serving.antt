@@ -34,6 +34,7 @@ use Rattle.xfs_base.specs.declared.news.SlotNews.{SlotNews}
 use Rattle.xfs_base.specs.declared.node.NodeId.{NodeId}
 use Rattle.xfs_base.specs.declared.node.NodeId.TheVariants.{Client, Manager, Server, Cleaner, Registry}
 use Rattle.xfs_base.specs.declared.segment.LogId.{LogId}
+use Rattle.xfs_base.specs.Logs as logs
 use Rattle.xfs_base.specs.Steps.{still, saying}
 use Rattle.manager_serving.specs.Checkpoints.{Done, gives, writes, on_stored, on_ckpt_ack, tells_again}
 use Rattle.manager_serving.specs.declared.serving.Serving.{Serving}
@@ -92,10 +93,10 @@ client_in Registry = None
 
 -- the log that a client or the cleaner feeds to managers
 abbrev pub fed_log : NodeId → Option LogId
-fed_log (Client n) = Some (record { 0 = n })
+fed_log (Client n) = Some (logs.log_of (Client n))
 fed_log (Manager n) = None
 fed_log (Server n) = None
-fed_log Cleaner = Some (record { 0 = 9 })
+fed_log Cleaner = Some (logs.log_of Cleaner)
 fed_log Registry = None
 
 unfoldable pub on_want : Serving → Option ℕ → Want → Done

@@ -19,8 +19,7 @@ pub fn fed_log(from: NodeId) -> Option<LogId>
     ensures { result ≡ fed_log from }
 {
     match from {
-        NodeId::Client(number) => Some(LogId(number)),
-        NodeId::Cleaner => Some(LogId(9)),
+        NodeId::Client(_) | NodeId::Cleaner => Some(from.log()),
         NodeId::Manager(_) | NodeId::Server(_) | NodeId::Registry => None,
     }
 }

@@ -20,7 +20,7 @@ use takeover::In;
 use wire_msg::{
     Body, Check, Deltas, Found, Gave, Missing, News, Packet, Report, UsageAsk, Want, Welcome,
 };
-use xfs_base::{End, LogId, Mem, NodeId, Pass, SlotNews};
+use xfs_base::{End, LogId, Mem, NodeId, SlotNews};
 
 /// What a manager has that serves: it lasts from the start of a run, or from the Welcome of its boot, to its
 /// crash.
@@ -60,13 +60,6 @@ impl Drop for Serving {
         drop(checkpoint);
     }
 }
-
-/// The end of a log in which nothing is settled.
-const NO_END: End = End {
-    seq: 0,
-    pass: Pass { inc: 0, att: 0 },
-    group: 0,
-};
 
 impl Serving {
     /// What outlives a crash; all else is lost.
@@ -526,7 +519,7 @@ fn first_log(alloc: Global, name: LogId, inc: u32, groups: GroupMap) -> Mem<(Log
     ensures log { IfOk result (λ made. made.0 ≡ logs.started name inc no_end groups) }
     ensures writer { IfOk result (λ made. made.1 ≡ writers.started name) }
 {
-    let log = Log::start(alloc, name, inc, NO_END, groups)?;
+    let log = Log::start(alloc, name, inc, End::none(), groups)?;
     match Writer::start(alloc, name) {
         Ok(writer) => Ok((log, writer)),
         Err(error) => {

@@ -1,5 +1,6 @@
 -- What a manager has of a slot.
 use Rattle.std.specs.Prelude.{ℕ, Bool, true, false, ◌&&◌, [], Option, None, replicate}
+use Rattle.xfs_base.specs.Limits.{block_logs}
 use Rattle.node_base.specs.Asking.{own_of}
 use Rattle.node_base.specs.Room.{has_room, has_long_room}
 use Rattle.token_manager.specs.SlotState.{SlotState}
@@ -52,7 +53,7 @@ managed s = phase.Active (record { slot = s; parts = [] })
 
 -- a slot that is managed from the start of a run: nothing has happened in it
 abbrev pub first_active : SlotPhase
-first_active = managed (started 1 [] [] (replicate 9 0))
+first_active = managed (started 1 [] [] (replicate block_logs 0))
 
 -- a slot of which the tokens and the index have changed
 abbrev pub with_slot : Active → SlotState → SlotPhase

@@ -1,6 +1,6 @@
 -- What a manager does for the clients and the cleaner in a slot: which input its slot is handed at each event,
 -- and what is sent of what the slot says.
-use Rattle.std.specs.Prelude.{ℕ, ◌==◌, if◌then◌else◌, List, [], ◌∷◌}
+use Rattle.std.specs.Prelude.{ℕ, List, [], ◌∷◌}
 use Rattle.std.specs.List.{flat_map}
 use Rattle.wire_msg.specs.declared.body.Body.{Body}
 use Rattle.wire_msg.specs.declared.body.Body.TheVariants as body
@@ -9,11 +9,11 @@ use Rattle.wire_msg.specs.declared.cleaning.UsageAsk.{UsageAsk}
 use Rattle.wire_msg.specs.declared.deltas.Deltas.{Deltas}
 use Rattle.wire_msg.specs.declared.tokens.Gave.{Gave}
 use Rattle.wire_msg.specs.declared.tokens.Want.{Want}
-use Rattle.xfs_base.specs.declared.node.NodeId.{NodeId}
 use Rattle.xfs_base.specs.declared.node.NodeId.TheVariants.{Client, Cleaner}
 use Rattle.xfs_base.specs.declared.segment.LogId.{LogId}
 use Rattle.xfs_base.specs.declared.segment.SegName.{SegName}
 use Rattle.xfs_base.specs.Blocks.{slot_of}
+use Rattle.xfs_base.specs.Logs.{block_writer}
 use Rattle.xfs_base.specs.Steps.{Stepped, still}
 use Rattle.node_base.specs.declared.effects.Effect.{Effect}
 use Rattle.node_base.specs.declared.effects.Effect.TheVariants.{Send}
@@ -32,10 +32,6 @@ Done = Stepped SlotPhase Effect
 
 -- ---- what a slot says
 
--- who writes a log: the cleaner, or a client
-abbrev pub owner_of : LogId → NodeId
-owner_of log = if log.0 == 9 then Cleaner else Client log.0
-
 abbrev pub grants : Out → List Effect
 grants (out.Grant client block stamp inc req mode entry) =
     Send (Client client) (body.Grant (record { block = block; stamp = stamp; inc = inc; req = req; mode = mode; entry = entry })) ∷ []
@@ -51,7 +47,7 @@ unfoldable pub said : ℕ → ℕ → Out → List Effect
 said slot epoch (out.Grant client block stamp inc req mode entry) = grants (out.Grant client block stamp inc req mode entry)
 said slot epoch (out.Forward client block stamp to inc req ver) = forwards (out.Forward client block stamp to inc req ver)
 said slot epoch (out.Recall client block stamp keep) = Send (Client client) (body.Recall (record { block = block; stamp = stamp; keep = keep })) ∷ []
-said slot epoch (out.Applied log applied) = Send (owner_of log) (body.DeltaAck (record { slot = slot; epoch = epoch; applied = applied })) ∷ []
+said slot epoch (out.Applied log applied) = Send (block_writer log.0) (body.DeltaAck (record { slot = slot; epoch = epoch; applied = applied })) ∷ []
 said slot epoch (out.Live entry) = []
 said slot epoch out.Dead = []
 

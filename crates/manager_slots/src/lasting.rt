@@ -6,7 +6,7 @@ ghost use Rattle.manager_slots.specs.Lasting.{log_of, kept_has_room, with_answer
 
 use node_base::{Effects, Items, Questions, has_room};
 use version_model::Answer;
-use xfs_base::{LogId, Mem};
+use xfs_base::{LogId, Mem, NodeId};
 
 /// What of a manager outlives a crash.
 pub struct Lasting {
@@ -38,7 +38,7 @@ impl Lasting {
         ensures log { result ≡ log_of self.now.number }
         ensures is_log { IsLog result.0 }
     {
-        LogId(9 + self.number.min(4))
+        NodeId::Manager(self.number).log()
     }
 
     /// Whether each counter is at least 65,536 below its end.

@@ -6,6 +6,7 @@ use node_base::{Asked, has_long_room, has_room};
 use std::alloc::Global;
 use takeover::Take;
 use token_manager::Slot;
+use xfs_base::limits::BY_LOG;
 use xfs_base::{List, Mem, SegName, SegRef};
 
 /// What a manager has of a slot of the manager map.
@@ -119,7 +120,7 @@ impl SlotPhase {
 pub(crate) fn first_active(alloc: Global) -> Mem<SlotPhase>
     ensures { IfOk result (λ phase. phase ≡ first_active) }
 {
-    let applied = List::from_vec(vec![in alloc; 0u32; 9]?);
+    let applied = List::from_vec(vec![in alloc; 0u32; BY_LOG]?);
     Ok(SlotPhase::Active(Active {
         slot: Slot::start(alloc, 1, List::new(alloc), List::new(alloc), applied)?,
         parts: List::new(alloc),

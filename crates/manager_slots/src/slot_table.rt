@@ -15,13 +15,14 @@ use std::marker::Model;
 use std::mem;
 use token_manager::Slot;
 use wire_msg::{Check, Deltas, Gave, UsageAsk, Want};
+use xfs_base::limits::{BY_LOG, BY_SLOT};
 use xfs_base::{Ino, List, LogId, Mem, SegRef};
 
 /// All slots.
-pub(crate) const SLOTS: [u8; 8] = [0, 1, 2, 3, 4, 5, 6, 7];
+pub(crate) const SLOTS: [u8; BY_SLOT] = [0, 1, 2, 3, 4, 5, 6, 7];
 
 /// The logs of the clients and the cleaner.
-const LOGS: [u8; 9] = [1, 2, 3, 4, 5, 6, 7, 8, 9];
+const LOGS: [u8; BY_LOG] = [1, 2, 3, 4, 5, 6, 7, 8, 9];
 
 /// What a manager has of each slot. Contracts see the list, from slot 0 on.
 pub struct SlotTable {

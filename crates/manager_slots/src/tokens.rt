@@ -1,7 +1,7 @@
 //! What a manager does for the clients and the cleaner in a slot.
 ghost use Rattle.std.specs.Prelude.{◌≡◌, ◌++◌, OnOk};
 ghost use Rattle.std.specs.List.{flat_map};
-ghost use Rattle.manager_slots.specs.Tokens.{owner_of, grants, forwards, said, takes, on_want, on_gave, on_deltas, check_said, on_check, on_usage_ask, on_tick};
+ghost use Rattle.manager_slots.specs.Tokens.{grants, forwards, said, takes, on_want, on_gave, on_deltas, check_said, on_check, on_usage_ask, on_tick};
 
 use crate::slot_phase::SlotPhase;
 use node_base::Effects;
@@ -229,7 +229,7 @@ fn say(effects: &mut Effects, slot: u8, epoch: u32, out: Out) -> Mem<()>
                 epoch,
                 applied,
             };
-            effects.send(owner_of(log), Body::DeltaAck(ack))
+            effects.send(log.block_writer(), Body::DeltaAck(ack))
         }
         Out::Live { .. } | Out::Dead => Ok(()),
     }
@@ -285,15 +285,4 @@ fn say_forward(effects: &mut Effects, out: Out) -> Mem<()>
         ver,
     };
     effects.send(NodeId::Client(client), Body::Forward(forward))
-}
-
-// The client or the cleaner, whichever writes this log.
-fn owner_of(log: LogId) -> NodeId
-    ensures { result ≡ owner_of log }
-{
-    if log.0 == 9 {
-        NodeId::Cleaner
-    } else {
-        NodeId::Client(log.0)
-    }
 }

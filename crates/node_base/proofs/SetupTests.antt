@@ -8,6 +8,7 @@ use Rattle.std.proofs.lemmas.List.Sums.{AllPass-from_list_all}
 use Rattle.xfs_base.specs.declared.setup.GroupSetup.{GroupSetup}
 use Rattle.xfs_base.specs.declared.setup.Setup.{Setup}
 use Rattle.xfs_base.proofs.Booleans.{contrary, and_first, and_second, not_true}
+use Rattle.xfs_base.specs.Limits.{most_clients, most_managers}
 use Rattle.group_map.specs.Sizes.{IsParity, is_group_size}
 use Rattle.group_map.specs.WellFormed.{IsServer}
 use Rattle.node_base.specs.Setups.{IsSetup, is_within, are_distinct, is_group, has_nodes, has_groups, is_setup}
@@ -71,13 +72,13 @@ is_right setup h =
     let nodes = and_first (has_nodes setup) (is_within 1 1024 setup.cache && has_groups setup) h in
     let rest = and_second (has_nodes setup) (is_within 1 1024 setup.cache && has_groups setup) h in
     let groups = and_second (is_within 1 1024 setup.cache) (has_groups setup) rest in
-    let others = and_second (is_within 1 8 setup.clients) (is_within 1 4 setup.managers && is_within 3 12 setup.servers) nodes in
+    let others = and_second (is_within 1 most_clients setup.clients) (is_within 1 most_managers setup.managers && is_within 3 12 setup.servers) nodes in
     let each = and_second (is_within 1 8 (length setup.groups)) (list_all (is_group setup.servers) setup.groups) groups in
     let pass = AllPass-from_list_all (is_group setup.servers) setup.groups each in
     record {
-      clients = within 1 8 setup.clients (and_first (is_within 1 8 setup.clients) (is_within 1 4 setup.managers && is_within 3 12 setup.servers) nodes);
-      managers = within 1 4 setup.managers (and_first (is_within 1 4 setup.managers) (is_within 3 12 setup.servers) others);
-      servers = within 3 12 setup.servers (and_second (is_within 1 4 setup.managers) (is_within 3 12 setup.servers) others);
+      clients = within 1 most_clients setup.clients (and_first (is_within 1 most_clients setup.clients) (is_within 1 most_managers setup.managers && is_within 3 12 setup.servers) nodes);
+      managers = within 1 most_managers setup.managers (and_first (is_within 1 most_managers setup.managers) (is_within 3 12 setup.servers) others);
+      servers = within 3 12 setup.servers (and_second (is_within 1 most_managers setup.managers) (is_within 3 12 setup.servers) others);
       cache = within 1 1024 setup.cache (and_first (is_within 1 1024 setup.cache) (has_groups setup) rest);
       count = within 1 8 (length setup.groups) (and_first (is_within 1 8 (length setup.groups)) (list_all (is_group setup.servers) setup.groups) groups);
       exist = λ k d lt. group_exist setup.servers (get_or setup.groups k d) (pass k d lt);

@@ -9,6 +9,7 @@ use Rattle.group_map.specs.GroupMapState.{GroupMapState}
 use Rattle.wire_msg.specs.declared.registry.News.{News}
 use Rattle.xfs_base.specs.declared.news.SlotNews.{SlotNews}
 use Rattle.xfs_base.specs.declared.segment.Prior.{Prior}
+use Rattle.xfs_base.specs.Segments.{names_none}
 use Rattle.xfs_base.specs.Limits.{u32_end}
 use Rattle.node_base.specs.declared.maps.Maps.{Maps}
 
@@ -22,7 +23,7 @@ knows maps id = is_in maps.groups id
 
 -- there is no prior, or one in a group that is known
 abbrev pub knows_prior : Maps → Prior → Bool
-knows_prior maps prior = ((prior.pass.inc == 0) && ((prior.pass.att == 0) && (prior.group == 0))) || knows maps prior.group
+knows_prior maps prior = names_none prior || knows maps prior.group
 
 abbrev pub is_older : Maps → News → Bool
 is_older maps news = nat_lt maps.version news.version

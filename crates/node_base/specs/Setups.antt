@@ -3,14 +3,15 @@ use Rattle.std.specs.Prelude.{◌≡◌, ◌≤◌, ℕ, Bool, true, ◌&&◌, n
 use Rattle.std.specs.List.{IsDistinct, list_all, list_any}
 use Rattle.xfs_base.specs.declared.setup.GroupSetup.{GroupSetup}
 use Rattle.xfs_base.specs.declared.setup.Setup.{Setup}
+use Rattle.xfs_base.specs.Limits.{most_clients, most_managers}
 use Rattle.group_map.specs.Sizes.{IsParity, is_group_size, bad_size}
 use Rattle.group_map.specs.WellFormed.{IsServer}
 
 -- how many nodes there are of each kind, and how many clean blocks a client may cache; and groups of
 -- servers that exist and differ, as many as their parity allows
 pub record IsSetup (setup : Setup) : Type 0 where
-  pub clients : (1 ≤ setup.clients) × (setup.clients ≤ 8)
-  pub managers : (1 ≤ setup.managers) × (setup.managers ≤ 4)
+  pub clients : (1 ≤ setup.clients) × (setup.clients ≤ most_clients)
+  pub managers : (1 ≤ setup.managers) × (setup.managers ≤ most_managers)
   pub servers : (3 ≤ setup.servers) × (setup.servers ≤ 12)
   pub cache : (1 ≤ setup.cache) × (setup.cache ≤ 1024)
   pub count : (1 ≤ length setup.groups) × (length setup.groups ≤ 8)
@@ -35,7 +36,7 @@ is_group servers g =
 
 -- there are as many nodes of each kind as there may be
 abbrev pub has_nodes : Setup → Bool
-has_nodes setup = is_within 1 8 setup.clients && (is_within 1 4 setup.managers && is_within 3 12 setup.servers)
+has_nodes setup = is_within 1 most_clients setup.clients && (is_within 1 most_managers setup.managers && is_within 3 12 setup.servers)
 
 -- there are as many groups as there may be, each of them right
 abbrev pub has_groups : Setup → Bool

@@ -10,15 +10,16 @@ use Rattle.xfs_base.specs.declared.fragment.FragMeta.{FragMeta}
 use Rattle.xfs_base.specs.declared.news.SlotNews.{SlotNews}
 use Rattle.xfs_base.specs.declared.segment.SegName.{SegName}
 use Rattle.xfs_base.specs.declared.segment.SegRef.{SegRef}
+use Rattle.xfs_base.specs.Limits.{slot_count, block_logs, log_count}
 use Rattle.node_base.specs.declared.peers.Peers.{Peers}
 use Rattle.node_base.specs.Nodes.{has_node}
 use Rattle.node_base.specs.Room.{has_long_room}
 
 abbrev pub is_log : ℕ → Bool
-is_log log = nat_le 1 log && nat_le log 13
+is_log log = nat_le 1 log && nat_le log log_count
 
 abbrev pub is_slot : ℕ → Bool
-is_slot slot = nat_lt slot 8
+is_slot slot = nat_lt slot slot_count
 
 abbrev pub is_name : SegName → Bool
 is_name name = is_log name.log.0
@@ -36,9 +37,9 @@ is_part part = is_name part.name
 abbrev pub is_from_one : ℕ → Bool
 is_from_one seq = nat_le 1 seq
 
--- nine numbers from 1 on
+-- a number from 1 on for each log that says where blocks lie
 abbrev pub is_horizon : List ℕ → Bool
-is_horizon horizon = (length horizon == 9) && list_all is_from_one horizon
+is_horizon horizon = (length horizon == block_logs) && list_all is_from_one horizon
 
 abbrev pub is_slot_news : SlotNews → Bool
 is_slot_news news = list_all is_part news.parts && is_horizon news.horizon
@@ -50,7 +51,7 @@ are_from number (slot ∷ slots) = (slot.slot == number) && are_from (number + 1
 
 -- the slots are 0 to 7, in order
 abbrev pub is_news : News → Bool
-is_news news = (length news.slots == 8) && (are_from 0 news.slots && list_all is_slot_news news.slots)
+is_news news = (length news.slots == slot_count) && (are_from 0 news.slots && list_all is_slot_news news.slots)
 
 -- the logs that a body names are 1 to 13, and its horizons have nine numbers from 1 on
 abbrev pub has_logs : Body → Bool

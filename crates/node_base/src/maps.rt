@@ -68,7 +68,7 @@ impl Maps {
     pub fn knows_prior(&self, prior: Prior) -> bool
         ensures { result ≡ knows_prior self.now prior }
     {
-        (prior.pass.inc == 0 && prior.pass.att == 0 && prior.group == 0) || self.knows(prior.group)
+        prior.names_none() || self.knows(prior.group)
     }
 
     /// A copy of the groups, for a machine; none where the node has none.

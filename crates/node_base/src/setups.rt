@@ -7,6 +7,7 @@ ghost use Rattle.node_base.specs.Setups.{IsSetup, is_setup, has_nodes, has_group
 
 use group_map::GroupMap;
 use std::alloc::{AllocError, Global};
+use xfs_base::limits::{MOST_CLIENTS, MOST_MANAGERS};
 use xfs_base::{GroupSetup, Mem, Setup};
 
 /// The groups of a setup, as each node has them when a run starts.
@@ -37,8 +38,8 @@ fn passes(setup: &Setup) -> bool
 fn has_nodes(setup: &Setup) -> bool
     ensures { result ≡ has_nodes setup.now }
 {
-    is_within(1, 8, usize::from(setup.clients))
-        && is_within(1, 4, usize::from(setup.managers))
+    is_within(1, usize::from(MOST_CLIENTS), usize::from(setup.clients))
+        && is_within(1, usize::from(MOST_MANAGERS), usize::from(setup.managers))
         && is_within(3, 12, usize::from(setup.servers))
 }
 

@@ -6,6 +6,7 @@ ghost use Rattle.node_base.specs.Shape.{is_well_formed, has_logs, has_slot, has_
 
 use crate::{Peers, has_long_room};
 use wire_msg::{Body, CkptDone, Deltas, News, Packet, Usage};
+use xfs_base::limits::{BY_LOG, BY_SLOT, LOG_COUNT, SLOT_COUNT};
 use xfs_base::{BlockId, Entry, FragMeta, LogId, Place, SegName, SegRef, SlotNews};
 
 /// Whether a packet is one that a node looks at: its sender is a node, its logs are 1 to 13, its slots 0
@@ -73,13 +74,13 @@ fn has_versions(body: &Body) -> bool
 fn is_log(log: LogId) -> bool
     ensures { result ≡ is_log log.0 }
 {
-    1 <= log.0 && log.0 <= 13
+    1 <= log.0 && log.0 <= LOG_COUNT
 }
 
 fn is_slot(slot: u8) -> bool
     ensures { result ≡ is_slot slot }
 {
-    slot < 8
+    slot < SLOT_COUNT
 }
 
 fn is_name(name: SegName) -> bool
@@ -149,7 +150,7 @@ fn has_parts(parts: &[SegRef]) -> bool
 fn is_horizon(horizon: &[u32]) -> bool
     ensures { result ≡ is_horizon horizon.now }
 {
-    horizon.len() == 9 && are_from_one(horizon)
+    horizon.len() == BY_LOG && are_from_one(horizon)
 }
 
 fn are_from_one(horizon: &[u32]) -> bool
@@ -174,7 +175,7 @@ fn is_news(news: &News) -> bool
     ensures { result ≡ is_news news.now }
 {
     let slots = news.slots.as_slice();
-    slots.len() == 8 && are_in_order(slots) && are_slot_news(slots)
+    slots.len() == BY_SLOT && are_in_order(slots) && are_slot_news(slots)
 }
 
 fn are_slot_news(slots: &[SlotNews]) -> bool

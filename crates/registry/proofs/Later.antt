@@ -14,7 +14,7 @@ use Rattle.xfs_base.specs.declared.segment.SegRef.{SegRef}
 use Rattle.xfs_base.proofs.BlockOrder.{lookup-insert_entry}
 use Rattle.xfs_base.proofs.Booleans.{by_test, and_first, and_second, contrary}
 use Rattle.xfs_base.proofs.StepLoops.{steps_keep}
-use Rattle.xfs_base.specs.Limits.{u32_end}
+use Rattle.xfs_base.specs.Limits.{u32_end, block_logs}
 use Rattle.group_map.specs.GroupMapState.{GroupMapState}
 use Rattle.group_map.specs.Groups.{generation_at}
 use Rattle.manager_map.specs.declared.entry.SlotEntry.{SlotEntry}
@@ -79,10 +79,10 @@ all_places p from (suc n) k all low high =
     place_step p from k (and_first (p from) (list_all p (range_with_len (from + 1) n)) all) low
     (λ next. all_places p (from + 1) n k (and_second (p from) (list_all p (range_with_len (from + 1) n)) all) next below)
 
-lower_numbers : (kept horizon : List ℕ) → no_lower kept horizon ≡ true → (log : ℕ) → log < 9 → slice_index kept log ≤ slice_index horizon log
+lower_numbers : (kept horizon : List ℕ) → no_lower kept horizon ≡ true → (log : ℕ) → log < block_logs → slice_index kept log ≤ slice_index horizon log
 lower_numbers kept horizon h log below =
-    let all : list_all (λ place. nat_le (slice_index kept place) (slice_index horizon place)) (range_with_len 0 9) ≡ true =
-    and_second (length horizon == 9) (list_all (λ place. nat_le (slice_index kept place) (slice_index horizon place)) places) h
+    let all : list_all (λ place. nat_le (slice_index kept place) (slice_index horizon place)) (range_with_len 0 block_logs) ≡ true =
+    and_second (length horizon == block_logs) (list_all (λ place. nat_le (slice_index kept place) (slice_index horizon place)) places) h
     in
     let here : nat_le (slice_index kept log) (slice_index horizon log) ≡ true =
     all_places (λ place. nat_le (slice_index kept place) (slice_index horizon place)) 0 9 log all (omega arith) (omega arith) in
@@ -96,7 +96,7 @@ set_horizon (x ∷ xs) zero (suc slot) log c h = omega arith
 set_horizon (x ∷ xs) (suc at) zero log c h = omega arith
 set_horizon (x ∷ xs) (suc at) (suc slot) log c h = set_horizon xs at slot log c h
 
-kept_horizon : (cs : List Checkpoint) (slot : ℕ) (horizon : List ℕ) → covers_kept cs slot horizon ≡ true → (log : ℕ) → log < 9
+kept_horizon : (cs : List Checkpoint) (slot : ℕ) (horizon : List ℕ) → covers_kept cs slot horizon ≡ true → (log : ℕ) → log < block_logs
     → slice_index (horizon_at cs slot) log ≤ slice_index horizon log
 kept_horizon [] slot horizon h = contrary h
 kept_horizon (c ∷ cs) zero horizon h = lower_numbers c.horizon horizon h

@@ -7,7 +7,7 @@ use Rattle.std.proofs.Math.ListN.{length-set}
 use Rattle.xfs_base.specs.Blocks.{slot_of}
 use Rattle.xfs_base.specs.declared.node.NodeId.TheVariants.{Manager}
 use Rattle.xfs_base.proofs.Booleans.{and_first, and_second}
-use Rattle.xfs_base.specs.Limits.{u32_end}
+use Rattle.xfs_base.specs.Limits.{u32_end, slot_count}
 use Rattle.manager_map.specs.declared.entry.SlotEntry.{SlotEntry}
 use Rattle.manager_map.specs.Slots.{entry_at, after_move, next_entry}
 use Rattle.registry.specs.declared.input.In.TheVariants.{Hello}
@@ -17,7 +17,7 @@ use Rattle.registry.specs.Board.{Made, transition, manager_restarted, inc_of, he
 use Rattle.registry.specs.Slots.{entry_of, raise_one, can_rise_one, can_rise}
 use Rattle.registry.specs.Laws.{restarted_entry}
 
-small_slot : (slot : ℕ) → slot < 8 → slot_of slot ≡ slot
+small_slot : (slot : ℕ) → slot < slot_count → slot_of slot ≡ slot
 small_slot slot small = omega arith
 
 set_own : (es : List SlotEntry) (slot : ℕ) (e : SlotEntry) → slot < length es → entry_at (slice_set es slot e) slot ≡ e
@@ -58,7 +58,7 @@ module _ (manager : ℕ) where
         | false ↦ refl
       ]
 
-  raise-own : (es : List SlotEntry) (slot : ℕ) → slot < 8 → slot < length es → entry_at (raise_one manager es slot) slot ≡ again (entry_at es slot)
+  raise-own : (es : List SlotEntry) (slot : ℕ) → slot < slot_count → slot < length es → entry_at (raise_one manager es slot) slot ≡ again (entry_at es slot)
   unfolding raise_one
   raise-own es slot small within =
       let low : nat_lt 7 slot ≡ false = grind (arith, nat_tests) in
@@ -77,7 +77,7 @@ module _ (manager : ℕ) where
   raised-before es from (suc n) slot low =
       raised-before (raise_one manager es from) (from + 1) n slot (omega arith) ∙ raise-other es from slot (λ same. absurd (omega arith))
 
-  raised-within : (es : List SlotEntry) (from n slot : ℕ) → from ≤ slot → slot < from + n → slot < 8 → slot < length es
+  raised-within : (es : List SlotEntry) (from n slot : ℕ) → from ≤ slot → slot < from + n → slot < slot_count → slot < length es
       → entry_at (fold (raise_one manager) es (range_with_len from n)) slot ≡ again (entry_at es slot)
   raised-within es from zero slot low high small within = absurd (omega arith)
   raised-within es from (suc n) slot low high small within =
@@ -124,7 +124,7 @@ module _ (manager : ℕ) where
       at true low = ap (λ t. cond t (record { epoch = e.epoch + 1; manager = manager }) e) low
       at false low = refl
 
-pub restarted : (s : BoardState) (manager inc slot : ℕ) → hears_manager s manager inc ≡ true → slot < 8 → slot < length s.entries
+pub restarted : (s : BoardState) (manager inc slot : ℕ) → hears_manager s manager inc ≡ true → slot < slot_count → slot < length s.entries
     → entry_at (transition s (Hello (Manager manager) inc)).state.entries slot ≡ restarted_entry manager (entry_at s.entries slot)
 unfolding manager_hello
 restarted s manager inc slot hears small within =

@@ -10,7 +10,7 @@ use Rattle.xfs_base.specs.declared.node.NodeId.{NodeId}
 use Rattle.xfs_base.specs.declared.node.NodeId.TheVariants.{Client, Manager, Server, Cleaner, Registry}
 use Rattle.xfs_base.specs.declared.segment.SegRef.{SegRef}
 use Rattle.xfs_base.specs.declared.setup.Setup.{Setup}
-use Rattle.xfs_base.specs.Limits.{u32_end}
+use Rattle.xfs_base.specs.Limits.{u32_end, slot_count}
 use Rattle.group_map.specs.GroupMapState.{GroupMapState}
 use Rattle.group_map.specs.Groups.{group_of, generation_at, lost, started as first_groups}
 use Rattle.manager_map.specs.Slots.{start_entries, entry_at, after_move}
@@ -72,7 +72,7 @@ hello s Registry inc = still s
 -- ---- a slot that is given to a manager
 
 abbrev pub can_move : BoardState → ℕ → Bool
-can_move s slot = nat_lt slot 8 && (nat_lt s.version u32_end && nat_lt (entry_of s.entries slot).epoch u32_end)
+can_move s slot = nat_lt slot slot_count && (nat_lt s.version u32_end && nat_lt (entry_of s.entries slot).epoch u32_end)
 
 abbrev pub moved : BoardState → ℕ → ℕ → BoardState
 moved s slot manager = record s { version = s.version + 1; entries = after_move s.entries slot manager }

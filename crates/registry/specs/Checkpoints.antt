@@ -2,11 +2,12 @@
 use Rattle.std.specs.Prelude.{ℕ, Bool, false, List, [], ◌∷◌, Option, Some, None, ◌==◌, ◌&&◌, nat_le, length, replicate, slice_get, slice_index}
 use Rattle.std.specs.List.{list_all}
 use Rattle.xfs_base.specs.declared.segment.SegRef.{SegRef}
+use Rattle.xfs_base.specs.Limits.{block_logs}
 use Rattle.registry.specs.declared.checkpoint.Checkpoint.{Checkpoint}
 
 -- of a slot without a checkpoint: no segments, and each of the nine logs is uncovered from its first
 abbrev pub first_checkpoint : Checkpoint
-first_checkpoint = record { parts = []; horizon = replicate 9 1 }
+first_checkpoint = record { parts = []; horizon = replicate block_logs 1 }
 
 -- the places of the nine logs in a horizon
 abbrev pub places : List ℕ
@@ -18,7 +19,7 @@ none_lower kept horizon = list_all (λ place. nat_le (slice_index kept place) (s
 
 -- a horizon has its nine numbers, none below the one that is kept
 abbrev pub no_lower : List ℕ → List ℕ → Bool
-no_lower kept horizon = (length horizon == 9) && none_lower kept horizon
+no_lower kept horizon = (length horizon == block_logs) && none_lower kept horizon
 
 abbrev pub covers : Option Checkpoint → List ℕ → Bool
 covers None horizon = false

@@ -1,6 +1,7 @@
 -- What any inputs leave of the registry's state.
 use Rattle.std.specs.Prelude.{◌≡◌, ℕ, ◌+◌, ◌<◌, ◌≤◌, ◌==◌, ◌⊎◌, List, slice_index, if◌then◌else◌}
 use Rattle.xfs_base.specs.Steps.{steps}
+use Rattle.xfs_base.specs.Limits.{block_logs}
 use Rattle.group_map.specs.Groups.{generation_at}
 use Rattle.manager_map.specs.declared.entry.SlotEntry.{SlotEntry}
 use Rattle.manager_map.specs.Slots.{entry_at}
@@ -24,7 +25,7 @@ pub record IsLater (old new : BoardState) : Type 0 where
   pub version : old.version ≤ new.version
   pub one_state : new.version ≡ old.version → new ≡ old
   pub slots : AreLater old.entries new.entries
-  pub horizons : (slot log : ℕ) → log < 9 → slice_index (horizon_at old.checkpoints slot) log ≤ slice_index (horizon_at new.checkpoints slot) log
+  pub horizons : (slot log : ℕ) → log < block_logs → slice_index (horizon_at old.checkpoints slot) log ≤ slice_index (horizon_at new.checkpoints slot) log
   pub incarnations : (manager : ℕ) → inc_of old.incs manager ≤ inc_of new.incs manager
   pub generations : (server : ℕ) → generation_at old.groups.generations server ≤ generation_at new.groups.generations server
 

@@ -15,6 +15,7 @@ use manager_map::ManagerMap;
 use std::alloc::{AllocError, Global};
 use std::collections::BTreeMap;
 use std::marker::Model;
+use xfs_base::limits::SLOT_COUNT;
 use xfs_base::{Crosses, List, Mem, NodeId, SegRef, Setup, SlotNews};
 
 /// Where a map has a group of this id, it takes no further loss.
@@ -253,7 +254,9 @@ impl Board {
     fn can_move(&self, slot: u8) -> bool
         ensures { result ≡ can_move self.now slot }
     {
-        slot < 8 && self.version < u32::MAX && entry_of(&self.managers, slot).epoch < u32::MAX
+        slot < SLOT_COUNT
+            && self.version < u32::MAX
+            && entry_of(&self.managers, slot).epoch < u32::MAX
     }
 
     #[tactic(auto, unfolding(crate::specs::Board::reassign))]

@@ -3,10 +3,11 @@ ghost use Rattle.std.specs.Prelude.{◌≡◌, IfOk, map, slice_index};
 ghost use Rattle.registry.specs.Checkpoints.{first_checkpoint, none_lower, no_lower, covers_kept, parts_at, horizon_at};
 
 use std::alloc::Global;
+use xfs_base::limits::BY_LOG;
 use xfs_base::{Crosses, List, Mem, SegRef};
 
 /// The places of the nine logs in a horizon.
-const PLACES: [usize; 9] = [0, 1, 2, 3, 4, 5, 6, 7, 8];
+const PLACES: [usize; BY_LOG] = [0, 1, 2, 3, 4, 5, 6, 7, 8];
 
 /// The newest checkpoint of a slot.
 pub struct Checkpoint {
@@ -47,7 +48,7 @@ fn none_lower(kept: &[u32], horizon: &[u32]) -> bool
 fn no_lower(kept: &[u32], horizon: &[u32]) -> bool
     ensures { result ≡ no_lower kept.now horizon.now }
 {
-    horizon.len() == 9 && none_lower(kept, horizon)
+    horizon.len() == BY_LOG && none_lower(kept, horizon)
 }
 
 /// Whether a horizon may take the place of the one that is kept for a slot.
@@ -64,7 +65,7 @@ pub(crate) fn covers_kept(checkpoints: &[Checkpoint], slot: u8, horizon: &[u32])
 fn first_checkpoint(alloc: Global) -> Mem<Checkpoint>
     ensures { IfOk result (λ made. made ≡ first_checkpoint) }
 {
-    let horizon = vec![in alloc; 1u32; 9]?;
+    let horizon = vec![in alloc; 1u32; BY_LOG]?;
     Ok(Checkpoint {
         parts: List::new(alloc),
         horizon: List::from_vec(horizon),

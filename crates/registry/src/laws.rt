@@ -2,6 +2,7 @@
 //! states; a call of it does nothing.
 ghost use Rattle.std.specs.Prelude.{◌≡◌, ◌+◌, ◌<◌, ◌↔◌, ℕ, List, Contains, true, length};
 ghost use Rattle.xfs_base.specs.declared.node.NodeId.TheVariants.{Manager};
+ghost use Rattle.xfs_base.specs.Limits.{slot_count};
 ghost use Rattle.manager_map.specs.Slots.{entry_at};
 ghost use Rattle.registry.specs.BoardState.{BoardState};
 ghost use Rattle.registry.specs.Board.{transition, hears_manager};
@@ -28,6 +29,6 @@ pub fn versions_rise_by_one()
 /// The Hello of a manager that has restarted gives each of its slots to it again under the next epoch, and
 /// leaves each other slot as it was.
 pub fn a_restart_raises_its_slots()
-    ensures { (s : BoardState) (manager inc slot : ℕ) → hears_manager s manager inc ≡ true → slot < 8 → slot < length s.entries
+    ensures { (s : BoardState) (manager inc slot : ℕ) → hears_manager s manager inc ≡ true → slot < slot_count → slot < length s.entries
         → entry_at (transition s (Hello (Manager manager) inc)).state.entries slot ≡ restarted_entry manager (entry_at s.entries slot) }
 {}

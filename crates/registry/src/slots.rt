@@ -4,9 +4,10 @@ ghost use Rattle.registry.specs.Slots.{entry_of, raise_one, can_rise_one, can_ri
 
 use manager_map::{ManagerMap, SlotEntry};
 use xfs_base::Ino;
+use xfs_base::limits::BY_SLOT;
 
 /// All slots.
-pub(crate) const SLOTS: [u8; 8] = [0, 1, 2, 3, 4, 5, 6, 7];
+pub(crate) const SLOTS: [u8; BY_SLOT] = [0, 1, 2, 3, 4, 5, 6, 7];
 
 /// What a slot has.
 pub(crate) fn entry_of(managers: &ManagerMap, slot: u8) -> SlotEntry

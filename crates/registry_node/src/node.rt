@@ -94,7 +94,7 @@ impl RegistryNode {
     {
         match what {
             Do::Begin => self.on_begin(alloc, effects),
-            Do::Deliver(packet) => self.on_packet(alloc, effects, packet),
+            Do::Deliver(packet) => self.on_packet(alloc, effects, packet.as_packet()),
             Do::Tick => self.tell_all(alloc, effects),
         }
     }

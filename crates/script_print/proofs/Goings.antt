@@ -1,7 +1,7 @@
 -- Lines one after the other, from place to place.
 use Rattle.std.proofs.Common.{◌≡◌, ℕ, zero, suc, ◌+◌, ◌≤◌, true, false, List, [], ◌∷◌, ◌++◌, length, refl, sym, ◌∙◌, ap, subst, arith, inl, inr}
 use Rattle.std.specs.List.{repeat, AllByRecursion}
-use Rattle.xfs_base.specs.Limits.{max_bytes}
+use Rattle.xfs_base.specs.Limits.{max_bytes, max_lines}
 use Rattle.script_text.specs.declared.stage.Place.{Place}
 use Rattle.script_text.specs.Lines.{lines}
 use Rattle.script_text.specs.Words.{Lacks}
@@ -30,7 +30,7 @@ pub empty_lines : (n k : ℕ) (p : Place) → Goes n (empties k) p p
 empty_lines n zero p = refl
 empty_lines n (suc k) p = (p, inl (refl, refl), empty_lines (n + 1) k p)
 
-pub accepts : (total n at : ℕ) (ls : List (List ℕ)) (p q : Place) → total ≤ max_bytes → n + length ls ≤ 20001 → Goes n ls p q → is_whole q.stage ≡ true
+pub accepts : (total n at : ℕ) (ls : List (List ℕ)) (p q : Place) → total ≤ max_bytes → n + length ls ≤ max_lines + 1 → Goes n ls p q → is_whole q.stage ≡ true
     → Accepts false (line_at total n at) ls p (record { setup = q.setup; lines = q.items })
 accepts total n at [] p q t m g w =
     let P : Place → Type 0 = λ x. Accepts false (line_at total n at) [] x (record { setup = q.setup; lines = q.items }) in

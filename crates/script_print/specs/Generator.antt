@@ -1,10 +1,11 @@
 -- The script that a number draws.
-use Rattle.std.specs.Prelude.{ℕ, zero, suc, ◌+◌, ◌*◌, ◌/◌, ◌%◌, ◌==◌, nat_lt, false, List, [], ◌∷◌, ◌++◌, Some, if◌then◌else◌}
+use Rattle.std.specs.Prelude.{ℕ, zero, suc, ◌+◌, ◌*◌, ◌%◌, ◌==◌, nat_lt, false, List, [], ◌∷◌, ◌++◌, Some, if◌then◌else◌}
 use Rattle.std.specs.Fmt.{decimal}
 use Rattle.xfs_base.specs.declared.block.BlockId.{BlockId}
 use Rattle.xfs_base.specs.declared.setup.Setup.{Setup}
 use Rattle.xfs_base.specs.declared.node.NodeId.{NodeId}
 use Rattle.xfs_base.specs.declared.node.NodeId.TheVariants as nodes
+use Rattle.xfs_base.specs.Draws.{next_number, drawn}
 use Rattle.version_model.specs.declared.work.Work.{Work}
 use Rattle.version_model.specs.declared.work.Work.TheVariants as works
 use Rattle.script_text.specs.declared.script.Line.{Line}
@@ -13,22 +14,15 @@ use Rattle.script_text.specs.Forms.{block_at}
 use Rattle.script_text.specs.Script.{item_at}
 use Rattle.script_print.specs.declared.draws.Draws.{Draws}
 
--- the number that follows a number, and what is drawn at it
-abbrev pub mixed : ℕ → ℕ
-mixed x = (x * 1103515245 + 12345) % 2147483648
-
-abbrev pub drawn : ℕ → ℕ
-drawn x = x / 65536
-
 -- the five draws of a turn
 abbrev pub draws_from : ℕ → Draws
 draws_from x = record {
-  kind = drawn (mixed x);
-  node = drawn (mixed (mixed x));
-  file = drawn (mixed (mixed (mixed x)));
-  slot = drawn (mixed (mixed (mixed (mixed x))));
-  block = drawn (mixed (mixed (mixed (mixed (mixed x)))));
-  left = mixed (mixed (mixed (mixed (mixed x))));
+  kind = drawn (next_number x);
+  node = drawn (next_number (next_number x));
+  file = drawn (next_number (next_number (next_number x)));
+  slot = drawn (next_number (next_number (next_number (next_number x))));
+  block = drawn (next_number (next_number (next_number (next_number (next_number x)))));
+  left = next_number (next_number (next_number (next_number (next_number x))));
 }
 
 abbrev pub client_of : Draws → ℕ

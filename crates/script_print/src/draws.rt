@@ -1,6 +1,8 @@
 //! Numbers drawn one after the other from a first one.
 ghost use Rattle.std.specs.Prelude.{◌≡◌};
-ghost use Rattle.script_print.specs.Generator.{mixed, drawn, draws_from};
+ghost use Rattle.script_print.specs.Generator.{draws_from};
+
+use xfs_base::draws::{drawn, next_number};
 
 /// What one turn of the generator draws.
 #[derive(Clone, Copy, PartialEq, Eq)]
@@ -19,29 +21,15 @@ pub struct Draws {
     pub left: u32,
 }
 
-/// The number that follows a number.
-fn mixed(x: u32) -> u32
-    ensures { result ≡ mixed x }
-{
-    ((x as u64 * 1_103_515_245 + 12_345) % 2_147_483_648) as u32
-}
-
-/// What is drawn at a number.
-fn drawn(x: u32) -> u32
-    ensures { result ≡ drawn x }
-{
-    x / 65_536
-}
-
 /// The draws of a turn that follow a number.
 pub fn draws_from(x: u32) -> Draws
     ensures { result ≡ draws_from x }
 {
-    let kind = mixed(x);
-    let node = mixed(kind);
-    let file = mixed(node);
-    let slot = mixed(file);
-    let block = mixed(slot);
+    let kind = next_number(x);
+    let node = next_number(kind);
+    let file = next_number(node);
+    let slot = next_number(file);
+    let block = next_number(slot);
     Draws {
         kind: drawn(kind),
         node: drawn(node),

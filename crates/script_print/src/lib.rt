@@ -12,3 +12,4 @@ mod work_text;
 
 pub use generating::generate;
 pub use printing::print;
+pub use work_text::add_work;

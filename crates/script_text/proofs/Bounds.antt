@@ -36,20 +36,20 @@ not_many total n end h = not_above n (λ l. h (inl l))
     not_above : (m : ℕ) → (max_lines < m → ⊥) → m ≤ max_lines
     not_above m k = omega (arith, k)
 
-few_from : (live : Bool) (total n at : ℕ) (ls : List (List ℕ)) (p : Place) (s : Script) → n ≤ 20001 → Accepts live (line_at total n at) ls p s
-    → length s.lines + n ≤ length p.items + 20001
+few_from : (live : Bool) (total n at : ℕ) (ls : List (List ℕ)) (p : Place) (s : Script) → n ≤ max_lines + 1 → Accepts live (line_at total n at) ls p s
+    → length s.lines + n ≤ length p.items + (max_lines + 1)
 few_from live total n at [] p s h a =
     let f : length s.lines ≡ length p.items = ap (λ (x : Script). length x.lines) a.2 in
     omega (arith, f, h)
 few_from live total n at (l ∷ ls) p s h a =
     let m : n ≤ max_lines = not_many total n (at + (length l + 1)) a.0 in
     let k : length a.1.items ≤ length p.items + 1 = one_more n l p a.1 a.2 in
-    let r : length s.lines + (n + 1) ≤ length a.1.items + 20001 = few_from live total (n + 1) (at + (length l + 1)) ls a.1 s (omega (arith, m)) a.3 in
+    let r : length s.lines + (n + 1) ≤ length a.1.items + (max_lines + 1) = few_from live total (n + 1) (at + (length l + 1)) ls a.1 s (omega (arith, m)) a.3 in
     omega (arith, k, r)
 
 pub few_items : (live : Bool) (bytes : List ℕ) (s : Script) → IsScriptOf live bytes s → length s.lines ≤ max_lines
 few_items live bytes s a =
-    let r : length s.lines + 1 ≤ length (start.items) + 20001 = few_from live (length bytes) 1 0 (lines bytes) start s (omega arith) a in
+    let r : length s.lines + 1 ≤ length (start.items) + (max_lines + 1) = few_from live (length bytes) 1 0 (lines bytes) start s (omega arith) a in
     omega (arith, r)
 
 pub few_found : (live : Bool) (bytes : List ℕ) (r : Result Script ScriptError) → IfOk r (λ s. IsScriptOf live bytes s)

@@ -12,10 +12,10 @@ use Rattle.xfs_base.specs.declared.segment.LogId.{LogId}
 use Rattle.xfs_base.specs.declared.segment.Pass.{Pass}
 use Rattle.xfs_base.specs.declared.segment.Prior.{Prior}
 use Rattle.xfs_base.specs.declared.segment.SegName.{SegName}
-use Rattle.xfs_base.specs.Limits.{max_value}
+use Rattle.xfs_base.specs.Limits.{max_value, log_count}
 use Rattle.segment_format.specs.declared.head.Head.{Head}
 use Rattle.segment_format.specs.declared.seg_error.SegError.TheVariants.{BadMark, BadVersion, BadLength}
-use Rattle.segment_format.specs.Format.{first_version, second_version, most_items, longest, mark, is_mark, is_within, IsWithin, is_log, IsLog, is_version, IsVersion, is_length, IsLength}
+use Rattle.segment_format.specs.Format.{first_version, second_version, most_items, longest, mark, is_mark, is_within, IsWithin, is_log, IsLog, is_version, IsVersion, is_length, IsLength, short_block}
 use Rattle.segment_format.specs.Ranges.{FitsBlock, FitsPass, FitsName, FitsPrior, FitsPlace, FitsRow}
 use Rattle.segment_format.specs.Reading.{number, raw, checked}
 use Rattle.segment_format.specs.ReadingFields.{block_at, log_at, pass_at, name_at, prior_at, mark_at, head_at, value_at, place_at, flagged_at, row_at, rows_at}
@@ -82,8 +82,8 @@ log-reader =
     (λ log _. gives-reader (record { 0 = log }))
     (λ log l _ h. ap (λ (x : LogId). x.0) h))
     (λ l v. refl)
-    (λ l v. within_true 1 13 l.0 v.0.1)
-    (λ l v. ((omega (arith, v.1), true_within 1 13 l.0 v), refl))
+    (λ l v. within_true 1 log_count l.0 v.0.1)
+    (λ l v. ((omega (arith, v.1), true_within 1 log_count l.0 v), refl))
 
 pass-reader : IsReader pass_at pass_text FitsPass
 unfolding pass_at
@@ -183,7 +183,7 @@ abbrev pub OfValue : ℕ → Option (List ℕ) → Type 0
 OfValue version None = ⊥
 OfValue version (Some bytes) = IsLength version (length bytes)
 
-longest_fits : (b : Bool) (n : ℕ) → n ≤ cond b 4096 max_value → n < 2 ^ 16
+longest_fits : (b : Bool) (n : ℕ) → n ≤ cond b short_block max_value → n < 2 ^ 16
 longest_fits true n le = omega arith
 longest_fits false n le = omega arith
 

@@ -7,6 +7,7 @@ use Rattle.std.proofs.lemmas.Bool.Decides.{nat_tests}
 use Rattle.std.proofs.lemmas.List.{append-nil}
 use Rattle.xfs_base.specs.declared.block.BlockId.{BlockId}
 use Rattle.xfs_base.specs.declared.entry.Entry.{Entry}
+use Rattle.xfs_base.specs.Limits.{slot_count}
 use Rattle.segment_format.specs.declared.segment.Item.{Item}
 use Rattle.segment_format.specs.declared.segment.Item.TheVariants.{Block, Delta, Part}
 use Rattle.segment_format.specs.declared.seen.Seen.{Seen}
@@ -147,10 +148,10 @@ delta_item-reader =
 abbrev OfPart : Item → Type 0
 OfPart (Block block value) = ⊥
 OfPart (Delta block ver hop item) = ⊥
-OfPart (Part slot rows) = (slot < 8) × IsRowCount (length rows) × AllByRecursion FitsRow rows × AllByRecursion IsRow rows
+OfPart (Part slot rows) = (slot < slot_count) × IsRowCount (length rows) × AllByRecursion FitsRow rows × AllByRecursion IsRow rows
 
 part_from : (x : Item) → OfPart x
-    → (slot_of x < 8)
+    → (slot_of x < slot_count)
     × (IsRowCount (length (rows_of x))
     × (((length (rows_of x) ≡ length (rows_of x)) × AllByRecursion FitsRow (rows_of x) × AllByRecursion IsRow (rows_of x))
     × (x ≡ Part (slot_of x) (rows_of x))))
@@ -158,9 +159,9 @@ part_from (Block block value) h = absurd h
 part_from (Delta block ver hop item) h = absurd h
 part_from (Part slot rows) h = (h.0, (h.1, ((refl, h.2, h.3), refl)))
 
-slot-reader : IsReader (checked (number w8) (λ n. ltb n 8) BadLength) (λ n. n ∷ []) (λ n. n < 8)
+slot-reader : IsReader (checked (number w8) (λ n. ltb n slot_count) BadLength) (λ n. n ∷ []) (λ n. n < slot_count)
 slot-reader =
-    as-reader (checked-reader (λ n. ltb n 8) BadLength byte-reader)
+    as-reader (checked-reader (λ n. ltb n slot_count) BadLength byte-reader)
     (λ n v. refl)
     (λ n v. lt_true n 8 v.1)
     (λ n v. (omega (arith, v), true_lt n 8 v))

@@ -17,7 +17,7 @@ use Rattle.segment_format.specs.declared.seen.Awaited.{Awaited}
 use Rattle.segment_format.specs.declared.seen.Seen.{Seen}
 use Rattle.segment_format.specs.declared.seg_error.SegError.{SegError}
 use Rattle.segment_format.specs.declared.seg_error.SegError.TheVariants.{BadVersion, BadRef, Trailing}
-use Rattle.segment_format.specs.Format.{first_version, second_version, longest, most_items, mark, IsVersion}
+use Rattle.segment_format.specs.Format.{first_version, second_version, longest, most_items, mark, IsVersion, short_block}
 use Rattle.segment_format.specs.Ranges.{FitsItem, Fits}
 use Rattle.segment_format.specs.ReadingItems.{items_at, parts_at, segment_at, ended, answer_of}
 use Rattle.segment_format.specs.Rule.{KeepsRule, deltas_in, others_in, nothing_seen, seen_after, no_item, answers}
@@ -167,7 +167,7 @@ items-reader version (suc n) seen o d =
 
 -- ---- the version that the items need
 
-below_longest : (b : Bool) (n : ℕ) → n ≤ cond b 4096 max_value → n ≤ max_value
+below_longest : (b : Bool) (n : ℕ) → n ≤ cond b short_block max_value → n ≤ max_value
 below_longest true n le = omega arith
 below_longest false n le = le
 

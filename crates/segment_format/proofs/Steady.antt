@@ -5,6 +5,7 @@ use Rattle.std.specs.Int.{Width, w8, w16, w32, w64, byte_len, from_be_bytes}
 use Rattle.std.proofs.lemmas.Bool.{ltb-false, le-ltb}
 use Rattle.std.proofs.lemmas.List.{take-append-le, drop-append-le, length-append, length-drop}
 use Rattle.xfs_base.specs.Fields.{Fields}
+use Rattle.xfs_base.specs.Limits.{slot_count}
 use Rattle.segment_format.specs.declared.seen.Seen.{Seen}
 use Rattle.segment_format.specs.declared.segment.Item.TheVariants.{Block, Delta, Part}
 use Rattle.segment_format.specs.declared.seg_error.SegError.{SegError}
@@ -209,7 +210,7 @@ delta_item-steady =
 part_item-steady : IsSteady part_item_at
 unfolding part_item_at
 part_item-steady =
-    then-steady (checked-steady (λ n. ltb n 8) BadLength (λ at. refl) (number-steady w8))
+    then-steady (checked-steady (λ n. ltb n slot_count) BadLength (λ at. refl) (number-steady w8))
     (λ slot. then-steady (checked-steady is_row_count BadLength (λ at. refl) (number-steady w16))
     (λ count. then-steady (rows-steady count)
     (λ rows. gives-steady (Part slot rows))))

@@ -1,6 +1,6 @@
 -- What sets the two segment formats apart, and the limits of both.
 use Rattle.std.specs.Prelude.{ℕ, ◌≤◌, Bool, false, List, [], ◌∷◌, nat_le, ◌==◌, ◌&&◌, if◌then◌else◌}
-use Rattle.xfs_base.specs.Limits.{max_value, segment_blocks}
+use Rattle.xfs_base.specs.Limits.{max_value, segment_blocks, log_count}
 
 -- the version byte of format 1, and of format 2, which has longer Blocks
 abbrev pub first_version : ℕ
@@ -9,9 +9,13 @@ first_version = 1
 abbrev pub second_version : ℕ
 second_version = 2
 
+-- the most bytes of a Block in format 1
+abbrev pub short_block : ℕ
+short_block = 4096
+
 -- the most bytes of a Block in a text of this version
 abbrev pub longest : ℕ → ℕ
-longest version = if version == first_version then 4096 else max_value
+longest version = if version == first_version then short_block else max_value
 
 -- how many bytes the header has
 abbrev pub header_length : ℕ
@@ -38,10 +42,10 @@ IsWithin lo hi n = (lo ≤ n) × (n ≤ hi)
 
 -- a log is 1 to 13
 abbrev pub is_log : ℕ → Bool
-is_log n = is_within 1 13 n
+is_log n = is_within 1 log_count n
 
 abbrev pub IsLog : ℕ → Type 0
-IsLog n = IsWithin 1 13 n
+IsLog n = IsWithin 1 log_count n
 
 -- a version is 1 or 2
 abbrev pub is_version : ℕ → Bool

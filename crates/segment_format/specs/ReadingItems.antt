@@ -2,6 +2,7 @@
 use Rattle.std.specs.Prelude.{ℕ, zero, suc, List, [], ◌∷◌, length, nat_lt, ◌==◌, if◌then◌else◌, Result, Ok, Err, is_none}
 use Rattle.std.specs.Int.{w8, w16, w32, w64}
 use Rattle.xfs_base.specs.Fields.{Fields}
+use Rattle.xfs_base.specs.Limits.{slot_count}
 use Rattle.segment_format.specs.declared.head.Head.{Head}
 use Rattle.segment_format.specs.declared.segment.Item.{Item}
 use Rattle.segment_format.specs.declared.segment.Item.TheVariants.{Block, Delta, Part}
@@ -35,7 +36,7 @@ delta_item_at = do
 
 unfoldable pub part_item_at : Reader Item
 part_item_at = do
-  slot ← checked (number w8) (λ n. nat_lt n 8) BadLength
+  slot ← checked (number w8) (λ n. nat_lt n slot_count) BadLength
   count ← checked (number w16) is_row_count BadLength
   rows ← rows_at count
   gives (Part slot rows)

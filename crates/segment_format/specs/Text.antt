@@ -8,6 +8,7 @@ use Rattle.xfs_base.specs.declared.entry.Place.{Place}
 use Rattle.xfs_base.specs.declared.segment.Pass.{Pass}
 use Rattle.xfs_base.specs.declared.segment.Prior.{Prior}
 use Rattle.xfs_base.specs.declared.segment.SegName.{SegName}
+use Rattle.xfs_base.specs.Limits.{slot_count}
 use Rattle.segment_format.specs.declared.head.Head.{Head}
 use Rattle.segment_format.specs.declared.segment.Item.{Item}
 use Rattle.segment_format.specs.declared.segment.Item.TheVariants.{Block, Delta, Part}
@@ -79,7 +80,7 @@ abbrev pub IsItem : ℕ → Item → Type 0
 IsItem version (Block block None) = ⊥
 IsItem version (Block block (Some bytes)) = IsLength version (length bytes)
 IsItem version (Delta block ver hop item) = Unit {0}
-IsItem version (Part slot rows) = (slot < 8) × IsRowCount (length rows) × AllByRecursion IsRow rows
+IsItem version (Part slot rows) = (slot < slot_count) × IsRowCount (length rows) × AllByRecursion IsRow rows
 
 -- the limits and the rule on Deltas
 pub record KeepsLimits (s : Segment) : Type 0 where

@@ -17,6 +17,7 @@ use crate::seen::{Seen, is_kind};
 use crate::segment::version_of;
 use crate::{Item, SegError, Segment};
 use std::alloc::Global;
+use xfs_base::limits::SLOT_COUNT;
 use xfs_base::{FieldReader, List};
 
 #[tactic(auto, unfolding(crate::specs::ReadingItems::kind_at))]
@@ -68,7 +69,7 @@ fn part_item_of(alloc: Global, reader: &mut FieldReader) -> Result<Item, SegErro
 {
     let at = reader.at();
     let slot = u8_of(reader)?;
-    if slot >= 8 {
+    if slot >= SLOT_COUNT {
         return Err(SegError::BadLength(at));
     }
     let behind = reader.at();

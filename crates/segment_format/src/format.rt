@@ -2,6 +2,8 @@
 ghost use Rattle.std.specs.Prelude.{◌≡◌};
 ghost use Rattle.segment_format.specs.Format.{longest, is_mark, is_log, is_version, is_length, is_row_count};
 
+use xfs_base::limits::{LOG_COUNT, MAX_VALUE, SEGMENT_BLOCKS};
+
 /// The version byte of format 1.
 pub const FIRST_VERSION: u8 = 1;
 
@@ -12,10 +14,10 @@ pub const SECOND_VERSION: u8 = 2;
 pub const SHORT_LIMIT: u16 = 4096;
 
 /// The most bytes of a Block in format 2.
-pub const LONG_LIMIT: u16 = 8192;
+pub const LONG_LIMIT: u16 = MAX_VALUE as u16;
 
 /// The most items of a segment that are Block or Part, and the most that are Delta.
-pub const MOST: u16 = 24;
+pub const MOST: u16 = SEGMENT_BLOCKS as u16;
 
 /// The three bytes that begin each segment.
 pub const MARK: [u8; 3] = [0x78, 0x46, 0x53];
@@ -37,7 +39,7 @@ pub(crate) fn is_mark(bytes: &[u8]) -> bool
 pub(crate) fn is_log(n: u8) -> bool
     ensures { result ≡ is_log n }
 {
-    1 <= n && n <= 13
+    1 <= n && n <= LOG_COUNT
 }
 
 /// Whether this is the version of a format.

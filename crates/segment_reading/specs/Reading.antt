@@ -4,6 +4,7 @@ use Rattle.std.specs.Prelude.{ℕ, Bool, true, false, ◌==◌, ◌&&◌, ◌||�
 use Rattle.xfs_base.specs.Blocks.{same_block}
 use Rattle.xfs_base.specs.declared.block.BlockId.{BlockId}
 use Rattle.xfs_base.specs.declared.segment.Prior.{Prior}
+use Rattle.xfs_base.specs.Segments.{names_none, same_name}
 use Rattle.group_map.specs.declared.group.Group.{Group}
 use Rattle.group_map.specs.GroupMapState.{GroupMapState}
 use Rattle.group_map.specs.Groups.{group_of}
@@ -16,7 +17,6 @@ use Rattle.stripe_code.specs.declared.round.RoundState.{RoundState}
 use Rattle.stripe_code.specs.declared.round.RoundState.TheVariants as round
 use Rattle.stripe_code.specs.declared.round.Told.{Told}
 use Rattle.stripe_code.specs.declared.round.Told.TheVariants.{Held, Missing}
-use Rattle.stripe_code.specs.Fragments.{same_name}
 use Rattle.stripe_code.specs.Round.{RoundSoFar, new_round, asks, taken, state_of, told_fits, unanswered}
 use Rattle.segment_reading.specs.declared.reading.Next.{Next}
 use Rattle.segment_reading.specs.declared.reading.Next.TheVariants.{Wait, Ask, Again, Read, Lost}
@@ -61,7 +61,7 @@ to_ask r = if is_asking r.stage then unanswered r.round else []
 
 -- there is no prior, or one in a group that is known
 abbrev pub is_known : GroupMapState → Prior → Bool
-is_known groups prior = ((prior.pass.inc == 0) && ((prior.pass.att == 0) && (prior.group == 0))) || is_some (group_of groups prior.group)
+is_known groups prior = names_none prior || is_some (group_of groups prior.group)
 
 abbrev pub is_block : BlockId → Option Item → Bool
 is_block block None = false

@@ -3,10 +3,12 @@
 //! and decides nothing of logs.
 #![tactic(auto)]
 
+pub mod group;
 pub mod laws;
 pub mod reading;
 pub mod target;
 mod threads;
 
+pub use group::known_group;
 pub use reading::{Next, Reading, Stage};
 pub use target::{BlockAt, Target};

@@ -43,10 +43,7 @@ impl Target {
 fn is_known(prior: Prior, groups: &GroupMap) -> bool
     ensures { result ≡ is_known groups.now prior }
 {
-    if prior.pass.inc == 0 && prior.pass.att == 0 && prior.group == 0 {
-        return true;
-    }
-    groups.lookup(prior.group).is_ok()
+    prior.names_none() || groups.lookup(prior.group).is_ok()
 }
 
 fn is_block(segment: &Segment, wanted: BlockAt) -> bool

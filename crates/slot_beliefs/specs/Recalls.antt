@@ -7,6 +7,7 @@ use Rattle.xfs_base.specs.Blocks.{block_cmp}
 use Rattle.xfs_base.specs.declared.block.BlockId.{BlockId}
 use Rattle.xfs_base.specs.declared.segment.LogId.{LogId}
 use Rattle.xfs_base.specs.declared.token.Stamp.{Stamp}
+use Rattle.xfs_base.specs.Limits.{block_logs}
 use Rattle.slot_beliefs.specs.declared.job.Job.{Job}
 use Rattle.slot_beliefs.specs.declared.job.Awaited.{Awaited}
 
@@ -43,7 +44,7 @@ applied_upto applied log upto = slice_set applied (log.0 - 1) upto
 
 -- whether a slot follows a log: those of the clients and of the cleaner
 abbrev pub is_followed : LogId → Bool
-is_followed log = nat_le 1 log.0 && nat_le log.0 9
+is_followed log = nat_le 1 log.0 && nat_le log.0 block_logs
 
 -- whether an end was named, and what lies up to it is applied
 abbrev pub is_applied : List ℕ → ℕ → Option ℕ → Bool

@@ -3,11 +3,13 @@ ghost use Rattle.std.specs.Prelude.{◌≡◌, ◌+◌, ◌^◌, ◌<◌, length
 ghost use Rattle.std.specs.BTreeMap.{insert_entry};
 ghost use Rattle.std.specs.List.{list_any};
 ghost use Rattle.xfs_base.specs.Blocks.{block_cmp};
+ghost use Rattle.xfs_base.specs.Limits.{block_logs};
 ghost use Rattle.slot_beliefs.specs.Recalls.{recalls, answers, noted, applied_of, is_applied, is_ready, ready_blocks, job_at, without_job, is_followed, applied_upto};
 
 use crate::job::{Awaited, Job, Wanted};
 use std::alloc::Global;
 use std::collections::BTreeMap;
+use xfs_base::limits::BY_LOG;
 use xfs_base::{BlockId, List, LogId, Mem, Stamp};
 
 /// A recall to each of these clients, each with a turn of its own.
@@ -100,18 +102,18 @@ pub fn noted(
 }
 
 /// Nine numbers as an array.
-pub fn nine(list: &[u32]) -> [u32; 9]
-    requires { length list.now ≡ 9 }
+pub fn nine(list: &[u32]) -> [u32; BY_LOG]
+    requires { length list.now ≡ block_logs }
     ensures { result ≡ list.now }
 {
-    let mut nine = [0; 9];
+    let mut nine = [0; BY_LOG];
     nine.copy_from_slice(list);
     nine
 }
 
-/// What is applied of a log: 0 of a log above 9, which a slot does not follow, and of log 0, which there is
+/// What is applied of a log: 0 of a manager's log, which a slot does not follow, and of log 0, which there is
 /// not, what is applied of log 1.
-pub fn applied_of(applied: &[u32; 9], log: u8) -> u32
+pub fn applied_of(applied: &[u32; BY_LOG], log: u8) -> u32
     ensures { result ≡ applied_of applied.now log }
 {
     let index = usize::from(log).saturating_sub(1);
@@ -123,7 +125,7 @@ pub fn applied_of(applied: &[u32; 9], log: u8) -> u32
 }
 
 /// What is applied, with this much of one log.
-pub fn applied_upto(applied: &[u32; 9], log: LogId, upto: u32) -> [u32; 9]
+pub fn applied_upto(applied: &[u32; BY_LOG], log: LogId, upto: u32) -> [u32; BY_LOG]
     requires { IsTrue (is_followed log) }
     ensures { result ≡ applied_upto applied.now log upto }
 {
@@ -132,7 +134,7 @@ pub fn applied_upto(applied: &[u32; 9], log: LogId, upto: u32) -> [u32; 9]
     all
 }
 
-fn is_applied(applied: &[u32; 9], log: u8, end: Option<u32>) -> bool
+fn is_applied(applied: &[u32; BY_LOG], log: u8, end: Option<u32>) -> bool
     ensures { result ≡ is_applied applied.now log end }
 {
     match end {
@@ -142,7 +144,7 @@ fn is_applied(applied: &[u32; 9], log: u8, end: Option<u32>) -> bool
 }
 
 /// Whether all recalls are answered, and what each answer named is applied.
-pub fn is_ready(applied: &[u32; 9], awaited: &[Awaited]) -> bool
+pub fn is_ready(applied: &[u32; BY_LOG], awaited: &[Awaited]) -> bool
     ensures { result ≡ is_ready applied.now awaited.now }
 {
     for recall in awaited {
@@ -157,7 +159,7 @@ pub fn is_ready(applied: &[u32; 9], awaited: &[Awaited]) -> bool
 pub fn ready_blocks(
     alloc: Global,
     jobs: &BTreeMap<BlockId, Job>,
-    applied: &[u32; 9],
+    applied: &[u32; BY_LOG],
 ) -> Mem<List<BlockId>>
     ensures { IfOk result (λ blocks. blocks ≡ ready_blocks jobs.now.entries applied.now) }
 {

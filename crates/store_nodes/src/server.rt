@@ -155,7 +155,7 @@ impl Server {
     {
         match what {
             Do::Begin => self.on_begin(alloc, effects),
-            Do::Deliver(packet) => self.on_packet(alloc, effects, packet),
+            Do::Deliver(packet) => self.on_packet(alloc, effects, packet.as_packet()),
             Do::Tick => self.on_tick(alloc, effects),
         }
     }

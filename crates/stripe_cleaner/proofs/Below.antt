@@ -18,6 +18,7 @@ use Rattle.xfs_base.specs.declared.segment.SegName.{SegName}
 use Rattle.xfs_base.specs.declared.segment.SegRef.{SegRef}
 use Rattle.xfs_base.specs.Steps.{still}
 use Rattle.xfs_base.proofs.Booleans.{by_test, and_first, and_second}
+use Rattle.xfs_base.specs.Limits.{slot_count}
 use Rattle.stripe_cleaner.specs.declared.checks.Check.{Check}
 use Rattle.stripe_cleaner.specs.declared.counting.Fullness.{Fullness}
 use Rattle.stripe_cleaner.specs.declared.input.In.{In}
@@ -308,9 +309,9 @@ module _ (start : CleaningState) where
   unfolding on_welcome
   welcome_is_below history slots groups b =
       let s : CleaningState = state_after start history in
-      by_test (FineDone (history ++ input.Welcome slots groups ∷ [])) (is_greeting s.phase && (length slots == 8)) (welcomed s slots groups) (still s)
+      by_test (FineDone (history ++ input.Welcome slots groups ∷ [])) (is_greeting s.phase && (length slots == slot_count)) (welcomed s slots groups) (still s)
       (λ t. (
-        (record { groups = groups; before = history; later = []; split = refl; awaited = and_first (is_greeting s.phase) (length slots == 8) t }, tt),
+        (record { groups = groups; before = history; later = []; split = refl; awaited = and_first (is_greeting s.phase) (length slots == slot_count) t }, tt),
         says_lists (history ++ input.Welcome slots groups ∷ []) (begun slots groups).awaited,
       ))
       (λ t. (b, tt))

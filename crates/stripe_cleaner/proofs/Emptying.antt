@@ -18,6 +18,7 @@ use Rattle.xfs_base.specs.Steps.{still}
 use Rattle.xfs_base.proofs.Booleans.{by_test, and_first, and_second}
 use Rattle.xfs_base.proofs.Orders.{seg_cmp_exact}
 use Rattle.xfs_base.proofs.StepLoops.{steps_both}
+use Rattle.xfs_base.specs.Limits.{slot_count}
 use Rattle.stripe_cleaner.specs.declared.checks.Check.{Check}
 use Rattle.stripe_cleaner.specs.declared.checks.Fate.{Fate}
 use Rattle.stripe_cleaner.specs.declared.checks.Fate.TheVariants as fate
@@ -452,7 +453,7 @@ module _ (start : CleaningState) where
   welcome_fine : (h : List In) (s : CleaningState) (slots : List SlotNews) (groups : GroupMapState) → KnownIn h s.phase → FineDone h (on_welcome s slots groups)
   unfolding on_welcome
   welcome_fine h s slots groups k =
-      by_test (FineDone h) (is_greeting s.phase && (length slots == 8)) (welcomed s slots groups) (still s)
+      by_test (FineDone h) (is_greeting s.phase && (length slots == slot_count)) (welcomed s slots groups) (still s)
       (λ t. (tt, says_lists h (begun slots groups).awaited)) (λ t. (k, tt))
 
   promise_fine : (h : List In) (s : CleaningState) (slot epoch : ℕ) → KnownIn h s.phase → FineDone h (on_promise s slot epoch)

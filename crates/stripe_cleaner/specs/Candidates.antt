@@ -4,7 +4,7 @@ use Rattle.std.specs.BTreeMap.{insert_entry}
 use Rattle.xfs_base.specs.declared.fragment.FragMeta.{FragMeta}
 use Rattle.xfs_base.specs.declared.news.SlotNews.{SlotNews}
 use Rattle.xfs_base.specs.declared.segment.SegName.{SegName}
-use Rattle.xfs_base.specs.Limits.{u32_end}
+use Rattle.xfs_base.specs.Limits.{u32_end, block_logs}
 use Rattle.xfs_base.specs.Segments.{seg_cmp}
 
 -- the first number of a log that the slot's checkpoint does not cover; 0 where the horizon has none
@@ -17,7 +17,7 @@ least_horizon slots log = fold (λ least news. min least (horizon_at news log)) 
 
 -- the logs of clients and of the cleaner; a manager's checkpoints are not cleaned
 abbrev pub is_cleaned : ℕ → Bool
-is_cleaned log = nat_le 1 log && nat_le log 9
+is_cleaned log = nat_le 1 log && nat_le log block_logs
 
 -- whether a segment may be emptied: it is below the least horizon of its log
 abbrev pub is_candidate : List SlotNews → SegName → Bool

@@ -1,10 +1,11 @@
 -- The epochs that the cleaner has promised.
 use Rattle.std.specs.Prelude.{ℕ, Bool, List, ◌==◌, ◌&&◌, nat_lt, fold, replicate, slice_index_or, slice_set, if◌then◌else◌}
 use Rattle.xfs_base.specs.declared.news.SlotNews.{SlotNews}
+use Rattle.xfs_base.specs.Limits.{slot_count}
 
 -- no epoch of the eight slots
 abbrev pub none_promised : List ℕ
-none_promised = replicate 8 0
+none_promised = replicate slot_count 0
 
 -- the epoch of a slot, 0 where none is
 abbrev pub promised_at : List ℕ → ℕ → ℕ
@@ -12,11 +13,11 @@ promised_at promised slot = slice_index_or promised slot 0
 
 -- whether an epoch of a slot is the promised one: what was said in another counts for nothing
 abbrev pub is_promised : List ℕ → ℕ → ℕ → Bool
-is_promised promised slot epoch = nat_lt slot 8 && (epoch == promised_at promised slot)
+is_promised promised slot epoch = nat_lt slot slot_count && (epoch == promised_at promised slot)
 
 -- whether an epoch of a slot is above the promised one
 abbrev pub is_above : List ℕ → ℕ → ℕ → Bool
-is_above promised slot epoch = nat_lt slot 8 && nat_lt (promised_at promised slot) epoch
+is_above promised slot epoch = nat_lt slot slot_count && nat_lt (promised_at promised slot) epoch
 
 -- with this epoch of a slot, where it is above
 abbrev pub promised_with : List ℕ → ℕ → ℕ → List ℕ

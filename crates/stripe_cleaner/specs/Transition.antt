@@ -11,7 +11,7 @@ use Rattle.xfs_base.specs.declared.fragment.FragMeta.{FragMeta}
 use Rattle.xfs_base.specs.declared.news.SlotNews.{SlotNews}
 use Rattle.xfs_base.specs.declared.segment.SegName.{SegName}
 use Rattle.xfs_base.specs.Blocks.{slot_of}
-use Rattle.xfs_base.specs.Limits.{u32_end}
+use Rattle.xfs_base.specs.Limits.{u32_end, slot_count}
 use Rattle.xfs_base.specs.Steps.{Stepped, still}
 use Rattle.stripe_cleaner.specs.declared.checks.Check.{Check}
 use Rattle.stripe_cleaner.specs.declared.input.In.{In}
@@ -57,7 +57,7 @@ welcomed s slots groups = record {
 
 -- Welcome: all servers are asked for what they hold.
 unfoldable pub on_welcome : CleaningState → List SlotNews → GroupMapState → Done
-on_welcome s slots groups = if is_greeting s.phase && (length slots == 8) then welcomed s slots groups else still s
+on_welcome s slots groups = if is_greeting s.phase && (length slots == slot_count) then welcomed s slots groups else still s
 
 abbrev pub forgotten : ℕ → CountingState → CountingState
 forgotten slot c = record c { usages = remove_entry (is_at (nat_cmp slot)) c.usages }

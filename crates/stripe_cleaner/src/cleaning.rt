@@ -13,13 +13,14 @@ use segment_format::Segment;
 use std::alloc::Global;
 use std::marker::Model;
 use std::mem;
+use xfs_base::limits::BY_SLOT;
 use xfs_base::{BlockId, Crosses, Entry, FragMeta, List, Mem, SegName, SlotNews};
 
 /// A job of the cleaner: so many segments are to be emptied. Contracts see it as a record of its parts
 /// (`specs/CleaningState.antt`).
 pub struct Cleaning {
     count: u32,
-    promised: [u32; 8],
+    promised: [u32; BY_SLOT],
     phase: Phase,
 }
 
@@ -52,7 +53,7 @@ impl Cleaning {
     {
         Ok(Cleaning {
             count,
-            promised: [0; 8],
+            promised: [0; BY_SLOT],
             phase: Phase::Greeting,
         })
     }
@@ -128,7 +129,7 @@ impl Cleaning {
         ensures state { OnOk result (self.new ≡ (on_welcome self.old slots groups).state) }
         ensures outs { OnOk result (outs.new ≡ outs.old ++ (on_welcome self.old slots groups).outs) }
     {
-        if !self.phase.is_greeting() || slots.len() != 8 {
+        if !self.phase.is_greeting() || slots.len() != BY_SLOT {
             return Ok(());
         }
         self.promised = promised_of(slots.as_slice(), &self.promised);

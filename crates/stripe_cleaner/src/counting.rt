@@ -4,7 +4,7 @@ ghost use Rattle.std.specs.List.{list_all};
 ghost use Rattle.std.specs.Ordering.{nat_cmp};
 ghost use Rattle.std.specs.Map.{remove_entry};
 ghost use Rattle.std.specs.BTreeMap.{is_at, insert_entry};
-ghost use Rattle.xfs_base.specs.Limits.{u32_end};
+ghost use Rattle.xfs_base.specs.Limits.{u32_end, slot_count};
 ghost use Rattle.usage_table.specs.Counts.{count_of};
 ghost use Rattle.stripe_cleaner.specs.Counting.{has_usage, is_counted, awaited_among, awaited_slots, live_in, live_among, live_count, fullness_of, by_fullness, chosen, segment_at};
 ghost use Rattle.stripe_cleaner.specs.Transition.{usage_asks, forgotten, forgetting, counted, usage_with, on_counts};
@@ -16,10 +16,11 @@ use group_map::GroupMap;
 use std::alloc::Global;
 use std::collections::{BTreeMap, VecDeque};
 use std::marker::Model;
+use xfs_base::limits::BY_SLOT;
 use xfs_base::{Crosses, List, Mem, SegName, SegRef};
 
 /// The slots, in order.
-const SLOTS: [u8; 8] = [0, 1, 2, 3, 4, 5, 6, 7];
+const SLOTS: [u8; BY_SLOT] = [0, 1, 2, 3, 4, 5, 6, 7];
 
 /// By what the candidates are chosen, the least first: live blocks, then log, number and pass.
 #[derive(Clone, Copy, PartialEq, Eq, PartialOrd, Ord)]
@@ -263,7 +264,7 @@ fn fullness_of(usages: &Usages, name: SegName) -> Fullness
 
 // The live blocks of a segment in these slots.
 fn live_count(usages: &Usages, name: SegName, slots: &[u8]) -> u64
-    requires { length slots.now ≤ 8 }
+    requires { length slots.now ≤ slot_count }
     ensures { result ≡ live_among usages.now.entries name slots.now }
 {
     let mut live = 0;
@@ -295,7 +296,7 @@ fn count_of(counts: &[(SegName, u32)], name: SegName) -> u32
     ensures { result ≡ count_of counts.now name }
 {
     for (seg, count) in counts {
-        if name.order(*seg).is_eq() {
+        if name.is_same(*seg) {
             return *count;
         }
     }

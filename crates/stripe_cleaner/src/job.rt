@@ -4,7 +4,7 @@ ghost use Rattle.xfs_base.specs.Limits.{u32_end};
 ghost use Rattle.stripe_cleaner.specs.declared.output.Out.TheVariants.{Finished, Move};
 ghost use Rattle.stripe_cleaner.specs.declared.phase.Phase.TheVariants.{Checking, Over};
 ghost use Rattle.stripe_cleaner.specs.Checks.{live_at, dead_at, moves};
-ghost use Rattle.stripe_cleaner.specs.Job.{next, servers_in, servers_of, deletes, deleting, left_to_delete, same_name, on_deleted, checking, on_read, looked_at, on_answer, is_moving, on_moved};
+ghost use Rattle.stripe_cleaner.specs.Job.{next, servers_in, servers_of, deletes, deleting, left_to_delete, on_deleted, checking, on_read, looked_at, on_answer, is_moving, on_moved};
 
 use crate::checks::{
     Check, all_dead, all_dead_at, all_live_at, all_moved, any_asked, any_live, checks_of, moves_of,
@@ -116,7 +116,7 @@ impl Job {
         ensures phase { IfOk result (λ phase. phase ≡ (on_read (Some read) self segment).state) }
         ensures outs { OnOk result (outs.new ≡ outs.old ++ (on_read (Some read) self segment).outs) }
     {
-        if !is_name(read.name, segment.name) {
+        if !read.name.is_same(segment.name) {
             drop(read);
             return Ok(Phase::Reading { job: self, segment });
         }
@@ -299,7 +299,7 @@ impl Job {
         ensures phase { IfOk result (λ phase. phase ≡ (on_deleted server name self segment servers).state) }
         ensures outs { OnOk result (outs.new ≡ outs.old ++ (on_deleted server name self segment servers).outs) }
     {
-        if !is_name(name, segment.name) || !is_among(servers.as_slice(), server) {
+        if !name.is_same(segment.name) || !is_among(servers.as_slice(), server) {
             return Ok(Phase::Deleting {
                 job: self,
                 segment,
@@ -345,12 +345,6 @@ fn is_moving(checks: &[Check]) -> bool
     ensures { result ≡ is_moving checks.now }
 {
     !any_asked(checks) && any_live(checks)
-}
-
-fn is_name(a: SegName, b: SegName) -> bool
-    ensures { result ≡ same_name a b }
-{
-    a.order(b).is_eq()
 }
 
 // The servers of the segment's members, in order.

@@ -12,6 +12,7 @@ use std::alloc::Global;
 use std::collections::BTreeMap;
 use std::marker::Model;
 use std::mem;
+use xfs_base::limits::BLOCK_LOGS;
 use xfs_base::{Crosses, FragMeta, List, LogId, Mem, SegName, SlotNews};
 
 /// What is known while the servers' lists come in. Contracts see it as a record.
@@ -223,7 +224,7 @@ fn is_candidate(slots: &[SlotNews], name: SegName) -> bool
 fn is_cleaned(log: LogId) -> bool
     ensures { result ≡ is_cleaned log.0 }
 {
-    1 <= log.0 && log.0 <= 9
+    1 <= log.0 && log.0 <= BLOCK_LOGS
 }
 
 fn least_horizon(slots: &[SlotNews], log: LogId) -> u32

@@ -1,18 +1,11 @@
 -- The fragments of a segment, each with what is said of it.
-use Rattle.std.specs.Prelude.{ℕ, zero, suc, Bool, ◌==◌, ◌&&◌, List, [], ◌∷◌, length}
+use Rattle.std.specs.Prelude.{ℕ, zero, suc, List, [], ◌∷◌, length}
 use Rattle.xfs_base.specs.declared.fragment.FragMeta.{FragMeta}
 use Rattle.xfs_base.specs.declared.fragment.Fragment.{Fragment}
-use Rattle.xfs_base.specs.declared.segment.Pass.{Pass}
-use Rattle.xfs_base.specs.declared.segment.SegName.{SegName}
 use Rattle.segment_format.specs.declared.segment.Segment.{Segment}
 use Rattle.segment_format.specs.Text.{text_of}
 use Rattle.stripe_code.specs.Stripe.{stripe_of}
-
-abbrev pub same_pass : Pass → Pass → Bool
-same_pass a b = (a.inc == b.inc) && (a.att == b.att)
-
-abbrev pub same_name : SegName → SegName → Bool
-same_name a b = (a.log.0 == b.log.0) && ((a.seq == b.seq) && same_pass a.pass b.pass)
+pub use Rattle.xfs_base.specs.Segments.{same_name}
 
 -- what the fragment of a segment at a place says of itself
 abbrev pub meta_of : Segment → ℕ → FragMeta

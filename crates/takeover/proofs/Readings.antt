@@ -1,6 +1,5 @@
 -- A reading looks for one segment from its beginning to its end, and what it gives has that segment's name.
-use Rattle.std.proofs.Common.{◌≡◌, ℕ, true, Option, Some, None, refl, arith}
-use Rattle.std.proofs.lemmas.Bool.Decides.{nat_tests}
+use Rattle.std.proofs.Common.{◌≡◌, ℕ, Option, Some, None, refl, sym}
 use Rattle.group_map.specs.GroupMapState.{GroupMapState}
 use Rattle.segment_format.specs.declared.segment.Segment.{Segment}
 use Rattle.segment_format.specs.declared.seg_error.SegError.{SegError}
@@ -12,22 +11,13 @@ use Rattle.segment_reading.specs.declared.reading.Next.TheVariants.{Wait, Ask, A
 use Rattle.segment_reading.specs.declared.reading.Stage.{Stage}
 use Rattle.segment_reading.specs.declared.reading.Stage.TheVariants.{Asking, Between, Doubted, Over}
 use Rattle.segment_reading.specs.declared.target.Target.{Target}
-use Rattle.xfs_base.specs.declared.segment.SegName.{SegName}
 use Rattle.xfs_base.proofs.Booleans.{by_test, and_first}
-use Rattle.stripe_code.specs.Fragments.{same_name}
+use Rattle.xfs_base.proofs.SegmentNames.{one_name}
+use Rattle.xfs_base.specs.Segments.{same_name}
 use Rattle.stripe_code.specs.Round.{taken, state_of}
 use Rattle.stripe_code.specs.declared.round.RoundState.{RoundState}
 use Rattle.stripe_code.specs.declared.round.RoundState.TheVariants as round
 use Rattle.stripe_code.specs.declared.round.Told.{Told}
-
--- names that pass the test are one
-same_name_exact : (a b : SegName) → same_name a b ≡ true → b ≡ a
-same_name_exact a b h =
-    let log : b.log.0 ≡ a.log.0 = grind (arith, nat_tests) in
-    let seq : b.seq ≡ a.seq = grind (arith, nat_tests) in
-    let inc : b.pass.inc ≡ a.pass.inc = grind (arith, nat_tests) in
-    let att : b.pass.att ≡ a.pass.att = grind (arith, nat_tests) in
-    λ i. record { log = record { 0 = log i }; seq = seq i; pass = record { inc = inc i; att = att i } }
 
 -- ---- what is looked for stays
 
@@ -73,7 +63,7 @@ named-found : (r : ReadingState) (target : Target) (groups : GroupMapState) (ans
     → IsNamed target (read_as r (segment_found target groups answer)).next
 named-found r target groups (Ok s) =
     by_test (λ (o : Option Segment). IsNamed target (read_as r o).next) (is_target target groups s) (Some s) None
-    (λ t. same_name_exact target.seg.name s.name (and_first (same_name target.seg.name s.name) _ t))
+    (λ t. sym (one_name target.seg.name s.name (and_first (same_name target.seg.name s.name) _ t)))
     (λ t. tt)
 named-found r target groups (Err e) = tt
 

@@ -14,7 +14,7 @@ use Rattle.xfs_base.specs.declared.block.BlockId.{BlockId}
 use Rattle.xfs_base.specs.declared.entry.Entry.{Entry}
 use Rattle.xfs_base.specs.declared.news.SlotNews.{SlotNews}
 use Rattle.xfs_base.specs.declared.token.Mode.{Mode}
-use Rattle.xfs_base.specs.Limits.{u32_end}
+use Rattle.xfs_base.specs.Limits.{u32_end, block_logs}
 use Rattle.takeover.specs.declared.input.In.{In}
 use Rattle.takeover.specs.declared.input.In.TheVariants as input
 use Rattle.takeover.specs.declared.output.Out.{Out}
@@ -105,7 +105,7 @@ pub record IsOver (s : TakeState) : Type 0 where
 
 -- nine numbers, and no more rows than a slot's index may have pages
 pub record MayStart (index : List (BlockId × Entry)) (applied : List ℕ) : Type 0 where
-  pub nine : length applied ≡ 9
+  pub nine : length applied ≡ block_logs
   pub few : length index ≤ u32_end
 
 abbrev pub StartsSlot : Out → Type 0

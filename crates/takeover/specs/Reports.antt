@@ -1,6 +1,8 @@
 -- What the clients and the cleaner report: what clients hold, and how far their logs reach.
-use Rattle.std.specs.Prelude.{ℕ, ◌+◌, ◌-◌, Bool, ◌==◌, not, List, [], ◌∷◌, ◌++◌, map, filter, max, slice_index, if◌then◌else◌}
+use Rattle.std.specs.Prelude.{ℕ, ◌+◌, ◌-◌, Bool, not, List, [], ◌∷◌, ◌++◌, map, filter, max, slice_index, if◌then◌else◌}
 use Rattle.std.specs.List.{list_any, flat_map, range_with_len}
+use Rattle.xfs_base.specs.Limits.{block_logs}
+use Rattle.xfs_base.specs.Logs.{block_writer}
 use Rattle.xfs_base.specs.Nodes.{same_node}
 use Rattle.xfs_base.specs.declared.block.BlockId.{BlockId}
 use Rattle.xfs_base.specs.declared.node.NodeId.{NodeId}
@@ -30,10 +32,6 @@ awaited_of clients reports = unheard reports (polled clients)
 
 -- ---- how far the logs reach
 
--- the node that writes a log, of the logs 1 to 9
-abbrev pub writer_of : ℕ → NodeId
-writer_of log = if log == 9 then Cleaner else Client log
-
 -- the end that a node reported
 abbrev pub end_from : NodeId → List Report → End
 end_from node [] = no_end
@@ -41,7 +39,7 @@ end_from node (r ∷ rest) = if same_node r.from node then r.end else end_from n
 
 -- the reported end of a log
 abbrev pub end_of : List Report → ℕ → End
-end_of reports log = end_from (writer_of log) reports
+end_of reports log = end_from (block_writer log) reports
 
 -- the first number of a log that the checkpoint does not cover
 abbrev pub horizon_at : List ℕ → ℕ → ℕ
@@ -51,9 +49,9 @@ horizon_at horizon log = slice_index horizon (log - 1)
 abbrev pub applied_at : List ℕ → List Report → ℕ → ℕ
 applied_at horizon reports log = max (end_of reports log).seq (horizon_at horizon log - 1)
 
--- by log, from log 1 to 9
+-- by log, of those that say where blocks lie, from log 1 on
 unfoldable pub applied_of : List ℕ → List Report → List ℕ
-applied_of horizon reports = map (applied_at horizon reports) (range_with_len 1 9)
+applied_of horizon reports = map (applied_at horizon reports) (range_with_len 1 block_logs)
 
 -- ---- who is believed to hold what
 

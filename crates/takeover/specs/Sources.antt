@@ -1,10 +1,11 @@
 -- Where a takeover reads: each part of the checkpoint, and each log from its reported end back to what the checkpoint covers.
-use Rattle.std.specs.Prelude.{ℕ, ◌-◌, Bool, ◌==◌, ◌&&◌, not, nat_lt, nat_le, List, [], ◌∷◌, ◌++◌, Option, Some, None, map, if◌then◌else◌}
+use Rattle.std.specs.Prelude.{ℕ, ◌-◌, Bool, ◌&&◌, not, nat_lt, nat_le, List, [], ◌∷◌, ◌++◌, Option, Some, None, map, if◌then◌else◌}
 use Rattle.std.specs.List.{flat_map, range_with_len}
 use Rattle.xfs_base.specs.declared.news.SlotNews.{SlotNews}
 use Rattle.xfs_base.specs.declared.segment.End.{End}
-use Rattle.xfs_base.specs.declared.segment.Prior.{Prior}
 use Rattle.xfs_base.specs.declared.segment.SegRef.{SegRef}
+use Rattle.xfs_base.specs.Limits.{block_logs}
+use Rattle.xfs_base.specs.Segments.{names_none}
 use Rattle.segment_format.specs.declared.segment.Segment.{Segment}
 use Rattle.takeover.specs.declared.report.Report.{Report}
 use Rattle.takeover.specs.declared.source.Source.{Source}
@@ -25,13 +26,9 @@ from_end log low end = if nat_le low end.seq then log_source log low end ∷ [] 
 abbrev pub log_sources : List ℕ → List Report → ℕ → List Source
 log_sources horizon reports log = from_end log (horizon_at horizon log) (end_of reports log)
 
--- the parts in their order, then logs 1 to 9
+-- the parts in their order, then the logs that say where blocks lie
 abbrev pub sources_of : SlotNews → List Report → List Source
-sources_of news reports = map part_source news.parts ++ flat_map (log_sources news.horizon reports) (range_with_len 1 9)
-
--- whether a segment has none before it in its log
-abbrev pub is_none : Prior → Bool
-is_none prior = (prior.pass.inc == 0) && ((prior.pass.att == 0) && (prior.group == 0))
+sources_of news reports = map part_source news.parts ++ flat_map (log_sources news.horizon reports) (range_with_len 1 block_logs)
 
 -- the segment before this one in its log
 abbrev pub prior_of : Segment → SegRef
@@ -39,7 +36,7 @@ prior_of s = record { name = record { log = s.name.log; seq = s.name.seq - 1; pa
 
 -- whether the segment before this one is to be read too: there is one, and it is not below what is read
 abbrev pub goes_back : Source → Segment → Bool
-goes_back source s = nat_lt source.low s.name.seq && not (is_none s.prior)
+goes_back source s = nat_lt source.low s.name.seq && not (names_none s.prior)
 
 -- what is left of a source once this segment of it is read
 abbrev pub back_from : Source → Segment → Option Source

@@ -2,10 +2,11 @@
 ghost use Rattle.std.specs.Prelude.{◌≡◌, ◌++◌, ◌+◌, ◌≤◌, IfOk, OnOk, map};
 ghost use Rattle.std.specs.List.{list_any};
 ghost use Rattle.xfs_base.specs.Nodes.{same_node};
-ghost use Rattle.takeover.specs.Reports.{polled, is_heard, unheard, awaited_of, writer_of, end_from, end_of, horizon_at, applied_at, applied_of, with_client, held_by, beliefs_of};
+ghost use Rattle.takeover.specs.Reports.{polled, is_heard, unheard, awaited_of, end_from, end_of, horizon_at, applied_at, applied_of, with_client, held_by, beliefs_of};
 
 use std::alloc::Global;
-use xfs_base::{BlockId, End, List, Mem, Mode, NodeId, Pass};
+use xfs_base::limits::BLOCK_LOGS;
+use xfs_base::{BlockId, End, List, LogId, Mem, Mode, NodeId};
 
 /// What a node reported.
 #[derive(Drop)]
@@ -18,8 +19,8 @@ pub(crate) struct Report {
     pub end: End,
 }
 
-/// How many logs a slot's blocks are written to: those of the clients and of the cleaner.
-const LOGS: u8 = 9;
+/// The number behind the last log that says where blocks lie.
+pub(crate) const LOGS_END: u8 = BLOCK_LOGS + 1;
 
 /// The nodes that are polled and whose report is not in: clients in order, then the cleaner.
 pub(crate) fn awaited_of(alloc: Global, clients: u8, reports: &[Report]) -> Mem<List<NodeId>>
@@ -67,17 +68,6 @@ pub(crate) fn is_among(nodes: &[NodeId], node: NodeId) -> bool
     nodes.iter().any(|other| other.is_same(node))
 }
 
-/// The node that writes a log, 1 to 9.
-fn writer_of(log: u8) -> NodeId
-    ensures { result ≡ writer_of log }
-{
-    if log == LOGS {
-        NodeId::Cleaner
-    } else {
-        NodeId::Client(log)
-    }
-}
-
 /// The end that a node reported; nothing is settled where it is not heard.
 fn end_from(reports: &[Report], node: NodeId) -> End
     ensures { result ≡ end_from node reports.now }
@@ -87,18 +77,14 @@ fn end_from(reports: &[Report], node: NodeId) -> End
             return report.end;
         }
     }
-    End {
-        seq: 0,
-        pass: Pass { inc: 0, att: 0 },
-        group: 0,
-    }
+    End::none()
 }
 
 /// The reported end of a log, 1 to 9.
 pub(crate) fn end_of(reports: &[Report], log: u8) -> End
     ensures { result ≡ end_of reports.now log }
 {
-    end_from(reports, writer_of(log))
+    end_from(reports, LogId(log).block_writer())
 }
 
 /// The first number of a log, 1 to 9, that the checkpoint does not cover.
@@ -128,7 +114,7 @@ pub(crate) fn applied_of(alloc: Global, horizon: &[u32], reports: &[Report]) -> 
     ensures { IfOk result (λ applied. applied ≡ applied_of horizon.now reports.now) }
 {
     let mut applied = List::new(alloc);
-    for log in 1..10u8 {
+    for log in 1..LOGS_END {
         applied.push(applied_at(horizon, reports, log))?;
     }
     Ok(applied)

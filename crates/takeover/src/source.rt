@@ -1,16 +1,17 @@
 //! Where a takeover reads.
 ghost use Rattle.std.specs.Prelude.{◌≡◌, ◌++◌, ◌≤◌, IfOk, OnOk, map};
 ghost use Rattle.std.specs.List.{flat_map, range_with_len};
-ghost use Rattle.takeover.specs.Sources.{part_source, log_sources, sources_of, is_none, back_from};
+ghost use Rattle.xfs_base.specs.Limits.{block_logs};
+ghost use Rattle.takeover.specs.Sources.{part_source, log_sources, sources_of, back_from};
 ghost use Rattle.takeover.specs.Transition.{target_of, waits_in, unanswered, fetches};
 
 use crate::output::Out;
-use crate::report::{Report, end_of, horizon_at};
+use crate::report::{LOGS_END, Report, end_of, horizon_at};
 use segment_format::Segment;
 use segment_reading::{Reading, Target};
 use std::alloc::Global;
 use std::collections::VecDeque;
-use xfs_base::{List, LogId, Mem, Pass, Prior, SegName, SegRef, SlotNews};
+use xfs_base::{List, LogId, Mem, SegName, SegRef, SlotNews};
 
 /// A segment, and those before it in its log that are not below a number.
 #[derive(Clone, Copy, PartialEq, Eq)]
@@ -46,7 +47,7 @@ impl Source {
         ensures { result ≡ back_from self segment.now }
     {
         let seq = segment.name.seq;
-        if seq <= self.low || is_none(segment.prior) {
+        if seq <= self.low || segment.prior.names_none() {
             return None;
         }
         let name = SegName {
@@ -94,13 +95,6 @@ impl Present {
     }
 }
 
-/// Whether a segment has none before it in its log.
-fn is_none(prior: Prior) -> bool
-    ensures { result ≡ is_none prior }
-{
-    prior.pass.inc == 0 && prior.pass.att == 0 && prior.group == 0
-}
-
 /// Asks these servers for their fragments of a segment.
 pub(crate) fn add_fetches(outs: &mut List<Out>, servers: &[u8], name: SegName, ask: u32) -> Mem<()>
     ensures { OnOk result (outs.new ≡ outs.old ++ fetches name ask servers.now) }
@@ -142,9 +136,9 @@ fn add_parts(sources: &mut VecDeque<Source>, parts: &[SegRef]) -> Mem<()>
 }
 
 fn add_logs(sources: &mut VecDeque<Source>, horizon: &[u32], reports: &[Report]) -> Mem<()>
-    ensures { OnOk result (sources.new.items ≡ sources.old.items ++ flat_map (log_sources horizon.now reports.now) (range_with_len 1 9)) }
+    ensures { OnOk result (sources.new.items ≡ sources.old.items ++ flat_map (log_sources horizon.now reports.now) (range_with_len 1 block_logs)) }
 {
-    for log in 1..10u8 {
+    for log in 1..LOGS_END {
         add_log(sources, horizon, reports, log)?;
     }
     Ok(())

@@ -12,7 +12,7 @@ use Rattle.xfs_base.specs.Blocks.{slot_of}
 use Rattle.xfs_base.specs.Steps.{Stepped, still, saying, steps}
 use Rattle.xfs_base.specs.Modes.{same_mode, is_own}
 use Rattle.xfs_base.specs.Stamps.{is_later}
-use Rattle.xfs_base.specs.Limits.{u32_end}
+use Rattle.xfs_base.specs.Limits.{u32_end, slot_count}
 use Rattle.token_client.specs.declared.held.Held.{Held}
 use Rattle.token_client.specs.declared.held.Wanted.{Wanted}
 use Rattle.token_client.specs.declared.input.In.{In}
@@ -175,7 +175,7 @@ ask_copy s block = new_want s block Copy
 
 -- whether an epoch is at least the promised one, and there are numbers for all wants that it makes new
 abbrev pub may_promise : TokensState → ℕ → ℕ → Bool
-may_promise s slot epoch = (nat_lt slot 8 && nat_le (epoch_of s.epochs slot) epoch) && nat_le (length (fetched_in slot s.blocks)) (u32_end - s.req)
+may_promise s slot epoch = (nat_lt slot slot_count && nat_le (epoch_of s.epochs slot) epoch) && nat_le (length (fetched_in slot s.blocks)) (u32_end - s.req)
 
 -- A promise drops fetch and giving of the slot's blocks; calls whose fetch was dropped want again.
 unfoldable pub on_promise : TokensState → ℕ → ℕ → Done

@@ -13,6 +13,7 @@ use crate::table::{
 };
 use crate::tokens::Tokens;
 use std::alloc::Global;
+use xfs_base::limits::SLOT_COUNT;
 use xfs_base::{BlockId, Entry, List, Mem, Mode, Stamp, Value};
 
 impl Tokens {
@@ -200,7 +201,7 @@ impl Tokens {
         requires { fetches.now ≡ fetched_in slot self.now.blocks }
         ensures { result ≡ may_promise self.now slot epoch }
     {
-        slot < 8
+        slot < SLOT_COUNT
             && self.epochs[usize::from(slot)] <= epoch
             && fetches.len() <= (u32::MAX - self.req) as usize
     }

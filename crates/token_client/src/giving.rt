@@ -1,6 +1,5 @@
 //! Giving blocks: forwards and recalls, and what a block goes through until it is given up.
 ghost use Rattle.std.specs.Prelude.{◌≡◌, ◌++◌, [], OnOk};
-ghost use Rattle.token_client.specs.Held.{is_dirty};
 ghost use Rattle.token_client.specs.State.{held_of};
 ghost use Rattle.token_client.specs.Transition.{serves, on_forwarded, refetch, give, recalled_above, recalled_again, recalled, was_answered, on_recalled, on_wrote, on_settled, on_evict};
 
@@ -44,16 +43,6 @@ impl Tokens {
             })?;
         }
         Ok(())
-    }
-
-    /// Whether the newest version of a block isn't settled.
-    pub(crate) fn is_dirty(&self, block: BlockId) -> bool
-        ensures { result ≡ is_dirty (held_of self.now.blocks block) }
-    {
-        match self.blocks.get(&block) {
-            Some(held) => held.is_dirty(),
-            None => false,
-        }
     }
 
     /// Whether a recall was answered before, and nothing is being given.

@@ -11,6 +11,7 @@ pub mod input;
 pub mod laws;
 pub mod output;
 mod readers;
+mod settling;
 mod table;
 pub mod tokens;
 

@@ -1,9 +1,11 @@
 //! What a node reads of its tokens.
 ghost use Rattle.std.specs.Prelude.{◌≡◌, ◌<◌, None, Some, option_map, IfOk, MatchOption};
+ghost use Rattle.xfs_base.specs.Limits.{slot_count};
+ghost use Rattle.token_client.specs.Held.{is_dirty, may_write};
 ghost use Rattle.token_client.specs.State.{held_of, held_in, dirty_in, epoch_of};
 ghost use Rattle.token_client.specs.Repetitions.{repetition};
 
-use crate::table::{dirty_blocks, held_blocks, repetition};
+use crate::table::{dirty_blocks, held_blocks, may_write, repetition};
 use crate::tokens::Tokens;
 use std::alloc::Global;
 use xfs_base::{BlockId, List, Mem, Mode, Place, Stamp, Value};
@@ -110,9 +112,17 @@ impl Tokens {
         }
     }
 
+    /// Whether a block may be written: it is owned, no recall of it is put off, and its version isn't the last of
+    /// its type.
+    pub fn may_write(&self, block: BlockId) -> bool
+        ensures { result ≡ may_write (held_of self.now.blocks block) }
+    {
+        may_write(&self.blocks, block)
+    }
+
     /// The epoch that a slot is promised to.
     pub fn promised(&self, slot: u8) -> u32
-        requires { slot < 8 }
+        requires { slot < slot_count }
         ensures { result ≡ epoch_of self.now.epochs slot }
     {
         self.epochs[usize::from(slot)]
@@ -123,6 +133,16 @@ impl Tokens {
         ensures { IfOk result (λ held. held ≡ held_in slot self.now.blocks) }
     {
         held_blocks(alloc, &self.blocks, slot)
+    }
+
+    /// Whether the newest version of a block isn't settled.
+    pub fn is_dirty(&self, block: BlockId) -> bool
+        ensures { result ≡ is_dirty (held_of self.now.blocks block) }
+    {
+        match self.blocks.get(&block) {
+            Some(held) => held.is_dirty(),
+            None => false,
+        }
     }
 
     /// The blocks whose newest version isn't settled, by block.

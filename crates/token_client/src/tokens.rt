@@ -1,5 +1,6 @@
 //! The tokens of a client: their state, their start, and what they take.
 ghost use Rattle.std.specs.Prelude.{◌≡◌, length, OnOk, IfOk};
+ghost use Rattle.xfs_base.specs.Limits.{slot_count};
 ghost use Rattle.token_client.specs.State.{started};
 ghost use Rattle.token_client.specs.Transition.{transition};
 
@@ -9,12 +10,13 @@ use crate::output::Out;
 use std::alloc::Global;
 use std::collections::BTreeMap;
 use std::marker::Model;
+use xfs_base::limits::BY_SLOT;
 use xfs_base::{BlockId, Crosses, List, Mem};
 
 /// The tokens of a client. Contracts see them as a record of their parts (`specs/State.antt`).
 pub struct Tokens {
     pub(crate) inc: u32,
-    pub(crate) epochs: [u32; 8],
+    pub(crate) epochs: [u32; BY_SLOT],
     pub(crate) req: u32,
     pub(crate) blocks: BTreeMap<BlockId, Held>,
 }
@@ -44,10 +46,10 @@ impl Crosses for Tokens {}
 impl Tokens {
     /// No block is known, and nothing was asked. The epochs are those that the slots are promised to.
     pub fn start(alloc: Global, inc: u32, epochs: List<u32>) -> Mem<Tokens>
-        requires { length epochs ≡ 8 }
+        requires { length epochs ≡ slot_count }
         ensures { IfOk result (λ tokens. tokens ≡ started inc epochs) }
     {
-        let mut promised = [0_u32; 8];
+        let mut promised = [0_u32; BY_SLOT];
         promised.copy_from_slice(epochs.as_slice());
         Ok(Tokens {
             inc,

@@ -16,6 +16,7 @@ use Rattle.token_law.specs.Net.{Net, Happens, Runs, opening}
 use Rattle.token_law.specs.Net.Runs.{Begun, On}
 use Rattle.token_protocol.proofs.Refining.{put_each}
 use Rattle.xfs_base.proofs.Booleans.{contrary}
+use Rattle.xfs_base.specs.Limits.{slot_count}
 use Rattle.token_law.proofs.Premises.{owed}
 use Rattle.token_law.proofs.Logged.{flag, Kept, books_keep}
 use Rattle.token_law.proofs.Apart.{falls_keep}
@@ -28,7 +29,7 @@ use Rattle.token_law.proofs.Standing.{begun}
 abbrev pub ones : List ℕ
 ones = 1 ∷ 1 ∷ 1 ∷ 1 ∷ 1 ∷ 1 ∷ 1 ∷ 1 ∷ []
 
-pub all_ones : (k : ℕ) → k < 8 → get_or ones k 0 ≡ 1
+pub all_ones : (k : ℕ) → k < slot_count → get_or ones k 0 ≡ 1
 all_ones zero h = refl
 all_ones (suc zero) h = refl
 all_ones (suc (suc zero)) h = refl
@@ -52,7 +53,7 @@ all_zeros (x ∷ xs) z (suc k) = all_zeros xs z.1 k
 abbrev pub zeros : List ℕ
 zeros = 0 ∷ 0 ∷ 0 ∷ 0 ∷ 0 ∷ 0 ∷ 0 ∷ 0 ∷ 0 ∷ []
 
-pub below_eight : (n : ℕ) → n % 8 < 8
+pub below_eight : (n : ℕ) → n % 8 < slot_count
 below_eight n = omega arith
 
 pub serving_is : (c members : ℕ) → c < members → flag (nat_lt c members) ≡ 1

@@ -2,9 +2,8 @@
 use Rattle.std.specs.Prelude.{ℕ, ◌+◌, ◌^◌, Bool, false, not, ◌&&◌, ◌||◌, ◌==◌, nat_lt, nat_le, List, [], ◌∷◌, length, Option, Some, None, if◌then◌else◌, is_some}
 use Rattle.std.specs.List.{list_any}
 use Rattle.std.specs.BTreeMap.{insert_entry}
-use Rattle.std.specs.Ordering.{is_eq}
 use Rattle.xfs_base.specs.Blocks.{block_cmp}
-use Rattle.xfs_base.specs.Segments.{seg_cmp}
+use Rattle.xfs_base.specs.Segments.{same_segment}
 use Rattle.xfs_base.specs.Steps.{Stepped, still, saying, steps}
 use Rattle.xfs_base.specs.declared.block.BlockId.{BlockId}
 use Rattle.xfs_base.specs.declared.entry.Entry.{Entry}
@@ -187,7 +186,7 @@ on_deltas s log first upto rows = if is_followed log then deltas_of s log first 
 -- whether a place is this one
 abbrev pub is_place : Option Place → Place → Bool
 is_place None place = false
-is_place (Some known) place = is_eq (seg_cmp known.seg.name place.seg.name) && (known.seg.group == place.seg.group) && (known.item == place.item)
+is_place (Some known) place = same_segment known.seg place.seg && (known.item == place.item)
 
 -- whether an entry lies at a place
 abbrev pub found : Entry → Place → Out

@@ -1,10 +1,8 @@
 //! What a slot has its manager send.
 ghost use Rattle.std.specs.Prelude.{◌≡◌, Some};
-ghost use Rattle.std.specs.Ordering.{is_eq};
-ghost use Rattle.xfs_base.specs.Segments.{seg_cmp};
 ghost use Rattle.token_manager.specs.Transition.{is_place, found};
 
-use xfs_base::{BlockId, Crosses, Entry, LogId, Mode, Place, SegName, Stamp};
+use xfs_base::{BlockId, Crosses, Entry, LogId, Mode, Place, Stamp};
 
 /// What a slot has its manager send. `client` is the number of the client to which it goes.
 #[derive(Clone, Copy)]
@@ -96,13 +94,5 @@ fn is_place(known: Option<Place>, place: Place) -> bool
 fn is_at(known: Place, place: Place) -> bool
     ensures { result ≡ is_place (Some known) place }
 {
-    is_named(known.seg.name, place.seg.name)
-        && known.seg.group == place.seg.group
-        && known.item == place.item
-}
-
-fn is_named(known: SegName, name: SegName) -> bool
-    ensures { result ≡ is_eq (seg_cmp known name) }
-{
-    known.order(name).is_eq()
+    known.seg.is_same(place.seg) && known.item == place.item
 }

@@ -3,6 +3,7 @@ ghost use Rattle.std.specs.Prelude.{◌≡◌, ◌+◌, ◌^◌, ◌<◌, ◌≤
 ghost use Rattle.xfs_base.specs.Modes.{is_own};
 ghost use Rattle.xfs_base.specs.Steps.{steps};
 ghost use Rattle.xfs_base.specs.declared.segment.SegName.{SegName};
+ghost use Rattle.xfs_base.specs.Limits.{block_logs};
 ghost use Rattle.slot_beliefs.specs.Index.{pages_of, live_in, has_room};
 ghost use Rattle.slot_beliefs.specs.Recalls.{applied_of, ready_blocks, is_followed, applied_upto};
 ghost use Rattle.token_manager.specs.Transition.{started, cleaned, has_turns, passers, answer, finished, recall_or_finish, recall, is_dropped, on_want, gave_last, gave_noted, on_gave, finished_at, apply, apply_or_not, on_deltas, transition};
@@ -20,6 +21,7 @@ use slot_beliefs::{Awaited, BlockIndex, Holder, Job, Wanted};
 use std::alloc::Global;
 use std::collections::BTreeMap;
 use std::marker::Model;
+use xfs_base::limits::{BLOCK_LOGS, BY_LOG};
 use xfs_base::{BlockId, Crosses, Entry, List, LogId, Mem, Mode, SegName, Stamp};
 
 /// The tokens of one slot of the manager map, in one epoch (the 1996 paper, "Cache Consistency"). Contracts see
@@ -31,7 +33,7 @@ pub struct Slot {
     beliefs: BTreeMap<Holder, bool>,
     jobs: BTreeMap<BlockId, Job>,
     turn: u64,
-    applied: [u32; 9],
+    applied: [u32; BY_LOG],
 }
 
 impl Drop for Slot {
@@ -87,7 +89,7 @@ impl Slot {
         beliefs: List<(BlockId, u8, Mode)>,
         applied: List<u32>,
     ) -> Mem<Slot>
-        requires nine { length applied ≡ 9 }
+        requires nine { length applied ≡ block_logs }
         requires room { (seg : SegName) → live_in seg index < 2 ^ 32 }
         ensures { IfOk result (λ slot. slot ≡ started epoch index beliefs applied) }
     {
@@ -100,7 +102,7 @@ impl Slot {
         epoch: u32,
         index: &[(BlockId, Entry)],
         beliefs: &[(BlockId, u8, Mode)],
-        applied: [u32; 9],
+        applied: [u32; BY_LOG],
     ) -> Mem<Slot>
         requires { (seg : SegName) → live_in seg index.now < 2 ^ 32 }
         ensures { IfOk result (λ slot. slot ≡ started epoch index.now beliefs.now applied) }
@@ -458,7 +460,7 @@ impl Slot {
         ensures state { OnOk result (self.new ≡ (on_deltas self.old log first upto rows.now).state) }
         ensures outs { OnOk result (outs.new ≡ outs.old ++ (on_deltas self.old log first upto rows.now).outs) }
     {
-        if log.0 < 1 || 9 < log.0 {
+        if log.0 < 1 || BLOCK_LOGS < log.0 {
             return Ok(());
         }
         let applied = applied_of(&self.applied, log.0);

@@ -1,6 +1,6 @@
 //! The abstract token protocol: one block, with its clients, its reigning manager, its logs and its packets, and what is true of it at every
 //! moment of every run, whatever is lost, repeated or reordered and whichever nodes stop. It stands on std alone and has no code: each function
-//! below has an empty body, and its contract is a law. `docs/PROTOCOL.md` says which file answers which question.
+//! below has an empty body, and its contract is a law. `docs/PROTOCOL_TOKENS.md` says which file answers which question.
 #![tactic(auto)]
 
 ghost use Rattle.std.specs.Prelude.{◌≡◌, ℕ, suc, Bool, true, ◌⊎◌};

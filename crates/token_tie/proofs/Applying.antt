@@ -54,6 +54,7 @@ use Rattle.token_tie.proofs.Wanting.{by_block, none_is, reached_sound, answer_qu
 use Rattle.token_tie.proofs.Gaving.{no_end, named_applied, zero_is, finished-at, takes_gave}
 use Rattle.xfs_base.specs.Modes.{is_own}
 use Rattle.xfs_base.proofs.Booleans.{by_test}
+use Rattle.xfs_base.specs.Limits.{block_logs}
 
 -- what is applied of a log rises where its deltas are taken
 rising : (applied : ℕ → ℕ) (c upto : ℕ) → applied c ≤ upto → (d : ℕ) → applied d ≤ put applied c upto d
@@ -70,7 +71,7 @@ applied_put w s b log upto m some known =
 joined : (applied first upto : ℕ) → joins_on applied first upto ≡ true → applied ≤ upto
 joined applied first upto h = grind (arith, nat_tests)
 
-followed : (n : ℕ) → (nat_le 1 n && nat_le n 9) ≡ true → 0 < n
+followed : (n : ℕ) → (nat_le 1 n && nat_le n block_logs) ≡ true → 0 < n
 followed n h = grind (arith, nat_tests)
 
 -- deltas that join on, of a log that is followed

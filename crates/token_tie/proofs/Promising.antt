@@ -28,7 +28,7 @@ use Rattle.token_tie.proofs.Elsewhere.{apart_took, ask-apart, ask_again-apart}
 use Rattle.token_tie.proofs.Takes.{at_block, unheld_rank, ask-there, ask_again-there}
 use Rattle.xfs_base.specs.Modes.{is_held}
 use Rattle.xfs_base.proofs.Booleans.{and_first, and_second, by_test}
-use Rattle.xfs_base.specs.Limits.{u32_end}
+use Rattle.xfs_base.specs.Limits.{u32_end, slot_count}
 
 -- asking for another block, or for this one, leaves this one's mode
 ask-mode : (g : Setting) (u : TokensState) (block : BlockId) → (held_of (ask_copy u block).state.blocks g.block).mode ≡ (held_of u.blocks g.block).mode
@@ -150,8 +150,8 @@ module _ (logs : Bool) (g : Setting) (end : ℕ) where
         (λ k f fact. ap is_held mode ∙ (r.sound.each g.block).fetch_unheld (subst (λ b. is_some (held_of s.blocks b).fetch ≡ true) fact f.1)) blocks facts in
         by_test At (may_promise s slot epoch) (steps ask_copy u blocks) (still s)
         (λ may.
-        let rises = and_second (nat_lt slot 8) (nat_le (epoch_of s.epochs slot) epoch)
-        (and_first (nat_lt slot 8 && nat_le (epoch_of s.epochs slot) epoch) (nat_le (length (fetched_in slot s.blocks)) (u32_end - s.req)) may) in
+        let rises = and_second (nat_lt slot slot_count) (nat_le (epoch_of s.epochs slot) epoch)
+        (and_first (nat_lt slot slot_count && nat_le (epoch_of s.epochs slot) epoch) (nat_le (length (fetched_in slot s.blocks)) (u32_end - s.req)) may) in
         let t = promised-known slot epoch rises in
         goes_through logs g end w (local_of u g.block) _ [] _ t
         (asks-took t.world u blocks (shown_on logs g end w [] (local_of u g.block) [] t) (end_on logs w t.world g.client end t.frame r.settled) free))

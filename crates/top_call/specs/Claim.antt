@@ -55,7 +55,7 @@ writing written faults old new = record { before = written old; after = written 
 abbrev pub reading : {S : Type 0} → (S → Option (List ℕ)) → (S → ℕ) → S → S → Reading
 reading left faults old new = record { before = left old; after = left new; faults = faults old; faults_after = faults new }
 
--- what the source told is read to its end or to the limit
+-- what the source told is read to its end or to the limit; where nothing is read it is empty
 abbrev pub IsRead : Bool → Reading → List ℕ → Type 0
 IsRead true r input = ReadWhole r.before input × Consumes r.before r.after input
 IsRead false r input = input ≡ []
@@ -64,7 +64,7 @@ IsRead false r input = input ≡ []
 abbrev pub IsInput : Option Command → Reading → List ℕ → Type 0
 IsInput command r input = IsRead (reads command) r input
 
--- at most 1,048,577 bytes were read
+-- at most so many bytes were read
 abbrev pub ReadsAtMost : Reading → ℕ → Type 0
 ReadsAtMost r bound = (bytes : List ℕ) × (length bytes ≤ bound) × Consumes r.before r.after bytes
 
@@ -152,7 +152,7 @@ module _ {N : Type 0} (step : N → Do → NodeStep N) (first : NodeId → Setup
   abbrev pub AnswersOrGivesUp : Option Command → List ℕ → Writing → Outcome N → Type 0
   AnswersOrGivesUp command input s o = Answers command input s o ⊎ GivesUp s o
 
-  -- a command is answered as is wanted of what it read; where memory is wanting, or a read failed, it isn't
+  -- a command is answered as is wanted of what it read; or memory is wanting, or it reads an input and a read failed, and nothing was written
   abbrev pub Ends : Option Command → Reading → Writing → Outcome N → Type 0
   Ends command r s o =
       ((input : List ℕ) × IsInput command r input × Answers command input s o)
@@ -167,9 +167,9 @@ module _ {N : Type 0} (step : N → Do → NodeStep N) (first : NodeId → Setup
   pub record Claim (command : Option Command) (r : Reading) (s : Writing) (o : Outcome N) : Type 0 where
     -- words that are no form are answered by the usage line
     pub usage : command ≡ None → Tells s o (line usage_text 2)
-    -- a command is answered by the text of its run, its script, its verdict or its refusal
+    -- a command is answered by the text or the counts of its run, its script, its verdict or its refusal; or memory is wanting, or a read failed
     pub ends : Ends command r s o
-    -- what was played is one run of its script
+    -- what was played is a whole run of its script, by one thread
     pub run : IfSome o.estate IsPlayed
     -- at most 1,048,577 bytes are read, and no count of faults falls
     pub bounded : ReadsAtMost r limit

@@ -7,7 +7,7 @@ pub struct Outcome<N> {
     /// no form. 3: the input is no script or no journal. 4: a read failed. 5: a write failed. 7: want of
     /// memory.
     pub status: u8,
-    /// The run; there with status 0 and 1, and with 5 where its text was to be written.
+    /// The run that was played; there where its text or its counts were to be written, with status 0, 1 or 5.
     pub estate: Option<Estate<N>>,
 }
 

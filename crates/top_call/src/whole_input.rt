@@ -6,10 +6,11 @@ ghost use Rattle.top_call.specs.Input.{limit, ReadWhole};
 
 use crate::Source;
 use std::alloc::Global;
+use xfs_base::limits::MAX_BYTES;
 use xfs_base::{Failed, Text};
 
 /// The most bytes that are ever read: one more than a script may have.
-pub const LIMIT: usize = 1_048_577;
+pub const LIMIT: usize = MAX_BYTES + 1;
 
 /// Why an input was not read.
 #[derive(Clone, Copy, PartialEq, Eq)]

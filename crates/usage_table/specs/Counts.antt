@@ -1,11 +1,10 @@
 -- How many live blocks each segment has: the counts above 0, by segment.
 use Rattle.std.specs.Prelude.{ℕ, ◌+◌, ◌-◌, ◌<◌, Bool, false, if◌then◌else◌, nat_lt, List, Option, Some, None, All, unwrap_or}
-use Rattle.std.specs.Ordering.{is_eq}
 use Rattle.std.specs.Map.{lookup, keys_of, values_of, remove_entry, set_value}
 use Rattle.std.specs.BTreeMap.{is_at, insert_entry}
 use Rattle.std.specs.List.Sorted.{IsStrictlySortedBy}
 use Rattle.xfs_base.specs.declared.segment.SegName.{SegName}
-use Rattle.xfs_base.specs.Segments.{seg_cmp}
+use Rattle.xfs_base.specs.Segments.{seg_cmp, same_name}
 
 -- the segments stand in order, each once, and none of them with 0
 pub record IsTable (counts : List (SegName × ℕ)) : Type 0 where
@@ -20,12 +19,12 @@ count_of counts seg = unwrap_or (lookup (is_at (seg_cmp seg)) counts) 0
 abbrev pub is_same : Option SegName → Option SegName → Bool
 is_same None to = false
 is_same (Some from) None = false
-is_same (Some from) (Some to) = is_eq (seg_cmp from to)
+is_same (Some from) (Some to) = same_name from to
 
 -- how many blocks a shift moves at this segment by this end: 1 where the end is the segment, else 0
 abbrev pub blocks_at : Option SegName → SegName → ℕ
 blocks_at None seg = 0
-blocks_at (Some end) seg = if is_eq (seg_cmp seg end) then 1 else 0
+blocks_at (Some end) seg = if same_name seg end then 1 else 0
 
 -- the counts with one live block more for this segment, if it is one
 abbrev pub with_one_more : List (SegName × ℕ) → Option SegName → List (SegName × ℕ)

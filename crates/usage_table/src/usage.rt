@@ -92,7 +92,7 @@ fn is_same(from: Option<SegName>, to: Option<SegName>) -> bool
     ensures { result ≡ is_same from to }
 {
     match (from, to) {
-        (Some(from), Some(to)) => from.order(to).is_eq(),
+        (Some(from), Some(to)) => from.is_same(to),
         _ => false,
     }
 }

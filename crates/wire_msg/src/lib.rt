@@ -1,5 +1,5 @@
 //! What nodes say to each other: packets with their bodies, what happens to a node, and the trait of all
-//! nodes. `docs/PROTOCOL.md` says who sends each body to whom, and when. This crate knows nothing of what
+//! nodes. `docs/PROTOCOL_NODES.md` says who sends each body to whom, and when. This crate knows nothing of what
 //! a node does with a packet.
 #![tactic(auto)]
 
@@ -9,6 +9,7 @@ pub mod cleaning;
 pub mod deltas;
 pub mod packet;
 pub mod registry;
+pub mod shared_packet;
 pub mod storage;
 pub mod tokens;
 
@@ -18,6 +19,7 @@ pub use cleaning::{Check, Dead, Live, Usage, UsageAsk};
 pub use deltas::{DeltaAck, Deltas, Poll, Report};
 pub use packet::{Do, Packet};
 pub use registry::{CkptAck, CkptDone, Hello, News, Welcome};
+pub use shared_packet::SharedPacket;
 pub use storage::{
     Delete, Deleted, Fence, Fenced, Fetch, Found, ListAsk, Listed, Missing, Store, Stored,
 };

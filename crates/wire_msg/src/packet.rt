@@ -1,7 +1,7 @@
 //! Packets, and what happens to a node.
 ghost use Rattle.std.specs.Prelude.{◌≡◌, IfOk};
 
-use crate::Body;
+use crate::{Body, SharedPacket};
 use std::alloc::Global;
 use xfs_base::{Copied, Crosses, Mem, NodeId};
 
@@ -36,7 +36,7 @@ pub enum Do {
     /// The node begins the next item of its list.
     Begin,
     /// A packet comes.
-    Deliver(Packet),
+    Deliver(SharedPacket),
     /// Time passes: what waits for an answer is said again.
     Tick,
 }

@@ -1,6 +1,7 @@
 -- The schedule by which one thread plays a script: which packet comes next, and when time passes. Packets are known by numbers.
-use Rattle.std.specs.Prelude.{ℕ, ◌+◌, ◌-◌, ◌*◌, ◌/◌, ◌%◌, Bool, true, false, List, [], ◌∷◌, ◌++◌, drop, length, slice_index, nat_lt, ◌==◌, ◌||◌, Option, Some, None, if◌then◌else◌}
+use Rattle.std.specs.Prelude.{ℕ, ◌+◌, ◌-◌, ◌*◌, ◌%◌, Bool, true, false, List, [], ◌∷◌, ◌++◌, drop, length, slice_index, nat_lt, ◌==◌, ◌||◌, Option, Some, None, if◌then◌else◌}
 use Rattle.std.specs.List.{remove}
+use Rattle.xfs_base.specs.Draws.{next_number, drawn}
 use Rattle.xfs_base.specs.Limits.{max_deliveries}
 use Rattle.version_model.specs.declared.work.Work.{Work}
 use Rattle.version_model.specs.declared.work.Work.TheVariants as works
@@ -62,13 +63,6 @@ told works.NetHold unanswered s = record (with_room 0 0 s) { holding = true }
 told works.NetGo unanswered s = drained unanswered (record s { holding = false })
 told (works.NetStep count) unanswered s = with_room count 0 s
 told work unanswered s = with_room 0 0 s
-
--- the number that follows one of which is drawn, and what is drawn of it
-abbrev pub next_number : ℕ → ℕ
-next_number x = (x * 1103515245 + 12345) % 2147483648
-
-abbrev pub drawn : ℕ → ℕ
-drawn x = x / 65536
 
 abbrev pub is_done : Next → Bool
 is_done (Deliver number) = false

@@ -3,7 +3,7 @@ ghost use Rattle.std.specs.Prelude.{◌≡◌, IfOk};
 ghost use Rattle.world_base.specs.Events.{event_of, node_of, what_of};
 
 use std::alloc::Global;
-use wire_msg::{Do, Packet};
+use wire_msg::{Do, SharedPacket};
 use xfs_base::{Copied, Crosses, Mem, NodeId};
 
 /// What happens to one node at one moment.
@@ -11,7 +11,7 @@ pub enum Event {
     /// A node begins the next item of its list.
     Begin(NodeId),
     /// A packet comes to the node that it is for.
-    Deliver(Packet),
+    Deliver(SharedPacket),
     /// Time passes at a node.
     Tick(NodeId),
 }
@@ -45,7 +45,7 @@ impl Event {
     {
         match self {
             Event::Begin(node) => (node, Do::Begin),
-            Event::Deliver(packet) => (packet.to, Do::Deliver(packet)),
+            Event::Deliver(packet) => (packet.as_packet().to, Do::Deliver(packet)),
             Event::Tick(node) => (node, Do::Tick),
         }
     }
@@ -56,7 +56,7 @@ impl Event {
     {
         match self {
             Event::Begin(node) => *node,
-            Event::Deliver(packet) => packet.to,
+            Event::Deliver(packet) => packet.as_packet().to,
             Event::Tick(node) => *node,
         }
     }

@@ -8,11 +8,12 @@ use std::collections::VecDeque;
 use std::marker::Model;
 use version_model::Work;
 use xfs_base::Mem;
+use xfs_base::draws::next_number;
 use xfs_base::limits::MAX_DELIVERIES;
 
 pub mod mixer;
 
-use mixer::{drawn_place, mixer_of, next_number};
+use mixer::{drawn_place, mixer_of};
 
 /// How often time passes for one line, apart from what is lost and unanswered.
 const ROUNDS: u128 = 16;

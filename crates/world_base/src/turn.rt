@@ -6,7 +6,7 @@ use crate::Member;
 use std::alloc::Global;
 use std::mem;
 use version_model::Act;
-use wire_msg::{Do, Packet};
+use wire_msg::{Do, Packet, SharedPacket};
 use xfs_base::{List, Mem};
 
 // The clock that follows this one; none past the end of all clocks.
@@ -26,7 +26,7 @@ pub fn clock_after(clock: u64, what: &Do) -> Option<u64>
 {
     match what {
         Do::Begin => next_clock(clock),
-        Do::Deliver(packet) => next_clock(u64::max(clock, packet.clock)),
+        Do::Deliver(packet) => next_clock(u64::max(clock, packet.as_packet().clock)),
         Do::Tick => next_clock(clock),
     }
 }
@@ -48,13 +48,18 @@ pub fn turn_of<N: Member>(
 }
 
 /// Puts packets behind those that were sent, with this clock.
-pub fn send_all(sent: &mut List<Packet>, clock: u64, packets: List<Packet>) -> Mem<()>
+pub fn send_all(
+    alloc: Global,
+    sent: &mut List<SharedPacket>,
+    clock: u64,
+    packets: List<Packet>,
+) -> Mem<()>
     ensures { OnOk result (sent.new ≡ sent.old ++ map (sent_at clock) packets) }
 {
     for packet in packets.into_vec() {
         let mut packet = packet;
         packet.clock = clock;
-        sent.push(packet)?;
+        sent.push(SharedPacket::of(alloc, packet)?)?;
     }
     Ok(())
 }

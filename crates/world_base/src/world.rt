@@ -9,7 +9,7 @@ use crate::{Cluster, Member, items_of};
 use script_text::Script;
 use std::alloc::Global;
 use version_model::Act;
-use wire_msg::{Do, Packet};
+use wire_msg::{Do, SharedPacket};
 use xfs_base::{List, Mem, NodeId};
 
 /// A world of nodes of a kind. What was sent stays in it: the network may bring a packet late, or once
@@ -22,7 +22,7 @@ pub struct World<N> {
     /// The clock of each node: greater than that of each packet that it took.
     pub clocks: List<u64>,
     /// All packets that were sent, in order, each with the clock of the event that sent it.
-    pub sent: List<Packet>,
+    pub sent: List<SharedPacket>,
     /// All that was done, in order.
     pub acts: List<Act>,
 }
@@ -93,7 +93,7 @@ impl<N: Member> World<N> {
         ensures { OnOk result (self.new ≡ after_turn N.transition self.old place clock (turn_of N.transition self.old.nodes place what.now)) }
     {
         let (packets, acts) = turn_of(alloc, &mut self.nodes, place, what)?;
-        send_all(&mut self.sent, clock, packets)?;
+        send_all(alloc, &mut self.sent, clock, packets)?;
         note_all(&mut self.acts, acts)?;
         set_clock(alloc, &mut self.clocks, place, clock);
         Ok(())

@@ -6,6 +6,7 @@ pub mod Members
 pub mod NodeOrder
 pub mod Orders
 pub mod Pairs
+pub mod SegmentNames
 pub mod Sorted
 pub mod StepLoops
 pub mod Tables

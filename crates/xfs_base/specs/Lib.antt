@@ -1,5 +1,6 @@
 pub mod Blocks
 pub mod Causes
+pub mod Draws
 pub mod Fields
 pub mod Limits
 pub mod Logs

@@ -41,6 +41,26 @@ u64_end = 2 ^ 64 - 1
 abbrev pub counter_room : ℕ
 counter_room = 65536
 
+-- how many clients a run may have
+abbrev pub most_clients : ℕ
+most_clients = 8
+
+-- and how many managers
+abbrev pub most_managers : ℕ
+most_managers = 4
+
+-- how many slots the index has
+abbrev pub slot_count : ℕ
+slot_count = 8
+
 -- the slots of the index
 abbrev pub all_slots : List ℕ
 all_slots = 0 ∷ 1 ∷ 2 ∷ 3 ∷ 4 ∷ 5 ∷ 6 ∷ 7 ∷ []
+
+-- how many logs say where blocks lie: the clients', and the cleaner's, which is the last of them
+abbrev pub block_logs : ℕ
+block_logs = 9
+
+-- how many logs there are: behind those stand the managers'
+abbrev pub log_count : ℕ
+log_count = 13

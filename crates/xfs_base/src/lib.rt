@@ -6,6 +6,7 @@
 pub mod block;
 pub mod bytes;
 pub mod copied;
+pub mod draws;
 pub mod entry;
 pub mod field_reader;
 pub mod field_writer;

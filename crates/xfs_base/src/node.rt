@@ -1,9 +1,10 @@
 //! Names of nodes.
 ghost use Rattle.std.specs.Prelude.{◌≡◌};
-ghost use Rattle.xfs_base.specs.Logs.{log_of, WritesLog};
+ghost use Rattle.xfs_base.specs.Logs.{log_of};
 ghost use Rattle.xfs_base.specs.Nodes.{node_cmp, same_node};
 
 use crate::LogId;
+use crate::limits::{BLOCK_LOGS, MOST_MANAGERS};
 use std::cmp::Ordering;
 
 /// A node of the cluster. Nodes of one kind count from 1: at most 8 clients, 4 managers and 12 storage
@@ -31,16 +32,17 @@ impl NodeId {
         self.cmp(&other)
     }
 
-    /// The log that this node writes. Storage servers and the registry write none.
+    /// The log that this node writes: a client's has the client's number, the cleaner's is the last of those
+    /// that say where blocks lie, and a manager's stands behind it. Storage servers and the registry write
+    /// none: 0.
     pub fn log(self) -> LogId
-        requires { WritesLog self }
-        ensures { result ≡ record { 0 = log_of self } }
+        ensures { result ≡ log_of self }
     {
         match self {
             NodeId::Client(number) => LogId(number),
-            NodeId::Manager(number) => LogId(9 + number),
+            NodeId::Manager(number) => LogId(BLOCK_LOGS + number.min(MOST_MANAGERS)),
             NodeId::Server(_) | NodeId::Registry => LogId(0),
-            NodeId::Cleaner => LogId(9),
+            NodeId::Cleaner => LogId(BLOCK_LOGS),
         }
     }
 

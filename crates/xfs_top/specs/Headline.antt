@@ -26,7 +26,7 @@ use Rattle.world_base.specs.Runs.{IsWholeRun}
 pub record LossesEarned (e : Estate AnyNode) : Type 0 where
   -- each act that a segment is lost is of the node that has its turn, and it is earned: while it opens its log, to a takeover, or to a read
   pub each : EachLostActIsEarned e
-  -- and no item is answered that a segment is lost but where its node says so, in the same event
+  -- and no item is answered that a segment is lost but where its node says so before, in the same event, and has begun it
   pub answers : LostAnswersEarned e
 
 -- where the script has no line by which a server loses its disk, no restart is doubtful
@@ -35,18 +35,19 @@ WithoutLossesNoDoubt e = LosesNone (works_of e.script.lines) → (count : ℕ) �
 
 -- Whatever messages are lost, repeated or reordered and whichever nodes stop:
 pub record Headline (e : Estate AnyNode) : Type 0 where
-  -- the journal is one run of the xFS nodes, of the script that was read or drawn: each node begins its items in order, each once, and none is left out
+  -- its events are one run of the xFS nodes, of its script: each node begins its items in order, each once, and none is left out
   pub whole : IsWholeRun any_step any_start e
-  -- at no moment has a block two owners, nor another holder beside an owner
+  -- at no moment has a block two owners among the clients that serve, nor another holder beside an owner
   pub one_owner : OneOwnerThroughout e
   -- what a client that serves holds of a block, where it keeps a value, is the newest version, with its value: up to the first doubtful restart
   pub holders_newest : HoldersAreNewestThroughout e
-  -- nor has a slot two managers at one epoch
+  -- nor has a slot two managers at one epoch, or one above the registry's; whoever serves has promised each epoch that is managed, and the present manager
+  -- believes of each client what that holds or would still accept
   pub one_manager : OneManagerThroughout e
-  -- nobody holds what a client fell with until it is back, and no client falls again before
+  -- nobody holds what a client fell with until it is back, no client falls again before, and no fall names a block twice
   pub nobody_holds : NobodyHoldsThroughout e
   pub falls_apart : FallsApartThroughout e
-  -- what was filed, and was not deleted, stands on the servers' shelves but for lost disks, and one name has one text
+  -- what was filed, and was not deleted, stands on the servers' shelves but for lost disks, and one name has one text: in the logs of each kind of owner
   pub logs_stand : LogsStand e
   pub cleaners_log_stands : CleanersLogStands e
   pub managers_logs_stand : ManagersLogsStand e
@@ -58,9 +59,9 @@ pub record Headline (e : Estate AnyNode) : Type 0 where
   -- and throughout, where no line of the script has a server lose its disk
   pub legal_without_losses : LegalWithoutLosses e
   -- the index of each slot is the join of what its manager has applied of the segments that were filed, and a present manager has applied at least what the
-  -- kept checkpoint covers; these segments are one line in each log, none ever changes, and the newest row of a block is in none that a server was told to
-  -- delete; no row is newer than what a client that has the block dirty knows as settled, all versions above that being its own: up to the first doubtful
-  -- restart
+  -- kept checkpoint covers; of each log there is one segment of a number, each linked to the next from the least horizon on, none ever changes, and the newest
+  -- row of a block is in none that a server was told to delete; no row is newer than what a client that has the block dirty knows as settled, all versions
+  -- above that being its own: up to the first doubtful restart
   pub indexes : IndexesAreItsOwn e
   -- only what is gone is refused as lost
   pub losses_earned : LossesEarned e

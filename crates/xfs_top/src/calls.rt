@@ -25,11 +25,12 @@ use xfs_base::Gate;
 /// `docs/PROMISES.md` says what is promised.
 ///
 /// - `claim`: what the call answers, of the words, the input and the output.
-/// - `untouched`: words that are no form read nothing.
+/// - `untouched`: words by which nothing is read, those that are no form and those by which a script is drawn, leave
+///   the source as it was.
 /// - `headline`: what is so of the run that was played, whatever messages were lost, repeated or reordered and
 ///   whichever nodes stopped, with the premises named there (`specs/Headline.antt`): it is one run of the xFS nodes in
-///   which no block has two owners, each act Read is of its block's newest version, no fall goes below what was synced
-///   or read elsewhere, and only what is gone is refused as lost.
+///   which no block has two owners, and only what is gone is refused as lost; up to the first doubtful restart each act
+///   Read is of its block's newest version, and no fall goes below what was synced or read elsewhere.
 pub fn solo<S: Source, K: Sink>(
     alloc: Global,
     words: &[String],

@@ -1,16 +1,8 @@
 //! Draws by which the network mixes its packets.
 ghost use Rattle.std.specs.Prelude.{◌≡◌, ◌<◌};
-ghost use Rattle.world_base.specs.Schedule.{drawn_place, mixer_of, next_number};
+ghost use Rattle.world_base.specs.Schedule.{drawn_place, mixer_of};
 
-/// The modulus of the draws: 2^31.
-const MODULUS: u64 = 2_147_483_648;
-
-/// The number that follows one of which is drawn: a linear congruential generator.
-pub fn next_number(number: u32) -> u32
-    ensures { result ≡ next_number number }
-{
-    ((u64::from(number) * 1_103_515_245 + 12_345) % MODULUS) as u32
-}
+use xfs_base::draws::{drawn, next_number};
 
 /// The place, among so many, of the packet that comes next, after a draw of this number.
 pub fn drawn_place(number: u32, count: usize) -> usize
@@ -18,7 +10,7 @@ pub fn drawn_place(number: u32, count: usize) -> usize
     ensures exact { result ≡ drawn_place number count }
     ensures within { result < count }
 {
-    (next_number(number) / 65_536) as usize % count
+    drawn(next_number(number)) as usize % count
 }
 
 /// The mixer that begins with this number; none for 0.

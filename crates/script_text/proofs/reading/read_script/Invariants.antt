@@ -1,4 +1,5 @@
 use Rattle.std.proofs.Common.{◌≡◌, ◌≤◌, ◌<◌, ◌+◌, length}
+use Rattle.xfs_base.specs.Limits.{max_lines}
 use Rattle.script_text.specs.Lines.{lines}
 use Rattle.script_text.specs.Reading.{read_lines, read_script}
 use Rattle.script_text.proofs.reading.read_script.Given as goal
@@ -7,7 +8,7 @@ use Rattle.script_text.proofs.reading.read_script.Given as goal
 abbrev pub invariant-loop-rest : goal.invariant-loop-rest
 invariant-loop-rest l = record {
   same : read_lines l.live l.total l.number l.end (lines l.rest) l.place ≡ read_script l.live l.bytes;
-  few : l.number ≤ 20001;
+  few : l.number ≤ max_lines + 1;
   place : 0 < length l.rest → l.end + length l.rest ≤ l.total;
   within : l.end ≤ l.total + 1;
 }
