@@ -1,1 +1,3 @@
+pub mod cleaner_moves
+pub mod registry_moves
 pub mod server_moves

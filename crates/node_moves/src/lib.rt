@@ -3,4 +3,6 @@
 //! are laws.
 #![tactic(auto)]
 
+pub mod cleaner_moves;
+pub mod registry_moves;
 pub mod server_moves;

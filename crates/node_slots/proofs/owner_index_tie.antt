@@ -33,6 +33,5 @@ pub mod CleanerStart
 pub mod MovesLog
 pub mod MovesJob
 pub mod MovesOpening
-pub mod MovesServing
 pub mod Moving
 pub mod Acting

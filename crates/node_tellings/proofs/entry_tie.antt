@@ -22,9 +22,6 @@ pub mod Managers
 pub mod CleanerChecks
 pub mod CleanerMoves
 pub mod LogMoves
-mod CleanerFlights
-mod CleanerJobs
-mod CleanerServing
 pub mod CleanerPhases
 pub mod Servers
 pub mod Registries

@@ -10,8 +10,6 @@ mod ServingLog
 mod ServingCalls
 mod ServingPackets
 mod ClientPhases
-mod CleanerJobs
-mod CleanerServing
 mod CleanerPhases
 mod Servers
 mod LogNumbers

@@ -5,12 +5,9 @@ mod ClientReadings
 mod ClientServing
 mod Openings
 pub mod Clients
-mod CleanerServing
-mod CleanerPackets
 pub mod Cleaners
 mod Slots
 mod ManagerServing
 pub mod Managers
 mod Choosing
-mod Meeting
-pub mod MeetingEvents
+pub mod Meeting

@@ -13,7 +13,5 @@ pub mod ClientLog
 pub mod ClientCalls
 pub mod ClientPackets
 pub mod Clients
-pub mod CleanerJobs
-pub mod CleanerServing
 pub mod Cleaners
 pub mod Rising

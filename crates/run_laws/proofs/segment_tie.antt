@@ -2,8 +2,6 @@ pub mod Items
 pub mod Logs
 pub mod Openings
 pub mod Clients
-pub mod CleanerJobs
-pub mod CleanerServing
 pub mod Cleaners
 pub mod Managers
 pub mod Contents

@@ -17,7 +17,6 @@ pub mod CleanerWriting
 pub mod CleanerSaying
 pub mod CleanerNames
 pub mod CleanerChecks
-pub mod CleanerChecking
 pub mod CleanerChecked
 pub mod CleanerLow
 pub mod CleanerAsking

@@ -143,13 +143,13 @@ fn lines_below()
 ///
 /// - `legal`: so it is of every run of a script of whose setup a run can be started: at each moment of it up to which no restart that ended was doubtful, the
 ///   acts up to there are legal.
-/// - `unlost`: where the script has no line by which a server loses its disk, no restart is doubtful, and all acts of the run are legal.
+/// - `unlost`: where the script has no line by which a server loses its disk, the acts up to each moment are legal.
 /// - `indexes`: up to there the index of each manager that manages a slot is the join of what it has applied, and the
 ///   newest row of a block is in no segment that a server was told to delete (on the imap and on cleaning); both by the run's own
 ///   table of what logs filed: of logs 1 to 9 just the segments that were acted to be filed, as they were stored, one of each number.
 ///   What the slot's present manager has applied is at least what the checkpoint covers that the registry keeps.
 /// - `own`: so it is with nothing given, by the run's own table at each such moment.
-/// - `holders`: up to there what a client holds of a block is its newest version, with that version's value.
+/// - `holders`: up to there what a client that serves holds of a block, where it keeps a value, is the block's newest version, with that version's value.
 /// - `moments`: what all of it stands on: each such moment stands to the small worlds of tokens, of each slot's index
 ///   and of all logs, and comes of the start by moments that stand so, each of which follows the one before it.
 pub fn every_runs_acts_are_legal()

@@ -10,7 +10,7 @@ use Rattle.xfs_base.specs.declared.fragment.FragMeta.{FragMeta}
 use Rattle.xfs_base.specs.declared.news.SlotNews.{SlotNews}
 use Rattle.xfs_base.specs.declared.segment.SegName.{SegName}
 use Rattle.xfs_base.specs.declared.segment.SegRef.{SegRef}
-use Rattle.xfs_base.specs.Limits.{u32_end}
+use Rattle.xfs_base.specs.Limits.{u32_end, slot_count}
 use Rattle.xfs_base.specs.Steps.{still}
 use Rattle.xfs_base.proofs.Alls.{all_map}
 use Rattle.segment_format.specs.declared.segment.Item.{Item}
@@ -276,7 +276,7 @@ as_was s fits = record { phase = fits; outs = tt }
 welcome_fits : (s : CleaningState) (slots : List SlotNews) (groups : GroupMapState) → PhaseFits s.phase → DoneFits (on_welcome s slots groups)
 unfolding on_welcome
 welcome_fits s slots groups h =
-    by_test DoneFits (is_greeting s.phase && (length slots == 8)) (welcomed s slots groups) (still s)
+    by_test DoneFits (is_greeting s.phase && (length slots == slot_count)) (welcomed s slots groups) (still s)
     (λ t. record { phase = tt; outs = all_map OutFits (λ (server : ℕ). out.List server) (λ server. tt) (begun slots groups).awaited }) (λ t. as_was s h)
 
 live_check : (block : BlockId) (entry : Entry) → FitsRow (block, entry) → may_move entry ≡ true → (c : Check) → CheckFits c → CheckFits (live_at block entry c)

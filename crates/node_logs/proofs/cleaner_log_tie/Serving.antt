@@ -13,6 +13,7 @@ use Rattle.xfs_base.specs.declared.segment.LogId.{LogId}
 use Rattle.xfs_base.specs.declared.segment.SegName.{SegName}
 use Rattle.xfs_base.specs.Steps.{still, saying, steps}
 use Rattle.xfs_base.proofs.Alls.{all_map}
+use Rattle.xfs_base.specs.Limits.{slot_count}
 use Rattle.group_map.specs.GroupMapState.{GroupMapState}
 use Rattle.client_log.specs.declared.input.In.TheVariants as log_in
 use Rattle.client_log.specs.declared.output.Out.{Out as LogOut}
@@ -112,7 +113,7 @@ unfolding promises_all
 room_left e number count room =
     let f : Emptying = with_new_job e number count in
     let n : IsNew e.lasting.questions f = record { questions = refl; job = _; begun = refl; greeting = refl } in
-    subst (λ (q : Questions). has_room q.last ≡ true) (sym (all_new e.lasting.questions f (range_with_len 0 8) n).questions) room
+    subst (λ (q : Questions). has_room q.last ≡ true) (sym (all_new e.lasting.questions f (range_with_len 0 slot_count) n).questions) room
 
 module _ (g : Setting) (fact : g.log ≡ cleaner_log) where
   abbrev Goes : Scene → Done → Type 0
@@ -139,7 +140,7 @@ module _ (g : Setting) (fact : g.log ≡ cleaner_log) where
   all_promised : (w : Scene) (e : Emptying) → Stands g w e → Goes w (promises_all e)
   unfolding promises_all
   all_promised w e h =
-      all_steps g promises_slot (λ v x. Unit {0}) (λ v k grown x o. tt) slot_promised w e (range_with_len 0 8) h (nothing_more (range_with_len 0 8))
+      all_steps g promises_slot (λ v x. Unit {0}) (λ v k grown x o. tt) slot_promised w e (range_with_len 0 slot_count) h (nothing_more (range_with_len 0 slot_count))
 
   job_begun : (w : Scene) (e : Emptying) (number count : ℕ) → has_room e.lasting.questions.last ≡ true → Stands g w e → Goes w (begins_job e number count)
   unfolding begins_job

@@ -7,11 +7,11 @@ use Rattle.client_node.specs.declared.phase.Phase.TheVariants.{Down, Opening, Se
 use Rattle.client_node.specs.declared.phase.Phase.{Phase}
 use Rattle.client_node.specs.Phases.{owner_of, takes, Went_to, crashed, restarted, after_opening, opened_on, answers, serves_on, wish_of, down_begins, opening_begins, serving_begins, lasting_of, begins_item, on_begin, on_deliver, on_time, delivers, happens, phase_room, client_room}
 use Rattle.client_call.specs.declared.call.Going.{Going}
-use Rattle.client_call.specs.declared.lasting.Lasting.{Lasting}
-use Rattle.client_call.specs.Lasting.{next_life}
 use Rattle.client_node.specs.Crash.{falls}
+use Rattle.client_serving.specs.declared.lasting.Lasting.{Lasting}
 use Rattle.client_serving.specs.declared.serving.Serving.{Serving}
 use Rattle.client_running.specs.Opens.{begins_call, call_at, opens}
+use Rattle.client_serving.specs.Lasting.{next_life}
 use Rattle.client_serving.specs.Packets as packets
 use Rattle.client_running.specs.Running.{goes_on}
 use Rattle.client_serving.specs.Sends.{Done, gives}

@@ -1,12 +1,13 @@
 -- What an input makes of a log that is its owner's: it stays so, and what it sends and files is seen.
-use Rattle.std.proofs.Common.{◌≡◌, ℕ, ◌==◌, true, false, cond, List, [], ◌∷◌, Some, None, refl, sym, subst, ◌∙◌, take, drop}
+use Rattle.std.proofs.Common.{◌≡◌, ℕ, ◌==◌, true, false, cond, List, [], ◌∷◌, Some, None, refl, sym, ap, subst, ◌∙◌, take, drop}
 use Rattle.std.specs.Prelude.{IfSome, ◌&&◌, nat_lt, length}
 use Rattle.std.specs.List.{AllByRecursion}
 use Rattle.xfs_base.specs.declared.segment.Prior.{Prior}
 use Rattle.xfs_base.specs.declared.segment.SegName.{SegName}
 use Rattle.xfs_base.specs.Limits.{segment_blocks}
 use Rattle.xfs_base.specs.Steps.{still}
-use Rattle.xfs_base.proofs.Booleans.{by_test, and_first, contrary}
+use Rattle.xfs_base.proofs.Booleans.{by_test, and_first, contrary, equal_itself}
+use Rattle.xfs_base.proofs.SegmentNames.{one_name}
 use Rattle.segment_format.specs.declared.segment.Item.{Item}
 use Rattle.group_map.specs.GroupMapState.{GroupMapState}
 use Rattle.log_flight.specs.declared.dirty.Change.{Change}
@@ -20,7 +21,7 @@ use Rattle.client_log.specs.declared.input.In.{In as Input}
 use Rattle.client_log.specs.declared.input.In.TheVariants.{Put, Parts, Seal, Acked, Maps, Tick}
 use Rattle.client_log.specs.LogState.{LogState}
 use Rattle.client_log.specs.Transition.{Done, all_sends, launched, next_name, prior_from, writes, has_next, is_idle, is_full, can_go_on, sealed, if_full, waits, on_put, on_seal, on_parts, next_attempt, restriped, landed, settled, can_follow, followed, looked_at, on_acked, on_maps, on_tick, transition}
-use Rattle.stripe_code.specs.Fragments.{same_name}
+use Rattle.xfs_base.specs.Segments.{same_name}
 use Rattle.log_protocol.specs.Tables.{In}
 use Rattle.log_tie.specs.Seen.{log_filed}
 use Rattle.log_tie.specs.Setting.{Setting}
@@ -139,7 +140,10 @@ module _ (g : Setting) where
       ] h.flight
     where
       same_log : (f : FlightState) → is_of f name index generation ≡ true → (name.log.0 == f.segment.name.log.0) ≡ true
-      same_log f t = and_first (name.log.0 == f.segment.name.log.0) _ (and_first (same_name name f.segment.name) (is_member f.group.members index generation) t)
+      same_log f t =
+          let named : name ≡ f.segment.name =
+          one_name name f.segment.name (and_first (same_name name f.segment.name) (is_member f.group.members index generation) t) in
+          ap (λ (n : SegName). n.log.0 == f.segment.name.log.0) named ∙ equal_itself f.segment.name.log.0
 
 -- ---- it stays written
 

@@ -1,8 +1,9 @@
 -- A client at its start is seen in the opening of the small world, and its log stays written.
 use Rattle.std.proofs.Common.{◌≡◌, ◌≤◌, ℕ, true, refl, sym, ap, arith}
 use Rattle.std.proofs.lemmas.Bool.Decides.{nat_tests}
+use Rattle.xfs_base.specs.Limits.{log_count}
 use Rattle.client_log.specs.LogState.{started}
-use Rattle.client_call.specs.Starting.{empty_end}
+use Rattle.client_node.specs.Serving.{empty_end}
 use Rattle.group_map.specs.Groups as groups
 use Rattle.node_base.specs.Shape.{is_log}
 use Rattle.segment_format.specs.Format.{IsLog}
@@ -17,7 +18,7 @@ log_in_range c t = (low c t, high c t)
     low : (c : ℕ) → is_log c ≡ true → 1 ≤ c
     low c t = grind (arith, nat_tests)
 
-    high : (c : ℕ) → is_log c ≡ true → c ≤ 13
+    high : (c : ℕ) → is_log c ≡ true → c ≤ log_count
     high c t = grind (arith, nat_tests)
 
 pub client_starts : ClientStarts

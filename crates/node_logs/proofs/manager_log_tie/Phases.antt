@@ -41,6 +41,8 @@ use Rattle.xfs_base.specs.declared.node.NodeId.TheVariants as nodes
 use Rattle.xfs_base.specs.declared.segment.LogId.{LogId}
 use Rattle.xfs_base.specs.Steps.{still}
 use Rattle.xfs_base.proofs.Alls.{all_append}
+use Rattle.xfs_base.specs.Limits.{block_logs, log_count, most_managers}
+use Rattle.xfs_base.specs.Logs.{cleaners_number}
 use Rattle.log_protocol.specs.Tables.{In}
 use Rattle.log_tie.specs.Setting.{Setting}
 use Rattle.log_law.specs.Net.{Net, no_end}
@@ -73,16 +75,16 @@ rises k room = grind (arith, nat_tests)
 risen_small : (k : ℕ) → risen k < 2 ^ 32
 risen_small k = grind (arith, nat_tests)
 
-its_high : (j : ℕ) → 0 < j → 9 < 9 + min j 4
+its_high : (j : ℕ) → 0 < j → block_logs < block_logs + min j most_managers
 its_high j some = grind (arith, nat_tests)
 
-pub its_number_is_log : (j : ℕ) → IsLog (9 + min j 4)
+pub its_number_is_log : (j : ℕ) → IsLog (block_logs + min j most_managers)
 its_number_is_log j = (low j, high j)
   where
-    low : (j : ℕ) → 1 ≤ 9 + min j 4
+    low : (j : ℕ) → 1 ≤ block_logs + min j most_managers
     low j = omega arith
 
-    high : (j : ℕ) → 9 + min j 4 ≤ 13
+    high : (j : ℕ) → block_logs + min j most_managers ≤ log_count
     high j = grind (arith, nat_tests)
 
 module _ (g : Setting) (j : ℕ) (fact : g.log ≡ log_of j) where
@@ -232,8 +234,8 @@ module _ (g : Setting) (j : ℕ) (fact : g.log ≡ log_of j) where
   -- ---- packets
 
   module _ (some : 0 < j) (doubts : g.doubts ≡ true) where
-    its_log_high : 9 < g.log.0
-    its_log_high = subst (λ (l : LogId). 9 < l.0) (sym fact) (its_high j some)
+    its_log_high : block_logs < g.log.0
+    its_log_high = subst (λ (l : LogId). cleaners_number < l.0) (sym fact) (its_high j some)
 
     -- the log begins anew
     anew_so : (w : Scene) (kept : Kept) (peers : Peers) (m : GroupMapState) (r : Renewed g its_log_high doubts m w.net kept.inc) → Lasts g j w kept → MapFits m

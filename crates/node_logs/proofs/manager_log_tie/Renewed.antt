@@ -1,5 +1,6 @@
 -- A manager's log begins anew in any later incarnation: the small world passes through those in which the manager never served.
 use Rattle.std.proofs.Common.{◌≡◌, ◌<◌, ℕ, zero, suc, ◌+◌, ◌-◌, true, refl, sym, ap, subst, ◌∙◌, arith}
+use Rattle.xfs_base.specs.Limits.{block_logs}
 use Rattle.group_map.specs.GroupMapState.{GroupMapState}
 use Rattle.client_log.specs.LogState.{started}
 use Rattle.log_protocol.specs.Tables.{In}
@@ -52,7 +53,7 @@ module _ (g : Setting) where
 
   -- ---- its log begins anew
 
-  module _ (high : 9 < g.log.0) (doubts : g.doubts ≡ true) (m : GroupMapState) where
+  module _ (high : block_logs < g.log.0) (doubts : g.doubts ≡ true) (m : GroupMapState) where
     record Renewal (n : Net) : Type 0 where
       net : Net
       happens : Happens g n net

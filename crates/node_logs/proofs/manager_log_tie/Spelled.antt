@@ -11,6 +11,7 @@ use Rattle.xfs_base.specs.declared.entry.Place.{Place}
 use Rattle.xfs_base.specs.declared.segment.Pass.{Pass}
 use Rattle.xfs_base.specs.declared.segment.Prior.{Prior}
 use Rattle.xfs_base.specs.declared.segment.SegName.{SegName}
+use Rattle.xfs_base.specs.Limits.{slot_count}
 use Rattle.segment_format.specs.declared.segment.Item.{Item}
 use Rattle.segment_format.specs.declared.segment.Item.TheVariants.{Block, Delta, Part}
 use Rattle.segment_format.specs.declared.segment.Segment.{Segment}
@@ -83,7 +84,7 @@ item_bytes : (i : Item) → PartFits i → IsItem second_version i → IsBytes (
 item_bytes (Block block value) fits fact = absurd fits
 item_bytes (Delta block ver hop item) fits fact = absurd fits
 item_bytes (Part slot rows) fits fact =
-    let small : slot < 8 = fact.0 in
+    let small : slot < slot_count = fact.0 in
     let rest : List ℕ = to_be_bytes w16 (length rows) ++ flat_map row_text rows in
     one 3 (slot ∷ rest) (omega arith)
     (one slot rest (omega arith) (both (to_be_bytes w16 (length rows)) (flat_map row_text rows) (number w16 (length rows)) (rows_bytes rows fact.2)))

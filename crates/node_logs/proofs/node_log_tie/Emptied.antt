@@ -10,6 +10,7 @@ use Rattle.xfs_base.specs.declared.segment.SegName.{SegName}
 use Rattle.xfs_base.specs.declared.segment.SegRef.{SegRef}
 use Rattle.xfs_base.specs.Steps.{still, saying, steps}
 use Rattle.xfs_base.proofs.Alls.{all_append, all_weaker}
+use Rattle.xfs_base.specs.Limits.{block_logs}
 use Rattle.node_base.specs.declared.effects.Effect.{Effect}
 use Rattle.node_base.specs.declared.effects.Effect.TheVariants.{Send, Answer, Lose, Does}
 use Rattle.node_base.specs.Effects.{act_of, acts_of, packet_of, packets_of}
@@ -118,7 +119,7 @@ module _ (g : Setting) (owner : Asker) where
     pub runs : Runs g n next
     pub dropped : (name : SegName) → In name n.dropped → In name next.dropped
     pub rest : all_but_drops next ≡ all_but_drops n
-    pub none : 9 < g.log.0 → next ≡ n
+    pub none : block_logs < g.log.0 → next ≡ n
 
   pub no_drop : (n : Net) → Dropping n n
   no_drop n = record { runs = Begun; dropped = λ name fact. fact; rest = refl; none = λ high. refl }

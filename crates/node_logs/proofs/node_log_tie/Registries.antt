@@ -1,72 +1,70 @@
 -- What an event makes of the registry is a run of the small world.
-use Rattle.std.proofs.Common.{◌≡◌, ◌⊎◌, ℕ, zero, suc, ◌-◌, ◌<◌, ◌≤◌, List, [], ◌∷◌, ◌++◌, map, min, length, replicate, slice_get, Option, Some, None, refl, sym, ap, subst, ◌∙◌, inl, inr, arith}
+use Rattle.std.proofs.Common.{◌≡◌, ◌⊎◌, ℕ, zero, suc, ◌-◌, ◌<◌, ◌≤◌, List, [], ◌∷◌, min, length, replicate, slice_get, refl, sym, ap, subst, ◌∙◌, inl, inr, arith}
 use Rattle.std.specs.Prelude.{slice_index, unwrap_or}
 use Rattle.std.proofs.lemmas.Bool.Decides.{nat_tests}
-use Rattle.std.specs.List.{AllByRecursion, flat_map}
-use Rattle.xfs_base.proofs.Booleans.{by_test}
-use Rattle.xfs_base.specs.declared.node.NodeId.{NodeId}
+use Rattle.std.specs.List.{AllByRecursion}
 use Rattle.xfs_base.specs.declared.node.NodeId.TheVariants.{Registry}
 use Rattle.xfs_base.specs.declared.setup.Setup.{Setup}
 use Rattle.xfs_base.specs.Limits.{u32_end}
-use Rattle.xfs_base.specs.Steps.{still}
-use Rattle.xfs_base.proofs.Alls.{all_append, all_flat_map, all_map}
+use Rattle.xfs_base.proofs.Alls.{all_map}
 use Rattle.group_map.proofs.WellFormedMaps.{IsGroupMap-started}
-use Rattle.registry.specs.Board.{transition, all_news}
+use Rattle.registry.specs.Board.{all_news}
 use Rattle.registry.specs.BoardState.{BoardState}
 use Rattle.registry.specs.Checkpoints.{first_checkpoint, horizon_at}
 use Rattle.registry.specs.declared.checkpoint.Checkpoint.{Checkpoint}
 use Rattle.registry.specs.Slots.{all_slots}
-use Rattle.registry.specs.declared.input.In.TheVariants as input
-use Rattle.registry.specs.declared.output.Out.{Out}
-use Rattle.registry.specs.declared.output.Out.TheVariants.{Changed, Epoch, Kept}
+use Rattle.version_model.specs.declared.answer.Answer.TheVariants as answers
 use Rattle.version_model.specs.declared.work.Work.{Work}
-use Rattle.wire_msg.specs.declared.body.Body.{Body}
 use Rattle.wire_msg.specs.declared.body.Body.TheVariants as body
 use Rattle.wire_msg.specs.declared.packet.Do.{Do}
-use Rattle.wire_msg.specs.declared.packet.Do.TheVariants.{Begin, Deliver, Tick}
 use Rattle.wire_msg.specs.declared.packet.Packet.{Packet}
-use Rattle.wire_msg.specs.declared.registry.CkptDone.{CkptDone}
 use Rattle.wire_msg.specs.declared.registry.Hello.{Hello}
-use Rattle.node_base.specs.declared.effects.Effect.TheVariants.{Send}
-use Rattle.node_base.specs.Beginning.{begun, next_item, work_at}
-use Rattle.node_base.specs.Nodes.{others}
-use Rattle.node_base.specs.Room.{has_room}
+use Rattle.wire_msg.specs.declared.registry.Welcome.{Welcome}
+use Rattle.node_base.specs.declared.effects.Effect.{Effect}
+use Rattle.node_base.specs.declared.effects.Effect.TheVariants.{Send, Answer}
 use Rattle.node_base.specs.Setups.{IsSetup}
-use Rattle.node_base.specs.Shape.{is_well_formed}
 use Rattle.registry_node.specs.declared.node.RegistryNode.{RegistryNode}
-use Rattle.registry_node.specs.Events.{Done, registry_start, registry_step, news_of, tells_all, moved, on_move, changed, welcome_of, on_hello, kept, on_done, move_of, on_item, at_item, on_begin, hears, on_packet, on_event, takes}
+use Rattle.registry_node.specs.Events.{registry_start, registry_step, news_of, takes}
+use Rattle.node_moves.proofs.registry_moves.Events.{registry_events_are_moves}
+use Rattle.node_moves.specs.registry_moves.Moves.{Said}
+use Rattle.node_moves.specs.registry_moves.Moves.Said.{Acknowledges, AnswersItem, TellsMaps, Welcomes as WelcomesOne}
+use Rattle.node_moves.specs.server_moves.Moves.{Came}
 use Rattle.log_protocol.specs.Tables.{In}
 use Rattle.log_tie.specs.Setting.{Setting}
 use Rattle.log_law.specs.Net.{Net, Packet as Sent}
 use Rattle.log_law.specs.Net.Packet.{MapSent, HelloSent, WelcomeSent}
 use Rattle.log_law.specs.Events.{Runs}
 use Rattle.log_law.specs.Events.Happens.{Publishes, Welcomes}
-use Rattle.log_law.specs.Events.Runs.{On}
+use Rattle.log_law.specs.Events.Runs.{Begun, On}
 use Rattle.node_logs.specs.node_log_tie.Sight.Question.{Unasked, OfMaps, OfOpening}
-use Rattle.node_logs.proofs.node_log_tie.Sights.{asked_later}
-use Rattle.node_logs.specs.node_log_tie.Sight.{Asker, Question, AskedBy, AnsweredBy, BodySeen, PacketSeen, EffectSeen, HelloSeen}
+use Rattle.node_logs.proofs.node_log_tie.Sights.{asked_later, seen_later, then_later}
+use Rattle.node_logs.specs.node_log_tie.Sight.{Asker, Question, AskedBy, AnsweredBy, PacketSeen, EffectSeen, Later}
 use Rattle.node_logs.specs.node_log_tie.RegistryEvents.{NamesGroups, RegistrySeen, Hears, all_but_known, RegistryGoes, RegistryEventGoes, RegistryGoesAbove}
-use Rattle.node_logs.proofs.node_log_tie.Boards.{MayKeep, MadeSeen, board_goes}
-use Rattle.node_logs.proofs.node_log_tie.Going.{run_later}
+use Rattle.node_logs.proofs.node_log_tie.Boards.{MayKeep, MadeSeen, board_goes, hello_came}
+use Rattle.node_logs.proofs.node_log_tie.Going.{run_later, runs_on}
 use Rattle.node_logs.proofs.node_log_tie.Lists.{packets_all}
 use Rattle.node_logs.proofs.node_log_tie.Others.{same_or_other}
 use Rattle.node_logs.proofs.node_log_tie.WholeMaps.{whole_map}
 
-module _ (g : Setting) (owner : Asker) (n : Net) where
-  -- The small world runs on to a net in which the registry is seen as it is then.
-  record Goes (d : Done) : Type 0 where
+module _ (g : Setting) (owner : Asker) where
+  -- ---- what it does
+
+  -- The small world runs on to a net in which this board is seen still, and all these things that the registry does.
+  record Went (now : BoardState) (n : Net) (outs : List Effect) : Type 0 where
     next : Net
     runs : Runs g n next
-    seen : RegistrySeen g next d.state.board
-    does : AllByRecursion (EffectSeen g owner next Registry) d.outs
+    seen : RegistrySeen g next now
+    does : AllByRecursion (EffectSeen g owner next Registry) outs
     rest : all_but_known next ≡ all_but_known n
 
-  -- where its state is one that the world lets it keep
-  abbrev GoesIf : Done → Type 0
-  GoesIf d = MayKeep g n d.state.board → Goes d
+  -- one thing, which is seen at once
+  went_still : (now : BoardState) (n : Net) (e : Effect) → RegistrySeen g n now → EffectSeen g owner n Registry e → Went now n (e ∷ [])
+  went_still now n e seen does = record { next = n; runs = Begun; seen = seen; does = (does, tt); rest = refl }
 
-  stays : (node : RegistryNode) → RegistrySeen g n node.board → GoesIf (still node)
-  stays node before keeps = record { next = n; runs = Runs.Begun; seen = before; does = tt; rest = refl }
+  effect_later : (n next : Net) → Later n next → (e : Effect) → EffectSeen g owner n Registry e → EffectSeen g owner next Registry e
+  effect_later n next later (Send to said) h = seen_later g owner n next later Registry to said h
+  effect_later n next later (Answer item answer) h = tt
+  effect_later n next later _ h = tt
 
   -- ---- maps are sent
 
@@ -76,189 +74,102 @@ module _ (g : Setting) (owner : Asker) (n : Net) where
   resent : (m : Net) (b : BoardState) (sent : List Sent) → RegistrySeen g m b → RegistrySeen g (record m { sent = sent }) b
   resent m b sent seen = record { map = seen.map; size = seen.size; named = seen.named; known = seen.known; low = seen.low; horizons = seen.horizons }
 
-  publishes : (m : Net) (b : BoardState) → RegistrySeen g m b → Runs g n m → Runs g n (published m b)
-  publishes m b seen runs = On runs (Publishes b.groups (whole_map b.groups seen.map g seen.size seen.named m.registry seen.known))
+  publishes : (n m : Net) (b : BoardState) → RegistrySeen g m b → Runs g n m → Runs g n (published m b)
+  publishes n m b seen runs = On runs (Publishes b.groups (whole_map b.groups seen.map g seen.size seen.named m.registry seen.known))
 
-  all_told : (m : Net) (node : RegistryNode) → In (MapSent node.board.groups) m.sent → AllByRecursion (EffectSeen g owner m Registry) (tells_all node)
-  all_told m node sent =
-      all_map (EffectSeen g owner m Registry) (λ (to : NodeId). Send to (body.MapNews (news_of node.board))) (λ to. sent) (others node.peers Registry)
+  -- ---- all that it does
 
-  -- ---- a slot goes to a manager
+  module _ (start : Net) (r : RegistryNode) (what : Do) (sent : Hears g owner start what) where
+    module _ (now : BoardState) where
+      module _ (n : Net) (later : Later start n) (seen : RegistrySeen g n now) (map : In (MapSent now.groups) n.sent) where
+        module _ (packet : Packet) (m : Hello) (came : Came what packet (body.Hello m)) where
+          abbrev welcome : Welcome
+          welcome = record { inc = m.inc; ask = m.ask; news = news_of now }
 
-  one_moved : (m : Net) (node : RegistryNode) (number : ℕ) → In (MapSent node.board.groups) m.sent → (o : Out)
-      → AllByRecursion (EffectSeen g owner m Registry) (moved node number o)
-  one_moved m node number sent Changed = all_told m node sent
-  one_moved m node number sent (Epoch epoch) = (tt, tt)
-  one_moved m node number sent (Kept epoch) = tt
+          abbrev Welcomed : Type 0
+          Welcomed = Went now n (Send packet.from (body.Welcome welcome) ∷ [])
 
-  slot_given : (node : RegistryNode) → RegistrySeen g n node.board → (number slot manager : ℕ) → GoesIf (on_move node number slot manager)
-  unfolding on_move
-  slot_given node before number slot manager keeps =
-      let made = transition node.board (input.Reassign slot manager) in
-      let to : RegistryNode = record node { board = made.state } in
-      let b : MadeSeen g owner n node.board before made.state = board_goes g owner n node.board before (input.Reassign slot manager) tt keeps in
-      record {
-        next = published b.next made.state;
-        runs = publishes b.next made.state b.seen b.runs;
-        seen = resent b.next made.state (MapSent made.state.groups ∷ b.next.sent) b.seen;
-        does =
-            all_flat_map (EffectSeen g owner (published b.next made.state) Registry) (moved to number)
-            (one_moved (published b.next made.state) to number (inl refl))
-            made.outs;
-        rest = b.rest;
-      }
+          -- a Welcome that the small world doesn't see, but for its map
+          told_plainly : (packet.from ≡ owner.node → AnsweredBy g owner n welcome (owner.asked m.ask)) → Welcomed
+          told_plainly own =
+              went_still now n (Send packet.from (body.Welcome welcome)) seen (record { own = own; map = map; low = (let e = seen.low in omega arith) })
 
-  -- ---- a node asks for the maps
-
-  one_changed : (m : Net) (node : RegistryNode) → In (MapSent node.board.groups) m.sent → (o : Out)
-      → AllByRecursion (EffectSeen g owner m Registry) (changed node o)
-  one_changed m node sent Changed = all_told m node sent
-  one_changed m node sent (Epoch epoch) = tt
-  one_changed m node sent (Kept epoch) = tt
-
-  -- a Welcome that the small world doesn't see, but for its map
-  told_plainly : (from : NodeId) (m : Hello) (at : Net) (node : RegistryNode) (outs : List Out) → RegistrySeen g at node.board → Runs g n at
-      → all_but_known at ≡ all_but_known n
-      → In (MapSent node.board.groups) at.sent → (from ≡ owner.node → AnsweredBy g owner at (welcome_of node m) (owner.asked m.ask))
-      → Goes (record { state = node; outs = flat_map (changed node) outs ++ Send from (body.Welcome (welcome_of node m)) ∷ [] })
-  told_plainly from m at node outs seen runs rest map own = record {
-    next = at;
-    runs = runs;
-    seen = seen;
-    does =
-        all_append (EffectSeen g owner at Registry) (flat_map (changed node) outs) _
-        (all_flat_map (EffectSeen g owner at Registry) (changed node) (one_changed at node map) outs)
-        (record { own = own; map = map; low = (let e = seen.low in omega arith) }, tt);
-    rest = rest;
-  }
-
-  -- one that answers a question of an opening
-  told_opening : (from : NodeId) (m : Hello) (at : Net) (node : RegistryNode) (outs : List Out) (own : ℕ) → RegistrySeen g at node.board → Runs g n at
-      → all_but_known at ≡ all_but_known n → In (MapSent node.board.groups) at.sent → owner.asked m.ask ≡ OfOpening own → In (HelloSent m.inc own) at.sent
-      → Goes (record { state = node; outs = flat_map (changed node) outs ++ Send from (body.Welcome (welcome_of node m)) ∷ [] })
-  told_opening from m at node outs own seen runs rest map fact said =
-      let p : Sent = WelcomeSent m.inc own (all_news node.board) node.board.groups in
-      let next : Net = record at { sent = p ∷ at.sent } in
-      record {
-        next = next;
-        runs = On runs
-            (Welcomes m.inc own (all_news node.board) node.board.groups said (sym seen.low)
-            (whole_map node.board.groups seen.map g seen.size seen.named at.registry seen.known));
-        seen = resent at node.board (p ∷ at.sent) seen;
-        does =
-            all_append (EffectSeen g owner next Registry) (flat_map (changed node) outs) _
-            (all_flat_map (EffectSeen g owner next Registry) (changed node) (one_changed next node (inr map)) outs) (
+          -- one that answers a question of an opening
+          told_opening : (own : ℕ) → owner.asked m.ask ≡ OfOpening own → In (HelloSent m.inc own) n.sent → Welcomed
+          told_opening own fact said =
+              let p : Sent = WelcomeSent m.inc own (all_news now) now.groups in
+              let next : Net = record n { sent = p ∷ n.sent } in
               record {
-                own = λ same. subst (AnsweredBy g owner next (welcome_of node m)) (sym fact) (inl refl);
-                map = inr map;
-                low = (let e = seen.low in omega arith);
-              },
-              tt,
-            );
-        rest = rest;
-      }
+                next = next;
+                runs = On Begun
+                    (Welcomes m.inc own (all_news now) now.groups said (sym seen.low)
+                    (whole_map now.groups seen.map g seen.size seen.named n.registry seen.known));
+                seen = resent n now (p ∷ n.sent) seen;
+                does = (
+                  record {
+                    own = λ same. subst (AnsweredBy g owner next welcome) (sym fact) (inl refl);
+                    map = inr map;
+                    low = (let e = seen.low in omega arith);
+                  },
+                  tt,
+                );
+                rest = refl;
+              }
 
-  -- a Welcome, to the owner or to another
-  welcomed : (from : NodeId) (m : Hello) (at : Net) (node : RegistryNode) (outs : List Out) → RegistrySeen g at node.board → Runs g n at
-      → all_but_known at ≡ all_but_known n
-      → In (MapSent node.board.groups) at.sent → (from ≡ owner.node → AskedBy g owner at m.inc (owner.asked m.ask))
-      → (from ≡ owner.node) ⊎ (from ≡ owner.node → ⊥)
-      → Goes (record { state = node; outs = flat_map (changed node) outs ++ Send from (body.Welcome (welcome_of node m)) ∷ [] })
-  welcomed from m at node outs seen runs rest map said (inl fact) = by_question (owner.asked m.ask) refl (said fact)
-    where
-      by_question : (q : Question) → owner.asked m.ask ≡ q → AskedBy g owner at m.inc q
-          → Goes (record { state = node; outs = flat_map (changed node) outs ++ Send from (body.Welcome (welcome_of node m)) ∷ [] })
-      by_question Unasked e asked = absurd asked
-      by_question OfMaps e asked = told_plainly from m at node outs seen runs rest map (λ same. subst (AnsweredBy g owner at (welcome_of node m)) (sym e) tt)
-      by_question (OfOpening own) e asked = told_opening from m at node outs own seen runs rest map e asked
-  welcomed from m at node outs seen runs rest map said (inr other) = told_plainly from m at node outs seen runs rest map (λ same. absurd (other same))
+          by_question : (q : Question) → owner.asked m.ask ≡ q → AskedBy g owner n m.inc q → Welcomed
+          by_question Unasked e asked = absurd asked
+          by_question OfMaps e asked = told_plainly (λ same. subst (AnsweredBy g owner n welcome) (sym e) tt)
+          by_question (OfOpening own) e asked = told_opening own e asked
 
-  hello_answered : (node : RegistryNode) → RegistrySeen g n node.board → (from : NodeId) (m : Hello) → HelloSeen g owner n from m
-      → GoesIf (on_hello node from m)
-  unfolding on_hello
-  hello_answered node before from m hello keeps =
-      let made = transition node.board (input.Hello from m.inc) in
-      let to : RegistryNode = record node { board = made.state } in
-      let b : MadeSeen g owner n node.board before made.state = board_goes g owner n node.board before (input.Hello from m.inc) hello.reached keeps in
-      let at : Net = published b.next made.state in
-      welcomed from m at to made.outs (resent b.next made.state (MapSent made.state.groups ∷ b.next.sent) b.seen)
-      (publishes b.next made.state b.seen b.runs) b.rest (inl refl)
-      (λ fact. asked_later g owner n at (run_later g n at (publishes b.next made.state b.seen b.runs)) m.inc (owner.asked m.ask) (hello.own fact))
-      (same_or_other from owner.node)
+          -- to the owner or to another
+          welcomed : (packet.from ≡ owner.node) ⊎ (packet.from ≡ owner.node → ⊥) → Welcomed
+          welcomed (inl same) =
+              by_question (owner.asked m.ask) refl (asked_later g owner start n later m.inc (owner.asked m.ask) ((hello_came g owner start what sent packet m came).own same))
+          welcomed (inr other) = told_plainly (λ same. absurd (other same))
 
-  -- ---- a manager has written a checkpoint
+        one_done : (e : Effect) → Said r what now e → Went now n (e ∷ [])
+        one_done e (TellsMaps to) = went_still now n (Send to (body.MapNews (news_of now))) seen map
+        one_done e (WelcomesOne packet m came room fact) = welcomed packet m came (same_or_other packet.from owner.node)
+        one_done e (Acknowledges packet m epoch came) =
+            went_still now n (Send packet.from (body.CkptAck (record { slot = m.slot; epoch = epoch; ask = m.ask }))) seen tt
+        one_done e (AnswersItem number epoch) = went_still now n (Answer number (answers.Epoch epoch)) seen tt
 
-  one_kept : (m : Net) (from : NodeId) (done : CkptDone) (o : Out) → AllByRecursion (EffectSeen g owner m Registry) (kept from done o)
-  one_kept m from done Changed = tt
-  one_kept m from done (Epoch epoch) = tt
-  one_kept m from done (Kept epoch) = (tt, tt)
+      all_done : (n : Net) → Later start n → RegistrySeen g n now → In (MapSent now.groups) n.sent → (es : List Effect)
+          → AllByRecursion (Said r what now) es
+          → Went now n es
+      all_done n later seen map [] all = record { next = n; runs = Begun; seen = seen; does = tt; rest = refl }
+      all_done n later seen map (e ∷ es) all =
+          let one : Went now n (e ∷ []) = one_done n later seen map e all.0 in
+          let on : Later n one.next = run_later g n one.next one.runs in
+          let more : Went now one.next es = all_done one.next (then_later start n one.next later on) one.seen (on.sent (MapSent now.groups) map) es all.1 in
+          record {
+            next = more.next;
+            runs = runs_on g n one.next more.next one.runs more.runs;
+            seen = more.seen;
+            does = (effect_later one.next more.next (run_later g one.next more.next more.runs) e one.does.0, more.does);
+            rest = more.rest ∙ one.rest;
+          }
 
-  checkpoint_kept : (node : RegistryNode) → RegistrySeen g n node.board → (from : NodeId) (m : CkptDone) → GoesIf (on_done node from m)
-  unfolding on_done
-  checkpoint_kept node before from m keeps =
-      let made = transition node.board (input.Done m.slot m.epoch m.parts m.horizon) in
-      let b : MadeSeen g owner n node.board before made.state = board_goes g owner n node.board before (input.Done m.slot m.epoch m.parts m.horizon) tt keeps in
-      record {
-        next = b.next;
-        runs = b.runs;
-        seen = b.seen;
-        does = all_flat_map (EffectSeen g owner b.next Registry) (kept from m) (one_kept b.next from m) made.outs;
-        rest = b.rest;
-      }
+  -- ---- all of it
 
-  -- ---- all events
-
-  item_taken : (node : RegistryNode) → RegistrySeen g n node.board → (number : ℕ) (wish : Option (ℕ × ℕ)) → GoesIf (on_item node number wish)
-  item_taken node before number None = stays node before
-  item_taken node before number (Some wish) = slot_given node before number wish.0 wish.1
-
-  item_begun : (node : RegistryNode) → RegistrySeen g n node.board → (item : Option ℕ) → GoesIf (at_item node item)
-  item_begun node before None = stays node before
-  item_begun node before (Some number) = item_taken node before number (move_of (work_at node.items number))
-
-  begins : (r : RegistryNode) → RegistrySeen g n r.board → GoesIf (on_begin r)
-  unfolding on_begin
-  begins r before = item_begun (record r { items = begun r.items }) before (next_item r.items)
-
-  heard : (r : RegistryNode) → RegistrySeen g n r.board → (from to : NodeId) (said : Body) → BodySeen g owner n from to said → GoesIf (hears r from said)
-  heard r before from to (body.Hello m) sent = hello_answered r before from m sent
-  heard r before from to (body.CkptDone m) sent = checkpoint_kept r before from m
-  heard r before from to _ sent = stays r before
-
-  delivered : (r : RegistryNode) → RegistrySeen g n r.board → (packet : Packet) → PacketSeen g owner n packet → GoesIf (on_packet r packet)
-  unfolding on_packet
-  delivered r before packet sent =
-      by_test GoesIf (is_well_formed r.peers packet) (hears r packet.from packet.body) (still r) (λ t. heard r before packet.from packet.to packet.body sent)
-      (λ t. stays r before)
-
-  ticks : (r : RegistryNode) → RegistrySeen g n r.board → GoesIf (record { state = r; outs = tells_all r })
-  ticks r before keeps = record {
-    next = published n r.board;
-    runs = publishes n r.board before Runs.Begun;
-    seen = resent n r.board (MapSent r.board.groups ∷ n.sent) before;
-    does = all_told (published n r.board) r (inl refl);
-    rest = refl;
-  }
-
-  happens : (r : RegistryNode) → RegistrySeen g n r.board → (what : Do) → Hears g owner n what → GoesIf (on_event r what)
-  happens r before Begin sent = begins r before
-  happens r before (Deliver packet) sent = delivered r before packet sent
-  happens r before Tick sent = ticks r before
-
-  taken_so : (r : RegistryNode) → RegistrySeen g n r.board → (what : Do) → Hears g owner n what → GoesIf (takes r what)
-  taken_so r before what sent = by_test GoesIf (has_room r.board.version) (on_event r what) (still r) (λ t. happens r before what sent) (λ t. stays r before)
-
-  goes_on : (r : RegistryNode) (what : Do) → RegistrySeen g n r.board → Hears g owner n what → MayKeep g n (registry_step r what).node.board
+  goes_on : (n : Net) (r : RegistryNode) (what : Do) → RegistrySeen g n r.board → Hears g owner n what → MayKeep g n (registry_step r what).node.board
       → RegistryGoes g owner n r what
-  goes_on r what before sent keeps =
-      let goes : Goes (takes r what) = taken_so r before what sent keeps in
+  goes_on n r what before sent keeps =
+      let moves = registry_events_are_moves r what in
+      let now : BoardState = (takes r what).state.board in
+      let made : MadeSeen g n now = board_goes g owner n r before what sent keeps in
+      let at : Net = published made.next now in
+      let runs : Runs g n at = publishes n made.next now made.seen made.runs in
+      let goes : Went now at (takes r what).outs =
+      all_done n r what sent now at (run_later g n at runs) (resent made.next now (MapSent now.groups ∷ made.next.sent) made.seen) (inl refl)
+      (takes r what).outs moves.says in
       record {
         next = goes.next;
-        runs = goes.runs;
+        runs = runs_on g n at goes.next runs goes.runs;
         seen = goes.seen;
         sends = packets_all (PacketSeen g owner goes.next) (EffectSeen g owner goes.next Registry) Registry (λ to said does. does)
             (takes r what).outs goes.does;
-        rest = goes.rest;
+        rest = goes.rest ∙ made.rest;
       }
 
 pub registry_goes : RegistryEventGoes

@@ -178,7 +178,7 @@ module _ (g : Setting) (owner : Asker) (v : ℕ) (some : 0 < v) (other : owner.n
         went_still g owner v n _ [] (record { number = seen.number; shelf = seen.shelf; maps = seen.maps; rebuild = tt }) tt
     move_went node d (Loses number server asked room) n later seen = loses_went g owner v some n node seen (low_of node.shelf.generation room)
     move_went node d (Notes items questions hello same) n later seen = went_still g owner v n _ [] (noted n node items questions hello seen) tt
-    move_went node d (AnswersItem number answer) n later seen = went_still g owner v n node _ seen (tt, tt)
+    move_went node d (AnswersItem number answer so) n later seen = went_still g owner v n node _ seen (tt, tt)
     move_went node d (Greets ask) n later seen = went_still g owner v n node _ seen (hello_seen n node.shelf ask seen.shelf, tt)
 
     moves_went : (node : nodes.Server) (d : Done) → Moves first what node d → (n : Net) → Later start n → ServerSeen g n v node → Goes n d

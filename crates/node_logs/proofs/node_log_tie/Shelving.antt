@@ -17,7 +17,7 @@ use Rattle.xfs_base.specs.Segments.{pass_cmp}
 use Rattle.xfs_base.specs.Stamps.{is_greater}
 use Rattle.xfs_base.specs.Steps.{still, saying}
 use Rattle.xfs_base.proofs.Alls.{all_append, all_weaker}
-use Rattle.fragment_store.proofs.Names.{one_name}
+use Rattle.xfs_base.proofs.SegmentNames.{one_name}
 use Rattle.fragment_store.specs.Calls.{store_refused, kept, on_fence as fenced_at, on_delete as without, on_fill, on_lose as lost, on_list as listed_on}
 use Rattle.fragment_store.specs.declared.store_error.StoreError.{StoreError}
 use Rattle.fragment_store.specs.ShelfState.{ShelfState, same_name, held_at, fence_of}
@@ -106,20 +106,6 @@ module _ (g : Setting) (owner : Asker) (v : ℕ) where
         (effect_later w.next x.next (run_later g w.next x.next x.runs)) d.outs w.does) x.does;
     shelves = λ u other. x.shelves u other ∙ w.shelves u other;
     rest = x.rest ∙ w.rest;
-  }
-
-  -- effects that are seen at once, and then the rest
-  pub went_after : (n : Net) (outs : List Effect) (e : Done) → AllByRecursion (EffectSeen g owner n (Server v)) outs → Went n e → Went n (saying outs e)
-  went_after n outs e does x = record {
-    next = x.next;
-    runs = x.runs;
-    seen = x.seen;
-    does =
-        all_append (EffectSeen g owner x.next (Server v)) outs e.outs
-        (all_weaker (EffectSeen g owner n (Server v)) (EffectSeen g owner x.next (Server v)) (effect_later n x.next (run_later g n x.next x.runs)) outs does)
-        x.does;
-    shelves = x.shelves;
-    rest = x.rest;
   }
 
   -- a server is seen with its shelf as it is then

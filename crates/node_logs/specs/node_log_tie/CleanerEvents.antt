@@ -7,6 +7,7 @@ use Rattle.xfs_base.specs.declared.segment.LogId.{LogId}
 use Rattle.xfs_base.specs.declared.segment.SegName.{SegName}
 use Rattle.xfs_base.specs.declared.segment.SegRef.{SegRef}
 use Rattle.xfs_base.specs.declared.setup.Setup.{Setup}
+use Rattle.xfs_base.specs.Limits.{block_logs}
 use Rattle.log_flight.specs.Flights.{FlightState}
 use Rattle.client_log.specs.LogState.{LogState}
 use Rattle.log_owner.specs.declared.opening.Opening as openings
@@ -62,7 +63,7 @@ module _ (g : Setting) (n : Net) where
     pub among : In meta lists
     pub named : meta.name ≡ name
     pub below : name.seq < n.low
-    pub cleaned : name.log.0 ≤ 9
+    pub cleaned : name.log.0 ≤ block_logs
 
   abbrev pub DropOfLog : SegName → Type 0
   DropOfLog name = is_of_log g name ≡ true → MayDrop name
@@ -128,7 +129,7 @@ pub record CleanerGoes (g : Setting) (owner : Asker) (n : Net) (cleaner : cleane
   pub drops : All (DropActed g next) (cleaner_step cleaner what).acts
   pub only : OnlyDeleted n next (cleaner_step cleaner what).packets
   pub rest : all_but_drops next ≡ all_but_drops n
-  pub none : 9 < g.log.0 → next ≡ n
+  pub none : block_logs < g.log.0 → next ≡ n
 
 -- Each event of the cleaner, where the log is not its own.
 abbrev pub CleanerEventGoes : Type 0

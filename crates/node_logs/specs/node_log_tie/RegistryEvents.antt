@@ -2,6 +2,7 @@
 use Rattle.std.specs.Prelude.{◌≡◌, ◌<◌, ◌≤◌, ◌⊎◌, ℕ, suc, true, List, [], Some, length}
 use Rattle.xfs_base.specs.declared.segment.SegName.{SegName}
 use Rattle.xfs_base.specs.declared.setup.Setup.{Setup}
+use Rattle.xfs_base.specs.Limits.{slot_count, block_logs}
 use Rattle.group_map.specs.declared.group.Group.{Group}
 use Rattle.group_map.specs.GroupMapState.{GroupMapState}
 use Rattle.group_map.specs.Groups.{group_of, generation_at}
@@ -40,7 +41,7 @@ pub record RegistrySeen (g : Setting) (n : Net) (b : BoardState) : Type 0 where
   pub named : NamesGroups g b.groups
   pub known : (v : ℕ) → has_server b.groups v ≡ true → n.registry v ≡ generation_at b.groups.generations v
   pub low : n.low ≡ low_of g b
-  pub horizons : (slot : ℕ) → slot < 8 → length (horizon_at b.checkpoints slot) ≡ 9
+  pub horizons : (slot : ℕ) → slot < slot_count → length (horizon_at b.checkpoints slot) ≡ block_logs
 
 -- ---- what the world owes an event
 
@@ -75,13 +76,13 @@ pub record RegistryGoes (g : Setting) (owner : Asker) (n : Net) (r : RegistryNod
 -- Each event of the registry; the log is a client's or the cleaner's, of which horizons tell.
 abbrev pub RegistryEventGoes : Type 0
 RegistryEventGoes =
-    (g : Setting) (owner : Asker) (n : Net) (r : RegistryNode) (what : Do) → g.log.0 ≤ 9 → RegistrySeen g n r.board → Hears g owner n what
+    (g : Setting) (owner : Asker) (n : Net) (r : RegistryNode) (what : Do) → g.log.0 ≤ block_logs → RegistrySeen g n r.board → Hears g owner n what
     → Keeps g n (registry_step r what).node.board → RegistryGoes g owner n r what
 
 -- So is each event of it in the small world of a log of which no horizon tells, as a manager's is: there the least horizon stays 1.
 abbrev pub RegistryGoesAbove : Type 0
 RegistryGoesAbove =
-    (g : Setting) (owner : Asker) (n : Net) (r : RegistryNode) (what : Do) → 9 < g.log.0 → RegistrySeen g n r.board → Hears g owner n what
+    (g : Setting) (owner : Asker) (n : Net) (r : RegistryNode) (what : Do) → block_logs < g.log.0 → RegistrySeen g n r.board → Hears g owner n what
     → NamesGroups g (registry_step r what).node.board.groups → RegistryGoes g owner n r what
 
 -- At the start of a run the registry knows each server at generation 1, and no horizon above 1.

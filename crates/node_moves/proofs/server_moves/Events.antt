@@ -33,7 +33,7 @@ use Rattle.wire_msg.specs.declared.storage.Listed.{Listed}
 use Rattle.wire_msg.specs.declared.storage.Missing.{Missing}
 use Rattle.xfs_base.proofs.Booleans.{and_first, by_test}
 use Rattle.xfs_base.specs.Steps.{saying, still}
-use Rattle.node_moves.specs.server_moves.Moves.{Brought, Came, Moves, ServerEventsAreMoves, news_in}
+use Rattle.node_moves.specs.server_moves.Moves.{Brought, Came, IsServers, Moves, ServerEventsAreMoves, news_in}
 use Rattle.node_moves.specs.server_moves.Moves.Given.{AbsenceCame, FragmentCame, ListCame, MapsCame, TimePassed}
 use Rattle.node_moves.specs.server_moves.Moves.Move.{AnswersItem, BeginsRebuild, CutsRebuild, Deletes, Fences, Fetches, Greets, Lists, Loses, Notes, Rebuilds, Stores, TakesMaps}
 use Rattle.node_moves.specs.server_moves.Moves.Moves.{Last, Rests, Then}
@@ -52,9 +52,10 @@ module _ (first : Node) (what : Do) where
       → Goes (noted node items questions hello) e → Goes node e
   notes node items questions hello e same rest = Then (still (noted node items questions hello)) e (Notes items questions hello same) rest
 
-  answers_open : (node : Node) (item : Option ℕ) (answer : Answer) (e : Done) → Goes node e → Goes node (saying (answers_unanswered item answer) e)
-  answers_open node None answer e rest = rest
-  answers_open node (Some number) answer e rest = Then (tells node (Answers number answer ∷ [])) e (AnswersItem number answer) rest
+  answers_open : (node : Node) (item : Option ℕ) (answer : Answer) (e : Done) → IsServers answer → Goes node e
+      → Goes node (saying (answers_unanswered item answer) e)
+  answers_open node None answer e so rest = rest
+  answers_open node (Some number) answer e so rest = Then (tells node (Answers number answer ∷ [])) e (AnswersItem number answer so) rest
 
   -- ---- what comes for a rebuild
 
@@ -157,11 +158,11 @@ module _ (first : Node) (what : Do) where
       let last : Node = noted bare (answered node.items) (drawn node.questions) (Some (next_ask node.questions)) in
       let greets : Done = tells last (hello_of last.shelf (next_ask node.questions) ∷ []) in
       let says : Done = saying (Answers number answers.Done ∷ []) greets in
-      answers_open node node.items.unanswered answers.Cut says
+      answers_open node node.items.unanswered answers.Cut says tt
       (Then (still cut) says CutsRebuild
       (Then (still bare) says (Loses number server asked room)
       (notes bare (answered node.items) (drawn node.questions) (Some (next_ask node.questions)) says refl
-      (Then (tells last (Answers number answers.Done ∷ [])) greets (AnswersItem number answers.Done) (Last (Greets (next_ask node.questions)))))))
+      (Then (tells last (Answers number answers.Done ∷ [])) greets (AnswersItem number answers.Done tt) (Last (Greets (next_ask node.questions)))))))
 
   rebuild_begun : (node : Node) (number : ℕ) (groups : Option GroupMapState) → node.maps.groups ≡ groups → Goes node (begins_rebuild node number groups)
   rebuild_begun node number None fact = Rests
@@ -178,7 +179,7 @@ module _ (first : Node) (what : Do) where
   unfolding on_rebuild
   rebuild_wished node number =
       by_test (Goes node) (is_some node.items.unanswered) (tells node (Answers number answers.Busy ∷ [])) (begins_rebuild node number node.maps.groups)
-      (λ t. Last (AnswersItem number answers.Busy)) (λ t. rebuild_begun node number node.maps.groups refl)
+      (λ t. Last (AnswersItem number answers.Busy tt)) (λ t. rebuild_begun node number node.maps.groups refl)
 
   wished : (node : Node) (number : ℕ) (asked : Option Work) → work_at node.items number ≡ asked → has_room node.shelf.generation ≡ true
       → Goes node (on_wish node number (wish_of asked))

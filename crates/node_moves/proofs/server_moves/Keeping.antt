@@ -47,7 +47,7 @@ use Rattle.xfs_base.specs.declared.segment.SegName.{SegName}
 use Rattle.xfs_base.specs.Segments.{pass_cmp}
 use Rattle.xfs_base.specs.Steps.{still}
 use Rattle.node_moves.proofs.server_moves.Events.{server_events_are_moves}
-use Rattle.node_moves.specs.server_moves.Moves.{Came, Given, Move, Moves, Sent}
+use Rattle.node_moves.specs.server_moves.Moves.{Came, Given, IsServers, Move, Moves, Sent}
 use Rattle.node_moves.specs.server_moves.Moves.Move.{AnswersItem, BeginsRebuild, CutsRebuild, Deletes, Fences, Fetches, Greets, Lists, Loses, Notes, Rebuilds, Stores, TakesMaps}
 use Rattle.node_moves.specs.server_moves.Moves.Moves.{Last, Rests, Then}
 use Rattle.node_moves.specs.server_moves.Moves.Sent.{Deleted, Fenced, FragmentAsked, Greeted, Held, ListAsked, ListSent, Missed, Stored}
@@ -71,10 +71,10 @@ pub record Keeps (first : ShelfState) (what : Do) (S : ShelfState → Type 0) (R
   pub takes : (s : ShelfState) (r : RebuildState) (given : In) → Given what s given → R r → Leaves R O (transition r given)
   pub sends : (s : ShelfState) (to : NodeId) (said : Body) → S s → Sent first what s to said → Sends to said
 
--- nothing but an answer, or a packet that is sent so
+-- nothing but an answer that a server gives, or a packet that is sent so
 abbrev pub Says : (NodeId → Body → Type 0) → Effect → Type 0
 Says Sends (Send to said) = Sends to said
-Says Sends (Answers item answer) = Unit {0}
+Says Sends (Answers item answer) = IsServers answer
 Says Sends (Lose seg) = ⊥
 Says Sends (Does act) = ⊥
 
@@ -89,9 +89,9 @@ module _ (first : Node) (what : Do) (S : ShelfState → Type 0) (R : RebuildStat
   abbrev RebuildKept : Option Rebuilding → Type 0
   RebuildKept r = IfSome r (λ (x : Rebuilding). R x.rebuild)
 
-  answers_say : (item : Option ℕ) (answer : Answer) → AllByRecursion (Says Sends) (answers_unanswered item answer)
-  answers_say None answer = tt
-  answers_say (Some number) answer = (tt, tt)
+  answers_say : (item : Option ℕ) (answer : Answer) → IsServers answer → AllByRecursion (Says Sends) (answers_unanswered item answer)
+  answers_say None answer so = tt
+  answers_say (Some number) answer so = (so, tt)
 
   -- ---- the rebuild
 
@@ -114,7 +114,7 @@ module _ (first : Node) (what : Do) (S : ShelfState → Type 0) (R : RebuildStat
   says_goes node (out.Fill f) h so = record { state = record { shelf = keeps.fills f so node.shelf h.shelf; rebuild = h.rebuild; works = h.works }; outs = tt }
   says_goes node (out.Finished filled gone) h so = record {
     state = record { shelf = h.shelf; rebuild = tt; works = h.works };
-    outs = answers_say node.items.unanswered (answers.Rebuilt filled gone);
+    outs = answers_say node.items.unanswered (answers.Rebuilt filled gone) tt;
   }
 
   rebuild_goes : (node : Node) (r : Option Rebuilding) (given : In) → Kept node → RebuildKept r → Given what node.shelf given → Goes (goes_on node r given)
@@ -178,7 +178,7 @@ module _ (first : Node) (what : Do) (S : ShelfState → Type 0) (R : RebuildStat
   }
   move_goes node d (Notes items questions hello same) h =
       record { state = record { shelf = h.shelf; rebuild = h.rebuild; works = subst W (sym same) h.works }; outs = tt }
-  move_goes node d (AnswersItem number answer) h = record { state = h; outs = (tt, tt) }
+  move_goes node d (AnswersItem number answer so) h = record { state = h; outs = (so, tt) }
   move_goes node d (Greets ask) h = record { state = h; outs = (keeps.sends node.shelf _ _ h.shelf (Greeted ask), tt) }
 
   moves_go : (node : Node) (d : Done) → Moves first what node d → Kept node → Goes d

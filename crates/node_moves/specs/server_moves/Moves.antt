@@ -16,6 +16,7 @@ use Rattle.store_nodes.specs.declared.server.Server.{Server as Node}
 use Rattle.store_nodes.specs.Rebuilds.{Done, rebuilds}
 use Rattle.store_nodes.specs.ServerEvents.{hello_of, of_log, on_delete, on_fence, on_fetch, on_list, on_store, takes, tells}
 use Rattle.version_model.specs.declared.answer.Answer.{Answer}
+use Rattle.version_model.specs.declared.answer.Answer.TheVariants as answers
 use Rattle.version_model.specs.declared.work.Work.TheVariants as work
 use Rattle.wire_msg.specs.declared.body.Body.{Body}
 use Rattle.wire_msg.specs.declared.body.Body.TheVariants as body
@@ -93,6 +94,15 @@ pub data Sent (first : ShelfState) (what : Do) : ShelfState → NodeId → Body 
       → Sent first what shelf (Server server) (body.Fetch (record { name = name; ask = ask }))
   Greeted : {shelf : ShelfState} (ask : ℕ) → Sent first what shelf Registry (body.Hello (record { inc = shelf.generation; ask = ask }))
 
+-- ---- what a server answers
+
+abbrev pub IsServers : Answer → Type 0
+IsServers answers.Done = Unit {0}
+IsServers answers.Busy = Unit {0}
+IsServers answers.Cut = Unit {0}
+IsServers (answers.Rebuilt filled gone) = Unit {0}
+IsServers _ = ⊥
+
 -- ---- the moves
 
 pub data Move (first : Node) (what : Do) : Node → Done → Type 0 where
@@ -121,7 +131,7 @@ pub data Move (first : Node) (what : Do) : Node → Done → Type 0 where
   Notes : {node : Node} (items : Items) (questions : Questions) (hello : Option ℕ) → items.works ≡ node.items.works
       → Move first what node (still (record node { items = items; questions = questions; hello = hello }))
   -- It answers an item.
-  AnswersItem : {node : Node} (number : ℕ) (answer : Answer) → Move first what node (tells node (Answers number answer ∷ []))
+  AnswersItem : {node : Node} (number : ℕ) (answer : Answer) → IsServers answer → Move first what node (tells node (Answers number answer ∷ []))
   -- It says Hello.
   Greets : {node : Node} (ask : ℕ) → Move first what node (tells node (hello_of node.shelf ask ∷ []))
 

@@ -9,7 +9,6 @@ use Rattle.client_log.specs.declared.input.In.TheVariants as log_ins
 use Rattle.client_log.specs.declared.output.Out as log_out
 use Rattle.client_log.specs.declared.output.Out.TheVariants.{Send, Settled}
 use Rattle.client_log.specs.Transition as log
-use Rattle.client_call.specs.Flights.{is_giving, is_settling}
 use Rattle.client_running.specs.Blocks.{changes, wrote}
 use Rattle.client_serving.specs.declared.serving.Serving.{Serving}
 use Rattle.client_serving.specs.Flights.{feeds, gives_if_clean, gives_up, held_at, keeps_clean, notes_settled, settled_rows, settles, writes, writes_one}
@@ -17,10 +16,12 @@ use Rattle.client_serving.specs.Follow.{notes_clean, notes_gone, seals}
 use Rattle.client_serving.specs.Sends as client
 use Rattle.coop_cache.specs.CacheState.{CacheState}
 use Rattle.coop_cache.specs.Transition.{excess, is_clean, left, touched, used_last}
+use Rattle.log_owner.specs.Sealing.{is_settling}
 use Rattle.token_client.specs.declared.held.Giving.{Giving}
 use Rattle.token_client.specs.declared.held.Held.{Held}
 use Rattle.token_client.specs.Held.{is_dirty, is_settled_by, let_go, may_evict, may_write, version_settled, written}
 use Rattle.token_client.specs.Laws.{IsSound}
+use Rattle.token_client.specs.Settling.{is_giving}
 use Rattle.token_client.specs.State.{TokensState, dirty_in, held_of, with_held}
 use Rattle.token_client.specs.Transition.{Done, on_evict, on_settled, on_wrote}
 use Rattle.token_client.proofs.Tables.{held_of-put_itself, put_each}

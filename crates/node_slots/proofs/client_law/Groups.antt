@@ -9,7 +9,6 @@ use Rattle.client_log.specs.declared.output.Out.TheVariants.{Send, Settled}
 use Rattle.client_log.specs.LogState.{LogState}
 use Rattle.client_log.specs.Transition as log
 use Rattle.client_log.specs.Transition.{can_go_on, has_next, if_full, is_idle, on_acked, on_maps, on_put, on_seal, on_tick, sealed, waits}
-use Rattle.client_call.specs.Flights.{is_giving, is_settling}
 use Rattle.client_running.specs.Blocks.{changes, wrote}
 use Rattle.client_serving.specs.declared.serving.Serving.{Serving}
 use Rattle.client_serving.specs.Flights.{feeds, gives_if_clean, gives_up, held_at, keeps_clean, notes_settled, settled_rows, settles, writes, writes_one}
@@ -26,9 +25,11 @@ use Rattle.log_owner.specs.declared.opened.Progress.{Progress}
 use Rattle.log_owner.specs.declared.opened.Progress.TheVariants as progress
 use Rattle.node_slots.specs.client_law.Grouped.{HasSuchMaps, OpensBySuch}
 use Rattle.log_owner.specs.Opening as opening
+use Rattle.log_owner.specs.Sealing.{is_settling}
 use Rattle.node_slots.proofs.client_law.Grouping.{Has, acked_has, if_full_groups, mapped_has, packet_groups, sealed_groups, tick_groups, ticked_has}
 use Rattle.token_client.specs.declared.held.Giving.{Giving}
 use Rattle.token_client.specs.Held.{is_dirty}
+use Rattle.token_client.specs.Settling.{is_giving}
 use Rattle.token_client.specs.State.{dirty_in}
 use Rattle.token_client.specs.Transition.{on_evict}
 use Rattle.xfs_base.specs.declared.block.BlockId.{BlockId}

@@ -6,13 +6,13 @@ use Rattle.client_node.specs.declared.client.Client.{Client}
 use Rattle.client_node.specs.declared.phase.Phase.TheVariants.{Down, Opening, Serving as Serves}
 use Rattle.client_node.specs.declared.phase.Phase.{Phase}
 use Rattle.client_node.specs.Phases.{Went_to, after_opening, begins_item, client_room, client_step, down_begins, happens, item_begins, lasting_of, on_begin, on_deliver, on_event, on_time, opened_on, opening_begins, owner_of, phase_room, serving_begins, takes, wish_of, with_begun}
+use Rattle.client_node.specs.Serving.{cached_upto, empty_end}
 use Rattle.client_node.specs.Starting.{first_client}
 use Rattle.client_call.specs.declared.call.Going.{Going}
-use Rattle.client_call.specs.declared.lasting.Lasting.{Lasting}
-use Rattle.client_call.specs.Lasting.{next_life}
-use Rattle.client_call.specs.Starting.{cached_upto, empty_end}
+use Rattle.client_serving.specs.declared.lasting.Lasting.{Lasting}
 use Rattle.client_serving.specs.declared.serving.Serving.{Serving}
 use Rattle.client_running.specs.Opens.{begins_call, call_at, opens}
+use Rattle.client_serving.specs.Lasting.{next_life}
 use Rattle.client_serving.specs.Packets.{on_packet, on_tick}
 use Rattle.client_node.specs.Room.{serving_room, tokens_room}
 use Rattle.client_running.specs.Running.{goes_on, runs}

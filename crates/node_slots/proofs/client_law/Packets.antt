@@ -2,11 +2,11 @@
 use Rattle.std.proofs.Common.{◌≡◌, inl, ℕ, Bool, true, ◌&&◌, ◌==◌, not, nat_lt, List, [], ◌∷◌, Option, Some, None, refl, sym, ap, subst, ◌∙◌, arith}
 use Rattle.std.proofs.lemmas.Bool.Decides.{nat_tests}
 use Rattle.client_log.specs.declared.input.In.TheVariants as log_in
-use Rattle.client_call.specs.Grants.{is_stamp}
 use Rattle.client_call.specs.Reads.{block_read, heard, Heard, reading_in, value_at}
 use Rattle.client_serving.specs.declared.serving.Serving.{Serving}
 use Rattle.client_serving.specs.Flights.{held_at, writes}
 use Rattle.client_serving.specs.Follow.{hands, takes_back}
+use Rattle.client_serving.specs.Grants.{is_stamp}
 use Rattle.client_serving.specs.Packets.{asks_for_maps, ends_fetch, hears, is_acked, is_gone, is_news, may_report, on_ack, on_body, on_forward, on_found, on_gone, on_grant, on_missing, on_news, on_packet, on_poll, on_recall, on_supply, on_tick, on_told, on_welcome, polled, promised_in, promises, regroups, renews, reports, says_again, takes_news, told_at, told_by}
 use Rattle.client_serving.specs.Reads.{loses, with_reading}
 use Rattle.client_serving.specs.Sends as client

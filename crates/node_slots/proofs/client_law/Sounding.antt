@@ -5,7 +5,6 @@ use Rattle.client_log.specs.declared.input.In as log_in
 use Rattle.client_log.specs.declared.output.Out as log_out
 use Rattle.client_log.specs.declared.output.Out.TheVariants.{Send, Settled}
 use Rattle.client_log.specs.Transition as log
-use Rattle.client_call.specs.Flights.{is_giving, is_settling}
 use Rattle.client_call.specs.Reads.{reading_in, same_target, target_of}
 use Rattle.client_serving.specs.declared.serving.Serving.{Serving}
 use Rattle.client_serving.specs.Flights.{feeds, gives_if_clean, gives_up, held_at, keeps_clean, notes_settled, seals_again, settled_rows, settles, writes, writes_one}
@@ -17,6 +16,7 @@ use Rattle.coop_cache.specs.declared.output.Out as cache_out
 use Rattle.coop_cache.specs.declared.output.Out.TheVariants.{Victim}
 use Rattle.coop_cache.specs.Transition.{cleaned, left}
 use Rattle.group_map.specs.declared.group.Group.{Group}
+use Rattle.log_owner.specs.Sealing.{is_settling}
 use Rattle.segment_reading.specs.declared.reading.Next.{Next}
 use Rattle.segment_reading.specs.declared.reading.Next.TheVariants as next
 use Rattle.segment_reading.specs.declared.reading.Stage.{Stage}
@@ -31,6 +31,7 @@ use Rattle.token_client.specs.declared.output.Out.{Out}
 use Rattle.token_client.specs.declared.output.Out.TheVariants.{Want, Gave, Supply, Flush, Read, Ready}
 use Rattle.token_client.specs.Held.{is_dirty}
 use Rattle.token_client.specs.Laws.{IsSound}
+use Rattle.token_client.specs.Settling.{is_giving}
 use Rattle.token_client.specs.State.{TokensState, dirty_in, held_of}
 use Rattle.token_client.specs.Transition.{transition}
 use Rattle.token_client.proofs.AllInputs.{transition-follows}

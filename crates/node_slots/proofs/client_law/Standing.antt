@@ -1,10 +1,11 @@
 -- The facts of a client together hold at the start, and each event keeps them.
 use Rattle.std.proofs.Common.{◌≡◌, ℕ, Option, Some, None, inl, replicate, refl, sym, ◌∙◌}
+use Rattle.xfs_base.specs.Limits.{slot_count}
 use Rattle.client_node.specs.declared.phase.Phase.TheVariants.{Down, Opening, Serving as Serves}
 use Rattle.client_node.specs.declared.phase.Phase.{Phase}
 use Rattle.client_node.specs.Phases.{takes}
-use Rattle.client_call.specs.Lasting.{first_lasting}
 use Rattle.client_serving.specs.declared.serving.Serving.{Serving}
+use Rattle.client_serving.specs.Lasting.{first_lasting}
 use Rattle.client_node.specs.Serving.{first_serving}
 use Rattle.group_map.specs.Groups.{started}
 use Rattle.group_map.specs.WellFormed.{IsGroupMap}
@@ -120,9 +121,9 @@ module _ (opens : OpensEmptyLogs) where
       let s : Serving = first_serving (first_lasting number works) setup.managers setup.cache (started setup.servers setup.groups) in
       record {
         asks = first_asks number setup works;
-        gives = giving.only_dirty s (giving.starts-giving 1 (replicate 8 1) s.log setup.cache tt);
-        caches = caching.what_is_clean s (caching.starts-caching 1 (replicate 8 1) s.log setup.cache tt);
-        writes = unsettled.writes_what_is_dirty s (unsettled.starts-empty 1 (replicate 8 1) s.log setup.cache (refl, refl));
+        gives = giving.only_dirty s (giving.starts-giving 1 (replicate slot_count 1) s.log setup.cache tt);
+        caches = caching.what_is_clean s (caching.starts-caching 1 (replicate slot_count 1) s.log setup.cache tt);
+        writes = unsettled.writes_what_is_dirty s (unsettled.starts-empty 1 (replicate slot_count 1) s.log setup.cache (refl, refl));
         next = tt;
         stripes = first;
       }

@@ -5,8 +5,8 @@ use Rattle.client_node.specs.declared.client.Client.{Client}
 use Rattle.client_node.specs.declared.phase.Phase.TheVariants.{Down, Opening, Serving as Serves}
 use Rattle.client_node.specs.declared.phase.Phase.{Phase}
 use Rattle.client_node.specs.Phases.{stepped, Went_to, after_opening, begins_item, client_room, crashed, down_begins, happens, item_begins, lasting_of, on_begin, on_deliver, on_time, opened_on, opening_begins, owner_of, restarted, takes, wish_of, with_begun}
-use Rattle.client_call.specs.declared.lasting.Lasting.{Lasting}
-use Rattle.client_call.specs.Lasting.{next_life}
+use Rattle.client_serving.specs.declared.lasting.Lasting.{Lasting}
+use Rattle.client_serving.specs.Lasting.{next_life}
 use Rattle.log_owner.specs.Behaves.{Behaves, MayDo, MaySay}
 use Rattle.log_owner.specs.declared.ended.Owner.{Owner}
 use Rattle.log_owner.specs.declared.opened.Progress.{Progress}

@@ -10,7 +10,6 @@ use Rattle.client_log.specs.declared.output.Out.TheVariants.{Send, Settled}
 use Rattle.client_log.specs.LogState.{LogState}
 use Rattle.client_log.specs.Transition as log
 use Rattle.client_log.specs.Transition.{all_sends, can_follow, followed, has_next, if_full, is_full, is_idle, landed, launched, looked_at, next_attempt, on_acked, on_maps, on_seal, on_tick, restriped, sealed, settled}
-use Rattle.client_call.specs.Flights.{is_giving, is_settling}
 use Rattle.client_serving.specs.declared.serving.Serving.{Serving}
 use Rattle.client_serving.specs.Flights.{feeds, gives_if_clean, gives_up, held_at, keeps_clean, notes_settled, settled_rows, settles, writes, writes_one}
 use Rattle.client_serving.specs.Follow.{evicts, notes_clean, seals}
@@ -25,6 +24,7 @@ use Rattle.log_flight.specs.Fate.{fate_of}
 use Rattle.log_flight.specs.Flights as flights
 use Rattle.log_flight.specs.Flights.{FlightState, is_of, noting}
 use Rattle.log_flight.specs.Items.{items_of}
+use Rattle.log_owner.specs.Sealing.{is_settling}
 use Rattle.segment_format.specs.declared.segment.Item.{Item}
 use Rattle.segment_format.specs.declared.segment.Item.TheVariants.{Block, Delta, Part}
 use Rattle.segment_format.specs.declared.segment.Segment.{Segment}
@@ -32,6 +32,7 @@ use Rattle.segment_format.specs.Rows.{rows_of}
 use Rattle.token_client.specs.declared.held.Giving.{Giving}
 use Rattle.token_client.specs.declared.held.Held.{Held}
 use Rattle.token_client.specs.Held.{is_dirty, let_go, may_evict}
+use Rattle.token_client.specs.Settling.{is_giving}
 use Rattle.token_client.specs.State.{TokensState, dirty_in, held_of, with_held}
 use Rattle.token_client.specs.Transition.{Done, on_evict}
 use Rattle.xfs_base.specs.declared.block.BlockId.{BlockId}

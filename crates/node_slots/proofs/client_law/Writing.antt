@@ -6,7 +6,6 @@ use Rattle.client_log.specs.declared.input.In as log_in
 use Rattle.client_log.specs.declared.output.Out as log_out
 use Rattle.client_log.specs.declared.output.Out.TheVariants.{Send, Settled}
 use Rattle.client_log.specs.Transition as log
-use Rattle.client_call.specs.Flights.{is_giving, is_settling}
 use Rattle.client_serving.specs.declared.serving.Serving.{Serving}
 use Rattle.client_serving.specs.Flights.{seals_again, settles, writes, writes_one}
 use Rattle.client_serving.specs.Follow.{evicts, notes_clean, notes_gone, seals}
@@ -14,6 +13,8 @@ use Rattle.client_serving.specs.Sends.{Done}
 use Rattle.coop_cache.specs.declared.output.Out as cache_out
 use Rattle.coop_cache.specs.declared.output.Out.TheVariants.{Victim}
 use Rattle.coop_cache.specs.Transition.{cleaned, left}
+use Rattle.log_owner.specs.Sealing.{is_settling}
+use Rattle.token_client.specs.Settling.{is_giving}
 use Rattle.token_client.specs.State.{TokensState, held_of}
 use Rattle.token_client.specs.Transition.{on_evict}
 use Rattle.xfs_base.specs.declared.block.BlockId.{BlockId}

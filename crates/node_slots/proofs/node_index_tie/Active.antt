@@ -6,7 +6,7 @@ use Rattle.std.proofs.lemmas.Bool.Decides.{nat_tests}
 use Rattle.std.proofs.lemmas.List.{get_or-set_other, get_or-set_same}
 use Rattle.xfs_base.proofs.Booleans.{by_test}
 use Rattle.xfs_base.specs.Blocks.{slot_of}
-use Rattle.xfs_base.specs.Limits.{u32_end}
+use Rattle.xfs_base.specs.Limits.{u32_end, block_logs}
 use Rattle.xfs_base.specs.Steps.{still}
 use Rattle.xfs_base.specs.declared.segment.LogId.{LogId}
 use Rattle.node_slots.specs.node_index_tie.Pages.{Desk}
@@ -62,8 +62,8 @@ module _ (part : ℕ) (texts : Texts) (asked : Questions) (brought : Brought) (d
   -- what is known of a slot that is managed, but that the small world has it
   record Stands (n : Net) (a : Active) (t : SlotState) : Type 0 where
     epoch : t.epoch ≡ a.slot.epoch
-    nine : length t.applied ≡ 9
-    short : (l : ℕ) → 0 < l → l ≤ 9 → applied_of t.applied l < u32_end
+    nine : length t.applied ≡ block_logs
+    short : (l : ℕ) → 0 < l → l ≤ block_logs → applied_of t.applied l < u32_end
     pages : Paged part texts n desk a.slot.epoch (pages_of t.index) a.parts
 
   -- the slot steps in the small world
@@ -115,7 +115,7 @@ module _ (part : ℕ) (texts : Texts) (asked : Questions) (brought : Brought) (d
   -- ---- Deltas
 
   -- a number that is put into a list of numbers that are short
-  short_put : (xs : List ℕ) (at upto l : ℕ) → length xs ≡ 9 → at < 9 → upto < u32_end → applied_of xs l < u32_end
+  short_put : (xs : List ℕ) (at upto l : ℕ) → length xs ≡ block_logs → at < block_logs → upto < u32_end → applied_of xs l < u32_end
       → applied_of (slice_set xs at upto) l < u32_end
   short_put xs at upto l nine within fits was = by (l - 1 == at) refl
     where
@@ -129,7 +129,7 @@ module _ (part : ℕ) (texts : Texts) (asked : Questions) (brought : Brought) (d
           (subst (λ x. x < u32_end) (sym (get_or-set_same xs at upto 0 (omega arith))) fits)
       by false fact = subst (λ x. x < u32_end) (sym (get_or-set_other xs at (l - 1) upto 0 (apart (l - 1) fact))) was
 
-  stands_deltas : (n : Net) (a : Active) (of : LogId) (m : Deltas) → of.0 - 1 < 9 → DeltasKnown part n of.0 m → ActiveAgrees part texts n desk a
+  stands_deltas : (n : Net) (a : Active) (of : LogId) (m : Deltas) → of.0 - 1 < block_logs → DeltasKnown part n of.0 m → ActiveAgrees part texts n desk a
       → Stands n a (slot.transition a.slot (deltas_input of m)).state
   stands_deltas n a of m within known k =
       deltas_take (Stands n a) a.slot of m.first m.upto m.rows (stands_same n a a.slot (record { epoch = refl; applied = refl; index = refl }) k)
@@ -150,7 +150,7 @@ module _ (part : ℕ) (texts : Texts) (asked : Questions) (brought : Brought) (d
       (flat_map (said m.slot a.slot.epoch) (slot.transition a.slot (deltas_input of m)).outs)
   active_deltas n a of m known agrees = by (slot_recalls.is_followed of) refl
     where
-      within : (x : ℕ) → slot_recalls.is_followed (record { 0 = x }) ≡ true → x - 1 < 9
+      within : (x : ℕ) → slot_recalls.is_followed (record { 0 = x }) ≡ true → x - 1 < block_logs
       within x h = grind (arith, nat_tests)
 
       by : (t : Bool) → slot_recalls.is_followed of ≡ t → IsEvent n a m.slot (slot.transition a.slot (deltas_input of m))

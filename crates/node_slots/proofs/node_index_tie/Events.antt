@@ -4,6 +4,7 @@ use Rattle.std.proofs.lemmas.Bool.{eqb-true}
 use Rattle.std.proofs.lemmas.List.Elements.{All-from_recursion}
 use Rattle.xfs_base.proofs.Booleans.{by_test, and_first}
 use Rattle.xfs_base.specs.Steps.{still}
+use Rattle.xfs_base.specs.Limits.{slot_count}
 use Rattle.index_tie.specs.Net.{Net}
 use Rattle.index_tie.specs.Net.Runs.{Begun}
 use Rattle.manager_node.specs.Events.{takes_welcome, on_welcome, on_waiting, on_packet, on_deliver, on_time, on_event, happens}
@@ -53,7 +54,7 @@ MayEndBy (Deliver packet) = MayEnd packet.body
 MayEndBy Begin = Unit {0}
 MayEndBy Tick = Unit {0}
 
-module _ (part : ℕ) (texts : Texts) (questions : Questions) (exists : part < 8) (j : ℕ) (n : Net) where
+module _ (part : ℕ) (texts : Texts) (questions : Questions) (exists : part < slot_count) (j : ℕ) (n : Net) where
   abbrev Goes : Phase → Do → Went_to → Type 0
   Goes p what w = ManagerGoes part texts questions j n p what w
 
@@ -200,7 +201,7 @@ module _ (part : ℕ) (texts : Texts) (questions : Questions) (exists : part < 8
   unknown_at (suc (suc (suc (suc (suc (suc (suc (suc k)))))))) = refl
 
   -- a log and a writer that have begun
-  pub begun_agreed : (kept : Kept) (maps : Maps) (slots : Table) (groups : GroupMapState) → length slots ≡ 8
+  pub begun_agreed : (kept : Kept) (maps : Maps) (slots : Table) (groups : GroupMapState) → length slots ≡ slot_count
       → PhaseAgrees part texts n
       (record { log = log_started (log_of kept.number) kept.inc no_end groups; given = []; writer = writer_started (log_of kept.number) }) (phase_at slots part)
       → ServingAgrees part texts n (serving_begun kept maps slots groups)

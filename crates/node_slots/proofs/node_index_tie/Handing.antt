@@ -6,7 +6,7 @@ use Rattle.std.proofs.lemmas.Bool.{eqb-true, ltb-true}
 use Rattle.std.proofs.lemmas.Bool.Decides.{nat_tests}
 use Rattle.xfs_base.proofs.Booleans.{by_test, contrary}
 use Rattle.xfs_base.proofs.Members.{contains_first}
-use Rattle.xfs_base.specs.Limits.{u32_end}
+use Rattle.xfs_base.specs.Limits.{u32_end, block_logs}
 use Rattle.xfs_base.specs.Steps.{still}
 use Rattle.xfs_base.specs.declared.block.BlockId.{BlockId}
 use Rattle.xfs_base.specs.declared.news.SlotNews.{SlotNews}
@@ -16,6 +16,7 @@ use Rattle.xfs_base.specs.declared.segment.End.{End}
 use Rattle.xfs_base.specs.declared.token.Mode.{Mode}
 use Rattle.xfs_base.proofs.NodeOrder.{same_node_is}
 use Rattle.xfs_base.specs.Nodes.{same_node}
+use Rattle.xfs_base.specs.Logs.{block_writer, cleaners_number}
 use Rattle.checkpoint.specs.WriterState.{WorkState}
 use Rattle.node_slots.specs.node_index_tie.Pages.{Desk}
 use Rattle.group_map.specs.GroupMapState.{GroupMapState}
@@ -39,7 +40,7 @@ use Rattle.slot_beliefs.specs.Index.{nothing_indexed, pages_of, indexed_all}
 use Rattle.slot_beliefs.specs.Recalls.{applied_of as applied_in_slot}
 use Rattle.takeover.specs.Course.{Course, course_of, after_input, IsTakenOver}
 use Rattle.takeover.specs.ReadBack.{told_by_all}
-use Rattle.takeover.specs.Reports.{applied_of, applied_at, beliefs_of, is_heard, end_of, end_from, no_end, writer_of, polled, client_after, awaited_of, horizon_at}
+use Rattle.takeover.specs.Reports.{applied_of, applied_at, beliefs_of, is_heard, end_of, end_from, no_end, polled, client_after, awaited_of, horizon_at}
 use Rattle.takeover.specs.TakeState.{TakeState, started}
 use Rattle.takeover.specs.Transition.{active, transition}
 use Rattle.takeover.specs.declared.input.In.{In as Input}
@@ -66,11 +67,11 @@ or_rest true b off h = contrary (sym off)
 or_rest false b off h = h
 
 module _ (part : ℕ) (n : Net) where
-  known_of : (epoch l : ℕ) (end : End) → ReportKnown part n epoch (writer_of l) end → EndKnown part n epoch l end
-  known_of epoch l end k = by (l == 9) refl k
+  known_of : (epoch l : ℕ) (end : End) → ReportKnown part n epoch (block_writer l) end → EndKnown part n epoch l end
+  known_of epoch l end k = by (l == cleaners_number) refl k
     where
-      by : (t : Bool) → (l == 9) ≡ t → ReportKnown part n epoch (cond t Cleaner (Client l)) end → EndKnown part n epoch l end
-      by true fact k = subst (λ x. EndKnown part n epoch x end) (sym (eqb-true l 9 fact)) k.0
+      by : (t : Bool) → (l == cleaners_number) ≡ t → ReportKnown part n epoch (cond t Cleaner (Client l)) end → EndKnown part n epoch l end
+      by true fact k = subst (λ x. EndKnown part n epoch x end) (sym (eqb-true l cleaners_number fact)) k.0
       by false fact k = k
 
   cleaner_from : (epoch : ℕ) (rs : List Heard) → is_heard rs Cleaner ≡ true → ((r : Heard) → Among r rs → ReportKnown part n epoch r.from r.end)
@@ -88,11 +89,11 @@ module _ (part : ℕ) (n : Net) where
     -- what holds of no end, and of the end of the log that is known, holds of the reported one
     of_end : (l : ℕ) (P : End → Type 0) → P no_end → ((end : End) → EndKnown part n epoch l end → P end) → P (end_of reports l)
     of_end l P none known =
-        end_from_is P (writer_of l) reports none
+        end_from_is P (block_writer l) reports none
         (λ r there from. known r.end (known_of epoch l r.end (subst (λ node. ReportKnown part n epoch node r.end) from (all r there))))
 
     -- once nobody is awaited the cleaner has reported
-    cleaner_in : (clients : ℕ) → awaited_of clients reports ≡ [] → In (CleanerReported epoch (end_of reports 9).seq) n.sent
+    cleaner_in : (clients : ℕ) → awaited_of clients reports ≡ [] → In (CleanerReported epoch (end_of reports cleaners_number).seq) n.sent
     cleaner_in clients none = cleaner_from epoch reports (all_heard reports (polled clients) Cleaner none
         (last (map client_after (range_with_len 0 clients)))) all
       where
@@ -169,17 +170,17 @@ module _ (part : ℕ) (texts : Texts) (asked : Questions) (brought : Brought) (d
     horizon : n.horizon t.epoch ≡ k.news.horizon
     horizon = ap n.horizon (sym k.of_epoch) ∙ sym k.known.horizon
 
-    ends : (l : ℕ) → 0 < l → l ≤ 9 → of_log k.news.horizon l ≤ (end_of later.reports l).seq → IsEnd n.filed l (end_of later.reports l)
+    ends : (l : ℕ) → 0 < l → l ≤ block_logs → of_log k.news.horizon l ≤ (end_of later.reports l).seq → IsEnd n.filed l (end_of later.reports l)
     ends l some limit = of_end part n t.epoch later.reports known l (λ end. of_log k.news.horizon l ≤ end.seq → IsEnd n.filed l end)
         (λ low. absurd (let h = k.known.from_one l some limit in omega arith))
         (λ end e. subst (λ (h : List ℕ). 0 < of_log h l → of_log h l ≤ end.seq → IsEnd n.filed l end) horizon e.filed (k.known.from_one l some limit))
 
-    linked : (l : ℕ) → 0 < l → l ≤ 9 → Linked n.filed l (of_log k.news.horizon l) (end_of later.reports l).seq
+    linked : (l : ℕ) → 0 < l → l ≤ block_logs → Linked n.filed l (of_log k.news.horizon l) (end_of later.reports l).seq
     linked l some limit = of_end part n t.epoch later.reports known l (λ end. Linked n.filed l (of_log k.news.horizon l) end.seq)
         (λ q low high. absurd (omega arith)) (λ end e. subst (λ (h : List ℕ). 0 < of_log h l → Linked n.filed l (of_log h l) end.seq) horizon e.linked
         (k.known.from_one l some limit))
 
-    short : (l : ℕ) → 0 < l → l ≤ 9 → applied_at k.news.horizon later.reports l < u32_end
+    short : (l : ℕ) → 0 < l → l ≤ block_logs → applied_at k.news.horizon later.reports l < u32_end
     short l some limit =
         let last : (end_of later.reports l).seq < u32_end = of_end part n t.epoch later.reports known l (λ end. end.seq < u32_end) (omega arith)
         (λ end e. e.short) in
@@ -214,9 +215,9 @@ module _ (part : ℕ) (texts : Texts) (asked : Questions) (brought : Brought) (d
       here : t.epoch ≡ epoch
       here = sym k.of_epoch ∙ sym over.of_epoch
 
-      reported : In (CleanerReported epoch (end_of (after_input course given).state.reports 9).seq) n.sent
-      reported = subst (λ (s : TakeState). In (CleanerReported epoch (end_of s.reports 9).seq) n.sent) is_course
-          (subst (λ e. In (CleanerReported e (end_of later.reports 9).seq) n.sent) here
+      reported : In (CleanerReported epoch (end_of (after_input course given).state.reports cleaners_number).seq) n.sent
+      reported = subst (λ (s : TakeState). In (CleanerReported epoch (end_of s.reports cleaners_number).seq) n.sent) is_course
+          (subst (λ e. In (CleanerReported e (end_of later.reports cleaners_number).seq) n.sent) here
           (cleaner_in part n t.epoch later.reports known later.clients hands.reported))
 
       has : HasRead part (held_in part texts) n epoch k.news (after_input course given)
@@ -226,9 +227,9 @@ module _ (part : ℕ) (texts : Texts) (asked : Questions) (brought : Brought) (d
         horizon = k.known.horizon ∙ ap n.horizon (sym over.of_epoch);
         parts = k.known.parts ∙ ap n.parts (sym over.of_epoch);
         written = tells_parts part texts k.news.parts (length k.news.parts) (after_input course given).read.whole read.whole;
-        ends = subst (λ (s : TakeState). (l : ℕ) → 0 < l → l ≤ 9 → of_log k.news.horizon l ≤ (end_of s.reports l).seq → IsEnd n.filed l (end_of s.reports l))
+        ends = subst (λ (s : TakeState). (l : ℕ) → 0 < l → l ≤ block_logs → of_log k.news.horizon l ≤ (end_of s.reports l).seq → IsEnd n.filed l (end_of s.reports l))
             is_course ends;
-        linked = subst (λ (s : TakeState). (l : ℕ) → 0 < l → l ≤ 9 → Linked n.filed l (of_log k.news.horizon l) (end_of s.reports l).seq) is_course linked;
+        linked = subst (λ (s : TakeState). (l : ℕ) → 0 < l → l ≤ block_logs → Linked n.filed l (of_log k.news.horizon l) (end_of s.reports l).seq) is_course linked;
         texts = its_texts part texts n.filed filed (after_input course given).read.whole read.whole;
         reported = reported;
       }
@@ -238,7 +239,7 @@ module _ (part : ℕ) (texts : Texts) (asked : Questions) (brought : Brought) (d
           (subst (λ x. RowsFit (told_by_all x (after_input course given).read.whole)) (sym k.slot)
           (fit_by_all part texts (after_input course given).read.whole read.whole)))
 
-      slot_short : (l : ℕ) → 0 < l → l ≤ 9 → applied_in_slot applied l < u32_end
+      slot_short : (l : ℕ) → 0 < l → l ≤ block_logs → applied_in_slot applied l < u32_end
       slot_short l some limit =
           let r = (after_input course given).state.reports in
           let at : applied_in_slot applied l ≡ applied_at k.news.horizon r l = ap (λ xs. applied_in_slot xs l) over.applied_to ∙ sym

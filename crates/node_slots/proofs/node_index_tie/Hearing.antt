@@ -46,6 +46,8 @@ use Rattle.node_slots.specs.node_index_tie.ManagerEvents.{ServingAgrees, DeltasG
 use Rattle.node_slots.specs.node_index_tie.Pages.{desk_of, FlightIsText}
 use Rattle.node_slots.specs.node_index_tie.Sight.{Texts, Questions, AreTexts, CheckKnown, ReportKnown}
 use Rattle.xfs_base.specs.Blocks.{slot_of}
+use Rattle.xfs_base.specs.Limits.{slot_count}
+use Rattle.xfs_base.specs.Logs.{cleaner_log}
 use Rattle.node_slots.proofs.node_index_tie.Agreeing.{writer_on, done_seen}
 use Rattle.node_slots.proofs.node_index_tie.Handing.{OwesAt}
 use Rattle.node_slots.proofs.node_index_tie.Moves.{Brought, nothing, Grows, Sees, held_is, some_none, news_on, sees_quiet, sees_as, sees_then, sees_named}
@@ -81,7 +83,7 @@ MayEnd (body.MapNews news) = ⊥
 MayEnd (body.Welcome welcome) = ⊥
 MayEnd _ = Unit {0}
 
-module _ (part : ℕ) (texts : Texts) (questions : Questions) (exists : part < 8) where
+module _ (part : ℕ) (texts : Texts) (questions : Questions) (exists : part < slot_count) where
   filed_on : (n m : Net) → Grows n m → AreTexts texts n.filed → AreTexts texts m.filed
   filed_on n m g filed = subst (λ (x : Net). AreTexts texts x.filed) (sym g.rest) filed
 
@@ -158,8 +160,8 @@ module _ (part : ℕ) (texts : Texts) (questions : Questions) (exists : part < 8
         (table_deltas part texts questions exists brought (desk_of s agrees.given) n s.slots (record { 0 = c }) m (table_of n s agrees filed) gets)
     serves_deltas j n s (Manager c) m agrees filed gets = still_of part texts questions exists brought n s agrees
     serves_deltas j n s (Server c) m agrees filed gets = still_of part texts questions exists brought n s agrees
-    serves_deltas j n s Cleaner m agrees filed gets = by_table n s agrees (table.on_deltas s.slots (record { 0 = 9 }) m)
-        (table_deltas part texts questions exists brought (desk_of s agrees.given) n s.slots (record { 0 = 9 }) m (table_of n s agrees filed) gets)
+    serves_deltas j n s Cleaner m agrees filed gets = by_table n s agrees (table.on_deltas s.slots cleaner_log m)
+        (table_deltas part texts questions exists brought (desk_of s agrees.given) n s.slots cleaner_log m (table_of n s agrees filed) gets)
     serves_deltas j n s Registry m agrees filed gets = still_of part texts questions exists brought n s agrees
 
     serves_check : (n : Net) (s : Serving) (check : Check) → ServingAgrees part texts n s → AreTexts texts n.filed

@@ -6,6 +6,7 @@ use Rattle.xfs_base.specs.declared.node.NodeId.{NodeId}
 use Rattle.xfs_base.specs.declared.node.NodeId.TheVariants.{Client, Manager, Server, Cleaner, Registry}
 use Rattle.xfs_base.specs.declared.segment.End.{End}
 use Rattle.xfs_base.proofs.Alls.{all_append, all_weaker}
+use Rattle.xfs_base.specs.Logs.{cleaners_number}
 use Rattle.index_tie.specs.Net.{Net, Packet, Happens, Runs, with_slot}
 use Rattle.index_tie.specs.Net.Runs.{Begun, On}
 use Rattle.index_tie.specs.Takeovers.{of_log, IsEnd, Linked}
@@ -97,7 +98,7 @@ module _ (part : ℕ) (n m : Net) (g : Grows n m) where
   report_on epoch (Client c) end k = end_on epoch c end k
   report_on epoch (Manager c) end k = tt
   report_on epoch (Server c) end k = tt
-  report_on epoch Cleaner end k = (end_on epoch 9 end k.0, g.sent _ k.1)
+  report_on epoch Cleaner end k = (end_on epoch cleaners_number end k.0, g.sent _ k.1)
   report_on epoch Registry end k = tt
 
   pub news_on : (news : SlotNews) → m.slots news.epoch ≡ n.slots news.epoch → NewsKnown part n news → NewsKnown part m news

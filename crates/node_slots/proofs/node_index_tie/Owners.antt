@@ -10,6 +10,7 @@ use Rattle.xfs_base.specs.declared.block.BlockId.{BlockId}
 use Rattle.xfs_base.specs.declared.entry.Entry.{Entry}
 use Rattle.xfs_base.proofs.StepLoops.{steps_both}
 use Rattle.xfs_base.proofs.Alls.{all_append}
+use Rattle.xfs_base.specs.Limits.{slot_count, block_logs}
 use Rattle.delta_feed.specs.FeedState.{FeedState, started, acked_of}
 use Rattle.delta_feed.specs.History.{filed_by, settled_numbers, greatest}
 use Rattle.delta_feed.specs.Transition.{slot_rows, rows_after, pushed, transition}
@@ -52,7 +53,7 @@ fit_each f l fit (q ∷ qs) = (fit q, fit_each f l fit qs)
 
 -- ---- what is told
 
-module _ (part : ℕ) (n : Net) (l : ℕ) (some : 0 < l) (limit : l ≤ 9) (feed : FeedState) (k : FeedSeen part n l feed) (managers : Managers) where
+module _ (part : ℕ) (n : Net) (l : ℕ) (some : 0 < l) (limit : l ≤ block_logs) (feed : FeedState) (k : FeedSeen part n l feed) (managers : Managers) where
   fits : (slot : ℕ) → RowsFit (rows_after slot (acked_of feed slot) feed.filed)
   fits slot =
       let filed : feed.filed ≡ map (fed_at n.filed l) (range_with_len (suc k.base) (n.filed.head l - k.base)) = ap (λ (s : FeedState). s.filed) k.feed_is ∙
@@ -78,9 +79,9 @@ module _ (part : ℕ) (n : Net) (l : ℕ) (some : 0 < l) (limit : l ≤ 9) (feed
 
   told : (slot : ℕ) → AllByRecursion (OwnerDoes part n l) (pushes managers feed slot)
   unfolding pushed
-  told slot = by (nat_lt slot 8 && nat_lt (acked_of feed slot) feed.end) refl
+  told slot = by (nat_lt slot slot_count && nat_lt (acked_of feed slot) feed.end) refl
     where
-      by : (t : Bool) → (nat_lt slot 8 && nat_lt (acked_of feed slot) feed.end) ≡ t
+      by : (t : Bool) → (nat_lt slot slot_count && nat_lt (acked_of feed slot) feed.end) ≡ t
           → AllByRecursion (OwnerDoes part n l)
           (map (range managers) (cond t (Range slot (acked_of feed slot + 1) feed.end (rows_after slot (acked_of feed slot) feed.filed) ∷ []) []))
       by true fact = (
@@ -103,7 +104,7 @@ module _ (part : ℕ) (n : Net) (l : ℕ) (some : 0 < l) (limit : l ≤ 9) (feed
 pub owners_tell : OwnersTell
 owners_tell part n l feed managers some limit k = record {
   one = λ slot. All-from_recursion (OwnerDoes part n l) (pushes managers feed slot) (told part n l some limit feed k managers slot);
-  each = All-from_recursion (OwnerDoes part n l) (pushes_all managers feed) (told_each part n l some limit feed k managers (range_with_len 0 8));
+  each = All-from_recursion (OwnerDoes part n l) (pushes_all managers feed) (told_each part n l some limit feed k managers (range_with_len 0 slot_count));
 }
 
 -- ---- acknowledgements and new epochs

@@ -6,7 +6,7 @@ use Rattle.std.proofs.lemmas.Bool.{eqb-true}
 use Rattle.std.proofs.lemmas.Bool.Decides.{nat_tests}
 use Rattle.std.proofs.lemmas.List.{append-nil}
 use Rattle.xfs_base.proofs.Booleans.{by_test, contrary}
-use Rattle.xfs_base.specs.Limits.{u32_end}
+use Rattle.xfs_base.specs.Limits.{u32_end, slot_count, block_logs}
 use Rattle.xfs_base.specs.Steps.{Stepped, still}
 use Rattle.xfs_base.specs.declared.segment.SegRef.{SegRef}
 use Rattle.checkpoint.specs.declared.output.Out.{Out}
@@ -73,7 +73,7 @@ not_spent writer no_work no_asked idle fact = by (writer.number == u32_end) refl
 risen_is : (n : ℕ) → n < u32_end → risen n ≡ suc n
 risen_is n h = grind (arith, nat_tests)
 
-each_log : (f : ℕ → ℕ) (k : ℕ) → k < 9 → get_or (map f all_logs) k 0 ≡ f (suc k)
+each_log : (f : ℕ → ℕ) (k : ℕ) → k < block_logs → get_or (map f all_logs) k 0 ≡ f (suc k)
 each_log f zero h = refl
 each_log f (suc zero) h = refl
 each_log f (suc (suc zero)) h = refl
@@ -86,7 +86,7 @@ each_log f (suc (suc (suc (suc (suc (suc (suc (suc zero)))))))) h = refl
 each_log f (suc (suc (suc (suc (suc (suc (suc (suc (suc k))))))))) h = absurd (omega arith)
 
 -- it begins, in each log, where what the slot has applied ends
-horizon_next : (s : SlotState) → ((l : ℕ) → 0 < l → l ≤ 9 → applied_of s.applied l < u32_end) → IsNext s (horizon_of s)
+horizon_next : (s : SlotState) → ((l : ℕ) → 0 < l → l ≤ block_logs → applied_of s.applied l < u32_end) → IsNext s (horizon_of s)
 horizon_next s short l some limit = of_log_in (horizon_of s) l some limit ∙ each_log (next_of s) (l - 1) (omega arith) ∙ ap (next_of s) (before l some) ∙
     risen_is (applied_of s.applied l) (short l some limit)
   where
@@ -120,7 +120,7 @@ cleaned_pages : (i : Indexed) → pages_of (cleaned_index i) ≡ cleaned (pages_
 unfolding cleaned
 cleaned_pages i = refl
 
-module _ (part : ℕ) (texts : Texts) (questions : Questions) (exists : part < 8) (brought : Brought) where
+module _ (part : ℕ) (texts : Texts) (questions : Questions) (exists : part < slot_count) (brought : Brought) where
   -- nothing is given out
   record Clear (n : Net) (v : Serving) : Type 0 where
     agrees : ServingAgrees part texts n v
@@ -173,7 +173,7 @@ module _ (part : ℕ) (texts : Texts) (questions : Questions) (exists : part < 8
     unfolding cleaned_at
     cleaned_is p fact = changed_here s.slots part cleaned_phase (let e = agrees.eight in omega arith) ∙ ap cleaned_phase fact
 
-    cleaned_eight : length cleaned_here.slots ≡ 8
+    cleaned_eight : length cleaned_here.slots ≡ slot_count
     unfolding cleaned_at
     cleaned_eight = changed_length s.slots part cleaned_phase ∙ agrees.eight
 
@@ -347,7 +347,7 @@ module _ (part : ℕ) (texts : Texts) (questions : Questions) (exists : part < 8
       unfolding cleaned_at
       same_there = changed_there s.slots k part cleaned_phase (λ e. other (sym e))
 
-      eight_there : length cleaned_there.slots ≡ 8
+      eight_there : length cleaned_there.slots ≡ slot_count
       unfolding cleaned_at
       eight_there = changed_length s.slots k cleaned_phase ∙ agrees.eight
 

@@ -5,12 +5,9 @@ use Rattle.std.specs.List.{slice_get, slice_set, list_all}
 use Rattle.std.proofs.lemmas.Bool.{eqb-true, eqb-false, leb-true, ltb-true, le-ltb, lt-ltb}
 use Rattle.std.proofs.lemmas.Bool.Decides.{nat_tests}
 use Rattle.std.proofs.lemmas.Option.{unwrap_or-slice_get}
-use Rattle.xfs_base.proofs.Booleans.{by_test, contrary, and_first, and_second}
+use Rattle.xfs_base.proofs.Booleans.{contrary, and_first, and_second}
 use Rattle.xfs_base.specs.Limits.{u32_end}
-use Rattle.xfs_base.specs.Steps.{still}
 use Rattle.xfs_base.specs.declared.news.SlotNews.{SlotNews}
-use Rattle.xfs_base.specs.declared.node.NodeId.{NodeId}
-use Rattle.xfs_base.specs.declared.node.NodeId.TheVariants.{Client, Manager, Server, Cleaner, Registry}
 use Rattle.index_tie.specs.Net.{Net}
 use Rattle.index_tie.specs.Net.Happens.{Keeps, Moves}
 use Rattle.index_tie.specs.Net.Packet.{CheckpointDone}
@@ -19,26 +16,21 @@ use Rattle.index_tie.specs.Net.Runs.{Begun, On}
 use Rattle.index_tie.specs.Takeovers.{of_log}
 use Rattle.index_tie.proofs.Tables.{first_of, second_of}
 use Rattle.index_tie.proofs.Takeovers.{of_log_in, of_log_out, by_log}
-use Rattle.manager_map.specs.Slots.{after_move, entry_at}
-use Rattle.node_base.specs.Beginning.{begun, next_item, work_at}
-use Rattle.node_base.specs.Room.{has_room}
-use Rattle.node_base.specs.Shape.{is_well_formed}
+use Rattle.node_moves.proofs.registry_moves.Keeping.{Keeps as Keeping, event_keeps}
+use Rattle.node_moves.specs.server_moves.Moves.{Came}
 use Rattle.node_slots.specs.node_tie.RegistryEvents.{epoch_in, RegistrySound}
 use Rattle.node_slots.proofs.node_tie.RegistryNode.{registry_goes, registry_begins}
-use Rattle.registry.specs.Board.{Made, transition, hello, hears_manager, manager_restarted, manager_hello, hears_server, server_lost, server_hello, can_move, moved, reassign, is_kept, checkpointed, keep, done, slot_news, all_news}
+use Rattle.registry.specs.Board.{manager_restarted, server_lost, moved, is_kept, checkpointed, slot_news, all_news}
 use Rattle.registry.specs.BoardState.{BoardState}
 use Rattle.registry.specs.Checkpoints.{first_checkpoint, places, none_lower, no_lower, covers, covers_kept, parts_in, parts_at, horizon_in, horizon_at}
 use Rattle.registry.specs.Slots.{all_slots, entry_of}
 use Rattle.registry.specs.declared.checkpoint.Checkpoint.{Checkpoint}
-use Rattle.registry.specs.declared.input.In.TheVariants as board
-use Rattle.registry.specs.declared.output.Out.TheVariants.{Changed, Epoch, Kept}
-use Rattle.registry_node.specs.Events.{Done, registry_step, on_move, on_hello, on_done, move_of, on_item, at_item, on_begin, hears, on_packet, on_event}
+use Rattle.registry_node.specs.Events.{registry_step}
 use Rattle.registry_node.specs.declared.node.RegistryNode.{RegistryNode}
 use Rattle.token_protocol.specs.Basics.{In as Among}
-use Rattle.wire_msg.specs.declared.body.Body.{Body}
 use Rattle.wire_msg.specs.declared.body.Body.TheVariants as body
 use Rattle.wire_msg.specs.declared.packet.Do.{Do}
-use Rattle.wire_msg.specs.declared.packet.Do.TheVariants.{Begin, Deliver, Tick}
+use Rattle.wire_msg.specs.declared.packet.Packet.{Packet}
 use Rattle.wire_msg.specs.declared.registry.CkptDone.{CkptDone}
 use Rattle.node_slots.specs.node_index_tie.RegistryEvents.{IsHorizon, RegistryAgrees, BodyGets, DoGets, RegistryOwed, NewsTold, RegistryGoes, RegistryEventGoes, RegistryStarts}
 use Rattle.node_slots.specs.node_index_tie.Sight.{Texts}
@@ -64,7 +56,6 @@ parts_is cs slot = by (slice_get cs slot) ∙ ap (λ (c : Checkpoint). c.parts) 
 
 -- a checkpoint of the slot's epoch came and was kept
 record KeptOne (part : ℕ) (b next : BoardState) (what : Do) : Type 0 where
-  packet_body : Body
   m : CkptDone
   comes : (n : Net) → DoGets part n what → BodyGets part n (body.CkptDone m)
   slot : m.slot ≡ part
@@ -90,23 +81,6 @@ module _ (part : ℕ) (below : part < 8) (b : BoardState) (eight : length b.chec
     goes = inl (record { horizon = ap (λ (cs : List Checkpoint). horizon_at cs part) same; parts = ap (λ (cs : List Checkpoint). parts_at cs part) same });
   }
 
-  hello_stays : (what : Do) (from : NodeId) (inc : ℕ) → Went part b (hello b from inc).state what
-  unfolding manager_hello server_hello
-  hello_stays what (Client n) inc = stays what b refl
-  hello_stays what (Manager n) inc = by_test (λ (made : Made). Went part b made.state what) (hears_manager b n inc)
-      (record { state = manager_restarted b n inc; outs = Changed ∷ [] }) (still b) (λ _. stays what _ refl) (λ _. stays what b refl)
-  hello_stays what (Server n) inc = by_test (λ (made : Made). Went part b made.state what) (hears_server b n inc)
-      (record { state = server_lost b n inc; outs = Changed ∷ [] }) (still b) (λ _. stays what _ refl) (λ _. stays what b refl)
-  hello_stays what Cleaner inc = stays what b refl
-  hello_stays what Registry inc = stays what b refl
-
-  move_stays : (what : Do) (slot manager : ℕ) → Went part b (reassign b slot manager).state what
-  unfolding reassign
-  move_stays what slot manager =
-      by_test (λ (made : Made). Went part b made.state what) (can_move b slot)
-      (record { state = moved b slot manager; outs = Changed ∷ Epoch (entry_at (after_move b.entries slot manager) slot).epoch ∷ [] }) (still b)
-      (λ _. stays what _ refl) (λ _. stays what b refl)
-
   module _ (what : Do) (m : CkptDone) (comes : (n : Net) → DoGets part n what → BodyGets part n (body.CkptDone m)) where
     abbrev put_in : List Checkpoint
     put_in = slice_set b.checkpoints m.slot (record { parts = m.parts; horizon = m.horizon })
@@ -123,7 +97,6 @@ module _ (part : ℕ) (below : part < 8) (b : BoardState) (eight : length b.chec
         (λ k. get_or (slice_set b.checkpoints k (record { parts = m.parts; horizon = m.horizon })) part at) same ∙ get_or-set_same b.checkpoints part
         (record { parts = m.parts; horizon = m.horizon }) at within in
         record {
-          packet_body = body.CkptDone m;
           m = m;
           comes = comes;
           slot = same;
@@ -146,71 +119,35 @@ module _ (part : ℕ) (below : part < 8) (b : BoardState) (eight : length b.chec
           parts = parts_is put_in part ∙ ap (λ (c : Checkpoint). c.parts) there ∙ sym (parts_is b.checkpoints part);
         }
 
-    keep_goes : is_kept b m.slot m.epoch m.horizon ≡ true → Went part b (keep b m.slot m.epoch m.parts m.horizon).state what
-    unfolding keep
-    keep_goes fact =
-        by_test (λ (made : Made). Went part b made.state what) (b.version == u32_end) (still b)
-        (record { state = checkpointed b m.slot m.parts m.horizon; outs = Kept m.epoch ∷ [] })
-        (λ _. stays what b refl)
-        (λ _. record {
-          eight = length-set b.checkpoints m.slot (record { parts = m.parts; horizon = m.horizon }) ∙ eight;
-          goes = by_slot (m.slot == part)
-              refl;
-        })
+    checkpoint_goes : is_kept b m.slot m.epoch m.horizon ≡ true → Went part b (checkpointed b m.slot m.parts m.horizon) what
+    checkpoint_goes fact = record {
+      eight = length-set b.checkpoints m.slot (record { parts = m.parts; horizon = m.horizon }) ∙ eight;
+      goes = by_slot (m.slot == part) refl;
+    }
       where
         by_slot : (t : Bool) → (m.slot == part) ≡ t
             → Kept_so part b (checkpointed b m.slot m.parts m.horizon) ⊎ KeptOne part b (checkpointed b m.slot m.parts m.horizon) what
         by_slot true same = inr (kept_here (eqb-true m.slot part same) fact)
         by_slot false other = inl (kept_there (eqb-false m.slot part other))
 
-    done_goes : Went part b (done b m.slot m.epoch m.parts m.horizon).state what
-    unfolding done
-    done_goes =
-        by_test (λ (made : Made). Went part b made.state what) (nat_lt 7 m.slot) (still b)
-        (cond (is_kept b m.slot m.epoch m.horizon) (keep b m.slot m.epoch m.parts m.horizon)
-        (record { state = b; outs = Kept (entry_of b.entries m.slot).epoch ∷ [] }))
-        (λ _. stays what b refl)
-        (λ _. by_test (λ (made : Made). Went part b made.state what) (is_kept b m.slot m.epoch m.horizon) (keep b m.slot m.epoch m.parts m.horizon)
-        (record { state = b; outs = Kept (entry_of b.entries m.slot).epoch ∷ [] }) (λ fact. keep_goes fact)
-        (λ _. stays what b refl))
-
 -- ---- the node
 
-module _ (part : ℕ) (below : part < 8) (r : RegistryNode) (eight : length r.board.checkpoints ≡ 8) where
-  abbrev WentTo : Do → Done → Type 0
-  WentTo what d = Went part r.board d.state.board what
+module _ (part : ℕ) (below : part < 8) (r : RegistryNode) (eight : length r.board.checkpoints ≡ 8) (what : Do) where
+  came_gets : (packet : Packet) (m : CkptDone) → Came what packet (body.CkptDone m) → (n : Net) → DoGets part n what → BodyGets part n (body.CkptDone m)
+  came_gets packet m came n gets = subst (BodyGets part n) came.says (subst (DoGets part n) came.event gets)
 
-  item_went : (node : RegistryNode) → node.board ≡ r.board → (what : Do) (number : ℕ) (wish : Option (ℕ × ℕ)) → WentTo what (on_item node number wish)
-  unfolding on_move
-  item_went node same what number None = stays part below r.board eight what node.board (ap (λ (b : BoardState). b.checkpoints) same)
-  item_went node same what number (Some wish) = subst (λ (b : BoardState). Went part r.board (transition b (board.Reassign wish.0 wish.1)).state what)
-      (sym same) (move_stays part below r.board eight what wish.0 wish.1)
+  keeps : Keeping r what (λ next. Went part r.board next what) (λ next e. Unit {0})
+  keeps = record {
+    restarts = λ packet m manager came from hears h. stays part below r.board eight what (manager_restarted r.board manager m.inc) refl;
+    loses = λ packet m server came from hears h. stays part below r.board eight what (server_lost r.board server m.inc) refl;
+    moves = λ slot manager can h. stays part below r.board eight what (moved r.board slot manager) refl;
+    checkpoints = λ packet m came kept h. checkpoint_goes part below r.board eight what m (came_gets packet m came) kept;
+    says = λ next e h said. tt;
+  }
 
-  begin_went : WentTo Begin (on_begin r)
-  unfolding on_begin
-  begin_went = by (next_item r.items)
-    where
-      by : (o : Option ℕ) → WentTo Begin (at_item (record r { items = begun r.items }) o)
-      by None = stays part below r.board eight Begin r.board refl
-      by (Some number) = item_went (record r { items = begun r.items }) refl Begin number (move_of (work_at (begun r.items) number))
-
-  hears_went : (what : Do) (from : NodeId) (said : Body) → ((n : Net) → DoGets part n what → BodyGets part n said) → WentTo what (hears r from said)
-  unfolding on_hello on_done
-  hears_went what from (body.Hello m) comes = hello_stays part below r.board eight what from m.inc
-  hears_went what from (body.CkptDone m) comes = done_goes part below r.board eight what m comes
-  hears_went what from _ comes = stays part below r.board eight what r.board refl
-
-  event_went : (what : Do) → WentTo what (on_event r what)
-  unfolding on_packet
-  event_went Begin = begin_went
-  event_went (Deliver packet) =
-      by_test (WentTo (Deliver packet)) (is_well_formed r.peers packet) (hears r packet.from packet.body) (still r)
-      (λ _. hears_went (Deliver packet) packet.from packet.body (λ n gets. gets)) (λ _. stays part below r.board eight (Deliver packet) r.board refl)
-  event_went Tick = stays part below r.board eight Tick r.board refl
-
-  step_went : (what : Do) → Went part r.board (registry_step r what).node.board what
-  step_went what = by_test (WentTo what) (has_room r.board.version) (on_event r what) (still r) (λ _. event_went what)
-      (λ _. stays part below r.board eight what r.board refl)
+  step_went : Went part r.board (registry_step r what).node.board what
+  step_went =
+      (event_keeps r what (λ next. Went part r.board next what) (λ next e. Unit {0}) keeps (stays part below r.board eight what r.board refl)).state
 
 -- ---- the small world
 

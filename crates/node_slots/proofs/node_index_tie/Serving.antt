@@ -3,6 +3,7 @@ use Rattle.std.proofs.Common.{◌≡◌, ℕ, ◌==◌, ◌<◌, inl, cond, not,
 use Rattle.std.specs.Prelude.{◌||◌, nat_lt}
 use Rattle.xfs_base.proofs.Booleans.{by_test}
 use Rattle.xfs_base.specs.Steps.{Stepped, still}
+use Rattle.xfs_base.specs.Limits.{slot_count}
 use Rattle.checkpoint.specs.declared.output.Out.{Out}
 use Rattle.checkpoint.specs.declared.output.Out.TheVariants as out
 use Rattle.checkpoint.specs.Transition as writer
@@ -29,7 +30,7 @@ use Rattle.node_slots.proofs.node_index_tie.Planning.{begins_serves}
 use Rattle.node_slots.proofs.node_index_tie.Turning.{Turn, phase_turn}
 use Rattle.node_slots.proofs.node_index_tie.Writing.{Serves, serves_same}
 
-module _ (part : ℕ) (texts : Texts) (questions : Questions) (exists : part < 8) (brought : Brought) where
+module _ (part : ℕ) (texts : Texts) (questions : Questions) (exists : part < slot_count) (brought : Brought) where
   abbrev pub Of : Net → Serving → Done → Type 0
   Of n s d = Serves part texts questions exists brought n s d
 

@@ -6,6 +6,7 @@ use Rattle.xfs_base.specs.Steps.{steps}
 use Rattle.xfs_base.specs.declared.segment.LogId.{LogId}
 use Rattle.xfs_base.specs.declared.segment.SegName.{SegName}
 use Rattle.xfs_base.specs.declared.segment.SegRef.{SegRef}
+use Rattle.xfs_base.specs.Limits.{slot_count}
 use Rattle.checkpoint.specs.declared.input.In.TheVariants as writer_in
 use Rattle.checkpoint.specs.Laws.{Event, rows_of, rows_in, rows_of_items, slot_after}
 use Rattle.checkpoint.specs.Plan.{plan_of}
@@ -33,7 +34,7 @@ use Rattle.node_slots.proofs.node_index_tie.Moves.{Brought, some_none, sees_then
 use Rattle.node_slots.proofs.node_index_tie.Turning.{some_is, Forth, Turn, seen_turn, phase_turn}
 use Rattle.node_slots.proofs.node_index_tie.Writing.{items_rows, Serves, serves_same, serves_one, serves_then, goes_on}
 
-module _ (part : ℕ) (texts : Texts) (questions : Questions) (exists : part < 8) (brought : Brought) where
+module _ (part : ℕ) (texts : Texts) (questions : Questions) (exists : part < slot_count) (brought : Brought) where
   -- ---- fragments are sent
 
   sends_each : (n : Net) (s : Serving) (outs : List LogOut) → AllByRecursion IsSend outs → ServingAgrees part texts n s

@@ -3,6 +3,7 @@ use Rattle.std.proofs.Common.{◌≡◌, ℕ, zero, suc, ◌-◌, ◌==◌, ◌<
 use Rattle.xfs_base.proofs.Booleans.{by_test}
 use Rattle.xfs_base.specs.Blocks.{slot_of}
 use Rattle.xfs_base.specs.declared.setup.Setup.{Setup}
+use Rattle.xfs_base.specs.Limits.{slot_count}
 use Rattle.index_tie.specs.Net.{opening}
 use Rattle.manager_map.specs.Slots.{start_entries, entry_at}
 use Rattle.manager_node.specs.Events.{first_manager, first_life}
@@ -23,7 +24,7 @@ use Rattle.node_slots.proofs.node_index_tie.Events.{begun_agreed}
 use Rattle.node_slots.proofs.node_index_tie.Moves.{some_none}
 
 -- a table made slot by slot has in each slot what was made of its number
-first_at : (f : ℕ → SlotPhase) (k : ℕ) → k < 8 → phase_at (map f all_slots) k ≡ f k
+first_at : (f : ℕ → SlotPhase) (k : ℕ) → k < slot_count → phase_at (map f all_slots) k ≡ f k
 first_at f zero h = refl
 first_at f (suc zero) h = refl
 first_at f (suc (suc zero)) h = refl
@@ -63,7 +64,7 @@ module _ (part : ℕ) (texts : Texts) (any : ℕ → ℕ → Segment) where
     pages = Covered [] tt refl (λ w fact of at. some_none w (sym fact ∙ idle));
   }
 
-  pub first_agrees : (number : ℕ) (setup : Setup) (works : List Work) → part < 8
+  pub first_agrees : (number : ℕ) (setup : Setup) (works : List Work) → part < slot_count
       → ManagerAgrees part texts (opening any) (first_manager number setup works).phase
   first_agrees number setup works exists =
       let f = λ (k : ℕ). first_phase number (start_entries setup.managers) k in (

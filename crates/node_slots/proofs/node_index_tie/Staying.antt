@@ -18,6 +18,7 @@ use Rattle.slot_beliefs.specs.Index.{pages_of}
 use Rattle.takeover.specs.TakeState.{TakeState}
 use Rattle.wire_msg.specs.declared.registry.CkptDone.{CkptDone}
 use Rattle.xfs_base.specs.declared.segment.SegRef.{SegRef}
+use Rattle.xfs_base.specs.Logs.{cleaners_number}
 use Rattle.node_slots.specs.node_index_tie.ManagerEvents.{TakingAgrees, PhaseAgrees, Passes, ManagersStay}
 use Rattle.node_slots.specs.node_index_tie.Pages.{Desk, desk_of, IsWork, Paged, WriterAgrees, DoneIn, DoneSeen}
 use Rattle.node_slots.specs.node_index_tie.Pages.Paged.{Covered, Written, Ended}
@@ -63,7 +64,7 @@ module _ (part : ℕ) (texts : Texts) (n m : Net) (held : SlotPhase) (t : Passes
     report_stays (Client c) end k = end_stays c end k
     report_stays (Manager c) end k = tt
     report_stays (Server c) end k = tt
-    report_stays Cleaner end k = (end_stays 9 end k.0, t.sent _ k.1)
+    report_stays Cleaner end k = (end_stays cleaners_number end k.0, t.sent _ k.1)
     report_stays Registry end k = tt
 
   -- ---- the slot

@@ -11,6 +11,7 @@ use Rattle.xfs_base.specs.declared.news.SlotNews.{SlotNews}
 use Rattle.xfs_base.specs.declared.node.NodeId.{NodeId}
 use Rattle.xfs_base.specs.declared.segment.LogId.{LogId}
 use Rattle.xfs_base.proofs.Alls.{all_append}
+use Rattle.xfs_base.specs.Limits.{slot_count}
 use Rattle.node_slots.specs.node_index_tie.Pages.{Desk}
 use Rattle.group_map.specs.GroupMapState.{GroupMapState}
 use Rattle.index_tie.specs.Net.{Net}
@@ -93,10 +94,10 @@ by_part k part P f g = by (k == part) refl
     by true fact = f (eqb-true k part fact)
     by false fact = g (apart fact)
 
-module _ (part : ℕ) (texts : Texts) (asked : Questions) (exists : part < 8) (brought : Brought) (desk : Desk) where
+module _ (part : ℕ) (texts : Texts) (asked : Questions) (exists : part < slot_count) (brought : Brought) (desk : Desk) where
   -- how a table is seen
   pub record TableAgrees (n : Net) (t : Table) : Type 0 where
-    pub eight : length t ≡ 8
+    pub eight : length t ≡ slot_count
     pub here : PhaseAgrees part texts n desk (phase_at t part)
     pub busy : Busy part texts asked brought desk n
     pub filed : AreTexts texts n.filed
@@ -109,7 +110,7 @@ module _ (part : ℕ) (texts : Texts) (asked : Questions) (exists : part < 8) (b
   table_same n t outs agrees done = sees_same part texts asked brought n (phase_at t part) outs (λ m. TableAgrees m t) done agrees
 
   -- what is said of the table but its slot stays
-  rest_on : (n m : Net) (t : Table) (u : Table) → Grows n m → TableAgrees n t → length u ≡ 8 → PhaseAgrees part texts m desk (phase_at u part)
+  rest_on : (n m : Net) (t : Table) (u : Table) → Grows n m → TableAgrees n t → length u ≡ slot_count → PhaseAgrees part texts m desk (phase_at u part)
       → TableAgrees m u
   rest_on n m t u g agrees eight here = record {
     eight = eight;

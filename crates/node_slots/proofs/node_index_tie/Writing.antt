@@ -7,6 +7,7 @@ use Rattle.std.proofs.lemmas.List.{append-nil, take-append-drop, nil_from_length
 use Rattle.xfs_base.proofs.Booleans.{by_test}
 use Rattle.xfs_base.specs.Steps.{Stepped, saying, steps}
 use Rattle.xfs_base.specs.declared.segment.SegRef.{SegRef}
+use Rattle.xfs_base.specs.Limits.{slot_count}
 use Rattle.checkpoint.specs.declared.output.Out.{Out}
 use Rattle.checkpoint.specs.declared.output.Out.TheVariants as out
 use Rattle.checkpoint.specs.Laws.{rows_of, rows_in, rows_of_items, nothing_checkpointed, after_event, slot_after, AllMayCome}
@@ -65,7 +66,7 @@ laid_of holds segments given left all none nil fact =
     sym (append-nil (rows_in holds segments)) ∙ sym (ap (λ g. rows_in holds segments ++ (rows_of g ++ rows_of [])) none) ∙ sym
     (ap (λ l. rows_in holds segments ++ (rows_of given ++ rows_of l)) nil) ∙ fact
 
-module _ (part : ℕ) (texts : Texts) (questions : Questions) (exists : part < 8) (brought : Brought) where
+module _ (part : ℕ) (texts : Texts) (questions : Questions) (exists : part < slot_count) (brought : Brought) where
   -- what an event makes of a manager that serves, and of the small world
   abbrev pub Serves : Net → Serving → Done → Type 0
   Serves n s d = Sees part texts questions brought n (phase_at s.slots part) (phase_at d.state.slots part) d.outs (λ m. ServingAgrees part texts m d.state)
@@ -210,7 +211,7 @@ module _ (part : ℕ) (texts : Texts) (questions : Questions) (exists : part < 8
       done_awaited m seen None = tt
       done_awaited m seen (Some job) = seen
 
-      length_on : length registered.state.slots ≡ 8
+      length_on : length registered.state.slots ≡ slot_count
       unfolding node.registers named_at
       length_on = changed_length v.slots w.slot (named_phase w.epoch w.parts) ∙ agrees.eight
 

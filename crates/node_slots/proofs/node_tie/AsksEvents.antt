@@ -6,10 +6,10 @@ use Rattle.client_node.specs.declared.phase.Phase.TheVariants.{Down, Opening, Se
 use Rattle.client_node.specs.declared.phase.Phase.{Phase}
 use Rattle.client_node.specs.Phases.{Went_to, after_opening, begins_item, client_room, delivers, down_begins, happens, item_begins, lasting_of, on_begin, on_deliver, on_time, opened_on, opening_begins, served, serving_begins, wish_of, with_begun}
 use Rattle.client_call.specs.declared.call.Going.{Going}
-use Rattle.client_call.specs.declared.lasting.Lasting.{Lasting}
-use Rattle.client_call.specs.Lasting.{first_lasting}
+use Rattle.client_serving.specs.declared.lasting.Lasting.{Lasting}
 use Rattle.client_serving.specs.declared.serving.Serving.{Serving}
 use Rattle.client_running.specs.Opens.{begins_call, call_at, opens}
+use Rattle.client_serving.specs.Lasting.{first_lasting}
 use Rattle.client_serving.specs.Packets.{on_packet, on_tick}
 use Rattle.client_running.specs.Running.{goes_on}
 use Rattle.client_serving.specs.Sends.{Done, gives}
@@ -38,6 +38,7 @@ use Rattle.wire_msg.specs.declared.packet.Do.TheVariants.{Begin, Deliver, Tick}
 use Rattle.wire_msg.specs.declared.packet.Packet.{Packet}
 use Rattle.xfs_base.specs.Steps.{still}
 use Rattle.xfs_base.proofs.Booleans.{by_test, contrary}
+use Rattle.xfs_base.specs.Limits.{slot_count}
 use Rattle.node_slots.specs.node_tie.Asks.{AsksForCall, needed}
 use Rattle.node_slots.specs.node_tie.AskingEvents.{EventsKeepAsking, PhaseAsks, StartsAsking}
 use Rattle.node_slots.proofs.node_tie.AsksInputs.{AsksAs, started-asks}
@@ -51,7 +52,7 @@ WentAsks w = PhaseAsks w.state
 -- ---- a client that begins to serve asks for nothing, and has no call
 
 pub first_serving-asks : (l : Lasting) (managers capacity : ℕ) (maps : GroupMapState) → AsksForCall (first_serving l managers capacity maps)
-first_serving-asks l managers capacity maps = asks_none (first_serving l managers capacity maps) (started-asks None 1 (replicate 8 1)) (λ none. refl)
+first_serving-asks l managers capacity maps = asks_none (first_serving l managers capacity maps) (started-asks None 1 (replicate slot_count 1)) (λ none. refl)
 
 pub first_asks : StartsAsking
 first_asks number setup works = first_serving-asks (first_lasting number works) setup.managers setup.cache (groups.started setup.servers setup.groups)

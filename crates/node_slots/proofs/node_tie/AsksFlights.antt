@@ -5,6 +5,7 @@ use Rattle.client_log.specs.declared.input.In as log_in
 use Rattle.client_log.specs.declared.output.Out as log_out
 use Rattle.client_log.specs.declared.output.Out.TheVariants.{Send, Settled}
 use Rattle.client_log.specs.Transition as log
+use Rattle.log_owner.specs.Sealing.{is_settling}
 use Rattle.xfs_base.specs.declared.block.BlockId.{BlockId}
 use Rattle.xfs_base.specs.declared.entry.Entry.{Entry}
 use Rattle.xfs_base.specs.declared.segment.End.{End}
@@ -14,8 +15,8 @@ use Rattle.xfs_base.proofs.Booleans.{by_test}
 use Rattle.token_client.specs.declared.held.Giving.{Giving}
 use Rattle.token_client.specs.declared.input.In.TheVariants as input
 use Rattle.token_client.specs.Held.{is_dirty}
+use Rattle.token_client.specs.Settling.{is_giving}
 use Rattle.token_client.specs.State.{dirty_in}
-use Rattle.client_call.specs.Flights.{is_giving, is_settling}
 use Rattle.client_serving.specs.declared.serving.Serving.{Serving}
 use Rattle.client_serving.specs.Flights.{feeds, gives_if_clean, gives_up, held_at, keeps_clean, notes_settled, seals_again, settled_rows, settles, writes, writes_one}
 use Rattle.client_serving.specs.Follow.{notes_clean, seals}

@@ -20,7 +20,7 @@ use Rattle.segment_reading.specs.declared.target.BlockAt.{BlockAt}
 use Rattle.segment_reading.specs.declared.target.Target.{Target}
 use Rattle.segment_reading.specs.Reading as reading
 use Rattle.segment_reading.specs.Reading.{ReadingState, on_confirmed}
-use Rattle.stripe_code.specs.Fragments.{same_name}
+use Rattle.xfs_base.specs.Segments.{same_name}
 use Rattle.token_client.specs.declared.input.In.TheVariants as input
 use Rattle.token_client.specs.declared.output.Out.{Out}
 use Rattle.token_client.specs.declared.output.Out.TheVariants.{Want, Gave, Supply, Flush, Read, Ready}

@@ -9,9 +9,8 @@ use Rattle.std.specs.declared.cmp.Ordering.{Ordering}
 use Rattle.std.specs.declared.cmp.Ordering.TheVariants.{Less, Equal, Greater}
 use Rattle.std.proofs.lemmas.Cmp.{tied_itself}
 use Rattle.act_tie.specs.BlockActs as acts
-use Rattle.client_call.specs.Crash.{flight_of, flown_version, version_in}
 use Rattle.client_call.specs.Reads.{value_in}
-use Rattle.client_node.specs.Crash.{fall_of}
+use Rattle.client_node.specs.Crash.{fall_of, flight_of, flown_version, version_in}
 use Rattle.client_serving.specs.declared.serving.Serving.{Serving}
 use Rattle.log_flight.specs.Flights.{FlightState}
 use Rattle.segment_format.specs.declared.segment.Item.{Item}

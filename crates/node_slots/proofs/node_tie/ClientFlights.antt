@@ -3,10 +3,10 @@ use Rattle.std.proofs.Common.{◌≡◌, ◌<◌, ℕ, ◌&&◌, not, Bool, true
 use Rattle.std.specs.Prelude.{fold}
 use Rattle.std.proofs.lemmas.List.Elements.{All-cons}
 use Rattle.client_log.specs.LogState.{LogState}
-use Rattle.client_call.specs.Lasting.{log_of}
 use Rattle.client_serving.specs.declared.serving.Serving.{Serving}
 use Rattle.client_serving.specs.Flights.{held_at, notes_settled, keeps_clean, gives_up, gives_if_clean, feeds, settled_rows, settles}
 use Rattle.client_serving.specs.Follow.{notes_clean}
+use Rattle.client_serving.specs.Lasting.{log_of}
 use Rattle.client_serving.specs.Sends.{Done}
 use Rattle.log_owner.specs.Sending.{name_of, pushes_all}
 use Rattle.node_base.specs.declared.effects.Effect.{Effect}

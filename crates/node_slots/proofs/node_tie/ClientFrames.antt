@@ -27,7 +27,7 @@ use Rattle.wire_msg.specs.declared.body.Body.TheVariants as body
 use Rattle.xfs_base.specs.declared.block.BlockId.{BlockId}
 use Rattle.xfs_base.specs.declared.node.NodeId.{NodeId}
 use Rattle.xfs_base.specs.declared.node.NodeId.TheVariants.{Client, Manager, Server, Cleaner, Registry}
-use Rattle.xfs_base.specs.Limits.{u32_end}
+use Rattle.xfs_base.specs.Limits.{u32_end, slot_count}
 use Rattle.xfs_base.specs.Steps.{still, saying, steps}
 use Rattle.node_slots.specs.node_tie.ClientLogs.{AreVersions, NothingBeyond, IsUnsettled}
 use Rattle.node_slots.specs.node_tie.LogRows.{LogSeen, rows_flown, rows_waiting}
@@ -188,7 +188,7 @@ Sent part c sent block None = Unit {0}
 Sent part c sent block (Some g) = is_in_slot part block ≡ true → In (RecallSent c block g.stamp g.keep) sent
 
 pub record Promised (part limit : ℕ) (epochs : List ℕ) : Type 0 where
-  pub eight : length epochs ≡ 8
+  pub eight : length epochs ≡ slot_count
   pub within : epoch_of epochs part ≤ limit
 
 -- a block that is held has a value; and of it just what is dirty waits, or is in flight

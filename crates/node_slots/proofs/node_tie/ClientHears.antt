@@ -2,11 +2,11 @@
 use Rattle.std.proofs.Common.{◌≡◌, ◌<◌, ℕ, ◌+◌, Bool, true, false, List, [], ◌∷◌, Option, Some, None, refl, sym, subst, ◌∙◌, arith, inl, inr}
 use Rattle.std.proofs.lemmas.Bool.Decides.{nat_tests}
 use Rattle.std.proofs.lemmas.List.Elements.{All-nil, All-cons}
-use Rattle.client_call.specs.Grants.{is_stamp}
 use Rattle.client_call.specs.Reads.{block_read, Heard, heard, reading_in, value_at}
 use Rattle.client_serving.specs.declared.serving.Serving.{Serving}
 use Rattle.client_serving.specs.Flights.{held_at, on_stored}
 use Rattle.client_serving.specs.Follow.{hands, takes_back}
+use Rattle.client_serving.specs.Grants.{is_stamp}
 use Rattle.client_serving.specs.Packets.{on_supply, supplied_by, on_forward, again, says_again, on_recall, is_gone, on_gone, is_acked, on_ack, ends_fetch, told_at, told_by, on_told, on_found, on_missing, asks_for_maps}
 use Rattle.client_serving.specs.Reads.{loses, with_reading}
 use Rattle.client_serving.specs.Sends.{Done, gives, gave}

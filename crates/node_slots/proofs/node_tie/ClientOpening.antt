@@ -26,6 +26,7 @@ use Rattle.wire_msg.specs.declared.body.Body.TheVariants as body
 use Rattle.xfs_base.proofs.Booleans.{by_test, and_first, and_second}
 use Rattle.xfs_base.specs.declared.news.SlotNews.{SlotNews}
 use Rattle.xfs_base.specs.declared.node.NodeId.{NodeId}
+use Rattle.xfs_base.specs.Limits.{slot_count}
 use Rattle.node_slots.specs.node_tie.CleanerEvents.{Bounded}
 use Rattle.node_slots.specs.node_tie.ClientEvents.{AwaitsFirst}
 use Rattle.node_slots.specs.node_tie.Sight.{ClientSends}
@@ -99,7 +100,7 @@ pub awaits_here : (at : Stage) → promising.AwaitsFirst at → AwaitsFirst at
 awaits_here (stage.Scanning s) h = h
 awaits_here (stage.Settling s) h = h
 
-module _ (part low high : ℕ) (small : part < 8) where
+module _ (part low high : ℕ) (small : part < slot_count) where
   -- what is said of the slot is within them
   abbrev pub Says : SlotNews → Type 0
   Says news = news.slot ≡ part → (low ≤ news.epoch) × (news.epoch ≤ high)
@@ -107,19 +108,19 @@ module _ (part low high : ℕ) (small : part < 8) where
   apart : (n m : ℕ) → (n == m) ≡ false → m ≡ n → ⊥
   apart n m t = grind (arith, nat_tests)
 
-  is_low : (k : ℕ) → nat_lt k 8 ≡ false → k ≡ part → ⊥
+  is_low : (k : ℕ) → nat_lt k slot_count ≡ false → k ≡ part → ⊥
   is_low k t = grind (arith, nat_tests)
 
-  promise_eight : (p : Promised) (news : SlotNews) → length p.epochs ≡ 8 → length (promise p news).epochs ≡ 8
+  promise_eight : (p : Promised) (news : SlotNews) → length p.epochs ≡ slot_count → length (promise p news).epochs ≡ slot_count
   promise_eight p news e =
-      by_test (λ (x : Promised). length x.epochs ≡ 8) (nat_lt news.slot 8)
+      by_test (λ (x : Promised). length x.epochs ≡ slot_count) (nat_lt news.slot slot_count)
       (record { epochs = slice_set p.epochs news.slot news.epoch; managers = manager_set p.managers news.slot news.manager }) p
       (λ t. length-set p.epochs news.slot news.epoch ∙ e) (λ t. e)
 
   -- the slot is promised
-  pub promise_here : (p : Promised) (news : SlotNews) → length p.epochs ≡ 8 → news.slot ≡ part → Says news → Bounded part low high (promise p news)
+  pub promise_here : (p : Promised) (news : SlotNews) → length p.epochs ≡ slot_count → news.slot ≡ part → Says news → Bounded part low high (promise p news)
   promise_here p news e fact says =
-      by_test (Bounded part low high) (nat_lt news.slot 8)
+      by_test (Bounded part low high) (nat_lt news.slot slot_count)
       (record { epochs = slice_set p.epochs news.slot news.epoch; managers = manager_set p.managers news.slot news.manager }) p
       (λ t.
       let inside : news.slot < length p.epochs = omega arith in
@@ -135,7 +136,7 @@ module _ (part low high : ℕ) (small : part < 8) where
   -- another slot is
   promise_there : (p : Promised) (news : SlotNews) → (part ≡ news.slot → ⊥) → Bounded part low high p → Bounded part low high (promise p news)
   promise_there p news other h =
-      by_test (Bounded part low high) (nat_lt news.slot 8)
+      by_test (Bounded part low high) (nat_lt news.slot slot_count)
       (record { epochs = slice_set p.epochs news.slot news.epoch; managers = manager_set p.managers news.slot news.manager }) p
       (λ t.
       let now : epoch_of (slice_set p.epochs news.slot news.epoch) part ≡ epoch_of p.epochs part = get_or-set_other p.epochs news.slot part news.epoch 0 other
@@ -160,7 +161,7 @@ module _ (part low high : ℕ) (small : part < 8) where
 
   -- of slots in order, from one up to the slot on, the slot is promised
   reaches : (number : ℕ) (p : Promised) (slots : List SlotNews) → are_from number slots ≡ true → number ≤ part → part < number + length slots
-      → length p.epochs ≡ 8 → AllByRecursion Says slots → Bounded part low high (fold promise p slots)
+      → length p.epochs ≡ slot_count → AllByRecursion Says slots → Bounded part low high (fold promise p slots)
   reaches number p [] ordered below above e says = absurd (omega arith)
   reaches number p (news ∷ slots) ordered below above e says =
       by_slot (number == part) refl
@@ -181,6 +182,6 @@ module _ (part low high : ℕ) (small : part < 8) where
       by_slot true fact rest = all_keep (promise p news) slots says.1 (promise_here p news e (here ∙ eqb-true number part fact) says.0)
       by_slot false fact rest = rest (apart number part fact)
 
-  pub welcome_promises : (slots : List SlotNews) → length slots ≡ 8 → are_from 0 slots ≡ true → AllByRecursion Says slots
+  pub welcome_promises : (slots : List SlotNews) → length slots ≡ slot_count → are_from 0 slots ≡ true → AllByRecursion Says slots
       → Bounded part low high (promised_in slots)
   welcome_promises slots eight ordered says = reaches 0 (at_start 1) slots ordered (omega arith) (omega arith) refl says

@@ -6,7 +6,7 @@ use Rattle.std.proofs.lemmas.Bool.{eqb-true}
 use Rattle.client_node.specs.declared.phase.Phase.TheVariants.{Down, Opening, Serving as Serves}
 use Rattle.client_node.specs.declared.phase.Phase.{Phase}
 use Rattle.client_node.specs.Phases.{Went_to, crashed, served, back, after_opening, opened_on, answers, wish_of, opening_begins}
-use Rattle.client_call.specs.declared.lasting.Lasting.{Lasting}
+use Rattle.client_serving.specs.declared.lasting.Lasting.{Lasting}
 use Rattle.log_owner.specs.Behaves.{IsOf, Behaves}
 use Rattle.log_owner.specs.declared.ended.Owner.{Owner}
 use Rattle.log_owner.specs.declared.opened.Opened.{Opened}
@@ -48,6 +48,7 @@ use Rattle.xfs_base.proofs.Booleans.{and_first, and_second, contrary}
 use Rattle.xfs_base.specs.declared.news.SlotNews.{SlotNews}
 use Rattle.xfs_base.specs.declared.node.NodeId.TheVariants.{Client}
 use Rattle.xfs_base.specs.Steps.{saying}
+use Rattle.xfs_base.specs.Limits.{slot_count}
 use Rattle.node_slots.specs.node_tie.ClientEvents.{AwaitsFirst, Raises, SeesOpening, ClientStands, GetsBody, ClientGets, EndsInTime, ClientGoes}
 use Rattle.node_slots.specs.node_tie.CleanerEvents.{Bounded}
 use Rattle.node_slots.specs.node_tie.ClientLogs.{EndsSo, LogAgrees, NothingBeyond, ReopensSo}
@@ -77,7 +78,7 @@ premise_three : (logs : Bool) {P Q R S : Type 0} → (P → Q → R → S) → P
 premise_three true f p q r = f p q r
 premise_three false f p q r = tt
 
-module _ (logs : Bool) (members part limit c : ℕ) (small : part < 8) (pos : 0 < c) (less : c < members) (n : Net) where
+module _ (logs : Bool) (members part limit c : ℕ) (small : part < slot_count) (pos : 0 < c) (less : c < members) (n : Net) where
   abbrev Goes : Phase → Went_to → Type 0
   Goes p w = ClientGoes logs members part limit c n p w.state w.outs
 
@@ -276,11 +277,11 @@ module _ (logs : Bool) (members part limit c : ℕ) (small : part < 8) (pos : 0 
     -- a Welcome promises within the bounds
     brings_so : (b : Body) → GetsBody part limit c n (Opening l o) b → has_logs b ≡ true → promising.Brings Kept o b
     brings_so (body.Welcome w) gets known = λ meant.
-        let formed : (are_from 0 w.news.slots && list_all is_slot_news w.news.slots) ≡ true = and_second (length w.news.slots == 8)
+        let formed : (are_from 0 w.news.slots && list_all is_slot_news w.news.slots) ≡ true = and_second (length w.news.slots == slot_count)
         (are_from 0 w.news.slots && list_all is_slot_news w.news.slots) known in
         let incs : w.inc ≡ l.inc = eqb-true w.inc o.known.owner.inc (and_first (w.inc == o.known.owner.inc) (fits o.known.maps w.news) meant) ∙ sees.owner in
         welcome_promises part (epoch_of (n.tokens c).epochs part) limit small w.news.slots
-        (eqb-true (length w.news.slots) 8 (and_first (length w.news.slots == 8) (are_from 0 w.news.slots && list_all is_slot_news w.news.slots) known))
+        (eqb-true (length w.news.slots) slot_count (and_first (length w.news.slots == slot_count) (are_from 0 w.news.slots && list_all is_slot_news w.news.slots) known))
         (and_first (are_from 0 w.news.slots) (list_all is_slot_news w.news.slots) formed)
         (each w.news.slots (recursion_from_All (λ (x : SlotNews). x.slot ≡ part → epoch_of (n.tokens c).epochs part ≤ x.epoch) w.news.slots (gets.1 incs))
         (recursion_from_All (λ (x : SlotNews). x.slot ≡ part → x.epoch ≤ limit) w.news.slots gets.0))

@@ -5,8 +5,7 @@ use Rattle.client_node.specs.declared.client.Client.{Client}
 use Rattle.client_node.specs.declared.phase.Phase.TheVariants.{Down, Opening, Serving as Serves}
 use Rattle.client_node.specs.declared.phase.Phase.{Phase}
 use Rattle.client_node.specs.Phases.{Went_to, crashed, answers, serves_on, wish_of, wish_at, serving_begins, lasting_of, with_begun, item_begins, begins_item, on_begin, then_runs, on_deliver, on_time, delivers, happens, phase_room, client_room}
-use Rattle.client_call.specs.Crash.{flight_of}
-use Rattle.client_node.specs.Crash.{fall_of, falls}
+use Rattle.client_node.specs.Crash.{fall_of, falls, flight_of}
 use Rattle.client_serving.specs.declared.serving.Serving.{Serving}
 use Rattle.client_running.specs.Opens.{opens}
 use Rattle.client_serving.specs.Packets as packets
@@ -41,6 +40,7 @@ use Rattle.wire_msg.specs.declared.packet.Packet as wire
 use Rattle.xfs_base.proofs.Booleans.{by_test, and_first, and_second}
 use Rattle.xfs_base.specs.declared.node.NodeId.TheVariants.{Client as AClient}
 use Rattle.xfs_base.specs.Steps.{still, saying}
+use Rattle.xfs_base.specs.Limits.{slot_count}
 use Rattle.node_slots.specs.node_tie.ClientEvents.{SeesServing, ClientAgrees, ClientStands, ClientGets, EndsInTime, ClientDid, ClientGoes, ClientOwed, ClientTakes, IsTaken}
 use Rattle.node_slots.specs.node_tie.ClientLogs.{LogAgrees}
 use Rattle.node_slots.proofs.node_tie.ClientBooks.{onward_still, put_here, put_there, same_log}
@@ -65,7 +65,7 @@ wants_have_room s room =
     and_first (has_room s.tokens.req) (log_room s.log && tokens_room s)
     (and_second (has_room s.maps.version) (has_room s.tokens.req && (log_room s.log && tokens_room s)) room)
 
-module _ (logs : Bool) (members part limit c : ℕ) (small : part < 8) (pos : 0 < c) (less : c < members) (n : Net) where
+module _ (logs : Bool) (members part limit c : ℕ) (small : part < slot_count) (pos : 0 < c) (less : c < members) (n : Net) where
   abbrev Goes : Phase → Went_to → Type 0
   Goes p w = ClientGoes logs members part limit c n p w.state w.outs
 

@@ -46,7 +46,7 @@ use Rattle.xfs_base.specs.declared.node.NodeId.TheVariants as node
 use Rattle.xfs_base.specs.declared.token.Mode.{Mode}
 use Rattle.xfs_base.specs.declared.token.Mode.TheVariants.{Copy}
 use Rattle.xfs_base.specs.Steps.{Stepped, still, steps}
-use Rattle.xfs_base.specs.Limits.{u32_end}
+use Rattle.xfs_base.specs.Limits.{u32_end, slot_count}
 use Rattle.node_slots.specs.node_tie.Asks.{needed, AsksForCall}
 use Rattle.node_slots.specs.node_tie.ClientEvents.{NewsWithin}
 use Rattle.node_slots.specs.node_tie.Sight.{ClientDoes, PollSeen}
@@ -104,7 +104,7 @@ fetched_alone s asks a b fa fb = ap block_in (sym (need a (held_at s a).fetch re
 
 -- a promise that may be reported is made
 promise_made : (s : Serving) (slot epoch : ℕ) → AsksForCall s → has_room s.tokens.req ≡ true
-    → (nat_lt slot 8 && nat_le (epoch_of s.tokens.epochs slot) epoch) ≡ true → client.may_promise s.tokens slot epoch ≡ true
+    → (nat_lt slot slot_count && nat_le (epoch_of s.tokens.epochs slot) epoch) ≡ true → client.may_promise s.tokens slot epoch ≡ true
 promise_made s slot epoch asks room may =
     let few : length (client.fetched_in slot s.tokens.blocks) ≤ 1 = one_fetched s.tokens.blocks slot (fetched_alone s asks) s.tokens.blocks asks.sound.sorted
     (agrees-itself s.tokens.blocks asks.sound.sorted) in
@@ -115,7 +115,7 @@ promise_made s slot epoch asks room may =
     fits_in req k r f = grind (arith, nat_tests)
 
 -- and is kept
-promise_kept : (s : TokensState) (slot epoch : ℕ) → length s.epochs ≡ 8 → slot < 8 → client.may_promise s slot epoch ≡ true
+promise_kept : (s : TokensState) (slot epoch : ℕ) → length s.epochs ≡ slot_count → slot < slot_count → client.may_promise s slot epoch ≡ true
     → epoch_of (client.on_promise s slot epoch).state.epochs slot ≡ epoch
 unfolding client.on_promise
 promise_kept s slot epoch eight small may =
@@ -190,7 +190,7 @@ all_heard-log : (s : Serving) (slots : List SlotNews) → (steps hears s slots).
 all_heard-log s [] = refl
 all_heard-log s (news ∷ slots) = all_heard-log (hears s news).state slots ∙ hears-log s news
 
-module _ (logs : Bool) (members part limit c life room highest : ℕ) (small : part < 8) (pos : 0 < c) (less : c < members) where
+module _ (logs : Bool) (members part limit c life room highest : ℕ) (small : part < slot_count) (pos : 0 < c) (less : c < members) where
   abbrev At : Net → Serving → Type 0
   At n s = frames.At logs members part limit c life room highest n s
 
@@ -240,7 +240,7 @@ module _ (logs : Bool) (members part limit c life room highest : ℕ) (small : p
   -- ---- a report
 
   -- it is of the promised epoch
-  reports_so : (n : Net) (s : Serving) (slot epoch manager : ℕ) → (slot ≡ part → epoch ≤ limit) → slot < 8 → client.may_promise s.tokens slot epoch ≡ true
+  reports_so : (n : Net) (s : Serving) (slot epoch manager : ℕ) → (slot ≡ part → epoch ≤ limit) → slot < slot_count → client.may_promise s.tokens slot epoch ≡ true
       → At n s → Goes n (reports slot epoch (promised_by s slot epoch manager))
   reports_so n s slot epoch manager fits low may h =
       let p : Stepped Serving outputs.Out = promised_by s slot epoch manager in
@@ -289,13 +289,13 @@ module _ (logs : Bool) (members part limit c life room highest : ℕ) (small : p
       by_test (λ (d : Done). Goes n d) (may_report s p) (reports p.slot p.epoch (promised_by (renews s p.slot p.epoch) p.slot p.epoch manager)) (still s)
       (λ t.
       let may : client.may_promise s.tokens p.slot p.epoch ≡ true = promise_made s p.slot p.epoch asks room t in
-      let low : p.slot < 8 = is_low p.slot (and_first (nat_lt p.slot 8) (nat_le (epoch_of s.tokens.epochs p.slot) p.epoch) t) in
+      let low : p.slot < slot_count = is_low p.slot (and_first (nat_lt p.slot slot_count) (nat_le (epoch_of s.tokens.epochs p.slot) p.epoch) t) in
       by_renewed (λ (u : Serving). Goes n (reports p.slot p.epoch (promised_by u p.slot p.epoch manager))) s p.slot p.epoch
       (reports_so n (record s { feed = new_epoch s.feed p.slot }) p.slot p.epoch manager fits low may h)
       (reports_so n s p.slot p.epoch manager fits low may h))
       (λ t. still_so n s h)
     where
-      is_low : (k : ℕ) → nat_lt k 8 ≡ true → k < 8
+      is_low : (k : ℕ) → nat_lt k slot_count ≡ true → k < slot_count
       is_low k t = grind (arith, nat_tests)
 
   pub on_poll_so : (n : Net) (s : Serving) (from : NodeId) (p : Poll) → PollSeen part n.sent limit p → AsksForCall s → has_room s.tokens.req ≡ true → At n s

@@ -36,7 +36,7 @@ use Rattle.wire_msg.specs.declared.body.Body.TheVariants as body
 use Rattle.wire_msg.specs.declared.packet.Packet.{Packet}
 use Rattle.xfs_base.proofs.Booleans.{by_test}
 use Rattle.xfs_base.specs.declared.block.BlockId.{BlockId}
-use Rattle.xfs_base.specs.Limits.{u32_end}
+use Rattle.xfs_base.specs.Limits.{u32_end, slot_count}
 use Rattle.xfs_base.specs.Steps.{still, saying}
 use Rattle.node_slots.specs.node_tie.Asks.{AsksForCall}
 use Rattle.node_slots.specs.node_tie.ClientEvents.{SeesServing, ClientStands, GetsBody, ServingReads, ClientGets, ClientGoes}
@@ -61,7 +61,7 @@ pub record MayBegin (logs : Bool) (members part limit c life highest : ℕ) (n :
   pub here : frames.At logs members part limit c life 0 highest n s
   pub more : (f : FlightState) → s.log.flight ≡ Some f → frames.At logs members part limit c life 1 highest n s
 
-module _ (logs : Bool) (members part limit c life highest : ℕ) (small : part < 8) (pos : 0 < c) (less : c < members) where
+module _ (logs : Bool) (members part limit c life highest : ℕ) (small : part < slot_count) (pos : 0 < c) (less : c < members) where
   abbrev At : Net → Serving → Type 0
   At n s = frames.At logs members part limit c life 0 highest n s
 

@@ -5,8 +5,8 @@ use Rattle.std.proofs.lemmas.List.Elements.{All-nil, All-cons}
 use Rattle.client_node.specs.declared.phase.Phase.TheVariants.{Down, Opening, Serving as Serves}
 use Rattle.client_node.specs.declared.phase.Phase.{Phase}
 use Rattle.client_node.specs.Phases.{Went_to, owner_of, restarted, back, answers, wish_of, down_begins, lasting_of}
-use Rattle.client_call.specs.declared.lasting.Lasting.{Lasting}
-use Rattle.client_call.specs.Lasting.{next_life}
+use Rattle.client_serving.specs.declared.lasting.Lasting.{Lasting}
+use Rattle.client_serving.specs.Lasting.{next_life}
 use Rattle.log_flight.specs.Flights.{FlightState}
 use Rattle.log_owner.specs.Opening as opening
 use Rattle.log_owner.specs.Opening.{Went}
@@ -26,7 +26,7 @@ use Rattle.version_model.specs.declared.answer.Answer.TheVariants as answer
 use Rattle.version_model.specs.declared.work.Work.{Work}
 use Rattle.version_model.specs.declared.work.Work.TheVariants as work
 use Rattle.xfs_base.specs.declared.node.NodeId.TheVariants.{Client}
-use Rattle.xfs_base.specs.Limits.{u32_end}
+use Rattle.xfs_base.specs.Limits.{u32_end, slot_count}
 use Rattle.xfs_base.specs.Steps.{still}
 use Rattle.node_slots.specs.node_tie.ClientEvents.{AwaitsFirst, SeesDown, Raises, ClientAgrees, PromisesWithin, ClientStands, BeginsLater, SaysBack, LogGoes, ClientGoes}
 use Rattle.node_slots.specs.node_tie.ClientLogs.{end_upto}
@@ -44,7 +44,7 @@ raised l number room = above l.inc room
     above : (k : ℕ) → has_room k ≡ true → k < cond (nat_lt k u32_end) (k + 1) k
     above k r = grind (arith, nat_tests)
 
-module _ (logs : Bool) (members part limit c : ℕ) (small : part < 8) (pos : 0 < c) (less : c < members) (n : Net) where
+module _ (logs : Bool) (members part limit c : ℕ) (small : part < slot_count) (pos : 0 < c) (less : c < members) (n : Net) where
   abbrev Goes : Phase → Went_to → Type 0
   Goes p w = ClientGoes logs members part limit c n p w.state w.outs
 

@@ -8,6 +8,7 @@ use Rattle.std.proofs.lemmas.Bool.{eqb-true}
 use Rattle.client_log.specs.LogState.{LogState}
 use Rattle.xfs_base.specs.declared.block.BlockId.{BlockId}
 use Rattle.xfs_base.specs.Modes.{is_held}
+use Rattle.xfs_base.specs.Limits.{slot_count}
 use Rattle.token_client.specs.declared.held.Giving.{Giving}
 use Rattle.token_client.specs.declared.input.In as inputs
 use Rattle.token_client.specs.declared.output.Out as outputs
@@ -204,7 +205,7 @@ module _ (logs : Bool) (members part limit c life room highest : ℕ) where
   -- ---- promises
 
   -- a promise within the bound may be made
-  pub promise_may : part < 8 → (slot epoch : ℕ) → (slot ≡ part → epoch ≤ limit) → (epochs : List ℕ) → Promised part limit epochs
+  pub promise_may : part < slot_count → (slot epoch : ℕ) → (slot ≡ part → epoch ≤ limit) → (epochs : List ℕ) → Promised part limit epochs
       → Promised part limit (slice_set epochs slot epoch)
   promise_may small slot epoch fits epochs h = record { eight = length-set epochs slot epoch ∙ h.eight; within = by_slot (slot == part) refl }
     where
@@ -214,7 +215,7 @@ module _ (logs : Bool) (members part limit c life room highest : ℕ) where
       by_slot : (t : Bool) → (slot == part) ≡ t → epoch_of (slice_set epochs slot epoch) part ≤ limit
       by_slot true fact =
           let here : slot ≡ part = eqb-true slot part fact in
-          let inside : part < length epochs = (let e : length epochs ≡ 8 = h.eight in omega arith) in
+          let inside : part < length epochs = (let e : length epochs ≡ slot_count = h.eight in omega arith) in
           subst (λ k. epoch_of (slice_set epochs k epoch) part ≤ limit) (sym here)
           (subst (λ m. m ≤ limit) (sym (get_or-set_same epochs part epoch 0 inside)) (fits here))
       by_slot false fact = subst (λ m. m ≤ limit) (sym (get_or-set_other epochs slot part epoch 0 (apart slot part fact))) h.within

@@ -9,7 +9,6 @@ use Rattle.client_log.specs.declared.output.Out.{Out}
 use Rattle.client_log.specs.declared.output.Out.TheVariants.{Send, Settled}
 use Rattle.client_log.specs.LogState.{LogState}
 use Rattle.client_log.specs.Transition as log
-use Rattle.client_call.specs.Flights.{is_settling, is_giving}
 use Rattle.client_serving.specs.declared.serving.Serving.{Serving}
 use Rattle.client_serving.specs.Flights.{settles, writes_one, seals_again, writes}
 use Rattle.client_serving.specs.Follow.{seals}
@@ -23,8 +22,10 @@ use Rattle.log_flight.specs.Fate.{fate_of}
 use Rattle.log_flight.specs.Flights as flights
 use Rattle.log_flight.specs.Flights.{FlightState, is_noted}
 use Rattle.log_flight.specs.Items.{items_of}
+use Rattle.log_owner.specs.Sealing.{is_settling}
 use Rattle.log_owner.specs.Sending.{store}
 use Rattle.segment_format.specs.Rows.{rows_of}
+use Rattle.token_client.specs.Settling.{is_giving}
 use Rattle.token_client.specs.State.{TokensState}
 use Rattle.token_law.specs.Net.{Net, all_settled}
 use Rattle.xfs_base.proofs.Booleans.{by_test, contrary, or_second}

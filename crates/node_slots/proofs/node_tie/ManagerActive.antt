@@ -7,6 +7,7 @@ use Rattle.xfs_base.specs.declared.block.BlockId.{BlockId}
 use Rattle.xfs_base.specs.declared.segment.LogId.{LogId}
 use Rattle.xfs_base.specs.Blocks.{slot_of}
 use Rattle.xfs_base.specs.Steps.{still}
+use Rattle.xfs_base.specs.Limits.{block_logs}
 use Rattle.node_base.specs.declared.effects.Effect.{Effect}
 use Rattle.slot_beliefs.specs.Recalls.{applied_of}
 use Rattle.slot_beliefs.specs.Recalls as slot_recalls
@@ -103,7 +104,7 @@ module _ (logs : Bool) (members part limit life : ℕ) where
 
   -- any manager of the slot in the small world can take the input
   abbrev pub CanTake : Net → Input → Type 0
-  CanTake n given = (e : ℕ) (z : SlotState) → n.slots e ≡ Some z → length z.applied ≡ 9 → Happens logs members part n (after_slot n e (slot.transition z given))
+  CanTake n given = (e : ℕ) (z : SlotState) → n.slots e ≡ Some z → length z.applied ≡ block_logs → Happens logs members part n (after_slot n e (slot.transition z given))
 
   -- what the slot that is managed makes of an input
   abbrev Made : Net → ℕ → Active → slot.Done → Type 0
@@ -181,14 +182,14 @@ module _ (logs : Bool) (members part limit life : ℕ) where
   active_deltas n a log deltas agrees owed =
       by (slot_recalls.is_followed log) refl
     where
-      followed : (x : ℕ) → slot_recalls.is_followed (record { 0 = x }) ≡ true → (0 < x) × (x - 1 < 9)
+      followed : (x : ℕ) → slot_recalls.is_followed (record { 0 = x }) ≡ true → (0 < x) × (x - 1 < block_logs)
       followed x h = (grind (arith, nat_tests), grind (arith, nat_tests))
 
       joined : (t : Bool) → slot_recalls.is_followed log ≡ true → slot.joins_on (applied_of a.slot.applied log.0) deltas.first deltas.upto ≡ t
           → Made n deltas.slot a (slot.transition a.slot (deltas_input log deltas))
       joined true of fact =
           let f = followed log.0 of in
-          let nine : length agrees.slot.applied ≡ 9 = ap (λ (s : SlotState). length s.applied) agrees.same ∙ agrees.nine in
+          let nine : length agrees.slot.applied ≡ block_logs = ap (λ (s : SlotState). length s.applied) agrees.same ∙ agrees.nine in
           let joins = subst (λ (applied : List ℕ). slot.joins_on (applied_of applied log.0) deltas.first deltas.upto ≡ true)
           (sym (ap (λ (s : SlotState). s.applied) agrees.same)) fact in
           active_takes n deltas.slot a (deltas_input log deltas) agrees

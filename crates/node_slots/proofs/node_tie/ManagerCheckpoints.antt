@@ -5,6 +5,7 @@ use Rattle.std.specs.List.{flat_map}
 use Rattle.xfs_base.proofs.Booleans.{by_test}
 use Rattle.xfs_base.specs.Steps.{Stepped, still, saying, steps}
 use Rattle.xfs_base.specs.declared.segment.End.{End}
+use Rattle.xfs_base.specs.Limits.{slot_count}
 use Rattle.checkpoint.specs.declared.input.In.{In as WriterIn}
 use Rattle.checkpoint.specs.declared.input.In.TheVariants as writer_in
 use Rattle.checkpoint.specs.declared.output.Out.{Out}
@@ -35,7 +36,7 @@ use Rattle.node_slots.specs.node_tie.ManagerEvents.{phase_at, TableAgrees}
 use Rattle.node_slots.proofs.node_tie.ManagerMoves.{AllDone, Stays, stays_same, stays_then}
 use Rattle.node_slots.proofs.node_tie.ManagerTables.{TableStays, table_cleans, table_names}
 
-module _ (logs : Bool) (members part limit life : ℕ) (exists : part < 8) (n : Net) where
+module _ (logs : Bool) (members part limit life : ℕ) (exists : part < slot_count) (n : Net) where
   abbrev Agrees : Table → Type 0
   Agrees t = TableAgrees members part n t
 

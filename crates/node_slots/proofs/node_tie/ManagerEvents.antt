@@ -9,6 +9,7 @@ use Rattle.xfs_base.proofs.Booleans.{by_test, contrary, and_first, and_second}
 use Rattle.xfs_base.specs.Steps.{still}
 use Rattle.xfs_base.specs.declared.node.NodeId.TheVariants.{Manager}
 use Rattle.xfs_base.proofs.Alls.{all_append}
+use Rattle.xfs_base.specs.Limits.{slot_count}
 use Rattle.node_base.specs.Beginning.{next_item, work_at, answers_unanswered}
 use Rattle.node_base.specs.Maps.{fits, forgotten}
 use Rattle.node_base.specs.Room.{has_room}
@@ -132,7 +133,7 @@ module _ (logs : Bool) (members part limit j : ℕ) (n : Net) where
     lives = inr refl;
   }
 
-module _ (logs : Bool) (members part limit j : ℕ) (exists : part < 8) (n : Net) where
+module _ (logs : Bool) (members part limit j : ℕ) (exists : part < slot_count) (n : Net) where
   -- it serves on
   to_serving : (s : Serving) (what : Do) (d : Done) → s.lasting.number ≡ j
       → WentOf logs members part limit s.lasting.inc exists j (λ e. Names part j e what) n s d

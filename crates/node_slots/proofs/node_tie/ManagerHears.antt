@@ -5,6 +5,7 @@ use Rattle.xfs_base.proofs.Booleans.{by_test, contrary}
 use Rattle.xfs_base.specs.Steps.{still, saying}
 use Rattle.xfs_base.specs.declared.news.SlotNews.{SlotNews}
 use Rattle.xfs_base.specs.declared.node.NodeId.{NodeId}
+use Rattle.xfs_base.specs.Limits.{slot_count}
 use Rattle.client_log.specs.declared.input.In.TheVariants as log_input
 use Rattle.group_map.specs.GroupMapState.{GroupMapState}
 use Rattle.node_base.specs.Known.{names_known}
@@ -28,7 +29,7 @@ use Rattle.node_slots.proofs.node_tie.ManagerNews.{table_hears_all}
 use Rattle.node_slots.proofs.node_tie.ManagerTables.{table_same, table_regroups}
 use Rattle.node_slots.proofs.node_tie.ManagerServes as serves
 
-module _ (logs : Bool) (members part limit life : ℕ) (exists : part < 8) (j : ℕ) (named : ℕ → Type 0) where
+module _ (logs : Bool) (members part limit life : ℕ) (exists : part < slot_count) (j : ℕ) (named : ℕ → Type 0) where
   -- an event of a manager in which its slot may get a later epoch; where the groups are known, it knows of these slots' epochs then
   pub record Went (n : Net) (number inc : ℕ) (t : Table) (known : Bool) (slots : List SlotNews) (d : Done) : Type 0 where
     pub numbered : d.state.lasting.number ≡ number

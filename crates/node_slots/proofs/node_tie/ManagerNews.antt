@@ -3,6 +3,7 @@ use Rattle.std.proofs.Common.{◌≡◌, ℕ, Bool, ◌+◌, ◌≤◌, ◌<◌,
 use Rattle.std.specs.List.{slice_set}
 use Rattle.xfs_base.specs.declared.news.SlotNews.{SlotNews}
 use Rattle.xfs_base.specs.Steps.{Stepped}
+use Rattle.xfs_base.specs.Limits.{slot_count}
 use Rattle.node_base.specs.declared.effects.Effect.{Effect}
 use Rattle.token_law.specs.Net.{Net}
 use Rattle.token_protocol.specs.Basics.{In}
@@ -16,7 +17,7 @@ use Rattle.node_slots.proofs.node_tie.ManagerMoves.{Rises, stays_same, rises_of,
 use Rattle.node_slots.proofs.node_tie.ManagerTaking.{slot_hears_of, other_hears_of}
 use Rattle.node_slots.proofs.node_tie.ManagerTables.{set_there, by_slot, IsLow, at_part, set_slot, set_other, slot_or_other, as_slot, by_taken}
 
-module _ (logs : Bool) (members part limit life : ℕ) (exists : part < 8) where
+module _ (logs : Bool) (members part limit life : ℕ) (exists : part < slot_count) where
   -- how slots rise by news of slots
   pub record TableRose (named : ℕ → Type 0) (n : Net) (t u : Table) (outs : List Effect) : Type 0 where
     pub rises : Rises logs members part limit life named n (phase_at t part) (phase_at u part) outs

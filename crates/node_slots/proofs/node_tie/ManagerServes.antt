@@ -3,6 +3,8 @@ use Rattle.std.proofs.Common.{◌≡◌, ℕ, ◌≤◌, ◌<◌, Bool, true, fa
 use Rattle.xfs_base.specs.Steps.{still, saying}
 use Rattle.xfs_base.specs.declared.node.NodeId.{NodeId}
 use Rattle.xfs_base.specs.declared.node.NodeId.TheVariants.{Client, Manager, Server, Cleaner, Registry}
+use Rattle.xfs_base.specs.Limits.{slot_count}
+use Rattle.xfs_base.specs.Logs.{cleaner_log}
 use Rattle.client_log.specs.declared.input.In.TheVariants as log_input
 use Rattle.log_owner.specs.Sending.{server_in}
 use Rattle.node_base.specs.declared.effects.Effect.{Effect}
@@ -31,7 +33,7 @@ use Rattle.node_slots.proofs.node_tie.ManagerMoves.{AllDone, moves_of}
 use Rattle.node_slots.proofs.node_tie.ManagerTables.{TableEvent, table_same, table_then, table_wants, table_gaves, table_deltas, table_checks, table_usage, table_takes, table_reports, table_recalls_all, table_asks_all}
 use Rattle.node_slots.proofs.node_tie.ManagerTakes.{Brings}
 
-module _ (logs : Bool) (members part limit life : ℕ) (exists : part < 8) where
+module _ (logs : Bool) (members part limit life : ℕ) (exists : part < slot_count) where
   abbrev pub Low : Table → Type 0
   Low t = epoch_of (phase_at t part) ≤ limit
 
@@ -106,8 +108,8 @@ module _ (logs : Bool) (members part limit life : ℕ) (exists : part < 8) where
       (table_deltas logs members part limit life exists n s.slots (record { 0 = c }) deltas agrees owed)
   serves_deltas n s (Manager c) deltas agrees owed = still_serves n s agrees
   serves_deltas n s (Server c) deltas agrees owed = still_serves n s agrees
-  serves_deltas n s Cleaner deltas agrees owed = by_table n s (table.on_deltas s.slots (record { 0 = 9 }) deltas)
-      (table_deltas logs members part limit life exists n s.slots (record { 0 = 9 }) deltas agrees owed)
+  serves_deltas n s Cleaner deltas agrees owed = by_table n s (table.on_deltas s.slots cleaner_log deltas)
+      (table_deltas logs members part limit life exists n s.slots cleaner_log deltas agrees owed)
   serves_deltas n s Registry deltas agrees owed = still_serves n s agrees
 
   pub serves_check : (n : Net) (s : Serving) (check : Check) → TableAgrees members part n s.slots → Of n s (on_check s check)

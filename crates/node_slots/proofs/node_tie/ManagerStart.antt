@@ -5,6 +5,7 @@ use Rattle.xfs_base.proofs.Booleans.{by_test}
 use Rattle.xfs_base.specs.Blocks.{slot_of}
 use Rattle.xfs_base.specs.declared.block.BlockId.{BlockId}
 use Rattle.xfs_base.specs.declared.setup.Setup.{Setup}
+use Rattle.xfs_base.specs.Limits.{slot_count}
 use Rattle.manager_map.specs.Slots.{start_entries, entry_at}
 use Rattle.slot_beliefs.specs.declared.job.Job.{Job}
 use Rattle.token_law.specs.Net.{opening}
@@ -17,7 +18,7 @@ use Rattle.manager_slots.specs.declared.slot_phase.SlotPhase.TheVariants as phas
 use Rattle.node_slots.specs.node_tie.ManagerEvents.{phase_at, PhaseAgrees, OtherAgrees, FirstAgrees, FirstManagerAgrees}
 
 -- a table made slot by slot has in each slot what was made of its number
-first_at : (f : ℕ → SlotPhase) (k : ℕ) → k < 8 → phase_at (map f all_slots) k ≡ f k
+first_at : (f : ℕ → SlotPhase) (k : ℕ) → k < slot_count → phase_at (map f all_slots) k ≡ f k
 first_at f zero h = refl
 first_at f (suc zero) h = refl
 first_at f (suc (suc zero)) h = refl
@@ -49,7 +50,7 @@ module _ (members part number : ℕ) (setup : Setup) where
   first_active-agrees : PhaseAgrees members part opening first_active
   first_active-agrees = record { slot = started 1 [] [] (0 ∷ 0 ∷ 0 ∷ 0 ∷ 0 ∷ 0 ∷ 0 ∷ 0 ∷ 0 ∷ []); there = refl; same = refl; nine = refl }
 
-  pub first_agrees : (works : List Work) → part < 8 → FirstAgrees members part number setup works
+  pub first_agrees : (works : List Work) → part < slot_count → FirstAgrees members part number setup works
   first_agrees works exists =
       let f = λ (k : ℕ). first_phase number (start_entries setup.managers) k in
       let at : phase_at (map f all_slots) part ≡ f part = first_at f part exists in

@@ -12,6 +12,7 @@ use Rattle.xfs_base.specs.declared.node.NodeId.{NodeId}
 use Rattle.xfs_base.specs.declared.segment.LogId.{LogId}
 use Rattle.xfs_base.specs.declared.segment.SegRef.{SegRef}
 use Rattle.xfs_base.specs.Steps.{Stepped, steps}
+use Rattle.xfs_base.specs.Limits.{slot_count}
 use Rattle.group_map.specs.GroupMapState.{GroupMapState}
 use Rattle.node_base.specs.declared.effects.Effect.{Effect}
 use Rattle.node_base.specs.declared.questions.Questions.{Questions}
@@ -70,7 +71,7 @@ by_slot P t k event none some = by (slice_get t k) refl
     by (Some p) fact = let same : phase_at t k ≡ p = ap (λ o. unwrap_or o (phase.Away 0)) fact in subst
         (λ x. P (slice_set t k (event x).state) (event x).outs) same (some (slice_get_within t k p fact))
 
-module _ (logs : Bool) (members part limit life : ℕ) (exists : part < 8) where
+module _ (logs : Bool) (members part limit life : ℕ) (exists : part < slot_count) where
   -- what an event of the table makes of the small world
   pub record TableEvent (n : Net) (t u : Table) (outs : List Effect) : Type 0 where
     pub next : Net

@@ -1,4 +1,4 @@
--- What each input makes of the maps, for one slot.
+-- What each change of the maps is for one slot.
 use Rattle.std.proofs.Common.{◌≡◌, ◌≢◌, ◌⊎◌, inl, inr, ℕ, ◌+◌, ◌%◌, ◌<◌, ◌≤◌, Bool, true, false, cond, ◌&&◌, List, [], ◌∷◌, length, refl, sym, ap, ◌∙◌, subst, arith, nat_lt}
 use Rattle.std.specs.Prelude.{◌==◌}
 use Rattle.std.specs.Ordering.{nat_cmp, eq_by_cmp}
@@ -8,12 +8,11 @@ use Rattle.std.proofs.lemmas.Map.Views.{tells_apart}
 use Rattle.std.proofs.Math.ListN.{length-set}
 use Rattle.manager_map.specs.declared.entry.SlotEntry.{SlotEntry}
 use Rattle.manager_map.specs.Slots.{entry_at, next_entry, after_move}
-use Rattle.registry.specs.Board.{Made, inc_of, hears_manager, manager_restarted, manager_hello, hears_server, server_lost, server_hello, can_move, moved, reassign, is_kept, checkpointed, keep, done}
+use Rattle.registry.specs.Board.{Made, inc_of, hears_manager, manager_restarted, manager_hello, can_move, moved}
 use Rattle.registry.specs.BoardState.{BoardState}
-use Rattle.registry.specs.declared.output.Out.TheVariants.{Changed, Epoch, Kept}
+use Rattle.registry.specs.declared.output.Out.TheVariants.{Changed}
 use Rattle.registry.specs.Slots.{entry_of, can_rise}
 use Rattle.xfs_base.proofs.Booleans.{by_test, and_first, and_second}
-use Rattle.xfs_base.specs.declared.segment.SegRef.{SegRef}
 use Rattle.xfs_base.specs.Limits.{u32_end}
 use Rattle.node_slots.specs.node_tie.RegistryEvents.{epoch_in, manager_in, inc_in, BoardSound, SlotGoes, BoardGoes}
 use Rattle.node_slots.proofs.node_tie.RegistrySlots.{set_other, set_same, next_epoch, raised_entry, raised_at, raised_long, all_can_rise, inc_put, inc_here}
@@ -53,10 +52,6 @@ module _ (part : ℕ) (Told : ℕ → ℕ → Type 0) (s : BoardState) (sound : 
     heard = λ manager. inl (omega (arith, ap (λ (all : List (ℕ × ℕ)). inc_of all manager) incs));
     version = version;
   }
-
-  -- what an input makes of the maps
-  abbrev Leads : Made → Type 0
-  Leads made = BoardGoes part Told s made.state
 
   pub goes_still : BoardGoes part Told s s
   goes_still = goes_with s refl refl (omega arith)
@@ -134,11 +129,11 @@ module _ (part : ℕ) (Told : ℕ → ℕ → Type 0) (s : BoardState) (sound : 
       less : nat_lt (inc_of s.incs m) inc ≡ true → inc_of s.incs m < inc
       less newer = grind (arith, nat_tests)
 
-  pub goes_manager : s.version < u32_end → (m inc : ℕ) → Told m inc → BoardGoes part Told s (manager_hello s m inc).state
-  unfolding manager_hello
-  goes_manager low m inc told =
-      by_test Leads (hears_manager s m inc) (record { state = manager_restarted s m inc; outs = Changed ∷ [] }) (record { state = s; outs = [] })
-      (λ hears. goes_restarted low m inc told (hears_newer m inc hears)) (λ t. goes_still)
+  hears_low : (m inc : ℕ) → hears_manager s m inc ≡ true → s.version < u32_end
+  hears_low m inc hears = let room : nat_lt s.version u32_end ≡ true = and_first (nat_lt s.version u32_end) _ hears in grind (arith, nat_tests)
+
+  pub goes_manager : (m inc : ℕ) → Told m inc → hears_manager s m inc ≡ true → BoardGoes part Told s (manager_restarted s m inc)
+  goes_manager m inc told hears = goes_restarted (hears_low m inc hears) m inc told (hears_newer m inc hears)
 
   -- the incarnation that is kept then is no lower than the one that was told of
   pub manager_heard : s.version < u32_end → (m inc : ℕ) → inc ≤ inc_in (manager_hello s m inc).state m
@@ -165,15 +160,6 @@ module _ (part : ℕ) (Told : ℕ → ℕ → Type 0) (s : BoardState) (sound : 
           differ : true ≡ false → ⊥
           differ h = cc
       not_newer false older deaf = grind (arith, nat_tests)
-
-  -- ---- a server that has lost what it kept
-
-  pub goes_server : (server generation : ℕ) → BoardGoes part Told s (server_hello s server generation).state
-  unfolding server_hello
-  goes_server server generation =
-      by_test Leads (hears_server s server generation) (record { state = server_lost s server generation; outs = Changed ∷ [] })
-      (record { state = s; outs = [] })
-      (λ t. goes_with (server_lost s server generation) refl refl (omega arith)) (λ t. goes_still)
 
   -- ---- a slot that is given to a manager
 
@@ -219,30 +205,9 @@ module _ (part : ℕ) (Told : ℕ → ℕ → Type 0) (s : BoardState) (sound : 
       version = omega arith;
     }
 
-  pub goes_reassigned : s.version < u32_end → (slot m : ℕ) → BoardGoes part Told s (reassign s slot m).state
-  unfolding reassign
-  goes_reassigned low slot m =
-      by_test Leads (can_move s slot)
-      (record { state = moved s slot m; outs = Changed ∷ Epoch (entry_at (after_move s.entries slot m) slot).epoch ∷ [] }) (record { state = s; outs = [] })
-      (λ can. goes_moved low slot m (there (and_first (nat_lt slot 8) _ can))) (λ t. goes_still)
-    where
-      there : nat_lt slot 8 ≡ true → slot < 8
-      there h = grind (arith, nat_tests)
-
-  -- ---- a checkpoint that is written
-
-  goes_kept : (slot epoch : ℕ) (parts : List SegRef) (horizon : List ℕ) → BoardGoes part Told s (keep s slot epoch parts horizon).state
-  unfolding keep
-  goes_kept slot epoch parts horizon =
-      by_test Leads (s.version == u32_end) (record { state = s; outs = [] })
-      (record { state = checkpointed s slot parts horizon; outs = Kept epoch ∷ [] })
-      (λ t. goes_still) (λ t. goes_with (checkpointed s slot parts horizon) refl refl (omega arith))
-
-  pub goes_done : (slot epoch : ℕ) (parts : List SegRef) (horizon : List ℕ) → BoardGoes part Told s (done s slot epoch parts horizon).state
-  unfolding done
-  goes_done slot epoch parts horizon =
-      by_test Leads (nat_lt 7 slot) (record { state = s; outs = [] })
-      (cond (is_kept s slot epoch horizon) (keep s slot epoch parts horizon) (record { state = s; outs = Kept (entry_of s.entries slot).epoch ∷ [] }))
-      (λ t. goes_still)
-      (λ t. by_test Leads (is_kept s slot epoch horizon) (keep s slot epoch parts horizon)
-      (record { state = s; outs = Kept (entry_of s.entries slot).epoch ∷ [] }) (λ u. goes_kept slot epoch parts horizon) (λ u. goes_still))
+  pub goes_reassigned : (slot m : ℕ) → can_move s slot ≡ true → BoardGoes part Told s (moved s slot m)
+  goes_reassigned slot m can =
+      let there : nat_lt slot 8 ≡ true = and_first (nat_lt slot 8) _ can in
+      let low : nat_lt s.version u32_end ≡ true =
+      and_first (nat_lt s.version u32_end) _ (and_second (nat_lt slot 8) (nat_lt s.version u32_end && nat_lt (entry_of s.entries slot).epoch u32_end) can) in
+      goes_moved (grind (arith, nat_tests)) slot m (grind (arith, nat_tests))

@@ -27,6 +27,8 @@ use Rattle.wire_msg.specs.declared.packet.Do.TheVariants.{Begin, Deliver, Tick}
 use Rattle.xfs_base.specs.declared.segment.SegName.{SegName}
 use Rattle.xfs_base.proofs.Booleans.{equal_itself}
 use Rattle.xfs_base.proofs.Alls.{all_weaker}
+use Rattle.xfs_base.specs.Limits.{slot_count}
+use Rattle.xfs_base.specs.Logs.{cleaners_number}
 use Rattle.node_slots.specs.owner_index_tie.Acting.{ActSo, AllSo, CleanerFilesFlights, ClientsFileFlights, EffectSo, IsFlight, MayLand}
 use Rattle.node_slots.specs.owner_index_tie.CleanerEvents as cleaner_owed
 use Rattle.node_slots.specs.owner_index_tie.ClientEvents as client_owed
@@ -144,7 +146,7 @@ clients_file_flights part texts n c node what s some below fact agrees gets may 
 
 -- ---- the cleaner
 
-module _ (part : ℕ) (texts : Texts) (n : Net) (small : part < 8) (e : Emptying) where
+module _ (part : ℕ) (texts : Texts) (n : Net) (small : part < slot_count) (e : Emptying) where
   abbrev Of : Texts
   Of = its_texts e.log
 
@@ -169,4 +171,4 @@ cleaner_files_flights part texts n node what e small fact agrees gets asks may =
     let k = emptying.takes_so Any part its n small [] node.peers node.phase what (none_moved part texts n small e node.phase fact)
     (emptying.stands Any part its n small node.phase (phase_as part texts n small e node.phase fact agrees.phase) agrees.moves) gets
     (none_reopened part texts n small e node.phase w.state fact) in
-    all_then (IsNamed its) (IsFlight e.log) (is_flight e.log) w.outs (k.1 asks (may_land e.log 9 may))
+    all_then (IsNamed its) (IsFlight e.log) (is_flight e.log) w.outs (k.1 asks (may_land e.log cleaners_number may))

@@ -6,11 +6,11 @@ use Rattle.client_node.specs.declared.phase.Phase.TheVariants.{Down, Opening, Se
 use Rattle.client_node.specs.declared.phase.Phase.{Phase}
 use Rattle.client_node.specs.Phases.{Went_to, crashed, owner_of, restarted, back, after_opening, opened_on, answers, serves_on, wish_of, down_begins, opening_begins, serving_begins, lasting_of, begins_item, on_begin, on_deliver, on_time, delivers, happens, client_room, takes}
 use Rattle.client_call.specs.declared.call.Going.{Going}
-use Rattle.client_call.specs.declared.lasting.Lasting.{Lasting}
-use Rattle.client_call.specs.Lasting.{next_life}
 use Rattle.client_node.specs.Crash.{falls}
+use Rattle.client_serving.specs.declared.lasting.Lasting.{Lasting}
 use Rattle.client_serving.specs.declared.serving.Serving.{Serving}
 use Rattle.client_running.specs.Opens.{begins_call, call_at, opens}
+use Rattle.client_serving.specs.Lasting.{next_life}
 use Rattle.client_serving.specs.Packets as packets
 use Rattle.client_running.specs.Running.{goes_on, runs}
 use Rattle.client_serving.specs.Sends.{Done, gives}
@@ -44,6 +44,7 @@ use Rattle.wire_msg.specs.declared.packet.Packet.{Packet}
 use Rattle.xfs_base.proofs.Booleans.{by_test}
 use Rattle.xfs_base.specs.Steps.{still, saying}
 use Rattle.xfs_base.proofs.Alls.{all_append}
+use Rattle.xfs_base.specs.Limits.{block_logs}
 use Rattle.segment_format.specs.declared.segment.Segment.{Segment}
 use Rattle.node_slots.specs.owner_index_tie.ClientEvents.{RestingSeen, ClientAgrees, IsNewerAtSlot, BodyGets, PacketGets, EventGets, ReopensOn, WritesTexts, ClientEventGoes}
 use Rattle.node_slots.specs.owner_index_tie.Filing.{filing, filed_after}
@@ -56,7 +57,7 @@ use Rattle.node_slots.proofs.owner_index_tie.ServingCalls as calls
 use Rattle.node_slots.proofs.owner_index_tie.ServingPackets as serving
 use Rattle.node_slots.proofs.owner_index_tie.Standing.{Stands, pushes_all_plain}
 
-module _ (New : Filed → Segment → Type 0) (part : ℕ) (texts : Texts) (n : Net) (c : ℕ) (some : 0 < c) (limit : c ≤ 9) where
+module _ (New : Filed → Segment → Type 0) (part : ℕ) (texts : Texts) (n : Net) (c : ℕ) (some : 0 < c) (limit : c ≤ block_logs) where
   abbrev since : ℕ
   since = n.filed.head c
 
@@ -265,7 +266,7 @@ module _ (New : Filed → Segment → Type 0) (part : ℕ) (texts : Texts) (n : 
 pub client_event_goes : ClientEventGoes
 client_event_goes part texts n c client what some below agreed owed =
     let w = takes client what in
-    let limit : c ≤ 9 = omega arith in
+    let limit : c ≤ block_logs = omega arith in
     let f = filed_after texts c n.filed w.outs in
     let k = (takes_so (IsNewerAtSlot part) part texts n c some limit client what
     (stands (IsNewerAtSlot part) part texts n c some limit client.phase agreed) owed.gets

@@ -35,6 +35,7 @@ use Rattle.stripe_cleaner.specs.Transition.{Done, turned, is_greeting, welcomed,
 use Rattle.index_tie.specs.Net.{Packet}
 use Rattle.xfs_base.proofs.BlockOrder.{same_block_exact}
 use Rattle.xfs_base.proofs.Alls.{all_map}
+use Rattle.xfs_base.specs.Limits.{slot_count}
 use Rattle.node_slots.specs.owner_index_tie.CleanerMoves.{WasLive, IsMovedOnce, FateMoves, CheckMoves, PhaseMoves}
 
 module _ (part : ℕ) (sent : List Packet) where
@@ -273,7 +274,7 @@ module _ (part : ℕ) (sent : List Packet) where
   welcome_fits : (s : CleaningState) (slots : List SlotNews) (groups : GroupMapState) → PhaseMoves part sent s.phase → DoneFits (on_welcome s slots groups)
   unfolding on_welcome
   welcome_fits s slots groups h =
-      by_test DoneFits (is_greeting s.phase && (length slots == 8)) (welcomed s slots groups) (still s)
+      by_test DoneFits (is_greeting s.phase && (length slots == slot_count)) (welcomed s slots groups) (still s)
       (λ t. record { phase = tt; outs = all_map OutFits (λ (server : ℕ). out.List server) (λ server. tt) (begun slots groups).awaited }) (λ t. as_was s h)
 
   live_check : (block : BlockId) (entry : Entry) → WasLive part sent block entry → (c : Check) → CheckFits c → CheckFits (live_at block entry c)

@@ -1,127 +1,110 @@
 -- What each event makes of the cleaner: what its log has, and what its job is to move, was answered Live.
-use Rattle.std.proofs.Common.{ℕ, List, Option, Some, None, sym}
-use Rattle.cleaner_serving.specs.declared.emptying.Emptying.{Emptying}
+use Rattle.std.proofs.Common.{ℕ, List, Option, Some, None, subst, sym}
+use Rattle.cleaner_job.specs.declared.job.Job.{Job}
+use Rattle.cleaner_job.specs.declared.lasting.Lasting.{Lasting}
+use Rattle.cleaner_node.specs.CleanerEvents.{restarts}
+use Rattle.cleaner_node.specs.declared.cleaner.Cleaner.{Cleaner}
 use Rattle.cleaner_node.specs.declared.cleaner.Phase.{Phase}
 use Rattle.cleaner_node.specs.declared.cleaner.Phase.TheVariants.{Down, Opening, Serving}
-use Rattle.cleaner_node.specs.declared.cleaner.Wish.{Wish}
-use Rattle.cleaner_node.specs.declared.cleaner.Wish.TheVariants.{Crash, Restart, Clean}
-use Rattle.cleaner_node.specs.CleanerEvents.{Went_to, crashes, after_opening, restarts, down_wishes, opening_wishes, serving_wishes, wish_at, begun_life, down_at, opening_at, serving_at, on_begin, hears, on_deliver, on_time, happens, phase_room}
-use Rattle.cleaner_job.specs.declared.lasting.Lasting.{Lasting}
-use Rattle.index_tie.specs.Net.{Packet}
-use Rattle.log_protocol.specs.Tables.{In}
-use Rattle.cleaner_job.specs.declared.job.Job.{Job}
+use Rattle.cleaner_serving.specs.declared.emptying.Emptying.{Emptying}
+use Rattle.client_log.specs.declared.input.In.{In as LogIn}
 use Rattle.client_log.specs.LogState.{LogState}
+use Rattle.client_log.specs.Transition as log
+use Rattle.index_tie.specs.Net.{Packet}
 use Rattle.log_flight.specs.declared.dirty.Change.{Change}
+use Rattle.log_owner.specs.declared.opened.Progress.{Progress}
+use Rattle.log_owner.specs.declared.opened.Progress.TheVariants as progress
+use Rattle.log_owner.specs.declared.opening.Opening as openings
 use Rattle.log_owner.specs.declared.opening.Stage.{Stage}
 use Rattle.log_owner.specs.declared.opening.Stage.TheVariants as stage
+use Rattle.log_owner.specs.Opening.{Went}
+use Rattle.log_protocol.specs.Tables.{In}
+use Rattle.node_base.specs.declared.items.Items.{Items}
 use Rattle.segment_format.specs.declared.segment.Item.{Item}
 use Rattle.segment_format.specs.declared.segment.Item.TheVariants.{Block, Delta, Part}
 use Rattle.stripe_cleaner.specs.declared.checks.Fate.{Fate}
 use Rattle.stripe_cleaner.specs.declared.checks.Fate.TheVariants.{Live}
+use Rattle.stripe_cleaner.specs.declared.input.In.{In as Input}
 use Rattle.stripe_cleaner.specs.declared.phase.Phase as phases
 use Rattle.stripe_cleaner.specs.declared.phase.Phase.TheVariants.{Checking}
+use Rattle.wire_msg.specs.declared.packet.Do.{Do}
+use Rattle.xfs_base.proofs.Alls.{all_weaker}
 use Rattle.xfs_base.specs.declared.block.BlockId.{BlockId}
 use Rattle.xfs_base.specs.declared.entry.Entry.{Entry}
-use Rattle.log_owner.specs.declared.opened.Progress.{Progress}
-use Rattle.log_owner.specs.declared.opened.Progress.TheVariants as progress
-use Rattle.log_owner.specs.declared.opening.Opening as openings
-use Rattle.log_owner.specs.Opening as opening
-use Rattle.node_base.specs.Beginning.{next_item}
-use Rattle.node_base.specs.declared.peers.Peers.{Peers}
-use Rattle.node_base.specs.Shape.{is_well_formed}
+use Rattle.node_moves.proofs.cleaner_moves.Keeping.{Changes, Put, StateKeeps, state_goes}
+use Rattle.node_moves.proofs.cleaner_moves.Keeping.Changes.{JobBegun, JobEnded}
+use Rattle.node_moves.proofs.cleaner_moves.Keeping.Put.{AllPut, BlockPut}
+use Rattle.node_moves.specs.cleaner_moves.Moves.{Given, OpenedBy, Written, came_to, noted}
+use Rattle.node_moves.specs.cleaner_moves.Moves.Given.{LiveCame}
+use Rattle.node_moves.specs.cleaner_moves.Moves.OpenedBy.{PacketCame, TimeWent}
+use Rattle.node_moves.specs.cleaner_moves.Moves.Written.{AckCame, GroupsCame, LogTicks}
 use Rattle.node_slots.proofs.node_index_tie.Moves.{some_none}
-use Rattle.wire_msg.specs.declared.packet.Do.{Do}
-use Rattle.wire_msg.specs.declared.packet.Do.TheVariants.{Begin, Deliver, Tick}
-use Rattle.wire_msg.specs.declared.packet.Packet as packets
-use Rattle.xfs_base.proofs.Booleans.{by_test}
-use Rattle.xfs_base.specs.Steps.{still}
-use Rattle.xfs_base.proofs.Alls.{all_weaker}
 use Rattle.node_slots.specs.owner_index_tie.CleanerMoves.{IsMovedOnce, ItemMoves, LogMoves, FateMoves, CheckMoves, PhaseMoves, JobMoves, StageMoves, CleanerMoves, BodyAnswers, DoAnswers, CleanerStartsMoving, CleanerMovesAnswered}
 use Rattle.node_slots.proofs.owner_index_tie.MovesOpening as opens
-use Rattle.node_slots.proofs.owner_index_tie.MovesServing as serving
+use Rattle.node_slots.proofs.owner_index_tie.MovesJob as jobs
+use Rattle.node_slots.proofs.owner_index_tie.MovesLog.{log_moves}
 
 module _ (part : ℕ) (sent : List Packet) where
   abbrev So : Phase → Type 0
   So p = CleanerMoves part sent p
 
-  abbrev Goes : Went_to → Type 0
-  Goes w = So w.state
+  module _ (first : Cleaner) (what : Do) (live : DoAnswers part sent what) where
+    changed : (e f : Emptying) → Changes first what (jobs.OutFits part sent) e f → So (Serving e) → So (Serving f)
+    changed e f (JobBegun count) h = (h.0, tt)
+    changed e f JobEnded h = (h.0, tt)
+    changed e f _ h = h
 
-  crashes_so : (l : Lasting) (number : ℕ) → Goes (crashes l number)
-  unfolding crashes
-  crashes_so l number = tt
+    -- a Live that comes was answered
+    given_so : (e : Emptying) (given : Input) → Given first what e given → jobs.InputFits part sent given
+    given_so e given (LiveCame packet m same came asked) = subst (BodyAnswers part sent) came.says (subst (DoAnswers part sent) came.event live)
+    given_so e given _ = tt
 
-  restarts_so : (servers : ℕ) (l : Lasting) (number : ℕ) → Goes (restarts servers l number)
-  unfolding restarts
-  restarts_so servers l number = tt
+    put_so : (s : LogState) (i : LogIn) → Put (jobs.OutFits part sent) i → LogMoves part sent s → LogMoves part sent (log.transition s i).state
+    put_so s i (BlockPut block entry value moved) h = log_moves part sent s i h moved.0
+    put_so s i AllPut h = log_moves part sent s i h tt
 
-  opened_so : (l : Lasting) (p : Progress) → opens.ProgressMoves part sent p → Goes (after_opening l p)
-  unfolding after_opening
-  opened_so l (progress.Opening o) h = h
-  opened_so l (progress.Opened r) h = (h, tt)
-  opened_so l (progress.Lost seg) h = tt
+    written_so : (e : Emptying) (i : LogIn) → Written first what e i → LogMoves part sent e.log → LogMoves part sent (log.transition e.log i).state
+    written_so e i (AckCame packet m same came) h = log_moves part sent e.log i h tt
+    written_so e i (GroupsCame before packet news same as_was brought) h = log_moves part sent e.log i h tt
+    written_so e i LogTicks h = log_moves part sent e.log i h tt
 
-  down_wish : (servers : ℕ) (l : Lasting) (number : ℕ) (wish : Wish) → Goes (down_wishes servers l number wish)
-  down_wish servers l number Restart = restarts_so servers l number
-  down_wish servers l number Crash = tt
-  down_wish servers l number (Clean count) = tt
+    items_so : (p : Phase) (items : Items) → So p → So (noted p items)
+    items_so (Down l) items h = tt
+    items_so (Opening l o) items h = h
+    items_so (Serving e) items h = h
 
-  opening_wish : (l : Lasting) (o : openings.Opening) (number : ℕ) (wish : Wish) → StageMoves part sent o.stage → Goes (opening_wishes l o number wish)
-  opening_wish l o number Crash h = crashes_so l number
-  opening_wish l o number Restart h = h
-  opening_wish l o number (Clean count) h = h
+    restarted : (servers : ℕ) (l : Lasting) (number : ℕ) → So (restarts servers l number).state
+    unfolding restarts
+    restarted servers l number = tt
 
-  serving_wish : (e : Emptying) (number : ℕ) (wish : Wish) → So (Serving e) → Goes (serving_wishes e number wish)
-  serving_wish e number Crash h = crashes_so e.lasting number
-  serving_wish e number Restart h = h
-  serving_wish e number (Clean count) h = serving.clean_moves part sent e number count h
+    comes_so : (l : Lasting) (p : Progress) → opens.ProgressMoves part sent p → So (came_to l p)
+    comes_so l (progress.Opening o) h = h
+    comes_so l (progress.Opened r) h = (h, tt)
+    comes_so l (progress.Lost seg) h = tt
 
-  down_item : (servers : ℕ) (l : Lasting) (item : Option ℕ) → Goes (down_at servers l item)
-  down_item servers l None = tt
-  down_item servers l (Some number) = down_wish servers l number (wish_at l.items number)
+    opens_so : (l : Lasting) (o : openings.Opening) (x : Went) → OpenedBy what l o x → StageMoves part sent o.stage
+        → So (came_to (record l { questions = x.questions }) x.progress)
+    opens_so l o x (PacketCame packet event) h =
+        comes_so (record l { questions = x.questions }) x.progress (opens.packet_moves part sent o l.questions packet h)
+    opens_so l o x (TimeWent event) h = comes_so (record l { questions = x.questions }) x.progress (opens.time_moves part sent o l.questions h)
 
-  opening_item : (l : Lasting) (o : openings.Opening) (item : Option ℕ) → StageMoves part sent o.stage → Goes (opening_at l o item)
-  opening_item l o None h = h
-  opening_item l o (Some number) h = opening_wish l o number (wish_at l.items number) h
-
-  serving_item : (e : Emptying) (item : Option ℕ) → So (Serving e) → Goes (serving_at e item)
-  serving_item e None h = h
-  serving_item e (Some number) h = serving_wish e number (wish_at e.lasting.items number) h
-
-  begin_so : (servers : ℕ) (p : Phase) → So p → Goes (on_begin servers p)
-  unfolding on_begin
-  begin_so servers (Down l) h = down_item servers (begun_life l) (next_item l.items)
-  begin_so servers (Opening l o) h = opening_item (begun_life l) o (next_item l.items) h
-  begin_so servers (Serving e) h = serving_item (record e { lasting = begun_life e.lasting }) (next_item e.lasting.items) h
-
-  hears_so : (p : Phase) (packet : packets.Packet) → So p → BodyAnswers part sent packet.body → Goes (hears p packet)
-  unfolding hears
-  hears_so (Down l) packet h live = tt
-  hears_so (Opening l o) packet h live =
-      let w = opening.on_packet o l.questions packet in opened_so (record l { questions = w.questions }) w.progress
-      (opens.packet_moves part sent o l.questions packet h)
-  hears_so (Serving e) packet h live = serving.packet_moves part sent e packet h live
-
-  delivers_so : (peers : Peers) (p : Phase) (packet : packets.Packet) → So p → BodyAnswers part sent packet.body → Goes (on_deliver peers p packet)
-  unfolding on_deliver
-  delivers_so peers p packet h live = by_test Goes (is_well_formed peers packet) (hears p packet) (still p) (λ _. hears_so p packet h live) (λ _. h)
-
-  time_so : (p : Phase) → So p → Goes (on_time p)
-  unfolding on_time
-  time_so (Down l) h = tt
-  time_so (Opening l o) h =
-      let w = opening.on_tick o l.questions in opened_so (record l { questions = w.questions }) w.progress (opens.time_moves part sent o l.questions h)
-  time_so (Serving e) h = serving.time_moves part sent e h
-
-  happens_so : (peers : Peers) (p : Phase) (what : Do) → So p → DoAnswers part sent what → Goes (happens peers p what)
-  happens_so peers p Begin h live = begin_so peers.servers p h
-  happens_so peers p (Deliver packet) h live = delivers_so peers p packet h live
-  happens_so peers p Tick h live = time_so p h
+    keeps : StateKeeps first what So (jobs.OutFits part sent)
+    keeps = record {
+      apart = λ one blocks all. ((all.0, tt), all.1);
+      changes = λ e f change h. changed e f change h;
+      cleans = λ e job given came h. (let d = jobs.cleaning_fits part sent job.cleaning given h.1 (given_so _ given came) in ((h.0, d.phase), d.outs));
+      puts = λ e i put h. (put_so e.log i put h.0, h.1);
+      writes = λ e i came h. (written_so e i came h.0, h.1);
+      settles = λ e end rows h. h;
+      items = λ p items for h. items_so p items h;
+      falls = λ p h. tt;
+      restarts = λ l number event following h. restarted first.peers.servers l number;
+      opens = λ l o x by h. opens_so l o x by h;
+    }
 
 pub cleaner_moves_answered : CleanerMovesAnswered
 cleaner_moves_answered part sent cleaner what h live =
-    by_test (λ (w : Went_to). CleanerMoves part sent w.state) (phase_room cleaner.phase) (happens cleaner.peers cleaner.phase what) (still cleaner.phase)
-    (λ _. happens_so part sent cleaner.peers cleaner.phase what h live) (λ _. h)
+    state_goes cleaner what (CleanerMoves part sent) (jobs.OutFits part sent) (keeps part sent cleaner what live) h
 
 pub cleaner_starts_moving : CleanerStartsMoving
 cleaner_starts_moving part sent setup works = (record { dirty = tt; flight = λ f fact. absurd (some_none f (sym fact)) }, tt)

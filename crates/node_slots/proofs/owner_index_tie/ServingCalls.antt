@@ -29,13 +29,14 @@ use Rattle.xfs_base.specs.declared.token.Mode.{Mode}
 use Rattle.xfs_base.specs.declared.token.Mode.TheVariants.{Copy, Own}
 use Rattle.xfs_base.specs.Modes.{is_nothing}
 use Rattle.xfs_base.specs.Steps.{saying}
+use Rattle.xfs_base.specs.Limits.{block_logs}
 use Rattle.node_slots.proofs.owner_index_tie.Caching as cache
 use Rattle.node_slots.proofs.owner_index_tie.Frames as frames
 use Rattle.node_slots.proofs.owner_index_tie.ServingLog as flights
 use Rattle.node_slots.proofs.owner_index_tie.ServingTokens as tokens
 use Rattle.node_slots.proofs.owner_index_tie.Standing.{Stands}
 
-module _ (part : ℕ) (n : Net) (l since : ℕ) (some : 0 < l) (limit : l ≤ 9) (f : Filed) where
+module _ (part : ℕ) (n : Net) (l since : ℕ) (some : 0 < l) (limit : l ≤ block_logs) (f : Filed) where
   abbrev At : Serving → Type 0
   At s = tokens.At part n l since some limit f s
 

@@ -3,11 +3,11 @@ use Rattle.std.proofs.Common.{◌≡◌, ◌<◌, ◌≤◌, ℕ, true, List, []
 use Rattle.std.proofs.lemmas.Bool.Decides.{nat_tests}
 use Rattle.std.specs.List.{flat_map}
 use Rattle.client_log.specs.declared.input.In.TheVariants as log_in
-use Rattle.client_call.specs.Grants.{supplies, is_stamp}
 use Rattle.client_call.specs.Reads.{block_read, Heard, heard, fetches_again, reading_in, value_at}
 use Rattle.client_serving.specs.declared.serving.Serving.{Serving}
 use Rattle.client_serving.specs.Flights.{held_at, writes}
 use Rattle.client_serving.specs.Follow.{hands, takes_back, follows}
+use Rattle.client_serving.specs.Grants.{supplies, is_stamp}
 use Rattle.client_serving.specs.Packets.{on_grant, on_supply, on_forward, again, says_again, on_recall, is_gone, on_gone, is_acked, on_ack, ends_fetch, told_at, told_by, on_told, asks_for_maps, renews, promises, reports, may_report, polled, on_poll, promised_in, is_news, hears, on_tick}
 use Rattle.client_serving.specs.Reads.{loses, with_reading}
 use Rattle.client_serving.specs.Sends.{Done, gives, report}
@@ -41,6 +41,7 @@ use Rattle.xfs_base.specs.declared.node.NodeId.{NodeId}
 use Rattle.xfs_base.specs.declared.node.NodeId.TheVariants as node
 use Rattle.xfs_base.specs.Modes.{is_own}
 use Rattle.xfs_base.specs.Steps.{Stepped, still}
+use Rattle.xfs_base.specs.Limits.{slot_count, block_logs}
 use Rattle.node_slots.proofs.owner_index_tie.Frames as frames
 use Rattle.node_slots.proofs.owner_index_tie.ServingLog as flights
 use Rattle.node_slots.proofs.owner_index_tie.ServingTokens as tokens
@@ -54,7 +55,7 @@ LinkedFrom n l f epoch = 0 < of_log (n.horizon epoch) l → Linked f l (of_log (
 abbrev pub PollLinked : ℕ → Net → ℕ → Filed → Serving → Poll → Type 0
 PollLinked part n l f s p = p.slot ≡ part → epoch_of s.tokens.epochs part ≤ p.epoch → LinkedFrom n l f p.epoch
 
-module _ (part : ℕ) (n : Net) (l since : ℕ) (some : 0 < l) (limit : l ≤ 9) (f : Filed) where
+module _ (part : ℕ) (n : Net) (l since : ℕ) (some : 0 < l) (limit : l ≤ block_logs) (f : Filed) where
   abbrev At : Serving → Type 0
   At s = tokens.At part n l since some limit f s
 
@@ -173,7 +174,7 @@ module _ (part : ℕ) (n : Net) (l since : ℕ) (some : 0 < l) (limit : l ≤ 9)
   not_past : (s : Serving) (p : Poll) → may_report s p ≡ true → p.slot ≡ part → epoch_of s.tokens.epochs part ≤ p.epoch
   not_past s p fact same = subst (λ k. epoch_of s.tokens.epochs k ≤ p.epoch) same (no_later p.slot (epoch_of s.tokens.epochs p.slot) p.epoch fact)
     where
-      no_later : (slot a b : ℕ) → nat_lt slot 8 && nat_le a b ≡ true → a ≤ b
+      no_later : (slot a b : ℕ) → nat_lt slot slot_count && nat_le a b ≡ true → a ≤ b
       no_later slot a b fact = grind (arith, nat_tests)
 
   polled_so : (s : Serving) (manager : ℕ) (p : Poll) → At s → PollLinked part n l f s p → Goes (polled s manager p)

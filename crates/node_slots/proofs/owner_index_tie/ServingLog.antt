@@ -7,15 +7,15 @@ use Rattle.client_log.specs.declared.output.Out.{Out}
 use Rattle.client_log.specs.declared.output.Out.TheVariants.{Send, Settled}
 use Rattle.client_log.specs.Transition as log
 use Rattle.client_log.specs.Transition.{end_from}
-use Rattle.client_call.specs.Flights.{is_settling, is_giving}
-use Rattle.client_call.specs.Lasting.{log_of}
 use Rattle.client_serving.specs.declared.serving.Serving.{Serving}
 use Rattle.client_serving.specs.Flights.{held_at, gives_up, gives_if_clean, feeds, settled_rows, settles, writes_one, seals_again, writes}
 use Rattle.client_serving.specs.Follow.{seals}
+use Rattle.client_serving.specs.Lasting.{log_of}
 use Rattle.client_serving.specs.Sends.{Done, gives}
 use Rattle.delta_feed.specs.Transition as feeding
 use Rattle.index_tie.specs.Filed.{Filed}
 use Rattle.index_tie.specs.Net.{Net}
+use Rattle.log_owner.specs.Sealing.{is_settling}
 use Rattle.log_owner.specs.Sending.{store, name_of, pushes_all}
 use Rattle.node_slots.specs.node_index_tie.Pages.{FlightIsText}
 use Rattle.node_slots.specs.node_index_tie.Sight.{Texts}
@@ -24,6 +24,7 @@ use Rattle.segment_format.specs.Rows.{rows_of}
 use Rattle.segment_format.specs.declared.segment.Segment.{Segment}
 use Rattle.token_client.specs.declared.held.Giving.{Giving}
 use Rattle.token_client.specs.Held.{is_dirty}
+use Rattle.token_client.specs.Settling.{is_giving}
 use Rattle.token_client.specs.State.{dirty_in}
 use Rattle.version_model.specs.declared.act.Act.TheVariants.{Filed as ActsFiled}
 use Rattle.xfs_base.proofs.Booleans.{by_test}
@@ -32,6 +33,7 @@ use Rattle.xfs_base.specs.declared.entry.Entry.{Entry}
 use Rattle.xfs_base.specs.declared.segment.LogId.{LogId}
 use Rattle.xfs_base.specs.declared.segment.SegName.{SegName}
 use Rattle.xfs_base.specs.Steps.{still, saying, steps}
+use Rattle.xfs_base.specs.Limits.{block_logs}
 use Rattle.node_slots.specs.owner_index_tie.Filing.{with_name, OwedAct}
 use Rattle.node_slots.specs.owner_index_tie.Owners.{LogNext}
 use Rattle.node_slots.proofs.owner_index_tie.Caching as cache
@@ -43,7 +45,7 @@ use Rattle.node_slots.proofs.owner_index_tie.Turns.{Rests, Lands, Turns, Stays, 
 
 -- ---- what files nothing
 
-module _ (part : ℕ) (n : Net) (l since : ℕ) (some : 0 < l) (limit : l ≤ 9) (f : Filed) where
+module _ (part : ℕ) (n : Net) (l since : ℕ) (some : 0 < l) (limit : l ≤ block_logs) (f : Filed) where
   abbrev At : Serving → Type 0
   At s = tokens.At part n l since some limit f s
 
@@ -102,7 +104,7 @@ module _ (part : ℕ) (n : Net) (l since : ℕ) (some : 0 < l) (limit : l ≤ 9)
 
 -- ---- what files
 
-module _ (New : Filed → Segment → Type 0) (part : ℕ) (texts : Texts) (n : Net) (l since : ℕ) (some : 0 < l) (limit : l ≤ 9) where
+module _ (New : Filed → Segment → Type 0) (part : ℕ) (texts : Texts) (n : Net) (l since : ℕ) (some : 0 < l) (limit : l ≤ block_logs) where
   abbrev Stood : Filed → Serving → Type 0
   Stood f s = Stands part n l since f s.lasting.number s.log s.feed
 

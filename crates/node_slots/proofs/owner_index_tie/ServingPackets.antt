@@ -30,7 +30,7 @@ use Rattle.xfs_base.proofs.Booleans.{by_test}
 use Rattle.xfs_base.specs.declared.block.BlockId.{BlockId}
 use Rattle.xfs_base.specs.declared.news.SlotNews.{SlotNews}
 use Rattle.xfs_base.specs.declared.node.NodeId.{NodeId}
-use Rattle.xfs_base.specs.Limits.{u32_end}
+use Rattle.xfs_base.specs.Limits.{u32_end, block_logs}
 use Rattle.xfs_base.specs.Steps.{still, saying, steps}
 use Rattle.xfs_base.proofs.Alls.{all_append}
 use Rattle.node_slots.specs.owner_index_tie.Filing.{filed_after}
@@ -107,7 +107,7 @@ abbrev pub Polled : ℕ → Net → ℕ → Filed → Serving → Body → Type 
 Polled part n l f s (body.Poll m) = hearing.PollLinked part n l f s m
 Polled part n l f s _ = Unit {0}
 
-module _ (New : Filed → Segment → Type 0) (part : ℕ) (texts : Texts) (n : Net) (l since : ℕ) (some : 0 < l) (limit : l ≤ 9) where
+module _ (New : Filed → Segment → Type 0) (part : ℕ) (texts : Texts) (n : Net) (l since : ℕ) (some : 0 < l) (limit : l ≤ block_logs) where
   abbrev At : Filed → Serving → Type 0
   At f s = Stands part n l since f s.lasting.number s.log s.feed
 

@@ -37,12 +37,13 @@ use Rattle.xfs_base.specs.declared.segment.SegName.{SegName}
 use Rattle.xfs_base.specs.declared.token.Stamp.{Stamp}
 use Rattle.xfs_base.specs.Steps.{still}
 use Rattle.xfs_base.proofs.Alls.{all_map}
+use Rattle.xfs_base.specs.Limits.{block_logs}
 use Rattle.node_slots.proofs.owner_index_tie.Caching as cache
 use Rattle.node_slots.proofs.owner_index_tie.Frames as frames
 use Rattle.node_slots.proofs.owner_index_tie.Standing.{Stands, rested, pushes_plain, end_told, stored_plain}
 use Rattle.node_slots.proofs.owner_index_tie.Turns.{seal_stays}
 
-module _ (part : ℕ) (n : Net) (l since : ℕ) (some : 0 < l) (limit : l ≤ 9) (f : Filed) where
+module _ (part : ℕ) (n : Net) (l since : ℕ) (some : 0 < l) (limit : l ≤ block_logs) (f : Filed) where
   abbrev pub At : Serving → Type 0
   At s = Stands part n l since f s.lasting.number s.log s.feed
 

@@ -19,6 +19,7 @@ use Rattle.node_slots.specs.node_index_tie.OwnerEvents as owners
 use Rattle.node_slots.specs.node_index_tie.Sight.{EndKnown}
 use Rattle.node_slots.proofs.node_index_tie.Owners.{owners_tell, feeds_stay}
 use Rattle.xfs_base.specs.declared.segment.End.{End}
+use Rattle.xfs_base.specs.Limits.{block_logs}
 use Rattle.node_slots.specs.owner_index_tie.Filing.{filing}
 use Rattle.node_slots.specs.owner_index_tie.Owners.{LogNext, OwnerSeen, EndTold}
 use Rattle.node_slots.proofs.owner_index_tie.Frames.{AllPlain}
@@ -60,7 +61,7 @@ module _ (part : ℕ) (n : Net) (l since : ℕ) (f : Filed) where
 
   -- ---- what it tells
 
-  module _ (some : 0 < l) (limit : l ≤ 9) (managers : Managers) (feed : FeedState) (k : owners.FeedSeen part (filing n f) l feed) where
+  module _ (some : 0 < l) (limit : l ≤ block_logs) (managers : Managers) (feed : FeedState) (k : owners.FeedSeen part (filing n f) l feed) where
     ranges_plain : (outs : List Out) → AllByRecursion (owners.OwnerDoes part (filing n f) l) (map (range managers) outs)
         → AllPlain part n l since f (map (range managers) outs)
     ranges_plain [] all = tt

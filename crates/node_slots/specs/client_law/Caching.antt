@@ -3,7 +3,7 @@ use Rattle.std.specs.Prelude.{◌≡◌, ◌<◌, ◌++◌, ℕ, true, false, Li
 use Rattle.std.specs.List.{AllByRecursion}
 use Rattle.client_log.specs.declared.output.Out as log_out
 use Rattle.client_call.specs.declared.call.Going.{Going}
-use Rattle.client_call.specs.declared.lasting.Lasting.{Lasting}
+use Rattle.client_serving.specs.declared.lasting.Lasting.{Lasting}
 use Rattle.client_serving.specs.declared.serving.Serving.{Serving}
 use Rattle.client_serving.specs.Flights.{held_at, keeps_clean, notes_settled, writes_one}
 use Rattle.client_serving.specs.Follow.{notes_clean}

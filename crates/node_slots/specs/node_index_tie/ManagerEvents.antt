@@ -45,11 +45,12 @@ use Rattle.wire_msg.specs.declared.packet.Packet.{Packet as Sent}
 use Rattle.wire_msg.specs.declared.storage.Found.{Found}
 use Rattle.wire_msg.specs.declared.storage.Missing.{Missing as Absent}
 use Rattle.xfs_base.specs.Blocks.{slot_of}
-use Rattle.xfs_base.specs.Limits.{u32_end}
+use Rattle.xfs_base.specs.Limits.{u32_end, slot_count, block_logs}
 use Rattle.xfs_base.specs.declared.news.SlotNews.{SlotNews}
 use Rattle.xfs_base.specs.declared.node.NodeId.{NodeId}
 use Rattle.xfs_base.specs.declared.node.NodeId.TheVariants.{Client, Manager, Server, Cleaner, Registry}
 use Rattle.xfs_base.specs.declared.setup.Setup.{Setup}
+use Rattle.xfs_base.specs.Logs.{cleaners_number}
 use Rattle.node_slots.specs.node_index_tie.Pages.{Desk, desk_of, Paged, WriterAgrees, DoneSeen, FlightIsText}
 use Rattle.node_slots.specs.node_index_tie.Sight.{Texts, Questions, held_in, IsRead, AreTexts, DeltasKnown, ReportKnown, NewsKnown, CheckKnown, ManagerDoes}
 
@@ -77,8 +78,8 @@ module _ (part : ℕ) (texts : Texts) (n : Net) where
   -- A slot that is managed is the small world's slot of its epoch; no log that it applied is at its last number.
   pub record ActiveAgrees (desk : Desk) (a : Active) : Type 0 where
     pub there : n.slots a.slot.epoch ≡ Some a.slot
-    pub nine : length a.slot.applied ≡ 9
-    pub short : (l : ℕ) → 0 < l → l ≤ 9 → applied_of a.slot.applied l < u32_end
+    pub nine : length a.slot.applied ≡ block_logs
+    pub short : (l : ℕ) → 0 < l → l ≤ block_logs → applied_of a.slot.applied l < u32_end
     pub pages : Paged part texts n desk a.slot.epoch (pages_of a.slot.index) a.parts
 
   abbrev pub PhaseAgrees : Desk → SlotPhase → Type 0
@@ -91,7 +92,7 @@ module _ (part : ℕ) (texts : Texts) (n : Net) where
 
   -- one that serves
   pub record ServingAgrees (s : Serving) : Type 0 where
-    pub eight : length s.slots ≡ 8
+    pub eight : length s.slots ≡ slot_count
     -- the pages that were given out last
     pub given : List Rows
     pub here : PhaseAgrees (desk_of s given) (phase_at s.slots part)
@@ -127,7 +128,7 @@ module _ (part : ℕ) (texts : Texts) (asked : Questions) (j : ℕ) (n : Net) wh
   DeltasGets (Client c) m = m.slot ≡ part → DeltasKnown part n c m
   DeltasGets (Manager c) m = Unit {0}
   DeltasGets (Server c) m = Unit {0}
-  DeltasGets Cleaner m = m.slot ≡ part → DeltasKnown part n 9 m
+  DeltasGets Cleaner m = m.slot ≡ part → DeltasKnown part n cleaners_number m
   DeltasGets Registry m = Unit {0}
 
   abbrev pub ReportGets : NodeId → Report → Type 0
@@ -227,14 +228,14 @@ pub record ManagerGoes (part : ℕ) (texts : Texts) (asked : Questions) (j : ℕ
 -- Each event of manager j, where the world owes it what it needs.
 abbrev pub ManagerEventGoes : Type 0
 ManagerEventGoes =
-    (part : ℕ) (texts : Texts) (asked : Questions) (j : ℕ) (n : Net) (m : AManager) (what : Do) → part < 8 → (lasting_of m.phase).number ≡ j → ManagerAgrees
+    (part : ℕ) (texts : Texts) (asked : Questions) (j : ℕ) (n : Net) (m : AManager) (what : Do) → part < slot_count → (lasting_of m.phase).number ≡ j → ManagerAgrees
     part texts n m.phase
     → ManagerOwed part texts asked j n m.phase what (happens m what).state → ManagerGoes part texts asked j n m.phase what (happens m what)
 
 -- At the start of a run a manager is seen in the opening of the small world.
 abbrev pub FirstManagerAgrees : Type 0
 FirstManagerAgrees =
-    (part : ℕ) (texts : Texts) (any : ℕ → ℕ → Segment) (number : ℕ) (setup : Setup) (works : List Work) → part < 8 → ManagerAgrees part texts (opening any)
+    (part : ℕ) (texts : Texts) (any : ℕ → ℕ → Segment) (number : ℕ) (setup : Setup) (works : List Work) → part < slot_count → ManagerAgrees part texts (opening any)
     (first_manager number setup works).phase
 
 -- The small world has gone on, and of the slots those that a manager holds have stayed, as has what the registry keeps of epochs that it takes over.

@@ -17,7 +17,7 @@ use Rattle.node_base.specs.declared.effects.Effect.{Effect}
 use Rattle.node_base.specs.declared.effects.Effect.TheVariants.{Send, Answer, Lose, Does}
 use Rattle.wire_msg.specs.declared.body.Body.{Body}
 use Rattle.wire_msg.specs.declared.body.Body.TheVariants as body
-use Rattle.xfs_base.specs.Limits.{u32_end}
+use Rattle.xfs_base.specs.Limits.{u32_end, block_logs}
 use Rattle.node_slots.specs.node_index_tie.Sight.{RowsFit, DeltasKnown}
 
 module _ (part : ℕ) (n : Net) (l : ℕ) where
@@ -48,7 +48,7 @@ pub record OwnerTells (part : ℕ) (n : Net) (l : ℕ) (feed : FeedState) (manag
   pub each : All (OwnerDoes part n l) (pushes_all managers feed)
 
 abbrev pub OwnersTell : Type 0
-OwnersTell = (part : ℕ) (n : Net) (l : ℕ) (feed : FeedState) (managers : Managers) → 0 < l → l ≤ 9 → FeedSeen part n l feed → OwnerTells part n l feed
+OwnersTell = (part : ℕ) (n : Net) (l : ℕ) (feed : FeedState) (managers : Managers) → 0 < l → l ≤ block_logs → FeedSeen part n l feed → OwnerTells part n l feed
     managers
 
 -- An acknowledgement, and a new epoch of a slot, leave a feed seen.

@@ -17,7 +17,7 @@ use Rattle.wire_msg.specs.declared.body.Body.TheVariants as body
 use Rattle.wire_msg.specs.declared.packet.Do.{Do}
 use Rattle.wire_msg.specs.declared.packet.Do.TheVariants.{Begin, Deliver, Tick}
 use Rattle.wire_msg.specs.declared.registry.CkptDone.{CkptDone}
-use Rattle.xfs_base.specs.Limits.{u32_end}
+use Rattle.xfs_base.specs.Limits.{u32_end, slot_count, block_logs}
 use Rattle.xfs_base.specs.declared.news.SlotNews.{SlotNews}
 use Rattle.xfs_base.specs.declared.segment.SegRef.{SegRef}
 use Rattle.xfs_base.specs.declared.setup.Setup.{Setup}
@@ -25,7 +25,7 @@ use Rattle.node_slots.specs.node_index_tie.Sight.{Texts, held_in}
 
 -- each log has a first segment that isn't covered, whose number is within its type
 pub record IsHorizon (horizon : List ℕ) : Type 0 where
-  pub from_one : (l : ℕ) → 0 < l → l ≤ 9 → 0 < of_log horizon l
+  pub from_one : (l : ℕ) → 0 < l → l ≤ block_logs → 0 < of_log horizon l
   pub short : (l : ℕ) → of_log horizon l ≤ u32_end
 
 module _ (part : ℕ) (n : Net) where
@@ -34,7 +34,7 @@ module _ (part : ℕ) (n : Net) where
     pub epoch : epoch_in r.board part ≡ n.epoch
     pub horizon : horizon_at r.board.checkpoints part ≡ n.horizon n.epoch
     pub parts : parts_at r.board.checkpoints part ≡ n.parts n.epoch
-    pub eight : length r.board.checkpoints ≡ 8
+    pub eight : length r.board.checkpoints ≡ slot_count
     pub later_horizon : (e : ℕ) → n.epoch ≤ e → n.horizon e ≡ n.horizon n.epoch
     pub later_parts : (e : ℕ) → n.epoch ≤ e → n.parts e ≡ n.parts n.epoch
     pub horizon_fits : IsHorizon (n.horizon n.epoch)
@@ -92,10 +92,10 @@ pub record RegistryGoes (part : ℕ) (texts : Texts) (n : Net) (r : RegistryNode
 -- Each event of the registry, where the world owes it what it needs.
 abbrev pub RegistryEventGoes : Type 0
 RegistryEventGoes =
-    (part : ℕ) (texts : Texts) (n : Net) (r : RegistryNode) (what : Do) → part < 8 → RegistrySound r → RegistryAgrees part n r → RegistryOwed part n what
+    (part : ℕ) (texts : Texts) (n : Net) (r : RegistryNode) (what : Do) → part < slot_count → RegistrySound r → RegistryAgrees part n r → RegistryOwed part n what
     → RegistryGoes part texts n r what
 
 -- At the start of a run the registry is seen in the opening of the small world.
 abbrev pub RegistryStarts : Type 0
-RegistryStarts = (part : ℕ) (any : ℕ → ℕ → Segment) (setup : Setup) (items : List Work) → part < 8 → RegistryAgrees part (opening any)
+RegistryStarts = (part : ℕ) (any : ℕ → ℕ → Segment) (setup : Setup) (items : List Work) → part < slot_count → RegistryAgrees part (opening any)
     (registry_start setup items)

@@ -20,7 +20,7 @@ use Rattle.wire_msg.specs.declared.cleaning.Live.{Live}
 use Rattle.wire_msg.specs.declared.deltas.Deltas.{Deltas}
 use Rattle.wire_msg.specs.declared.registry.CkptDone.{CkptDone}
 use Rattle.xfs_base.specs.Blocks.{slot_of}
-use Rattle.xfs_base.specs.Limits.{u32_end}
+use Rattle.xfs_base.specs.Limits.{u32_end, block_logs}
 use Rattle.xfs_base.specs.declared.block.BlockId.{BlockId}
 use Rattle.xfs_base.specs.declared.entry.Entry.{Entry}
 use Rattle.xfs_base.specs.declared.news.SlotNews.{SlotNews}
@@ -29,6 +29,7 @@ use Rattle.xfs_base.specs.declared.node.NodeId.TheVariants.{Client, Manager, Ser
 use Rattle.xfs_base.specs.declared.segment.End.{End}
 use Rattle.xfs_base.specs.declared.segment.SegName.{SegName}
 use Rattle.xfs_base.specs.declared.segment.SegRef.{SegRef}
+use Rattle.xfs_base.specs.Logs.{cleaners_number}
 
 -- the one text of each name
 abbrev pub Texts : Type 0
@@ -75,7 +76,7 @@ module _ (part : ℕ) (n : Net) where
   ReportKnown epoch (Client c) end = EndKnown epoch c end
   ReportKnown epoch (Manager c) end = Unit {0}
   ReportKnown epoch (Server c) end = Unit {0}
-  ReportKnown epoch Cleaner end = EndKnown epoch 9 end × In (CleanerReported epoch end.seq) n.sent
+  ReportKnown epoch Cleaner end = EndKnown epoch cleaners_number end × In (CleanerReported epoch end.seq) n.sent
   ReportKnown epoch Registry end = Unit {0}
 
   -- News of an epoch at which nobody was active yet are what the registry kept last.
@@ -85,7 +86,7 @@ module _ (part : ℕ) (n : Net) where
     pub begun : news.epoch ≤ n.epoch
     pub horizon : news.horizon ≡ n.horizon news.epoch
     pub parts : news.parts ≡ n.parts news.epoch
-    pub from_one : (l : ℕ) → 0 < l → l ≤ 9 → 0 < of_log news.horizon l
+    pub from_one : (l : ℕ) → 0 < l → l ≤ block_logs → 0 < of_log news.horizon l
     pub short : (l : ℕ) → of_log news.horizon l ≤ u32_end
 
   -- where the block is of the slot, this was sent there

@@ -25,13 +25,14 @@ use Rattle.wire_msg.specs.declared.packet.Packet.{Packet}
 use Rattle.wire_msg.specs.declared.registry.Welcome.{Welcome}
 use Rattle.xfs_base.specs.declared.news.SlotNews.{SlotNews}
 use Rattle.xfs_base.specs.declared.setup.Setup.{Setup}
+use Rattle.xfs_base.specs.Limits.{slot_count}
 use Rattle.node_slots.specs.node_tie.CleanerLogs.{its_log, CleanerCopies, CleanerRuns, CleanerTold}
 use Rattle.node_slots.specs.node_tie.ClientEvents.{AwaitsFirst}
 use Rattle.node_slots.specs.node_tie.Sight.{CleanerSends}
 
 -- eight epochs, and that of the slot within these bounds
 pub record Bounded (part low high : ℕ) (p : Promised) : Type 0 where
-  pub eight : length p.epochs ≡ 8
+  pub eight : length p.epochs ≡ slot_count
   pub rises : low ≤ epoch_of p.epochs part
   pub within : epoch_of p.epochs part ≤ high
 
@@ -39,7 +40,7 @@ pub record Bounded (part low high : ℕ) (p : Promised) : Type 0 where
 module _ (part promised last_epoch : ℕ) where
   -- one that serves has promised that epoch
   pub record ServesSo (e : Emptying) : Type 0 where
-    pub eight : length e.promised.epochs ≡ 8
+    pub eight : length e.promised.epochs ≡ slot_count
     pub promises : epoch_of e.promised.epochs part ≡ promised
 
   -- an opening promises no less, once its first Welcome came
@@ -119,7 +120,7 @@ pub record IsTaken (cleaner : Cleaner) (what : Do) : Type 0 where
 -- the number of its log; and it is said whether an opening that ends has what was in flight.
 abbrev pub CleanerTakes : Type 0
 CleanerTakes =
-    (logs : Bool) (members part promised last_epoch : ℕ) (n : Net) → part < 8 → promised ≤ last_epoch → Premise logs (members ≤ its_log)
+    (logs : Bool) (members part promised last_epoch : ℕ) (n : Net) → part < slot_count → promised ≤ last_epoch → Premise logs (members ≤ its_log)
     → (adopted : Bool) (cleaner : Cleaner)
     (what : Do)
     → CleanerStands part promised last_epoch cleaner.phase → CleanerOwed part promised last_epoch cleaner.phase what
@@ -130,5 +131,5 @@ CleanerTakes =
 -- At the start it has promised epoch 1 of each slot, its log is empty, and it has no job.
 abbrev pub CleanerStarts : Type 0
 CleanerStarts =
-    (part last_epoch : ℕ) → part < 8 → (setup : Setup) (works : List Work)
+    (part last_epoch : ℕ) → part < slot_count → (setup : Setup) (works : List Work)
     → CleanerStands part 1 last_epoch (cleaner_start setup works).phase × CleanerCopies no_books (cleaner_start setup works).phase

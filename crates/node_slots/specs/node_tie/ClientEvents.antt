@@ -5,7 +5,7 @@ use Rattle.client_node.specs.declared.phase.Phase.TheVariants.{Down, Opening, Se
 use Rattle.client_node.specs.declared.phase.Phase.{Phase}
 use Rattle.client_node.specs.Phases.{client_room, lasting_of, takes}
 use Rattle.client_node.specs.Starting.{first_client}
-use Rattle.client_call.specs.declared.lasting.Lasting.{Lasting}
+use Rattle.client_serving.specs.declared.lasting.Lasting.{Lasting}
 use Rattle.client_serving.specs.declared.serving.Serving.{Serving}
 use Rattle.log_owner.specs.declared.opening.Opening as openings
 use Rattle.log_owner.specs.Opening as opens
@@ -42,6 +42,7 @@ use Rattle.xfs_base.specs.declared.segment.SegName.{SegName}
 use Rattle.xfs_base.specs.declared.node.NodeId.TheVariants.{Client}
 use Rattle.xfs_base.specs.declared.setup.Setup.{Setup}
 use Rattle.xfs_base.specs.Modes.{is_held}
+use Rattle.xfs_base.specs.Limits.{slot_count}
 use Rattle.node_slots.specs.node_tie.AskingEvents.{PhaseAsks}
 use Rattle.node_slots.specs.node_tie.ClientLogs.{NothingBeyond, LogAgrees, FiledStay, Tells, EndsSo}
 use Rattle.node_slots.specs.node_tie.Sight.{SameLog, ClientSends, GrantSeen, ForwardSeen, RecallSeen, SupplySeen, PollSeen}
@@ -60,7 +61,7 @@ module _ (logs : Bool) (part c : ℕ) (n : Net) where
     pub tokens : n.tokens c ≡ s.tokens
     pub number : s.lasting.number ≡ c
     pub inc : s.tokens.inc ≡ s.lasting.inc
-    pub epochs : length s.tokens.epochs ≡ 8
+    pub epochs : length s.tokens.epochs ≡ slot_count
     -- each recall of the slot that is put off was sent
     pub giving : (block : BlockId) (g : Giving) → is_in_slot part block ≡ true → (held_of s.tokens.blocks block).giving ≡ Some g
         → In (RecallSent c block g.stamp g.keep) n.sent
@@ -78,7 +79,7 @@ module _ (logs : Bool) (part c : ℕ) (n : Net) where
 
   -- what an opening promises is no less than what was promised before
   pub record Raises (o : openings.Opening) : Type 0 where
-    pub epochs : length o.known.promised.epochs ≡ 8
+    pub epochs : length o.known.promised.epochs ≡ slot_count
     pub rises : epoch_of (n.tokens c).epochs part ≤ epoch_of o.known.promised.epochs part
 
   -- one that opens its log is in a later incarnation
@@ -241,7 +242,7 @@ ClientOwed logs part last_epoch c n p Tick = Premise logs (EndsInTime part last_
 -- Each event of a client is a run of the small world, if the world owes it what it brings where it is taken.
 abbrev pub ClientTakes : Type 0
 ClientTakes =
-    (logs : Bool) (members part last_epoch c : ℕ) → part < 8 → 0 < c → c < members → (n : Net) (client : clients.Client) (what : Do)
+    (logs : Bool) (members part last_epoch c : ℕ) → part < slot_count → 0 < c → c < members → (n : Net) (client : clients.Client) (what : Do)
     → ClientAgrees logs part c n client.phase → ClientStands part last_epoch c n client.phase
     → (IsTaken client what → ClientOwed logs part last_epoch c n client.phase what)
     → ClientGoes logs members part last_epoch c n client.phase (takes client what).state (takes client what).outs
@@ -254,5 +255,5 @@ pub record ClientBegins (logs : Bool) (part last_epoch c : ℕ) (client : client
 
 abbrev pub ClientStarts : Type 0
 ClientStarts =
-    (logs : Bool) (part last_epoch c : ℕ) → part < 8 → 1 ≤ last_epoch → (setup : Setup) (works : List Work)
+    (logs : Bool) (part last_epoch c : ℕ) → part < slot_count → 1 ≤ last_epoch → (setup : Setup) (works : List Work)
     → ClientBegins logs part last_epoch c (first_client c setup works)

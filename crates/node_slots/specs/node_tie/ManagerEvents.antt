@@ -57,6 +57,8 @@ use Rattle.xfs_base.specs.declared.node.NodeId.TheVariants.{Client, Manager, Ser
 use Rattle.xfs_base.specs.declared.segment.End.{End}
 use Rattle.xfs_base.specs.declared.segment.LogId.{LogId}
 use Rattle.xfs_base.specs.declared.token.Mode.{Mode}
+use Rattle.xfs_base.specs.Limits.{slot_count, block_logs}
+use Rattle.xfs_base.specs.Logs.{cleaner_log}
 use Rattle.node_slots.specs.node_tie.Sight.{WantSeen, GaveSeen, ReportSeen, ManagerDoes}
 
 -- ---- one slot
@@ -114,7 +116,7 @@ module _ (members part : ℕ) (n : Net) where
     pub slot : SlotState
     pub there : n.slots a.slot.epoch ≡ Some slot
     pub same : SameButPages slot a.slot
-    pub nine : length a.slot.applied ≡ 9
+    pub nine : length a.slot.applied ≡ block_logs
 
   abbrev pub PhaseAgrees : SlotPhase → Type 0
   PhaseAgrees (phase.Taking t) = TakingAgrees t
@@ -138,7 +140,7 @@ OtherAgrees k (phase.Broken epoch seg) = Unit {0}
 
 module _ (members part : ℕ) (n : Net) where
   pub record TableAgrees (table : Table) : Type 0 where
-    pub eight : length table ≡ 8
+    pub eight : length table ≡ slot_count
     pub here : PhaseAgrees members part n (phase_at table part)
     pub there : (k : ℕ) → (k ≡ part → ⊥) → OtherAgrees k (phase_at table k)
 
@@ -215,7 +217,7 @@ module _ (logs : Bool) (members part : ℕ) (n : Net) where
   DeltasGets p (Client c) m = m.slot ≡ part → Premise logs (DeltasJoin members part n p (record { 0 = c }) m)
   DeltasGets p (Manager c) m = Unit {0}
   DeltasGets p (Server c) m = Unit {0}
-  DeltasGets p Cleaner m = m.slot ≡ part → Premise logs (DeltasJoin members part n p (record { 0 = 9 }) m)
+  DeltasGets p Cleaner m = m.slot ≡ part → Premise logs (DeltasJoin members part n p cleaner_log m)
   DeltasGets p Registry m = Unit {0}
 
   -- what comes to a slot that is taken over
@@ -365,7 +367,7 @@ pub record ManagerGoes (logs : Bool) (members part last_epoch j : ℕ) (n : Net)
 -- Each event of a manager, if the world owes it what its packet says.
 abbrev pub ManagerEventGoes : Type 0
 ManagerEventGoes =
-    (logs : Bool) (members part last_epoch j : ℕ) (n : Net) (m : AManager) (what : Do) → part < 8 → members ≡ m.peers.clients + 1
+    (logs : Bool) (members part last_epoch j : ℕ) (n : Net) (m : AManager) (what : Do) → part < slot_count → members ≡ m.peers.clients + 1
     → ManagerAgrees members part n j m.phase
     → epoch_in part m.phase ≤ last_epoch → EventGets logs part last_epoch j n members m.phase what
     → ManagerGoes logs members part last_epoch j n m.phase what (happens m what)
@@ -377,4 +379,4 @@ pub record FirstAgrees (members part number : ℕ) (setup : Setup) (works : List
   pub epoch : epoch_in part (first_manager number setup works).phase ≡ 1
 
 abbrev pub FirstManagerAgrees : Type 0
-FirstManagerAgrees = (members part number : ℕ) (setup : Setup) (works : List Work) → part < 8 → FirstAgrees members part number setup works
+FirstManagerAgrees = (members part number : ℕ) (setup : Setup) (works : List Work) → part < slot_count → FirstAgrees members part number setup works

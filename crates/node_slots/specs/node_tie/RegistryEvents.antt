@@ -22,6 +22,7 @@ use Rattle.xfs_base.specs.declared.news.SlotNews.{SlotNews}
 use Rattle.xfs_base.specs.declared.node.NodeId.{NodeId}
 use Rattle.xfs_base.specs.declared.node.NodeId.TheVariants.{Manager, Registry}
 use Rattle.xfs_base.specs.declared.setup.Setup.{Setup}
+use Rattle.xfs_base.specs.Limits.{slot_count}
 
 -- ---- what the registry keeps
 
@@ -37,8 +38,8 @@ inc_in b manager = inc_of b.incs manager
 
 -- there are eight slots, of epochs up to the version of the maps
 pub record BoardSound (b : BoardState) : Type 0 where
-  pub slots : length b.entries ≡ 8
-  pub epochs : (slot : ℕ) → slot < 8 → (entry_at b.entries slot).epoch ≤ b.version
+  pub slots : length b.entries ≡ slot_count
+  pub epochs : (slot : ℕ) → slot < slot_count → (entry_at b.entries slot).epoch ≤ b.version
 
 abbrev pub RegistrySound : RegistryNode → Type 0
 RegistrySound r = BoardSound r.board
@@ -128,7 +129,7 @@ pub record RegistryBegins (part managers : ℕ) (r : RegistryNode) : Type 0 wher
 
 -- Each event of the registry, from its start on.
 abbrev pub RegistryEventGoes : Type 0
-RegistryEventGoes = (part : ℕ) → part < 8 → (r : RegistryNode) → RegistrySound r → (what : Do) → RegistryGoes part r what
+RegistryEventGoes = (part : ℕ) → part < slot_count → (r : RegistryNode) → RegistrySound r → (what : Do) → RegistryGoes part r what
 
 abbrev pub RegistryStarts : Type 0
-RegistryStarts = (part : ℕ) → part < 8 → (setup : Setup) (items : List Work) → RegistryBegins part setup.managers (registry_start setup items)
+RegistryStarts = (part : ℕ) → part < slot_count → (setup : Setup) (items : List Work) → RegistryBegins part setup.managers (registry_start setup items)

@@ -20,8 +20,9 @@ use Rattle.segment_format.specs.Rows.{rows_of}
 use Rattle.version_model.specs.declared.act.Act.{Act}
 use Rattle.version_model.specs.declared.act.Act.TheVariants.{Filed as ActsFiled}
 use Rattle.wire_msg.specs.declared.packet.Do.{Do}
-use Rattle.xfs_base.specs.Limits.{u32_end}
+use Rattle.xfs_base.specs.Limits.{u32_end, slot_count}
 use Rattle.xfs_base.specs.declared.segment.SegName.{SegName}
+use Rattle.xfs_base.specs.Logs.{cleaners_number}
 use Rattle.node_slots.specs.owner_index_tie.CleanerEvents.{CleanerAgrees, EffectOwed, EventGets}
 use Rattle.node_slots.specs.owner_index_tie.ClientEvents.{ClientAgrees}
 use Rattle.node_slots.specs.owner_index_tie.ClientEvents as client_owed
@@ -54,14 +55,14 @@ pub record MayLand (l : ℕ) (s : LogState) : Type 0 where
 -- So it is of a client that is seen in the small world of a slot's index, and gets what it is owed of Polls.
 abbrev pub ClientsFileFlights : Type 0
 ClientsFileFlights =
-    (part : ℕ) (texts : Texts) (n : Net) (c : ℕ) (node : Client) (what : Do) (s : Serving) → 0 < c → c < 9 → node.phase ≡ client.Serving s
+    (part : ℕ) (texts : Texts) (n : Net) (c : ℕ) (node : Client) (what : Do) (s : Serving) → 0 < c → c < cleaners_number → node.phase ≡ client.Serving s
     → ClientAgrees part texts n c node.phase → client_owed.EventGets part texts n c node.phase what → MayLand c s.log
     → AllSo (IsFlight s.log) (clients.takes node what).outs
 
 -- So it is of the cleaner.
 abbrev pub CleanerFilesFlights : Type 0
 CleanerFilesFlights =
-    (part : ℕ) (texts : Texts) (n : Net) (node : Cleaner) (what : Do) (e : Emptying) → part < 8 → node.phase ≡ cleaning.Serving e
+    (part : ℕ) (texts : Texts) (n : Net) (node : Cleaner) (what : Do) (e : Emptying) → part < slot_count → node.phase ≡ cleaning.Serving e
     → CleanerAgrees part n texts node.phase → EventGets part n node.phase what
-    → AllByRecursion (EffectOwed part n) (cleaners.takes node.peers node.phase what).outs → MayLand 9 e.log
+    → AllByRecursion (EffectOwed part n) (cleaners.takes node.peers node.phase what).outs → MayLand cleaners_number e.log
     → AllSo (IsFlight e.log) (cleaners.takes node.peers node.phase what).outs

@@ -47,6 +47,8 @@ use Rattle.xfs_base.specs.declared.block.BlockId.{BlockId}
 use Rattle.xfs_base.specs.declared.node.NodeId.{NodeId}
 use Rattle.xfs_base.specs.declared.segment.SegName.{SegName}
 use Rattle.xfs_base.specs.declared.setup.Setup.{Setup}
+use Rattle.xfs_base.specs.Limits.{slot_count}
+use Rattle.xfs_base.specs.Logs.{cleaners_number}
 use Rattle.node_slots.specs.owner_index_tie.CleanerMoves.{CleanerMoves, BodyAnswers}
 use Rattle.node_slots.specs.owner_index_tie.Filing.{filed_after, FilesOwed, IsSameLog}
 use Rattle.node_slots.specs.owner_index_tie.Owners.{LogFits, OwnerSeen, OpeningSeen, StageWrites, EndOwed, OwnerSays}
@@ -57,7 +59,7 @@ module _ (part : ℕ) (n : Net) where
   -- a job is the small world's, and was told the epoch that is promised
   pub record JobSeen (epoch : ℕ) (cleaning : CleaningState) : Type 0 where
     pub same_job : n.job ≡ cleaning
-    pub eight : length cleaning.promised ≡ 8
+    pub eight : length cleaning.promised ≡ slot_count
     pub told : promised_at cleaning.promised part ≡ epoch
 
   -- where there is none, the small world's is one that has just begun
@@ -67,19 +69,19 @@ module _ (part : ℕ) (n : Net) where
 
   -- The cleaner that serves is the owner of log 9, has promised what the small world's has, and its job is seen.
   pub record EmptyingSeen (state : LogState) (its : FeedState) (p : Promised) (o : Option Job) : Type 0 where
-    pub owner : OwnerSeen part n 9 9 state its
-    pub eight : length p.epochs ≡ 8
+    pub owner : OwnerSeen part n cleaners_number cleaners_number state its
+    pub eight : length p.epochs ≡ slot_count
     pub promised : n.promised ≡ epoch_of p part
     pub job : JobAgrees (epoch_of p part) o
 
   -- one that is down, or opens its log
   pub record CleanerRests : Type 0 where
-    pub fits : LogFits part n 9
+    pub fits : LogFits part n cleaners_number
     pub job : promised_at n.job.promised part ≡ 0
 
   abbrev pub PhaseAgrees : Texts → Phase → Type 0
   PhaseAgrees texts (Down l) = CleanerRests
-  PhaseAgrees texts (Opening l o) = CleanerRests × (OpeningSeen 9 o × StageWrites texts o.stage)
+  PhaseAgrees texts (Opening l o) = CleanerRests × (OpeningSeen cleaners_number o × StageWrites texts o.stage)
   PhaseAgrees texts (Serving e) = EmptyingSeen e.log e.feed e.promised e.job × FlightIsText texts e.log
 
   -- and what it has in its log, and is to move, was answered Live there
@@ -114,8 +116,8 @@ module _ (part : ℕ) (n : Net) where
 
   -- from the horizon of an epoch on that is polled, and that is none before the promised one, the log is linked
   abbrev pub PollGets : Emptying → Poll → Type 0
-  PollGets e m = m.slot ≡ part → epoch_of e.promised part ≤ m.epoch → 0 < of_log (n.horizon m.epoch) 9
-      → Linked n.filed 9 (of_log (n.horizon m.epoch) 9) (n.filed.head 9)
+  PollGets e m = m.slot ≡ part → epoch_of e.promised part ≤ m.epoch → 0 < of_log (n.horizon m.epoch) cleaners_number
+      → Linked n.filed cleaners_number (of_log (n.horizon m.epoch) cleaners_number) (n.filed.head cleaners_number)
 
   -- a Dead that is awaited was told of the segment in hand
   pub record DeadGiven (m : Dead) : Type 0 where
@@ -153,7 +155,7 @@ module _ (part : ℕ) (n : Net) where
 module _ (part : ℕ) (texts : Texts) (n : Net) where
   -- where an opening ends in this event: what it read back is what was filed and adopted, and its maps are no older than what was promised
   abbrev pub ReopensOn : Phase → Phase → Type 0
-  ReopensOn (Opening l o) (Serving e) = EndOwed texts 9 n.filed o.stage × ((length e.promised.epochs ≡ 8) × (n.promised ≤ epoch_of e.promised part))
+  ReopensOn (Opening l o) (Serving e) = EndOwed texts cleaners_number n.filed o.stage × ((length e.promised.epochs ≡ slot_count) × (n.promised ≤ epoch_of e.promised part))
   ReopensOn p q = Unit {0}
 
   abbrev pub WritesTexts : Phase → Type 0
@@ -170,7 +172,7 @@ module _ (part : ℕ) (texts : Texts) (n : Net) where
   -- The world owes the cleaner that what a reopening adopts was answered Live, and moved once; that it may ask what it asks; that answers are to its
   -- questions, and what is read is what was filed; and the rest as it owes a client.
   pub record CleanerOwed (p : Phase) (what : Do) (w : Went_to) : Type 0 where
-    pub files : FilesOwed (NewFor p) texts 9 n.filed w.outs
+    pub files : FilesOwed (NewFor p) texts cleaners_number n.filed w.outs
     pub asks : AllByRecursion (EffectOwed part n) w.outs
     pub reopens : ReopensOn p w.state
     pub gets : EventGets part n p what
@@ -181,10 +183,10 @@ module _ (part : ℕ) (texts : Texts) (n : Net) where
 module _ (part : ℕ) (questions : Questions) (n : Net) (since : ℕ) where
   -- What the cleaner tells of its log is so; a Report of it, and a Check, were sent there; and what it has deleted was to be deleted there.
   abbrev pub CleanerSays : Body → Type 0
-  CleanerSays (body.Report m) = OwnerSays part n 9 since (body.Report m) × (m.slot ≡ part → In (CleanerReported m.epoch m.end.seq) n.sent)
+  CleanerSays (body.Report m) = OwnerSays part n cleaners_number since (body.Report m) × (m.slot ≡ part → In (CleanerReported m.epoch m.end.seq) n.sent)
   CleanerSays (body.Check m) = slot_of m.block.ino.0 ≡ part → CheckKnown part questions n m
   CleanerSays (body.Delete m) = In m.name n.deleted
-  CleanerSays m = OwnerSays part n 9 since m
+  CleanerSays m = OwnerSays part n cleaners_number since m
 
   abbrev pub CleanerActs : Act → Type 0
   CleanerActs (Dropped name) = In name n.deleted
@@ -207,9 +209,9 @@ pub record CleanerGoes (part : ℕ) (texts : Texts) (asked : Questions) (n : Net
   pub next : Net
   pub runs : Runs part (held_in part texts) n next
   pub agrees : CleanerAgrees part next texts w.state
-  pub filed : next.filed ≡ filed_after texts 9 n.filed w.outs
+  pub filed : next.filed ≡ filed_after texts cleaners_number n.filed w.outs
   pub more : IsMore n.filed next.filed
-  pub others : (l : ℕ) → (l ≡ 9 → ⊥) → IsSameLog l n.filed next.filed
+  pub others : (l : ℕ) → (l ≡ cleaners_number → ⊥) → IsSameLog l n.filed next.filed
   pub named : AreTexts texts n.filed → AreTexts texts next.filed
   pub slots : next.slots ≡ n.slots
   pub epoch : next.epoch ≡ n.epoch
@@ -221,24 +223,24 @@ pub record CleanerGoes (part : ℕ) (texts : Texts) (asked : Questions) (n : Net
   pub deleted : (name : SegName) → In name n.deleted → In name next.deleted
   pub questions : Questions
   pub kept : (x : ℕ × ℕ × SegName) → In x asked → In x questions
-  pub does : All (CleanerDoes part questions next (n.filed.head 9)) w.outs
+  pub does : All (CleanerDoes part questions next (n.filed.head cleaners_number)) w.outs
 
 -- Each event of the cleaner, where the world owes it what it needs.
 abbrev pub CleanerEventGoes : Type 0
 CleanerEventGoes =
-    (part : ℕ) (texts : Texts) (asked : Questions) (n : Net) (cleaner : ACleaner) (what : Do) → part < 8 → CleanerAgrees part n texts cleaner.phase
+    (part : ℕ) (texts : Texts) (asked : Questions) (n : Net) (cleaner : ACleaner) (what : Do) → part < slot_count → CleanerAgrees part n texts cleaner.phase
     → CleanerOwed part texts n cleaner.phase what (takes cleaner.peers cleaner.phase what)
     → CleanerGoes part texts asked n (takes cleaner.peers cleaner.phase what)
 
 -- At the start of a run the cleaner is seen in the opening of the small world.
 abbrev pub CleanerStartAgrees : Type 0
 CleanerStartAgrees =
-    (part : ℕ) (texts : Texts) (any : ℕ → ℕ → Segment) (setup : Setup) (works : List Work) → part < 8
+    (part : ℕ) (texts : Texts) (any : ℕ → ℕ → Segment) (setup : Setup) (works : List Work) → part < slot_count
     → CleanerAgrees part (opening any) texts (cleaner_start setup works).phase
 
 -- What others do leaves the cleaner seen, where what is filed of its log and what it has there stay as they are.
 pub record LeavesCleaner (n m : Net) : Type 0 where
-  pub log : IsSameLog 9 n.filed m.filed
+  pub log : IsSameLog cleaners_number n.filed m.filed
   pub promised : m.promised ≡ n.promised
   pub job : m.job ≡ n.job
   pub sent : (x : Packet) → In x n.sent → In x m.sent

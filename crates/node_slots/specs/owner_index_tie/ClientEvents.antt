@@ -24,6 +24,7 @@ use Rattle.wire_msg.specs.declared.packet.Packet.{Packet}
 use Rattle.xfs_base.specs.Blocks.{slot_of}
 use Rattle.xfs_base.specs.declared.block.BlockId.{BlockId}
 use Rattle.xfs_base.specs.declared.setup.Setup.{Setup}
+use Rattle.xfs_base.specs.Logs.{cleaners_number}
 use Rattle.node_slots.specs.owner_index_tie.Filing.{filing, filed_after, FilesOwed, IsSameLog}
 use Rattle.node_slots.specs.owner_index_tie.Owners.{LogFits, OwnerSeen, OpeningSeen, EndOwed, StageWrites, OwnerDoes}
 
@@ -103,7 +104,7 @@ pub record ClientGoes (part : ℕ) (texts : Texts) (n : Net) (c : ℕ) (w : Went
 -- Each event of client c, where the world owes it what it needs.
 abbrev pub ClientEventGoes : Type 0
 ClientEventGoes =
-    (part : ℕ) (texts : Texts) (n : Net) (c : ℕ) (client : AClient) (what : Do) → 0 < c → c < 9 → ClientAgrees part texts n c client.phase
+    (part : ℕ) (texts : Texts) (n : Net) (c : ℕ) (client : AClient) (what : Do) → 0 < c → c < cleaners_number → ClientAgrees part texts n c client.phase
     → ClientOwed part texts n c client.phase what (takes client what) → ClientGoes part texts n c (takes client what)
 
 -- At the start of a run a client is seen in the opening of the small world.

@@ -1,83 +1,123 @@
--- What each event makes of the cleaner: it holds what is told, and tells nothing else.
-use Rattle.std.proofs.Common.{ℕ, List, [], ◌∷◌, Option, Some, None}
-use Rattle.xfs_base.proofs.Booleans.{by_test}
-use Rattle.xfs_base.specs.declared.block.BlockId.{BlockId}
-use Rattle.xfs_base.specs.declared.entry.Entry.{Entry}
-use Rattle.xfs_base.specs.declared.node.NodeId.TheVariants.{Cleaner as TheCleaner}
-use Rattle.xfs_base.specs.Steps.{still}
-use Rattle.xfs_base.proofs.Alls.{all_append, all_weaker}
-use Rattle.log_owner.specs.declared.opened.Progress.{Progress}
-use Rattle.log_owner.specs.declared.opened.Progress.TheVariants as progress
-use Rattle.log_flight.specs.Flights.{FlightState}
-use Rattle.client_log.specs.LogState.{LogState}
-use Rattle.log_owner.specs.declared.opening.Opening as openings
-use Rattle.log_owner.specs.declared.opening.Stage.{Stage}
-use Rattle.log_owner.specs.declared.opening.Stage.TheVariants as stage
-use Rattle.segment_format.specs.declared.segment.Item.{Item}
-use Rattle.segment_format.specs.declared.segment.Item.TheVariants as item
-use Rattle.std.specs.Prelude.{IfSome}
-use Rattle.log_owner.specs.Opening as opening
-use Rattle.log_owner.specs.Opening.{Went}
-use Rattle.log_owner.specs.Sending.{pushes_all}
-use Rattle.node_base.specs.Beginning.{next_item, answers_unanswered}
-use Rattle.node_base.specs.declared.effects.Effect.{Effect}
-use Rattle.node_base.specs.declared.effects.Effect.TheVariants.{Answer as Answers}
-use Rattle.node_base.specs.declared.peers.Peers.{Peers}
-use Rattle.node_base.specs.Shape.{is_well_formed}
-use Rattle.stripe_cleaner.specs.declared.checks.Fate.{Fate}
-use Rattle.stripe_cleaner.specs.declared.checks.Fate.TheVariants.{Asked, Live, Moved, Dead}
-use Rattle.stripe_cleaner.specs.declared.phase.Phase as job_phases
-use Rattle.stripe_cleaner.specs.declared.phase.Phase.TheVariants.{Greeting, Listing, Counting, Reading, Checking, Deleting, Over}
-use Rattle.version_model.specs.declared.act.Act.{Act}
-use Rattle.version_model.specs.declared.answer.Answer.{Answer}
-use Rattle.version_model.specs.declared.answer.Answer.TheVariants as answer
-use Rattle.wire_msg.specs.declared.packet.Do.{Do}
-use Rattle.wire_msg.specs.declared.packet.Do.TheVariants.{Begin, Deliver, Tick}
-use Rattle.wire_msg.specs.declared.packet.Packet.{Packet}
-use Rattle.cleaner_serving.specs.declared.emptying.Emptying.{Emptying}
-use Rattle.cleaner_serving.specs.EmptyingEvents.{on_clean, on_packet, on_tick}
-use Rattle.cleaner_serving.specs.Jobs.{Done}
-use Rattle.cleaner_node.specs.CleanerEvents.{cleaner_step, Went_to, serves_on, crashes, after_opening, opened_on, restarts, answers, down_wishes, opening_wishes, serving_wishes, begun_life, wish_at, down_at, opening_at, serving_at, on_begin, hears, on_deliver, on_time, happens, phase_room, takes}
+-- What each event makes of the cleaner: it holds what is told, and tells nothing else; where the segment that was in flight is settled it is acted to be filed,
+-- so the feed keeps what it says.
+use Rattle.std.proofs.Common.{◌≡◌, ⊎_elim, ℕ, List, [], ◌∷◌, Option, Some, None, refl, sym, subst}
+use Rattle.std.specs.List.{AllByRecursion}
+use Rattle.std.specs.Prelude.{Contains, IfSome}
+use Rattle.cleaner_job.specs.declared.job.Job.{Job}
+use Rattle.cleaner_job.specs.declared.lasting.Lasting.{Lasting}
+use Rattle.cleaner_job.specs.Jobs.{job_moved}
+use Rattle.cleaner_job.specs.Starting.{cleaner_log}
+use Rattle.cleaner_node.specs.CleanerEvents.{Went_to, cleaner_step, lasting_of, restarts, serves_on, takes}
 use Rattle.cleaner_node.specs.declared.cleaner.Cleaner.{Cleaner}
 use Rattle.cleaner_node.specs.declared.cleaner.Phase.{Phase}
 use Rattle.cleaner_node.specs.declared.cleaner.Phase.TheVariants.{Down, Opening, Serving}
-use Rattle.cleaner_node.specs.declared.cleaner.Wish.{Wish}
-use Rattle.cleaner_node.specs.declared.cleaner.Wish.TheVariants.{Crash, Restart, Clean}
-use Rattle.cleaner_job.specs.declared.job.Job.{Job}
-use Rattle.cleaner_job.specs.declared.lasting.Lasting.{Lasting}
-use Rattle.node_tellings.proofs.filed_tie.Frames.{all_before, all_behind}
-use Rattle.node_tellings.specs.entry_tie.CleanerTells.{MovedTold, WaitTold, ItemTold, FlightMoves, LogMoves, StageHolds, FateTold, CheckTold, CheckingTold, JobTold, PhaseHolds, CleanerHolds, PhaseOwed, CleanerOwed, CleanerStartsTold, CleanerHoldsRise, CleanerTellsTold}
-use Rattle.node_tellings.specs.entry_tie.ClientTells.{DeltasTold}
-use Rattle.node_tellings.specs.entry_tie.Told.{Told, BodyTold, DoTold, told_by_rows, TellsTold}
-use Rattle.node_tellings.proofs.entry_tie.CleanerJobs as jobs
-use Rattle.node_tellings.proofs.entry_tie.CleanerServing.{cleaning_wished, packet_heard, time_passes}
-use Rattle.node_tellings.proofs.entry_tie.Feeds.{pushes_all_say}
+use Rattle.cleaner_serving.specs.declared.emptying.Emptying.{Emptying}
+use Rattle.cleaner_serving.specs.EmptyingEvents.{fed, settles, writes, writes_one}
+use Rattle.cleaner_serving.specs.Jobs.{Done, cleans, puts}
+use Rattle.client_log.specs.declared.input.In.{In as LogIn}
+use Rattle.client_log.specs.declared.output.Out.{Out as LogOut}
+use Rattle.client_log.specs.declared.output.Out.TheVariants as log_out
+use Rattle.client_log.specs.LogState.{LogState}
+use Rattle.client_log.specs.Transition as log
+use Rattle.client_log.specs.Transition.{end_from}
+use Rattle.delta_feed.specs.FeedState.{FeedState}
+use Rattle.log_flight.specs.declared.dirty.Change.{Change}
+use Rattle.log_flight.specs.Flights.{FlightState}
+use Rattle.log_owner.specs.declared.opened.Progress.{Progress}
+use Rattle.log_owner.specs.declared.opened.Progress.TheVariants as progress
+use Rattle.log_owner.specs.declared.opening.Opening as openings
+use Rattle.log_owner.specs.declared.opening.Stage.{Stage}
+use Rattle.log_owner.specs.declared.opening.Stage.TheVariants as stage
+use Rattle.log_owner.specs.Opening.{Went, stored}
+use Rattle.log_owner.specs.Sending.{name_of, pushes_all, store}
+use Rattle.node_base.specs.declared.effects.Effect.{Effect}
+use Rattle.node_base.specs.declared.effects.Effect.TheVariants.{Does}
+use Rattle.node_base.specs.declared.items.Items.{Items}
+use Rattle.segment_format.specs.declared.segment.Item.{Item}
+use Rattle.segment_format.specs.declared.segment.Item.TheVariants as item
+use Rattle.segment_format.specs.Rows.{rows_of}
+use Rattle.stripe_cleaner.specs.declared.checks.Fate.{Fate}
+use Rattle.stripe_cleaner.specs.declared.checks.Fate.TheVariants.{Asked, Dead, Live, Moved}
+use Rattle.stripe_cleaner.specs.declared.input.In.{In}
+use Rattle.stripe_cleaner.specs.declared.input.In.TheVariants as input
+use Rattle.stripe_cleaner.specs.declared.output.Out.{Out}
+use Rattle.stripe_cleaner.specs.declared.phase.Phase as job_phases
+use Rattle.stripe_cleaner.specs.declared.phase.Phase.TheVariants.{Checking, Counting, Deleting, Greeting, Listing, Over, Reading}
+use Rattle.version_model.specs.declared.act.Act.{Act}
+use Rattle.version_model.specs.declared.act.Act.TheVariants.{Filed}
+use Rattle.wire_msg.specs.declared.packet.Do.{Do}
+use Rattle.xfs_base.proofs.Alls.{all_flat_map, all_weaker}
+use Rattle.xfs_base.specs.declared.block.BlockId.{BlockId}
+use Rattle.xfs_base.specs.declared.entry.Entry.{Entry}
+use Rattle.xfs_base.specs.declared.node.NodeId.TheVariants.{Cleaner as TheCleaner}
+use Rattle.xfs_base.specs.declared.segment.End.{End}
+use Rattle.xfs_base.specs.Steps.{steps}
+use Rattle.node_moves.proofs.cleaner_moves.Keeping.{Changes, Follows, Gives, JobKeeps, Keeps, Put, cleaned, event_goes}
+use Rattle.node_moves.proofs.cleaner_moves.Keeping.Changes.{AckTaken, FeedRenewed, JobBegun, JobEnded}
+use Rattle.node_moves.proofs.cleaner_moves.Keeping.Gives.{EndReported}
+use Rattle.node_moves.proofs.cleaner_moves.Keeping.Put.{AllPut, BlockPut}
+use Rattle.node_moves.specs.cleaner_moves.Moves.{Given, OpenedBy, Written, came_to, noted}
+use Rattle.node_moves.specs.cleaner_moves.Moves.Given.{LiveCame, MovesSettled}
+use Rattle.node_moves.specs.cleaner_moves.Moves.OpenedBy.{PacketCame, TimeWent}
+use Rattle.node_moves.specs.cleaner_moves.Moves.Written.{AckCame, GroupsCame, LogTicks}
+use Rattle.node_tellings.specs.entry_tie.CleanerTells.{MovesOn, MovedTold, WaitTold, ItemTold, FlightMoves, LogMoves, StageHolds, FateTold, CheckTold, CheckingTold, JobTold, PhaseHolds, CleanerHolds, PhaseOwed, CleanerOwed, CleanerStartsTold, CleanerHoldsRise, CleanerTellsTold}
+use Rattle.node_tellings.specs.entry_tie.ClientTells.{DeltasTold, FeedTold, FlightOwed}
+use Rattle.node_tellings.specs.entry_tie.Told.{BodyTold, DoTold, RowsTold, TellsTold, Told, told_by_rows}
+use Rattle.node_tellings.proofs.entry_tie.Feeds.{acknowledged_told, pushes_all_say, renewed_told, settled_told}
 use Rattle.node_tellings.proofs.entry_tie.Frames as frames
 use Rattle.node_tellings.proofs.entry_tie.Frames.{contains_all}
-use Rattle.node_tellings.proofs.entry_tie.LogMoves.{empty_moves, acked_moves, maps_move, tick_moves}
+use Rattle.node_tellings.proofs.entry_tie.LogMoves.{acked_moves, empty_moves, maps_move, put_moves, seal_moves, tick_moves}
 use Rattle.node_tellings.proofs.entry_tie.Openings as events
 use Rattle.node_tellings.proofs.entry_tie.Rising.{told_more, rows_rise}
+use Rattle.node_tellings.proofs.entry_tie.CleanerChecks.{InputTold, cleaning_so}
+use Rattle.node_tellings.proofs.entry_tie.CleanerMoves.{OutMoved, cleaning_gives}
+use Rattle.node_tellings.proofs.entry_tie.LogTurns.{IsSend, Lands, Rests, Turns, log_turns, tick_rests}
 
 module _ (told : Told) (done : List Act) where
+  -- one with its job, its feed and its log
+  record Stands (its_job : Option Job) (its_feed : FeedState) (waits : List (BlockId × Change)) (flies : Option FlightState) : Type 0 where
+    job : JobTold told its_job
+    feed : FeedTold told its_feed
+    log : MovesOn told waits flies
+
+  abbrev At : Emptying → Type 0
+  At e = Stands e.job e.feed e.log.dirty e.log.flight
+
   abbrev PhaseSo : Phase → Type 0
   PhaseSo (Down l) = Unit {0}
   PhaseSo (Opening l o) = StageHolds told o.stage
-  PhaseSo (Serving e) = jobs.At told done e
+  PhaseSo (Serving e) = At e
 
-  abbrev Goes : Went_to → Type 0
-  Goes w = frames.Goes told done PhaseSo w
+  -- ---- how it goes on: there is no world
 
-  stays : (p : Phase) → PhaseSo p → Goes (still p)
-  stays p h = frames.goes_still told done PhaseSo p h
+  abbrev World : Type 0
+  World = Unit {0}
 
-  at_once : (p : Phase) (outs : List Effect) → PhaseSo p → frames.AllSay told done outs → Goes (record { state = p; outs = outs })
-  at_once p outs h says = frames.goes_plain told done PhaseSo p outs h says
+  abbrev Later : World → World → Type 0
+  Later u v = Unit {0}
 
-  answered : (p : Phase) (number : ℕ) (a : Answer) → PhaseSo p → Goes (answers p number a)
-  answered p number a h = at_once p (Answers number a ∷ []) h (tt, tt)
+  abbrev So : World → Phase → Type 0
+  So w p = PhaseSo p
 
-  serves : (d : Done) → jobs.Goes told done d → Goes (serves_on d)
-  serves d p acts = p acts
+  abbrev Says : World → Effect → Type 0
+  Says w effect = frames.Says told done effect
+
+  abbrev Goes : World → Went_to → Type 0
+  Goes w d = frames.Goes told done PhaseSo d
+
+  abbrev Serves : Done → Type 0
+  Serves d = frames.Goes told done PhaseSo (serves_on d)
+
+  abbrev Due : World → Out → Type 0
+  Due w o = OutMoved told o
+
+  follows : Follows World Later So Says Goes
+  follows = record {
+    now = λ w. tt;
+    on = λ u v w a b. tt;
+    says = λ w p outs h all. frames.goes_plain told done PhaseSo p outs h all;
+    goes_on = λ w d e h next. frames.goes_on told done PhaseSo d e h (next tt tt);
+  }
 
   -- ---- the opening of the log
 
@@ -98,102 +138,146 @@ module _ (told : Told) (done : List Act) where
   held (stage.Scanning s) h = tt
   held (stage.Settling s) h = h
 
-  -- ---- crash and restart
+  module _ (first : Cleaner) (what : Do) (fact : DoTold told what) (owed : PhaseOwed told done first.phase) where
+    -- ---- its job
 
-  crashed : (l : Lasting) (number : ℕ) → Goes (crashes l number)
-  unfolding crashes
-  crashed l number =
-      at_once (crashes l number).state (crashes l number).outs tt (frames.both_say told done l.items.unanswered answer.Cut number answer.Done)
+    changed : (e f : Emptying) → Changes first what (OutMoved told) e f → At e → At f
+    changed e f (FeedRenewed {e = x} slot) h = record { job = h.job; feed = renewed_told told x.feed slot h.feed; log = h.log }
+    changed e f (AckTaken {e = x} slot applied) h = record { job = h.job; feed = acknowledged_told told x.feed slot applied h.feed; log = h.log }
+    changed e f (JobBegun count) h = record { job = tt; feed = h.feed; log = h.log }
+    changed e f JobEnded h = record { job = tt; feed = h.feed; log = h.log }
+    changed e f _ h = record { job = h.job; feed = h.feed; log = h.log }
 
-  progressed : (l : Lasting) (p : Progress) → events.ProgressHolds told done (LogMoves told) opening_log p → Goes (after_opening l p)
-  unfolding after_opening
-  progressed l (progress.Opening o) h = stays (Opening l o) (held o.stage h)
-  progressed l (progress.Opened o) h =
-      at_once (after_opening l (progress.Opened o)).state (after_opening l (progress.Opened o)).outs (record { job = tt; feed = h.fed; log = h.keeps })
-      (all_append (frames.Says told done) (pushes_all o.promised.managers o.feed) (answers_unanswered l.items.unanswered answer.Done)
-      (pushes_all_say told done o.promised.managers o.feed h.fed) (frames.answers_say told done l.items.unanswered answer.Done))
-  progressed l (progress.Lost seg) h =
-      at_once (after_opening l (progress.Lost seg)).state (after_opening l (progress.Lost seg)).outs tt
-      (frames.answers_say told done l.items.unanswered (answer.Lost seg))
+    gives_so : (e : Emptying) (effect : Effect) → Gives first what (OutMoved told) e effect → frames.Says told done effect
+    gives_so e effect (EndReported packet manager m same came from low) = tt
+    gives_so e effect _ = tt
 
-  opened : (l : Lasting) (w : Went) → events.WentSo told done (LogMoves told) opening_log w → Goes (opened_on l w)
-  opened l w p acts =
-      let m : Lasting = record l { questions = w.questions } in
-      let e : Went_to = after_opening m w.progress in
-      let first = p (all_before (frames.Acted told done) w.effects e.outs acts) in
-      let second = progressed m w.progress first.0 (all_behind (frames.Acted told done) w.effects e.outs acts) in
-      (second.0, all_append (frames.Says told done) w.effects e.outs first.1 second.1)
+    -- that a block is live was told
+    given_so : (e : Emptying) (given : In) → Given first what e given → InputTold told given
+    given_so e given (LiveCame packet m same came asked) = subst (BodyTold told) came.says (subst (DoTold told) came.event fact)
+    given_so e given _ = tt
 
-  restarted : (servers : ℕ) (l : Lasting) (number : ℕ) → Goes (restarts servers l number)
-  unfolding restarts
-  restarted servers l number =
-      at_once (restarts servers l number).state (restarts servers l number).outs
-      tt (tt, tt)
+    one_stored : (o : LogOut) → frames.AllSay told done (stored o)
+    one_stored (log_out.Send f m) = (tt, tt)
+    one_stored (log_out.Settled end rows) = tt
 
-  -- ---- items
+    put_so : (s : LogState) (i : LogIn) → Put (OutMoved told) i → LogMoves told s → LogMoves told (log.transition s i).state
+    put_so s i (BlockPut block entry value moved) h = put_moves told s block (record { entry = entry; value = value }) moved.0 h
+    put_so s i AllPut h = seal_moves told s h
 
-  down_wish : (servers : ℕ) (l : Lasting) (number : ℕ) (wish : Wish) → Goes (down_wishes servers l number wish)
-  down_wish servers l number Restart = restarted servers l number
-  down_wish servers l number Crash = answered (Down l) number answer.Down tt
-  down_wish servers l number (Clean count) = answered (Down l) number answer.Down tt
+    puts_so : (e : Emptying) (i : LogIn) → Put (OutMoved told) i → At e → Serves (puts e i)
+    unfolding puts
+    puts_so e i put h =
+        frames.goes_plain told done PhaseSo (Serving (record e { log = (log.transition e.log i).state })) _
+        (record { job = h.job; feed = h.feed; log = put_so e.log i put h.log })
+        (all_flat_map (frames.Says told done) stored one_stored (log.transition e.log i).outs)
 
-  opening_wish : (l : Lasting) (o : openings.Opening) (number : ℕ) (wish : Wish) → StageHolds told o.stage → Goes (opening_wishes l o number wish)
-  opening_wish l o number Crash h = crashed l number
-  opening_wish l o number Restart h = answered (Opening l o) number answer.Up h
-  opening_wish l o number (Clean count) h = answered (Opening l o) number answer.Down h
+    job_keeps : JobKeeps first what World Later So Says Goes tt Due
+    job_keeps = record {
+      due = λ u v later o due. due;
+      apart = λ w one blocks all. ((all.0, tt), all.1);
+      changes = λ w e f change h. frames.goes_still told done PhaseSo (Serving f) (changed e f change h);
+      gives = λ w e effect given h. gives_so e effect given;
+      takes = λ w e job given later came h d next. (let its = given_so _ given came in
+          next tt tt (record { job = cleaning_so told job.cleaning given its h.job; feed = h.feed; log = h.log })
+          (cleaning_gives told job.cleaning given its h.job));
+      puts = λ w e i put h. puts_so e i put h;
+    }
 
-  serving_wish : (e : Emptying) (number : ℕ) (wish : Wish) → jobs.At told done e → Goes (serving_wishes e number wish)
-  serving_wish e number Crash h = crashed e.lasting number
-  serving_wish e number Restart h = answered (Serving e) number answer.Up h
-  serving_wish e number (Clean count) h = serves (on_clean e number count) (cleaning_wished told done e number count h)
+    -- ---- the log
 
-  down_item : (servers : ℕ) (l : Lasting) (item : Option ℕ) → Goes (down_at servers l item)
-  down_item servers l None = stays (Down l) tt
-  down_item servers l (Some number) = down_wish servers l number (wish_at l.items number)
+    job_kept : (job : Option Job) → JobTold told job → JobTold told (job_moved job)
+    job_kept None held = tt
+    job_kept (Some job) held = held
 
-  opening_item : (l : Lasting) (o : openings.Opening) (item : Option ℕ) → StageHolds told o.stage → Goes (opening_at l o item)
-  opening_item l o None h = stays (Opening l o) h
-  opening_item l o (Some number) h = opening_wish l o number (wish_at l.items number) h
+    -- of a segment that was filed
+    settles_so : (e : Emptying) (end : End) (rows : List (BlockId × Entry)) → At e → RowsTold told rows → Serves (settles e end rows)
+    unfolding settles
+    settles_so e end rows h filed =
+        let f : Emptying = fed e end rows in
+        let k : At f = record { job = job_kept e.job h.job; feed = settled_told told e.feed end.seq rows h.feed filed; log = h.log } in
+        frames.goes_after told done PhaseSo (Does (Filed (name_of cleaner_log end)) ∷ pushes_all f.promised.managers f.feed) (serves_on (cleans f input.Moved))
+        (tt, pushes_all_say told done f.promised.managers f.feed k.feed)
+        (cleaned first what World Later So Says Goes tt Due follows job_keeps tt f input.Moved tt MovesSettled k)
 
-  serving_item : (e : Emptying) (item : Option ℕ) → jobs.At told done e → Goes (serving_at e item)
-  serving_item e None h = stays (Serving e) h
-  serving_item e (Some number) h = serving_wish e number (wish_at e.lasting.items number) h
+    sends_so : (e : Emptying) (outs : List LogOut) → At e → AllByRecursion IsSend outs → Serves (steps writes_one e outs)
+    unfolding writes_one
+    sends_so e [] h all = frames.goes_still told done PhaseSo (Serving e) h
+    sends_so e (log_out.Send f m ∷ outs) h all =
+        frames.goes_after told done PhaseSo (store f m ∷ []) (serves_on (steps writes_one e outs)) (tt, tt) (sends_so e outs h all.1)
+    sends_so e (log_out.Settled end rows ∷ outs) h all = absurd all.0
 
-  item_begun : (servers : ℕ) (p : Phase) → PhaseSo p → Goes (on_begin servers p)
-  unfolding on_begin
-  item_begun servers (Down l) h = down_item servers (begun_life l) (next_item l.items)
-  item_begun servers (Opening l o) h = opening_item (begun_life l) o (next_item l.items) h
-  item_begun servers (Serving e) h = serving_item (record e { lasting = begun_life e.lasting }) (next_item e.lasting.items) h
+    -- the segment is told first: it is acted to be filed
+    lands_so : (e : Emptying) (f : FlightState) (rest : List LogOut) → At e
+        → (Contains done (Filed (name_of cleaner_log (end_from f.segment))) → RowsTold told (rows_of f.segment)) → AllByRecursion IsSend rest
+        → Serves (steps writes_one e (log_out.Settled (end_from f.segment) (rows_of f.segment) ∷ rest))
+    unfolding writes_one settles
+    lands_so e f rest h files all acts =
+        let s : Done = settles e (end_from f.segment) (rows_of f.segment) in
+        frames.goes_on told done PhaseSo (serves_on s) (serves_on (steps writes_one s.state rest))
+        (settles_so e (end_from f.segment) (rows_of f.segment) h (files acts.0)) (λ k. sends_so s.state rest k all) acts
 
-  -- ---- packets and time
+    writes_from : (e : Emptying) (d : log.Done) → At (record e { log = d.state }) → FlightOwed told done cleaner_log e.log → Turns e.log.flight d
+        → Serves (steps writes_one (record e { log = d.state }) d.outs)
+    writes_from e d h flies turns =
+        let t : Emptying = record e { log = d.state } in
+        ⊎_elim (λ (rests : Rests d). sends_so t d.outs h rests)
+        (λ (lands : Lands e.log.flight d). subst (λ outs. Serves (steps writes_one t outs)) (sym lands.outs)
+        (lands_so t lands.flight lands.rest h (flies lands.flight lands.flew) lands.sends)) turns
 
-  heard : (p : Phase) (packet : Packet) → BodyTold told packet.body → PhaseSo p → PhaseOwed told done p → Goes (hears p packet)
-  unfolding hears
-  heard (Down l) packet fact h owed = stays (Down l) tt
-  heard (Opening l o) packet fact h owed =
-      opened l (opening.on_packet o l.questions packet) (events.packet_goes told done (LogMoves told) opening_log o l.questions packet owed (kept o.stage h))
-  heard (Serving e) packet fact h owed = serves (on_packet e packet) (packet_heard told done e packet fact h owed)
+    -- what its log had in flight says what is told, where it is acted to be filed
+    flies_so : (e before : Emptying) → first.phase ≡ Serving before → e.log ≡ before.log → FlightOwed told done cleaner_log e.log
+    flies_so e before same as_was = subst (FlightOwed told done cleaner_log) (sym as_was) (subst (PhaseOwed told done) same owed)
 
-  delivered : (peers : Peers) (p : Phase) (packet : Packet) → BodyTold told packet.body → PhaseSo p → PhaseOwed told done p → Goes (on_deliver peers p packet)
-  unfolding on_deliver
-  delivered peers p packet fact h owed =
-      by_test (λ (x : Went_to). Goes x) (is_well_formed peers packet) (hears p packet) (still p) (λ t. heard p packet fact h owed) (λ t. stays p h)
+    writes_so : (e : Emptying) (i : LogIn) → Written first what e i → At e → Serves (writes e i)
+    unfolding writes
+    writes_so e i (AckCame packet m same came) h =
+        writes_from e (log.transition e.log i)
+        (record { job = h.job; feed = h.feed; log = acked_moves told e.log m.name m.index m.generation h.log }) (flies_so e e same refl) (log_turns e.log i)
+    writes_so e i (GroupsCame before packet news same as_was brought) h =
+        writes_from e (log.transition e.log i) (record { job = h.job; feed = h.feed; log = maps_move told e.log news.groups h.log })
+        (flies_so e before same as_was) (log_turns e.log i)
+    writes_so e i LogTicks h =
+        sends_so (record e { log = (log.on_tick e.log).state }) (log.on_tick e.log).outs
+        (record { job = h.job; feed = h.feed; log = tick_moves told e.log h.log }) (tick_rests e.log)
 
-  passed : (p : Phase) → PhaseSo p → PhaseOwed told done p → Goes (on_time p)
-  unfolding on_time
-  passed (Down l) h owed = stays (Down l) tt
-  passed (Opening l o) h owed =
-      opened l (opening.on_tick o l.questions) (events.tick_goes told done (LogMoves told) opening_log o l.questions owed (kept o.stage h))
-  passed (Serving e) h owed = serves (on_tick e) (time_passes told done e h)
+    -- ---- any event
 
-  all_events : (peers : Peers) (p : Phase) (what : Do) → DoTold told what → PhaseSo p → PhaseOwed told done p → Goes (happens peers p what)
-  all_events peers p Begin fact h owed = item_begun peers.servers p h
-  all_events peers p (Deliver packet) fact h owed = delivered peers p packet fact h owed
-  all_events peers p Tick fact h owed = passed p h owed
+    items_so : (p : Phase) (items : Items) → PhaseSo p → PhaseSo (noted p items)
+    items_so (Down l) items h = tt
+    items_so (Opening l o) items h = h
+    items_so (Serving e) items h = h
 
-  taken_so : (peers : Peers) (p : Phase) (what : Do) → DoTold told what → PhaseSo p → PhaseOwed told done p → Goes (takes peers p what)
-  taken_so peers p what fact h owed =
-      by_test (λ (x : Went_to). Goes x) (phase_room p) (happens peers p what) (still p) (λ t. all_events peers p what fact h owed) (λ t. stays p h)
+    restarted : (servers : ℕ) (l : Lasting) (number : ℕ) → Goes tt (restarts servers l number)
+    unfolding restarts
+    restarted servers l number =
+        frames.goes_plain told done PhaseSo (restarts servers l number).state (restarts servers l number).outs tt (tt, tt)
+
+    comes_so : (l : Lasting) (p : Progress) → events.ProgressHolds told done (LogMoves told) opening_log p → PhaseSo (came_to l p)
+    comes_so l (progress.Opening o) h = held o.stage h
+    comes_so l (progress.Opened o) h = record { job = tt; feed = h.fed; log = h.keeps }
+    comes_so l (progress.Lost seg) h = tt
+
+    went_so : (l : Lasting) (o : openings.Opening) (x : Went) → first.phase ≡ Opening l o → OpenedBy what l o x → StageHolds told o.stage
+        → events.WentSo told done (LogMoves told) opening_log x
+    went_so l o x same (PacketCame packet event) h =
+        events.packet_goes told done (LogMoves told) opening_log o l.questions packet (subst (PhaseOwed told done) same owed) (kept o.stage h)
+    went_so l o x same (TimeWent event) h =
+        events.tick_goes told done (LogMoves told) opening_log o l.questions (subst (PhaseOwed told done) same owed) (kept o.stage h)
+
+    keeps : Keeps first what World Later So Says Goes tt
+    keeps = record {
+      items = λ w p items for h. items_so p items h;
+      answers = λ w number a due. tt;
+      falls = λ w p h. frames.goes_still told done PhaseSo (Down (lasting_of p)) tt;
+      restarts = λ w l number its event following h. restarted first.peers.servers l number;
+      opens = λ w l o x later its same by h acts. (let k = went_so l o x same by h acts in (comes_so (record l { questions = x.questions }) x.progress k.0, k.1));
+      writes = λ w e i later came h. writes_so e i came h;
+      pushes = λ w e h. pushes_all_say told done e.promised.managers e.feed h.feed;
+    }
+
+    taken_so : PhaseSo first.phase → Goes tt (takes first.peers first.phase what)
+    taken_so h = event_goes first what World Later So Says Goes tt Due follows job_keeps keeps h
 
   stands : (p : Phase) → PhaseHolds told p → PhaseSo p
   stands (Down l) h = tt
@@ -213,7 +297,7 @@ pub any_cleaner_tells : (told : Told) (cleaner : Cleaner) (what : Do) → Cleane
 any_cleaner_tells told cleaner what h fact owed =
     let w : Went_to = takes cleaner.peers cleaner.phase what in
     let done : List Act = (cleaner_step cleaner what).acts in
-    let went = taken_so told done cleaner.peers cleaner.phase what fact (stands told done cleaner.phase h) owed
+    let went = taken_so told done cleaner what fact owed (stands told done cleaner.phase h)
     (frames.acts_acted told done TheCleaner w.outs (contains_all done)) in
     record { node = holds told done w.state went.0; packets = frames.packets_tell told done TheCleaner w.outs went.1 }
 

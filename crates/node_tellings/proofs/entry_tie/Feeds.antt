@@ -17,6 +17,7 @@ use Rattle.xfs_base.specs.declared.block.BlockId.{BlockId}
 use Rattle.xfs_base.specs.declared.entry.Entry.{Entry}
 use Rattle.xfs_base.specs.declared.segment.End.{End}
 use Rattle.xfs_base.proofs.Alls.{all_append, all_filter}
+use Rattle.xfs_base.specs.Limits.{slot_count}
 use Rattle.node_tellings.specs.entry_tie.ClientTells.{DeltasTold, FeedTold}
 use Rattle.node_tellings.specs.entry_tie.Told.{Told, RowTold, RowsTold}
 use Rattle.node_tellings.proofs.entry_tie.Frames.{AllSay}
@@ -29,10 +30,10 @@ module _ (told : Told) where
       by_test (FeedTold told) (nat_lt f.end seq) _ f (λ t. all_append (DeltasTold told) f.filed (record { seq = seq; rows = rows } ∷ []) h (new, tt)) (λ t. h)
 
   pub acknowledged_told : (f : FeedState) (slot upto : ℕ) → FeedTold told f → FeedTold told (acknowledged f slot upto)
-  acknowledged_told f slot upto h = by_test (FeedTold told) (nat_lt slot 8 && nat_lt (acked_of f slot) upto) _ f (λ t. h) (λ t. h)
+  acknowledged_told f slot upto h = by_test (FeedTold told) (nat_lt slot slot_count && nat_lt (acked_of f slot) upto) _ f (λ t. h) (λ t. h)
 
   pub renewed_told : (f : FeedState) (slot : ℕ) → FeedTold told f → FeedTold told (new_epoch f slot)
-  renewed_told f slot h = by_test (FeedTold told) (nat_lt slot 8) _ f (λ t. h) (λ t. h)
+  renewed_told f slot h = by_test (FeedTold told) (nat_lt slot slot_count) _ f (λ t. h) (λ t. h)
 
   fed_told : (f : FeedState) (chain : List Segment) → FeedTold told f → AllByRecursion (λ s. RowsTold told (rows_of s)) chain → FeedTold told (fed f chain)
   unfolding with_segment
@@ -58,7 +59,7 @@ module _ (told : Told) (done : List Act) (managers : Managers) (f : FeedState) (
   all_say : (slot : ℕ) → AllSay told done (map (range managers) (pushed f slot))
   unfolding pushed
   all_say slot =
-      by_test (λ (outs : List Out). AllSay told done (map (range managers) outs)) (nat_lt slot 8 && nat_lt (acked_of f slot) f.end) _ []
+      by_test (λ (outs : List Out). AllSay told done (map (range managers) outs)) (nat_lt slot slot_count && nat_lt (acked_of f slot) f.end) _ []
       (λ t. (after_told told slot (acked_of f slot) f.filed h, tt)) (λ t. tt)
 
   map_append : (xs ys : List Out) → AllSay told done (map (range managers) xs) → AllSay told done (map (range managers) ys)
@@ -74,4 +75,4 @@ module _ (told : Told) (done : List Act) (managers : Managers) (f : FeedState) (
   pushes_say slot = all_say slot
 
   pub pushes_all_say : AllSay told done (pushes_all managers f)
-  pushes_all_say = each_says (range_with_len 0 8)
+  pushes_all_say = each_says (range_with_len 0 slot_count)

@@ -1,164 +1,222 @@
--- What each event makes of the cleaner, and what it sends, where all that it acts to be filed is reached.
-use Rattle.std.proofs.Common.{◌≡◌, ℕ, true, List, [], ◌∷◌, Option, Some, None, refl, arith}
-use Rattle.xfs_base.proofs.Booleans.{by_test, and_first, and_second}
-use Rattle.xfs_base.specs.declared.node.NodeId.TheVariants.{Cleaner as TheCleaner}
-use Rattle.xfs_base.specs.Steps.{still}
-use Rattle.xfs_base.proofs.Alls.{all_append}
+-- What each event makes of the cleaner, and what it sends, where all that it acts to be filed is reached: where a segment is settled it is acted to be filed,
+-- so the end of the log and of the feed are filed then.
+use Rattle.std.proofs.Common.{◌≤◌, ⊎_elim, ℕ, List, [], ◌∷◌, refl, sym, subst, arith}
+use Rattle.std.specs.List.{AllByRecursion}
+use Rattle.cleaner_job.specs.declared.lasting.Lasting.{Lasting}
+use Rattle.cleaner_job.specs.Starting.{cleaner_log}
+use Rattle.cleaner_node.specs.CleanerEvents.{Went_to, lasting_of, next_life, owner_of, restarts, serves_on, takes}
+use Rattle.cleaner_node.specs.declared.cleaner.Cleaner.{Cleaner}
+use Rattle.cleaner_node.specs.declared.cleaner.Phase.{Phase}
+use Rattle.cleaner_node.specs.declared.cleaner.Phase.TheVariants.{Down, Opening, Serving}
+use Rattle.cleaner_serving.specs.declared.emptying.Emptying.{Emptying}
+use Rattle.cleaner_serving.specs.EmptyingEvents.{fed, settles, writes, writes_one}
+use Rattle.cleaner_serving.specs.Jobs.{Done, cleans, puts}
+use Rattle.client_log.specs.declared.input.In.{In as LogIn}
+use Rattle.client_log.specs.declared.output.Out.{Out as LogOut}
+use Rattle.client_log.specs.declared.output.Out.TheVariants as log_out
+use Rattle.client_log.specs.LogState.{LogState}
+use Rattle.client_log.specs.Transition as log
 use Rattle.log_owner.specs.declared.opened.Progress.{Progress}
 use Rattle.log_owner.specs.declared.opened.Progress.TheVariants as progress
 use Rattle.log_owner.specs.declared.opening.Opening as openings
-use Rattle.log_owner.specs.Opening as opening
-use Rattle.log_owner.specs.Opening.{Went}
-use Rattle.log_owner.specs.Sending.{pushes_all}
-use Rattle.node_base.specs.Beginning.{next_item, answers_unanswered}
+use Rattle.log_owner.specs.Opening.{Went, stored}
+use Rattle.log_owner.specs.Sending.{name_of, pushes_all, store}
 use Rattle.node_base.specs.declared.effects.Effect.{Effect}
-use Rattle.node_base.specs.declared.effects.Effect.TheVariants.{Answer as Answers}
-use Rattle.node_base.specs.declared.peers.Peers.{Peers}
+use Rattle.node_base.specs.declared.effects.Effect.TheVariants.{Does}
+use Rattle.node_base.specs.declared.items.Items.{Items}
 use Rattle.node_base.specs.Nodes.{has_node}
-use Rattle.node_base.specs.Shape.{is_well_formed, has_logs}
-use Rattle.version_model.specs.declared.answer.Answer.{Answer}
-use Rattle.version_model.specs.declared.answer.Answer.TheVariants as answer
+use Rattle.node_base.specs.Shape.{has_logs}
+use Rattle.stripe_cleaner.specs.declared.input.In.TheVariants as input
+use Rattle.stripe_cleaner.specs.declared.output.Out.{Out}
+use Rattle.stripe_cleaner.specs.Transition.{transition}
+use Rattle.version_model.specs.declared.act.Act.TheVariants.{Filed}
 use Rattle.wire_msg.specs.declared.packet.Do.{Do}
-use Rattle.wire_msg.specs.declared.packet.Do.TheVariants.{Begin, Deliver, Tick}
-use Rattle.wire_msg.specs.declared.packet.Packet.{Packet}
-use Rattle.cleaner_serving.specs.declared.emptying.Emptying.{Emptying}
-use Rattle.cleaner_serving.specs.EmptyingEvents.{on_clean, on_packet, on_tick}
-use Rattle.cleaner_serving.specs.Jobs.{Done}
-use Rattle.cleaner_node.specs.CleanerEvents.{Went_to, serves_on, crashes, next_life, owner_of, after_opening, opened_on, restarts, answers, down_wishes, opening_wishes, serving_wishes, begun_life, wish_at, down_at, opening_at, serving_at, on_begin, hears, on_deliver, on_time, happens, phase_room, takes}
-use Rattle.cleaner_node.specs.declared.cleaner.Phase.{Phase}
-use Rattle.cleaner_node.specs.declared.cleaner.Phase.TheVariants.{Down, Opening, Serving}
-use Rattle.cleaner_node.specs.declared.cleaner.Wish.{Wish}
-use Rattle.cleaner_node.specs.declared.cleaner.Wish.TheVariants.{Crash, Restart, Clean}
-use Rattle.cleaner_job.specs.declared.lasting.Lasting.{Lasting}
-use Rattle.cleaner_job.specs.Starting.{cleaner_log}
-use Rattle.node_tellings.specs.filed_tie.CleanerReach.{PhaseReaches, CleanerReachRises, CleanerStartsReaching, CleanerTellsFiled}
+use Rattle.xfs_base.proofs.Alls.{all_each, all_flat_map}
+use Rattle.xfs_base.proofs.Booleans.{and_first, and_second}
+use Rattle.xfs_base.specs.declared.block.BlockId.{BlockId}
+use Rattle.xfs_base.specs.declared.entry.Entry.{Entry}
+use Rattle.xfs_base.specs.declared.node.NodeId.TheVariants.{Cleaner as TheCleaner}
+use Rattle.xfs_base.specs.declared.segment.End.{End}
+use Rattle.xfs_base.specs.Steps.{steps}
+use Rattle.node_moves.proofs.cleaner_moves.Keeping.{Changes, Follows, Gives, JobKeeps, Keeps, Put, cleaned, event_goes}
+use Rattle.node_moves.proofs.cleaner_moves.Keeping.Changes.{AckTaken, FeedRenewed}
+use Rattle.node_moves.proofs.cleaner_moves.Keeping.Gives.{EndReported}
+use Rattle.node_moves.proofs.cleaner_moves.Keeping.Put.{AllPut, BlockPut}
+use Rattle.node_moves.specs.cleaner_moves.Moves.{IsTaken, OpenedBy, came_to, noted}
+use Rattle.node_moves.specs.cleaner_moves.Moves.Given.{MovesSettled}
+use Rattle.node_moves.specs.cleaner_moves.Moves.OpenedBy.{PacketCame, TimeWent}
+use Rattle.node_tellings.specs.filed_tie.CleanerReach.{CleanerReachRises, CleanerStartsReaching, CleanerTellsFiled, PhaseReaches}
 use Rattle.node_tellings.specs.filed_tie.OpeningReach.{OpeningReaches}
-use Rattle.node_tellings.specs.filed_tie.Reach.{Reach, Rises, BodyTells, DoTells}
-use Rattle.node_tellings.proofs.filed_tie.CleanerJobs as jobs
-use Rattle.node_tellings.proofs.filed_tie.CleanerServing.{cleaning_wished, packet_heard, time_passes}
-use Rattle.node_tellings.proofs.filed_tie.Feeds.{pushes_all_say}
+use Rattle.node_tellings.specs.filed_tie.Reach.{DoTells, Reach, Rises}
+use Rattle.node_tellings.proofs.filed_tie.Feeds.{acknowledged_end, pushes_all_say, renewed_end, settled_end}
 use Rattle.node_tellings.proofs.filed_tie.Frames as frames
+use Rattle.node_tellings.proofs.filed_tie.LogTurns.{IsSend, Lands, Rests, log_turns, put_rests, seal_rests}
 use Rattle.node_tellings.proofs.filed_tie.OpeningRises.{opening_rises}
 use Rattle.node_tellings.proofs.filed_tie.Openings as events
 use Rattle.node_tellings.proofs.filed_tie.Rising.{do_rises}
 
 module _ (reach : Reach) where
+  -- one with its log's and its feed's end
+  record Stands (highest lowest : ℕ) : Type 0 where
+    end : highest ≤ reach cleaner_log.0
+    feed : lowest ≤ reach cleaner_log.0
+
+  abbrev At : Emptying → Type 0
+  At e = Stands e.log.end.seq e.feed.end
+
   abbrev PhaseSo : Phase → Type 0
   PhaseSo (Down l) = Unit {0}
   PhaseSo (Opening l o) = OpeningReaches reach cleaner_log.0 o
-  PhaseSo (Serving e) = jobs.At reach e
+  PhaseSo (Serving e) = At e
 
-  abbrev Goes : Went_to → Type 0
-  Goes w = frames.Goes reach TheCleaner PhaseSo w
+  -- ---- how it goes on: there is no world
 
-  stays : (p : Phase) → PhaseSo p → Goes (still p)
-  stays p h = frames.goes_still reach TheCleaner PhaseSo p h
+  abbrev World : Type 0
+  World = Unit {0}
 
-  at_once : (p : Phase) (outs : List Effect) → PhaseSo p → frames.AllSay reach TheCleaner outs → Goes (record { state = p; outs = outs })
-  at_once p outs h says = frames.goes_plain reach TheCleaner PhaseSo p outs h says
+  abbrev Later : World → World → Type 0
+  Later u v = Unit {0}
 
-  answered : (p : Phase) (number : ℕ) (a : Answer) → PhaseSo p → Goes (answers p number a)
-  answered p number a h = at_once p (Answers number a ∷ []) h (tt, tt)
+  abbrev So : World → Phase → Type 0
+  So w p = PhaseSo p
 
-  serves : (d : Done) → jobs.Goes reach d → Goes (serves_on d)
-  serves d p acts = p acts
+  abbrev Says : World → Effect → Type 0
+  Says w effect = frames.Says reach TheCleaner effect
 
-  -- ---- crash and restart
+  abbrev Goes : World → Went_to → Type 0
+  Goes w d = frames.Goes reach TheCleaner PhaseSo d
 
-  crashed : (l : Lasting) (number : ℕ) → Goes (crashes l number)
-  unfolding crashes
-  crashed l number =
-      at_once (crashes l number).state (crashes l number).outs tt (frames.both_say reach TheCleaner l.items.unanswered answer.Cut number answer.Done)
+  abbrev Serves : Done → Type 0
+  Serves d = frames.Goes reach TheCleaner PhaseSo (serves_on d)
 
-  progressed : (l : Lasting) (p : Progress) → events.ProgressReaches reach TheCleaner cleaner_log.0 p → Goes (after_opening l p)
-  unfolding after_opening
-  progressed l (progress.Opening o) h = stays (Opening l o) h
-  progressed l (progress.Opened o) h =
-      at_once (after_opening l (progress.Opened o)).state (after_opening l (progress.Opened o)).outs (record { end = h.end_reached; feed = h.feed_reached })
-      (all_append (frames.Says reach TheCleaner) (pushes_all o.promised.managers o.feed) (answers_unanswered l.items.unanswered answer.Done)
-      (pushes_all_say reach TheCleaner o.promised.managers o.feed h.feed_reached) (frames.answers_say reach TheCleaner l.items.unanswered answer.Done))
-  progressed l (progress.Lost seg) h =
-      at_once (after_opening l (progress.Lost seg)).state (after_opening l (progress.Lost seg)).outs tt
-      (frames.answers_say reach TheCleaner l.items.unanswered (answer.Lost seg))
+  abbrev Any : World → Out → Type 0
+  Any w o = Unit {0}
 
-  opened : (l : Lasting) (w : Went) → events.WentSo reach TheCleaner cleaner_log.0 w → Goes (opened_on l w)
-  opened l w p acts =
-      let m : Lasting = record l { questions = w.questions } in
-      let e : Went_to = after_opening m w.progress in
-      let first = p (frames.all_before (frames.Reached reach TheCleaner) w.effects e.outs acts) in
-      let second = progressed m w.progress first.0 (frames.all_behind (frames.Reached reach TheCleaner) w.effects e.outs acts) in
-      (second.0, all_append (frames.Says reach TheCleaner) w.effects e.outs first.1 second.1)
+  follows : Follows World Later So Says Goes
+  follows = record {
+    now = λ w. tt;
+    on = λ u v w a b. tt;
+    says = λ w p outs h all. frames.goes_plain reach TheCleaner PhaseSo p outs h all;
+    goes_on = λ w d e h next. frames.goes_on reach TheCleaner PhaseSo d e h (next tt tt);
+  }
 
-  restarted : (servers : ℕ) (l : Lasting) (number : ℕ) → Goes (restarts servers l number)
-  unfolding restarts
-  restarted servers l number =
-      at_once (restarts servers l number).state (restarts servers l number).outs
-      (events.first_so reach TheCleaner cleaner_log.0 (owner_of (next_life l number)) servers (next_life l number).questions refl) (tt, tt)
+  module _ (first : Cleaner) (what : Do) (tells : DoTells reach what) where
+    -- ---- its job
 
-  -- ---- items
+    changed : (e f : Emptying) → Changes first what (λ o. Unit {0}) e f → At e → At f
+    changed e f (FeedRenewed {e = x} slot) h = record { end = h.end; feed = renewed_end (reach cleaner_log.0) x.feed slot h.feed }
+    changed e f (AckTaken {e = x} slot applied) h = record { end = h.end; feed = acknowledged_end (reach cleaner_log.0) x.feed slot applied h.feed }
+    changed e f _ h = record { end = h.end; feed = h.feed }
 
-  down_wish : (servers : ℕ) (l : Lasting) (number : ℕ) (wish : Wish) → Goes (down_wishes servers l number wish)
-  down_wish servers l number Restart = restarted servers l number
-  down_wish servers l number Crash = answered (Down l) number answer.Down tt
-  down_wish servers l number (Clean count) = answered (Down l) number answer.Down tt
+    gives_so : (e : Emptying) (effect : Effect) → Gives first what (λ o. Unit {0}) e effect → At e → frames.Says reach TheCleaner effect
+    gives_so e effect (EndReported packet manager m same came from low) h = h.end
+    gives_so e effect _ h = tt
 
-  opening_wish : (l : Lasting) (o : openings.Opening) (number : ℕ) (wish : Wish) → OpeningReaches reach cleaner_log.0 o → Goes (opening_wishes l o number wish)
-  opening_wish l o number Crash h = crashed l number
-  opening_wish l o number Restart h = answered (Opening l o) number answer.Up h
-  opening_wish l o number (Clean count) h = answered (Opening l o) number answer.Down h
+    one_stored : (o : LogOut) → frames.AllSay reach TheCleaner (stored o)
+    one_stored (log_out.Send f m) = (tt, tt)
+    one_stored (log_out.Settled end rows) = tt
 
-  serving_wish : (e : Emptying) (number : ℕ) (wish : Wish) → jobs.At reach e → Goes (serving_wishes e number wish)
-  serving_wish e number Crash h = crashed e.lasting number
-  serving_wish e number Restart h = answered (Serving e) number answer.Up h
-  serving_wish e number (Clean count) h = serves (on_clean e number count) (cleaning_wished reach e number count h)
+    rests_so : (e : Emptying) (d : log.Done) → Rests e.log.end d → At e → At (record e { log = d.state })
+    rests_so e d rests h = record { end = subst (λ (end : End). end.seq ≤ reach cleaner_log.0) (sym rests.same) h.end; feed = h.feed }
 
-  down_item : (servers : ℕ) (l : Lasting) (item : Option ℕ) → Goes (down_at servers l item)
-  down_item servers l None = stays (Down l) tt
-  down_item servers l (Some number) = down_wish servers l number (wish_at l.items number)
+    put_so : (e : Emptying) (i : LogIn) → Put (λ o. Unit {0}) i → Rests e.log.end (log.transition e.log i)
+    put_so e i (BlockPut block entry value due) = put_rests e.log block (record { entry = entry; value = value })
+    put_so e i AllPut = seal_rests e.log
 
-  opening_item : (l : Lasting) (o : openings.Opening) (item : Option ℕ) → OpeningReaches reach cleaner_log.0 o → Goes (opening_at l o item)
-  opening_item l o None h = stays (Opening l o) h
-  opening_item l o (Some number) h = opening_wish l o number (wish_at l.items number) h
+    puts_so : (e : Emptying) (i : LogIn) → Put (λ o. Unit {0}) i → At e → Serves (puts e i)
+    unfolding puts
+    puts_so e i put h =
+        frames.goes_plain reach TheCleaner PhaseSo (Serving (record e { log = (log.transition e.log i).state })) _
+        (rests_so e (log.transition e.log i) (put_so e i put) h)
+        (all_flat_map (frames.Says reach TheCleaner) stored one_stored (log.transition e.log i).outs)
 
-  serving_item : (e : Emptying) (item : Option ℕ) → jobs.At reach e → Goes (serving_at e item)
-  serving_item e None h = stays (Serving e) h
-  serving_item e (Some number) h = serving_wish e number (wish_at e.lasting.items number) h
+    job_keeps : JobKeeps first what World Later So Says Goes tt Any
+    job_keeps = record {
+      due = λ u v later o due. tt;
+      apart = λ w one blocks due. (tt, tt);
+      changes = λ w e f change h. frames.goes_still reach TheCleaner PhaseSo (Serving f) (changed e f change h);
+      gives = λ w e effect given h. gives_so e effect given h;
+      takes = λ w e job given later came h d next. next tt tt h (all_each (λ o. Unit {0}) (λ o. tt) (transition job.cleaning given).outs);
+      puts = λ w e i put h. puts_so e i put h;
+    }
 
-  item_begun : (servers : ℕ) (p : Phase) → PhaseSo p → Goes (on_begin servers p)
-  unfolding on_begin
-  item_begun servers (Down l) h = down_item servers (begun_life l) (next_item l.items)
-  item_begun servers (Opening l o) h = opening_item (begun_life l) o (next_item l.items) h
-  item_begun servers (Serving e) h = serving_item (record e { lasting = begun_life e.lasting }) (next_item e.lasting.items) h
+    -- ---- the log
 
-  -- ---- packets and time
+    -- a segment that was filed is settled
+    settles_so : (e : Emptying) (end : End) (rows : List (BlockId × Entry)) → At e → end.seq ≤ reach cleaner_log.0 → Serves (settles e end rows)
+    unfolding settles
+    settles_so e end rows h filed =
+        let f : Emptying = fed e end rows in
+        let k : At f = record { end = h.end; feed = settled_end (reach cleaner_log.0) e.feed end.seq rows h.feed filed } in
+        frames.goes_after reach TheCleaner PhaseSo (Does (Filed (name_of cleaner_log end)) ∷ pushes_all f.promised.managers f.feed)
+        (serves_on (cleans f input.Moved)) (tt, pushes_all_say reach TheCleaner f.promised.managers f.feed k.feed)
+        (cleaned first what World Later So Says Goes tt Any follows job_keeps tt f input.Moved tt MovesSettled k)
 
-  heard : (p : Phase) (packet : Packet) → has_logs packet.body ≡ true → BodyTells reach packet.from packet.body → PhaseSo p → Goes (hears p packet)
-  unfolding hears
-  heard (Down l) packet shape tells h = stays (Down l) tt
-  heard (Opening l o) packet shape tells h =
-      opened l (opening.on_packet o l.questions packet) (events.packet_goes reach TheCleaner cleaner_log.0 o l.questions packet h shape tells)
-  heard (Serving e) packet shape tells h = serves (on_packet e packet) (packet_heard reach e packet h)
+    sends_so : (e : Emptying) (outs : List LogOut) → At e → AllByRecursion IsSend outs → Serves (steps writes_one e outs)
+    unfolding writes_one
+    sends_so e [] h all = frames.goes_still reach TheCleaner PhaseSo (Serving e) h
+    sends_so e (log_out.Send f m ∷ outs) h all =
+        frames.goes_after reach TheCleaner PhaseSo (store f m ∷ []) (serves_on (steps writes_one e outs)) (tt, tt) (sends_so e outs h all.1)
+    sends_so e (log_out.Settled end rows ∷ outs) h all = absurd all.0
 
-  delivered : (peers : Peers) (p : Phase) (packet : Packet) → BodyTells reach packet.from packet.body → PhaseSo p → Goes (on_deliver peers p packet)
-  unfolding on_deliver
-  delivered peers p packet tells h =
-      by_test (λ (x : Went_to). Goes x) (is_well_formed peers packet) (hears p packet) (still p)
-      (λ t. heard p packet (and_first (has_logs packet.body) _ (and_second (has_node peers packet.from) _ t)) tells h) (λ t. stays p h)
+    -- the end is told first: it is acted to be filed
+    lands_so : (e : Emptying) (l : LogState) (rows : List (BlockId × Entry)) (rest : List LogOut) → At e → AllByRecursion IsSend rest
+        → Serves (steps writes_one (record e { log = l }) (log_out.Settled l.end rows ∷ rest))
+    unfolding writes_one settles
+    lands_so e l rows rest h all acts =
+        let t : Emptying = record e { log = l } in
+        let filed : l.end.seq ≤ reach cleaner_log.0 = acts.0 in
+        let s : Done = settles t l.end rows in
+        frames.goes_on reach TheCleaner PhaseSo (serves_on s) (serves_on (steps writes_one s.state rest))
+        (settles_so t l.end rows (record { end = filed; feed = h.feed }) filed) (λ k. sends_so s.state rest k all) acts
 
-  passed : (p : Phase) → PhaseSo p → Goes (on_time p)
-  unfolding on_time
-  passed (Down l) h = stays (Down l) tt
-  passed (Opening l o) h = opened l (opening.on_tick o l.questions) (events.tick_goes reach TheCleaner cleaner_log.0 o l.questions h)
-  passed (Serving e) h = serves (on_tick e) (time_passes reach e h)
+    writes_so : (e : Emptying) (i : LogIn) → At e → Serves (writes e i)
+    unfolding writes
+    writes_so e i h =
+        let d : log.Done = log.transition e.log i in
+        let t : Emptying = record e { log = d.state } in
+        ⊎_elim (λ (rests : Rests e.log.end d). sends_so t d.outs (rests_so e d rests h) rests.sends)
+        (λ (lands : Lands d). subst (λ outs. Serves (steps writes_one t outs)) (sym lands.outs) (lands_so e d.state lands.rows lands.rest h lands.sends))
+        (log_turns e.log i)
 
-  all_events : (peers : Peers) (p : Phase) (what : Do) → DoTells reach what → PhaseSo p → Goes (happens peers p what)
-  all_events peers p Begin tells h = item_begun peers.servers p h
-  all_events peers p (Deliver packet) tells h = delivered peers p packet tells h
-  all_events peers p Tick tells h = passed p h
+    -- ---- any event
 
-  taken_so : (peers : Peers) (p : Phase) (what : Do) → DoTells reach what → PhaseSo p → Goes (takes peers p what)
-  taken_so peers p what tells h =
-      by_test (λ (x : Went_to). Goes x) (phase_room p) (happens peers p what) (still p) (λ t. all_events peers p what tells h) (λ t. stays p h)
+    items_so : (p : Phase) (items : Items) → PhaseSo p → PhaseSo (noted p items)
+    items_so (Down l) items h = tt
+    items_so (Opening l o) items h = h
+    items_so (Serving e) items h = h
+
+    restarted : (servers : ℕ) (l : Lasting) (number : ℕ) → Goes tt (restarts servers l number)
+    unfolding restarts
+    restarted servers l number =
+        frames.goes_plain reach TheCleaner PhaseSo (restarts servers l number).state (restarts servers l number).outs
+        (events.first_so reach TheCleaner cleaner_log.0 (owner_of (next_life l number)) servers (next_life l number).questions refl) (tt, tt)
+
+    comes_so : (l : Lasting) (p : Progress) → events.ProgressReaches reach TheCleaner cleaner_log.0 p → PhaseSo (came_to l p)
+    comes_so l (progress.Opening o) h = h
+    comes_so l (progress.Opened o) h = record { end = h.end_reached; feed = h.feed_reached }
+    comes_so l (progress.Lost seg) h = tt
+
+    went_so : (l : Lasting) (o : openings.Opening) (x : Went) → IsTaken first what → OpenedBy what l o x → OpeningReaches reach cleaner_log.0 o
+        → events.WentSo reach TheCleaner cleaner_log.0 x
+    went_so l o x its (PacketCame packet event) h =
+        events.packet_goes reach TheCleaner cleaner_log.0 o l.questions packet h
+        (and_first (has_logs packet.body) _ (and_second (has_node first.peers packet.from) _ (its.formed packet event))) (subst (DoTells reach) event tells)
+    went_so l o x its (TimeWent event) h = events.tick_goes reach TheCleaner cleaner_log.0 o l.questions h
+
+    keeps : Keeps first what World Later So Says Goes tt
+    keeps = record {
+      items = λ w p items for h. items_so p items h;
+      answers = λ w number a due. tt;
+      falls = λ w p h. frames.goes_still reach TheCleaner PhaseSo (Down (lasting_of p)) tt;
+      restarts = λ w l number its event following h. restarted first.peers.servers l number;
+      opens = λ w l o x later its same by h acts. (let k = went_so l o x its by h acts in (comes_so (record l { questions = x.questions }) x.progress k.0, k.1));
+      writes = λ w e i later came h. writes_so e i h;
+      pushes = λ w e h. pushes_all_say reach TheCleaner e.promised.managers e.feed h.feed;
+    }
+
+    taken_so : PhaseSo first.phase → Goes tt (takes first.peers first.phase what)
+    taken_so h = event_goes first what World Later So Says Goes tt Any follows job_keeps keeps h
 
 -- ---- the law
 
@@ -182,7 +240,7 @@ cleaner_rises reach later cleaner rises holds = reaches later cleaner.phase (sta
 pub cleaner_tells : CleanerTellsFiled
 cleaner_tells reach later cleaner what rises holds tells acts =
     let w : Went_to = takes cleaner.peers cleaner.phase what in
-    let went = taken_so later cleaner.peers cleaner.phase what (do_rises reach later rises what tells) (stands reach later rises cleaner.phase holds)
+    let went = taken_so later cleaner what (do_rises reach later rises what tells) (stands reach later rises cleaner.phase holds)
     (frames.acts_reached later TheCleaner w.outs acts) in
     record { node = reaches later w.state went.0; packets = frames.packets_tell later TheCleaner w.outs went.1 }
 

@@ -15,6 +15,7 @@ use Rattle.xfs_base.specs.declared.block.BlockId.{BlockId}
 use Rattle.xfs_base.specs.declared.entry.Entry.{Entry}
 use Rattle.xfs_base.specs.declared.node.NodeId.{NodeId}
 use Rattle.xfs_base.specs.declared.segment.End.{End}
+use Rattle.xfs_base.specs.Limits.{slot_count}
 use Rattle.node_tellings.specs.filed_tie.Reach.{Reach, LogReaches}
 use Rattle.node_tellings.proofs.filed_tie.Frames.{AllSay}
 
@@ -25,10 +26,10 @@ module _ (limit : ℕ) where
   settled_end f seq rows h new = by_test (λ (g : FeedState). g.end ≤ limit) (nat_lt f.end seq) _ f (λ t. new) (λ t. h)
 
   pub acknowledged_end : (f : FeedState) (slot upto : ℕ) → f.end ≤ limit → (acknowledged f slot upto).end ≤ limit
-  acknowledged_end f slot upto h = by_test (λ (g : FeedState). g.end ≤ limit) (nat_lt slot 8 && nat_lt (acked_of f slot) upto) _ f (λ t. h) (λ t. h)
+  acknowledged_end f slot upto h = by_test (λ (g : FeedState). g.end ≤ limit) (nat_lt slot slot_count && nat_lt (acked_of f slot) upto) _ f (λ t. h) (λ t. h)
 
   pub renewed_end : (f : FeedState) (slot : ℕ) → f.end ≤ limit → (new_epoch f slot).end ≤ limit
-  renewed_end f slot h = by_test (λ (g : FeedState). g.end ≤ limit) (nat_lt slot 8) _ f (λ t. h) (λ t. h)
+  renewed_end f slot h = by_test (λ (g : FeedState). g.end ≤ limit) (nat_lt slot slot_count) _ f (λ t. h) (λ t. h)
 
   fed_end : (f : FeedState) (chain : List Segment) → f.end ≤ limit → AllByRecursion (λ s. s.name.seq ≤ limit) chain → (fed f chain).end ≤ limit
   unfolding with_segment
@@ -47,7 +48,7 @@ module _ (reach : Reach) (node : NodeId) (managers : Managers) (f : FeedState) (
   all_say : (slot : ℕ) → AllSay reach node (map (range managers) (pushed f slot))
   unfolding pushed
   all_say slot =
-      by_test (λ (outs : List Out). AllSay reach node (map (range managers) outs)) (nat_lt slot 8 && nat_lt (acked_of f slot) f.end) _ []
+      by_test (λ (outs : List Out). AllSay reach node (map (range managers) outs)) (nat_lt slot slot_count && nat_lt (acked_of f slot) f.end) _ []
       (λ t. (h, tt)) (λ t. tt)
 
   map_append : (xs ys : List Out) → AllSay reach node (map (range managers) xs) → AllSay reach node (map (range managers) ys)
@@ -63,4 +64,4 @@ module _ (reach : Reach) (node : NodeId) (managers : Managers) (f : FeedState) (
   pushes_say slot = all_say slot
 
   pub pushes_all_say : AllSay reach node (pushes_all managers f)
-  pushes_all_say = each_says (range_with_len 0 8)
+  pushes_all_say = each_says (range_with_len 0 slot_count)

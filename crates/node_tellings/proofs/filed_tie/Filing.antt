@@ -30,6 +30,8 @@ use Rattle.xfs_base.specs.declared.segment.LogId.{LogId}
 use Rattle.xfs_base.specs.Nodes.{same_node}
 use Rattle.xfs_base.proofs.NodeOrder.{same_node_is}
 use Rattle.xfs_base.proofs.Alls.{all_weaker}
+use Rattle.xfs_base.specs.Limits.{block_logs}
+use Rattle.xfs_base.specs.Logs.{cleaners_number}
 use Rattle.node_tellings.specs.filed_tie.Bounds.{ReportBounded, KnownBounded, PhaseBounded, BodyBounded, PacketBounded, DoBounded}
 use Rattle.node_tellings.specs.filed_tie.ManagerReach.{filed, ManagerReachRises, ManagerStartsReaching, ManagersTellFiled, ManagersTellNoMore}
 use Rattle.node_tellings.specs.filed_tie.RegistryReach.{RegistryReaches, RegistryReachRises, RegistryStartsReaching, RegistryTellsFiled, RegistryTellsNoMore}
@@ -59,8 +61,8 @@ module _ (reach : Reach) where
 
   end_of-reaches : (reports : List Report) (log : ℕ) → AllByRecursion (ReportBounded (filed reach)) reports → (end_of reports log).seq ≤ reach log
   end_of-reaches reports log all =
-      by_test (λ (node : NodeId). (end_from node reports).seq ≤ reach log) (log == 9) Cleaner (Client log)
-      (λ fact. subst (λ l. (end_from Cleaner reports).seq ≤ reach l) (sym (eqb-true log 9 fact)) (end_from-reaches Cleaner reports all))
+      by_test (λ (node : NodeId). (end_from node reports).seq ≤ reach log) (log == cleaners_number) Cleaner (Client log)
+      (λ fact. subst (λ l. (end_from Cleaner reports).seq ≤ reach l) (sym (eqb-true log cleaners_number fact)) (end_from-reaches Cleaner reports all))
       (λ _. end_from-reaches (Client log) reports all)
 
   -- up to the reported end, or what the checkpoint covers
@@ -81,7 +83,7 @@ module _ (reach : Reach) where
       omega arith)
 
   from_one : (log : LogId) → is_followed log ≡ true → 1 ≤ log.0
-  from_one log fact = let first : nat_le 1 log.0 ≡ true = and_first (nat_le 1 log.0) (nat_le log.0 9) fact in grind (arith, nat_tests)
+  from_one log fact = let first : nat_le 1 log.0 ≡ true = and_first (nat_le 1 log.0) (nat_le log.0 block_logs) fact in grind (arith, nat_tests)
 
   pub filing : Bounding (filed reach)
   filing = record {

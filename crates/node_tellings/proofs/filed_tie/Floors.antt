@@ -17,6 +17,7 @@ use Rattle.xfs_base.proofs.Booleans.{and_second}
 use Rattle.xfs_base.specs.declared.node.NodeId.{NodeId}
 use Rattle.xfs_base.specs.declared.node.NodeId.TheVariants.{Manager as AManager, Registry}
 use Rattle.xfs_base.specs.declared.segment.LogId.{LogId}
+use Rattle.xfs_base.specs.Limits.{block_logs}
 use Rattle.node_tellings.specs.filed_tie.Bounds.{KnownBounded}
 use Rattle.node_tellings.specs.filed_tie.Floor.{Floor, least, above, ManagerStartsAbove, ManagersStayAbove, RegistryStartsAbove, RegistryKeepsAbove}
 use Rattle.node_tellings.proofs.filed_tie.Bounding.{Bounding, packets_bounded}
@@ -25,8 +26,8 @@ use Rattle.node_tellings.proofs.filed_tie.Managers.{first_bounded, manager_goes}
 use Rattle.node_tellings.proofs.filed_tie.Registries.{first_registry, registry_goes}
 
 -- the number of a log, where each of the nine has its own
-number_is : (number : ℕ → ℕ) (log : ℕ) → 1 ≤ log → log ≤ 9 → slice_index (map number (range_with_len 1 9)) (log - 1) ≡ number log
-number_is number log from_one to_nine = get_or-map-range_with_len number 1 9 (log - 1) log 0 (omega arith) (omega arith)
+number_is : (number : ℕ → ℕ) (log : ℕ) → 1 ≤ log → log ≤ block_logs → slice_index (map number (range_with_len 1 block_logs)) (log - 1) ≡ number log
+number_is number log from_one to_nine = get_or-map-range_with_len number 1 block_logs (log - 1) log 0 (omega arith) (omega arith)
 
 module _ (floor : Floor) where
   begun_above : (slot epoch : ℕ) (horizon : List ℕ) (reports : List Report) → KnownBounded (above floor) slot epoch horizon reports
@@ -75,9 +76,9 @@ managers_stay_above floor m what h told =
 pub registry_starts_above : RegistryStartsAbove
 registry_starts_above floor setup works low = first_registry (above floor) setup works one
   where
-    one : (slot log : ℕ) → 1 ≤ log → log ≤ 9 → least floor slot 1 log ≤ horizon_at (replicate 9 1) log
+    one : (slot log : ℕ) → 1 ≤ log → log ≤ block_logs → least floor slot 1 log ≤ horizon_at (replicate block_logs 1) log
     one slot log from_one to_nine =
-        let fact : horizon_at (replicate 9 1) log ≡ 1 = number_is (λ k. 1) log from_one to_nine in
+        let fact : horizon_at (replicate block_logs 1) log ≡ 1 = number_is (λ k. 1) log from_one to_nine in
         let l = low slot log in
         omega arith
 

@@ -2,6 +2,7 @@
 use Rattle.std.proofs.Common.{◌≡◌, ℕ, zero, suc, ◌+◌, ◌≤◌, List, [], ◌∷◌, map, subst, arith}
 use Rattle.std.specs.Prelude.{slice_index, slice_set}
 use Rattle.std.specs.List.{range_with_len}
+use Rattle.xfs_base.specs.Limits.{block_logs}
 use Rattle.node_tellings.specs.filed_tie.Reach.{Reach, NumbersUpto}
 
 -- the number of the log at a place
@@ -19,7 +20,7 @@ number_put limit log (n ∷ ns) zero at new fact here all = (subst (λ l. new �
 number_put limit log (n ∷ ns) (suc place) at new fact here all = (all.0, number_put limit (suc log) ns place at new (omega arith) here all.1)
 
 -- each of the logs 1 to 9 has its own
-pub numbers_of : (limit : Reach) (number : ℕ → ℕ) → ((log : ℕ) → 1 ≤ log → number log ≤ limit log) → NumbersUpto limit 1 (map number (range_with_len 1 9))
+pub numbers_of : (limit : Reach) (number : ℕ → ℕ) → ((log : ℕ) → 1 ≤ log → number log ≤ limit log) → NumbersUpto limit 1 (map number (range_with_len 1 block_logs))
 numbers_of limit number upto =
     let at = λ (before : ℕ). upto (suc before) (omega arith) in
     (at 0, (at 1, (at 2, (at 3, (at 4, (at 5, (at 6, (at 7, (at 8, tt)))))))))

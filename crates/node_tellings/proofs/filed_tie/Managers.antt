@@ -36,6 +36,7 @@ use Rattle.xfs_base.specs.declared.setup.Setup.{Setup}
 use Rattle.xfs_base.specs.Steps.{still}
 use Rattle.xfs_base.proofs.Alls.{all_append}
 use Rattle.xfs_base.proofs.Leaving.{Leaves}
+use Rattle.xfs_base.specs.Limits.{block_logs}
 use Rattle.node_tellings.specs.filed_tie.Bounds.{Bounds, SlotBounded, ServingBounded, PhaseBounded, ManagerBounded, NewsBounded, BodyBounded, PacketBounded, DoBounded}
 use Rattle.node_tellings.proofs.filed_tie.Bounding.{Bounding, EffectBounded, answers_bounded}
 use Rattle.node_tellings.proofs.filed_tie.Checkpointing.{checkpoint_on}
@@ -45,7 +46,7 @@ use Rattle.node_tellings.proofs.filed_tie.Serving.{news_on, packet_on, tick_on}
 
 module _ (b : Bounds) where
   -- nothing of any log is applied in a slot that is managed from the start on
-  pub first_bounded : (number : ℕ) (setup : Setup) (works : List Work) → ((slot : ℕ) → b.applied slot 1 (replicate 9 0))
+  pub first_bounded : (number : ℕ) (setup : Setup) (works : List Work) → ((slot : ℕ) → b.applied slot 1 (replicate block_logs 0))
       → ManagerBounded b (first_manager number setup works)
   first_bounded number setup works none =
       record { slots = (one 0, (one 1, (one 2, (one 3, (one 4, (one 5, (one 6, (one 7, tt)))))))); writer = tt; checkpoint = tt }

@@ -10,6 +10,7 @@ use Rattle.xfs_base.specs.declared.node.NodeId.TheVariants.{Client, Manager, Ser
 use Rattle.xfs_base.specs.declared.segment.End.{End}
 use Rattle.xfs_base.specs.Steps.{still, steps}
 use Rattle.xfs_base.proofs.Alls.{all_append, all_map}
+use Rattle.xfs_base.specs.Limits.{slot_count}
 use Rattle.segment_format.specs.declared.segment.Segment.{Segment}
 use Rattle.group_map.specs.GroupMapState.{GroupMapState}
 use Rattle.client_log.specs.declared.input.In.{In as LogIn}
@@ -63,7 +64,7 @@ use Rattle.node_tellings.proofs.filed_tie.Scans.{ChainTells, NewsReach, InputTel
 -- maps in a packet of the right shape are of some slots
 some_slots : (news : News) → is_news news ≡ true → 1 ≤ length news.slots
 some_slots news fact =
-    let eight : (length news.slots == 8) ≡ true = and_first (length news.slots == 8) _ fact in
+    let eight : (length news.slots == slot_count) ≡ true = and_first (length news.slots == slot_count) _ fact in
     grind (arith, nat_tests)
 
 module _ (reach : Reach) (node : NodeId) (log : ℕ) where

@@ -36,6 +36,7 @@ use Rattle.xfs_base.specs.declared.segment.SegRef.{SegRef}
 use Rattle.xfs_base.specs.Segments.{seg_cmp}
 use Rattle.xfs_base.specs.Steps.{still}
 use Rattle.xfs_base.proofs.Alls.{all_map, all_take}
+use Rattle.xfs_base.specs.Limits.{slot_count}
 use Rattle.node_tellings.specs.reading_tie.CleanerMeets.{Met, RefMet, CandidateMet, TurnMet, PhaseMet}
 
 -- ---- tables
@@ -292,7 +293,7 @@ module _ (met : Met) where
   pub cleaning_met : (s : CleaningState) (i : Input) → InputMet i → PhaseMet met s.phase → Leaves (transition s i)
   unfolding on_welcome on_promise on_usage on_live on_dead
   cleaning_met s (input.Welcome slots groups) fact h =
-      by_test Leaves (is_greeting s.phase && (length slots == 8)) (welcomed s slots groups) (still s)
+      by_test Leaves (is_greeting s.phase && (length slots == slot_count)) (welcomed s slots groups) (still s)
       (λ _. record { phase = tt; outs = asked_lists (begun slots groups).awaited }) (λ _. as_was s h)
   cleaning_met s (input.Promise slot epoch) fact h =
       by_test Leaves (is_above s.promised slot epoch) (turned (record s { promised = promised_with s.promised slot epoch }) (forgetting slot s.phase)) (still s)

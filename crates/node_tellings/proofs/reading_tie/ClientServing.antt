@@ -12,13 +12,12 @@ use Rattle.client_call.specs.declared.call.Call.{Call}
 use Rattle.client_call.specs.declared.call.Going.TheVariants.{On, Ends}
 use Rattle.client_call.specs.declared.call.Going.{Going}
 use Rattle.client_call.specs.Fitting.{put_fits}
-use Rattle.client_call.specs.Flights.{is_settling, is_giving}
-use Rattle.client_call.specs.Grants.{is_stamp}
 use Rattle.client_call.specs.Reads.{block_read, Heard, heard, reading_in, value_at}
 use Rattle.client_running.specs.Blocks.{Made, needs, got, gets, wrote, changes, held_back, changes_if_fits, puts, lets_go, changed, puts_again, puts_at, syncs, makes}
 use Rattle.client_serving.specs.declared.serving.Serving.{Serving}
 use Rattle.client_serving.specs.Flights.{held_at, notes_settled, keeps_clean, gives_up, gives_if_clean, feeds, settled_rows, settles, writes_one, seals_again, writes}
 use Rattle.client_serving.specs.Follow.{notes_clean, notes_gone, seals, hands, takes_back}
+use Rattle.client_serving.specs.Grants.{is_stamp}
 use Rattle.client_serving.specs.Packets.{on_grant, on_supply, on_forward, says_again, on_recall, is_gone, on_gone, is_acked, on_ack, ends_fetch, told_at, told_by, on_told, renews, promises, reports, may_report, polled, on_poll, promised_in, is_news, hears, regroups, takes_news, on_news, on_welcome, on_tick, on_body, asks_for_maps, on_packet}
 use Rattle.client_serving.specs.Reads.{with_reading, loses}
 use Rattle.client_running.specs.Running.{goes_on, Ran, answers_call, ran, runs_call, runs_once, runs_upto, runs, most_steps}
@@ -29,6 +28,7 @@ use Rattle.file_plan.specs.declared.block_call.BlockCall.{BlockCall}
 use Rattle.file_plan.specs.declared.block_call.BlockCall.TheVariants.{Get, Put, PutAt, Sync}
 use Rattle.group_map.specs.GroupMapState.{GroupMapState}
 use Rattle.log_owner.specs.Promised.{manager_set}
+use Rattle.log_owner.specs.Sealing.{is_settling}
 use Rattle.log_owner.specs.Sending.{server_in}
 use Rattle.node_base.specs.declared.maps.Maps.{Maps}
 use Rattle.node_base.specs.Known.{names_known}
@@ -42,6 +42,7 @@ use Rattle.stripe_code.specs.declared.round.Told.TheVariants as answered
 use Rattle.token_client.specs.declared.held.Giving.{Giving}
 use Rattle.token_client.specs.declared.input.In.TheVariants as input
 use Rattle.token_client.specs.Held.{is_dirty, may_write}
+use Rattle.token_client.specs.Settling.{is_giving}
 use Rattle.token_client.specs.State.{dirty_in}
 use Rattle.token_client.specs.Transition as client
 use Rattle.wire_msg.specs.declared.body.Body.{Body}

@@ -1,58 +1,66 @@
--- What a job of the cleaner is about was met, whatever the job has the cleaner do, and whatever comes for it.
-use Rattle.std.proofs.Common.{ℕ, List, [], ◌∷◌, Option, Some, None}
+-- What a job of the cleaner is about was met, whatever happens to the cleaner.
+use Rattle.std.proofs.Common.{◌≡◌, ℕ, List, [], ◌∷◌, Option, Some, None, inl, inr, refl, subst}
 use Rattle.std.specs.List.{AllByRecursion}
-use Rattle.cleaner_serving.specs.declared.emptying.Emptying.{Emptying}
-use Rattle.cleaner_serving.specs.Jobs.{Done, with_questions, asks_maps, asks_list, asks_usage, checked_in, checks_block, check_sent, asks_check, holds_in, holds, reads, puts, puts_block, moves, deletes, says, takes_in, job_takes, cleans, on_listed, on_usage, on_live, on_dead, on_deleted, ends_reading, told_in, told_by, confirmed_in, confirmed, after_confirmed, reads_again, after_told, on_told}
 use Rattle.cleaner_job.specs.declared.hand.Hand.{Hand}
 use Rattle.cleaner_job.specs.declared.job.Job.{Job}
-use Rattle.cleaner_job.specs.Hands.{Heard, is_in_hand, known_group, Taken, taken_over, takes_in_hand, hears_by, hand_hears, confirmed_by, hand_confirmed, checks_under, kept_ask, checks}
-use Rattle.cleaner_job.specs.Jobs.{hand_checks_in, job_checks, hand_of, dropped, lists_of, usages_of, check_of, is_out, read_over, job_read, hand_hears_in, job_hears, hand_confirmed_in, job_confirmed}
-use Rattle.client_log.specs.declared.input.In.{In as LogIn}
-use Rattle.client_log.specs.declared.input.In.TheVariants as log_in
+use Rattle.cleaner_job.specs.declared.lasting.Lasting.{Lasting}
+use Rattle.cleaner_job.specs.Hands.{Taken, checks, checks_under, confirmed_by, hand_confirmed, hand_hears, hears_by, is_in_hand, kept_ask, known_group, taken_over, takes_in_hand}
+use Rattle.cleaner_job.specs.Jobs.{dropped, hand_moved, read_over}
+use Rattle.cleaner_node.specs.CleanerEvents.{cleaner_step, restarts}
+use Rattle.cleaner_node.specs.declared.cleaner.Cleaner.{Cleaner}
+use Rattle.cleaner_node.specs.declared.cleaner.Phase.{Phase}
+use Rattle.cleaner_node.specs.declared.cleaner.Phase.TheVariants.{Down, Opening, Serving}
+use Rattle.cleaner_serving.specs.declared.emptying.Emptying.{Emptying}
 use Rattle.group_map.specs.declared.group.Group.{Group}
 use Rattle.group_map.specs.GroupMapState.{GroupMapState}
-use Rattle.node_base.specs.Asking.{drawn, next_ask}
+use Rattle.log_owner.specs.declared.opened.Progress.{Progress}
+use Rattle.log_owner.specs.declared.opened.Progress.TheVariants as progress
+use Rattle.log_owner.specs.Sending.{server_in}
+use Rattle.node_base.specs.declared.items.Items.{Items}
 use Rattle.node_base.specs.declared.questions.Questions.{Questions}
-use Rattle.segment_format.specs.declared.segment.Segment.{Segment}
-use Rattle.segment_reading.specs.declared.reading.Next.{Next}
-use Rattle.segment_reading.specs.declared.reading.Next.TheVariants as next
 use Rattle.segment_reading.specs.Reading.{ReadingState}
 use Rattle.stripe_cleaner.specs.declared.input.In.{In as Input}
-use Rattle.stripe_cleaner.specs.declared.input.In.TheVariants as input
-use Rattle.stripe_cleaner.specs.declared.output.Out.{Out}
-use Rattle.stripe_cleaner.specs.declared.output.Out.TheVariants as out
+use Rattle.stripe_cleaner.specs.declared.phase.Phase as jobs_phase
+use Rattle.stripe_cleaner.specs.declared.phase.Phase.TheVariants as job_phase
 use Rattle.stripe_code.specs.declared.round.Told.{Told as Answered}
-use Rattle.wire_msg.specs.declared.cleaning.Dead.{Dead}
-use Rattle.wire_msg.specs.declared.cleaning.Live.{Live}
-use Rattle.wire_msg.specs.declared.cleaning.Usage.{Usage}
-use Rattle.wire_msg.specs.declared.storage.Deleted.{Deleted}
+use Rattle.token_protocol.specs.Basics.{In}
+use Rattle.wire_msg.specs.declared.body.Body.{Body}
+use Rattle.wire_msg.specs.declared.body.Body.TheVariants as body
+use Rattle.wire_msg.specs.declared.packet.Do.{Do}
+use Rattle.wire_msg.specs.declared.packet.Do.TheVariants.{Begin, Deliver, Tick}
+use Rattle.wire_msg.specs.declared.packet.Packet.{Packet}
 use Rattle.wire_msg.specs.declared.storage.Listed.{Listed}
+use Rattle.xfs_base.proofs.Alls.{all_weaker}
 use Rattle.xfs_base.proofs.Booleans.{by_test}
-use Rattle.xfs_base.proofs.StepLoops.{steps_keep}
 use Rattle.xfs_base.specs.declared.block.BlockId.{BlockId}
-use Rattle.xfs_base.specs.declared.entry.Entry.{Entry}
-use Rattle.xfs_base.specs.declared.entry.Place.{Place}
+use Rattle.xfs_base.specs.declared.fragment.FragMeta.{FragMeta}
+use Rattle.xfs_base.specs.declared.node.NodeId.{NodeId}
 use Rattle.xfs_base.specs.declared.segment.SegName.{SegName}
 use Rattle.xfs_base.specs.declared.segment.SegRef.{SegRef}
-use Rattle.xfs_base.specs.Steps.{Stepped, still, steps}
-use Rattle.node_tellings.specs.reading_tie.CleanerMeets.{Met, RefMet, HandMet, JobMet, AnyJobMet}
-use Rattle.node_tellings.proofs.reading_tie.Choosing.{OutMet, InputMet, cleaning_met}
-
--- what each step keeps, where its item is so
-each_keeps : {S O A : Type 0} (step : S → A → Stepped S O) (P : S → Type 0) (Q : A → Type 0) → ((s : S) (x : A) → Q x → P s → P (step s x).state) → (s : S)
-    (xs : List A) → AllByRecursion Q xs → P s → P (steps step s xs).state
-each_keeps step P Q keep s [] all p = p
-each_keeps step P Q keep s (x ∷ xs) all p = each_keeps step P Q keep (step s x).state xs all.1 (keep s x all.0 p)
+use Rattle.node_moves.proofs.cleaner_moves.Keeping.{Changes, Rehands, StateKeeps, state_goes}
+use Rattle.node_moves.proofs.cleaner_moves.Keeping.Changes.{HandChanged, JobBegun, JobEnded}
+use Rattle.node_moves.proofs.cleaner_moves.Keeping.Rehands.{Checked, Confirmed, Heard, LetGo, MovedOver, ReadOver, TakenUp}
+use Rattle.node_moves.specs.cleaner_moves.Moves.{Given, came_to, noted}
+use Rattle.node_moves.specs.cleaner_moves.Moves.Given.{ListCame}
+use Rattle.node_tellings.proofs.reading_tie.Choosing.{InputMet, OutMet, cleaning_met}
+use Rattle.node_tellings.specs.reading_tie.CleanerMeets.{AnyJobMet, CandidateMet, CleanerEventsMeet, CleanerMeets, CleanerMeetsRise, CleanerStartsMet, HandMet, IsSent, ListedIn, Met, NodeMet, PhaseMet, RefMet, TurnMet, listed_in}
 
 module _ (met : Met) where
-  abbrev At : Emptying → Type 0
-  At e = AnyJobMet met e.job
+  -- ---- what comes
 
-  abbrev Goes : Done → Type 0
-  Goes d = At d.state
+  -- what a server lists was met
+  abbrev AllListed : Option ℕ → Listed → Type 0
+  AllListed None m = Unit {0}
+  AllListed (Some server) m = AllByRecursion (λ x. met x.name x.group) m.held
 
-  abbrev Is : Job → Type 0
-  Is job = JobMet met job.cleaning.phase job.hand
+  abbrev BodyMet : NodeId → Body → Type 0
+  BodyMet from (body.Listed m) = AllListed (server_in from) m
+  BodyMet from _ = Unit {0}
+
+  abbrev DoMet : Do → Type 0
+  DoMet Begin = Unit {0}
+  DoMet (Deliver packet) = BodyMet packet.from packet.body
+  DoMet Tick = Unit {0}
 
   -- ---- the segment in hand
 
@@ -73,199 +81,174 @@ module _ (met : Met) where
   hears_met hand None groups ask server t h = h
   hears_met hand (Some r) groups ask server t h = h
 
-  hand_heard : (job : Job) (hand : Option Hand) (groups : GroupMapState) (ask server : ℕ) (t : Answered) → Is job → HandMet met hand
-      → Is (hand_hears_in job hand groups ask server t).state
-  unfolding hand_hears
-  hand_heard job None groups ask server t h kept = h
-  hand_heard job (Some hand) groups ask server t h kept = record { about = h.about; hand = hears_met hand hand.reading groups ask server t kept }
-
-  told_met : (e : Emptying) (job : Option Job) (groups : Option GroupMapState) (ask server : ℕ) (t : Answered) → AnyJobMet met job → At e
-      → At (told_in e job groups ask server t).state
-  unfolding job_hears
-  told_met e None groups ask server t held h = h
-  told_met e (Some job) None ask server t held h = h
-  told_met e (Some job) (Some groups) ask server t held h = hand_heard job job.hand groups ask server t held held.hand
-
   confirms_met : (hand : Hand) (r : Option ReadingState) (ask : ℕ) → RefMet met hand.seg → RefMet met (confirmed_by hand r ask).state.seg
   confirms_met hand None ask h = h
   confirms_met hand (Some r) ask h = h
 
-  hand_confirms : (job : Job) (hand : Option Hand) (ask : ℕ) → Is job → HandMet met hand → Is (hand_confirmed_in job hand ask).state
-  unfolding hand_confirmed
-  hand_confirms job None ask h kept = h
-  hand_confirms job (Some hand) ask h kept = record { about = h.about; hand = confirms_met hand hand.reading ask kept }
-
-  job_confirms : (e : Emptying) (job : Option Job) (ask : ℕ) → AnyJobMet met job → At e → At (confirmed_in e job ask).state
-  unfolding job_confirmed
-  job_confirms e None ask held h = h
-  job_confirms e (Some job) ask held h = hand_confirms job job.hand ask held held.hand
-
-  -- ---- what the job asks
-
-  maps_asked : (e : Emptying) (job : Option Job) → AnyJobMet met job → At e → Goes (asks_maps e job)
-  maps_asked e None held h = h
-  maps_asked e (Some job) held h = held
-
-  list_asked : (e : Emptying) (job : Option Job) (server : ℕ) → AnyJobMet met job → At e → Goes (asks_list e job server)
-  list_asked e None server held h = h
-  list_asked e (Some job) server held h = held
-
-  usage_asked : (e : Emptying) (job : Option Job) (slot : ℕ) → AnyJobMet met job → At e → Goes (asks_usage e job slot)
-  usage_asked e None slot held h = h
-  usage_asked e (Some job) slot held h = held
-
-  hand_checked : (job : Job) (q : Questions) (hand : Option Hand) (block : BlockId) → Is job → HandMet met hand → Is (hand_checks_in job q hand block).job
-  unfolding checks
-  hand_checked job q None block h kept = h
-  hand_checked job q (Some hand) block h kept = record { about = h.about; hand = by (kept_ask hand block) }
-    where
-      by : (ask : Option ℕ) → RefMet met (checks_under hand q block ask).hand.seg
-      by None = kept
-      by (Some ask) = kept
-
-  checked_kept : (e : Emptying) (job : Option Job) (block : BlockId) → AnyJobMet met job → At e → At (checked_in e job block).state
-  unfolding job_checks
-  checked_kept e None block held h = h
-  checked_kept e (Some job) block held h = hand_checked job e.lasting.questions job.hand block held held.hand
-
-  check_said : (e : Emptying) (block : BlockId) (place : Place) (ask : Option ℕ) → At e → Goes (check_sent e block place ask)
-  check_said e block place None h = h
-  check_said e block place (Some ask) h = h
-
-  check_asked : (e : Emptying) (block : BlockId) (place : Place) → At e → Goes (asks_check e block place)
-  unfolding asks_check checks_block
-  check_asked e block place h = check_said (checks_block e block).state block place (checks_block e block).ask (checked_kept e e.job block h h)
-
-  holds_met : (e : Emptying) (job : Option Job) (seg : SegRef) → RefMet met seg → AnyJobMet met job → At e → At (holds_in e job seg)
-  holds_met e None seg fact held h = h
-  holds_met e (Some job) seg fact held h =
-      record { about = held.about; hand = in_hand_met e.maps.groups e.lasting.questions job.hand seg fact held.hand }
-
-  read_begun : (e : Emptying) (seg : SegRef) → RefMet met seg → At e → Goes (reads e seg)
-  unfolding reads holds
-  read_begun e seg fact h = holds_met e e.job seg fact h h
-
-  put_so : (e : Emptying) (i : LogIn) → At e → Goes (puts e i)
-  unfolding puts
-  put_so e i h = h
-
-  block_put : (e : Emptying) (one : BlockId × Entry × Option (List ℕ)) → At e → Goes (puts_block e one)
-  unfolding puts_block
-  block_put e one h = put_so e (log_in.Put one.0 one.1 one.2) h
-
-  blocks_moved : (e : Emptying) (blocks : List (BlockId × Entry × Option (List ℕ))) → At e → Goes (moves e blocks)
-  unfolding moves
-  blocks_moved e blocks h = put_so (steps puts_block e blocks).state log_in.Seal (steps_keep puts_block At block_put e blocks h)
+  checks_met : (hand : Hand) (q : Questions) (block : BlockId) (ask : Option ℕ) → RefMet met hand.seg → RefMet met (checks_under hand q block ask).hand.seg
+  checks_met hand q block None h = h
+  checks_met hand q block (Some ask) h = h
 
   dropped_met : (hand : Option Hand) → HandMet met hand → HandMet met (dropped hand)
   dropped_met None h = tt
   dropped_met (Some hand) h = h
 
-  segment_deleted : (e : Emptying) (job : Option Job) (server : ℕ) (name : SegName) → AnyJobMet met job → At e → Goes (deletes e job server name)
-  segment_deleted e None server name held h = h
-  segment_deleted e (Some job) server name held h = record { about = held.about; hand = dropped_met job.hand held.hand }
-
-  job_says : (e : Emptying) (o : Out) → OutMet met o → At e → Goes (says e o)
-  unfolding says
-  job_says e out.Hello fact h = maps_asked e e.job h h
-  job_says e (out.List server) fact h = list_asked e e.job server h h
-  job_says e (out.UsageAsk slot) fact h = usage_asked e e.job slot h h
-  job_says e (out.Fetch seg) fact h = read_begun e seg fact h
-  job_says e (out.Check block place) fact h = check_asked e block place h
-  job_says e (out.Move blocks) fact h = blocks_moved e blocks h
-  job_says e (out.Delete server name) fact h = segment_deleted e e.job server name h h
-  job_says e (out.Finished count) fact h = tt
-
-  -- ---- the job takes an input
-
-  took : (e : Emptying) (job : Option Job) (given : Input) → InputMet met given → AnyJobMet met job → At e → At (takes_in e job given).state
-  took e None given fact held h = h
-  took e (Some job) given fact held h = record { about = (let l = cleaning_met met job.cleaning given fact held.about in l.phase); hand = held.hand }
-
-  gave : (e : Emptying) (job : Option Job) (given : Input) → InputMet met given → AnyJobMet met job → AllByRecursion (OutMet met) (takes_in e job given).outs
-  gave e None given fact held = tt
-  gave e (Some job) given fact held = (let l = cleaning_met met job.cleaning given fact held.about in l.outs)
-
-  pub job_goes_on : (e : Emptying) (given : Input) → InputMet met given → AnyJobMet met e.job → AnyJobMet met (cleans e given).state.job
-  unfolding cleans job_takes
-  job_goes_on e given fact h =
-      each_keeps says At (OutMet met) job_says (takes_in e e.job given).state (takes_in e e.job given).outs (gave e e.job given fact h)
-      (took e e.job given fact h h)
-
-  -- ---- what comes for it
-
-  -- what a server lists was met
-  abbrev pub AllListed : Option ℕ → Listed → Type 0
-  AllListed None m = Unit {0}
-  AllListed (Some server) m = AllByRecursion (λ x. met x.name x.group) m.held
-
-  pub list_came : (e : Emptying) (server : Option ℕ) (m : Listed) → AllListed server m → AnyJobMet met e.job → AnyJobMet met (on_listed e server m).state.job
-  unfolding on_listed
-  list_came e None m fact h = h
-  list_came e (Some server) m fact h =
-      by_test Goes (is_out (lists_of e.job) m.ask) (cleans e (input.Listed server m.held)) (still e) (λ _. job_goes_on e (input.Listed server m.held) fact h)
-      (λ _. h)
-
-  pub usage_came : (e : Emptying) (m : Usage) → AnyJobMet met e.job → AnyJobMet met (on_usage e m).state.job
-  unfolding on_usage
-  usage_came e m h =
-      by_test Goes (is_out (usages_of e.job) m.ask) (cleans e (input.Usage m.slot m.epoch m.counts)) (still e)
-      (λ _. job_goes_on e (input.Usage m.slot m.epoch m.counts) tt h) (λ _. h)
-
-  pub live_came : (e : Emptying) (m : Live) → AnyJobMet met e.job → AnyJobMet met (on_live e m).state.job
-  unfolding on_live
-  live_came e m h =
-      by_test Goes (is_out (check_of (hand_of e.job) m.block) m.ask) (cleans e (input.Live m.block m.epoch m.entry)) (still e)
-      (λ _. job_goes_on e (input.Live m.block m.epoch m.entry) tt h) (λ _. h)
-
-  pub dead_came : (e : Emptying) (m : Dead) → AnyJobMet met e.job → AnyJobMet met (on_dead e m).state.job
-  unfolding on_dead
-  dead_came e m h =
-      by_test Goes (is_out (check_of (hand_of e.job) m.block) m.ask) (cleans e (input.Dead m.block m.epoch)) (still e)
-      (λ _. job_goes_on e (input.Dead m.block m.epoch) tt h) (λ _. h)
-
-  pub deleted_came : (e : Emptying) (server : Option ℕ) (m : Deleted) → AnyJobMet met e.job → AnyJobMet met (on_deleted e server m).state.job
-  unfolding on_deleted
-  deleted_came e None m h = h
-  deleted_came e (Some server) m h = job_goes_on e (input.Deleted server m.name) tt h
-
-  -- ---- the reading ends, or goes on
-
   over_hand : (hand : Option Hand) → HandMet met hand → HandMet met (read_over hand)
   over_hand None h = tt
   over_hand (Some hand) h = h
 
-  over_job : (job : Option Job) → AnyJobMet met job → AnyJobMet met (job_read job)
-  over_job None h = tt
-  over_job (Some job) h = record { about = h.about; hand = over_hand job.hand h.hand }
+  moved_hand : (hand : Option Hand) → HandMet met hand → HandMet met (hand_moved hand)
+  moved_hand None h = tt
+  moved_hand (Some hand) h = h
 
-  reading_ended : (e : Emptying) (read : Option Segment) → At e → Goes (ends_reading e read)
-  unfolding ends_reading
-  reading_ended e read h = job_goes_on (record e { job = job_read e.job }) (input.Read read) tt (over_job e.job h)
+  -- ---- one that serves
 
-  confirmed_so : (e : Emptying) (x : Next) → At e → Goes (after_confirmed e x)
-  confirmed_so e next.Ask h = h
-  confirmed_so e next.Lost h = reading_ended e None h
-  confirmed_so e next.Wait h = h
-  confirmed_so e next.Again h = h
-  confirmed_so e (next.Read segment) h = h
+  module _ (first : Cleaner) (what : Do) where
+    rehanded : (groups : Option GroupMapState) (hand : Option Hand) (q : Questions) (later : Option Hand) (r : Questions)
+        → Rehands first what (OutMet met) groups hand q later r → HandMet met hand → HandMet met later
+    unfolding checks hand_hears hand_confirmed
+    rehanded groups hand q later r (TakenUp seg due) h = in_hand_met groups q hand seg due h
+    rehanded groups hand q later r (Checked {hand = its} block) h = checks_met its q block (kept_ask its block) h
+    rehanded groups hand q later r LetGo h = dropped_met hand h
+    rehanded groups hand q later r ReadOver h = over_hand hand h
+    rehanded groups hand q later r MovedOver h = moved_hand hand h
+    rehanded groups hand q later r (Heard {hand = its} before known ask server t tells knows) h = hears_met its its.reading known ask server t h
+    rehanded groups hand q later r (Confirmed {hand = its}) h = confirms_met its its.reading q.last h
 
-  read_again : (e : Emptying) → At e → Goes (reads_again e)
-  unfolding reads_again confirmed
-  read_again e h =
-      let x : Heard Emptying = confirmed (with_questions e (drawn e.lasting.questions)) (next_ask e.lasting.questions) in
-      confirmed_so x.state x.next (job_confirms (with_questions e (drawn e.lasting.questions)) e.job (next_ask e.lasting.questions) h h)
+    changed : (e f : Emptying) → Changes first what (OutMet met) e f → AnyJobMet met e.job → AnyJobMet met f.job
+    changed e f (JobBegun count) h = record { about = tt; hand = tt }
+    changed e f JobEnded h = tt
+    changed e f (HandChanged x job hand q becomes) h =
+        record { about = h.about; hand = rehanded x.maps.groups job.hand x.lasting.questions hand q becomes h.hand }
+    changed e f _ h = h
 
-  after_told_so : (e : Emptying) (x : Next) → At e → Goes (after_told e x)
-  after_told_so e next.Wait h = h
-  after_told_so e next.Ask h = h
-  after_told_so e next.Again h = read_again e h
-  after_told_so e (next.Read segment) h = reading_ended e (Some segment) h
-  after_told_so e next.Lost h = reading_ended e None h
+    -- what a server lists was met
+    given_met : (e : Emptying) (given : Input) → DoMet what → Given first what e given → InputMet met given
+    given_met e given fact (ListCame packet server m same came from) =
+        subst (λ s. AllListed s m) from (subst (BodyMet packet.from) came.says (subst DoMet came.event fact))
+    given_met e given fact _ = tt
 
-  pub told_came : (e : Emptying) (server : Option ℕ) (ask : ℕ) (t : Answered) → AnyJobMet met e.job → AnyJobMet met (on_told e server ask t).state.job
-  unfolding on_told told_by
-  told_came e None ask t h = h
-  told_came e (Some server) ask t h =
-      let x : Heard Emptying = told_by e ask server t in
-      after_told_so x.state x.next (told_met e e.job e.maps.groups ask server t h h)
+  -- ---- any event
+
+  items_met : (p : Phase) (items : Items) → NodeMet met p → NodeMet met (noted p items)
+  items_met (Down l) items h = tt
+  items_met (Opening l o) items h = tt
+  items_met (Serving e) items h = h
+
+  comes_met : (l : Lasting) (p : Progress) → NodeMet met (came_to l p)
+  comes_met l (progress.Opening o) = tt
+  comes_met l (progress.Opened o) = tt
+  comes_met l (progress.Lost seg) = tt
+
+  restarted : (servers : ℕ) (l : Lasting) (number : ℕ) → NodeMet met (restarts servers l number).state
+  unfolding restarts
+  restarted servers l number = tt
+
+  keeps : (first : Cleaner) (what : Do) → DoMet what → StateKeeps first what (NodeMet met) (OutMet met)
+  keeps first what fact = record {
+    apart = λ one blocks due. (tt, tt);
+    changes = λ e f change h. changed first what e f change h;
+    cleans = λ e job given came h. (let l = cleaning_met met job.cleaning given (given_met first what _ given fact came) h.about in
+        (record { about = l.phase; hand = h.hand }, l.outs));
+    puts = λ e i put h. h;
+    writes = λ e i came h. h;
+    settles = λ e end rows h. h;
+    items = λ p items for h. items_met p items h;
+    falls = λ p h. tt;
+    restarts = λ l number event following h. restarted first.peers.servers l number;
+    opens = λ l o x by h. comes_met (record l { questions = x.questions }) x.progress;
+  }
+
+  any_cleaner_meets : (cleaner : Cleaner) (what : Do) → CleanerMeets met cleaner → DoMet what → CleanerMeets met (cleaner_step cleaner what).node
+  any_cleaner_meets cleaner what h fact = state_goes cleaner what (NodeMet met) (OutMet met) (keeps cleaner what fact) h
+
+-- ---- more was listed
+
+module _ (met later : Met) (grows : (name : SegName) (group : ℕ) → met name group → later name group) where
+  turn_rises : (left : List SegRef) (seg : SegRef) → TurnMet met left seg → TurnMet later left seg
+  turn_rises left seg h = record {
+    here = grows seg.name seg.group h.here;
+    behind = all_weaker (RefMet met) (RefMet later) (λ s. grows s.name s.group) left h.behind;
+  }
+
+  candidates_rise : (entries : List (SegName × ℕ)) → AllByRecursion (CandidateMet met) entries → AllByRecursion (CandidateMet later) entries
+  candidates_rise entries h = all_weaker (CandidateMet met) (CandidateMet later) (λ e. grows e.0 e.1) entries h
+
+  about_rises : (p : jobs_phase.Phase) → PhaseMet met p → PhaseMet later p
+  about_rises job_phase.Greeting h = tt
+  about_rises (job_phase.Listing l) h = candidates_rise l.candidates h
+  about_rises (job_phase.Counting c) h = candidates_rise c.candidates h
+  about_rises (job_phase.Reading j seg) h = turn_rises j.left seg h
+  about_rises (job_phase.Checking j seg checks) h = turn_rises j.left seg h
+  about_rises (job_phase.Deleting j seg servers) h = turn_rises j.left seg h
+  about_rises job_phase.Over h = tt
+
+  hand_rises : (hand : Option Hand) → HandMet met hand → HandMet later hand
+  hand_rises None h = tt
+  hand_rises (Some hand) h = grows hand.seg.name hand.seg.group h
+
+  job_rises : (job : Option Job) → AnyJobMet met job → AnyJobMet later job
+  job_rises None h = tt
+  job_rises (Some job) h = record { about = about_rises job.cleaning.phase h.about; hand = hand_rises job.hand h.hand }
+
+  node_rises : (p : Phase) → NodeMet met p → NodeMet later p
+  node_rises (Down l) h = tt
+  node_rises (Opening l o) h = tt
+  node_rises (Serving e) h = job_rises e.job h
+
+-- ---- the laws
+
+all_in : {X : Type 0} (P : X → Type 0) (xs : List X) → ((x : X) → In x xs → P x) → AllByRecursion P xs
+all_in P [] each = tt
+all_in P (x ∷ xs) each = (each x (inl refl), all_in P xs (λ y h. each y (inr h)))
+
+module _ (packets : List Packet) (to : NodeId) (packet : Packet) (among : In packet packets) (reader : packet.to ≡ to) where
+  all_listed : (m : Listed) → packet.body ≡ body.Listed m → (server : Option ℕ) → server_in packet.from ≡ server
+      → AllListed (listed_in packets to) server m
+  all_listed m fact None from = tt
+  all_listed m fact (Some server) from =
+      all_in (λ (x : FragMeta). ListedIn packets to x.name x.group) m.held
+      (λ x held. record {
+        packet = packet;
+        among = among;
+        reader = reader;
+        server = server;
+        from = from;
+        said = m;
+        bears = fact;
+        meta = x;
+        held = held;
+        named = refl;
+        grouped = refl;
+      })
+
+  body_met : (b : Body) → packet.body ≡ b → BodyMet (listed_in packets to) packet.from b
+  body_met (body.Listed m) fact = all_listed m fact (server_in packet.from) refl
+  body_met _ fact = tt
+
+do_met : (packets : List Packet) (to : NodeId) (what : Do) → IsSent packets to what → DoMet (listed_in packets to) what
+do_met packets to Begin h = tt
+do_met packets to (Deliver packet) h = body_met packets to packet h.0 h.1 packet.body refl
+do_met packets to Tick h = tt
+
+pub cleaner_starts_met : CleanerStartsMet
+cleaner_starts_met packets to setup works = tt
+
+pub cleaner_meets_rise : CleanerMeetsRise
+cleaner_meets_rise packets more to cleaner grows h =
+    node_rises (listed_in packets to) (listed_in more to) (λ name group x. record {
+      packet = x.packet;
+      among = grows x.packet x.among;
+      reader = x.reader;
+      server = x.server;
+      from = x.from;
+      said = x.said;
+      bears = x.bears;
+      meta = x.meta;
+      held = x.held;
+      named = x.named;
+      grouped = x.grouped;
+    }) cleaner.phase h
+
+pub cleaner_events_meet : CleanerEventsMeet
+cleaner_events_meet packets to cleaner what h fact = any_cleaner_meets (listed_in packets to) cleaner what h (do_met packets to what fact)

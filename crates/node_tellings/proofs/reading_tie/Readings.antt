@@ -1,7 +1,6 @@
 -- A reading takes what came alone: whatever it is told, its round stays one of answers that came, and what it reads is joined of them.
-use Rattle.std.proofs.Common.{◌≡◌, ℕ, true, ◌==◌, ◌&&◌, List, [], ◌∷◌, ◌++◌, Option, Some, None, Result, Ok, Err, length, refl, sym, subst, arith}
+use Rattle.std.proofs.Common.{◌≡◌, ℕ, true, ◌==◌, ◌&&◌, List, [], ◌∷◌, ◌++◌, Option, Some, None, Result, Ok, Err, length, refl, sym, subst}
 use Rattle.std.proofs.lemmas.Bool.{eqb-true}
-use Rattle.std.proofs.lemmas.Bool.Decides.{nat_tests}
 use Rattle.std.proofs.lemmas.List.Elements.{All-nil}
 use Rattle.group_map.specs.declared.group.Group.{Group}
 use Rattle.group_map.specs.GroupMapState.{GroupMapState}
@@ -19,24 +18,13 @@ use Rattle.stripe_code.specs.declared.round.RoundState.{RoundState}
 use Rattle.stripe_code.specs.declared.round.RoundState.TheVariants as round
 use Rattle.stripe_code.specs.declared.round.Told.{Told as Answered}
 use Rattle.stripe_code.specs.declared.round.Told.TheVariants.{Held, Missing}
-use Rattle.stripe_code.specs.Fragments.{same_name}
+use Rattle.xfs_base.specs.Segments.{same_name}
 use Rattle.stripe_code.specs.Round.{RoundSoFar, TellsPart, count_of, asks, has_answered, taken, told_fits, state_of}
 use Rattle.xfs_base.proofs.Booleans.{by_test, and_first, and_second}
-use Rattle.xfs_base.specs.declared.segment.SegName.{SegName}
+use Rattle.xfs_base.proofs.SegmentNames.{one_name}
 use Rattle.xfs_base.specs.declared.segment.SegRef.{SegRef}
 use Rattle.xfs_base.proofs.Alls.{all_append, all_weaker}
 use Rattle.node_tellings.specs.reading_tie.Came.{Came, Striped, CameMore, StripedMore, GroupStriped, MapStriped, MapsStriped, IsOfName, AnswerCame, RoundCame, ReadingCame, AnyReadingCame, ReadsJoined, ReadsTarget}
-
--- ---- lists
-
--- names that pass the test are one
-pub one_name : (a b : SegName) → same_name a b ≡ true → a ≡ b
-one_name a b h =
-    let log : a.log.0 ≡ b.log.0 = grind (arith, nat_tests) in
-    let seq : a.seq ≡ b.seq = grind (arith, nat_tests) in
-    let inc : a.pass.inc ≡ b.pass.inc = grind (arith, nat_tests) in
-    let att : a.pass.att ≡ b.pass.att = grind (arith, nat_tests) in
-    λ i. record { log = record { 0 = log i }; seq = seq i; pass = record { inc = inc i; att = att i } }
 
 -- ---- an answer that counts
 

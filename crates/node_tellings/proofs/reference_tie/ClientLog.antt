@@ -6,16 +6,17 @@ use Rattle.client_log.specs.declared.input.In.{In as Input}
 use Rattle.client_log.specs.declared.output.Out.{Out}
 use Rattle.client_log.specs.declared.output.Out.TheVariants.{Send, Settled}
 use Rattle.client_log.specs.Transition as log
-use Rattle.client_call.specs.Flights.{is_settling, is_giving}
-use Rattle.client_call.specs.Lasting.{log_of}
 use Rattle.client_serving.specs.declared.serving.Serving.{Serving}
 use Rattle.client_serving.specs.Flights.{held_at, notes_settled, keeps_clean, gives_up, gives_if_clean, feeds, settled_rows, settles, writes_one, seals_again, writes}
 use Rattle.client_serving.specs.Follow.{notes_clean, seals}
+use Rattle.client_serving.specs.Lasting.{log_of}
 use Rattle.client_serving.specs.Sends.{Done}
+use Rattle.log_owner.specs.Sealing.{is_settling}
 use Rattle.log_owner.specs.Sending.{store, name_of, pushes_all}
 use Rattle.node_base.specs.declared.effects.Effect.TheVariants.{Does}
 use Rattle.token_client.specs.declared.held.Giving.{Giving}
 use Rattle.token_client.specs.Held.{is_dirty}
+use Rattle.token_client.specs.Settling.{is_giving}
 use Rattle.token_client.specs.State.{dirty_in}
 use Rattle.version_model.specs.declared.act.Act.TheVariants.{Filed}
 use Rattle.xfs_base.proofs.Booleans.{by_test}

@@ -3,11 +3,11 @@ use Rattle.xfs_base.specs.declared.segment.End.{End}
 use Rattle.std.proofs.Common.{◌≡◌, refl, ap, ◌∙◌, ℕ, ◌==◌, Bool, List, [], ◌∷◌, ◌++◌, Option, Some, None, nat_lt, ◌&&◌, not}
 use Rattle.std.specs.List.{flat_map}
 use Rattle.client_log.specs.declared.input.In.TheVariants as log_in
-use Rattle.client_call.specs.Grants.{supplies, is_stamp}
 use Rattle.client_call.specs.Reads.{block_read, Heard, heard, fetches_again, reading_in, value_at}
 use Rattle.client_serving.specs.declared.serving.Serving.{Serving}
 use Rattle.client_serving.specs.Flights.{held_at, writes}
 use Rattle.client_serving.specs.Follow.{hands, takes_back, follows}
+use Rattle.client_serving.specs.Grants.{supplies, is_stamp}
 use Rattle.client_serving.specs.Packets.{on_grant, on_supply, on_forward, again, says_again, on_recall, is_gone, on_gone, is_acked, on_ack, ends_fetch, told_at, told_by, on_told, asks_for_maps, renews, promises, reports, may_report, polled, on_poll, promised_in, is_news, hears, regroups, takes_news, on_news, on_welcome, on_body, on_packet, on_tick}
 use Rattle.client_serving.specs.Reads.{loses, with_reading}
 use Rattle.client_running.specs.Running.{runs}

@@ -1,7 +1,6 @@
 -- Whatever happens to a client that serves, whichever Report it sends bears the end that its log had before.
 use Rattle.std.specs.List.{AllByRecursion}
 use Rattle.client_node.specs.Phases.{Went_to, crashed, owner_of, restarted, after_opening, opened_on, answers, serves_on, wish_of, down_begins, opening_begins, serving_begins, lasting_of, begins_item, on_begin, on_deliver, on_time, delivers, happens, client_room, takes}
-use Rattle.client_call.specs.Lasting.{next_life}
 use Rattle.client_node.specs.Crash.{falls}
 use Rattle.client_running.specs.Opens.{begins_call, call_at, opens}
 use Rattle.log_owner.proofs.Behaving as behaving
@@ -27,8 +26,9 @@ use Rattle.node_base.specs.Beginning.{next_item, begun, work_at, waiting, answer
 use Rattle.xfs_base.specs.declared.segment.End.{End}
 use Rattle.client_node.specs.declared.client.Client.{Client}
 use Rattle.client_call.specs.declared.call.Going.{Going}
-use Rattle.client_call.specs.declared.lasting.Lasting.{Lasting}
+use Rattle.client_serving.specs.declared.lasting.Lasting.{Lasting}
 use Rattle.client_serving.specs.declared.serving.Serving.{Serving}
+use Rattle.client_serving.specs.Lasting.{next_life}
 use Rattle.client_serving.specs.Packets as packets
 use Rattle.client_running.specs.Running.{goes_on}
 use Rattle.client_serving.specs.Sends.{Done, gives}

@@ -8,6 +8,7 @@ use Rattle.log_owner.specs.declared.promised.Managers.{Managers}
 use Rattle.log_owner.specs.Sending.{range, pushes, pushes_all}
 use Rattle.std.specs.List.{flat_map, range_with_len}
 use Rattle.xfs_base.specs.declared.segment.End.{End}
+use Rattle.xfs_base.specs.Limits.{slot_count}
 use Rattle.node_tellings.proofs.reference_tie.Reporting.{AllSay}
 
 module _ (told : End) (managers : Managers) where
@@ -19,4 +20,4 @@ module _ (told : End) (managers : Managers) where
   pushes_say f slot = ranges_say (pushed f slot)
 
   pub pushes_all_say : (f : FeedState) → AllSay told (pushes_all managers f)
-  pushes_all_say f = ranges_say (flat_map (pushed f) (range_with_len 0 8))
+  pushes_all_say f = ranges_say (flat_map (pushed f) (range_with_len 0 slot_count))

@@ -8,10 +8,10 @@ use Rattle.client_node.specs.declared.phase.Phase.TheVariants.{Down, Opening, Se
 use Rattle.client_node.specs.declared.phase.Phase.{Phase}
 use Rattle.client_node.specs.Phases.{client_step}
 use Rattle.client_node.specs.Starting.{first_client}
-use Rattle.client_call.specs.Lasting.{log_of}
 use Rattle.client_call.specs.Reads.{reading_in}
 use Rattle.client_serving.specs.declared.serving.Serving.{Serving}
 use Rattle.client_serving.specs.Flights.{held_at}
+use Rattle.client_serving.specs.Lasting.{log_of}
 use Rattle.delta_feed.specs.declared.feed.FiledDeltas.{FiledDeltas}
 use Rattle.delta_feed.specs.FeedState.{FeedState}
 use Rattle.log_flight.specs.Flights.{FlightState}

@@ -24,6 +24,7 @@ use Rattle.wire_msg.specs.declared.registry.CkptDone.{CkptDone}
 use Rattle.xfs_base.specs.declared.news.SlotNews.{SlotNews}
 use Rattle.xfs_base.specs.declared.node.NodeId.{NodeId}
 use Rattle.xfs_base.specs.declared.segment.LogId.{LogId}
+use Rattle.xfs_base.specs.Limits.{slot_count}
 
 -- What is to hold, in a slot and an epoch of it, of what is applied of the logs 1 to 9 and of the horizon of a checkpoint; and what is to hold of the number
 -- of a segment that the owner of a log tells.
@@ -91,12 +92,12 @@ ManagerBounded b manager = PhaseBounded b manager.phase
 
 -- the checkpoint that is kept of each slot, in the epoch that the slot has
 abbrev pub RegistryBounded : Bounds → RegistryNode → Type 0
-RegistryBounded b node = (slot : ℕ) → slot < 8 → b.horizon slot (entry_of node.board.entries slot).epoch (horizon_at node.board.checkpoints slot)
+RegistryBounded b node = (slot : ℕ) → slot < slot_count → b.horizon slot (entry_of node.board.entries slot).epoch (horizon_at node.board.checkpoints slot)
 
 -- where a slot gets another epoch, the checkpoint that was kept of it before
 abbrev pub NewEpochsBounded : Bounds → RegistryNode → RegistryNode → Type 0
 NewEpochsBounded b before node =
-    (slot : ℕ) → slot < 8 → (entry_of node.board.entries slot).epoch ≢ (entry_of before.board.entries slot).epoch
+    (slot : ℕ) → slot < slot_count → (entry_of node.board.entries slot).epoch ≢ (entry_of before.board.entries slot).epoch
     → b.horizon slot (entry_of node.board.entries slot).epoch (horizon_at before.board.checkpoints slot)
 
 -- ---- packets

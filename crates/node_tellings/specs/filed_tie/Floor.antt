@@ -10,7 +10,7 @@ use Rattle.takeover.specs.Reports.{horizon_at}
 use Rattle.version_model.specs.declared.work.Work.{Work}
 use Rattle.wire_msg.specs.declared.packet.Do.{Do}
 use Rattle.xfs_base.specs.declared.setup.Setup.{Setup}
-use Rattle.xfs_base.specs.Limits.{u32_end}
+use Rattle.xfs_base.specs.Limits.{u32_end, block_logs}
 use Rattle.node_tellings.specs.filed_tie.Bounds.{Bounds, ManagerBounded, RegistryBounded, NewEpochsBounded, PacketBounded, DoBounded}
 
 -- of each slot, of each epoch of it, of each log, the least that a horizon may be in it
@@ -24,8 +24,8 @@ least floor slot epoch log = min (floor slot epoch log) u32_end
 -- of the logs 1 to 9 each horizon reaches the floor, and all below the floor is applied
 abbrev pub above : Floor → Bounds
 above floor = record {
-  applied = λ slot epoch applied. (log : ℕ) → 1 ≤ log → log ≤ 9 → least floor slot epoch log ≤ suc (applied_of applied log);
-  horizon = λ slot epoch horizon. (log : ℕ) → 1 ≤ log → log ≤ 9 → least floor slot epoch log ≤ horizon_at horizon log;
+  applied = λ slot epoch applied. (log : ℕ) → 1 ≤ log → log ≤ block_logs → least floor slot epoch log ≤ suc (applied_of applied log);
+  horizon = λ slot epoch horizon. (log : ℕ) → 1 ≤ log → log ≤ block_logs → least floor slot epoch log ≤ horizon_at horizon log;
   told = λ log number. Unit {0};
 }
 

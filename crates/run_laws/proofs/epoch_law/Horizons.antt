@@ -17,6 +17,7 @@ use Rattle.token_manager.specs.SlotState.{SlotState}
 use Rattle.run_laws.proofs.world_index.Horizons.{Steady, steady_always}
 use Rattle.xfs_base.specs.declared.block.BlockId.{BlockId}
 use Rattle.xfs_base.specs.declared.segment.SegRef.{SegRef}
+use Rattle.xfs_base.specs.Limits.{slot_count}
 use Rattle.run_laws.specs.epoch_law.Polls.{HorizonsStay}
 
 -- an epoch's horizon is the next one's, while nobody is active at that
@@ -79,7 +80,7 @@ module _ (part : ℕ) (holds : SegRef → Rows) where
   happens_holds n m (JobHearsDead number b epoch name d answered hand) k managed h = h
   happens_holds n m (JobTakes i other) k managed h = h
 
-  module _ (managed : CheckpointsHaveManagers) (first : ℕ → ℕ → Segment) (of_eight : part < 8) where
+  module _ (managed : CheckpointsHaveManagers) (first : ℕ → ℕ → Segment) (of_eight : part < slot_count) where
     -- a block of the slot
     abbrev one : BlockId
     one = record { ino = record { 0 = part }; blk = 0 }

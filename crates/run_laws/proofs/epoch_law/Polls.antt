@@ -39,6 +39,7 @@ use Rattle.xfs_base.specs.declared.news.SlotNews.{SlotNews}
 use Rattle.xfs_base.specs.declared.node.NodeId.{NodeId}
 use Rattle.xfs_base.specs.declared.node.NodeId.TheVariants.{Client, Manager, Server, Cleaner, Registry}
 use Rattle.xfs_base.proofs.Booleans.{equal_itself}
+use Rattle.xfs_base.specs.Limits.{slot_count, block_logs}
 use Rattle.run_laws.proofs.epoch_law.Horizons.{horizons_stay}
 use Rattle.run_laws.proofs.epoch_law.Nodes.{one_registry}
 use Rattle.run_laws.specs.epoch_law.Polls.{CleanerPollsAreLow, ClientPollsAreLow, IsLow, PollSent}
@@ -59,7 +60,7 @@ least_below l (y ∷ slots) x (inl same) = subst (λ z. least_horizon l (y ∷ s
 least_below l (y ∷ slots) x (inr among) = min_rest (horizon_of l y) (least_horizon l slots) (horizon_of l x) (least_below l slots x among)
 
 -- where the horizon has a number of the log, that is its horizon
-horizon_is : (x : SlotNews) (l : ℕ) → 0 < l → l ≤ 9 → 0 < of_log x.horizon l → horizon_of l x ≤ of_log x.horizon l
+horizon_is : (x : SlotNews) (l : ℕ) → 0 < l → l ≤ block_logs → 0 < of_log x.horizon l → horizon_of l x ≤ of_log x.horizon l
 horizon_is x l some limit from_one =
     subst (λ a. horizon_of l x ≤ a) (sym read) (by (slice_get x.horizon (l - 1)) (subst (λ a. 0 < a) read from_one))
   where
@@ -72,7 +73,7 @@ horizon_is x l some limit from_one =
 
 -- ---- the registry's news of the slot
 
-news_among : (b : BoardState) (part : ℕ) → part < 8 → In (slot_news b part) (all_news b)
+news_among : (b : BoardState) (part : ℕ) → part < slot_count → In (slot_news b part) (all_news b)
 news_among b zero less = inl refl
 news_among b (suc zero) less = inr (inl refl)
 news_among b (suc (suc zero)) less = inr (inr (inl refl))
@@ -87,7 +88,7 @@ up_to : (a b c : ℕ) → a ≤ b → b ≤ c → a ≤ c
 up_to a b c h g = omega arith
 
 -- the registry's horizon of a log is at or above the least one
-least_kept : (part : ℕ) (n : index.Net) (r : RegistryNode) → part < 8 → RegistryAgrees part n r → (l : ℕ) → 0 < l → l ≤ 9
+least_kept : (part : ℕ) (n : index.Net) (r : RegistryNode) → part < slot_count → RegistryAgrees part n r → (l : ℕ) → 0 < l → l ≤ block_logs
     → least_horizon l (all_news r.board) ≤ of_log (n.horizon n.epoch) l
 least_kept part n r of_eight agreed l some limit =
     let x = slot_news r.board part in
@@ -107,7 +108,7 @@ poll_within k part t Cleaner to m h = absurd h
 poll_within k part t Registry to m h = absurd h
 
 module _ (managed : CheckpointsHaveManagers) (promised : ActiveEpochsPromised) (logs : Bool) (k : Cluster) (part : ℕ) (texts : Texts) (first : ℕ → ℕ → Segment)
-    (nodes : List AnyNode) (sent : List Packet) (acts : List Act) (t : owners.Scene) (i : places.Scene) (of_eight : part < 8)
+    (nodes : List AnyNode) (sent : List Packet) (acts : List Act) (t : owners.Scene) (i : places.Scene) (of_eight : part < slot_count)
     (both : BothStand logs k part texts first nodes sent acts t i) where
   -- a block of the slot
   abbrev some_block : BlockId
@@ -151,7 +152,7 @@ module _ (managed : CheckpointsHaveManagers) (promised : ActiveEpochsPromised) (
         plus : (a b : ℕ) → a + suc b ≡ suc (a + b)
         plus a b = omega arith
 
-    pub polled_low : limit ≤ i.net.epoch → (l : ℕ) → 0 < l → l ≤ 9 → IsLow i limit l
+    pub polled_low : limit ≤ i.net.epoch → (l : ℕ) → 0 < l → l ≤ block_logs → IsLow i limit l
     polled_low within l some less =
         subst (λ (h : List ℕ). least_horizon l (all_news i.registry.board) ≤ of_log h l)
         (ap i.net.horizon (sym end) ∙ same_horizon (i.net.epoch - limit) (omega arith))

@@ -20,6 +20,7 @@ use Rattle.token_manager.specs.Transition.{entry_at, joins_on}
 use Rattle.wire_msg.specs.declared.deltas.Deltas.{Deltas}
 use Rattle.xfs_base.specs.declared.block.BlockId.{BlockId}
 use Rattle.xfs_base.specs.declared.node.NodeId.TheVariants.{Client, Manager, Server, Cleaner, Registry}
+use Rattle.xfs_base.specs.Logs.{cleaners_number}
 use Rattle.run_laws.specs.index_reads.Managers.{DeltasAreCovered}
 use Rattle.run_laws.specs.index_reads.Ties.{Tied}
 use Rattle.run_laws.proofs.index_reads.Deltas.{covers}
@@ -73,5 +74,5 @@ deltas_are_covered members part j texts asked t i p (Client c) m seen gets =
 deltas_are_covered members part j texts asked t i p (Manager c) m seen gets = tt
 deltas_are_covered members part j texts asked t i p (Server c) m seen gets = tt
 deltas_are_covered members part j texts asked t i p Cleaner m seen gets =
-    λ of. joins_covered members part texts t i seen.tied p seen.desk 9 m seen.tokens_see seen.index_sees (gets of)
+    λ of. joins_covered members part texts t i seen.tied p seen.desk cleaners_number m seen.tokens_see seen.index_sees (gets of)
 deltas_are_covered members part j texts asked t i p Registry m seen gets = tt

@@ -4,6 +4,7 @@ use Rattle.std.proofs.Common.{◌≡◌, ℕ, suc, ◌<◌, ◌≤◌, ◌⊎◌
 use Rattle.std.proofs.lemmas.Bool.Decides.{nat_tests}
 use Rattle.xfs_base.specs.declared.block.BlockId.{BlockId}
 use Rattle.xfs_base.specs.declared.entry.Entry.{Entry}
+use Rattle.xfs_base.specs.Limits.{block_logs}
 use Rattle.delta_index.specs.Entries.{is_newer, first_greatest}
 use Rattle.delta_index.specs.Index.{entry_of, merged_all}
 use Rattle.delta_index.specs.Join.{join}
@@ -49,7 +50,7 @@ greatest_is a b = by (is_newer b a) refl
 module _ (k : Books) (f : Filed) (same : Same k f) (begins : BeginsAtOne k) (b : BlockId) (w : IndexState) (reached : IndexReached w)
     (tells : Tells b f w) where
   -- what a slot has applied is no newer than its entry
-  pub applied_older : (s : SlotState) (l q : ℕ) → Manages b f w s → 0 < l → l ≤ 9 → q ≤ applied_of s.applied l → q ≤ f.head l
+  pub applied_older : (s : SlotState) (l q : ℕ) → Manages b f w s → 0 < l → l ≤ block_logs → q ≤ applied_of s.applied l → q ≤ f.head l
       → (said k l q b).version ≤ (entry_at s b).ver
   applied_older s l q m some limit to filed =
       let applied = m.applied l some in

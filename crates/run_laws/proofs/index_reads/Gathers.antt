@@ -39,6 +39,8 @@ use Rattle.token_protocol.specs.Basics.{In}
 use Rattle.xfs_base.specs.declared.block.BlockId.{BlockId}
 use Rattle.xfs_base.specs.declared.entry.Entry.{Entry}
 use Rattle.xfs_base.specs.declared.node.NodeId.TheVariants.{Client, Cleaner}
+use Rattle.xfs_base.specs.Limits.{block_logs}
+use Rattle.xfs_base.specs.Logs.{cleaners_number}
 use Rattle.run_laws.specs.index_reads.Ties.{Tied}
 use Rattle.run_laws.proofs.index_reads.Deltas.{applied_older}
 use Rattle.run_laws.proofs.index_reads.Sayings.{names_filed}
@@ -47,12 +49,12 @@ use Rattle.run_laws.proofs.index_reads.Worlds.{of_slot, some_block, same, begins
 -- ---- what is applied, by log
 
 -- the end that a client reported is applied
-end_applied : (horizon : List ℕ) (reports : List Heard) (c : ℕ) → 0 < c → c < 9 → ends_of reports c ≤ applied_in_slot (applied_of horizon reports) c
+end_applied : (horizon : List ℕ) (reports : List Heard) (c : ℕ) → 0 < c → c < cleaners_number → ends_of reports c ≤ applied_in_slot (applied_of horizon reports) c
 end_applied horizon reports c some less =
     let at = of_log_in (applied_of horizon reports) c some (omega arith) in
     let fact = applied_in horizon reports c some (omega arith) in
     let its : (end_of reports c).seq ≡ ends_of reports c =
-    ap (λ node. (end_from node reports).seq) (second_of (c == 9) Cleaner (Client c) (grind (arith, nat_tests))) in
+    ap (λ node. (end_from node reports).seq) (second_of (c == cleaners_number) Cleaner (Client c) (grind (arith, nat_tests))) in
     let limit = least (end_of reports c).seq (horizon_at horizon c - 1) in
     omega arith
   where
@@ -60,7 +62,7 @@ end_applied horizon reports c some less =
     least a b = omega arith
 
 -- of a log above the ninth nothing is
-nothing_applied : (horizon : List ℕ) (reports : List Heard) (l : ℕ) → 9 < l → applied_in_slot (applied_of horizon reports) l ≡ 0
+nothing_applied : (horizon : List ℕ) (reports : List Heard) (l : ℕ) → block_logs < l → applied_in_slot (applied_of horizon reports) l ≡ 0
 nothing_applied horizon reports l past =
     get_or-eq_default (applied_of horizon reports) 0 (let n = nine horizon reports in omega arith)
 
@@ -78,7 +80,7 @@ module _ (members part : ℕ) (texts : Texts) (t : tokens.Net) (i : index.Net) (
     at : put i.slots e (Some slot) e ≡ Some slot
     at = put_here i.slots e (Some slot)
 
-    applied_filed : (l : ℕ) → 0 < l → l ≤ 9 → applied l ≤ i.filed.head l
+    applied_filed : (l : ℕ) → 0 < l → l ≤ block_logs → applied l ≤ i.filed.head l
     applied_filed l some limit =
         let v = good.views (some_block part) (its_block members part (held_in part texts) t i tied) in
         let fact = (v.slots e slot at).applied l some in
@@ -91,7 +93,7 @@ module _ (members part : ℕ) (texts : Texts) (t : tokens.Net) (i : index.Net) (
         (λ l more limit _. let filed = applied_filed l more limit in let end = tied.books.end l more limit in omega arith)
         (λ l out more. past l out more) l some
       where
-        past : (l : ℕ) → (l ≡ 0) ⊎ (9 < l) → 0 < l → applied l ≤ t.books.end l
+        past : (l : ℕ) → (l ≡ 0) ⊎ (block_logs < l) → 0 < l → applied l ≤ t.books.end l
         past l (inl none) more = absurd (omega arith)
         past l (inr above) more = let none = nothing_applied horizon reports l above in omega arith
 
@@ -105,7 +107,7 @@ module _ (members part : ℕ) (texts : Texts) (t : tokens.Net) (i : index.Net) (
         by_log (λ l. 0 < l → q ≤ applied l → (said t.books l q b).version ≤ (entry_at slot b).ver) (λ l more limit _ within. here l more limit within)
         (λ l out more within. past l out more within) l some to
       where
-        here : (l : ℕ) → 0 < l → l ≤ 9 → q ≤ applied l → (said t.books l q b).version ≤ (entry_at slot b).ver
+        here : (l : ℕ) → 0 < l → l ≤ block_logs → q ≤ applied l → (said t.books l q b).version ≤ (entry_at slot b).ver
         here l more limit within =
             let v = good.views b (of_slot part b inside) in
             applied_older t.books i.filed (same members part (held_in part texts) t i tied)
@@ -113,7 +115,7 @@ module _ (members part : ℕ) (texts : Texts) (t : tokens.Net) (i : index.Net) (
             (v.slots e slot at) more limit within
             (let filed = applied_filed l more limit in omega arith)
 
-        past : (l : ℕ) → (l ≡ 0) ⊎ (9 < l) → 0 < l → q ≤ applied l → (said t.books l q b).version ≤ (entry_at slot b).ver
+        past : (l : ℕ) → (l ≡ 0) ⊎ (block_logs < l) → 0 < l → q ≤ applied l → (said t.books l q b).version ≤ (entry_at slot b).ver
         past l (inl none) more within = absurd (omega arith)
         past l (inr above) more within =
             let none = nothing_applied horizon reports l above in

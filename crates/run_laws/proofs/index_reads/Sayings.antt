@@ -7,6 +7,7 @@ use Rattle.xfs_base.specs.declared.block.BlockId.{BlockId}
 use Rattle.xfs_base.specs.declared.entry.Entry.{Entry}
 use Rattle.xfs_base.specs.declared.segment.SegName.{SegName}
 use Rattle.xfs_base.proofs.Members.{contains_nothing}
+use Rattle.xfs_base.specs.Limits.{block_logs}
 use Rattle.delta_index.specs.Join.{join}
 use Rattle.index_tie.specs.Filed.{Filed, rows_at, row_at, Names}
 use Rattle.index_tie.specs.Filed as index
@@ -40,21 +41,21 @@ rows_there f l q from to = first_of (nat_lt 0 q && nat_le q (f.head l)) (rows_of
 
 module _ (k : Books) (f : Filed) (same : Same k f) (b : BlockId) where
   -- a filed segment says the same of the block
-  says_same : (l q : ℕ) → 0 < l → l ≤ 9 → 0 < q → q ≤ f.head l → SaysSame (f.segment l q) (said k l q b) (row_at f b l q)
+  says_same : (l q : ℕ) → 0 < l → l ≤ block_logs → 0 < q → q ≤ f.head l → SaysSame (f.segment l q) (said k l q b) (row_at f b l q)
   says_same l q some limit from to =
       let s = f.segment l q in
       subst (λ xs. SaysSame s (row_in xs b) (row_at f b l q)) (sym (same.books.rows l q some limit from to))
       (subst (λ rows. SaysSame s (row_in (rows_told s.items) b) (join rows b)) (sym (rows_there f l q from to))
       (rows_are_entries s b (same.plain l q some limit from to) (same.filed.each l q from to).versions))
 
-  pub same_version : BeginsAtOne k → (l q : ℕ) → 0 < l → l ≤ 9 → q ≤ f.head l → (said k l q b).version ≡ (row_at f b l q).ver
+  pub same_version : BeginsAtOne k → (l q : ℕ) → 0 < l → l ≤ block_logs → q ≤ f.head l → (said k l q b).version ≡ (row_at f b l q).ver
   same_version first l zero some limit to = ap (λ rows. (row_in rows b).version) (first l)
   same_version first l (suc q) some limit to = (says_same l (suc q) some limit (omega arith) to).version
 
   -- where a row is, a log has filed it
   pub record IsOfLog (l q : ℕ) : Type 0 where
     pub some : 0 < l
-    pub limit : l ≤ 9
+    pub limit : l ≤ block_logs
     pub from : 0 < q
     pub to : q ≤ f.head l
 
@@ -108,7 +109,7 @@ places_are_kept k f b e l q place filed books plain has lies =
     (λ l some limit has within. here same l some limit has within)
     (λ l out has within. absurd (let none = filed.others l out in let from = within.0 in let to = within.1 in omega arith)) l has within
   where
-    here : Same k f → (l : ℕ) → 0 < l → l ≤ 9 → Contains (rows_at f l q) (b, e) → (0 < q) × (q ≤ f.head l) → IsKept k f b e.ver place
+    here : Same k f → (l : ℕ) → 0 < l → l ≤ block_logs → Contains (rows_at f l q) (b, e) → (0 < q) × (q ≤ f.head l) → IsKept k f b e.ver place
     here same l some limit has within =
         let s = f.segment l q in
         let its = filed.each l q within.0 within.1 in

@@ -8,7 +8,7 @@ use Rattle.node_tellings.proofs.entry_tie.ClientTokens.{FetchesTold, InputTold, 
 use Rattle.node_tellings.specs.entry_tie.ClientTells.{FetchTold}
 use Rattle.node_tellings.specs.entry_tie.Told.{PlaceTold, Told}
 use Rattle.group_map.specs.GroupMapState.{GroupMapState}
-use Rattle.log_tie.proofs.Names.{one_name}
+use Rattle.xfs_base.proofs.SegmentNames.{one_name}
 use Rattle.segment_format.specs.declared.segment.Segment.{Segment}
 use Rattle.segment_reading.specs.declared.reading.Next.TheVariants as next
 use Rattle.segment_reading.specs.declared.reading.Stage.{Stage}
@@ -19,7 +19,7 @@ use Rattle.segment_reading.specs.Reading.{ReadingState, Step, counts, goes_on, j
 use Rattle.stripe_code.specs.declared.round.RoundState.{RoundState}
 use Rattle.stripe_code.specs.declared.round.RoundState.TheVariants as rounds
 use Rattle.stripe_code.specs.declared.round.Told.{Told as Answered}
-use Rattle.stripe_code.specs.Fragments.{same_name}
+use Rattle.xfs_base.specs.Segments.{same_name}
 use Rattle.stripe_code.specs.Round.{state_of, taken}
 use Rattle.token_client.specs.declared.held.Fetch.{Fetch}
 use Rattle.token_client.specs.declared.input.In.{In}

@@ -44,6 +44,8 @@ use Rattle.xfs_base.specs.declared.segment.SegName.{SegName}
 use Rattle.xfs_base.specs.declared.segment.SegRef.{SegRef}
 use Rattle.xfs_base.specs.Steps.{still}
 use Rattle.xfs_base.proofs.Alls.{all_append}
+use Rattle.xfs_base.specs.Limits.{slot_count}
+use Rattle.xfs_base.specs.Logs.{cleaners_number}
 use Rattle.run_laws.specs.place_law.Copies.{CheckLies, ChecksLie, FateLies, JobsChecksLie, PhaseLies}
 
 -- ---- one check
@@ -231,7 +233,7 @@ module _ (f : Filed) where
   pub taken : (s : CleaningState) (i : inputs.In) → Given s.phase i → PhaseLies f s.phase → KeepsOn (transition s i)
   unfolding on_welcome on_promise on_usage on_live on_dead
   taken s (input.Welcome slots groups) fact h =
-      by_test KeepsOn (is_greeting s.phase && (length slots == 8)) (welcomed s slots groups) (still s) (λ t. tt) (λ t. h)
+      by_test KeepsOn (is_greeting s.phase && (length slots == slot_count)) (welcomed s slots groups) (still s) (λ t. tt) (λ t. h)
   taken s (input.Promise slot epoch) fact h =
       by_test KeepsOn (is_above s.promised slot epoch) _ (still s) (λ t. forgetting_keeps slot s.phase h) (λ t. h)
   taken s (input.Maps groups) fact h = mapped_keeps groups s.phase h
@@ -281,7 +283,7 @@ module _ (part : ℕ) (holds : SegRef → Rows) where
 
   happens_lie : (n m : Net) → Happens part holds n m → PhaseLies n.filed n.job.phase → PhaseLies m.filed m.job.phase
   happens_lie n m (ClientFiles l s some less fact newer) h = more_lies n.filed (with_segment n.filed l s) n.job.phase (more_is_filed n.filed l s) h
-  happens_lie n m (CleanerFiles s fact copies) h = more_lies n.filed (with_segment n.filed 9 s) n.job.phase (more_is_filed n.filed 9 s) h
+  happens_lie n m (CleanerFiles s fact copies) h = more_lies n.filed (with_segment n.filed cleaners_number s) n.job.phase (more_is_filed n.filed cleaners_number s) h
   happens_lie n m (GetsDeltas e s log first upto rows at known tell) h = h
   happens_lie n m (GetsOther e s i at of) h = h
   happens_lie n m (Answers e s number b place d at asked) h = h

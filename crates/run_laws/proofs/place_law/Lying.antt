@@ -18,17 +18,18 @@ use Rattle.xfs_base.specs.declared.block.BlockId.{BlockId}
 use Rattle.xfs_base.specs.declared.entry.Entry.{Entry}
 use Rattle.xfs_base.specs.declared.entry.Place.{Place}
 use Rattle.xfs_base.specs.declared.segment.SegName.{SegName}
+use Rattle.xfs_base.specs.Limits.{block_logs}
 
 -- a log that files has a number from 1 to 9
-pub one_of_nine : (f : Filed) → IsFiled f → (l q : ℕ) → 0 < q → q ≤ f.head l → (0 < l) × (l ≤ 9)
-one_of_nine f filed l q some limit = (least (nat_lt 0 l) refl, greatest (nat_lt 9 l) refl)
+pub one_of_nine : (f : Filed) → IsFiled f → (l q : ℕ) → 0 < q → q ≤ f.head l → (0 < l) × (l ≤ block_logs)
+one_of_nine f filed l q some limit = (least (nat_lt 0 l) refl, greatest (nat_lt block_logs l) refl)
   where
     least : (t : Bool) → nat_lt 0 l ≡ t → 0 < l
     least true fact = grind (arith, nat_tests)
     least false fact = absurd (let zero_is : l ≡ 0 = grind (arith, nat_tests) in let none = filed.others l (inl zero_is) in omega arith)
 
-    greatest : (t : Bool) → nat_lt 9 l ≡ t → l ≤ 9
-    greatest true fact = absurd (let over : 9 < l = grind (arith, nat_tests) in let none = filed.others l (inr over) in omega arith)
+    greatest : (t : Bool) → nat_lt block_logs l ≡ t → l ≤ block_logs
+    greatest true fact = absurd (let over : block_logs < l = grind (arith, nat_tests) in let none = filed.others l (inr over) in omega arith)
     greatest false fact = grind (arith, nat_tests)
 
 -- what is filed at a number is what its segment says
@@ -46,7 +47,7 @@ module _ (f : Filed) (k : Books) (b : BlockId) (e : Entry) (place : Place) where
   pub record LiesAt (l q : ℕ) : Type 0 where
     pub some : 0 < q
     pub limit : q ≤ f.head l
-    pub nine : (0 < l) × (l ≤ 9)
+    pub nine : (0 < l) × (l ≤ block_logs)
     pub says : Contains (rows_of (f.segment l q)) (b, e)
     pub name : place.seg.name ≡ (f.segment l q).name
     pub group : place.seg.group ≡ (f.segment l q).group

@@ -1,7 +1,7 @@
 -- The maps that are sent are as the registry's map at the end of the run says: the registry alone sends maps, and those are its own.
-use Rattle.std.proofs.Common.{◌≡◌, ℕ, ◌+◌, ◌≤◌, true, List, [], ◌∷◌, Option, Some, None, map, length, inl, inr, refl, sym, ap, subst, ◌∙◌, arith}
+use Rattle.std.proofs.Common.{◌≡◌, ℕ, ◌+◌, ◌≤◌, true, List, [], ◌∷◌, Option, Some, map, length, inl, inr, refl, sym, ap, subst, ◌∙◌, arith}
 use Rattle.std.proofs.lemmas.Bool.Decides.{nat_tests}
-use Rattle.std.specs.List.{AllByRecursion, flat_map}
+use Rattle.std.specs.List.{AllByRecursion}
 use Rattle.client_node.specs.Phases as clients
 use Rattle.cleaner_node.specs.CleanerEvents as cleaners
 use Rattle.core_world.specs.AnyNode.{any_start, any_step}
@@ -16,20 +16,16 @@ use Rattle.group_map.specs.WellFormed.{IsGroupMap}
 use Rattle.log_tie.specs.Setting.{Stripe, stripe_of_group}
 use Rattle.manager_node.specs.Events as managers
 use Rattle.manager_node.specs.Phases.{lasting_of}
-use Rattle.node_base.specs.Beginning.{begun, next_item, work_at}
 use Rattle.node_base.specs.declared.effects.Effect.{Effect}
 use Rattle.node_base.specs.declared.effects.Effect.TheVariants.{Send, Answer, Lose, Does}
 use Rattle.node_base.specs.Effects.{packets_of}
-use Rattle.node_base.specs.Nodes.{others}
-use Rattle.node_base.specs.Room.{has_room}
-use Rattle.node_base.specs.Shape.{is_well_formed}
 use Rattle.node_logs.proofs.node_log_tie.WholeMaps.{its_stripe}
-use Rattle.registry.specs.Board.{transition}
-use Rattle.registry.specs.declared.input.In.TheVariants as input
-use Rattle.registry.specs.declared.output.Out.{Out}
-use Rattle.registry.specs.declared.output.Out.TheVariants.{Changed, Epoch, Kept}
+use Rattle.node_moves.proofs.registry_moves.Events.{registry_events_are_moves}
+use Rattle.node_moves.specs.registry_moves.Moves.{Said}
+use Rattle.node_moves.specs.registry_moves.Moves.Said.{TellsMaps, Welcomes}
+use Rattle.registry.specs.BoardState.{BoardState}
 use Rattle.registry_node.specs.declared.node.RegistryNode.{RegistryNode}
-use Rattle.registry_node.specs.Events.{Done, registry_step, news_of, tells_all, moved, on_move, changed, welcome_of, on_hello, kept, on_done, move_of, on_item, at_item, on_begin, hears, on_packet, on_event, takes}
+use Rattle.registry_node.specs.Events.{registry_step, takes}
 use Rattle.store_nodes.specs.ServerEvents as servers
 use Rattle.stripe_code.specs.Stripe.{IsCut}
 use Rattle.token_protocol.specs.Basics.{In}
@@ -37,21 +33,16 @@ use Rattle.version_model.specs.declared.work.Work.{Work}
 use Rattle.wire_msg.specs.declared.body.Body.{Body}
 use Rattle.wire_msg.specs.declared.body.Body.TheVariants as body
 use Rattle.wire_msg.specs.declared.packet.Do.{Do}
-use Rattle.wire_msg.specs.declared.packet.Do.TheVariants.{Begin, Deliver, Tick}
 use Rattle.wire_msg.specs.declared.packet.Packet.{Packet}
-use Rattle.wire_msg.specs.declared.registry.CkptDone.{CkptDone}
-use Rattle.wire_msg.specs.declared.registry.Hello.{Hello}
 use Rattle.world_base.specs.declared.world.World.{World}
 use Rattle.world_base.specs.NextWorld.{sent_at}
 use Rattle.run_laws.proofs.world_logs.Groups.{Names}
 use Rattle.run_laws.proofs.world_logs.Says.{MaySay, Plain, SaidByCleaner, SaidByServer}
 use Rattle.run_laws.specs.world_logs.Shelves.{group_at, groups_of}
-use Rattle.xfs_base.proofs.Booleans.{by_test}
 use Rattle.xfs_base.specs.declared.node.NodeId.{NodeId}
 use Rattle.xfs_base.specs.declared.node.NodeId.TheVariants.{Client, Manager, Server, Cleaner, Registry}
 use Rattle.xfs_base.specs.declared.setup.Setup.{Setup}
-use Rattle.xfs_base.specs.Steps.{still}
-use Rattle.xfs_base.proofs.Alls.{all_flat_map, all_map, all_append}
+use Rattle.xfs_base.proofs.Alls.{all_weaker}
 use Rattle.run_laws.specs.reading_law.Readings.{cut_of, cuts_at}
 use Rattle.node_tellings.specs.reading_tie.Arrivals.{Cuts, cut_by, BodyMaps}
 use Rattle.node_tellings.specs.reading_tie.Came.{MapStriped}
@@ -145,80 +136,19 @@ module _ (cuts : Cuts) where
   Says (Lose seg) = Unit {0}
   Says (Does act) = Unit {0}
 
-  abbrev AllSay : List Effect → Type 0
-  AllSay outs = AllByRecursion Says outs
-
   -- it sends maps that are so, where its own is
-  abbrev Tells : Done → Type 0
-  Tells d = MapStriped (cut_by cuts) d.state.board.groups → AllSay d.outs
+  abbrev Tells : BoardState → Effect → Type 0
+  Tells now e = MapStriped (cut_by cuts) now.groups → Says e
 
-  all_told : (node : RegistryNode) → MapStriped (cut_by cuts) node.board.groups → AllSay (tells_all node)
-  all_told node fact = all_map Says (λ (to : NodeId). Send to (body.MapNews (news_of node.board))) (λ to. fact) (others node.peers Registry)
+  tells_so : (node : RegistryNode) (what : Do) (now : BoardState) (e : Effect) → Said node what now e → Tells now e
+  tells_so node what now e (TellsMaps to) fact = fact
+  tells_so node what now e (Welcomes packet m came room same) fact = fact
+  tells_so node what now e _ fact = tt
 
-  moved_says : (node : RegistryNode) (number : ℕ) → MapStriped (cut_by cuts) node.board.groups → (o : Out) → AllSay (moved node number o)
-  moved_says node number fact Changed = all_told node fact
-  moved_says node number fact (Epoch epoch) = (tt, tt)
-  moved_says node number fact (Kept epoch) = tt
-
-  move_says : (node : RegistryNode) (number slot manager : ℕ) → Tells (on_move node number slot manager)
-  unfolding on_move
-  move_says node number slot manager fact =
-      let made = transition node.board (input.Reassign slot manager) in
-      let to : RegistryNode = record node { board = made.state } in
-      all_flat_map Says (moved to number) (moved_says to number fact) made.outs
-
-  changed_says : (node : RegistryNode) → MapStriped (cut_by cuts) node.board.groups → (o : Out) → AllSay (changed node o)
-  changed_says node fact Changed = all_told node fact
-  changed_says node fact (Epoch epoch) = tt
-  changed_says node fact (Kept epoch) = tt
-
-  hello_says : (node : RegistryNode) (from : NodeId) (hello : Hello) → Tells (on_hello node from hello)
-  unfolding on_hello
-  hello_says node from hello fact =
-      let made = transition node.board (input.Hello from hello.inc) in
-      let to : RegistryNode = record node { board = made.state } in
-      all_append Says (flat_map (changed to) made.outs) (Send from (body.Welcome (welcome_of to hello)) ∷ [])
-      (all_flat_map Says (changed to) (changed_says to fact) made.outs) (fact, tt)
-
-  kept_says : (from : NodeId) (m : CkptDone) (o : Out) → AllSay (kept from m o)
-  kept_says from m Changed = tt
-  kept_says from m (Epoch epoch) = tt
-  kept_says from m (Kept epoch) = (tt, tt)
-
-  done_says : (node : RegistryNode) (from : NodeId) (m : CkptDone) → Tells (on_done node from m)
-  unfolding on_done
-  done_says node from m fact = all_flat_map Says (kept from m) (kept_says from m) (transition node.board (input.Done m.slot m.epoch m.parts m.horizon)).outs
-
-  item_says : (node : RegistryNode) (number : ℕ) (wish : Option (ℕ × ℕ)) → Tells (on_item node number wish)
-  item_says node number None fact = tt
-  item_says node number (Some wish) fact = move_says node number wish.0 wish.1 fact
-
-  begun_says : (node : RegistryNode) (item : Option ℕ) → Tells (at_item node item)
-  begun_says node None fact = tt
-  begun_says node (Some number) fact = item_says node number (move_of (work_at node.items number)) fact
-
-  begin_says : (node : RegistryNode) → Tells (on_begin node)
-  unfolding on_begin
-  begin_says node fact = begun_says (record node { items = begun node.items }) (next_item node.items) fact
-
-  body_says : (node : RegistryNode) (from : NodeId) (said : Body) → Tells (hears node from said)
-  body_says node from (body.Hello hello) fact = hello_says node from hello fact
-  body_says node from (body.CkptDone m) fact = done_says node from m fact
-  body_says node from _ fact = tt
-
-  packet_says : (node : RegistryNode) (packet : Packet) → Tells (on_packet node packet)
-  unfolding on_packet
-  packet_says node packet =
-      by_test Tells (is_well_formed node.peers packet) (hears node packet.from packet.body) (still node) (λ _. body_says node packet.from packet.body)
-      (λ _ fact. tt)
-
-  event_says : (node : RegistryNode) (what : Do) → Tells (on_event node what)
-  event_says node Begin = begin_says node
-  event_says node (Deliver packet) = packet_says node packet
-  event_says node Tick = all_told node
-
-  takes_says : (node : RegistryNode) (what : Do) → Tells (takes node what)
-  takes_says node what = by_test Tells (has_room node.board.version) (on_event node what) (still node) (λ _. event_says node what) (λ _ fact. tt)
+  takes_says : (node : RegistryNode) (what : Do) → MapStriped (cut_by cuts) (takes node what).state.board.groups → AllByRecursion Says (takes node what).outs
+  takes_says node what fact =
+      let now : BoardState = (takes node what).state.board in
+      all_weaker (Said node what now) Says (λ e said. tells_so node what now e said fact) (takes node what).outs (registry_events_are_moves node what).says
 
 -- ---- nodes of any kind
 

@@ -5,7 +5,7 @@ use Rattle.client_node.specs.declared.client.Client.{Client as AClient}
 use Rattle.client_node.specs.declared.phase.Phase.TheVariants as phase
 use Rattle.client_node.specs.declared.phase.Phase.{Phase}
 use Rattle.client_node.specs.Phases.{Went_to, after_opening, begins_item, client_room, happens, on_begin, on_deliver, on_event, on_time, opening_begins, served, takes, wish_of}
-use Rattle.client_call.specs.declared.lasting.Lasting.{Lasting}
+use Rattle.client_serving.specs.declared.lasting.Lasting.{Lasting}
 use Rattle.client_serving.specs.declared.serving.Serving.{Serving}
 use Rattle.delta_feed.specs.FeedState.{FeedState}
 use Rattle.log_owner.proofs.Behaving as behaving

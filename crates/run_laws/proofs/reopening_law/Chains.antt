@@ -2,7 +2,7 @@
 use Rattle.std.proofs.Common.{◌≡◌, ⊎_elim, ◌⊎◌, ◌≤◌, ◌+◌, ◌==◌, ◌&&◌, ◌||◌, ℕ, suc, Bool, true, false, List, [], ◌∷◌, ◌++◌, length, Some, refl, sym, ap, ◌∙◌, inl, inr, arith}
 use Rattle.std.specs.List.{AllByRecursion}
 use Rattle.std.proofs.lemmas.Bool.{eq-eqb, eqb-true}
-use Rattle.client_call.specs.Crash.{flight_of}
+use Rattle.client_node.specs.Crash.{flight_of}
 use Rattle.log_flight.specs.Flights.{FlightState}
 use Rattle.log_law.specs.Net.{names_of}
 use Rattle.log_law.specs.ReadBack.{EndsAt}

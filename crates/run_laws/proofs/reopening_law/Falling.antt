@@ -8,11 +8,10 @@ use Rattle.client_node.specs.declared.client.Client.{Client as AClient}
 use Rattle.client_node.specs.declared.phase.Phase.TheVariants.{Down, Opening, Serving as Serves}
 use Rattle.client_node.specs.declared.phase.Phase.{Phase}
 use Rattle.client_node.specs.Phases.{Went_to, after_opening, begins_item, client_room, crashed, down_begins, happens, lasting_of, on_begin, on_deliver, on_time, opening_begins, owner_of, restarted, serving_begins, wish_of}
-use Rattle.client_call.specs.Crash.{flight_of}
-use Rattle.client_call.specs.declared.lasting.Lasting.{Lasting}
-use Rattle.client_call.specs.Lasting.{next_life}
-use Rattle.client_node.specs.Crash.{falls, fall_of}
+use Rattle.client_node.specs.Crash.{falls, fall_of, flight_of}
+use Rattle.client_serving.specs.declared.lasting.Lasting.{Lasting}
 use Rattle.client_serving.specs.declared.serving.Serving.{Serving}
+use Rattle.client_serving.specs.Lasting.{next_life}
 use Rattle.log_flight.specs.Flights.{FlightState}
 use Rattle.log_owner.proofs.Behaving as behaving
 use Rattle.log_owner.specs.Behaves.{MayAct, MayDo}

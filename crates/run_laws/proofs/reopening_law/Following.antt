@@ -4,7 +4,7 @@ use Rattle.std.specs.Prelude.{IfSome}
 use Rattle.std.proofs.lemmas.Bool.{leb-false, leb-true}
 use Rattle.client_log.specs.LogState.{LogState}
 use Rattle.client_log.specs.Transition as log
-use Rattle.client_call.specs.Crash.{flight_of}
+use Rattle.client_node.specs.Crash.{flight_of}
 use Rattle.index_tie.specs.Filed.{Filed}
 use Rattle.log_flight.specs.Flights.{FlightState}
 use Rattle.log_law.specs.Events.Runs.{Begun, On}

@@ -1,123 +1,127 @@
 -- What each event makes of the cleaner: what waits in its log and what is in flight there is what it moved.
-use Rattle.std.proofs.Common.{ℕ, Option, Some, None}
-use Rattle.cleaner_serving.specs.declared.emptying.Emptying.{Emptying}
-use Rattle.cleaner_node.specs.CleanerEvents.{Went_to, after_opening, opened_on, restarts, crashes, down_wishes, opening_wishes, serving_wishes, begun_life, wish_at, down_at, opening_at, serving_at, on_begin, hears, on_deliver, on_time, happens, phase_room, takes}
+use Rattle.std.proofs.Common.{ℕ, ◌+◌, ◌<◌, List, [], ◌∷◌, Option, Some, None, sym, subst, arith}
+use Rattle.std.specs.List.{AllByRecursion}
+use Rattle.cleaner_job.specs.declared.job.Job.{Job}
+use Rattle.cleaner_job.specs.declared.lasting.Lasting.{Lasting}
+use Rattle.cleaner_node.specs.CleanerEvents.{lasting_of, restarts, takes}
+use Rattle.cleaner_node.specs.declared.cleaner.Cleaner.{Cleaner}
 use Rattle.cleaner_node.specs.declared.cleaner.Phase.{Phase}
 use Rattle.cleaner_node.specs.declared.cleaner.Phase.TheVariants.{Down, Opening, Serving}
-use Rattle.cleaner_node.specs.declared.cleaner.Wish.{Wish}
-use Rattle.cleaner_node.specs.declared.cleaner.Wish.TheVariants.{Crash, Restart, Clean}
-use Rattle.cleaner_job.specs.declared.lasting.Lasting.{Lasting}
+use Rattle.cleaner_serving.specs.declared.emptying.Emptying.{Emptying}
+use Rattle.client_log.specs.declared.input.In.{In as LogIn}
+use Rattle.client_log.specs.LogState.{LogState}
+use Rattle.client_log.specs.Transition as log
+use Rattle.log_flight.specs.declared.dirty.Change.{Change}
+use Rattle.log_flight.specs.Flights.{FlightState}
 use Rattle.log_owner.specs.declared.opened.Progress.{Progress}
 use Rattle.log_owner.specs.declared.opened.Progress.TheVariants as progress
 use Rattle.log_owner.specs.declared.opening.Opening as openings
-use Rattle.log_owner.specs.Opening as opening
 use Rattle.log_owner.specs.Opening.{Went}
-use Rattle.node_base.specs.Beginning.{next_item}
-use Rattle.node_base.specs.declared.peers.Peers.{Peers}
-use Rattle.node_base.specs.Shape.{is_well_formed}
+use Rattle.node_base.specs.declared.items.Items.{Items}
+use Rattle.stripe_cleaner.specs.declared.input.In.{In}
 use Rattle.wire_msg.specs.declared.packet.Do.{Do}
-use Rattle.wire_msg.specs.declared.packet.Do.TheVariants.{Begin, Deliver, Tick}
-use Rattle.wire_msg.specs.declared.packet.Packet.{Packet}
-use Rattle.xfs_base.proofs.Booleans.{by_test}
-use Rattle.xfs_base.specs.Steps.{still}
-use Rattle.run_laws.specs.segment_tie.Cleaners.{BringsVersions, CleanerWrites, CleanerStartsWriting, CleanerWritesCopies, TellsVersion}
+use Rattle.xfs_base.specs.declared.block.BlockId.{BlockId}
+use Rattle.xfs_base.specs.declared.entry.Entry.{Entry}
+use Rattle.node_moves.proofs.cleaner_moves.Keeping.{Changes, Put, StateKeeps, state_goes}
+use Rattle.node_moves.proofs.cleaner_moves.Keeping.Changes.{JobBegun, JobEnded}
+use Rattle.node_moves.proofs.cleaner_moves.Keeping.Put.{AllPut, BlockPut}
+use Rattle.node_moves.specs.cleaner_moves.Moves.{Given, OpenedBy, Written, came_to, noted}
+use Rattle.node_moves.specs.cleaner_moves.Moves.Given.{LiveCame}
+use Rattle.node_moves.specs.cleaner_moves.Moves.OpenedBy.{PacketCame, TimeWent}
+use Rattle.node_moves.specs.cleaner_moves.Moves.Written.{AckCame, GroupsCame, LogTicks}
+use Rattle.node_tellings.proofs.entry_tie.CleanerChecks.{InputTold, cleaning_so}
+use Rattle.node_tellings.proofs.entry_tie.CleanerMoves.{OutMoved, cleaning_gives}
+use Rattle.node_tellings.specs.entry_tie.CleanerTells.{JobTold, MovedTold}
+use Rattle.run_laws.specs.segment_tie.Cleaners.{BringsVersions, CleanerStartsWriting, CleanerWrites, CleanerWritesCopies, TellsVersion, versions}
 use Rattle.run_laws.specs.segment_tie.Clients.{StageWrites}
-use Rattle.run_laws.proofs.segment_tie.CleanerJobs.{At}
-use Rattle.run_laws.proofs.segment_tie.CleanerServing.{cleaning_wished, packet_heard, time_passes}
+use Rattle.run_laws.specs.segment_tie.Segments.{IsCopies, IsMoved, IsWaiting, WritesCopies, WritesSo}
+use Rattle.run_laws.proofs.segment_tie.Logs as logs
+use Rattle.run_laws.proofs.segment_tie.Logs.{copies}
 use Rattle.run_laws.proofs.segment_tie.Openings.{ProgressWrites, opens_copies, packet_writes, tick_writes}
+
+-- its job, and its log
+record Stands (its_job : Option Job) (waits : List (BlockId × Change)) (flies : Option FlightState) : Type 0 where
+  job : JobTold versions its_job
+  log : WritesSo IsMoved IsCopies waits flies
 
 abbrev So : Phase → Type 0
 So (Down l) = Unit {0}
 So (Opening l o) = StageWrites o.stage
-So (Serving e) = At e
+So (Serving e) = Stands e.job e.log.dirty e.log.flight
 
-abbrev Goes : Went_to → Type 0
-Goes w = So w.state
+-- ---- one that serves
 
--- ---- the opening of its log
+changes_so : (first : Cleaner) (what : Do) (e f : Emptying) → Changes first what (OutMoved versions) e f → So (Serving e) → So (Serving f)
+changes_so first what e f (JobBegun count) h = record { job = tt; log = h.log }
+changes_so first what e f JobEnded h = record { job = tt; log = h.log }
+changes_so first what e f _ h = record { job = h.job; log = h.log }
 
-progressed : (l : Lasting) (p : Progress) → ProgressWrites p → Goes (after_opening l p)
-unfolding after_opening
-progressed l (progress.Opening o) h = h
-progressed l (progress.Opened o) h = record { job = tt; log = opens_copies o.log h }
-progressed l (progress.Lost seg) h = tt
+-- a Live that comes tells a version from 1 on
+given_so : (first : Cleaner) (what : Do) (e : Emptying) (given : In) → BringsVersions what → Given first what e given → InputTold versions given
+given_so first what e given brings (LiveCame packet m same came asked) = subst TellsVersion came.says (subst BringsVersions came.event brings)
+given_so first what e given brings _ = tt
 
-opened : (l : Lasting) (w : Went) → ProgressWrites w.progress → Goes (opened_on l w)
-opened l w h = progressed (record l { questions = w.questions }) w.progress h
+-- what is moved is of a version from 1 on, and moved once more
+moved_waits : (block : BlockId) (entry : Entry) (value : Option (List ℕ)) → MovedTold versions block entry
+    → IsWaiting IsMoved (record { entry = entry; value = value })
+moved_waits block entry value fact = record {
+  version = subst (λ (x : Entry). 0 < x.ver) (sym fact.moved) fact.before_told;
+  hop = subst (λ (x : Entry). 0 < x.hop) (sym fact.moved) (some fact.before.hop);
+}
+  where
+    some : (n : ℕ) → 0 < n + 1
+    some n = omega arith
 
--- ---- items
+put_so : (s : LogState) (i : LogIn) → Put (OutMoved versions) i → WritesCopies s → WritesCopies (log.transition s i).state
+put_so s i (BlockPut block entry value moved) h =
+    logs.put_so IsMoved IsCopies copies s block (record { entry = entry; value = value }) (moved_waits block entry value moved.0) h
+put_so s i AllPut h = logs.seal_so IsMoved IsCopies copies s h
 
-restarted : (servers : ℕ) (l : Lasting) (number : ℕ) → Goes (restarts servers l number)
+written_so : (first : Cleaner) (what : Do) (e : Emptying) (i : LogIn) → Written first what e i → WritesCopies e.log
+    → WritesCopies (log.transition e.log i).state
+written_so first what e i (AckCame packet m same came) h = logs.acked_so IsMoved IsCopies copies e.log m.name m.index m.generation h
+written_so first what e i (GroupsCame before packet news same as_was brought) h = logs.maps_so IsMoved IsCopies copies e.log news.groups h
+written_so first what e i LogTicks h = logs.tick_so IsMoved IsCopies copies e.log h
+
+-- ---- one that doesn't
+
+items_so : (p : Phase) (items : Items) → So p → So (noted p items)
+items_so (Down l) items h = tt
+items_so (Opening l o) items h = h
+items_so (Serving e) items h = h
+
+restarted : (servers : ℕ) (l : Lasting) (number : ℕ) → So (restarts servers l number).state
 unfolding restarts
 restarted servers l number = tt
 
-crashed : (l : Lasting) (number : ℕ) → Goes (crashes l number)
-unfolding crashes
-crashed l number = tt
+comes_so : (l : Lasting) (p : Progress) → ProgressWrites p → So (came_to l p)
+comes_so l (progress.Opening o) h = h
+comes_so l (progress.Opened o) h = record { job = tt; log = opens_copies o.log h }
+comes_so l (progress.Lost seg) h = tt
 
-down_wish : (servers : ℕ) (l : Lasting) (number : ℕ) (wish : Wish) → Goes (down_wishes servers l number wish)
-down_wish servers l number Restart = restarted servers l number
-down_wish servers l number Crash = tt
-down_wish servers l number (Clean count) = tt
-
-opening_wish : (l : Lasting) (o : openings.Opening) (number : ℕ) (wish : Wish) → StageWrites o.stage → Goes (opening_wishes l o number wish)
-opening_wish l o number Crash h = crashed l number
-opening_wish l o number Restart h = h
-opening_wish l o number (Clean count) h = h
-
-serving_wish : (e : Emptying) (number : ℕ) (wish : Wish) → At e → Goes (serving_wishes e number wish)
-serving_wish e number Crash h = crashed e.lasting number
-serving_wish e number Restart h = h
-serving_wish e number (Clean count) h = cleaning_wished e number count h
-
-down_item : (servers : ℕ) (l : Lasting) (item : Option ℕ) → Goes (down_at servers l item)
-down_item servers l None = tt
-down_item servers l (Some number) = down_wish servers l number (wish_at l.items number)
-
-opening_item : (l : Lasting) (o : openings.Opening) (item : Option ℕ) → StageWrites o.stage → Goes (opening_at l o item)
-opening_item l o None h = h
-opening_item l o (Some number) h = opening_wish l o number (wish_at l.items number) h
-
-serving_item : (e : Emptying) (item : Option ℕ) → At e → Goes (serving_at e item)
-serving_item e None h = h
-serving_item e (Some number) h = serving_wish e number (wish_at e.lasting.items number) h
-
-item_begun : (servers : ℕ) (p : Phase) → So p → Goes (on_begin servers p)
-unfolding on_begin
-item_begun servers (Down l) h = down_item servers (begun_life l) (next_item l.items)
-item_begun servers (Opening l o) h = opening_item (begun_life l) o (next_item l.items) h
-item_begun servers (Serving e) h =
-    serving_item (record e { lasting = begun_life e.lasting }) (next_item e.lasting.items) (record { job = h.job; log = h.log })
-
--- ---- packets and time
-
-heard : (p : Phase) (packet : Packet) → TellsVersion packet.body → So p → Goes (hears p packet)
-unfolding hears
-heard (Down l) packet fact h = tt
-heard (Opening l o) packet fact h = opened l (opening.on_packet o l.questions packet) (packet_writes o l.questions packet h)
-heard (Serving e) packet fact h = packet_heard e packet fact h
-
-delivered : (peers : Peers) (p : Phase) (packet : Packet) → TellsVersion packet.body → So p → Goes (on_deliver peers p packet)
-unfolding on_deliver
-delivered peers p packet fact h =
-    by_test (λ (x : Went_to). Goes x) (is_well_formed peers packet) (hears p packet) (still p) (λ t. heard p packet fact h) (λ t. h)
-
-passed : (p : Phase) → So p → Goes (on_time p)
-unfolding on_time
-passed (Down l) h = tt
-passed (Opening l o) h = opened l (opening.on_tick o l.questions) (tick_writes o l.questions h)
-passed (Serving e) h = time_passes e h
-
-all_events : (peers : Peers) (p : Phase) (what : Do) → BringsVersions what → So p → Goes (happens peers p what)
-all_events peers p Begin fact h = item_begun peers.servers p h
-all_events peers p (Deliver packet) fact h = delivered peers p packet fact h
-all_events peers p Tick fact h = passed p h
-
-taken_so : (peers : Peers) (p : Phase) (what : Do) → BringsVersions what → So p → Goes (takes peers p what)
-taken_so peers p what fact h =
-    by_test (λ (x : Went_to). Goes x) (phase_room p) (happens peers p what) (still p) (λ t. all_events peers p what fact h) (λ t. h)
+opens_so : (what : Do) (l : Lasting) (o : openings.Opening) (x : Went) → OpenedBy what l o x → StageWrites o.stage
+    → So (came_to (record l { questions = x.questions }) x.progress)
+opens_so what l o x (PacketCame packet event) h = comes_so (record l { questions = x.questions }) x.progress (packet_writes o l.questions packet h)
+opens_so what l o x (TimeWent event) h = comes_so (record l { questions = x.questions }) x.progress (tick_writes o l.questions h)
 
 -- ---- the law
+
+keeps : (first : Cleaner) (what : Do) → BringsVersions what → StateKeeps first what So (OutMoved versions)
+keeps first what brings = record {
+  apart = λ one blocks all. ((all.0, tt), all.1);
+  changes = λ e f change h. changes_so first what e f change h;
+  cleans = λ e job given came h. (let told = given_so first what _ given brings came in (
+    record { job = cleaning_so versions job.cleaning given told h.job; log = h.log },
+    cleaning_gives versions job.cleaning given told h.job,
+  ));
+  puts = λ e i put h. record { job = h.job; log = put_so e.log i put h.log };
+  writes = λ e i came h. record { job = h.job; log = written_so first what e i came h.log };
+  settles = λ e end rows h. h;
+  items = λ p items for h. items_so p items h;
+  falls = λ p h. tt;
+  restarts = λ l number event following h. restarted first.peers.servers l number;
+  opens = λ l o x by h. opens_so what l o x by h;
+}
 
 stands : (p : Phase) → CleanerWrites p → So p
 stands (Down l) h = tt
@@ -131,7 +135,8 @@ holds (Serving e) h = record { job = h.job; log = h.log }
 
 pub cleaner_writes : CleanerWritesCopies
 cleaner_writes cleaner what fact h =
-    holds (takes cleaner.peers cleaner.phase what).state (taken_so cleaner.peers cleaner.phase what fact (stands cleaner.phase h))
+    holds (takes cleaner.peers cleaner.phase what).state
+    (state_goes cleaner what So (OutMoved versions) (keeps cleaner what fact) (stands cleaner.phase h))
 
 pub cleaner_starts : CleanerStartsWriting
 cleaner_starts setup works = record { job = tt; log = record { once = tt; each = tt; flies = tt } }

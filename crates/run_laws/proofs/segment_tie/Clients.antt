@@ -13,7 +13,6 @@ use Rattle.node_slots.proofs.client_law.Keeping.{Fact, IsOuter, Keeps, TakesKeep
 use Rattle.client_node.specs.declared.phase.Phase.TheVariants.{Down, Opening, Serving as Serves}
 use Rattle.client_node.specs.declared.phase.Phase.{Phase}
 use Rattle.client_node.specs.Phases.{takes}
-use Rattle.client_call.specs.Flights.{is_giving, is_settling}
 use Rattle.client_running.specs.Blocks.{changes, wrote}
 use Rattle.client_serving.specs.declared.serving.Serving.{Serving}
 use Rattle.client_serving.specs.Flights.{feeds, gives_if_clean, gives_up, held_at, keeps_clean, notes_settled, settled_rows, settles, writes, writes_one}
@@ -25,9 +24,11 @@ use Rattle.coop_cache.specs.Transition.{cleaned}
 use Rattle.log_owner.specs.declared.opened.Progress.{Progress}
 use Rattle.log_owner.specs.declared.opened.Progress.TheVariants as progress
 use Rattle.log_owner.specs.declared.opening.Opening as openings
+use Rattle.log_owner.specs.Sealing.{is_settling}
 use Rattle.node_slots.proofs.node_tie.ClientPuts.{written_some}
 use Rattle.token_client.specs.declared.held.Giving.{Giving}
 use Rattle.token_client.specs.Held.{is_dirty, may_write}
+use Rattle.token_client.specs.Settling.{is_giving}
 use Rattle.token_client.specs.State.{dirty_in, with_held}
 use Rattle.token_client.specs.Transition.{on_evict}
 use Rattle.xfs_base.specs.declared.block.BlockId.{BlockId}

@@ -1,6 +1,5 @@
 -- What an input of its job has the cleaner do, and what the cleaner awaits then.
-use Rattle.std.proofs.Common.{◌≡◌, ◌==◌, ℕ, Bool, true, false, List, [], ◌∷◌, Option, None, Some, inl, inr, refl, sym, ap, subst, ◌∙◌, arith}
-use Rattle.std.proofs.lemmas.Bool.Decides.{nat_tests}
+use Rattle.std.proofs.Common.{◌≡◌, ◌==◌, ℕ, Bool, true, false, List, [], ◌∷◌, Option, None, Some, inl, inr, refl, sym, ap, subst, ◌∙◌}
 use Rattle.std.specs.List.{AllByRecursion, flat_map}
 use Rattle.cleaner_serving.specs.declared.emptying.Emptying.{Emptying}
 use Rattle.cleaner_serving.specs.Jobs.{cleans, deletes, finishes, holds, holds_in, job_takes, moves, puts, puts_block, reads, says, takes_in}
@@ -27,7 +26,7 @@ use Rattle.stripe_cleaner.specs.declared.phase.Phase.{Phase}
 use Rattle.stripe_cleaner.specs.declared.phase.Phase.TheVariants.{Checking, Reading}
 use Rattle.stripe_cleaner.specs.JobState.{JobState}
 use Rattle.stripe_cleaner.specs.Transition as job
-use Rattle.stripe_code.specs.Fragments.{same_name}
+use Rattle.xfs_base.specs.Segments.{same_name}
 use Rattle.version_model.specs.declared.answer.Answer.{Answer}
 use Rattle.wire_msg.specs.declared.body.Body.TheVariants as body
 use Rattle.run_laws.proofs.world_index.Asking.{drawn_more}
@@ -35,6 +34,7 @@ use Rattle.run_laws.specs.world_index.Asking.{AsksSo, Book, HandAsks, HandIn, Ha
 use Rattle.run_laws.proofs.world_index.AskingJobs.{CalmSo, ChecksSo, DoneSo, Follows, IsCalm, ReadsSo, transition_so}
 use Rattle.run_laws.proofs.world_index.AskingSays.{AllSilent, At, Kept, SegIn, all_checks, all_steps, below_next, list_so, maps_so, quiet, usage_so, went_on}
 use Rattle.xfs_base.proofs.Booleans.{by_test, and_first}
+use Rattle.xfs_base.proofs.SegmentNames.{one_name}
 use Rattle.xfs_base.specs.declared.block.BlockId.{BlockId}
 use Rattle.xfs_base.specs.declared.entry.Entry.{Entry}
 use Rattle.xfs_base.specs.declared.node.NodeId.TheVariants.{Server}
@@ -63,14 +63,6 @@ fetches_silent (Some hand) = by hand.reading
     by (Some r) = all_map _ (fetch hand.seg.name r.ask) (λ server. tt) (to_ask r)
 
 -- ---- a segment is taken in hand
-
-same_name_exact : (a b : SegName) → same_name a b ≡ true → b ≡ a
-same_name_exact a b h =
-    let log : b.log.0 ≡ a.log.0 = grind (arith, nat_tests) in
-    let seq : b.seq ≡ a.seq = grind (arith, nat_tests) in
-    let inc : b.pass.inc ≡ a.pass.inc = grind (arith, nat_tests) in
-    let att : b.pass.att ≡ a.pass.att = grind (arith, nat_tests) in
-    λ i. record { log = record { 0 = log i }; seq = seq i; pass = record { inc = inc i; att = att i } }
 
 nothing_asked : (ask : ℕ) → None ≡ Some ask → ⊥
 nothing_asked ask same = absurd (cc)
@@ -111,7 +103,7 @@ module _ (book : Book) (q : Questions) (drawn_so : IsDrawn book q) (j : JobState
   held_so None h fact = tt
   held_so (Some hand) h fact = record {
     asks = h;
-    job = same_name_exact hand.seg.name segment.name (and_first (same_name hand.seg.name segment.name) (hand.seg.group == segment.group) fact);
+    job = sym (one_name hand.seg.name segment.name (and_first (same_name hand.seg.name segment.name) (hand.seg.group == segment.group) fact));
   }
 
   takes_so : (groups : _) (o : Option Hand) → HandOnly book q o → TakenSo (takes_in_hand groups q o segment)

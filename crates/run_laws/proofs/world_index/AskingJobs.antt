@@ -25,6 +25,7 @@ use Rattle.xfs_base.specs.declared.segment.SegName.{SegName}
 use Rattle.xfs_base.specs.declared.segment.SegRef.{SegRef}
 use Rattle.xfs_base.specs.Steps.{still}
 use Rattle.xfs_base.proofs.Alls.{all_map}
+use Rattle.xfs_base.specs.Limits.{slot_count}
 use Rattle.run_laws.specs.world_index.Asking.{IsOfJob}
 
 -- ---- what is said
@@ -252,7 +253,7 @@ DoneSo s d = TurnSo s.phase (record { state = d.state.phase; outs = d.outs })
 pub transition_so : (s : CleaningState) (i : In) → DoneSo s (transitions.transition s i)
 unfolding transitions.on_welcome transitions.on_promise transitions.on_usage transitions.on_live transitions.on_dead
 transition_so s (input.Welcome slots groups) =
-    by_test (DoneSo s) (transitions.is_greeting s.phase && (length slots == 8)) (transitions.welcomed s slots groups) (still s)
+    by_test (DoneSo s) (transitions.is_greeting s.phase && (length slots == slot_count)) (transitions.welcomed s slots groups) (still s)
     (λ _. calm s.phase _ _ (λ name h. tt) (all_map IsCalm (λ server. out.List server) (λ server. tt) _)) (λ _. stays s.phase)
 transition_so s (input.Promise slot epoch) =
     by_test (DoneSo s) (is_above s.promised slot epoch) _ (still s) (λ _. forgetting_so slot s.phase) (λ _. stays s.phase)

@@ -58,6 +58,7 @@ use Rattle.xfs_base.specs.declared.node.NodeId.TheVariants as node
 use Rattle.xfs_base.specs.declared.segment.End.{End}
 use Rattle.xfs_base.specs.Steps.{saying, still, steps}
 use Rattle.xfs_base.proofs.Alls.{all_map}
+use Rattle.xfs_base.specs.Limits.{slot_count}
 
 -- ---- what it tells of its log
 
@@ -326,8 +327,8 @@ begins_so : (book : Book) (e : Emptying) (number count : ℕ) → At book e → 
 unfolding begins_job promises_all
 begins_so book e number count h =
     let r = with_new_job e number count in
-    let d = steps promises_slot r (range_with_len 0 8) in
-    went_on book d (cleans d.state input.Tick) (all_steps promises_slot slot_so book r (range_with_len 0 8) (record { drawn = h.drawn; job = tt }))
+    let d = steps promises_slot r (range_with_len 0 slot_count) in
+    went_on book d (cleans d.state input.Tick) (all_steps promises_slot slot_so book r (range_with_len 0 slot_count) (record { drawn = h.drawn; job = tt }))
     (λ k x. cleans_so k d.state input.Tick x)
 
 pub clean_so : (book : Book) (e : Emptying) (number count : ℕ) → At book e → Kept book (on_clean e number count)

@@ -31,6 +31,7 @@ use Rattle.run_laws.specs.world_index.Standing.{Fact, OwnerTells, Scene, SentBy,
 use Rattle.run_laws.proofs.world_law.Sent.{in_append, sends}
 use Rattle.xfs_base.specs.declared.node.NodeId.TheVariants.{Client}
 use Rattle.xfs_base.specs.declared.segment.SegRef.{SegRef}
+use Rattle.xfs_base.specs.Logs.{cleaners_number}
 
 -- what an owner says, it tells
 pub says_so : (part : ℕ) (n : Net) (c since : ℕ) (b : Body) → OwnerSays part n c since b → OwnerTells part n c (Client c) b
@@ -96,7 +97,7 @@ module _ (clients_stay : ClientsStay) (managers_stay : ManagersStay) (cleaner_st
       (sym (client_number part texts s.net c (s.client c).phase (st.clients c some within)))
       (says_so part go.next c (s.net.filed.head c) m does)) w.outs go.does q h
 
-  not_cleaner : 9 ≡ c → ⊥
+  not_cleaner : cleaners_number ≡ c → ⊥
   not_cleaner same = let few = st.few in let less = within in omega arith
 
   pub client_turn : Stands k part texts first (slice_set nodes p (any.Client after_node)) sent_now RegistrySound client_scene
@@ -120,7 +121,7 @@ module _ (clients_stay : ClientsStay) (managers_stay : ManagersStay) (cleaner_st
         (st.managers j pos limit);
     cleaner = cleaner_stays part texts s.net go.next s.cleaner.phase
         (record {
-          log = go.others 9 not_cleaner;
+          log = go.others cleaners_number not_cleaner;
           promised = ap (λ (x : Net). x.promised) go.only_files;
           job = ap (λ (x : Net). x.job) go.only_files;
           sent = said_on;

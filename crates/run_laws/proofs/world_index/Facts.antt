@@ -19,13 +19,15 @@ use Rattle.xfs_base.specs.declared.node.NodeId.{NodeId}
 use Rattle.xfs_base.specs.declared.node.NodeId.TheVariants.{Client, Manager, Server, Cleaner, Registry}
 use Rattle.xfs_base.specs.declared.segment.End.{End}
 use Rattle.xfs_base.specs.declared.segment.SegName.{SegName}
+use Rattle.xfs_base.specs.Limits.{block_logs}
+use Rattle.xfs_base.specs.Logs.{cleaners_number}
 
 up_to : (a b c : ℕ) → a ≤ b → b ≤ c → a ≤ c
 up_to a b c h g = omega arith
 
 -- a list by log has nothing of other logs
-of_some : (xs : List ℕ) (l : ℕ) → 0 < of_log xs l → (0 < l) × (l ≤ 9)
-of_some xs = by_log (λ l. 0 < of_log xs l → (0 < l) × (l ≤ 9)) (λ l some limit _. (some, limit))
+of_some : (xs : List ℕ) (l : ℕ) → 0 < of_log xs l → (0 < l) × (l ≤ block_logs)
+of_some xs = by_log (λ l. 0 < of_log xs l → (0 < l) × (l ≤ block_logs)) (λ l some limit _. (some, limit))
     (λ l out some. let none = of_log_out xs l out in absurd (omega arith))
 
 module _ (part : ℕ) (n m : Net) (g : Grown n m) where
@@ -78,7 +80,7 @@ module _ (part : ℕ) (n m : Net) (g : Grown n m) where
   report_stays epoch (Client c) end k = end_stays epoch c end k
   report_stays epoch (Manager c) end k = tt
   report_stays epoch (Server c) end k = tt
-  report_stays epoch Cleaner end k = (end_stays epoch 9 end k.0, g.sent _ k.1)
+  report_stays epoch Cleaner end k = (end_stays epoch cleaners_number end k.0, g.sent _ k.1)
   report_stays epoch Registry end k = tt
 
   owner_stays : (l : ℕ) (from : NodeId) (b : Body) → OwnerTells part n l from b → OwnerTells part m l from b
@@ -128,10 +130,10 @@ module _ (part : ℕ) (n m : Net) (g : Grown n m) where
     cleaner_stays : (b : Body) → CleanerTells part n asked b → CleanerTells part m more b
     cleaner_stays (body.Check c) h = λ inside. check_stays c (h inside)
     cleaner_stays (body.Delete d) h = g.deleted d.name h
-    cleaner_stays (body.Deltas d) h = owner_stays 9 Cleaner (body.Deltas d) h
-    cleaner_stays (body.Report r) h = owner_stays 9 Cleaner (body.Report r) h
-    cleaner_stays (body.Want w) h = owner_stays 9 Cleaner (body.Want w) h
-    cleaner_stays (body.Gave w) h = owner_stays 9 Cleaner (body.Gave w) h
+    cleaner_stays (body.Deltas d) h = owner_stays cleaners_number Cleaner (body.Deltas d) h
+    cleaner_stays (body.Report r) h = owner_stays cleaners_number Cleaner (body.Report r) h
+    cleaner_stays (body.Want w) h = owner_stays cleaners_number Cleaner (body.Want w) h
+    cleaner_stays (body.Gave w) h = owner_stays cleaners_number Cleaner (body.Gave w) h
     cleaner_stays _ h = h
 
     pub sent_stays : (from : NodeId) (b : Body) → SentBy part n asked from b → SentBy part m more from b

@@ -24,6 +24,7 @@ use Rattle.run_laws.specs.world_index.Standing.{Scene, Stands}
 use Rattle.run_laws.proofs.world_law.OtherTurns.{equal_or_not}
 use Rattle.xfs_base.specs.Limits.{u32_end}
 use Rattle.xfs_base.specs.declared.segment.SegRef.{SegRef}
+use Rattle.xfs_base.specs.Logs.{cleaners_number}
 
 -- the registry is seen as before, where its epoch, horizons and parts are as they were
 module _ (part : ℕ) (n m : Net) (epoch : m.epoch ≡ n.epoch) (horizon : m.horizon ≡ n.horizon) (parts : m.parts ≡ n.parts) where
@@ -60,7 +61,7 @@ client_head part texts n c (clients.Down l) h = h.fits.short
 client_head part texts n c (clients.Opening l o) h = h.0.fits.short
 client_head part texts n c (clients.Serving s) h = h.0.feed.short
 
-pub cleaner_head : (part : ℕ) (texts : Texts) (n : Net) (p : CleanerPhase) → PhaseAgrees part n texts p → n.filed.head 9 < u32_end
+pub cleaner_head : (part : ℕ) (texts : Texts) (n : Net) (p : CleanerPhase) → PhaseAgrees part n texts p → n.filed.head cleaners_number < u32_end
 cleaner_head part texts n (cleaners.Down l) h = h.fits.short
 cleaner_head part texts n (cleaners.Opening l o) h = h.0.fits.short
 cleaner_head part texts n (cleaners.Serving e) h = h.0.owner.feed.short

@@ -45,7 +45,7 @@ use Rattle.run_laws.proofs.world_index.Senders.{IsCleaner, IsManager, IsRegistry
 use Rattle.run_laws.specs.world_index.Standing.{AllKept, SentBy, WasAsked}
 use Rattle.run_laws.specs.world_index.Owes.{BodyReads, CleanerBodyOwed, CleanerDoOwed, DoFree, DoReads, NewsFree, ServingFree, WaitingFree}
 use Rattle.xfs_base.specs.Blocks.{slot_of}
-use Rattle.xfs_base.specs.Limits.{u32_end}
+use Rattle.xfs_base.specs.Limits.{u32_end, slot_count}
 use Rattle.xfs_base.specs.declared.block.BlockId.{BlockId}
 use Rattle.xfs_base.specs.declared.news.SlotNews.{SlotNews}
 use Rattle.xfs_base.specs.declared.node.NodeId.{NodeId}
@@ -224,7 +224,7 @@ module _ (part : ℕ) (texts : Texts) (asked : Questions) (n : Net) where
   done_told Cleaner m premise h = absurd premise
   done_told Registry m premise h = absurd premise
 
-  module _ (managed : CheckpointsHaveManagers) (moment : (b : BlockId) → slot_of b.ino.0 ≡ part → Moment part (held_in part texts) n b) (small : part < 8)
+  module _ (managed : CheckpointsHaveManagers) (moment : (b : BlockId) → slot_of b.ino.0 ≡ part → Moment part (held_in part texts) n b) (small : part < slot_count)
       (heads : (l : ℕ) → n.filed.head l < u32_end) where
     -- a block of the slot
     abbrev one : BlockId

@@ -16,7 +16,7 @@ use Rattle.index_tie.specs.Takeovers.{of_log}
 use Rattle.log_protocol.proofs.IndexInduction.{index_in_bounds_always}
 use Rattle.log_protocol.specs.Tables.{In}
 use Rattle.segment_format.specs.declared.segment.Segment.{Segment}
-use Rattle.xfs_base.specs.Limits.{u32_end}
+use Rattle.xfs_base.specs.Limits.{u32_end, block_logs}
 use Rattle.xfs_base.specs.declared.block.BlockId.{BlockId}
 use Rattle.xfs_base.specs.declared.segment.SegRef.{SegRef}
 pub use Rattle.run_laws.specs.world_index.Growth.{Rises}
@@ -25,7 +25,7 @@ pub use Rattle.run_laws.specs.world_index.Growth.{Rises}
 pub record Steady (n : Net) : Type 0 where
   pub some : 0 < n.epoch
   pub later : (e : ℕ) → n.epoch ≤ e → n.horizon e ≡ n.horizon n.epoch
-  pub from_one : (e l : ℕ) → 0 < l → l ≤ 9 → 0 < of_log (n.horizon e) l
+  pub from_one : (e l : ℕ) → 0 < l → l ≤ block_logs → 0 < of_log (n.horizon e) l
 
 pub record Stays (n m : Net) : Type 0 where
   pub steady : Steady m
@@ -50,14 +50,14 @@ still_stays n m epoch horizon k = record {
 }
 
 -- a checkpoint that is kept
-module _ (n : Net) (horizon : List ℕ) (above : (l : ℕ) → 0 < l → l ≤ 9 → of_log (n.horizon n.epoch) l ≤ of_log horizon l) (k : Steady n) where
+module _ (n : Net) (horizon : List ℕ) (above : (l : ℕ) → 0 < l → l ≤ block_logs → of_log (n.horizon n.epoch) l ≤ of_log horizon l) (k : Steady n) where
   abbrev kept : ℕ → List ℕ
   kept e = cond (nat_lt e n.epoch) (n.horizon e) horizon
 
   late : (e : ℕ) → n.epoch ≤ e → kept e ≡ horizon
   late e low = second_of (nat_lt e n.epoch) (n.horizon e) horizon (le-ltb e n.epoch low)
 
-  kept_rises : (e l : ℕ) → 0 < l → l ≤ 9 → of_log (n.horizon e) l ≤ of_log (kept e) l
+  kept_rises : (e l : ℕ) → 0 < l → l ≤ block_logs → of_log (n.horizon e) l ≤ of_log (kept e) l
   kept_rises e l some limit = by (nat_lt e n.epoch) refl
     where
       by : (t : Bool) → nat_lt e n.epoch ≡ t → of_log (n.horizon e) l ≤ of_log (cond t (n.horizon e) horizon) l

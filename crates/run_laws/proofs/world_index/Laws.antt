@@ -49,6 +49,7 @@ use Rattle.run_laws.specs.world_law.Owners.{moment, node_in}
 use Rattle.xfs_base.specs.declared.block.BlockId.{BlockId}
 use Rattle.xfs_base.specs.declared.node.NodeId.TheVariants.{Cleaner, Manager, Registry}
 use Rattle.xfs_base.specs.declared.segment.SegName.{SegName}
+use Rattle.xfs_base.specs.Limits.{slot_count, block_logs}
 
 is_registry : (a b : RegistryNode) → Some (any.Registry a) ≡ Some (any.Registry b) → a ≡ b
 is_registry a b same = ap (λ o. registry_in o a) same
@@ -61,7 +62,7 @@ is_registry a b same = ap (λ o. registry_in o a) same
     registry_in (Some (any.Cleaner n)) other = other
     registry_in None other = other
 
-module _ (laws : NodeLaws) (token_laws : tokens.NodeLaws) (k : Cluster) (part : ℕ) (of_eight : part < 8) (texts : Texts) (first : ℕ → ℕ → Segment) where
+module _ (laws : NodeLaws) (token_laws : tokens.NodeLaws) (k : Cluster) (part : ℕ) (of_eight : part < slot_count) (texts : Texts) (first : ℕ → ℕ → Segment) where
   abbrev pub StandsIn : World AnyNode → Scene → Type 0
   StandsIn w s = Stands k part texts first w.nodes w.sent RegistrySound s
 
@@ -151,7 +152,7 @@ module _ (laws : NodeLaws) (token_laws : tokens.NodeLaws) (k : Cluster) (part : 
     abbrev block : BlockId
     block = record { ino = record { 0 = part }; blk = 0 }
 
-    covered : (z : SlotState) → s.net.slots z.epoch ≡ Some z → z.epoch ≡ epoch_in s.registry.board part → (l : ℕ) → 0 < l → l ≤ 9
+    covered : (z : SlotState) → s.net.slots z.epoch ≡ Some z → z.epoch ≡ epoch_in s.registry.board part → (l : ℕ) → 0 < l → l ≤ block_logs
         → of_log (horizon_at s.registry.board.checkpoints part) l ≤ suc (applied_of z.applied l)
     covered z there same l some limit =
         let agreed = st.registry in

@@ -35,6 +35,7 @@ use Rattle.run_laws.proofs.world_law.Sent.{in_append, sends}
 use Rattle.xfs_base.specs.Limits.{u32_end}
 use Rattle.xfs_base.specs.declared.node.NodeId.TheVariants.{Manager}
 use Rattle.xfs_base.specs.declared.segment.SegRef.{SegRef}
+use Rattle.xfs_base.specs.Logs.{cleaners_number}
 
 -- where the same is filed, each log has filed the same, and more is filed
 module _ (n m : Net) (filed : m.filed ≡ n.filed) where
@@ -118,7 +119,7 @@ module _ (clients_stay : ClientsStay) (managers_stay : ManagersStay) (cleaner_st
         (λ _ _. go.agrees) (λ d other pos less. others_stay d other pos less);
     cleaner = cleaner_stays part texts s.net go.next s.cleaner.phase
         (record {
-          log = same_log s.net go.next filed 9;
+          log = same_log s.net go.next filed cleaners_number;
           promised = ap (λ (x : Net). x.promised) go.rest;
           job = ap (λ (x : Net). x.job) go.rest;
           sent = go.grows;

@@ -24,10 +24,11 @@ use Rattle.run_laws.specs.world_index.Standing.{Placed, Scene, Stands}
 use Rattle.run_laws.proofs.world_law.Start as starting
 use Rattle.xfs_base.specs.declared.node.NodeId.TheVariants.{Client, Manager, Server, Cleaner, Registry}
 use Rattle.xfs_base.specs.declared.setup.Setup.{Setup}
+use Rattle.xfs_base.specs.Limits.{slot_count, most_clients}
 
 module _ (client_starts : FirstClientAgrees) (manager_starts : FirstManagerAgrees) (cleaner_starts : CleanerStartAgrees) (registry_starts : RegistryStarts)
-    (begins : (part : ℕ) → part < 8 → (setup : Setup) (items : List Work) → RegistryBegins part setup.managers (registry_start setup items))
-    (script : Script) (clients : script.setup.clients ≤ 8) (part : ℕ) (of_eight : part < 8) (texts : Texts) (first : ℕ → ℕ → Segment) where
+    (begins : (part : ℕ) → part < slot_count → (setup : Setup) (items : List Work) → RegistryBegins part setup.managers (registry_start setup items))
+    (script : Script) (clients : script.setup.clients ≤ most_clients) (part : ℕ) (of_eight : part < slot_count) (texts : Texts) (first : ℕ → ℕ → Segment) where
   abbrev k : Cluster
   k = cluster_of script.setup
 

@@ -58,6 +58,8 @@ use Rattle.run_laws.proofs.world_law.Turns.{one_node}
 use Rattle.run_laws.specs.world_law.Owners.{node_in}
 use Rattle.xfs_base.specs.declared.node.NodeId.{NodeId}
 use Rattle.xfs_base.specs.declared.node.NodeId.TheVariants.{Client, Manager, Server, Cleaner, Registry}
+use Rattle.xfs_base.specs.Limits.{slot_count}
+use Rattle.xfs_base.specs.Logs.{cleaners_number}
 
 -- the laws of the nodes, each of its kind, and of the small world
 pub record NodeLaws : Type 0 where
@@ -77,7 +79,7 @@ pub record NodeLaws : Type 0 where
   pub maps : maps.RegistryEventGoes
   pub managed : CheckpointsHaveManagers
 
-module _ (laws : NodeLaws) (k : Cluster) (part : ℕ) (of_eight : part < 8) (texts : Texts) (first : ℕ → ℕ → Segment) where
+module _ (laws : NodeLaws) (k : Cluster) (part : ℕ) (of_eight : part < slot_count) (texts : Texts) (first : ℕ → ℕ → Segment) where
   -- ---- one node takes its step
 
   module _ (nodes : List AnyNode) (sent : List Packet) (s : Scene) (st : Stands k part texts first nodes sent RegistrySound s) (place clock : ℕ)
@@ -116,7 +118,7 @@ module _ (laws : NodeLaws) (k : Cluster) (part : ℕ) (of_eight : part < 8) (tex
         less : c < members k
         less = (let limit = b.within in omega arith)
 
-        of_nine : c < 9
+        of_nine : c < cleaners_number
         of_nine = (let few = st.few in let limit = b.within in omega arith)
 
         here : slice_get nodes place ≡ Some (any.Client (s.client c))

@@ -20,9 +20,10 @@ use Rattle.xfs_base.specs.Blocks.{slot_of}
 use Rattle.xfs_base.specs.declared.node.NodeId.TheVariants.{Client}
 use Rattle.xfs_base.specs.Modes.{is_held}
 use Rattle.xfs_base.proofs.Booleans.{equal_itself}
+use Rattle.xfs_base.specs.Limits.{slot_count}
 
 module _ (laws : NodeLaws) (small : NobodyHoldsAfterFall) where
-  nobody_now : (w : World AnyNode) (k : Cluster) → w.cluster ≡ k → ((part : ℕ) (of_eight : part < 8) → GoodWorld laws k part of_eight w) → NobodyHolds w
+  nobody_now : (w : World AnyNode) (k : Cluster) → w.cluster ≡ k → ((part : ℕ) (of_eight : part < slot_count) → GoodWorld laws k part of_eight w) → NobodyHolds w
   nobody_now w k cluster good b c d t fallen at_d =
       subst (λ (x : TokensState). is_held (held_of x.blocks b).mode ≡ false) y.tokens
       (small false (members k part) part (with_promise 1 now.net) b (record { run = st.runs; inside = equal_itself part }) c d
@@ -31,7 +32,7 @@ module _ (laws : NodeLaws) (small : NobodyHoldsAfterFall) where
       part : ℕ
       part = slot_of b.ino.0
 
-      of_eight : part < 8
+      of_eight : part < slot_count
       of_eight = slot_below b.ino.0
 
       now : Scene

@@ -33,8 +33,9 @@ use Rattle.xfs_base.specs.Blocks.{slot_of}
 use Rattle.xfs_base.specs.declared.node.NodeId.TheVariants.{Client}
 use Rattle.xfs_base.specs.Modes.{is_held, is_own}
 use Rattle.xfs_base.proofs.Booleans.{equal_itself}
+use Rattle.xfs_base.specs.Limits.{slot_count}
 
-module _ (laws : NodeLaws) (k : Cluster) (part : ℕ) (of_eight : part < 8) where
+module _ (laws : NodeLaws) (k : Cluster) (part : ℕ) (of_eight : part < slot_count) where
   abbrev pub Good : List AnyNode → List Packet → List Act → Type 0
   Good nodes sent acts = (s : Scene) × Stands false k part nodes sent acts RegistrySound s × FallsStand (members k part) s.net acts
 
@@ -83,7 +84,7 @@ module _ (laws : NodeLaws) (k : Cluster) (part : ℕ) (of_eight : part < 8) wher
 
 -- each moment of a run stands to the small world of each slot
 pub front : (laws : NodeLaws) (e : Estate AnyNode) → IsSetup e.script.setup → IsRun any_step any_start e.script e.events e.world
-    → (count part : ℕ) (of_eight : part < 8)
+    → (count part : ℕ) (of_eight : part < slot_count)
     → ((moment e count).cluster ≡ cluster_of e.script.setup) × GoodWorld laws (cluster_of e.script.setup) part of_eight (moment e count)
 unfolding start_world
 front laws e setup run count part of_eight =
@@ -94,7 +95,7 @@ front laws e setup run count part of_eight =
     )
 
 module _ (laws : NodeLaws) (small : OneOwner) where
-  one_owner_now : (w : World AnyNode) (k : Cluster) → w.cluster ≡ k → ((part : ℕ) (of_eight : part < 8) → GoodWorld laws k part of_eight w) → HasOneOwner w
+  one_owner_now : (w : World AnyNode) (k : Cluster) → w.cluster ≡ k → ((part : ℕ) (of_eight : part < slot_count) → GoodWorld laws k part of_eight w) → HasOneOwner w
   one_owner_now w k cluster good b c d s t at_c at_d own held =
       small false (members k part) part (with_promise 1 now.net) b (record { run = st.runs; inside = equal_itself part }) c d x.client y.client x.up y.up
       (subst (λ (t : TokensState). is_own (held_of t.blocks b).mode ≡ true) (sym x.tokens) own)
@@ -103,7 +104,7 @@ module _ (laws : NodeLaws) (small : OneOwner) where
       part : ℕ
       part = slot_of b.ino.0
 
-      of_eight : part < 8
+      of_eight : part < slot_count
       of_eight = slot_below b.ino.0
 
       now : Scene

@@ -45,6 +45,7 @@ use Rattle.xfs_base.specs.declared.block.BlockId.{BlockId}
 use Rattle.xfs_base.specs.declared.node.NodeId.{NodeId}
 use Rattle.xfs_base.specs.declared.node.NodeId.TheVariants.{Client, Cleaner, Manager, Registry}
 use Rattle.xfs_base.proofs.Booleans.{equal_itself}
+use Rattle.xfs_base.specs.Limits.{slot_count}
 
 module _ {logs : Bool} (k : Cluster) (part : ℕ) (nodes : List AnyNode) (sent : List Packet) (acts : List Act) (s : Scene)
     (st : Stands logs k part nodes sent acts RegistrySound s) where
@@ -84,7 +85,7 @@ module _ {logs : Bool} (k : Cluster) (part : ℕ) (nodes : List AnyNode) (sent :
 
 module _ (laws : NodeLaws) (small_promised : ActiveEpochsPromised) (small_believed : HoldingsBelieved) (small_acceptable : GrantsBelieved) (e : Estate AnyNode)
     (setup : IsSetup e.script.setup) (run : IsRun any_step any_start e.script e.events e.world)
-    (count part : ℕ) (of_eight : part < 8) where
+    (count part : ℕ) (of_eight : part < slot_count) where
   abbrev w : World AnyNode
   w = moment e count
 

@@ -40,6 +40,7 @@ use Rattle.version_model.specs.declared.work.Work.{Work}
 use Rattle.xfs_base.specs.declared.setup.Setup.{Setup}
 use Rattle.xfs_base.specs.declared.node.NodeId.{NodeId}
 use Rattle.xfs_base.specs.declared.node.NodeId.TheVariants.{Client, Manager, Server, Cleaner, Registry}
+use Rattle.xfs_base.specs.Limits.{slot_count, block_logs, most_clients}
 
 -- each place is below the number of nodes
 place_within : (c : Cluster) (node : NodeId) (p : ℕ) → place_of c node ≡ Some p → p < node_count c
@@ -70,7 +71,7 @@ module _ (script : Script) where
       within : p < node_count cluster
       within = place_within cluster node p at
 
-within_nine : (clients : ℕ) → clients ≤ 8 → clients + 1 ≤ 9
+within_nine : (clients : ℕ) → clients ≤ most_clients → clients + 1 ≤ block_logs
 within_nine clients limit = omega arith
 
 -- a node of a kind has a place where there are so many
@@ -81,8 +82,8 @@ place_there first count number some limit = ap (λ t. cond t (Some (first + numb
     both a c some limit = grind (arith, nat_tests)
 
 module _ (logs : Bool) (first_asks : StartsAsking) (first_agrees : FirstManagerAgrees) (cleaner_starts : CleanerStarts)
-    (begins : (part : ℕ) → part < 8 → (setup : Setup) (items : List Work) → RegistryBegins part setup.managers (registry_start setup items))
-    (script : Script) (clients : script.setup.clients ≤ 8) (managers : 1 ≤ script.setup.managers) (part : ℕ) (of_eight : part < 8) where
+    (begins : (part : ℕ) → part < slot_count → (setup : Setup) (items : List Work) → RegistryBegins part setup.managers (registry_start setup items))
+    (script : Script) (clients : script.setup.clients ≤ most_clients) (managers : 1 ≤ script.setup.managers) (part : ℕ) (of_eight : part < slot_count) where
   abbrev k : Cluster
   k = cluster_of script.setup
 

@@ -56,6 +56,7 @@ use Rattle.run_laws.specs.world_law.Owes.{BooksGo, ClientTold, ManagerTold, Turn
 use Rattle.run_laws.specs.world_law.Owners.{node_in}
 use Rattle.xfs_base.specs.declared.node.NodeId.{NodeId}
 use Rattle.xfs_base.specs.declared.node.NodeId.TheVariants.{Client, Manager, Server, Cleaner, Registry}
+use Rattle.xfs_base.specs.Limits.{slot_count}
 
 -- the laws of the nodes, each of its kind
 pub record NodeLaws : Type 0 where
@@ -79,7 +80,7 @@ module _ (k : Cluster) (part : ℕ) where
       → ((j life e : ℕ) → PastAt k part (s.manager j).phase life e → PastAt k part (t.manager j).phase life e) → Since k part s t
   since_of s t g past = record { epochs = g.epochs; promises = g.promises; reigns = g.reigns; given = g.given; past = past }
 
-module _ (laws : NodeLaws) (logs : Bool) (k : Cluster) (part : ℕ) (of_eight : part < 8) where
+module _ (laws : NodeLaws) (logs : Bool) (k : Cluster) (part : ℕ) (of_eight : part < slot_count) where
   -- ---- one node takes its step
 
   module _ (nodes : List AnyNode) (sent : List Packet) (acts : List Act) (s : Scene) (st : Stands logs k part nodes sent acts RegistrySound s) (place clock : ℕ)

@@ -43,6 +43,7 @@ use Rattle.xfs_base.specs.Steps.{still}
 use Rattle.xfs_base.specs.declared.segment.End.{End}
 use Rattle.xfs_base.specs.declared.segment.LogId.{LogId}
 use Rattle.xfs_base.specs.declared.segment.SegName.{SegName}
+use Rattle.xfs_base.specs.Logs.{cleaners_number}
 use Rattle.run_laws.proofs.world_lines.Lines.{flown_fits, flown_segment}
 use Rattle.run_laws.proofs.world_lines.Owners.{NextFits, cleaner_fits, client_fits, short_all}
 use Rattle.run_laws.specs.world_lines.Filing.{CleanerFilesItsFlights, ClientsFileTheirFlights, FilesItsFlight, FlightSays, OpeningsFileWhatFlew, WhatIsFiledFlew}
@@ -180,9 +181,9 @@ emptying_so g w p e fact sees = (subst (cleaner_log.CleanerAgrees g w) fact sees
 
 pub cleaner_files_its_flights : WhatIsHeldFlew → WhatFlewIsWritten → WhatFliesIsNext → CleanerFilesFlights → CleanerFilesItsFlights
 cleaner_files_its_flights held written next flights part texts g w n node what e small sure room says sees fact agrees gets asks =
-    by_test (λ (t : cleaners.Went_to). (MayLand 9 e.log → AllSo (IsFlight e.log) t.outs) → FilesItsFlight w.net e.log t.outs) (cleaners.phase_room node.phase)
+    by_test (λ (t : cleaners.Went_to). (MayLand cleaners_number e.log → AllSo (IsFlight e.log) t.outs) → FilesItsFlight w.net e.log t.outs) (cleaners.phase_room node.phase)
     (cleaners.happens node.peers node.phase what) (still node.phase)
-    (λ has. files_its_flight held written next texts 9 g w.net sure e.log (emptying_so g w node.phase e fact sees) says room
+    (λ has. files_its_flight held written next texts cleaners_number g w.net sure e.log (emptying_so g w node.phase e fact sees) says room
     (cleaner_fits g w node.phase sees has)
     (cleaners.happens node.peers node.phase what).outs)
     (λ _ goes. nothing_filed w.net e.log) (flights part texts n node what e small fact agrees gets asks)

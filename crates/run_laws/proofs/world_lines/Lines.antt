@@ -14,6 +14,7 @@ use Rattle.segment_format.specs.Rows.{rows_of}
 use Rattle.xfs_base.specs.declared.segment.End.{End}
 use Rattle.xfs_base.specs.declared.segment.LogId.{LogId}
 use Rattle.xfs_base.specs.declared.segment.SegName.{SegName}
+use Rattle.xfs_base.specs.Limits.{block_logs}
 use Rattle.run_laws.specs.world_lines.Lines.{AreLines, IsLined, IsSure, SaysBlocks, LinesAreFiled, LinesAreTexts, LinesGive}
 use Rattle.run_laws.proofs.world_lines.Rows.{rows_fit}
 
@@ -77,10 +78,10 @@ lines_give written in_line texts l g n f k h =
 
 module _ (written : WhatFlewIsWritten) (texts : Texts) (has : ℕ → Bool) (settings : ℕ → Setting) (nets : ℕ → Net) (f : Filed)
     (are : AreLines texts has settings nets f) where
-  others : (l : ℕ) → (l ≡ 0) ⊎ (9 < l) → f.head l ≡ 0
+  others : (l : ℕ) → (l ≡ 0) ⊎ (block_logs < l) → f.head l ≡ 0
   others l out = by out (are.none l)
     where
-      by : (l ≡ 0) ⊎ (9 < l) → (has l ≡ true) ⊎ (f.head l ≡ 0) → f.head l ≡ 0
+      by : (l ≡ 0) ⊎ (block_logs < l) → (has l ≡ true) ⊎ (f.head l ≡ 0) → f.head l ≡ 0
       by (inl zero) (inl had) = absurd (let w = (are.within l had).0 in omega arith)
       by (inr high) (inl had) = absurd (let w = (are.within l had).1 in omega arith)
       by out (inr none) = none

@@ -45,6 +45,7 @@ use Rattle.xfs_base.proofs.Booleans.{and_first, and_second, by_test}
 use Rattle.xfs_base.specs.Steps.{still}
 use Rattle.xfs_base.specs.declared.node.NodeId.{NodeId}
 use Rattle.xfs_base.specs.declared.segment.SegName.{SegName}
+use Rattle.xfs_base.specs.Logs.{cleaners_number}
 use Rattle.run_laws.proofs.world_lines.Turns.{lines_go_on}
 use Rattle.run_laws.specs.world_lines.Lines.{IsLine}
 use Rattle.run_laws.specs.world_lines.Owners.{ActsAreDone, CleanerFilesShort, CleanersLineGoesOn, ClientsFileShort, ClientsLinesGoOn, HasFlown, InBootFilesStill, IsRoomy}
@@ -161,7 +162,7 @@ module _ (part : ℕ) (texts : Texts) (g : Setting) where
       ap (λ (x : LogState). x.end.seq) (log_end v.net.owner s t.log sees.1.owner fact) ∙ agrees.0.end.seq
 
   cleaner_end : (v : Scene) (n : index.Net) (p : CleanerPhase) → cleaner_log.CleanerAgrees g v p → cleaner_index.PhaseAgrees part n texts p → (s : LogState)
-      → v.net.owner ≡ Serving s → s.end.seq ≡ n.filed.head 9
+      → v.net.owner ≡ Serving s → s.end.seq ≡ n.filed.head cleaners_number
   cleaner_end v n (cleaning.Down l) sees agrees s fact = absurd (let e : Down ≡ Serving s = sym sees.1 ∙ fact in cc)
   cleaner_end v n (cleaning.Opening l o) sees agrees s fact = absurd (up o.known l.questions.last o.stage sees.sees)
     where
@@ -188,12 +189,12 @@ module _ (whole : LogsStayWhole) (last : EndsAreLast) where
   pub cleaners_line_goes_on : CleanersLineGoesOn
   cleaners_line_goes_on part texts asked g w v n node what run files sure sees acts line goes =
       let outs = (cleaners.takes node.peers node.phase what).outs in
-      subst (IsLine 9 v.net) (sym goes.filed) (lines_go_on whole last texts 9 g w.net v.net n.filed outs line (record {
+      subst (IsLine cleaners_number v.net) (sym goes.filed) (lines_go_on whole last texts cleaners_number g w.net v.net n.filed outs line (record {
         run = run;
         sure = sure;
         acts = acts;
         end = λ s fact.
             cleaner_end part texts g v goes.next (cleaners.takes node.peers node.phase what).state sees goes.agrees.phase s fact
-            ∙ ap (λ (f : Filed). f.head 9) goes.filed;
+            ∙ ap (λ (f : Filed). f.head cleaners_number) goes.filed;
         still = files;
       }))

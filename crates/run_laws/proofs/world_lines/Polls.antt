@@ -43,6 +43,7 @@ use Rattle.wire_msg.specs.declared.packet.Do.TheVariants.{Begin, Deliver, Tick}
 use Rattle.xfs_base.specs.declared.segment.LogId.{LogId}
 use Rattle.xfs_base.specs.declared.segment.Prior.{Prior}
 use Rattle.xfs_base.specs.declared.segment.SegName.{SegName}
+use Rattle.xfs_base.specs.Limits.{slot_count}
 use Rattle.run_laws.proofs.world_lines.Turns.{older}
 use Rattle.run_laws.specs.world_lines.Lines.{LinesGive}
 use Rattle.run_laws.specs.world_lines.Polls.{CleanersPollsAreOwed, ClientsPollsAreOwed, GoesOnByFlight, LinkedSince, LinksGoOn, LinksStay, PresentIsLinked, ServersGoOnByFlights}
@@ -70,7 +71,7 @@ cleaners_polls_are_owed part n e m k same late = k m.epoch late
 number_is : (h : List ℕ) (k : ℕ) → k < length h → unwrap_or (slice_get h k) 1 ≡ slice_index h k
 number_is h k below = unwrap_or-slice_get h k 1 ∙ get_or_default_zero h k 1 below
 
-of_eight : (slot : ℕ) → slot < 8 → In slot all_slots
+of_eight : (slot : ℕ) → slot < slot_count → In slot all_slots
 of_eight zero below = inl refl
 of_eight (suc zero) below = inr (inl refl)
 of_eight (suc (suc zero)) below = inr (inr (inl refl))

@@ -28,6 +28,7 @@ use Rattle.version_model.specs.declared.act.Act.TheVariants.{Filed as ActsFiled}
 use Rattle.xfs_base.proofs.Booleans.{by_test}
 use Rattle.xfs_base.specs.Limits.{u32_end}
 use Rattle.xfs_base.specs.declared.segment.SegName.{SegName}
+use Rattle.xfs_base.specs.Logs.{cleaners_number}
 use Rattle.run_laws.proofs.world_lines.Lines.{flown_fits, flown_segment}
 use Rattle.run_laws.specs.world_lines.Lines.{IsLined, IsSure, SaysBlocks}
 use Rattle.run_laws.specs.world_lines.Turns.{ActSo, AllNew, AllSo, EffectSo, CleanersFilesAreOwed, ClientsFilesAreOwed, LinesBegin, LinesGoOn, LinesStay, NewAct, NewEffect}
@@ -177,7 +178,7 @@ clients_files_are_owed written whole part texts c g o f outs k acts says new =
 
 pub cleaners_files_are_owed : WhatFlewIsWritten → LogsStayWhole → CleanersFilesAreOwed
 cleaners_files_are_owed written whole part texts n p g o f outs k acts says new =
-    owed whole texts 9 g o k written (NewFor part texts n p) f outs acts.filed acts.short says new
+    owed whole texts cleaners_number g o k written (NewFor part texts n p) f outs acts.filed acts.short says new
 
 -- ---- the owner's turn
 

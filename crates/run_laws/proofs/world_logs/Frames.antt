@@ -1,5 +1,6 @@
 -- What the small world of a log does elsewhere leaves a node of it seen as it was.
 use Rattle.std.proofs.Common.{◌≡◌, ⊎_elim, ℕ, Option, Some, None, refl, sym, ap, subst, ◌∙◌, inl, inr, arith}
+use Rattle.client_serving.specs.declared.lasting.Lasting.{Lasting}
 use Rattle.node_logs.proofs.cleaner_log_tie.Frames.{stands_later}
 use Rattle.node_logs.specs.cleaner_log_tie.Owner.{CleanerAgrees, its_number}
 use Rattle.cleaner_node.specs.declared.cleaner.Phase.{Phase as CleanerPhase}
@@ -8,7 +9,6 @@ use Rattle.cleaner_job.specs.Starting.{cleaner_log}
 use Rattle.node_logs.specs.client_log_tie.Owner.{Scene, ClientAgrees, LastsAs, MapCame, SeesStage}
 use Rattle.client_node.specs.declared.phase.Phase.TheVariants as clients
 use Rattle.client_node.specs.declared.phase.Phase.{Phase}
-use Rattle.client_call.specs.declared.lasting.Lasting.{Lasting}
 use Rattle.group_map.specs.GroupMapState.{GroupMapState}
 use Rattle.log_law.specs.Net.{Net}
 use Rattle.log_law.specs.Openings.{next_number}

@@ -1,5 +1,5 @@
 -- Groups stay as they are made: what the registry's map names at one moment of a run it names at the end, over the same members; and the map stays well formed.
-use Rattle.std.proofs.Common.{◌≡◌, ◌⊎◌, ℕ, ◌==◌, nat_lt, List, [], ◌∷◌, Option, None, Some, slice_get, slice_set, inl, inr, refl, sym, ap, subst, ◌∙◌, arith}
+use Rattle.std.proofs.Common.{◌≡◌, ◌⊎◌, ℕ, List, [], ◌∷◌, Option, None, Some, slice_get, slice_set, inl, inr, refl, sym, ap, subst, ◌∙◌, arith}
 use Rattle.std.specs.Prelude.{IsSomeAnd}
 use Rattle.core_world.specs.AnyNode.{any_step}
 use Rattle.core_world.specs.declared.any_node.AnyNode.{AnyNode}
@@ -11,25 +11,15 @@ use Rattle.group_map.specs.GroupMapState.{GroupMapState}
 use Rattle.group_map.specs.Losses.{IsLater, Loss, after_losses}
 use Rattle.group_map.specs.WellFormed.{IsGroupMap}
 use Rattle.log_tie.specs.Setting.{Stripe, stripe_of_group}
-use Rattle.node_base.specs.Beginning.{begun, next_item, work_at}
-use Rattle.node_base.specs.Room.{has_room}
 use Rattle.node_base.specs.Setups.{IsSetup}
-use Rattle.node_base.specs.Shape.{is_well_formed}
 use Rattle.node_logs.proofs.node_log_tie.Others.{same_or_other}
+use Rattle.node_moves.proofs.registry_moves.Keeping.{Keeps, event_keeps}
 use Rattle.registry.proofs.Losses.{loss_heard, loss_kept}
-use Rattle.registry.specs.Board.{can_move, hears_manager, hears_server, is_kept, transition}
-use Rattle.registry.specs.Board as board
 use Rattle.registry.specs.BoardState.{BoardState}
-use Rattle.registry.specs.declared.input.In.{In as Input}
-use Rattle.registry.specs.declared.input.In.TheVariants.{Hello, Reassign, Done}
 use Rattle.registry_node.specs.declared.node.RegistryNode.{RegistryNode}
-use Rattle.registry_node.specs.Events.{registry_start, at_item, hears, move_of, on_begin, on_event, on_packet, registry_step}
-use Rattle.registry_node.specs.Events as registry
+use Rattle.registry_node.specs.Events.{registry_start, registry_step}
 use Rattle.version_model.specs.declared.work.Work.{Work}
-use Rattle.wire_msg.specs.declared.body.Body.{Body}
-use Rattle.wire_msg.specs.declared.body.Body.TheVariants as body
 use Rattle.wire_msg.specs.declared.packet.Do.{Do}
-use Rattle.wire_msg.specs.declared.packet.Do.TheVariants.{Begin, Deliver, Tick}
 use Rattle.world_base.specs.Cluster.{place_of}
 use Rattle.world_base.specs.declared.cluster.Cluster.{Cluster}
 use Rattle.world_base.specs.declared.event.Event.{Event}
@@ -42,11 +32,9 @@ use Rattle.run_laws.proofs.world_law.Turning.{next_cluster, next_keeps}
 use Rattle.run_laws.specs.world_law.Owners.{node_in, node_named}
 use Rattle.run_laws.specs.world_logs.Horizons.{board_of}
 use Rattle.run_laws.specs.world_logs.Shelves.{group_at, group_in, groups_of}
-use Rattle.xfs_base.proofs.Booleans.{by_test}
 use Rattle.xfs_base.specs.declared.node.NodeId.{NodeId}
-use Rattle.xfs_base.specs.declared.node.NodeId.TheVariants.{Client, Manager, Server, Cleaner, Registry}
+use Rattle.xfs_base.specs.declared.node.NodeId.TheVariants.{Registry}
 use Rattle.xfs_base.specs.declared.setup.Setup.{Setup}
-use Rattle.xfs_base.specs.Limits.{u32_end}
 
 -- the law of the map of groups
 abbrev pub GroupsStay : Type 0
@@ -111,55 +99,23 @@ module _ (law : GroupsStay) where
   same_map : (m : GroupMapState) → Kept m m
   same_map m = record { stay = stay_still m; map = λ fact. fact }
 
-  abbrev KeptBy : BoardState → BoardState → Type 0
-  KeptBy b c = Kept b.groups c.groups
+  abbrev KeptSince : BoardState → BoardState → Type 0
+  KeptSince b c = Kept b.groups c.groups
 
-  by_hello : (b : BoardState) (from : NodeId) (inc : ℕ) → KeptBy b (board.hello b from inc).state
-  unfolding board.manager_hello board.server_hello
-  by_hello b (Client n) inc = same_map b.groups
-  by_hello b (Manager n) inc = by_test (λ (d : board.Made). KeptBy b d.state) (hears_manager b n inc) _ _ (λ t. same_map b.groups) (λ t. same_map b.groups)
-  by_hello b (Server n) inc = by_test (λ (d : board.Made). KeptBy b d.state) (hears_server b n inc) _ _
-      (λ t. record { stay = lost_stay b.groups n inc; map = loss_kept b.groups n inc (loss_heard b n inc t) }) (λ t. same_map b.groups)
-  by_hello b Cleaner inc = same_map b.groups
-  by_hello b Registry inc = same_map b.groups
-
-  by_input : (b : BoardState) (i : Input) → KeptBy b (transition b i).state
-  unfolding board.reassign board.done board.keep
-  by_input b (Hello from inc) = by_hello b from inc
-  by_input b (Reassign slot manager) = by_test (λ (d : board.Made). KeptBy b d.state) (can_move b slot) _ _ (λ t. same_map b.groups) (λ t. same_map b.groups)
-  by_input b (Done slot epoch parts horizon) =
-      by_test (λ (d : board.Made). KeptBy b d.state) (nat_lt 7 slot) _ _ (λ t. same_map b.groups)
-      (λ t. by_test (λ (d : board.Made). KeptBy b d.state) (is_kept b slot epoch horizon) (board.keep b slot epoch parts horizon) _
-      (λ u. by_test (λ (d : board.Made). KeptBy b d.state) (b.version == u32_end) _ _ (λ v. same_map b.groups) (λ v. same_map b.groups))
-      (λ u. same_map b.groups))
-
-  abbrev KeptIn : RegistryNode → registry.Done → Type 0
-  KeptIn r d = Kept r.board.groups d.state.board.groups
-
-  by_item : (r : RegistryNode) (item : Option ℕ) → KeptIn r (at_item r item)
-  unfolding registry.on_move
-  by_item r None = same_map r.board.groups
-  by_item r (Some number) = by_wish (move_of (work_at r.items number))
-    where
-      by_wish : (wish : Option (ℕ × ℕ)) → KeptIn r (registry.on_item r number wish)
-      by_wish None = same_map r.board.groups
-      by_wish (Some wish) = by_input r.board (Reassign wish.0 wish.1)
-
-  by_body : (r : RegistryNode) (from : NodeId) (said : Body) → KeptIn r (hears r from said)
-  unfolding registry.on_hello registry.on_done
-  by_body r from (body.Hello m) = by_input r.board (Hello from m.inc)
-  by_body r from (body.CkptDone m) = by_input r.board (Done m.slot m.epoch m.parts m.horizon)
-  by_body r from _ = same_map r.board.groups
-
-  by_event : (r : RegistryNode) (what : Do) → KeptIn r (on_event r what)
-  unfolding on_begin on_packet
-  by_event r Begin = by_item (record r { items = begun r.items }) (next_item r.items)
-  by_event r (Deliver packet) = by_test (KeptIn r) (is_well_formed r.peers packet) (hears r packet.from packet.body) _
-      (λ t. by_body r packet.from packet.body) (λ t. same_map r.board.groups)
-  by_event r Tick = same_map r.board.groups
+  keeps : (r : RegistryNode) (what : Do) → Keeps r what (KeptSince r.board) (λ now e. Unit {0})
+  keeps r what = record {
+    restarts = λ packet m manager came from hears h. h;
+    loses = λ packet m server came from hears h. record {
+      stay = lost_stay r.board.groups server m.inc;
+      map = loss_kept r.board.groups server m.inc (loss_heard r.board server m.inc hears);
+    };
+    moves = λ slot manager can h. h;
+    checkpoints = λ packet m came kept h. h;
+    says = λ now e h said. tt;
+  }
 
   groups_kept : (r : RegistryNode) (what : Do) → Kept r.board.groups (registry_step r what).node.board.groups
-  groups_kept r what = by_test (KeptIn r) (has_room r.board.version) (on_event r what) _ (λ t. by_event r what) (λ t. same_map r.board.groups)
+  groups_kept r what = (event_keeps r what (KeptSince r.board) (λ now e. Unit {0}) (keeps r what) (same_map r.board.groups)).state
 
   -- ---- the world
 

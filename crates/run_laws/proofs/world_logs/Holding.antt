@@ -2,6 +2,7 @@
 use Rattle.std.proofs.Common.{◌≡◌, ℕ, List, [], ◌∷◌, Option, inl, inr, refl, subst}
 use Rattle.std.specs.List.{AllByRecursion}
 use Rattle.std.specs.Prelude.{IfSome}
+use Rattle.client_serving.specs.Lasting.{log_of}
 use Rattle.node_logs.specs.cleaner_log_tie.Owner.{CleanerAgrees, its_number}
 use Rattle.cleaner_node.specs.declared.cleaner.Phase.{Phase as CleanerPhase}
 use Rattle.cleaner_node.specs.declared.cleaner.Phase.TheVariants as cleaners
@@ -10,7 +11,6 @@ use Rattle.client_log.specs.LogState.{LogState}
 use Rattle.node_logs.specs.client_log_tie.Owner.{ClientAgrees, Scene, SeesStage}
 use Rattle.client_node.specs.declared.phase.Phase.TheVariants as clients
 use Rattle.client_node.specs.declared.phase.Phase.{Phase}
-use Rattle.client_call.specs.Lasting.{log_of}
 use Rattle.node_tellings.specs.entry_tie.CleanerTells as cleaner_tells
 use Rattle.node_tellings.specs.entry_tie.ClientTells as client_tells
 use Rattle.node_tellings.specs.entry_tie.ClientTells.{FlightOwed, SegmentOwed, StageOwed}

@@ -29,6 +29,8 @@ use Rattle.xfs_base.specs.declared.node.NodeId.{NodeId}
 use Rattle.xfs_base.specs.declared.node.NodeId.TheVariants.{Client, Manager, Server, Cleaner, Registry}
 use Rattle.xfs_base.specs.declared.segment.LogId.{LogId}
 use Rattle.xfs_base.specs.declared.setup.Setup.{Setup}
+use Rattle.xfs_base.specs.Limits.{block_logs, most_managers}
+use Rattle.xfs_base.specs.Logs.{cleaners_number}
 
 -- ---- whose log it is
 
@@ -37,11 +39,11 @@ module _ (clients managers : ℕ) where
   is_clients l = nat_lt 0 l && nat_le l clients
 
   abbrev is_managers : ℕ → Bool
-  is_managers l = nat_lt 9 l && nat_le l (9 + managers)
+  is_managers l = nat_lt block_logs l && nat_le l (block_logs + managers)
 
   -- whether a log has an owner in the run
   abbrev pub has_owner : LogId → Bool
-  has_owner log = (log.0 == 9) || (is_clients log.0 || is_managers log.0)
+  has_owner log = (log.0 == cleaners_number) || (is_clients log.0 || is_managers log.0)
 
   any_left : (a b c : Bool) → a ≡ true → (b || (a || c)) ≡ true
   any_left true true c fact = refl
@@ -54,29 +56,29 @@ module _ (clients managers : ℕ) where
   any_right false false true fact = refl
   any_right a b false fact = absurd cc
 
-  pub its_owner : managers ≤ 4 → (r : Role) → IsThere clients managers r → has_owner (record { 0 = log_by r }) ≡ true
+  pub its_owner : managers ≤ most_managers → (r : Role) → IsThere clients managers r → has_owner (record { 0 = log_by r }) ≡ true
   its_owner few (OfClient c) there =
       (let some = there.0 in let limit = there.1 in
       let inside : is_clients c ≡ true = grind (arith, nat_tests, some, limit) in
-      any_left (is_clients c) (c == 9) (is_managers c) inside)
+      any_left (is_clients c) (c == cleaners_number) (is_managers c) inside)
   its_owner few OfCleaner there = refl
   its_owner few (OfManager j) there =
       (let l = log_by (OfManager j) in
       let fact = managers_log clients managers j few there in let some = there.0 in let limit = there.1 in
       let inside : is_managers l ≡ true = grind (arith, nat_tests, fact, some, limit) in
-      any_right (is_clients l) (l == 9) (is_managers l) inside)
+      any_right (is_clients l) (l == cleaners_number) (is_managers l) inside)
 
-  pub owner_of : managers ≤ 4 → (log : LogId) → has_owner log ≡ true → HasOwner clients managers log
-  owner_of few log has = by (log.0 == 9) refl (is_clients log.0) refl (is_managers log.0) refl
+  pub owner_of : managers ≤ most_managers → (log : LogId) → has_owner log ≡ true → HasOwner clients managers log
+  owner_of few log has = by (log.0 == cleaners_number) refl (is_clients log.0) refl (is_managers log.0) refl
     where
-      by : (a : Bool) → (log.0 == 9) ≡ a → (b : Bool) → is_clients log.0 ≡ b → (c : Bool) → is_managers log.0 ≡ c → HasOwner clients managers log
+      by : (a : Bool) → (log.0 == cleaners_number) ≡ a → (b : Bool) → is_clients log.0 ≡ b → (c : Bool) → is_managers log.0 ≡ c → HasOwner clients managers log
       by true fact b at c there =
           record { role = OfCleaner; there = tt; own = ap (λ n. record { 0 = n }) (grind (arith, nat_tests, fact)) }
       by false fact true at c there = record { role = OfClient log.0; there = (grind (arith, nat_tests, at), grind (arith, nat_tests, at)); own = refl }
       by false fact false at true there =
-          (let some : 9 < log.0 = grind (arith, nat_tests, there) in
-          let limit : log.0 ≤ 9 + managers = grind (arith, nat_tests, there) in
-          let j = log.0 - 9 in
+          (let some : block_logs < log.0 = grind (arith, nat_tests, there) in
+          let limit : log.0 ≤ block_logs + managers = grind (arith, nat_tests, there) in
+          let j = log.0 - block_logs in
           let within : (0 < j) × (j ≤ managers) = (omega arith, omega arith) in
           let its = managers_log clients managers j few within in
           record { role = OfManager j; there = within; own = ap (λ n. record { 0 = n }) (omega arith) })

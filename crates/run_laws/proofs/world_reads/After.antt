@@ -23,6 +23,8 @@ use Rattle.run_laws.specs.world_logs.Lines.{HasLines, IsLeft, Texts, setting}
 use Rattle.run_laws.specs.world_logs.Roles.{Role, log_by, renews}
 use Rattle.run_laws.specs.world_logs.Roles.Role.{OfClient, OfCleaner, OfManager}
 use Rattle.xfs_base.proofs.Booleans.{contrary}
+use Rattle.xfs_base.specs.Limits.{block_logs}
+use Rattle.xfs_base.specs.Logs.{cleaners_number}
 use Rattle.run_laws.proofs.world_reads.AfterClients.{OwnAfter}
 use Rattle.run_laws.proofs.world_reads.AfterLaws.{AfterLaws}
 use Rattle.run_laws.proofs.world_reads.AfterLogs.{flight_left, stays_known}
@@ -44,7 +46,7 @@ module _ (base : Setting) (e : Estate AnyNode) (lines : HasLines base e) (texts 
   -- what nobody has nobody files
   pub record NothingElse (k : Books) (f : Filed) : Type 0 where
     pub head : (l : ℕ) → ((r : Role) → Owns l r → ⊥) → f.head l ≡ 0
-    pub end : (l : ℕ) → 0 < l → l ≤ 9 → ((r : Role) → Owns l r → ⊥) → k.end l ≡ 0
+    pub end : (l : ℕ) → 0 < l → l ≤ block_logs → ((r : Role) → Owns l r → ⊥) → k.end l ≡ 0
 
   -- ---- what a moment has of it
 
@@ -61,29 +63,29 @@ module _ (base : Setting) (e : Estate AnyNode) (lines : HasLines base e) (texts 
 
   -- the owner of a log, or none
   whose : (l : ℕ) → ((r : Role) × Owns l r) ⊎ ((r : Role) → Owns l r → ⊥)
-  whose l = by_cleaner (l == 9) refl
+  whose l = by_cleaner (l == cleaners_number) refl
     where
-      none : (l == 9) ≡ false → (nat_le 1 l) ≡ true → (nat_le l e.script.setup.clients) ≡ false → (r : Role) → Owns l r → ⊥
+      none : (l == cleaners_number) ≡ false → (nat_le 1 l) ≡ true → (nat_le l e.script.setup.clients) ≡ false → (r : Role) → Owns l r → ⊥
       none a b d (OfClient c) (there, keeps, fact) = (let m = there.1 in absurd (grind (arith, nat_tests, a, b, d, m, fact)))
       none a b d OfCleaner (there, keeps, fact) = absurd (grind (arith, nat_tests, a, fact))
       none a b d (OfManager j) (there, keeps, fact) = contrary (sym keeps)
 
-      none_zero : (l == 9) ≡ false → (nat_le 1 l) ≡ false → (r : Role) → Owns l r → ⊥
+      none_zero : (l == cleaners_number) ≡ false → (nat_le 1 l) ≡ false → (r : Role) → Owns l r → ⊥
       none_zero a b (OfClient c) (there, keeps, fact) = (let m = there.0 in absurd (grind (arith, nat_tests, a, b, m, fact)))
       none_zero a b OfCleaner (there, keeps, fact) = absurd (grind (arith, nat_tests, a, fact))
       none_zero a b (OfManager j) (there, keeps, fact) = contrary (sym keeps)
 
-      by_most : (t : Bool) → nat_le l e.script.setup.clients ≡ t → (l == 9) ≡ false → nat_le 1 l ≡ true
+      by_most : (t : Bool) → nat_le l e.script.setup.clients ≡ t → (l == cleaners_number) ≡ false → nat_le 1 l ≡ true
           → ((r : Role) × Owns l r) ⊎ ((r : Role) → Owns l r → ⊥)
       by_most true fact other some = inl (OfClient l, ((grind (arith, nat_tests, some), grind (arith, nat_tests, fact)), refl, refl))
       by_most false fact other some = inr (none other some fact)
 
-      by_some : (t : Bool) → nat_le 1 l ≡ t → (l == 9) ≡ false → ((r : Role) × Owns l r) ⊎ ((r : Role) → Owns l r → ⊥)
+      by_some : (t : Bool) → nat_le 1 l ≡ t → (l == cleaners_number) ≡ false → ((r : Role) × Owns l r) ⊎ ((r : Role) → Owns l r → ⊥)
       by_some true fact other = by_most (nat_le l e.script.setup.clients) refl other fact
       by_some false fact other = inr (none_zero other fact)
 
-      by_cleaner : (t : Bool) → (l == 9) ≡ t → ((r : Role) × Owns l r) ⊎ ((r : Role) → Owns l r → ⊥)
-      by_cleaner true fact = inl (OfCleaner, (tt, refl, sym (eqb-true l 9 fact)))
+      by_cleaner : (t : Bool) → (l == cleaners_number) ≡ t → ((r : Role) × Owns l r) ⊎ ((r : Role) → Owns l r → ⊥)
+      by_cleaner true fact = inl (OfCleaner, (tt, refl, sym (eqb-true l cleaners_number fact)))
       by_cleaner false fact = by_some (nat_le 1 l) refl fact
 
   -- so it has all that it needs of logs, where each log is known
@@ -100,7 +102,7 @@ module _ (base : Setting) (e : Estate AnyNode) (lines : HasLines base e) (texts 
     kind = λ r there keeps. (all r there keeps).kind;
   }
     where
-      end : (l : ℕ) → 0 < l → l ≤ 9 → ((r : Role) × Owns l r) ⊎ ((r : Role) → Owns l r → ⊥) → k.end l ≡ f.head l
+      end : (l : ℕ) → 0 < l → l ≤ block_logs → ((r : Role) × Owns l r) ⊎ ((r : Role) → Owns l r → ⊥) → k.end l ≡ f.head l
       end l some limit (inl (r, (there, keeps, fact))) = subst (λ x. k.end x ≡ f.head x) fact (all r there keeps).known.books.end
       end l some limit (inr none) = else_.end l some limit none ∙ sym (else_.head l none)
 

@@ -2,6 +2,7 @@
 use Rattle.std.proofs.Common.{◌≡◌, ◌⊎◌, ⊎_elim, ℕ, Bool, true, false, List, Option, Some, None, inl, inr, refl, sym, ap, subst, ◌∙◌}
 use Rattle.std.specs.Prelude.{IfSome}
 use Rattle.cleaner_serving.specs.declared.emptying.Emptying.{Emptying}
+use Rattle.client_node.specs.Crash.{flight_of}
 use Rattle.node_logs.specs.cleaner_log_tie.Owner as log_tie
 use Rattle.cleaner_node.specs.CleanerEvents.{Went_to, after_opening, begun_life, crashes, happens, hears, on_begin, on_deliver, on_time, opening_at, opening_wishes, phase_room, takes, wish_at}
 use Rattle.cleaner_node.specs.declared.cleaner.Cleaner.{Cleaner as CleanerNode}
@@ -12,7 +13,6 @@ use Rattle.cleaner_job.specs.declared.lasting.Lasting.{Lasting}
 use Rattle.client_log.specs.LogState.{LogState}
 use Rattle.node_logs.specs.client_log_tie.ClientEvents.{ServesStraight}
 use Rattle.node_logs.specs.client_log_tie.Owner.{Scene, SeesLog, SeesStage}
-use Rattle.client_call.specs.Crash.{flight_of}
 use Rattle.index_tie.specs.Growth.{IsMore}
 use Rattle.index_tie.specs.Net as index
 use Rattle.log_flight.specs.Flights.{FlightState}

@@ -59,8 +59,7 @@ use Rattle.world_base.specs.declared.estate.Estate.{Estate}
 use Rattle.run_laws.specs.world_law.Owners.{moment, node_named}
 use Rattle.run_laws.specs.world_logs.Lines.{HasLines, Texts, setting}
 use Rattle.run_laws.specs.world_logs.Roles.{Role}
-use Rattle.run_laws.proofs.world_reads.CleanerChecked.{DoReadsMay, PhaseMay, event_asks}
-use Rattle.run_laws.proofs.world_reads.CleanerChecking.{BodyMay, BodyReadsMay, EffectMay, InputAt, JobMay, ToldMay}
+use Rattle.run_laws.proofs.world_reads.CleanerChecked.{BodyMay, BodyReadsMay, DoReadsMay, EffectMay, InputAt, JobMay, PhaseMay, ToldMay, event_asks}
 use Rattle.run_laws.proofs.world_reads.CleanerChecks as phases
 use Rattle.run_laws.proofs.world_reads.CleanerChecks.{CheckMay, FoundMay, May}
 use Rattle.run_laws.proofs.world_reads.CleanerGets.{AreReached, GetsBelow, answer_reads, has_job, its_about}
@@ -305,4 +304,4 @@ module _ (law : AsksBelow) (base : Setting) (e : Estate AnyNode) (lines : HasLin
       → AllByRecursion (EffectOwed part n) (takes node.peers node.phase what).outs
   asks what fact =
       all_weaker (EffectMay may) (EffectOwed part n) effect_owed (takes node.peers node.phase what).outs
-      (event_asks may node.peers node.phase what (do_may what fact node.phase refl) (node_may node.phase refl))
+      (event_asks may node what (do_may what fact node.phase refl) (node_may node.phase refl))

@@ -59,6 +59,7 @@ use Rattle.run_laws.proofs.world_reads.Stepping.{comes, served_last}
 use Rattle.run_laws.specs.world_reads.Joint.{There, k}
 use Rattle.xfs_base.proofs.Booleans.{by_test}
 use Rattle.xfs_base.specs.declared.segment.SegName.{SegName}
+use Rattle.xfs_base.specs.Logs.{cleaners_number}
 
 -- ---- what is new, in what is filed on the way
 
@@ -142,7 +143,7 @@ module _ (base : Setting) (e : Estate AnyNode) (lines : HasLines base e) (texts 
   pub member : c < index.members (k base e lines texts part first)
   member = (let h = there.1 in omega arith)
 
-  pub below : c < 9
+  pub below : c < cleaners_number
   below = (let h = member in let f = x.joint.index_stands.few in omega arith)
 
   pub straight : ServesStraight goes

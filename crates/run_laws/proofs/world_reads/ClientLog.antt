@@ -44,6 +44,7 @@ use Rattle.run_laws.proofs.world_reads.Taking.{Took, did_then, moment_next, node
 use Rattle.run_laws.specs.world_reads.Joint.{IsSureUpto, Joint, There}
 use Rattle.xfs_base.specs.declared.node.NodeId.TheVariants.{Client}
 use Rattle.xfs_base.proofs.Booleans.{equal_itself}
+use Rattle.xfs_base.specs.Limits.{slot_count}
 
 -- the laws of the crates below on which it stands
 pub record ClientLaws : Type 0 where
@@ -81,7 +82,7 @@ module _ (base : Setting) (e : Estate AnyNode) (lines : HasLines base e) (texts 
   -- An event of client c, between a moment that stands to all small worlds and one up to which all restarts were sure. The contents of the segments that logs
   -- write are told apart.
   pub record ClientEvent (event : Event) (node : ClientNode) : Type 0 where
-    pub few : part < 8
+    pub few : part < slot_count
     pub apart : TellsApart base
     pub happens : slice_get e.events count ≡ Some event
     pub cluster : (moment e count).cluster ≡ cluster_of e.script.setup

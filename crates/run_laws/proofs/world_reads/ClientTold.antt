@@ -7,7 +7,7 @@ use Rattle.client_node.specs.declared.client.Client.{Client as ClientNode}
 use Rattle.client_node.specs.declared.phase.Phase.TheVariants as clients
 use Rattle.client_node.specs.declared.phase.Phase.{Phase}
 use Rattle.client_node.specs.Phases.{Went_to, takes}
-use Rattle.client_call.specs.declared.lasting.Lasting.{Lasting}
+use Rattle.client_serving.specs.declared.lasting.Lasting.{Lasting}
 use Rattle.client_serving.specs.declared.serving.Serving.{Serving as ServingClient}
 use Rattle.core_world.specs.declared.any_node.AnyNode.{AnyNode}
 use Rattle.core_world.specs.declared.any_node.AnyNode.TheVariants as any
@@ -54,6 +54,7 @@ use Rattle.run_laws.proofs.world_reads.ClientLog.{ClientEvent, ClientLaws}
 use Rattle.run_laws.proofs.world_reads.ClientOwed as owed
 use Rattle.run_laws.specs.world_reads.Joint.{There}
 use Rattle.xfs_base.specs.declared.node.NodeId.TheVariants.{Client}
+use Rattle.xfs_base.specs.Limits.{block_logs}
 
 -- the laws of the crates below on which it stands besides
 pub record TokenLaws : Type 0 where
@@ -104,7 +105,7 @@ module _ (base : Setting) (e : Estate AnyNode) (lines : HasLines base e) (texts 
 
   -- ---- a reopening that ends
 
-  below : c ≤ 9
+  below : c ≤ block_logs
   below = (let b = files.below base e lines texts part first count c there laws event node x in omega arith)
 
   books_then : (m : Moment g w.net) → m ≡ at → LastFlew t.net.books c (last_flight m.run)

@@ -29,9 +29,10 @@ use Rattle.run_laws.specs.world_reads.Joint.{Joint, k}
 use Rattle.xfs_base.specs.Blocks.{slot_of}
 use Rattle.xfs_base.specs.declared.block.BlockId.{BlockId}
 use Rattle.xfs_base.specs.declared.node.NodeId.TheVariants.{Client}
+use Rattle.xfs_base.specs.Limits.{slot_count, block_logs}
 
 module _ (law : small.DirtyBlocksLead) (laws : tokens.NodeLaws) (base : Setting) (e : Estate AnyNode) (lines : HasLines base e) (texts : Texts base e lines)
-    (part : ℕ) (of_eight : part < 8) (first : ℕ → ℕ → Segment) (count : ℕ) (joint : Joint base e lines texts part first count) where
+    (part : ℕ) (of_eight : part < slot_count) (first : ℕ → ℕ → Segment) (count : ℕ) (joint : Joint base e lines texts part first count) where
   abbrev net : Net
   net = with_promise 1 joint.tok.net
 
@@ -55,7 +56,7 @@ module _ (law : small.DirtyBlocksLead) (laws : tokens.NodeLaws) (base : Setting)
 
   module _ (b : BlockId) (inside : slot_of b.ino.0 ≡ part) (version : ℕ) (greatest : small.IsGreatestFiled net b version) where
     -- what the books have of a filed segment the table has
-    row_is : (l q : ℕ) → 0 < l → l ≤ 9 → q ≤ joint.idx.net.filed.head l → (said net.books l q b).version ≡ (row_at joint.idx.net.filed b l q).ver
+    row_is : (l q : ℕ) → 0 < l → l ≤ block_logs → q ≤ joint.idx.net.filed.head l → (said net.books l q b).version ≡ (row_at joint.idx.net.filed b l q).ver
     row_is l q some limit to =
         same_version net.books joint.idx.net.filed both b (begins all_members part (held_in part texts.text) net joint.idx.net tied) l q some limit to
 

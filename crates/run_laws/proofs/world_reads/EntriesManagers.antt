@@ -64,6 +64,7 @@ use Rattle.xfs_base.specs.declared.node.NodeId.{NodeId}
 use Rattle.xfs_base.specs.declared.node.NodeId.TheVariants.{Client, Manager, Server, Cleaner, Registry}
 use Rattle.xfs_base.specs.declared.segment.SegRef.{SegRef}
 use Rattle.xfs_base.proofs.Alls.{all_append, all_filter}
+use Rattle.xfs_base.specs.Limits.{slot_count}
 
 -- ---- what a segment tells of a slot
 
@@ -185,13 +186,13 @@ module _ (base : Setting) (e : Estate AnyNode) (lines : HasLines base e) (texts 
   all_at P (x ∷ xs) each = (each 0 x refl, all_at P xs (λ q y fact. each (suc q) y fact))
 
   module _ (j : ℕ) (s : Serving) (packet : Packet)
-      (slots : (q : ℕ) → q < 8 → SlotKnown q j (managing.Serving s) (Deliver packet)) where
-    eight : length s.slots ≡ 8
+      (slots : (q : ℕ) → q < slot_count → SlotKnown q j (managing.Serving s) (Deliver packet)) where
+    eight : length s.slots ≡ slot_count
     eight = (slots 0 (omega arith)).agrees.0.eight
 
     -- an answer of a server is owed by each of its slots
     slots_owed : (ask server : ℕ) (answer : Answered)
-        → ((q : ℕ) (less : q < 8) → Completes q j (managing.Serving s) (Deliver packet) (slots q less) (phase_at s.slots q) ask server answer)
+        → ((q : ℕ) (less : q < slot_count) → Completes q j (managing.Serving s) (Deliver packet) (slots q less) (phase_at s.slots q) ask server answer)
         → AllByRecursion (SlotOwed (told_by_rows later) ask server answer) s.slots
     slots_owed ask server answer completes = all_at (SlotOwed (told_by_rows later) ask server answer) s.slots one
       where
@@ -199,7 +200,7 @@ module _ (base : Setting) (e : Estate AnyNode) (lines : HasLines base e) (texts 
         one q x fact =
             let within = slice_get_within s.slots q x fact in
             let size = eight in
-            let less : q < 8 = omega arith in
+            let less : q < slot_count = omega arith in
             let at : phase_at s.slots q ≡ x = ap (λ (o : Option SlotPhase). unwrap_or o (phase.Away 0)) fact in
             let agrees = (slots q less).agrees.0 in
             subst (SlotOwed (told_by_rows later) ask server answer) at
@@ -207,7 +208,7 @@ module _ (base : Setting) (e : Estate AnyNode) (lines : HasLines base e) (texts 
             (slots q less).parts ask server answer (completes q less))
 
     found_owed : (from : NodeId) (m : Found)
-        → ((q : ℕ) (less : q < 8) → FoundGets q texts.text (slots q less).asked j (slots q less).net (phase_at s.slots q) from m)
+        → ((q : ℕ) (less : q < slot_count) → FoundGets q texts.text (slots q less).asked j (slots q less).net (phase_at s.slots q) from m)
         → AnswerOwed (told_by_rows later) s (server_in from) m.ask (answered.Held m.fragment)
     found_owed (Server v) m gets = slots_owed m.ask v (answered.Held m.fragment) (λ q less t own x fact fetched done. gets q less t own x fact fetched done)
     found_owed (Client c) m gets = tt
@@ -216,7 +217,7 @@ module _ (base : Setting) (e : Estate AnyNode) (lines : HasLines base e) (texts 
     found_owed Registry m gets = tt
 
     absent_owed : (from : NodeId) (m : Absent)
-        → ((q : ℕ) (less : q < 8) → AbsentGets q texts.text (slots q less).asked j (slots q less).net (phase_at s.slots q) from m)
+        → ((q : ℕ) (less : q < slot_count) → AbsentGets q texts.text (slots q less).asked j (slots q less).net (phase_at s.slots q) from m)
         → AnswerOwed (told_by_rows later) s (server_in from) m.ask (answered.Missing m.generation)
     absent_owed (Server v) m gets =
         slots_owed m.ask v (answered.Missing m.generation) (λ q less t own x fact fetched done. gets q less t own x fact fetched done)
@@ -226,7 +227,7 @@ module _ (base : Setting) (e : Estate AnyNode) (lines : HasLines base e) (texts 
     absent_owed Registry m gets = tt
 
     body_owed : (from : NodeId) (m : Body)
-        → ((q : ℕ) (less : q < 8) → BodyReads q texts.text (slots q less).asked j (slots q less).net (phase_at s.slots q) from m)
+        → ((q : ℕ) (less : q < slot_count) → BodyReads q texts.text (slots q less).asked j (slots q less).net (phase_at s.slots q) from m)
         → BodyOwed (told_by_rows later) s from m
     body_owed from (body.Fragment m) gets = found_owed from m gets
     body_owed from (body.Missing m) gets = absent_owed from m gets
@@ -239,7 +240,7 @@ module _ (base : Setting) (e : Estate AnyNode) (lines : HasLines base e) (texts 
 
   -- What a manager is owed, where so much is known of each slot of the map.
   pub manager_owed : (j : ℕ) (manager : ManagerNode) (what : Do)
-      → ((q : ℕ) → q < 8 → SlotKnown q j manager.phase what) → ManagerOwed (told_by_rows later) manager what (manager_step manager what).acts
+      → ((q : ℕ) → q < slot_count → SlotKnown q j manager.phase what) → ManagerOwed (told_by_rows later) manager what (manager_step manager what).acts
   manager_owed j manager what slots = by what refl
     where
       by_phase : (packet : Packet) → what ≡ Deliver packet → (p : Phase) → manager.phase ≡ p → PacketOwed (told_by_rows later) p packet

@@ -15,8 +15,8 @@ use Rattle.takeover.specs.Course.{Course, course_of}
 use Rattle.takeover.specs.declared.report.Report.{Report}
 use Rattle.takeover.specs.declared.source.Present.{Present}
 use Rattle.takeover.specs.declared.source.Source.{Source}
-use Rattle.takeover.specs.Reports.{end_of, horizon_at, writer_of}
-use Rattle.takeover.specs.Sources.{back_from, goes_back, is_none, log_source, log_sources, part_source, prior_of, sources_of}
+use Rattle.takeover.specs.Reports.{end_of, horizon_at}
+use Rattle.takeover.specs.Sources.{back_from, goes_back, log_source, log_sources, part_source, prior_of, sources_of}
 use Rattle.takeover.specs.TakeState.{TakeState}
 use Rattle.token_protocol.specs.Basics.{In}
 use Rattle.run_laws.proofs.world_reads.EntriesCourse.{LooksFor, PresentSo, SourcesSo, its_sources}
@@ -27,6 +27,9 @@ use Rattle.xfs_base.specs.declared.segment.End.{End}
 use Rattle.xfs_base.specs.declared.segment.SegName.{SegName}
 use Rattle.xfs_base.specs.declared.segment.SegRef.{SegRef}
 use Rattle.xfs_base.proofs.Alls.{all_append, all_weaker}
+use Rattle.xfs_base.specs.Segments.{names_none}
+use Rattle.xfs_base.specs.Logs.{block_writer, cleaners_number}
+use Rattle.xfs_base.specs.Limits.{block_logs}
 
 same_name : (a b : SegName) → a.log.0 ≡ b.log.0 → a.seq ≡ b.seq → a.pass ≡ b.pass → a ≡ b
 same_name a b log seq pass = λ k. record { log = record { 0 = log k }; seq = seq k; pass = pass k }
@@ -72,7 +75,7 @@ module _ (f : Filed) (filed : IsFiled f) (texts : Texts) (are_texts : AreTexts t
   -- nothing is left of a part
   part_ends : (source : Source) (s : Segment) → ReadsPart parts source → s.name ≡ source.seg.name → goes_back source s ≡ true → ⊥
   part_ends source s part named back =
-      none_below source.low s.name.seq (not (is_none s.prior))
+      none_below source.low s.name.seq (not (names_none s.prior))
       (ap (λ (x : Source). x.low) part.of_part ∙ (ap (λ (x : Source). x.seg.name.seq) (sym part.of_part) ∙ ap (λ (n : SegName). n.seq) (sym named))) back
 
   -- a filed segment leads to the one before it
@@ -87,7 +90,7 @@ module _ (f : Filed) (filed : IsFiled f) (texts : Texts) (are_texts : AreTexts t
       let fact : s ≡ f.segment l q = read ∙ (ap texts (named ∙ here.named) ∙ sym (are_texts l q some limit)) in
       let its = filed.each l q some limit in
       let seq : s.name.seq ≡ q = ap (λ (x : Segment). x.name.seq) fact ∙ its.seq in
-      let down : source.low < s.name.seq = goes_down source.low s.name.seq (not (is_none s.prior)) back in
+      let down : source.low < s.name.seq = goes_down source.low s.name.seq (not (names_none s.prior)) back in
       let below = filed.each l (q - 1) (omega arith) (omega arith) in
       let one : suc (q - 1) ≡ q = omega arith in
       record {
@@ -139,7 +142,7 @@ module _ (part : ℕ) (texts : Texts) (n : Net) (filed : IsFiled n.filed) (news 
   abbrev EndLies : ℕ → End → Type 0
   EndLies l end = low_of l ≤ end.seq → IsEnd n.filed l end × Linked n.filed l (low_of l) end.seq
 
-  module _ (l : ℕ) (some : 0 < l) (limit : l ≤ 9) where
+  module _ (l : ℕ) (some : 0 < l) (limit : l ≤ block_logs) where
     low_is : of_log (n.horizon news.epoch) l ≡ low_of l
     low_is = sym (ap (λ horizon. of_log horizon l) known.horizon) ∙ of_log_in news.horizon l some limit
 
@@ -152,14 +155,14 @@ module _ (part : ℕ) (texts : Texts) (n : Net) (filed : IsFiled n.filed) (news 
         let pos = low_some in
         (fact.filed (omega arith) (omega arith), subst (λ k. Linked n.filed l k end.seq) low (fact.linked (omega arith)))
 
-    by_writer : (t : Bool) → (l == 9) ≡ t → (end : End) → ReportKnown part n news.epoch (cond t Cleaner (Client l)) end → EndKnown part n news.epoch l end
-    by_writer true fact end report = subst (λ k. EndKnown part n news.epoch k end) (sym (eqb-true l 9 fact)) report.0
+    by_writer : (t : Bool) → (l == cleaners_number) ≡ t → (end : End) → ReportKnown part n news.epoch (cond t Cleaner (Client l)) end → EndKnown part n news.epoch l end
+    by_writer true fact end report = subst (λ k. EndKnown part n news.epoch k end) (sym (eqb-true l cleaners_number fact)) report.0
     by_writer false fact end report = report
 
     end_lies : (reports : List Report) → ((r : Report) → In r reports → Good r) → EndLies l (end_of reports l)
     end_lies reports good =
-        end_from_is (EndLies l) (writer_of l) reports (λ above. absurd (let pos = low_some in omega arith))
-        (λ r among from. known_lies r.end (by_writer (l == 9) refl r.end (subst (λ node. ReportKnown part n news.epoch node r.end) from (good r among))))
+        end_from_is (EndLies l) (block_writer l) reports (λ above. absurd (let pos = low_some in omega arith))
+        (λ r among from. known_lies r.end (by_writer (l == cleaners_number) refl r.end (subst (λ node. ReportKnown part n news.epoch node r.end) from (good r among))))
 
     log_lies : (reports : List Report) → ((r : Report) → In r reports → Good r)
         → AllByRecursion (SourceLies n.filed news.parts) (log_sources news.horizon reports l)
@@ -188,7 +191,7 @@ module _ (part : ℕ) (texts : Texts) (n : Net) (filed : IsFiled n.filed) (news 
   sources_lie : (reports : List Report) → AllByRecursion Good reports → AllByRecursion (SourceLies n.filed news.parts) (sources_of news reports)
   sources_lie reports good =
       all_append (SourceLies n.filed news.parts) (map part_source news.parts) _ (all_parts n.filed news.parts news.parts (λ ref among. among))
-      (all_logs (SourceLies n.filed news.parts) (log_sources news.horizon reports) 1 9
+      (all_logs (SourceLies n.filed news.parts) (log_sources news.horizon reports) 1 block_logs
       (λ l low high. log_lies l (omega arith) (omega arith) reports (λ r among. all_got reports r good among)))
     where
       all_got : (xs : List Report) (r : Report) → AllByRecursion Good xs → In r xs → Good r

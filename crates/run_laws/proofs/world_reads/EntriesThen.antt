@@ -87,6 +87,8 @@ use Rattle.xfs_base.specs.declared.node.NodeId.TheVariants.{Client, Manager, Ser
 use Rattle.xfs_base.specs.declared.segment.LogId.{LogId}
 use Rattle.xfs_base.specs.declared.segment.SegName.{SegName}
 use Rattle.xfs_base.proofs.Booleans.{equal_itself}
+use Rattle.xfs_base.specs.Limits.{slot_count}
+use Rattle.xfs_base.specs.Logs.{cleaner_log, cleaners_number}
 
 -- the laws of the crates below on which it stands
 pub record EntryLaws : Type 0 where
@@ -99,10 +101,10 @@ module _ (base : Setting) (e : Estate AnyNode) (lines : HasLines base e) (texts 
   -- An event of a run, after which so much is filed: the moment before it stands to the small worlds of each slot of the map, up to the one after it all
   -- restarts were sure, and there each log has its line in what is filed.
   pub record EntryEvent (event : Event) (h : Filed) : Type 0 where
-    pub of_map : part < 8
+    pub of_map : part < slot_count
     pub happens : slice_get e.events count ≡ Some event
     pub run : IsRun any_step any_start e.script e.events e.world
-    pub joints : (slot : ℕ) → slot < 8 → Joint base e lines texts slot first count
+    pub joints : (slot : ℕ) → slot < slot_count → Joint base e lines texts slot first count
     pub sure : IsSureUpto base e lines texts part first (suc count)
     pub more : IsMore (joints part of_map).idx.net.filed h
     pub lined : (r : Role) (there : There base e lines texts part first r) → renews r ≡ false
@@ -112,7 +114,7 @@ module _ (base : Setting) (e : Estate AnyNode) (lines : HasLines base e) (texts 
     -- what is sent is of those who may send it, as the small world of tokens knows
     pub kinds : (p : Packet) → In p (moment e (suc count)).sent → IsKind p
     -- what an answer completes of a takeover is the text of its name, as a manager is owed it in the small world of each slot's index
-    pub reads : (j : ℕ) → node_of event ≡ Manager j → (manager : ManagerNode) → Took (moment e count) event (any.Manager manager) → (slot : ℕ) (less : slot < 8)
+    pub reads : (j : ℕ) → node_of event ≡ Manager j → (manager : ManagerNode) → Took (moment e count) event (any.Manager manager) → (slot : ℕ) (less : slot < slot_count)
         → DoReads slot texts.text (joints slot less).idx.asked j (joints slot less).idx.net manager.phase (what_of event)
 
   module _ (laws : EntryLaws) (event : Event) (h : Filed) (x : EntryEvent event h) where
@@ -165,9 +167,9 @@ module _ (base : Setting) (e : Estate AnyNode) (lines : HasLines base e) (texts 
           flight_told base e lines texts part first count r there laws.give laws.held laws.of_log event node h owned (record { 0 = s.lasting.number })
           (ap (λ (n : ℕ). record { 0 = n }) (agrees.0.number ∙ its)) s.log agrees.1.owner
 
-      cleaner_phase : log_by r ≡ 9 → (p : cleaners.Phase) → cleaner_log.CleanerAgrees (setting base e r) scene p → cleaner_entries.PhaseOwed told acts p
+      cleaner_phase : log_by r ≡ cleaners_number → (p : cleaners.Phase) → cleaner_log.CleanerAgrees (setting base e r) scene p → cleaner_entries.PhaseOwed told acts p
       cleaner_phase its (cleaning.Down l) agrees = tt
-      cleaner_phase its (cleaning.Opening l o) agrees = stage_owed 9 o.known l.questions.last o.stage agrees.sees
+      cleaner_phase its (cleaning.Opening l o) agrees = stage_owed cleaners_number o.known l.questions.last o.stage agrees.sees
       cleaner_phase its (cleaning.Serving s) agrees =
           flight_told base e lines texts part first count r there laws.give laws.held laws.of_log event node h owned (record { 0 = 9 })
           (ap (λ (n : ℕ). record { 0 = n }) (sym its)) s.log agrees.log.owner
@@ -230,7 +232,7 @@ module _ (base : Setting) (e : Estate AnyNode) (lines : HasLines base e) (texts 
           owed : CleanerOwed told it what (cleaner_step it what).acts
           owed = cleaner_phase OfCleaner tt refl (any.Cleaner it) (subst (Took w event) (sym same) took)
               (subst (λ y. OwnsEvent base e lines texts part first count OfCleaner tt event y h) (sym same)
-              (owns_event OfCleaner tt refl (ap (owns 9) own))) refl it.phase
+              (owns_event OfCleaner tt refl (ap (owns cleaners_number) own))) refl it.phase
               (((lines OfCleaner tt).stands count).seen Cleaner (any.Cleaner it) here).agrees
 
       manager_here : (j : ℕ) → node_of event ≡ Manager j → AnyOwed (rows_at h) node what
@@ -242,7 +244,7 @@ module _ (base : Setting) (e : Estate AnyNode) (lines : HasLines base e) (texts 
           it : ManagerNode
           it = joint.idx.manager j
 
-          here : (slot : ℕ) (less : slot < 8) → any.Manager ((x.joints slot less).idx.manager j) ≡ node
+          here : (slot : ℕ) (less : slot < slot_count) → any.Manager ((x.joints slot less).idx.manager j) ≡ node
           here slot less =
               is_named (Manager j) own (any.Manager ((x.joints slot less).idx.manager j))
               ((x.joints slot less).index_stands.placed.managers j b.some b.within)
@@ -256,7 +258,7 @@ module _ (base : Setting) (e : Estate AnyNode) (lines : HasLines base e) (texts 
           one_manager : (a c : ManagerNode) → any.Manager a ≡ any.Manager c → a ≡ c
           one_manager a c fact = cc
 
-          slot_known : (slot : ℕ) → slot < 8 → SlotKnown base e lines texts count (rows_at h) slot j it.phase what
+          slot_known : (slot : ℕ) → slot < slot_count → SlotKnown base e lines texts count (rows_at h) slot j it.phase what
           slot_known slot less =
               let its = x.joints slot less in
               record {

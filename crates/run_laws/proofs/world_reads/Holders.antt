@@ -36,6 +36,7 @@ use Rattle.xfs_base.specs.Blocks.{same_block, slot_of}
 use Rattle.xfs_base.specs.declared.block.BlockId.{BlockId}
 use Rattle.xfs_base.specs.declared.node.NodeId.TheVariants.{Client}
 use Rattle.xfs_base.specs.Modes.{is_held}
+use Rattle.xfs_base.specs.Limits.{slot_count}
 
 -- where acts are legal, the last of them is, after the others
 last_legal : (acts : List Act) (a : Act) (h : History) → AreLegalFrom h (acts ++ a ∷ []) → IsLegalIn a (history_after acts h)
@@ -49,7 +50,7 @@ untold false xs fact = refl
 
 module _ (law : ActsAreLegal) (blocks : BlocksMakeLegal) (laws : tokens.NodeLaws) (base : Setting) (e : Estate AnyNode) (lines : HasLines base e)
     (texts : Texts base e lines) (first : ℕ → ℕ → Segment) (count : ℕ) (apart : FallsApart (moment e count).acts)
-    (joints : (part : ℕ) → part < 8 → Joint base e lines texts part first count) where
+    (joints : (part : ℕ) → part < slot_count → Joint base e lines texts part first count) where
   abbrev all : List Act
   all = (moment e count).acts
 

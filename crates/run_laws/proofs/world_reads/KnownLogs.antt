@@ -32,6 +32,7 @@ use Rattle.xfs_base.specs.declared.fragment.FragMeta.{FragMeta}
 use Rattle.xfs_base.specs.declared.segment.LogId.{LogId}
 use Rattle.xfs_base.specs.declared.segment.SegName.{SegName}
 use Rattle.xfs_base.proofs.Booleans.{equal_itself}
+use Rattle.xfs_base.specs.Logs.{cleaners_number}
 
 -- ---- groups
 
@@ -58,18 +59,18 @@ module _ (base : Setting) (e : Estate AnyNode) (lines : HasLines base e) (texts 
   clients = e.script.setup.clients
 
   somebody : (l : ℕ) → HasLog l ⊎ Nobody l
-  somebody l = by (l == 9) refl (nat_lt 0 l && nat_le l clients) refl
+  somebody l = by (l == cleaners_number) refl (nat_lt 0 l && nat_le l clients) refl
     where
-      none : (r : Role) → (l == 9) ≡ false → (nat_lt 0 l && nat_le l clients) ≡ false → There base e lines texts part first r → renews r ≡ false
+      none : (r : Role) → (l == cleaners_number) ≡ false → (nat_lt 0 l && nat_le l clients) ≡ false → There base e lines texts part first r → renews r ≡ false
           → log_by r ≡ l → ⊥
       none (OfClient c) other out there keeps fact =
           (let some = there.0 in let limit = there.1 in let same : c ≡ l = fact in
           let inside : (nat_lt 0 l && nat_le l clients) ≡ true = grind (arith, nat_tests, some, limit, same) in absurd cc)
-      none OfCleaner other out there keeps fact = (let same : (l == 9) ≡ true = grind (arith, nat_tests, fact) in absurd cc)
+      none OfCleaner other out there keeps fact = (let same : (l == cleaners_number) ≡ true = grind (arith, nat_tests, fact) in absurd cc)
       none (OfManager j) other out there keeps fact = absurd cc
 
-      by : (t : Bool) → (l == 9) ≡ t → (u : Bool) → (nat_lt 0 l && nat_le l clients) ≡ u → HasLog l ⊎ Nobody l
-      by true fact u at = inl (record { role = OfCleaner; there = tt; keeps = refl; numbered = sym (eqb-true l 9 fact) })
+      by : (t : Bool) → (l == cleaners_number) ≡ t → (u : Bool) → (nat_lt 0 l && nat_le l clients) ≡ u → HasLog l ⊎ Nobody l
+      by true fact u at = inl (record { role = OfCleaner; there = tt; keeps = refl; numbered = sym (eqb-true l cleaners_number fact) })
       by false fact true at =
           inl (record { role = OfClient l; there = (grind (arith, nat_tests, at), grind (arith, nat_tests, at)); keeps = refl; numbered = refl })
       by false fact false at = inr (λ r there keeps same. none r fact at there keeps same)

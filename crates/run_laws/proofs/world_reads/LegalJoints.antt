@@ -19,10 +19,11 @@ use Rattle.run_laws.specs.world_reads.Joint.{Joint, k}
 use Rattle.xfs_base.specs.Blocks.{slot_of}
 use Rattle.xfs_base.specs.declared.block.BlockId.{BlockId}
 use Rattle.xfs_base.proofs.Booleans.{equal_itself}
+use Rattle.xfs_base.specs.Limits.{slot_count}
 
 module _ (law : ActsAreLegal) (blocks : BlocksMakeLegal) (base : Setting) (e : Estate AnyNode) (lines : HasLines base e) (texts : Texts base e lines)
     (first : ℕ → ℕ → Segment) (count : ℕ) (apart : FallsApart (moment e count).acts)
-    (joints : (part : ℕ) → part < 8 → Joint base e lines texts part first count) where
+    (joints : (part : ℕ) → part < slot_count → Joint base e lines texts part first count) where
   pub of_block : (b : BlockId) → LegalActs (acts_of b (moment e count).acts)
   of_block b =
       subst (λ acts. LegalActs (acts_of b acts)) joint.tokens_stand.acts

@@ -1,6 +1,7 @@
 -- Each moment of a run up to which no restart that ended was doubtful stands to the small worlds of each slot: so the acts up to it are legal, and the
 -- indexes of slots are kept.
 use Rattle.std.proofs.Common.{ℕ, ◌<◌}
+use Rattle.xfs_base.specs.Limits.{slot_count}
 use Rattle.core_world.specs.AnyNode.{any_start, any_step}
 use Rattle.core_world.specs.declared.any_node.AnyNode.{AnyNode}
 use Rattle.log_tie.specs.Setting.{Setting}
@@ -47,7 +48,7 @@ module _ (below : Below) where
     sure : (part : ℕ) → IsSureUpto base e lines texts part (first_of base e lines texts) count
     sure part r there keeps_on = below.lines.undoubted_runs_are_sure base e lines count none r there keeps_on
 
-    kept : (part : ℕ) → part < 8 → KeepsItsIndexes e count part texts.text
+    kept : (part : ℕ) → part < slot_count → KeepsItsIndexes e count part texts.text
     kept part of_eight =
         let joint : Joint base e lines texts part (first_of base e lines texts) count = stands.joints part of_eight in
         record {

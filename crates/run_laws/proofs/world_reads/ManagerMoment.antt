@@ -42,6 +42,7 @@ use Rattle.run_laws.specs.world_logs.Roles.Role.{OfManager}
 use Rattle.run_laws.proofs.world_reads.Taking.{Took, moment_next, node_then, took_it}
 use Rattle.run_laws.specs.world_reads.Joint.{Joint, There}
 use Rattle.xfs_base.specs.declared.node.NodeId.TheVariants.{Manager}
+use Rattle.xfs_base.specs.Limits.{slot_count}
 
 same_manager : (a b : ManagerNode) → Some (any.Manager a) ≡ Some (any.Manager b) → a ≡ b
 same_manager a b fact = cc
@@ -95,7 +96,7 @@ module _ (base : Setting) (e : Estate AnyNode) (lines : HasLines base e) (texts 
 
     -- An event of manager j at such a moment, at which readers hold what came.
     pub record ManagerEvent (event : Event) (node : ManagerNode) : Type 0 where
-      pub few : part < 8
+      pub few : part < slot_count
       pub happens : slice_get e.events count ≡ Some event
       pub coming : Coming event
       pub own : node_of event ≡ Manager j

@@ -19,7 +19,6 @@ use Rattle.node_tellings.specs.reference_tie.Managers.{PhaseRefers, ReportRefers
 use Rattle.node_tellings.specs.reference_tie.References.{References}
 use Rattle.segment_format.specs.declared.segment.Segment.{Segment}
 use Rattle.takeover.specs.declared.report.Report.{Report as Heard}
-use Rattle.takeover.specs.Reports.{writer_of}
 use Rattle.token_protocol.specs.Basics.{In}
 use Rattle.world_base.specs.Cluster.{place_of}
 use Rattle.world_base.specs.declared.cluster.Cluster.{Cluster}
@@ -49,6 +48,8 @@ use Rattle.xfs_base.proofs.Members.{contains_cases, contains_nothing}
 use Rattle.xfs_base.specs.declared.node.NodeId.TheVariants.{Client, Manager, Cleaner}
 use Rattle.xfs_base.specs.declared.segment.End.{End}
 use Rattle.xfs_base.specs.declared.segment.SegRef.{SegRef}
+use Rattle.xfs_base.specs.Logs.{block_writer, cleaners_number}
+use Rattle.xfs_base.specs.Limits.{slot_count}
 
 one_contained : {X : Type 0} (P : X → Type 0) (xs : List X) (x : X) → AllByRecursion P xs → Contains xs x → P x
 one_contained P [] x all fact = absurd (contains_nothing x fact)
@@ -64,12 +65,12 @@ module _ (base : Setting) (e : Estate AnyNode) (lines : HasLines base e) (texts 
   r = its base e lines texts part first count
 
   -- what the owner of log l reported
-  of_writer : (l : ℕ) (end : End) → ReportFlew base e lines texts part first count (writer_of l) end → EndFlew base e lines texts part first count l end
-  of_writer l end h = by (l == 9) refl h
+  of_writer : (l : ℕ) (end : End) → ReportFlew base e lines texts part first count (block_writer l) end → EndFlew base e lines texts part first count l end
+  of_writer l end h = by (l == cleaners_number) refl h
     where
-      by : (t : Bool) → (l == 9) ≡ t → ReportFlew base e lines texts part first count (cond t Cleaner (Client l)) end
+      by : (t : Bool) → (l == cleaners_number) ≡ t → ReportFlew base e lines texts part first count (cond t Cleaner (Client l)) end
           → EndFlew base e lines texts part first count l end
-      by true fact k = subst (λ x. EndFlew base e lines texts part first count x end) (sym (eqb-true l 9 fact)) k
+      by true fact k = subst (λ x. EndFlew base e lines texts part first count x end) (sym (eqb-true l cleaners_number fact)) k
       by false fact k = k
 
   module _ (t : Taking) (refers : TakeRefers r t.take) where
@@ -83,7 +84,7 @@ module _ (base : Setting) (e : Estate AnyNode) (lines : HasLines base e) (texts 
     its_group l end some (inr f) =
         f.grouped ∙ ap (λ (s : Segment). s.group) (sym (ap texts.text f.named ∙ texts.flown f.of.role f.of.there count f.segment f.among))
 
-    ends_bear : (l : ℕ) (x : Heard) → In x t.take.reports → x.from ≡ writer_of l → 0 < x.end.seq
+    ends_bear : (l : ℕ) (x : Heard) → In x t.take.reports → x.from ≡ block_writer l → 0 < x.end.seq
         → x.end.group ≡ (texts.text (record { log = record { 0 = l }; seq = x.end.seq; pass = x.end.pass })).group
     ends_bear l x among from some =
         its_group l x.end some (of_writer l x.end (subst (λ node. ReportFlew base e lines texts part first count node x.end) from
@@ -124,7 +125,7 @@ module _ (base : Setting) (e : Estate AnyNode) (lines : HasLines base e) (texts 
 -- ---- all of it, of an event that a manager takes
 
 module _ (base : Setting) (e : Estate AnyNode) (lines : HasLines base e) (texts : Texts base e lines) (part : ℕ) (first : ℕ → ℕ → Segment) (count : ℕ)
-    (laws : ManagerLaws) (more : TellingLaws) (few : part < 8) (event : Event) (fact : slice_get e.events count ≡ Some event)
+    (laws : ManagerLaws) (more : TellingLaws) (few : part < slot_count) (event : Event) (fact : slice_get e.events count ≡ Some event)
     (coming : Coming base e lines texts part first count event) (came : ReadingsCame e.world (moment e count))
     (stands : ReferencesStand base e lines texts part first count) where
   abbrev k : Cluster

@@ -24,6 +24,7 @@ use Rattle.xfs_base.specs.declared.node.NodeId.TheVariants.{Client, Manager, Ser
 use Rattle.xfs_base.specs.declared.segment.End.{End}
 use Rattle.xfs_base.specs.declared.segment.SegRef.{SegRef}
 use Rattle.xfs_base.specs.declared.setup.Setup.{Setup}
+use Rattle.xfs_base.specs.Logs.{cleaners_number}
 
 any_rises : (r later : References) → Weaker r later → (node : AnyNode) → AnyRefers r node → AnyRefers later node
 any_rises r later w (any.Client node) h = tt
@@ -82,7 +83,7 @@ module _ (base : Setting) (e : Estate AnyNode) (lines : HasLines base e) (texts 
   report_then count (Client c) end h = end_then count c end h
   report_then count (Manager j) end h = tt
   report_then count (Server v) end h = tt
-  report_then count Cleaner end h = end_then count 9 end h
+  report_then count Cleaner end h = end_then count cleaners_number end h
   report_then count Registry end h = tt
 
   pub weaker_then : (count : ℕ) → Weaker (its base e lines texts part first count) (its base e lines texts part first (suc count))

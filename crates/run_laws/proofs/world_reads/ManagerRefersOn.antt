@@ -77,6 +77,7 @@ use Rattle.xfs_base.specs.declared.node.NodeId.{NodeId}
 use Rattle.xfs_base.specs.declared.node.NodeId.TheVariants.{Client, Manager, Server, Cleaner, Registry}
 use Rattle.xfs_base.specs.declared.segment.End.{End}
 use Rattle.xfs_base.specs.declared.segment.LogId.{LogId}
+use Rattle.xfs_base.specs.Logs.{cleaners_number}
 
 -- the laws of the crates below on which it stands; of those `ends` is to be one of log_law
 pub record ReferenceLaws : Type 0 where
@@ -170,10 +171,10 @@ module _ (base : Setting) (e : Estate AnyNode) (lines : HasLines base e) (texts 
             grouped = sym (laws.ends (setting base e (OfClient c)) net at s sees.owner f.0 f.1 named);
           })
 
-  cleaner_end : (s : LogState) → SeesLog (setting base e OfCleaner) 9 ((lines OfCleaner tt).scene count) s → EndFlew base e lines texts part first count 9 s.end
+  cleaner_end : (s : LogState) → SeesLog (setting base e OfCleaner) cleaners_number ((lines OfCleaner tt).scene count) s → EndFlew base e lines texts part first count cleaners_number s.end
   cleaner_end s sees = by s.end.seq refl
     where
-      by : (q : ℕ) → s.end.seq ≡ q → EndFlew base e lines texts part first count 9 s.end
+      by : (q : ℕ) → s.end.seq ≡ q → EndFlew base e lines texts part first count cleaners_number s.end
       by zero fact = inl fact
       by (suc q) fact =
           let at = ((lines OfCleaner tt).stands count).moment in
@@ -256,7 +257,7 @@ module _ (base : Setting) (e : Estate AnyNode) (lines : HasLines base e) (texts 
     record CleanerReported : Type 0 where
       end : End
       is_end : (s : Emptying) → node.phase ≡ cleaning.Serving s → s.log.end ≡ end
-      flew : EndFlew base e lines texts part first count 9 end
+      flew : EndFlew base e lines texts part first count cleaners_number end
 
     cleaner_reported : CleanerReported
     cleaner_reported = by node.phase refl

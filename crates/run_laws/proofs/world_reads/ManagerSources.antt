@@ -22,7 +22,7 @@ use Rattle.takeover.specs.Course.{Course, after_input, after_inputs}
 use Rattle.takeover.specs.declared.input.In.{In as Input}
 use Rattle.takeover.specs.declared.report.Report.{Report as Heard}
 use Rattle.takeover.specs.declared.source.Source.{Source}
-use Rattle.takeover.specs.Reports.{end_of, horizon_at, writer_of}
+use Rattle.takeover.specs.Reports.{end_of, horizon_at}
 use Rattle.takeover.specs.Sources.{from_end, log_source, log_sources, part_source, sources_of}
 use Rattle.token_protocol.specs.Basics.{In}
 use Rattle.world_base.specs.declared.estate.Estate.{Estate}
@@ -37,6 +37,8 @@ use Rattle.xfs_base.specs.declared.segment.End.{End}
 use Rattle.xfs_base.specs.declared.segment.Pass.{Pass}
 use Rattle.xfs_base.specs.declared.segment.SegName.{SegName}
 use Rattle.xfs_base.specs.declared.segment.SegRef.{SegRef}
+use Rattle.xfs_base.specs.Logs.{block_writer, cleaners_number}
+use Rattle.xfs_base.specs.Limits.{block_logs}
 
 -- ---- lists
 
@@ -84,11 +86,11 @@ from_end_is l low end source h = by (nat_le low end.seq) refl h
     }
     by false fact h = absurd (contains_nothing source h)
 
-known_of : (part : ℕ) (n : Net) (epoch l : ℕ) (end : End) → ReportKnown part n epoch (writer_of l) end → EndKnown part n epoch l end
-known_of part n epoch l end k = by (l == 9) refl k
+known_of : (part : ℕ) (n : Net) (epoch l : ℕ) (end : End) → ReportKnown part n epoch (block_writer l) end → EndKnown part n epoch l end
+known_of part n epoch l end k = by (l == cleaners_number) refl k
   where
-    by : (t : Bool) → (l == 9) ≡ t → ReportKnown part n epoch (cond t Cleaner (Client l)) end → EndKnown part n epoch l end
-    by true fact k = subst (λ x. EndKnown part n epoch x end) (sym (eqb-true l 9 fact)) k.0
+    by : (t : Bool) → (l == cleaners_number) ≡ t → ReportKnown part n epoch (cond t Cleaner (Client l)) end → EndKnown part n epoch l end
+    by true fact k = subst (λ x. EndKnown part n epoch x end) (sym (eqb-true l cleaners_number fact)) k.0
     by false fact k = k
 
 name_is : (n : SegName) (l q : ℕ) (p : Pass) → n.log.0 ≡ l → n.seq ≡ q → p ≡ n.pass → ◌≡◌ {A = SegName} (record { log = record { 0 = l }; seq = q; pass = p }) n
@@ -112,7 +114,7 @@ module _ (base : Setting) (e : Estate AnyNode) (lines : HasLines base e) (texts 
 
     -- and each end that was reported to it bears the group of the text that it names
     abbrev pub EndsBearGroups : Type 0
-    EndsBearGroups = (l : ℕ) → 0 < l → l ≤ 9 → (r : Heard) → In r t.take.reports → r.from ≡ writer_of l → 0 < r.end.seq
+    EndsBearGroups = (l : ℕ) → 0 < l → l ≤ block_logs → (r : Heard) → In r t.take.reports → r.from ≡ block_writer l → 0 < r.end.seq
         → r.end.group ≡ (texts.text (named_by l r.end)).group
 
     -- a filed end, over the group of its text, flew
@@ -141,7 +143,7 @@ module _ (base : Setting) (e : Estate AnyNode) (lines : HasLines base e) (texts 
           ∙ (ap (λ h. of_log h l) k.known.horizon ∙ ap (λ epoch. of_log (joint.idx.net.horizon epoch) l) k.of_epoch)
 
       -- the checkpoint covers nothing of a log from number 0 on
-      from_one : (l : ℕ) → 0 < l → l ≤ 9 → 0 < of_log t.take.news.horizon l
+      from_one : (l : ℕ) → 0 < l → l ≤ block_logs → 0 < of_log t.take.news.horizon l
       from_one l some limit = subst (λ (n : SlotNews). 0 < of_log n.horizon l) (sym (its_news part joint.idx.net texts.text t k))
           (k.known.from_one l some limit)
 
@@ -150,9 +152,9 @@ module _ (base : Setting) (e : Estate AnyNode) (lines : HasLines base e) (texts 
         pub filed : IsEnd filed l end
         pub group : end.group ≡ (texts.text (named_by l end)).group
 
-      good_end : EndsBearGroups → (l : ℕ) → 0 < l → l ≤ 9 → of_log t.take.news.horizon l ≤ (end_of t.take.reports l).seq → IsGood l (end_of t.take.reports l)
+      good_end : EndsBearGroups → (l : ℕ) → 0 < l → l ≤ block_logs → of_log t.take.news.horizon l ≤ (end_of t.take.reports l).seq → IsGood l (end_of t.take.reports l)
       good_end groups l some limit =
-          end_from_is (λ end. of_log t.take.news.horizon l ≤ end.seq → IsGood l end) (writer_of l) t.take.reports
+          end_from_is (λ end. of_log t.take.news.horizon l ≤ end.seq → IsGood l end) (block_writer l) t.take.reports
           (λ low. absurd (let one = from_one l some limit in omega arith))
           (λ r among from low. (let one = from_one l some limit in let h = horizon_is l in
           let known : EndKnown part joint.idx.net t.epoch l r.end =
@@ -163,7 +165,7 @@ module _ (base : Setting) (e : Estate AnyNode) (lines : HasLines base e) (texts 
             group = groups l some limit r among from (omega arith);
           }))
 
-      log_flew : EndsBearGroups → (l : ℕ) → 0 < l → l ≤ 9 → (source : Source) → Contains (log_sources t.take.news.horizon t.take.reports l) source
+      log_flew : EndsBearGroups → (l : ℕ) → 0 < l → l ≤ block_logs → (source : Source) → Contains (log_sources t.take.news.horizon t.take.reports l) source
           → Flew base e lines texts part first count source.seg
       log_flew groups l some limit source h =
           let f = from_end_is l (horizon_at t.take.news.horizon l) (end_of t.take.reports l) source h in
@@ -177,13 +179,13 @@ module _ (base : Setting) (e : Estate AnyNode) (lines : HasLines base e) (texts 
       pub sources_flew : PartsFlew → EndsBearGroups → (source : Source) → Contains (sources_of t.take.news t.take.reports) source
           → Flew base e lines texts part first count source.seg
       sources_flew parts groups source h = ⊎_elim of_parts of_logs
-          (Contains-append_cases (map part_source t.take.news.parts) (flat_map (log_sources t.take.news.horizon t.take.reports) (range_with_len 1 9)) source h)
+          (Contains-append_cases (map part_source t.take.news.parts) (flat_map (log_sources t.take.news.horizon t.take.reports) (range_with_len 1 block_logs)) source h)
         where
           of_parts : Contains (map part_source t.take.news.parts) source → Flew base e lines texts part first count source.seg
           of_parts fact = (let z = in_map part_source t.take.news.parts source fact in
               subst (λ (x : Source). Flew base e lines texts part first count x.seg) z.2 (parts z.0 z.1))
 
-          of_logs : Contains (flat_map (log_sources t.take.news.horizon t.take.reports) (range_with_len 1 9)) source
+          of_logs : Contains (flat_map (log_sources t.take.news.horizon t.take.reports) (range_with_len 1 block_logs)) source
               → Flew base e lines texts part first count source.seg
-          of_logs fact = (let z = in_flat_map (log_sources t.take.news.horizon t.take.reports) (range_with_len 1 9) source fact in
-              let r = in_range 1 9 z.0 z.1 in log_flew groups z.0 (omega arith) (omega arith) source z.2)
+          of_logs fact = (let z = in_flat_map (log_sources t.take.news.horizon t.take.reports) (range_with_len 1 block_logs) source fact in
+              let r = in_range 1 block_logs z.0 z.1 in log_flew groups z.0 (omega arith) (omega arith) source z.2)

@@ -1,38 +1,29 @@
 -- Each segment that is acted to be filed in a run was told to be filed by an owner of a log: servers and the registry act none.
 use Rattle.std.proofs.Common.{◌≡◌, ◌⊎◌, ◌+◌, ℕ, zero, suc, Bool, true, false, List, [], ◌∷◌, ◌++◌, Option, None, Some, drop, length, slice_get, if◌then◌else◌, inl, inr, refl, sym, ap, subst, ◌∙◌, arith}
 use Rattle.std.proofs.lemmas.List.Elements.{recursion_from_All}
-use Rattle.std.specs.List.{AllByRecursion, flat_map, fold}
+use Rattle.std.specs.List.{AllByRecursion, fold}
 use Rattle.cleaner_job.specs.Starting.{cleaner_log}
 use Rattle.core_world.specs.AnyNode.{any_start, any_step}
 use Rattle.core_world.specs.declared.any_node.AnyNode.{AnyNode}
 use Rattle.core_world.specs.declared.any_node.AnyNode.TheVariants as any
 use Rattle.manager_slots.specs.Lasting.{log_of}
-use Rattle.node_base.specs.Beginning.{begun, next_item, work_at}
 use Rattle.node_base.specs.declared.effects.Effect.{Effect}
 use Rattle.node_base.specs.declared.effects.Effect.TheVariants.{Send, Answer, Lose, Does}
 use Rattle.node_base.specs.Effects.{acts_of}
-use Rattle.node_base.specs.Nodes.{others}
-use Rattle.node_base.specs.Room.{has_room}
 use Rattle.node_base.specs.Setups.{IsSetup}
-use Rattle.node_base.specs.Shape.{is_well_formed}
+use Rattle.node_moves.proofs.registry_moves.Keeping.{event_says}
+use Rattle.node_moves.specs.registry_moves.Moves.{Said}
+use Rattle.node_moves.specs.registry_moves.Moves.Said.{TellsMaps}
 use Rattle.node_slots.specs.owner_index_tie.ServerEvents.{DoesNothing, LeavesLogs, ServerEventGoes}
-use Rattle.registry.specs.Board.{transition}
-use Rattle.registry.specs.declared.input.In.TheVariants as board
-use Rattle.registry.specs.declared.output.Out.{Out}
-use Rattle.registry.specs.declared.output.Out.TheVariants.{Changed, Epoch, Kept}
+use Rattle.registry.specs.BoardState.{BoardState}
 use Rattle.registry_node.specs.declared.node.RegistryNode.{RegistryNode}
-use Rattle.registry_node.specs.Events.{at_item, changed, hears, kept, move_of, moved, on_begin, on_done, on_event, on_hello, on_item, on_move, on_packet, takes as registry_takes, tells_all}
+use Rattle.registry_node.specs.Events.{takes as registry_takes}
 use Rattle.store_nodes.specs.declared.server.Server.{Server as ServerNode}
 use Rattle.store_nodes.specs.ServerEvents.{takes as server_takes}
 use Rattle.token_protocol.specs.Basics.{In}
 use Rattle.version_model.specs.declared.act.Act.{Act}
 use Rattle.version_model.specs.declared.act.Act.TheVariants as act
-use Rattle.wire_msg.specs.declared.body.Body.{Body}
-use Rattle.wire_msg.specs.declared.body.Body.TheVariants as body
 use Rattle.wire_msg.specs.declared.packet.Do.{Do}
-use Rattle.wire_msg.specs.declared.packet.Do.TheVariants.{Begin, Deliver, Tick}
-use Rattle.wire_msg.specs.declared.registry.CkptDone.{CkptDone}
-use Rattle.wire_msg.specs.declared.registry.Hello.{Hello}
 use Rattle.world_base.specs.Cluster.{cluster_of, place_of}
 use Rattle.world_base.specs.declared.cluster.Cluster.{Cluster}
 use Rattle.world_base.specs.declared.estate.Estate.{Estate}
@@ -50,12 +41,11 @@ use Rattle.run_laws.specs.world_logs.Roles.Role.{OfClient, OfCleaner, OfManager}
 use Rattle.run_laws.proofs.world_reads.CleanerFront.{did_next}
 use Rattle.run_laws.proofs.world_reads.Taking.{NothingHappens, Took, did_before, did_then, moment_next, takes_or_not, took_it}
 use Rattle.run_laws.proofs.world_reads.TurnRun.{moment_cluster, past_end}
-use Rattle.xfs_base.proofs.Alls.{all_append, all_flat_map, all_map, all_weaker}
-use Rattle.xfs_base.proofs.Booleans.{by_test, equal_itself}
+use Rattle.xfs_base.proofs.Alls.{all_weaker}
+use Rattle.xfs_base.proofs.Booleans.{equal_itself}
 use Rattle.xfs_base.specs.declared.node.NodeId.{NodeId}
 use Rattle.xfs_base.specs.declared.node.NodeId.TheVariants.{Client, Manager, Server, Cleaner, Registry}
 use Rattle.xfs_base.specs.declared.segment.SegName.{SegName}
-use Rattle.xfs_base.specs.Steps.{still}
 
 -- ---- what files nothing
 
@@ -90,71 +80,12 @@ server_files_none goes server what name fact =
 
 -- ---- the registry
 
-all_told : (node : RegistryNode) → AllByRecursion Quiet (tells_all node)
-all_told node = all_map Quiet _ (λ to. tt) (others node.peers Registry)
-
-one_moved : (node : RegistryNode) (number : ℕ) (o : Out) → AllByRecursion Quiet (moved node number o)
-one_moved node number Changed = all_told node
-one_moved node number (Epoch epoch) = (tt, tt)
-one_moved node number (Kept epoch) = tt
-
-one_changed : (node : RegistryNode) (o : Out) → AllByRecursion Quiet (changed node o)
-one_changed node Changed = all_told node
-one_changed node (Epoch epoch) = tt
-one_changed node (Kept epoch) = tt
-
-one_kept : (from : NodeId) (m : CkptDone) (o : Out) → AllByRecursion Quiet (kept from m o)
-one_kept from m Changed = tt
-one_kept from m (Epoch epoch) = tt
-one_kept from m (Kept epoch) = (tt, tt)
-
-move_quiet : (node : RegistryNode) (number slot manager : ℕ) → AllByRecursion Quiet (on_move node number slot manager).outs
-unfolding on_move
-move_quiet node number slot manager =
-    let made = transition node.board (board.Reassign slot manager) in
-    all_flat_map Quiet (moved (record node { board = made.state }) number) (one_moved (record node { board = made.state }) number) made.outs
-
-hello_quiet : (node : RegistryNode) (from : NodeId) (m : Hello) → AllByRecursion Quiet (on_hello node from m).outs
-unfolding on_hello
-hello_quiet node from m =
-    let made = transition node.board (board.Hello from m.inc) in
-    all_append Quiet (flat_map (changed (record node { board = made.state })) made.outs) _
-    (all_flat_map Quiet (changed (record node { board = made.state })) (one_changed (record node { board = made.state })) made.outs) (tt, tt)
-
-done_quiet : (node : RegistryNode) (from : NodeId) (m : CkptDone) → AllByRecursion Quiet (on_done node from m).outs
-unfolding on_done
-done_quiet node from m =
-    let made = transition node.board (board.Done m.slot m.epoch m.parts m.horizon) in
-    all_flat_map Quiet (kept from m) (one_kept from m) made.outs
-
-item_quiet : (node : RegistryNode) (number : ℕ) (wish : Option (ℕ × ℕ)) → AllByRecursion Quiet (on_item node number wish).outs
-item_quiet node number None = tt
-item_quiet node number (Some wish) = move_quiet node number wish.0 wish.1
-
-at_quiet : (node : RegistryNode) (item : Option ℕ) → AllByRecursion Quiet (at_item node item).outs
-at_quiet node None = tt
-at_quiet node (Some number) = item_quiet node number (move_of (work_at node.items number))
-
-begin_quiet : (node : RegistryNode) → AllByRecursion Quiet (on_begin node).outs
-unfolding on_begin
-begin_quiet node = at_quiet (record node { items = begun node.items }) (next_item node.items)
-
-heard_quiet : (node : RegistryNode) (from : NodeId) (said : Body) → AllByRecursion Quiet (hears node from said).outs
-heard_quiet node from (body.Hello m) = hello_quiet node from m
-heard_quiet node from (body.CkptDone m) = done_quiet node from m
-heard_quiet node from _ = tt
-
-event_quiet : (node : RegistryNode) (what : Do) → AllByRecursion Quiet (on_event node what).outs
-unfolding on_packet
-event_quiet node Begin = begin_quiet node
-event_quiet node (Deliver packet) =
-    by_test (λ d. AllByRecursion Quiet d.outs) (is_well_formed node.peers packet) (hears node packet.from packet.body) (still node)
-    (λ t. heard_quiet node packet.from packet.body) (λ t. tt)
-event_quiet node Tick = all_told node
+registry_acts_none : (node : RegistryNode) (what : Do) (now : BoardState) (e : Effect) → Said node what now e → Quiet e
+registry_acts_none node what now e (TellsMaps to) = tt
+registry_acts_none node what now e _ = tt
 
 registry_quiet : (node : RegistryNode) (what : Do) → AllByRecursion Quiet (registry_takes node what).outs
-registry_quiet node what =
-    by_test (λ d. AllByRecursion Quiet d.outs) (has_room node.board.version) (on_event node what) (still node) (λ t. event_quiet node what) (λ t. tt)
+registry_quiet node what = event_says node what Quiet (registry_acts_none node what)
 
 registry_files_none : (node : RegistryNode) (what : Do) (name : SegName) → In (act.Filed name) (any_step (any.Registry node) what).acts → ⊥
 registry_files_none node what name fact = unfiled Registry name (registry_takes node what).outs (registry_quiet node what) fact

@@ -42,6 +42,7 @@ use Rattle.run_laws.specs.world_reads.OwnTable.{HasSegment, IsOwnTable, IsStored
 use Rattle.xfs_base.specs.declared.node.NodeId.TheVariants.{Registry}
 use Rattle.xfs_base.specs.declared.segment.LogId.{LogId}
 use Rattle.xfs_base.specs.declared.segment.SegName.{SegName}
+use Rattle.xfs_base.specs.Limits.{block_logs}
 
 module _ (give : LinesGive) (whole : LogsStayWhole) (one : OneNameOneText) (of_log : WhatFlewIsOfTheLog) (laws : tokens.NodeLaws)
     (servers : ServerEventGoes) (base : Setting) (e : Estate AnyNode) (setup : IsSetup e.script.setup)
@@ -132,7 +133,7 @@ module _ (give : LinesGive) (whole : LogsStayWhole) (one : OneNameOneText) (of_l
       let s = (whole (setting base e r) net at).flown name (((lines r there).stands count).filed name fact) in
       sym (ap (λ (l : LogId). l.0) (of_log (setting base e r) net at s.0 s.1)) ∙ ap (λ (n : SegName). n.log.0) s.2
 
-  has_of : (name : SegName) → name.log.0 ≤ 9 → (r : Role) → There base e lines texts part first r → In (act.Filed name) (did e (log_by r) count)
+  has_of : (name : SegName) → name.log.0 ≤ block_logs → (r : Role) → There base e lines texts part first r → In (act.Filed name) (did e (log_by r) count)
       → HasSegment f name.log.0 name
   has_of name low (OfClient c) there fact =
       subst (λ l. HasSegment f l name) (log_of_told (OfClient c) there name fact) (has_told (OfClient c) there refl name fact)
@@ -141,7 +142,7 @@ module _ (give : LinesGive) (whole : LogsStayWhole) (one : OneNameOneText) (of_l
   has_of name low (OfManager j) there fact =
       absurd (let same = log_of_told (OfManager j) there name fact in let high = high_log j there.0 in omega (arith, same, low, high))
 
-  has_acted : (name : SegName) → In (act.Filed name) (moment e count).acts → name.log.0 ≤ 9 → HasSegment f name.log.0 name
+  has_acted : (name : SegName) → In (act.Filed name) (moment e count).acts → name.log.0 ≤ block_logs → HasSegment f name.log.0 name
   has_acted name fact low = (let t = told_by_owner laws servers e setup run name count fact in has_of name low t.role t.there t.among)
 
   was_told : (l q : ℕ) → 0 < q → q ≤ f.head l → In (act.Filed (f.segment l q).name) (did e l count)

@@ -39,6 +39,7 @@ use Rattle.xfs_base.proofs.Booleans.{by_test, contrary, equal_itself}
 use Rattle.xfs_base.specs.declared.node.NodeId.{NodeId}
 use Rattle.xfs_base.specs.declared.node.NodeId.TheVariants.{Client, Manager, Cleaner, Registry}
 use Rattle.xfs_base.specs.declared.segment.SegName.{SegName}
+use Rattle.xfs_base.specs.Logs.{cleaners_number}
 
 -- ---- a line goes on
 
@@ -172,10 +173,10 @@ module _ (base : Setting) (e : Estate AnyNode) (lines : HasLines base e) (texts 
           (own_acted d its (IsNewerAtSlot part) n.filed (Client (lasting_of node.phase).number) (client_takes node what).outs owed.files
           (λ a fact. did_then e d count event (any.Client node) at_event its took a fact) was)
       acted_then Cleaner own (any.Cleaner node) took owed makes was =
-          let its : owns 9 (node_of event) ≡ true = ap (owns 9) own in
+          let its : owns cleaners_number (node_of event) ≡ true = ap (owns cleaners_number) own in
           subst (Acted (suc count)) (sym makes.filed)
-          (own_acted 9 its (NewFor part texts.text n node.phase) n.filed Cleaner (cleaner_takes node.peers node.phase what).outs owed.files
-          (λ a fact. did_then e 9 count event (any.Cleaner node) at_event its took a fact) was)
+          (own_acted cleaners_number its (NewFor part texts.text n node.phase) n.filed Cleaner (cleaner_takes node.peers node.phase what).outs owed.files
+          (λ a fact. did_then e cleaners_number count event (any.Cleaner node) at_event its took a fact) was)
       acted_then (Manager j) own (any.Manager node) took owed makes was = as_it_was (ap (λ (x : index.Net). x.filed) makes.rest) was
       acted_then Registry own (any.Registry node) took owed makes was = as_it_was makes.filed was
       acted_then name own node took owed makes was = as_it_was (ap (λ (x : index.Net). x.filed) makes) was

@@ -30,6 +30,7 @@ use Rattle.run_laws.specs.world_reads.Joint.{IsSureUpto, Joint, k}
 use Rattle.xfs_base.specs.Blocks.{slot_of}
 use Rattle.xfs_base.specs.declared.node.NodeId.{NodeId}
 use Rattle.xfs_base.specs.declared.node.NodeId.TheVariants.{Client, Manager, Server, Cleaner, Registry}
+use Rattle.xfs_base.specs.Limits.{slot_count}
 
 all_from : {X : Type 0} (P : X → Type 0) (xs : List X) → ((x : X) → In x xs → P x) → AllByRecursion P xs
 all_from P [] each = tt
@@ -38,7 +39,7 @@ all_from P (x ∷ xs) each = (each x (inl refl), all_from P xs (λ y among. each
 module _ (laws : StepsBelow) (base : Setting) (e : Estate AnyNode) (lines : HasLines base e) (texts : Texts base e lines) (first : ℕ → ℕ → Segment) where
   -- ---- what managers told of blocks that live
 
-  module _ (count : ℕ) (both : (part : ℕ) → part < 8 → Both base e lines texts part first count) where
+  module _ (count : ℕ) (both : (part : ℕ) → part < slot_count → Both base e lines texts part first count) where
     live_tells : (part : ℕ) (b : Both base e lines texts part first count) (m : Live) → slot_of m.block.ino.0 ≡ part → (from : NodeId)
         → IsSentBy from (body.Live m)
         → SentBy part b.idx.net b.idx.asked from (body.Live m) → 0 < m.entry.ver
@@ -68,16 +69,16 @@ module _ (laws : StepsBelow) (base : Setting) (e : Estate AnyNode) (lines : HasL
   IsSure count = IsSureUpto base e lines texts 0 first count
 
   abbrev pub Joints : ℕ → Type 0
-  Joints count = (part : ℕ) → part < 8 → Joint base e lines texts part first count
+  Joints count = (part : ℕ) → part < slot_count → Joint base e lines texts part first count
 
   module _ (apart : TellsApart base) (run : IsRun any_step any_start e.script e.events e.world) where
     -- what is owed of the event at this count, of each slot
     abbrev pub Steps : (count : ℕ) → Joints count → IsSure (suc count) → Type 0
-    Steps count joints sure = (part : ℕ) (of_eight : part < 8)
+    Steps count joints sure = (part : ℕ) (of_eight : part < slot_count)
         → Step laws base e lines texts part first of_eight apart run count (joints part of_eight) sure
 
     -- so the moment after it stands, too
-    pub next_all : (count : ℕ) (joints : Joints count) (sure : IsSure (suc count)) → Steps count joints sure → (part : ℕ) (of_eight : part < 8)
+    pub next_all : (count : ℕ) (joints : Joints count) (sure : IsSure (suc count)) → Steps count joints sure → (part : ℕ) (of_eight : part < slot_count)
         → Grows base e lines texts part first count (joints part of_eight)
     next_all count joints sure steps part of_eight =
         joint_then laws base e lines texts part first of_eight apart run count (joints part of_eight) sure (steps part of_eight)

@@ -48,6 +48,7 @@ use Rattle.run_laws.proofs.world_reads.TurnBoth.{Both, TurnLaws, delivered_to, s
 use Rattle.run_laws.specs.world_reads.Joint.{k}
 use Rattle.xfs_base.specs.declared.node.NodeId.{NodeId}
 use Rattle.xfs_base.specs.declared.node.NodeId.TheVariants.{Client, Manager, Server, Cleaner, Registry}
+use Rattle.xfs_base.specs.Limits.{slot_count}
 
 client_number : (logs : Bool) (part c : ℕ) (n : Net) (p : Phase) → ClientAgrees logs part c n p → (lasting_of p).number ≡ c
 client_number logs part c n (Down l) h = h.number
@@ -55,7 +56,7 @@ client_number logs part c n (Opening l o) h = h.number
 client_number logs part c n (Serves s) h = h.number
 
 module _ (laws : TurnLaws) (base : Setting) (e : Estate AnyNode) (lines : HasLines base e) (texts : Texts base e lines) (part : ℕ)
-    (first : ℕ → ℕ → Segment) (of_eight : part < 8) (count : ℕ) (event : Event) (cluster : (moment e count).cluster ≡ k base e lines texts part first)
+    (first : ℕ → ℕ → Segment) (of_eight : part < slot_count) (count : ℕ) (event : Event) (cluster : (moment e count).cluster ≡ k base e lines texts part first)
     (may : MayHappen (moment e count) event) (b : Both base e lines texts part first count) (c : ℕ) (down : b.tok.net.up c ≡ false)
     (away : Client c ≡ node_of event → ⊥) (node : AnyNode) (took : Took (moment e count) event node) (adopted : Bool)
     (owed : TurnOwes true adopted (members (k base e lines texts part first) part) part (epoch_now (k base e lines texts part first) part b.tok) b.tok.net

@@ -19,6 +19,7 @@ use Rattle.run_laws.specs.world_law.Owes.{BooksGo}
 use Rattle.run_laws.proofs.world_reads.AfterStill.{same_filing, same_log}
 use Rattle.xfs_base.specs.declared.node.NodeId.{NodeId}
 use Rattle.xfs_base.specs.declared.node.NodeId.TheVariants.{Client, Manager, Server, Cleaner, Registry}
+use Rattle.xfs_base.specs.Logs.{cleaners_number}
 
 -- the log isn't that of the client of this name, or of the cleaner
 abbrev pub IsOther : NodeId → ℕ → Type 0
@@ -48,7 +49,7 @@ module _ (part : ℕ) (texts : Texts) (n next : index.Net) (what : Do) where
   filed_left (Client d) (any.Client node) makes l other =
       subst (IsSameLog l n.filed) (sym (ap (λ (x : index.Net). x.filed) makes)) (others_after texts d l other n.filed (clients.takes node what).outs)
   filed_left Cleaner (any.Cleaner node) makes l other =
-      subst (IsSameLog l n.filed) (sym makes.filed) (others_after texts 9 l other n.filed (cleaners.takes node.peers node.phase what).outs)
+      subst (IsSameLog l n.filed) (sym makes.filed) (others_after texts cleaners_number l other n.filed (cleaners.takes node.peers node.phase what).outs)
   filed_left (Manager j) (any.Manager node) makes l other = of_filed n.filed next.filed l (ap (λ (x : index.Net). x.filed) makes.rest)
   filed_left Registry (any.Registry node) makes l other = of_filed n.filed next.filed l makes.filed
   filed_left name node makes l other = of_net l makes

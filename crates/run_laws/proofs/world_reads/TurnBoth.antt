@@ -47,6 +47,7 @@ use Rattle.run_laws.proofs.world_reads.Taking.{NothingHappens, Took, moment_next
 use Rattle.run_laws.specs.world_reads.Joint.{Joint, k}
 use Rattle.xfs_base.specs.declared.node.NodeId.{NodeId}
 use Rattle.xfs_base.specs.declared.node.NodeId.TheVariants.{Cleaner}
+use Rattle.xfs_base.specs.Limits.{slot_count}
 
 -- the laws of the crates below
 pub record TurnLaws : Type 0 where
@@ -131,7 +132,7 @@ module _ (base : Setting) (e : Estate AnyNode) (lines : HasLines base e) (texts 
     abbrev pub Goes : ((node : AnyNode) → Took now event node → IsOwed node) → Type 0
     Goes owed = NothingHappens now event ⊎ ((node : AnyNode) × (took : Took now event node) × Turned node (owed node took))
 
-    pub goes : TurnLaws → part < 8 → now.cluster ≡ c → slice_get e.events count ≡ Some event → MayHappen now event
+    pub goes : TurnLaws → part < slot_count → now.cluster ≡ c → slice_get e.events count ≡ Some event → MayHappen now event
         → (owed : (node : AnyNode) → Took now event node → IsOwed node) → Goes owed
     goes laws of_eight cluster at may owed =
         next_keeps any_step Which now event (λ nodes sent acts. inl (record { nodes = nodes; sent = sent; acts = acts })) turned refl refl refl

@@ -71,7 +71,7 @@ use Rattle.run_laws.proofs.world_reads.TurnMoment as now
 use Rattle.run_laws.proofs.world_reads.TurnMoment.{same_cleaner}
 use Rattle.run_laws.specs.world_reads.Joint.{IsSureUpto, k}
 use Rattle.xfs_base.specs.declared.node.NodeId.TheVariants.{Cleaner}
-use Rattle.xfs_base.specs.Limits.{counter_room, u32_end}
+use Rattle.xfs_base.specs.Limits.{counter_room, u32_end, slot_count}
 use Rattle.xfs_base.specs.Steps.{still}
 use Rattle.xfs_base.proofs.Booleans.{and_first, and_second}
 
@@ -89,7 +89,7 @@ room_below (Opening l o) h = lasting_below l (and_first (lasting_room l) _ h)
 room_below (Serves e) h = lasting_below e.lasting (and_first (lasting_room e.lasting) _ h)
 
 module _ (laws : StepsBelow) (base : Setting) (e : Estate AnyNode) (lines : HasLines base e) (texts : Texts base e lines) (part : ℕ)
-    (first : ℕ → ℕ → Segment) (of_eight : part < 8) (apart : TellsApart base) (count : ℕ) (event : Event) (at_event : slice_get e.events count ≡ Some event)
+    (first : ℕ → ℕ → Segment) (of_eight : part < slot_count) (apart : TellsApart base) (count : ℕ) (event : Event) (at_event : slice_get e.events count ≡ Some event)
     (cluster : (moment e count).cluster ≡ k base e lines texts part first) (may : MayHappen (moment e count) event)
     (b : Both base e lines texts part first count) (sure : IsSureUpto base e lines texts part first (suc count))
     (own : node_of event ≡ Cleaner) (x : CleanerNode)

@@ -26,9 +26,10 @@ use Rattle.run_laws.proofs.world_reads.TurnBoth.{both_of}
 use Rattle.run_laws.proofs.world_reads.TurnOwed.{CleanerOwed, IndexOwed}
 use Rattle.run_laws.specs.world_reads.Joint.{IsSureUpto, Joint, k}
 use Rattle.xfs_base.specs.declared.node.NodeId.TheVariants.{Cleaner}
+use Rattle.xfs_base.specs.Limits.{slot_count}
 
 module _ (runs : RunLaws) (law : ToldBelow) (base : Setting) (e : Estate AnyNode) (lines : HasLines base e) (texts : Texts base e lines) (part : ℕ)
-    (first : ℕ → ℕ → Segment) (of_eight : part < 8) (apart : TellsApart base) (setup : IsSetup e.script.setup)
+    (first : ℕ → ℕ → Segment) (of_eight : part < slot_count) (apart : TellsApart base) (setup : IsSetup e.script.setup)
     (run : IsRun any_step any_start e.script e.events e.world) (count : ℕ)
     (joint : Joint base e lines texts part first count)
     (sure : IsSureUpto base e lines texts part first (suc count)) (event : Event) (at : slice_get e.events count ≡ Some event) (node : CleanerNode)

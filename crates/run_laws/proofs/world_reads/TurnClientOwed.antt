@@ -4,7 +4,7 @@ use Rattle.client_node.specs.declared.client.Client.{Client as ClientNode}
 use Rattle.client_node.specs.declared.phase.Phase.TheVariants as clients
 use Rattle.client_node.specs.declared.phase.Phase.{Phase}
 use Rattle.client_node.specs.Phases.{after_opening, happens, on_deliver, on_time, takes}
-use Rattle.client_call.specs.declared.lasting.Lasting.{Lasting}
+use Rattle.client_serving.specs.declared.lasting.Lasting.{Lasting}
 use Rattle.client_serving.specs.declared.serving.Serving.{Serving}
 use Rattle.core_world.specs.AnyNode.{any_start, any_step}
 use Rattle.core_world.specs.declared.any_node.AnyNode.{AnyNode}
@@ -52,6 +52,7 @@ use Rattle.run_laws.proofs.world_reads.TurnRun.{moment_cluster}
 use Rattle.run_laws.specs.world_reads.Joint.{IsSureUpto, Joint, There, k}
 use Rattle.xfs_base.specs.declared.node.NodeId.TheVariants.{Client}
 use Rattle.xfs_base.specs.Steps.{still}
+use Rattle.xfs_base.specs.Limits.{slot_count}
 
 -- the laws of the crates below on which it stands
 pub record ClientsBelow : Type 0 where
@@ -102,7 +103,7 @@ module _ (node : ClientNode) (l : Lasting) (o : Opening) (opens : node.phase ≡
 -- ---- beside one run
 
 module _ (below : ClientsBelow) (base : Setting) (e : Estate AnyNode) (lines : HasLines base e) (texts : Texts base e lines) (part : ℕ)
-    (first : ℕ → ℕ → Segment) (of_eight : part < 8) (apart : TellsApart base) (setup : IsSetup e.script.setup)
+    (first : ℕ → ℕ → Segment) (of_eight : part < slot_count) (apart : TellsApart base) (setup : IsSetup e.script.setup)
     (run : IsRun any_step any_start e.script e.events e.world) (count : ℕ) (joint : Joint base e lines texts part first count)
     (sure : IsSureUpto base e lines texts part first (suc count)) (event : Event) (at : slice_get e.events count ≡ Some event)
     (may : MayHappen (moment e count) event) (c : ℕ) (node : ClientNode) (own : node_of event ≡ Client c)

@@ -44,6 +44,7 @@ use Rattle.run_laws.proofs.world_reads.TurnMoment as now
 use Rattle.run_laws.proofs.world_reads.TurnMoment.{same_client}
 use Rattle.run_laws.specs.world_reads.Joint.{IsSureUpto, There, flew_at, k}
 use Rattle.xfs_base.specs.declared.node.NodeId.TheVariants.{Client}
+use Rattle.xfs_base.specs.Limits.{slot_count}
 
 module _ (base : Setting) (e : Estate AnyNode) (lines : HasLines base e) (texts : Texts base e lines) (part : ℕ) (first : ℕ → ℕ → Segment) where
   abbrev cl : Cluster
@@ -67,7 +68,7 @@ module _ (base : Setting) (e : Estate AnyNode) (lines : HasLines base e) (texts 
         (now.client_sees base e lines texts part first count b c there).agrees).1.owner,
   )
 
-  module _ (laws : StepsBelow) (of_eight : part < 8) (apart : TellsApart base) (count : ℕ) (event : Event)
+  module _ (laws : StepsBelow) (of_eight : part < slot_count) (apart : TellsApart base) (count : ℕ) (event : Event)
       (at_event : slice_get e.events count ≡ Some event) (cluster : (moment e count).cluster ≡ cl) (may : MayHappen (moment e count) event)
       (b : Both base e lines texts part first count) (sure : IsSureUpto base e lines texts part first (suc count)) (node : AnyNode)
       (took : Took (moment e count) event node) (owed : IsOwed base e lines texts part first count event b node)

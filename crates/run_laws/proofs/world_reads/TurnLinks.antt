@@ -38,12 +38,14 @@ use Rattle.run_laws.proofs.world_reads.TurnMoment as now
 use Rattle.run_laws.specs.world_reads.Joint.{IsSureUpto, There, k}
 use Rattle.xfs_base.specs.declared.block.BlockId.{BlockId}
 use Rattle.xfs_base.proofs.Booleans.{equal_itself}
+use Rattle.xfs_base.specs.Limits.{slot_count, block_logs}
+use Rattle.xfs_base.specs.Logs.{cleaners_number}
 
 difference : (a b : ℕ) → a < b → a + (b - a) ≡ b
 difference a b less = omega arith
 
 module _ (laws : StepsBelow) (base : Setting) (e : Estate AnyNode) (lines : HasLines base e) (texts : Texts base e lines) (part : ℕ)
-    (first : ℕ → ℕ → Segment) (of_eight : part < 8) (count : ℕ) (b : Both base e lines texts part first count) where
+    (first : ℕ → ℕ → Segment) (of_eight : part < slot_count) (count : ℕ) (b : Both base e lines texts part first count) where
   abbrev cl : Cluster
   cl = k base e lines texts part first
 
@@ -73,7 +75,7 @@ module _ (laws : StepsBelow) (base : Setting) (e : Estate AnyNode) (lines : HasL
         plus : (a b : ℕ) → a + suc b ≡ suc (a + b)
         plus a b = omega arith
 
-    linked_from : (l : ℕ) (g : Setting) (m : log.Net) → 0 < l → l ≤ 9 → IsSure texts.text l g m → IsLine l m n.filed → RegistrySeen g m b.idx.registry.board
+    linked_from : (l : ℕ) (g : Setting) (m : log.Net) → 0 < l → l ≤ block_logs → IsSure texts.text l g m → IsLine l m n.filed → RegistrySeen g m b.idx.registry.board
         → LinkedSince l from n.horizon n.filed
     linked_from l g m pos limit sure line seen x above some = by (nat_le n.epoch x) refl
       where
@@ -136,7 +138,7 @@ module _ (laws : StepsBelow) (base : Setting) (e : Estate AnyNode) (lines : HasL
       where
         by : (p : cleaning.Phase) → b.tok.cleaner.phase ≡ p → CleanerLinked part n p
         by (cleaners.Serving v) fact =
-            linked_from (owner.epoch_of v.promised part) (of_cleaner v fact) 9 (setting base e OfCleaner) ((lines OfCleaner tt).scene count).net (omega arith)
+            linked_from (owner.epoch_of v.promised part) (of_cleaner v fact) cleaners_number (setting base e OfCleaner) ((lines OfCleaner tt).scene count).net (omega arith)
             (omega arith) (sure_at base e lines texts part first count sure) (known.all OfCleaner tt refl).known.line
             (now.registry_seen base e lines texts part first count b OfCleaner tt)
         by (cleaners.Opening l o) fact = tt

@@ -33,6 +33,8 @@ use Rattle.run_laws.specs.world_reads.Joint.{IsSureUpto, Joint, There, flew_at, 
 use Rattle.xfs_base.proofs.Booleans.{contrary}
 use Rattle.xfs_base.specs.declared.node.NodeId.{NodeId}
 use Rattle.xfs_base.specs.declared.node.NodeId.TheVariants.{Client, Manager, Server, Cleaner, Registry}
+use Rattle.xfs_base.specs.Limits.{slot_count, block_logs}
+use Rattle.xfs_base.specs.Logs.{cleaners_number}
 
 -- ---- names
 
@@ -53,14 +55,14 @@ cleaner_or_not (Server v) = inr (λ fact. absurd cc)
 cleaner_or_not Cleaner = inl refl
 cleaner_or_not Registry = inr (λ fact. absurd cc)
 
-other_client : (c : ℕ) → c < 9 → (name : NodeId) → (Client c ≡ name → ⊥) → IsOther name c
+other_client : (c : ℕ) → c < cleaners_number → (name : NodeId) → (Client c ≡ name → ⊥) → IsOther name c
 other_client c below (Client d) away = λ same. away (ap Client same)
 other_client c below (Manager j) away = tt
 other_client c below (Server v) away = tt
 other_client c below Cleaner away = λ same. absurd (omega arith)
 other_client c below Registry away = tt
 
-other_cleaner : (name : NodeId) → ((d : ℕ) → name ≡ Client d → d < 9) → (Cleaner ≡ name → ⊥) → IsOther name its_log
+other_cleaner : (name : NodeId) → ((d : ℕ) → name ≡ Client d → d < block_logs) → (Cleaner ≡ name → ⊥) → IsOther name its_log
 other_cleaner (Client d) below away = λ same. absurd (let less = below d refl in omega arith)
 other_cleaner (Manager j) below away = tt
 other_cleaner (Server v) below away = tt
@@ -88,7 +90,7 @@ module _ (base : Setting) (e : Estate AnyNode) (lines : HasLines base e) (texts 
   pub logs_known : (count : ℕ) (joint : Joint base e lines texts part first count) → LogsKnown count (both_of base e lines texts part first count joint)
   logs_known count joint = record { all = all; none = none }
     where
-      numbered : (r : Role) (there : There base e lines texts part first r) → renews r ≡ false → (0 < log_by r) × (log_by r ≤ 9)
+      numbered : (r : Role) (there : There base e lines texts part first r) → renews r ≡ false → (0 < log_by r) × (log_by r ≤ block_logs)
       numbered (OfClient c) there keeps =
           (there.0, (let less = now.below base e lines texts part first count (both_of base e lines texts part first count joint) c there in omega arith))
       numbered OfCleaner there keeps = (omega arith, omega arith)
@@ -118,7 +120,7 @@ module _ (base : Setting) (e : Estate AnyNode) (lines : HasLines base e) (texts 
 
   -- ---- a node takes the event
 
-  module _ (laws : StepsBelow) (of_eight : part < 8) (apart : TellsApart base) (count : ℕ) (event : Event)
+  module _ (laws : StepsBelow) (of_eight : part < slot_count) (apart : TellsApart base) (count : ℕ) (event : Event)
       (at_event : slice_get e.events count ≡ Some event) (cluster : (moment e count).cluster ≡ cl) (may : MayHappen (moment e count) event)
       (b : Both base e lines texts part first count)
       (sure : IsSureUpto base e lines texts part first (suc count)) (node : AnyNode)
@@ -134,7 +136,7 @@ module _ (base : Setting) (e : Estate AnyNode) (lines : HasLines base e) (texts 
         (subst (λ x. place_of x (node_of event) ≡ Some took.place) cluster took.placed) in
         let i = behind 0 cl.clients c took.place at in (i.some, i.within)
 
-    below : (c : ℕ) → node_of event ≡ Client c → c < 9
+    below : (c : ℕ) → node_of event ≡ Client c → c < cleaners_number
     below c own = now.below base e lines texts part first count b c (is_there c own)
 
     left : (r : Role) (there : There base e lines texts part first r) → renews r ≡ false → (owner_by r ≡ node_of event → ⊥) → IsOther (node_of event) (log_by r)

@@ -24,6 +24,7 @@ use Rattle.run_laws.specs.world_logs.Standing.{CleanerOwns, OwnerSeen}
 use Rattle.run_laws.proofs.world_reads.TurnBoth.{Both}
 use Rattle.run_laws.specs.world_reads.Joint.{IsSureUpto, There, k}
 use Rattle.xfs_base.specs.declared.node.NodeId.TheVariants.{Client, Cleaner, Registry}
+use Rattle.xfs_base.specs.Logs.{cleaners_number}
 
 pub same_client : (a b : ClientNode) → Some (any.Client a) ≡ Some (any.Client b) → a ≡ b
 same_client a b fact = cc
@@ -42,7 +43,7 @@ module _ (base : Setting) (e : Estate AnyNode) (lines : HasLines base e) (texts 
     pub member : c < members cl part
     member = (let h = there.1 in omega arith)
 
-    pub below : c < 9
+    pub below : c < cleaners_number
     below = (let h = member in let f = b.index_stands.few in omega arith)
 
     pub client_here : node_in (moment e count).nodes (place_of cl (Client c)) ≡ Some (any.Client (b.tok.client c))

@@ -47,6 +47,7 @@ use Rattle.run_laws.specs.world_reads.Chains.{Follows}
 use Rattle.run_laws.specs.world_reads.Entries.{EntriesStand}
 use Rattle.run_laws.specs.world_reads.Joint.{IsSureUpto, Joint, LinesActed, There, flew_at, k}
 use Rattle.xfs_base.specs.declared.node.NodeId.TheVariants.{Cleaner}
+use Rattle.xfs_base.specs.Limits.{slot_count}
 
 -- The moment after one that stands to all small worlds: it stands so and follows that one, and no less is filed than was.
 pub record Grows (base : Setting) (e : Estate AnyNode) (lines : HasLines base e) (texts : Texts base e lines) (part : ℕ) (first : ℕ → ℕ → Segment)
@@ -57,7 +58,7 @@ pub record Grows (base : Setting) (e : Estate AnyNode) (lines : HasLines base e)
   pub follows : Follows (k base e lines texts part first) part before.tok before.idx.net joint.tok joint.idx.net
 
 module _ (laws : StepsBelow) (base : Setting) (e : Estate AnyNode) (lines : HasLines base e) (texts : Texts base e lines) (part : ℕ)
-    (first : ℕ → ℕ → Segment) (of_eight : part < 8) (apart : TellsApart base) (run : IsRun any_step any_start e.script e.events e.world)
+    (first : ℕ → ℕ → Segment) (of_eight : part < slot_count) (apart : TellsApart base) (run : IsRun any_step any_start e.script e.events e.world)
     (clusters : (count : ℕ) → (moment e count).cluster ≡ k base e lines texts part first) where
   abbrev cl : Cluster
   cl = k base e lines texts part first

@@ -29,6 +29,7 @@ use Rattle.run_laws.proofs.world_reads.TurnOwed.{AllOwed, is_owed}
 use Rattle.run_laws.proofs.world_reads.TurnStill.{IsStill, Rests, rested}
 use Rattle.run_laws.specs.world_reads.Joint.{IsSureUpto, Joint, There, k}
 use Rattle.xfs_base.proofs.Booleans.{contrary}
+use Rattle.xfs_base.specs.Limits.{slot_count}
 
 -- ---- counts
 
@@ -57,7 +58,7 @@ past_end (x ∷ events) zero none = absurd cc
 past_end (x ∷ events) (suc count) none = ap (λ more. x ∷ more) (past_end events count none)
 
 module _ (laws : StepsBelow) (base : Setting) (e : Estate AnyNode) (lines : HasLines base e) (texts : Texts base e lines) (part : ℕ)
-    (first : ℕ → ℕ → Segment) (of_eight : part < 8) (apart : TellsApart base) (run : IsRun any_step any_start e.script e.events e.world) where
+    (first : ℕ → ℕ → Segment) (of_eight : part < slot_count) (apart : TellsApart base) (run : IsRun any_step any_start e.script e.events e.world) where
   abbrev cl : Cluster
   cl = k base e lines texts part first
 

@@ -2,6 +2,8 @@
 use Rattle.std.proofs.Common.{◌≡◌, ℕ, ◌<◌, true, [], Option, None, refl, sym, subst, arith}
 use Rattle.std.specs.List.{AllByRecursion}
 use Rattle.std.specs.Prelude.{IfSome}
+use Rattle.xfs_base.specs.Limits.{slot_count}
+use Rattle.xfs_base.specs.Logs.{cleaners_number}
 use Rattle.core_world.specs.AnyNode.{any_start, any_step}
 use Rattle.core_world.specs.declared.any_node.AnyNode.{AnyNode}
 use Rattle.index_tie.specs.Filed.{rows_at}
@@ -74,7 +76,7 @@ module _ (begin : LinesBegin) (first : ℕ → ℕ → Segment) (l : ℕ) (Kind 
       }
 
 module _ (laws : StepsBelow) (base : Setting) (e : Estate AnyNode) (lines : HasLines base e) (texts : Texts base e lines) (part : ℕ)
-    (first : ℕ → ℕ → Segment) (of_eight : part < 8) (setup : IsSetup e.script.setup) where
+    (first : ℕ → ℕ → Segment) (of_eight : part < slot_count) (setup : IsSetup e.script.setup) where
   abbrev cl : Cluster
   cl = k base e lines texts part first
 
@@ -113,7 +115,7 @@ module _ (laws : StepsBelow) (base : Setting) (e : Estate AnyNode) (lines : HasL
   start_flight : flew_at base e lines texts part first OfCleaner tt 0 ≡ None
   start_flight =
       let at = ((lines OfCleaner tt).stands 0).moment in
-      begun_flight laws.lines_begin first 9 (WritesKind OfCleaner) (setting base e OfCleaner) (log.opening (setting base e OfCleaner) at.map)
+      begun_flight laws.lines_begin first cleaners_number (WritesKind OfCleaner) (setting base e OfCleaner) (log.opening (setting base e OfCleaner) at.map)
       ((lines OfCleaner tt).scene 0).net
       at.run (lines OfCleaner tt).begins
 

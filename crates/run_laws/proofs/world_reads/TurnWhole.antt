@@ -59,6 +59,7 @@ use Rattle.run_laws.specs.world_reads.Entries.{EntriesStand, PartKnown, PartsNam
 use Rattle.run_laws.specs.world_reads.Joint.{Joint, There, k, log_at}
 use Rattle.run_laws.specs.world_reads.References.{ReferencesStand}
 use Rattle.xfs_base.specs.declared.node.NodeId.TheVariants.{Manager}
+use Rattle.xfs_base.specs.Limits.{slot_count}
 
 -- the laws of the crates below on which it stands
 pub record WholeBelow : Type 0 where
@@ -86,21 +87,21 @@ module _ (laws : WholeBelow) (base : Setting) (e : Estate AnyNode) (lines : HasL
   -- a moment that stands to all small worlds
   pub record Whole (count : ℕ) : Type 0 where
     pub joints : All count
-    pub references : (part : ℕ) → part < 8 → ReferencesStand base e lines texts part first count
-    pub named : (part : ℕ) (of_eight : part < 8) → Named count (joints part of_eight).idx.net.filed
-    pub comes : (part : ℕ) (of_eight : part < 8) → Comes base e lines texts part first count (joints part of_eight)
+    pub references : (part : ℕ) → part < slot_count → ReferencesStand base e lines texts part first count
+    pub named : (part : ℕ) (of_eight : part < slot_count) → Named count (joints part of_eight).idx.net.filed
+    pub comes : (part : ℕ) (of_eight : part < slot_count) → Comes base e lines texts part first count (joints part of_eight)
 
   -- ---- an event
 
   module _ (count : ℕ) (whole : Whole count) (sure : Sure (suc count)) (event : Event) (at : slice_get e.events count ≡ Some event)
       (may : MayHappen (moment e count) event) where
-    abbrev joint : (part : ℕ) → part < 8 → Joint base e lines texts part first count
+    abbrev joint : (part : ℕ) → part < slot_count → Joint base e lines texts part first count
     joint part of_eight = whole.joints part of_eight
 
-    abbrev comes : (part : ℕ) (of_eight : part < 8) → Coming base e lines texts part first count event
+    abbrev comes : (part : ℕ) (of_eight : part < slot_count) → Coming base e lines texts part first count event
     comes part of_eight = record { cluster = moment_cluster e count; may = may; joint = whole.joints part of_eight }
 
-    module _ (part : ℕ) (of_eight : part < 8) where
+    module _ (part : ℕ) (of_eight : part < slot_count) where
       manager : (j : ℕ) (node : ManagerNode) → node_of event ≡ Manager j → Took (moment e count) event (any.Manager node)
           → ManagerOwes base e lines texts part first count laws.managers laws.telling of_eight event at (comes part of_eight)
           (laws.runs.came e setup run count) (whole.references part of_eight) node
@@ -135,12 +136,12 @@ module _ (laws : WholeBelow) (base : Setting) (e : Estate AnyNode) (lines : HasL
     -- ---- what is told of where blocks lie
 
     -- what an answer completes of a takeover is the text of its name
-    reads : (j : ℕ) → node_of event ≡ Manager j → (node : ManagerNode) → Took (moment e count) event (any.Manager node) → (slot : ℕ) (less : slot < 8)
+    reads : (j : ℕ) → node_of event ≡ Manager j → (node : ManagerNode) → Took (moment e count) event (any.Manager node) → (slot : ℕ) (less : slot < slot_count)
         → DoReads slot texts.text (joint slot less).idx.asked j (joint slot less).idx.net node.phase (what_of event)
     reads j own node took slot less = (manager_owed slot less j node own took).reads
 
     -- where so much is filed then
-    entry : (part : ℕ) (of_eight : part < 8) (h : Filed) → IsMore (joint part of_eight).idx.net.filed h
+    entry : (part : ℕ) (of_eight : part < slot_count) (h : Filed) → IsMore (joint part of_eight).idx.net.filed h
         → ((r : Role) (there : There base e lines texts part first r) → renews r ≡ false
         → IsLine (log_by r) (log_at base e lines texts part first r there (suc count)) h)
         → ((p : Packet) → In p (moment e (suc count)).sent → IsKind p) → EntryEvent base e lines texts part first count event h
@@ -157,7 +158,7 @@ module _ (laws : WholeBelow) (base : Setting) (e : Estate AnyNode) (lines : HasL
       reads = reads;
     }
 
-    tells : (part : ℕ) (of_eight : part < 8) (node : AnyNode) (took : Took (moment e count) event node)
+    tells : (part : ℕ) (of_eight : part < slot_count) (node : AnyNode) (took : Took (moment e count) event node)
         → (turned : Turned base e lines texts part first count event (both_of base e lines texts part first count (joint part of_eight)) node
         (is_owed base e lines texts part first count event (both_of base e lines texts part first count (joint part of_eight)) (owed part of_eight) node took))
         → LogsKnown base e lines texts part first (suc count) turned.then
@@ -168,19 +169,19 @@ module _ (laws : WholeBelow) (base : Setting) (e : Estate AnyNode) (lines : HasL
         (λ p among. kinds_of_tokens (k base e lines texts part first) part turned.then.tok p (turned.then.tokens_stand.facts p among)))
 
     -- each event gets what it is owed
-    pub step : (part : ℕ) (of_eight : part < 8)
+    pub step : (part : ℕ) (of_eight : part < slot_count)
         → StepIsOwed laws.steps base e lines texts part first of_eight apart run count (joint part of_eight) sure event at may
     step part of_eight = record { owed = owed part of_eight; tells = tells part of_eight }
 
     -- what is named then, and what is referred to
-    named_so : (part : ℕ) (of_eight : part < 8) (next : Grows base e lines texts part first count (joint part of_eight))
+    named_so : (part : ℕ) (of_eight : part < slot_count) (next : Grows base e lines texts part first count (joint part of_eight))
         → Named (suc count) next.joint.idx.net.filed
     named_so part of_eight next =
         named_then base e lines texts part first count laws.entries event next.joint.idx.net.filed
         (entry part of_eight next.joint.idx.net.filed next.more next.joint.lined
         (λ p among. kinds_of_tokens (k base e lines texts part first) part next.joint.tok p (next.joint.tokens_stand.facts p among)))
 
-    references_so : (part : ℕ) → part < 8 → ReferencesStand base e lines texts part first (suc count)
+    references_so : (part : ℕ) → part < slot_count → ReferencesStand base e lines texts part first (suc count)
     references_so part of_eight =
         references_go_on base e lines texts part first count laws.references (joint part of_eight) (upto_before base e lines texts part first count sure) event
         at (comes part of_eight) (whole.references part of_eight)
@@ -191,14 +192,14 @@ module _ (laws : WholeBelow) (base : Setting) (e : Estate AnyNode) (lines : HasL
     steps : Steps laws.steps base e lines texts first apart run count whole.joints sure
     steps part of_eight event at may = step count whole sure event at may part of_eight
 
-    next : (part : ℕ) (of_eight : part < 8) → Grows base e lines texts part first count (whole.joints part of_eight)
+    next : (part : ℕ) (of_eight : part < slot_count) → Grows base e lines texts part first count (whole.joints part of_eight)
     next = next_all laws.steps base e lines texts first apart run count whole.joints sure steps
 
     same_end : slice_get e.events count ≡ None → moment e (suc count) ≡ moment e count
     same_end none = ap (fold (next_world any_step) (start_world any_start e.script)) (past_end e.events count none)
 
     -- where there is no further event
-    named_still : slice_get e.events count ≡ None → (part : ℕ) (of_eight : part < 8) → Named (suc count) (next part of_eight).joint.idx.net.filed
+    named_still : slice_get e.events count ≡ None → (part : ℕ) (of_eight : part < slot_count) → Named (suc count) (next part of_eight).joint.idx.net.filed
     named_still none part of_eight =
         let f = (whole.joints part of_eight).idx.net.filed in
         let h = (next part of_eight).joint.idx.net.filed in
@@ -207,7 +208,7 @@ module _ (laws : WholeBelow) (base : Setting) (e : Estate AnyNode) (lines : HasL
         (names_rise (PartKnown base e lines count (rows_at f)) (PartKnown base e lines (suc count) (rows_at h))
         (part_later (rows_at f) (rows_at h) more base e lines count) (moment e count).nodes (moment e count).sent (whole.named part of_eight))
 
-    named_next : (part : ℕ) (of_eight : part < 8) → Named (suc count) (next part of_eight).joint.idx.net.filed
+    named_next : (part : ℕ) (of_eight : part < slot_count) → Named (suc count) (next part of_eight).joint.idx.net.filed
     named_next part of_eight = by (slice_get e.events count) refl
       where
         by : (o : Option Event) → slice_get e.events count ≡ o → Named (suc count) (next part of_eight).joint.idx.net.filed
@@ -215,7 +216,7 @@ module _ (laws : WholeBelow) (base : Setting) (e : Estate AnyNode) (lines : HasL
         by (Some event) at =
             named_so count whole sure event at (may_at e.events count event (start_world any_start e.script) e.world run at) part of_eight (next part of_eight)
 
-    references_next : (part : ℕ) → part < 8 → ReferencesStand base e lines texts part first (suc count)
+    references_next : (part : ℕ) → part < slot_count → ReferencesStand base e lines texts part first (suc count)
     references_next part of_eight = by (slice_get e.events count) refl
       where
         by : (o : Option Event) → slice_get e.events count ≡ o → ReferencesStand base e lines texts part first (suc count)

@@ -22,12 +22,13 @@ use Rattle.world_base.specs.declared.cluster.Cluster.{Cluster}
 use Rattle.run_laws.specs.world_index.Standing as places
 use Rattle.run_laws.specs.world_law.Standing as owners
 use Rattle.xfs_base.specs.declared.segment.SegRef.{SegRef}
+use Rattle.xfs_base.specs.Limits.{slot_count, block_logs}
 use Rattle.run_laws.specs.epoch_law.Slots.{BothStand}
 
 -- In each run of the small world of the index an epoch's horizon is the next one's, while nobody is active at that.
 abbrev pub HorizonsStay : Type 0
 HorizonsStay =
-    (part : ℕ) (holds : SegRef → Rows) (first : ℕ → ℕ → Segment) (n : Net) → part < 8 → Runs part holds (opening first) n → (e : ℕ) → e < n.epoch
+    (part : ℕ) (holds : SegRef → Rows) (first : ℕ → ℕ → Segment) (n : Net) → part < slot_count → Runs part holds (opening first) n → (e : ℕ) → e < n.epoch
     → n.slots (suc e) ≡ None → n.horizon (suc e) ≡ n.horizon e
 
 -- a Poll of the slot was sent
@@ -46,15 +47,15 @@ abbrev pub ClientPollsAreLow : Type 0
 ClientPollsAreLow =
     (logs : Bool) (k : Cluster) (part : ℕ) (texts : Texts) (first : ℕ → ℕ → Segment) (nodes : List AnyNode) (sent : List Packet) (acts : List Act)
     (t : owners.Scene)
-    (i : places.Scene) (c : ℕ) (s : Serving) (m : Poll) → part < 8 → BothStand logs k part texts first nodes sent acts t i → 0 < c → c < owners.members k part
+    (i : places.Scene) (c : ℕ) (s : Serving) (m : Poll) → part < slot_count → BothStand logs k part texts first nodes sent acts t i → 0 < c → c < owners.members k part
     → (t.client c).phase ≡ clients.Serving s → PollSent part sent m
-    → epoch_of s.tokens.epochs part ≤ m.epoch → (l : ℕ) → 0 < l → l ≤ 9 → IsLow i m.epoch l
+    → epoch_of s.tokens.epochs part ≤ m.epoch → (l : ℕ) → 0 < l → l ≤ block_logs → IsLow i m.epoch l
 
 -- And so it is where the cleaner serves, and has promised no later one.
 abbrev pub CleanerPollsAreLow : Type 0
 CleanerPollsAreLow =
     (logs : Bool) (k : Cluster) (part : ℕ) (texts : Texts) (first : ℕ → ℕ → Segment) (nodes : List AnyNode) (sent : List Packet) (acts : List Act)
     (t : owners.Scene)
-    (i : places.Scene) (e : Emptying) (m : Poll) → part < 8 → BothStand logs k part texts first nodes sent acts t i → t.cleaner.phase ≡ cleaning.Serving e
+    (i : places.Scene) (e : Emptying) (m : Poll) → part < slot_count → BothStand logs k part texts first nodes sent acts t i → t.cleaner.phase ≡ cleaning.Serving e
     → PollSent part sent m
-    → epoch_of e.promised.epochs part ≤ m.epoch → (l : ℕ) → 0 < l → l ≤ 9 → IsLow i m.epoch l
+    → epoch_of e.promised.epochs part ≤ m.epoch → (l : ℕ) → 0 < l → l ≤ block_logs → IsLow i m.epoch l

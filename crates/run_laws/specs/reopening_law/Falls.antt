@@ -1,11 +1,11 @@
 -- What the acts tell of a client's fall: with which flight it fell, until its log is open again.
 use Rattle.std.specs.Prelude.{◌≡◌, ℕ, List, [], ◌∷◌, ◌++◌, Option}
 use Rattle.std.specs.List.{AllByRecursion}
+use Rattle.client_node.specs.Crash.{flight_of}
 use Rattle.client_node.specs.declared.client.Client.{Client as AClient}
 use Rattle.client_node.specs.declared.phase.Phase.TheVariants.{Down, Opening, Serving as Serves}
 use Rattle.client_node.specs.declared.phase.Phase.{Phase}
 use Rattle.client_node.specs.Phases.{lasting_of, takes}
-use Rattle.client_call.specs.Crash.{flight_of}
 use Rattle.log_flight.specs.Flights.{FlightState}
 use Rattle.node_base.specs.Effects.{acts_of}
 use Rattle.version_model.specs.declared.act.Act.{Act}

@@ -3,7 +3,7 @@ use Rattle.std.specs.Prelude.{◌≡◌, ℕ, false, List, [], Some}
 use Rattle.client_node.specs.declared.client.Client.{Client as AClient}
 use Rattle.client_node.specs.declared.phase.Phase.TheVariants as phase
 use Rattle.client_node.specs.Phases.{takes}
-use Rattle.client_call.specs.declared.lasting.Lasting.{Lasting}
+use Rattle.client_serving.specs.declared.lasting.Lasting.{Lasting}
 use Rattle.client_serving.specs.declared.serving.Serving.{Serving}
 use Rattle.log_flight.specs.Flights.{FlightState}
 use Rattle.node_logs.specs.client_log_tie.ClientEvents.{ServesStraight}

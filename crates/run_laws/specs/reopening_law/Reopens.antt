@@ -1,7 +1,7 @@
 -- The event that ends a restart, in the small world of the log: what of it the small worlds of tokens and of the index are owed.
 use Rattle.std.specs.Prelude.{◌≡◌, ◌<◌, ◌≤◌, ℕ, Bool, false, List, [], Some, None}
 use Rattle.client_log.specs.LogState.{LogState}
-use Rattle.client_call.specs.Crash.{flight_of}
+use Rattle.client_node.specs.Crash.{flight_of}
 use Rattle.index_tie.specs.Filed.{Filed}
 use Rattle.log_flight.specs.Flights.{FlightState}
 use Rattle.log_law.specs.Events.{Happens}

@@ -8,10 +8,11 @@ use Rattle.token_manager.specs.SlotState.{SlotState}
 use Rattle.world_base.specs.declared.cluster.Cluster.{Cluster}
 use Rattle.run_laws.specs.world_law.Standing as tokens
 use Rattle.xfs_base.specs.declared.segment.SegName.{SegName}
+use Rattle.xfs_base.specs.Limits.{block_logs}
 
 -- from one moment to a later one the horizon of an epoch rises
 abbrev pub Rises : Net → Net → Type 0
-Rises n m = (e l : ℕ) → 0 < l → l ≤ 9 → of_log (n.horizon e) l ≤ of_log (m.horizon e) l
+Rises n m = (e l : ℕ) → 0 < l → l ≤ block_logs → of_log (n.horizon e) l ≤ of_log (m.horizon e) l
 
 -- One small world may follow another: nothing that is filed, sent, begun or to be deleted is taken back, and horizons rise; those of epochs that have no
 -- manager stay.
@@ -21,7 +22,7 @@ pub record Grown (n m : Net) : Type 0 where
   pub sent : (x : Said) → tables.In x n.sent → tables.In x m.sent
   pub deleted : (name : SegName) → tables.In name n.deleted → tables.In name m.deleted
   pub epoch : n.epoch ≤ m.epoch
-  pub from_one : (e l : ℕ) → 0 < l → l ≤ 9 → 0 < of_log (n.horizon e) l
+  pub from_one : (e l : ℕ) → 0 < l → l ≤ block_logs → 0 < of_log (n.horizon e) l
   pub rises : Rises n m
   pub horizon : (e : ℕ) → n.slots e ≡ None → e ≤ n.epoch → m.horizon e ≡ n.horizon e
   pub parts : (e : ℕ) → n.slots e ≡ None → e ≤ n.epoch → m.parts e ≡ n.parts e

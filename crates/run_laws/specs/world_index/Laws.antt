@@ -32,6 +32,7 @@ use Rattle.xfs_base.specs.Blocks.{slot_of}
 use Rattle.xfs_base.specs.declared.block.BlockId.{BlockId}
 use Rattle.xfs_base.specs.declared.node.NodeId.TheVariants.{Cleaner, Registry}
 use Rattle.xfs_base.specs.declared.segment.SegName.{SegName}
+use Rattle.xfs_base.specs.Limits.{slot_count, block_logs}
 
 -- ---- what is given
 
@@ -62,7 +63,7 @@ pub record KeepsBy (w : World AnyNode) (part : ℕ) (filed : Filed) : Type 0 whe
   pub joins : (j : ℕ) (s : SlotState) (b : BlockId) → active_at w part j ≡ Some s → slot_of b.ino.0 ≡ part → IsJoinOfApplied b filed s
   -- and who manages it at the registry's epoch has applied at least what the checkpoint covers that the registry keeps of it
   pub covers : (registry : RegistryNode) (j : ℕ) (s : SlotState) → node_named w Registry ≡ Some (any.Registry registry) → active_at w part j ≡ Some s
-      → s.epoch ≡ epoch_in registry.board part → (l : ℕ) → 0 < l → l ≤ 9
+      → s.epoch ≡ epoch_in registry.board part → (l : ℕ) → 0 < l → l ≤ block_logs
       → of_log (horizon_at registry.board.checkpoints part) l ≤ suc (applied_of s.applied l)
   -- and cleaning loses nothing: the newest row of a block isn't in a segment that a server was told to delete
   pub kept : (name : SegName) (b : BlockId) → WasDeleted w name → slot_of b.ino.0 ≡ part → is_filed_name filed name ≡ true → has_block b filed name ≡ true
@@ -77,5 +78,5 @@ pub record KeepsIndexes (w : World AnyNode) (part : ℕ) (texts : Texts) : Type 
 -- So it is at each moment of each run of a script of whose setup a run can be started, where its events are given what they are owed.
 abbrev pub EveryRunKeepsIndexes : Type 0
 EveryRunKeepsIndexes =
-    (e : Estate AnyNode) → IsSetup e.script.setup → IsRun any_step any_start e.script e.events e.world → (part : ℕ) → part < 8 → (texts : Texts)
+    (e : Estate AnyNode) → IsSetup e.script.setup → IsRun any_step any_start e.script e.events e.world → (part : ℕ) → part < slot_count → (texts : Texts)
     (first : ℕ → ℕ → Segment) → AllOwed e part texts first → (count : ℕ) → KeepsIndexes (moment e count) part texts

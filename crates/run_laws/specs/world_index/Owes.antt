@@ -38,6 +38,7 @@ use Rattle.xfs_base.specs.declared.news.SlotNews.{SlotNews}
 use Rattle.xfs_base.specs.declared.node.NodeId.{NodeId}
 use Rattle.xfs_base.specs.declared.node.NodeId.TheVariants.{Client, Manager, Cleaner, Registry}
 use Rattle.xfs_base.specs.declared.segment.SegName.{SegName}
+use Rattle.xfs_base.specs.Logs.{cleaners_number}
 
 -- ---- what is owed
 
@@ -62,7 +63,7 @@ module _ (part : ℕ) (texts : Texts) (n : Net) where
 
   -- and that it may ask what it asks, that what a reopening of its log read back is what was filed and adopted, and that it writes texts of their names
   pub record CleanerTold (p : CleanerPhase) (what : Do) (w : cleaners.Went_to) : Type 0 where
-    pub files : FilesOwed (NewFor part texts n p) texts 9 n.filed w.outs
+    pub files : FilesOwed (NewFor part texts n p) texts cleaners_number n.filed w.outs
     pub asks : AllByRecursion (EffectOwed part n) w.outs
     pub reopens : ReopensOn part texts n p w.state
     pub gets : CleanerDoOwed p what
@@ -144,7 +145,7 @@ TokensGive part limit holders n name node what = Unit {0}
 module _ (part : ℕ) (texts : Texts) (n next : Net) where
   -- the cleaner's log files what it acts to be filed, and what it promises, has to delete and says goes on
   pub record CleanerMakes (node : CleanerNode) (what : Do) : Type 0 where
-    pub filed : next.filed ≡ filed_after texts 9 n.filed (cleaners.takes node.peers node.phase what).outs
+    pub filed : next.filed ≡ filed_after texts cleaners_number n.filed (cleaners.takes node.peers node.phase what).outs
     pub slots : next.slots ≡ n.slots
     pub epoch : next.epoch ≡ n.epoch
     pub horizon : next.horizon ≡ n.horizon

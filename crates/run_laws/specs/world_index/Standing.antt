@@ -33,6 +33,7 @@ use Rattle.xfs_base.specs.declared.news.SlotNews.{SlotNews}
 use Rattle.xfs_base.specs.declared.node.NodeId.{NodeId}
 use Rattle.xfs_base.specs.declared.node.NodeId.TheVariants.{Client, Manager, Server, Cleaner, Registry}
 use Rattle.xfs_base.specs.declared.segment.SegName.{SegName}
+use Rattle.xfs_base.specs.Logs.{cleaners_number}
 
 -- what stands at one moment: the small world, the questions that the cleaner asked of blocks of the slot, and the nodes by number
 pub record Scene : Type 0 where
@@ -59,7 +60,7 @@ module _ (part : ℕ) (n : Net) where
   abbrev pub CleanerTells : Questions → Body → Type 0
   CleanerTells asked (body.Check m) = slot_of m.block.ino.0 ≡ part → CheckKnown part asked n m
   CleanerTells asked (body.Delete m) = tables.In m.name n.deleted
-  CleanerTells asked m = OwnerTells 9 Cleaner m
+  CleanerTells asked m = OwnerTells cleaners_number Cleaner m
 
   -- News of the slot are of an epoch that the registry had; while that has no manager, they have its horizon and its parts.
   pub record NewsKept (news : SlotNews) : Type 0 where
@@ -124,7 +125,7 @@ module _ (k : Cluster) (part : ℕ) (texts : Texts) (first : ℕ → ℕ → Seg
     -- the cleaner's questions: what it awaits of the segment in hand it asked of that
     pub asks : CleanerAsks (WasAsked s.asked) s.cleaner.phase
     -- no client has the number of the cleaner's log
-    pub few : members k ≤ 9
+    pub few : members k ≤ cleaners_number
     -- what is filed are the texts of their names, and no log is at its last number
     pub texts_of : AreTexts texts s.net.filed
     pub heads : (l : ℕ) → s.net.filed.head l < u32_end

@@ -25,6 +25,7 @@ use Rattle.world_base.specs.Runs.{IsRun, WasSent}
 use Rattle.run_laws.specs.world_law.Owners.{moment, node_named, tokens_at}
 use Rattle.xfs_base.specs.declared.block.BlockId.{BlockId}
 use Rattle.xfs_base.specs.declared.node.NodeId.TheVariants as nodes
+use Rattle.xfs_base.specs.Limits.{slot_count}
 
 abbrev pub active_in : SlotPhase → Option SlotState
 active_in (phase.Active a) = Some a.slot
@@ -94,7 +95,7 @@ pub record HasOneManager (w : World AnyNode) (part : ℕ) : Type 0 where
 
 -- at each moment of a run each slot has one manager at an epoch at most
 abbrev pub OneManagerThroughout : Estate AnyNode → Type 0
-OneManagerThroughout e = (count part : ℕ) → part < 8 → HasOneManager (moment e count) part
+OneManagerThroughout e = (count part : ℕ) → part < slot_count → HasOneManager (moment e count) part
 
 -- Each run of a script of whose setup a run can be started has one manager of each slot, at each of its moments.
 abbrev pub EveryRunHasOneManager : Type 0

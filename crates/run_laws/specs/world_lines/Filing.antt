@@ -30,6 +30,8 @@ use Rattle.node_slots.specs.owner_index_tie.ClientEvents as client_index
 use Rattle.segment_format.specs.declared.segment.Segment.{Segment}
 use Rattle.wire_msg.specs.declared.packet.Do.{Do}
 use Rattle.xfs_base.specs.declared.segment.SegName.{SegName}
+use Rattle.xfs_base.specs.Limits.{slot_count}
+use Rattle.xfs_base.specs.Logs.{cleaners_number}
 use Rattle.run_laws.specs.world_lines.Lines.{IsSure, SaysBlocks}
 use Rattle.run_laws.specs.world_lines.Owners.{HasFlown, IsRoomy}
 use Rattle.run_laws.specs.world_lines.Turns.{ActsFile, AllSo}
@@ -63,7 +65,7 @@ FlightSays s = IfSome s.flight (λ f. SaysBlocks f.segment)
 -- So it is of a client, whose flight says of blocks,
 abbrev pub ClientsFileTheirFlights : Type 0
 ClientsFileTheirFlights =
-    (part : ℕ) (texts : Texts) (g : Setting) (c : ℕ) (w : Scene) (n : index.Net) (node : Client) (what : Do) (s : Serving) → 0 < c → c < 9
+    (part : ℕ) (texts : Texts) (g : Setting) (c : ℕ) (w : Scene) (n : index.Net) (node : Client) (what : Do) (s : Serving) → 0 < c → c < cleaners_number
     → IsSure texts c g w.net → IsRoomy w.net → FlightSays s.log → ClientAgrees g c w node.phase → node.phase ≡ client.Serving s
     → client_index.ClientAgrees part texts n c node.phase → client_index.EventGets part texts n c node.phase what
     → FilesItsFlight w.net s.log (clients.takes node what).outs
@@ -71,7 +73,7 @@ ClientsFileTheirFlights =
 -- and of the cleaner.
 abbrev pub CleanerFilesItsFlights : Type 0
 CleanerFilesItsFlights =
-    (part : ℕ) (texts : Texts) (g : Setting) (w : Scene) (n : index.Net) (node : Cleaner) (what : Do) (e : Emptying) → part < 8 → IsSure texts 9 g w.net
+    (part : ℕ) (texts : Texts) (g : Setting) (w : Scene) (n : index.Net) (node : Cleaner) (what : Do) (e : Emptying) → part < slot_count → IsSure texts cleaners_number g w.net
     → IsRoomy w.net → FlightSays e.log → cleaner_log.CleanerAgrees g w node.phase → node.phase ≡ cleaning.Serving e
     → cleaner_index.CleanerAgrees part n texts node.phase
     → cleaner_index.EventGets part n node.phase what
@@ -83,7 +85,7 @@ CleanerFilesItsFlights =
 -- What a client acts to be filed, in any of its events, is filed after it, and has a number with one after it.
 abbrev pub ClientsActsFile : Type 0
 ClientsActsFile =
-    (part : ℕ) (texts : Texts) (g : Setting) (c : ℕ) (w v : Scene) (n : index.Net) (node : Client) (what : Do) → 0 < c → c < 9 → IsSure texts c g w.net
+    (part : ℕ) (texts : Texts) (g : Setting) (c : ℕ) (w v : Scene) (n : index.Net) (node : Client) (what : Do) → 0 < c → c < cleaners_number → IsSure texts c g w.net
     → IsRoomy w.net → ((s : Serving) → node.phase ≡ client.Serving s → FlightSays s.log) → ClientAgrees g c w node.phase
     → client_index.ClientAgrees part texts n c node.phase
     → client_index.EventGets part texts n c node.phase what → (runs : Runs g w.net v.net) → ServesStraight runs
@@ -92,7 +94,7 @@ ClientsActsFile =
 -- So does the cleaner.
 abbrev pub CleanersActsFile : Type 0
 CleanersActsFile =
-    (part : ℕ) (texts : Texts) (g : Setting) (w v : Scene) (n : index.Net) (node : Cleaner) (what : Do) → part < 8 → IsSure texts 9 g w.net
+    (part : ℕ) (texts : Texts) (g : Setting) (w v : Scene) (n : index.Net) (node : Cleaner) (what : Do) → part < slot_count → IsSure texts cleaners_number g w.net
     → IsRoomy w.net → ((e : Emptying) → node.phase ≡ cleaning.Serving e → FlightSays e.log) → cleaner_log.CleanerAgrees g w node.phase
     → cleaner_index.CleanerAgrees part n texts node.phase
     → cleaner_index.EventGets part n node.phase what

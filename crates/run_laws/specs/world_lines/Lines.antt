@@ -14,6 +14,7 @@ use Rattle.segment_format.specs.declared.segment.Segment.{Segment}
 use Rattle.segment_format.specs.Rows.{rows_of}
 use Rattle.xfs_base.specs.declared.segment.End.{End}
 use Rattle.xfs_base.specs.declared.segment.SegName.{SegName}
+use Rattle.xfs_base.specs.Limits.{block_logs}
 
 -- ---- what flew
 
@@ -51,7 +52,7 @@ pub record IsLine (l : ℕ) (n : Net) (f : Filed) : Type 0 where
 module _ (texts : Texts) (has : ℕ → Bool) (settings : ℕ → Setting) (nets : ℕ → Net) where
   -- Each log that somebody has is one of logs 1 to 9, is sure, and has its line in what is filed, which says of blocks; and no other log files anything.
   pub record AreLines (f : Filed) : Type 0 where
-    pub within : (l : ℕ) → has l ≡ true → (0 < l) × (l ≤ 9)
+    pub within : (l : ℕ) → has l ≡ true → (0 < l) × (l ≤ block_logs)
     pub sure : (l : ℕ) → has l ≡ true → IsSure texts l (settings l) (nets l)
     pub each : (l : ℕ) → has l ≡ true → IsLine l (nets l) f
     pub says : (l q : ℕ) → has l ≡ true → 0 < q → q ≤ f.head l → SaysBlocks (f.segment l q)

@@ -28,6 +28,7 @@ use Rattle.version_model.specs.declared.act.Act.TheVariants.{Filed as ActsFiled}
 use Rattle.wire_msg.specs.declared.packet.Do.{Do}
 use Rattle.xfs_base.specs.declared.node.NodeId.{NodeId}
 use Rattle.xfs_base.specs.declared.segment.SegName.{SegName}
+use Rattle.xfs_base.specs.Logs.{cleaners_number}
 use Rattle.run_laws.specs.world_lines.Lines.{IsLine, IsSure}
 use Rattle.run_laws.specs.world_lines.Turns.{AllSo}
 
@@ -86,7 +87,7 @@ ClientsLinesGoOn =
 abbrev pub CleanersLineGoesOn : Type 0
 CleanersLineGoesOn =
     (part : ℕ) (texts : Texts) (asked : Questions) (g : Setting) (w v : Scene) (n : index.Net) (cleaner : Cleaner) (what : Do) → Runs g w.net v.net
-    → FilesStill w.net v.net → IsSure texts 9 g v.net
+    → FilesStill w.net v.net → IsSure texts cleaners_number g v.net
     → cleaner_log.CleanerAgrees g v (cleaners.takes cleaner.peers cleaner.phase what).state
-    → AllSo (λ name. In name v.net.filed) (cleaners.takes cleaner.peers cleaner.phase what).outs → IsLine 9 w.net n.filed
-    → (goes : CleanerGoes part texts asked n (cleaners.takes cleaner.peers cleaner.phase what)) → IsLine 9 v.net goes.next.filed
+    → AllSo (λ name. In name v.net.filed) (cleaners.takes cleaner.peers cleaner.phase what).outs → IsLine cleaners_number w.net n.filed
+    → (goes : CleanerGoes part texts asked n (cleaners.takes cleaner.peers cleaner.phase what)) → IsLine cleaners_number v.net goes.next.filed

@@ -1,5 +1,7 @@
 -- From which horizons on a log is linked: so an owner that serves may answer Polls of the epochs from the one on that it has promised.
 use Rattle.std.specs.Prelude.{◌≡◌, ◌<◌, ◌≤◌, ◌⊎◌, ℕ, Some, List}
+use Rattle.xfs_base.specs.Limits.{slot_count, block_logs}
+use Rattle.xfs_base.specs.Logs.{cleaners_number}
 use Rattle.client_log.specs.LogState.{LogState}
 use Rattle.log_flight.specs.Flights.{FlightState}
 use Rattle.cleaner_serving.specs.declared.emptying.Emptying.{Emptying}
@@ -46,7 +48,7 @@ module _ (part : ℕ) (n : Net) where
 
   -- and of the cleaner that serves, from the epoch on that it has promised
   abbrev pub CleanerLinked : cleaners.Phase → Type 0
-  CleanerLinked (cleaning.Serving e) = LinkedSince 9 (epoch_of e.promised part) n.horizon n.filed
+  CleanerLinked (cleaning.Serving e) = LinkedSince cleaners_number (epoch_of e.promised part) n.horizon n.filed
   CleanerLinked (cleaning.Opening l o) = Unit {0}
   CleanerLinked (cleaning.Down l) = Unit {0}
 
@@ -61,7 +63,7 @@ CleanersPollsAreOwed = (part : ℕ) (n : Net) (e : Emptying) (m : Poll) → Clea
 -- From the registry's epoch on a sure log is linked so: its least horizon is no further than that of the slot.
 abbrev pub PresentIsLinked : Type 0
 PresentIsLinked =
-    (part : ℕ) (texts : Texts) (l : ℕ) (g : Setting) (m : log.Net) (n : Net) (r : RegistryNode) → part < 8 → 0 < l → l ≤ 9 → IsSure texts l g m
+    (part : ℕ) (texts : Texts) (l : ℕ) (g : Setting) (m : log.Net) (n : Net) (r : RegistryNode) → part < slot_count → 0 < l → l ≤ block_logs → IsSure texts l g m
     → IsLine l m n.filed → RegistrySeen g m r.board → RegistryAgrees part n r → LinkedSince l n.epoch n.horizon n.filed
 
 -- It stays linked where horizons rise, a later epoch is promised, and nothing more is filed of the log.

@@ -1,5 +1,6 @@
 -- What an event makes of the lines of logs: in one of another node they stay, and in one of its owner a log's line goes on by what the owner acts to be filed.
 use Rattle.std.specs.Prelude.{◌≡◌, ℕ, suc, true, false, [], ◌∷◌, List}
+use Rattle.xfs_base.specs.Logs.{cleaners_number}
 use Rattle.cleaner_node.specs.declared.cleaner.Phase.{Phase as CleanerPhase}
 use Rattle.client_log.specs.LogState.{LogState}
 use Rattle.client_log.specs.Transition.{has_next}
@@ -66,10 +67,10 @@ ClientsFilesAreOwed =
 -- and of the cleaner
 abbrev pub CleanersFilesAreOwed : Type 0
 CleanersFilesAreOwed =
-    (part : ℕ) (texts : Texts) (n : index.Net) (p : CleanerPhase) (g : Setting) (o : Net) (f : Filed) (outs : List Effect) → IsSure texts 9 g o
+    (part : ℕ) (texts : Texts) (n : index.Net) (p : CleanerPhase) (g : Setting) (o : Net) (f : Filed) (outs : List Effect) → IsSure texts cleaners_number g o
     → ActsFile o outs
     → AllSo (λ name. SaysBlocks (texts name)) outs
-    → AllNew (NewFor part texts n p) texts 9 f outs → FilesOwed (NewFor part texts n p) texts 9 f outs
+    → AllNew (NewFor part texts n p) texts cleaners_number f outs → FilesOwed (NewFor part texts n p) texts cleaners_number f outs
 
 -- An event of the owner: what it acts to be filed is filed after it. Where the owner serves then, its end is the last of what is filed then (which the law
 -- of the index gives); else nothing was filed.

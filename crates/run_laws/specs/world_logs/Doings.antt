@@ -1,7 +1,5 @@
 -- What the owner of a log did in a run, a client, the cleaner or a manager: the acts of its events.
 use Rattle.std.specs.Prelude.{ℕ, ◌==◌, Bool, false, List, [], ◌∷◌, ◌++◌, drop, length, take, if◌then◌else◌}
-use Rattle.cleaner_job.specs.Starting.{cleaner_log}
-use Rattle.manager_slots.specs.Lasting.{log_of}
 use Rattle.core_world.specs.AnyNode.{any_start, any_step}
 use Rattle.core_world.specs.declared.any_node.AnyNode.{AnyNode}
 use Rattle.version_model.specs.declared.act.Act.{Act}
@@ -10,15 +8,16 @@ use Rattle.world_base.specs.declared.event.Event.{Event}
 use Rattle.world_base.specs.declared.world.World.{World}
 use Rattle.world_base.specs.Events.{node_of}
 use Rattle.world_base.specs.NextWorld.{next_world, start_world}
+use Rattle.xfs_base.specs.Logs.{log_of}
 use Rattle.xfs_base.specs.declared.node.NodeId.{NodeId}
 use Rattle.xfs_base.specs.declared.node.NodeId.TheVariants as nodes
 
 -- whether it owns the log of this number: the client of the number, the cleaner, or the manager whose log that is
 abbrev pub owns : ℕ → NodeId → Bool
-owns c (nodes.Client d) = d == c
-owns c (nodes.Manager j) = (log_of j).0 == c
+owns c (nodes.Client d) = (log_of (nodes.Client d)).0 == c
+owns c (nodes.Manager j) = (log_of (nodes.Manager j)).0 == c
 owns c (nodes.Server v) = false
-owns c nodes.Cleaner = cleaner_log.0 == c
+owns c nodes.Cleaner = (log_of nodes.Cleaner).0 == c
 owns c nodes.Registry = false
 
 -- the acts that an event adds

@@ -1,10 +1,9 @@
 -- Whose log it is: a client's, the cleaner's, or a manager's. The small world of a log has its owner by name and by number.
 use Rattle.std.specs.Prelude.{◌≡◌, ◌≤◌, ◌<◌, ℕ, Bool, true, false}
-use Rattle.cleaner_job.specs.Starting.{cleaner_log}
 use Rattle.node_logs.specs.client_log_tie.Owner.{Scene}
 use Rattle.log_tie.specs.Setting.{Setting}
-use Rattle.manager_slots.specs.Lasting.{log_of}
 use Rattle.node_logs.specs.node_log_tie.Sight.{Asker}
+use Rattle.xfs_base.specs.Logs.{log_of}
 use Rattle.xfs_base.specs.declared.node.NodeId.{NodeId}
 use Rattle.xfs_base.specs.declared.node.NodeId.TheVariants.{Client, Manager, Cleaner}
 
@@ -15,9 +14,9 @@ pub data Role : Type 0 where
 
 -- the number of its log, and its name
 abbrev pub log_by : Role → ℕ
-log_by (Role.OfClient c) = c
-log_by Role.OfCleaner = cleaner_log.0
-log_by (Role.OfManager j) = (log_of j).0
+log_by (Role.OfClient c) = (log_of (Client c)).0
+log_by Role.OfCleaner = (log_of Cleaner).0
+log_by (Role.OfManager j) = (log_of (Manager j)).0
 
 abbrev pub owner_by : Role → NodeId
 owner_by (Role.OfClient c) = Client c

@@ -5,7 +5,7 @@ use Rattle.core_world.specs.declared.any_node.AnyNode.TheVariants as any
 use Rattle.fragment_store.specs.ShelfState.{ShelfState, held_at}
 use Rattle.group_map.specs.declared.group.Group.{Group}
 use Rattle.group_map.specs.GroupMapState.{GroupMapState}
-use Rattle.group_map.specs.Groups.{group_of}
+pub use Rattle.group_map.specs.Groups.{known_group as group_in}
 use Rattle.log_tie.specs.Setting.{generation_of, server_of}
 use Rattle.segment_format.specs.declared.segment.Segment.{Segment}
 use Rattle.stripe_code.specs.Fragments.{fragment_of}
@@ -33,10 +33,6 @@ groups_of (Some (any.Manager node)) = None
 groups_of (Some (any.Server node)) = None
 groups_of (Some (any.Cleaner node)) = None
 groups_of (Some (any.Registry node)) = Some node.board.groups
-
-abbrev pub group_in : Option GroupMapState → ℕ → Option Group
-group_in None id = None
-group_in (Some groups) id = group_of groups id
 
 -- the group of this id, by the registry's map
 abbrev pub group_at : World AnyNode → ℕ → Option Group

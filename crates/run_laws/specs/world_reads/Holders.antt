@@ -1,5 +1,5 @@
--- Who holds a block has its newest version: what a client that serves holds of a block, with its value, is the newest version of the block and that version's
--- value, up to each moment up to which no restart was doubtful (the 1996 paper, on cache consistency).
+-- Who holds a block has its newest version: what a client that serves holds of a block, where it keeps a value, is the newest version of the block and that
+-- version's value, up to each moment up to which no restart was doubtful (the 1996 paper, on cache consistency).
 use Rattle.std.specs.Prelude.{◌≡◌, ℕ, true, Some, length}
 use Rattle.core_world.specs.AnyNode.{any_start, any_step}
 use Rattle.core_world.specs.declared.any_node.AnyNode.{AnyNode}
@@ -25,7 +25,7 @@ pub record IsNewest (h : BlockHistory) (version : ℕ) (value : Content) : Type 
   pub newest : version ≡ length h.versions
   pub content : content_at version h.versions ≡ Some value
 
--- each client that serves has the newest version of each block that it holds
+-- each client that serves has the newest version, with its value, of each block of which it keeps a value
 abbrev pub HoldersAreNewest : World AnyNode → Type 0
 HoldersAreNewest w =
     (b : BlockId) (c : ℕ) (t : TokensState) (value : Content) → tokens_at w c ≡ Some t → is_held (held_of t.blocks b).mode ≡ true

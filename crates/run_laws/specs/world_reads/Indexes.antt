@@ -19,6 +19,7 @@ use Rattle.run_laws.specs.world_logs.Lines.{HasLines, Texts as RunTexts}
 use Rattle.run_laws.specs.world_reads.Dirty.{DirtyBlocksLead}
 use Rattle.run_laws.specs.world_reads.OwnTable.{IsOwnTable}
 use Rattle.xfs_base.specs.declared.segment.SegName.{SegName}
+use Rattle.xfs_base.specs.Limits.{slot_count}
 
 -- It is so by the run's own table of what logs filed, of texts of their names.
 pub record KeepsItsIndexes (e : Estate AnyNode) (count part : ℕ) (texts : Texts) : Type 0 where
@@ -34,7 +35,7 @@ abbrev pub EveryRunKeepsItsIndexes : Type 0
 EveryRunKeepsItsIndexes =
     (base : Setting) → TellsApart base → (e : Estate AnyNode) → IsSetup e.script.setup → IsRun any_step any_start e.script e.events e.world
     → (lines : HasLines base e) (texts : RunTexts base e lines) (count : ℕ) → NoDoubtfulRestart e count
-    → (part : ℕ) → part < 8 → KeepsItsIndexes e count part texts.text
+    → (part : ℕ) → part < slot_count → KeepsItsIndexes e count part texts.text
 
 -- So it is in every run, with nothing given: by the run's own table at each moment up to which no restart was doubtful. What is filed under a name is one
 -- segment throughout the run, so that none that was filed ever changes.
@@ -48,7 +49,7 @@ pub record IndexIsItsOwn (e : Estate AnyNode) (text : SegName → Segment) (coun
 
 pub record IndexesAreItsOwn (e : Estate AnyNode) : Type 0 where
   pub text : SegName → Segment
-  pub each : (count : ℕ) → NoDoubtfulRestart e count → (part : ℕ) → part < 8 → IndexIsItsOwn e text count part
+  pub each : (count : ℕ) → NoDoubtfulRestart e count → (part : ℕ) → part < slot_count → IndexIsItsOwn e text count part
 
 abbrev pub EveryRunsIndexesAreItsOwn : Type 0
 EveryRunsIndexesAreItsOwn = (e : Estate AnyNode) → IsSetup e.script.setup → IsRun any_step any_start e.script e.events e.world → IndexesAreItsOwn e

@@ -1,6 +1,7 @@
 -- How a moment of a run, up to which no restart that ended was doubtful, stands to all small worlds: those of each slot, and those of all logs; what nodes
 -- refer to and name then, and how it came about.
 use Rattle.std.specs.Prelude.{◌<◌, ℕ}
+use Rattle.xfs_base.specs.Limits.{slot_count}
 use Rattle.core_world.specs.AnyNode.{any_start, any_step}
 use Rattle.core_world.specs.declared.any_node.AnyNode.{AnyNode}
 use Rattle.index_tie.specs.Filed.{rows_at}
@@ -23,13 +24,13 @@ abbrev pub first_of : (base : Setting) (e : Estate AnyNode) (lines : HasLines ba
 first_of base e lines texts l q = texts.text (record { log = record { 0 = l }; seq = q; pass = record { inc = 0; att = 0 } })
 
 pub record MomentStands (base : Setting) (e : Estate AnyNode) (lines : HasLines base e) (texts : Texts base e lines) (count : ℕ) : Type 0 where
-  pub joints : (part : ℕ) → part < 8 → Joint base e lines texts part (first_of base e lines texts) count
-  pub references : (part : ℕ) → part < 8 → ReferencesStand base e lines texts part (first_of base e lines texts) count
+  pub joints : (part : ℕ) → part < slot_count → Joint base e lines texts part (first_of base e lines texts) count
+  pub references : (part : ℕ) → part < slot_count → ReferencesStand base e lines texts part (first_of base e lines texts) count
   -- what is named as a part of a checkpoint is a segment of a manager's log, which the manager acted to be filed
-  pub named : (part : ℕ) (of_eight : part < 8)
+  pub named : (part : ℕ) (of_eight : part < slot_count)
       → PartsNamed (PartKnown base e lines count (rows_at (joints part of_eight).idx.net.filed)) (moment e count).nodes (moment e count).sent
   -- and the moment comes of the start
-  pub comes : (part : ℕ) (of_eight : part < 8) → Comes base e lines texts part (first_of base e lines texts) count (joints part of_eight)
+  pub comes : (part : ℕ) (of_eight : part < slot_count) → Comes base e lines texts part (first_of base e lines texts) count (joints part of_eight)
 
 -- So each moment does, for any lines of the run's logs and the one text that each name has there.
 abbrev pub EveryMomentStands : Type 0

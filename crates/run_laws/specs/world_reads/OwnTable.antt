@@ -20,6 +20,7 @@ use Rattle.run_laws.specs.world_logs.Logs.{IsText}
 use Rattle.run_laws.specs.world_logs.Shelves.{group_at}
 use Rattle.xfs_base.specs.declared.node.NodeId.TheVariants as nodes
 use Rattle.xfs_base.specs.declared.segment.SegName.{SegName}
+use Rattle.xfs_base.specs.Limits.{block_logs}
 
 -- the table has a segment of this log under this very name, at the name's number
 pub record HasSegment (f : Filed) (l : ℕ) (name : SegName) : Type 0 where
@@ -43,7 +44,7 @@ module _ (e : Estate AnyNode) (count : ℕ) where
     -- each bears its log and its number
     pub borne : (l q : ℕ) → 0 < q → q ≤ f.head l → IsSegment l q (f.segment l q)
     -- and each segment of logs up to the cleaner's, the ninth, that was acted to be filed is there, whoever did, so that no number is of two
-    pub all : (name : SegName) → In (act.Filed name) (moment e count).acts → name.log.0 ≤ 9 → HasSegment f name.log.0 name
+    pub all : (name : SegName) → In (act.Filed name) (moment e count).acts → name.log.0 ≤ block_logs → HasSegment f name.log.0 name
     -- each is the segment that was stored
     pub stored : (l q : ℕ) → 0 < q → q ≤ f.head l → IsStored (f.segment l q)
     -- from the least horizon on that the registry keeps, each but the last is the prior of the next

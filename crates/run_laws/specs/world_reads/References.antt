@@ -21,6 +21,7 @@ use Rattle.xfs_base.specs.declared.node.NodeId.TheVariants.{Client, Manager, Ser
 use Rattle.xfs_base.specs.declared.segment.End.{End}
 use Rattle.xfs_base.specs.declared.segment.SegName.{SegName}
 use Rattle.xfs_base.specs.declared.segment.SegRef.{SegRef}
+use Rattle.xfs_base.specs.Logs.{cleaners_number}
 
 -- to what a node refers; clients, servers and the cleaner hold no such references
 abbrev pub AnyRefers : References → AnyNode → Type 0
@@ -62,7 +63,7 @@ module _ (base : Setting) (e : Estate AnyNode) (lines : HasLines base e) (texts 
   ReportFlew count (Client c) end = EndFlew count c end
   ReportFlew count (Manager j) end = Unit {0}
   ReportFlew count (Server v) end = Unit {0}
-  ReportFlew count Cleaner end = EndFlew count 9 end
+  ReportFlew count Cleaner end = EndFlew count cleaners_number end
   ReportFlew count Registry end = Unit {0}
 
   abbrev pub its : ℕ → References

@@ -1,11 +1,11 @@
 -- What each packet, and time, make of a client that serves: where it answers that a segment is lost, it has said so before.
 use Rattle.std.proofs.Common.{ℕ, ◌==◌, Bool, List, [], ◌∷◌, ◌++◌, Option, Some, None, nat_lt, refl}
 use Rattle.client_log.specs.declared.input.In.TheVariants as log_in
-use Rattle.client_call.specs.Grants.{is_stamp, supplies}
 use Rattle.client_call.specs.Reads.{block_read, fetches_again, heard, reading_in, value_at}
 use Rattle.client_serving.specs.declared.serving.Serving.{Serving}
 use Rattle.client_serving.specs.Flights.{held_at, writes}
 use Rattle.client_serving.specs.Follow.{follows, hands, takes_back}
+use Rattle.client_serving.specs.Grants.{is_stamp, supplies}
 use Rattle.client_serving.specs.Packets.{again, asks_for_maps, ends_fetch, hears, is_acked, is_gone, is_news, may_report, on_ack, on_body, on_forward, on_gone, on_grant, on_news, on_packet, on_poll, on_recall, on_supply, on_told, on_tick, on_welcome, polled, promised_in, promises, regroups, renews, reports, says_again, takes_news, told_at, told_by}
 use Rattle.client_serving.specs.Reads.{ends_reading, loses, with_reading}
 use Rattle.client_serving.specs.Sends.{Done, gives, report}

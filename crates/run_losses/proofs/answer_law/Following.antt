@@ -8,12 +8,11 @@ use Rattle.client_log.specs.declared.output.Out.{Out as LogOut}
 use Rattle.client_log.specs.declared.output.Out.TheVariants as log_out
 use Rattle.client_log.specs.Transition as log
 use Rattle.client_call.specs.declared.call.Call.{Call}
-use Rattle.client_call.specs.Flights.{is_giving, is_settling}
-use Rattle.client_call.specs.Lasting.{log_of}
 use Rattle.client_call.specs.Reads.{call_with, fetches, kept_while, reading_in, same_target, target_of}
 use Rattle.client_serving.specs.declared.serving.Serving.{Serving}
 use Rattle.client_serving.specs.Flights.{feeds, gives_if_clean, gives_up, held_at, keeps_clean, notes_settled, seals_again, settled_rows, settles, writes, writes_one}
 use Rattle.client_serving.specs.Follow.{evicts, follows, follows_one, hands, notes_clean, notes_copy, notes_gone, seals, takes_back}
+use Rattle.client_serving.specs.Lasting.{log_of}
 use Rattle.client_serving.specs.Reads.{ask_after, begins, begins_over, confirmed_by, confirmed_next, confirms, draws, drawn_after, ends_reading, group_in, loses, loses_at, reads, reads_over, with_reading}
 use Rattle.client_serving.specs.Sends.{Done, deltas, gaves, gives, wants}
 use Rattle.coop_cache.specs.declared.output.Out as cache_out
@@ -21,6 +20,7 @@ use Rattle.coop_cache.specs.declared.output.Out.TheVariants.{Victim}
 use Rattle.coop_cache.specs.Transition.{cleaned, left}
 use Rattle.group_map.specs.declared.group.Group.{Group}
 use Rattle.log_owner.specs.Opening.{stored}
+use Rattle.log_owner.specs.Sealing.{is_settling}
 use Rattle.log_owner.specs.Sending.{fetch, name_of, pushes_all}
 use Rattle.node_base.specs.Asking.{next_ask}
 use Rattle.node_base.specs.declared.effects.Effect.{Effect}
@@ -38,6 +38,7 @@ use Rattle.token_client.specs.declared.input.In.TheVariants as input
 use Rattle.token_client.specs.declared.output.Out as outputs
 use Rattle.token_client.specs.declared.output.Out.TheVariants as output
 use Rattle.token_client.specs.Held.{is_dirty}
+use Rattle.token_client.specs.Settling.{is_giving}
 use Rattle.token_client.specs.State.{held_of, dirty_in}
 use Rattle.token_client.specs.Transition.{transition}
 use Rattle.version_model.specs.declared.act.Act.TheVariants.{Filed}

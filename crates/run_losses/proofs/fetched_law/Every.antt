@@ -12,6 +12,7 @@ use Rattle.run_laws.specs.world_logs.Lines.{LinesHaveTexts, RunsHaveLines}
 use Rattle.run_laws.specs.world_logs.Logs.{NotDeleted}
 use Rattle.run_laws.specs.world_reads.Moments.{EveryMomentStands, first_of}
 use Rattle.xfs_base.specs.declared.segment.SegRef.{SegRef}
+use Rattle.xfs_base.specs.Limits.{slot_count}
 
 pub record Below : Type 0 where
   pub setting : TellingSetting
@@ -21,7 +22,7 @@ pub record Below : Type 0 where
   pub blocks : CallsReadBlocks
   pub stored : StoredLaws
 
-some_slot : 0 < 8
+some_slot : 0 < slot_count
 some_slot = omega arith
 
 pub calls_read_what_was_filed : Below → CallsReadWhatWasFiled

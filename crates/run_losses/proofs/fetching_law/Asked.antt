@@ -39,6 +39,7 @@ use Rattle.xfs_base.specs.declared.node.NodeId.TheVariants.{Client}
 use Rattle.xfs_base.specs.declared.token.Mode.{Mode}
 use Rattle.xfs_base.specs.declared.token.Stamp.{Stamp}
 use Rattle.xfs_base.proofs.Booleans.{equal_itself}
+use Rattle.xfs_base.specs.Limits.{slot_count}
 
 -- ---- in the small world of a slot
 
@@ -68,7 +69,7 @@ module _ (laws : NodeLaws) (e : Estate AnyNode) (setup : IsSetup e.script.setup)
   part : ℕ
   part = slot_of b.ino.0
 
-  of_eight : slot_of b.ino.0 < 8
+  of_eight : slot_of b.ino.0 < slot_count
   of_eight = slot_below b.ino.0
 
   abbrev w : World AnyNode

@@ -2,8 +2,8 @@
 use Rattle.std.proofs.Common.{◌≡◌, ◌&&◌, ◌<◌, true, false, not, [], ◌∷◌, Option, Some, None, is_none, refl, sym, ap, subst, ◌∙◌, inl, inr}
 use Rattle.xfs_base.proofs.Booleans.{by_test, contrary}
 use Rattle.client_call.specs.declared.call.Call.{Call}
-use Rattle.client_call.specs.declared.lasting.Lasting.{Lasting}
 use Rattle.client_call.specs.Reads.{call_with, fetches, reading_in, same_target, target_of}
+use Rattle.client_serving.specs.declared.lasting.Lasting.{Lasting}
 use Rattle.client_serving.specs.declared.serving.Serving.{Serving}
 use Rattle.client_serving.specs.Follow.{follows, follows_one, hands}
 use Rattle.client_serving.specs.Packets.{on_grant}

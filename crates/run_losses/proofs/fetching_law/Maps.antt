@@ -8,7 +8,7 @@ use Rattle.client_node.specs.declared.phase.Phase.{Phase}
 use Rattle.client_node.specs.declared.phase.Phase.TheVariants.{Down, Opening, Serving as Serves}
 use Rattle.client_node.specs.Phases.{Went_to, after_opening, client_room, happens, item_begins, lasting_of, on_begin, begins_item, on_deliver, on_event, on_time, opened_on, takes, wish_of, with_begun}
 use Rattle.client_node.specs.Starting.{first_client}
-use Rattle.client_call.specs.declared.lasting.Lasting.{Lasting}
+use Rattle.client_serving.specs.declared.lasting.Lasting.{Lasting}
 use Rattle.client_serving.specs.declared.serving.Serving.{Serving}
 use Rattle.group_map.specs.GroupMapState.{GroupMapState}
 use Rattle.group_map.specs.Groups.{started}

@@ -3,12 +3,12 @@ use Rattle.std.proofs.Common.{◌≡◌, ◌==◌, ◌<◌, ℕ, Bool, true, Lis
 use Rattle.std.specs.Prelude.{nat_lt}
 use Rattle.xfs_base.proofs.Booleans.{by_test, contrary}
 use Rattle.client_log.specs.declared.input.In.TheVariants as log_in
-use Rattle.client_call.specs.declared.lasting.Lasting.{Lasting}
-use Rattle.client_call.specs.Grants.{supplies, is_stamp}
 use Rattle.client_call.specs.Reads.{block_read, fetches_again, heard, reading_in, value_at}
+use Rattle.client_serving.specs.declared.lasting.Lasting.{Lasting}
 use Rattle.client_serving.specs.declared.serving.Serving.{Serving}
 use Rattle.client_serving.specs.Flights.{held_at, writes}
 use Rattle.client_serving.specs.Follow.{follows, hands, takes_back}
+use Rattle.client_serving.specs.Grants.{supplies, is_stamp}
 use Rattle.client_serving.specs.Packets.{on_supply, on_forward, again, says_again, on_recall, is_gone, on_gone, is_acked, on_ack, ends_fetch, told_at, told_by, on_told, renews, promises, reports, may_report, polled, on_poll, promised_in, is_news, hears, regroups, takes_news, on_news, on_welcome, on_tick, on_body, asks_for_maps, on_packet}
 use Rattle.client_serving.specs.Reads.{with_reading, ends_reading, loses}
 use Rattle.client_running.specs.Running.{runs}

@@ -2,9 +2,9 @@
 use Rattle.std.proofs.Common.{◌≡◌, ◌⊎◌, ℕ, ◌<◌, false, true, List, Option, Some, None, is_none, sym, ap, subst, ◌∙◌, inl, inr}
 use Rattle.std.specs.List.{AllByRecursion}
 use Rattle.client_call.specs.declared.call.Call.{Call}
-use Rattle.client_call.specs.declared.lasting.Lasting.{Lasting}
 use Rattle.xfs_base.proofs.Booleans.{contrary}
 use Rattle.client_call.specs.Reads.{reading_in}
+use Rattle.client_serving.specs.declared.lasting.Lasting.{Lasting}
 use Rattle.client_serving.specs.declared.serving.Serving.{Serving}
 use Rattle.client_serving.specs.Reads.{group_in}
 use Rattle.client_running.specs.Running.{runs}

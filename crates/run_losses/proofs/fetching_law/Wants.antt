@@ -22,7 +22,7 @@ use Rattle.xfs_base.specs.declared.entry.Place.{Place}
 use Rattle.xfs_base.specs.declared.token.Mode.{Mode}
 use Rattle.xfs_base.specs.declared.token.Mode.TheVariants.{Copy}
 use Rattle.xfs_base.specs.declared.token.Stamp.{Stamp}
-use Rattle.xfs_base.specs.Limits.{u32_end}
+use Rattle.xfs_base.specs.Limits.{u32_end, slot_count}
 use Rattle.xfs_base.specs.Modes.{is_own, is_held}
 use Rattle.xfs_base.specs.Stamps.{is_later}
 use Rattle.xfs_base.specs.Steps.{still, saying, steps}
@@ -223,8 +223,8 @@ module _ (b : BlockId) (inc highest epoch : ℕ) where
   promise_so s slot at l =
       by_test Keeps (may_promise s slot at) (steps ask_copy (raised s slot at) (fetched_in slot s.blocks)) (still s)
       (λ t. steps_so ask_copy ask_copy_so (raised s slot at) (fetched_in slot s.blocks)
-      (raised_so s slot at (leb-true (epoch_of s.epochs slot) at (and_second (nat_lt slot 8) (nat_le (epoch_of s.epochs slot) at)
-      (and_first (nat_lt slot 8 && nat_le (epoch_of s.epochs slot) at) (nat_le (length (fetched_in slot s.blocks)) (u32_end - s.req)) t))) l)) (λ t. l)
+      (raised_so s slot at (leb-true (epoch_of s.epochs slot) at (and_second (nat_lt slot slot_count) (nat_le (epoch_of s.epochs slot) at)
+      (and_first (nat_lt slot slot_count && nat_le (epoch_of s.epochs slot) at) (nat_le (length (fetched_in slot s.blocks)) (u32_end - s.req)) t))) l)) (λ t. l)
 
   repeated_so : (s : TokensState) (block : BlockId) (want : Option Wanted) → (held_of s.blocks block).want ≡ want → Later s → Keeps (repeated s block want)
   repeated_so s block None fact l = l

@@ -12,20 +12,20 @@ use Rattle.client_call.specs.Calls.{after_answer}
 use Rattle.client_call.specs.declared.call.Call.{Call}
 use Rattle.client_call.specs.declared.call.Going.TheVariants.{On, Ends}
 use Rattle.client_call.specs.declared.call.Going.{Going}
-use Rattle.client_call.specs.declared.lasting.Lasting.{Lasting}
 use Rattle.client_call.specs.Fitting.{put_fits}
-use Rattle.client_call.specs.Flights.{is_settling, is_giving}
-use Rattle.client_call.specs.Lasting.{log_of}
 use Rattle.client_call.specs.Reads.{reading_in}
 use Rattle.client_running.specs.Blocks.{Made, needs, got, gets, wrote, changes, held_back, changes_if_fits, puts, lets_go, changed, puts_again, puts_at, is_settled, synced_acts, syncs, makes}
+use Rattle.client_serving.specs.declared.lasting.Lasting.{Lasting}
 use Rattle.client_serving.specs.declared.serving.Serving.{Serving}
 use Rattle.client_serving.specs.Flights.{held_at, notes_settled, keeps_clean, gives_up, gives_if_clean, feeds, settled_rows, settles, writes_one, seals_again, writes}
 use Rattle.client_serving.specs.Follow.{notes_clean, notes_gone, seals}
 use Rattle.client_running.specs.Running.{goes_on, Ran, answers_call, ran, runs_call, runs_once, runs_upto, runs, most_steps}
+use Rattle.client_serving.specs.Lasting.{log_of}
 use Rattle.client_serving.specs.Sends.{Done, gives}
 use Rattle.file_plan.specs.declared.block_call.BlockAnswer.{BlockAnswer}
 use Rattle.file_plan.specs.declared.block_call.BlockCall.{BlockCall}
 use Rattle.file_plan.specs.declared.block_call.BlockCall.TheVariants.{Get, Put, PutAt, Sync}
+use Rattle.log_owner.specs.Sealing.{is_settling}
 use Rattle.log_owner.specs.Sending.{name_of, pushes_all}
 use Rattle.node_base.specs.declared.effects.Effect.{Effect}
 use Rattle.node_base.specs.declared.effects.Effect.TheVariants.{Does}
@@ -33,6 +33,7 @@ use Rattle.run_laws.proofs.place_law.AimsReads.{GoingNew, next_new}
 use Rattle.token_client.specs.declared.held.Giving.{Giving}
 use Rattle.token_client.specs.declared.input.In.TheVariants as input
 use Rattle.token_client.specs.Held.{is_dirty, may_write}
+use Rattle.token_client.specs.Settling.{is_giving}
 use Rattle.token_client.specs.State.{dirty_in}
 use Rattle.token_client.specs.Transition as client
 use Rattle.version_model.specs.declared.act.Act.TheVariants.{Filed}

@@ -32,12 +32,13 @@ use Rattle.xfs_base.specs.Blocks.{slot_of}
 use Rattle.xfs_base.specs.declared.node.NodeId.{NodeId}
 use Rattle.xfs_base.specs.declared.node.NodeId.TheVariants as names
 use Rattle.xfs_base.specs.declared.segment.SegName.{SegName}
+use Rattle.xfs_base.specs.Limits.{slot_count}
 use Rattle.run_losses.specs.gone_law.Gones.{GonesWereLost, SaidLost, ToldLost, promised_in}
 
 -- ---- a Gone is a manager's
 
 module _ (laws : NodeLaws) (e : Estate AnyNode) (setup : IsSetup e.script.setup) (run : IsRun any_step any_start e.script e.events e.world) (count : ℕ) where
-  first_slot : 0 < 8
+  first_slot : 0 < slot_count
   first_slot = omega arith
 
   abbrev k : Cluster

@@ -35,6 +35,7 @@ use Rattle.run_laws.specs.world_law.Owners.{moment, node_in}
 use Rattle.run_laws.specs.world_logs.Lines.{HasLines}
 use Rattle.xfs_base.specs.declared.node.NodeId.{NodeId}
 use Rattle.xfs_base.specs.declared.node.NodeId.TheVariants.{Client, Manager, Server, Cleaner, Registry}
+use Rattle.xfs_base.specs.Limits.{slot_count}
 use Rattle.run_losses.proofs.keeping_law.Sending.{SentIn}
 use Rattle.run_losses.specs.keeping_law.Grants.{GrantTells, IfGrant, ManagersGrantWhatTheyHold, WaitsInPlace}
 
@@ -91,7 +92,7 @@ module _ (laws : NodeLaws) (grants : ManagersGrantWhatTheyHold) (base : Setting)
   same_manager : (a b : ManagerNode) → any.Manager a ≡ any.Manager b → a ≡ b
   same_manager a b same = cc
 
-  module _ (count part : ℕ) (of_eight : part < 8) where
+  module _ (count part : ℕ) (of_eight : part < slot_count) where
     abbrev scene : Scene
     scene = (front laws e setup run count part of_eight).1.0
 
@@ -105,8 +106,8 @@ module _ (laws : NodeLaws) (grants : ManagersGrantWhatTheyHold) (base : Setting)
     waits : WaitsInPlace manager.phase
 
   module _ (count j : ℕ) (some : 0 < j) (limit : j ≤ k.managers) (node : AnyNode)
-      (there : node_in (moment e count).nodes (place_of k (Manager j)) ≡ Some node) (of_0 : 0 < 8) (of_1 : 1 < 8) where
-    node_is : (part : ℕ) (of_eight : part < 8) → node ≡ any.Manager ((scene count part of_eight).manager j)
+      (there : node_in (moment e count).nodes (place_of k (Manager j)) ≡ Some node) (of_0 : 0 < slot_count) (of_1 : 1 < slot_count) where
+    node_is : (part : ℕ) (of_eight : part < slot_count) → node ≡ any.Manager ((scene count part of_eight).manager j)
     node_is part of_eight =
         one_node node (any.Manager ((scene count part of_eight).manager j)) (sym there ∙ (stands count part of_eight).placed.managers j some limit)
 
@@ -142,7 +143,7 @@ module _ (laws : NodeLaws) (grants : ManagersGrantWhatTheyHold) (base : Setting)
         at_clock t.clock (IsFrom (node_of s.event)) (IsFrom (node_of s.event)) (λ q h. h) (any_step t.node (what_of s.event)).packets
         (sends_as base e lines s.when (node_of s.event) t.place t.node (what_of s.event) placed stood) p s.fresh
 
-    by_one : 0 < 8 → In p (moment e (suc s.when)).sent → ByManager k p.from
+    by_one : 0 < slot_count → In p (moment e (suc s.when)).sent → ByManager k p.from
     by_one of_0 among =
         grants_by k 0 (scene (suc s.when) 0 of_0) m p.from p.to
         (subst (SentBy k 0 (scene (suc s.when) 0 of_0) p.from p.to) is_grant ((stands (suc s.when) 0 of_0).facts p among))

@@ -21,9 +21,10 @@ use Rattle.run_laws.proofs.world_law.Turns.{event_turns}
 use Rattle.run_laws.specs.world_law.Owners.{moment, tokens_at, tokens_of, node_in}
 use Rattle.xfs_base.specs.declared.block.BlockId.{BlockId}
 use Rattle.xfs_base.specs.declared.node.NodeId.TheVariants.{Client}
+use Rattle.xfs_base.specs.Limits.{slot_count}
 
 module _ (laws : NodeLaws) (promised : ActiveEpochsPromised) (e : Estate AnyNode) (run : IsRun any_step any_start e.script e.events e.world) (part : ℕ)
-    (of_eight : part < 8) where
+    (of_eight : part < slot_count) where
   abbrev k : Cluster
   k = cluster_of e.script.setup
 

@@ -58,8 +58,9 @@ use Rattle.xfs_base.specs.declared.entry.Entry.{Entry}
 use Rattle.xfs_base.specs.declared.entry.Place.{Place}
 use Rattle.xfs_base.specs.declared.node.NodeId.{NodeId}
 use Rattle.xfs_base.specs.declared.node.NodeId.TheVariants.{Client, Manager, Server, Cleaner, Registry}
-use Rattle.xfs_base.specs.declared.segment.SegName.{SegName}
 use Rattle.xfs_base.proofs.Booleans.{equal_itself}
+use Rattle.xfs_base.proofs.SegmentNames.{same_itself}
+use Rattle.xfs_base.specs.Limits.{block_logs}
 use Rattle.run_losses.proofs.keeping_law.Blocks.{block_there}
 use Rattle.run_losses.proofs.keeping_law.Granting.{GrantedAt, granted_then}
 use Rattle.run_losses.proofs.keeping_law.Holding.{managed_there, was_to_be_deleted}
@@ -79,9 +80,6 @@ pub record Below : Type 0 where
   pub moments : EveryMomentStands
   pub undoubted : UndoubtedRunsAreSure
   pub give : LinesGive
-
-same_itself : (name : SegName) → same_name name name ≡ true
-same_itself name = grind (arith, nat_tests)
 
 -- a Grant to a client is sent in the small world, where its block is of the slot
 grant_seen : (c : Cluster) (part : ℕ) (s : Scene) (to : ℕ) (m : Grant) (from : NodeId) → SentBy c part s from (Client to) (body.Grant m)
@@ -203,7 +201,7 @@ module _ (below : Below) (base : Setting) (apart : TellsApart base) (e : Estate 
       still : IsStill base e lines texts part first below.give after count limit (below.undoubted base e lines count none) then now l q
       still = filed_still base e lines texts part first below.give after count limit (below.undoubted base e lines count none) then now l q some high
 
-      nine : (0 < l) × (l ≤ 9)
+      nine : (0 < l) × (l ≤ block_logs)
       nine = one_of_nine f filed l q some high
 
       -- is in the books, too

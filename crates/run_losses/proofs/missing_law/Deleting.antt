@@ -1,7 +1,7 @@
 -- At each moment of a run a server was told to delete a segment, or none was.
 use Rattle.std.proofs.Common.{◌≡◌, ◌⊎◌, ⊎_elim, ℕ, Bool, true, false, List, [], ◌∷◌, refl, sym, ap, subst, ◌∙◌, inl, inr}
 use Rattle.core_world.specs.declared.any_node.AnyNode.{AnyNode}
-use Rattle.fragment_store.proofs.Names.{one_name, same_itself}
+use Rattle.xfs_base.proofs.SegmentNames.{one_name, same_itself}
 use Rattle.fragment_store.specs.ShelfState.{same_name}
 use Rattle.token_protocol.specs.Basics.{In}
 use Rattle.wire_msg.specs.declared.body.Body.{Body}

@@ -9,9 +9,9 @@ use Rattle.client_node.specs.declared.phase.Phase.{Phase}
 use Rattle.client_node.specs.declared.phase.Phase.TheVariants.{Down, Opening, Serving as Serves}
 use Rattle.client_node.specs.Phases.{lasting_of, takes}
 use Rattle.client_call.specs.declared.call.Call.{Call}
-use Rattle.client_call.specs.Grants.{is_want}
 use Rattle.client_serving.specs.declared.serving.Serving.{Serving}
 use Rattle.client_serving.specs.Flights.{held_at}
+use Rattle.client_serving.specs.Grants.{is_want}
 use Rattle.core_world.specs.AnyNode.{any_start, any_step}
 use Rattle.core_world.specs.declared.any_node.AnyNode.{AnyNode}
 use Rattle.core_world.specs.declared.any_node.AnyNode.TheVariants as any
@@ -61,6 +61,7 @@ use Rattle.xfs_base.specs.declared.token.Mode.{Mode}
 use Rattle.xfs_base.specs.declared.node.NodeId.{NodeId}
 use Rattle.xfs_base.specs.declared.node.NodeId.TheVariants as nodes
 use Rattle.xfs_base.specs.declared.segment.SegName.{SegName}
+use Rattle.xfs_base.specs.Limits.{slot_count}
 use Rattle.run_losses.proofs.answer_law.Cleaners as cleaners
 use Rattle.run_losses.proofs.answer_law.Cleaners.{cleaner_turned}
 use Rattle.run_losses.proofs.answer_law.Clients as clients
@@ -133,7 +134,7 @@ gone_open s what name asks b = by s.lasting.items.unanswered refl
     by (Some item) fact = (item, fact)
 
 module _ (laws : NodeLaws) (e : Estate AnyNode) (setup : IsSetup e.script.setup) (run : IsRun any_step any_start e.script e.events e.world) (count : ℕ) where
-  first_slot : 0 < 8
+  first_slot : 0 < slot_count
   first_slot = omega arith
 
   abbrev k : Cluster

@@ -20,6 +20,7 @@ use Rattle.run_laws.specs.world_logs.Roles.{IsThere}
 use Rattle.run_laws.specs.world_logs.Roles.Role.{OfManager}
 use Rattle.run_laws.specs.world_reads.Moments.{EveryMomentStands, MomentStands, first_of}
 use Rattle.xfs_base.specs.declared.segment.SegRef.{SegRef}
+use Rattle.xfs_base.specs.Limits.{slot_count}
 
 pub record Below : Type 0 where
   pub setting : TellingSetting
@@ -44,7 +45,7 @@ module _ (below : Below) (e : Estate AnyNode) (ok : IsSetup e.script.setup) (run
   moment_stands : MomentStands base e lines texts count
   moment_stands = below.moments base below.setting.1 e ok run lines texts count none
 
-  less : slot < 8
+  less : slot < slot_count
   less =
       slot_of_map base e lines texts 0 (first_of base e lines texts) count (moment_stands.joints 0 (omega arith)) j there slot r.taking r.takes
 

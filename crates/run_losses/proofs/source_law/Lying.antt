@@ -39,7 +39,6 @@ use Rattle.segment_format.specs.declared.segment.Segment.{Segment}
 use Rattle.run_losses.specs.source_law.Sources.{WasFiled}
 use Rattle.takeover.specs.declared.report.Report.{Report as Heard}
 use Rattle.takeover.specs.declared.source.Source.{Source}
-use Rattle.takeover.specs.Reports.{writer_of}
 use Rattle.takeover.specs.Sources.{sources_of}
 use Rattle.run_losses.specs.taking_law.Takings.{Reads, slot_at, slot_of}
 use Rattle.token_protocol.specs.Basics.{In}
@@ -70,6 +69,8 @@ use Rattle.xfs_base.specs.declared.segment.End.{End}
 use Rattle.xfs_base.specs.declared.segment.LogId.{LogId}
 use Rattle.xfs_base.specs.declared.segment.SegName.{SegName}
 use Rattle.xfs_base.specs.declared.segment.SegRef.{SegRef}
+use Rattle.xfs_base.specs.Logs.{block_writer, cleaners_number}
+use Rattle.xfs_base.specs.Limits.{slot_count, block_logs}
 
 one_contained : {X : Type 0} (P : X → Type 0) (xs : List X) (x : X) → AllByRecursion P xs → Contains xs x → P x
 one_contained P [] x all fact = absurd (contains_nothing x fact)
@@ -82,13 +83,13 @@ one_among P (y ∷ xs) x all (inr later) = one_among P xs x all.1 later
 
 -- ---- one log has one owner
 
-below_nine : (c clients : ℕ) → c ≤ clients → clients + 1 ≤ 9 → c ≡ 9 → ⊥
+below_nine : (c clients : ℕ) → c ≤ clients → clients + 1 ≤ block_logs → c ≡ cleaners_number → ⊥
 below_nine c clients limit few fact = omega arith
 
-below_managers : (c clients l : ℕ) → c ≤ clients → clients + 1 ≤ 9 → 9 < l → l ≡ c → ⊥
+below_managers : (c clients l : ℕ) → c ≤ clients → clients + 1 ≤ block_logs → block_logs < l → l ≡ c → ⊥
 below_managers c clients l limit few high fact = omega arith
 
-same_role : (clients managers : ℕ) → clients + 1 ≤ 9 → (a b : Role) → IsThere clients managers a → IsThere clients managers b → renews b ≡ false
+same_role : (clients managers : ℕ) → clients + 1 ≤ block_logs → (a b : Role) → IsThere clients managers a → IsThere clients managers b → renews b ≡ false
     → log_by a ≡ log_by b → a ≡ b
 same_role clients managers few (OfClient c) (OfClient d) x y keeps fact = ap OfClient fact
 same_role clients managers few (OfClient c) OfCleaner x y keeps fact = absurd (below_nine c clients x.1 few fact)
@@ -172,12 +173,12 @@ module _ (laws : Laws) (base : Setting) (e : Estate AnyNode) (run : IsRun any_st
 
   -- ---- what its sources refer to
 
-  of_writer : (l : ℕ) (end : End) → ReportFlew base e lines texts slot first count (writer_of l) end → EndFlew base e lines texts slot first count l end
-  of_writer l end h = by (l == 9) refl h
+  of_writer : (l : ℕ) (end : End) → ReportFlew base e lines texts slot first count (block_writer l) end → EndFlew base e lines texts slot first count l end
+  of_writer l end h = by (l == cleaners_number) refl h
     where
-      by : (t : Bool) → (l == 9) ≡ t → ReportFlew base e lines texts slot first count (cond t Cleaner (Client l)) end
+      by : (t : Bool) → (l == cleaners_number) ≡ t → ReportFlew base e lines texts slot first count (cond t Cleaner (Client l)) end
           → EndFlew base e lines texts slot first count l end
-      by true fact k = subst (λ x. EndFlew base e lines texts slot first count x end) (sym (eqb-true l 9 fact)) k
+      by true fact k = subst (λ x. EndFlew base e lines texts slot first count x end) (sym (eqb-true l cleaners_number fact)) k
       by false fact k = k
 
   module _ (t : Taking) (refers : TakeRefers r t.take) where
@@ -190,7 +191,7 @@ module _ (laws : Laws) (base : Setting) (e : Estate AnyNode) (run : IsRun any_st
     its_group l end some (inr f) =
         f.grouped ∙ ap (λ (s : Segment). s.group) (sym (ap texts.text f.named ∙ texts.flown f.of.role f.of.there count f.segment f.among))
 
-    ends_bear : (l : ℕ) → 0 < l → l ≤ 9 → (x : Heard) → In x t.take.reports → x.from ≡ writer_of l → 0 < x.end.seq
+    ends_bear : (l : ℕ) → 0 < l → l ≤ block_logs → (x : Heard) → In x t.take.reports → x.from ≡ block_writer l → 0 < x.end.seq
         → x.end.group ≡ (texts.text (record { log = record { 0 = l }; seq = x.end.seq; pass = x.end.pass })).group
     ends_bear l low high x among from some =
         its_group l x.end some (of_writer l x.end (subst (λ node. ReportFlew base e lines texts slot first count node x.end) from
@@ -394,7 +395,7 @@ module _ (base : Setting) (e : Estate AnyNode) (lines : HasLines base e) (texts 
       (same_manager _ it_takes.node (one_node _ (any.Manager it_takes.node) (sym (joint.index_stands.placed.managers j there.0 there.1) ∙ it_named)))
       (joint.index_stands.managers j there.0 there.1)
 
-  pub slot_of_map : slot < 8
+  pub slot_of_map : slot < slot_count
   slot_of_map =
       subst (λ n. slot < n) (subst (places.ManagerAgrees part texts.text joint.idx.net) it_serves.serves it_agrees).0.eight
       (within it_serves.serving.slots slot t it_serves.takes)

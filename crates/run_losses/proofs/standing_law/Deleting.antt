@@ -33,6 +33,7 @@ use Rattle.run_laws.specs.world_logs.Roles.Role.{OfManager}
 use Rattle.xfs_base.specs.declared.segment.LogId.{LogId}
 use Rattle.xfs_base.specs.declared.segment.SegName.{SegName}
 use Rattle.xfs_base.proofs.Booleans.{equal_itself}
+use Rattle.xfs_base.specs.Limits.{slot_count, block_logs}
 
 -- ---- a log above 9
 
@@ -42,7 +43,7 @@ beyond [] k less = refl
 beyond (x ∷ h) zero less = absurd (let e = less in omega arith)
 beyond (x ∷ h) (suc k) less = beyond h k (omega arith)
 
-least_is_one : (log : ℕ) → 9 < log → (b : BoardState) → ((slot : ℕ) → slot < 8 → length (horizon_at b.checkpoints slot) ≡ 9)
+least_is_one : (log : ℕ) → block_logs < log → (b : BoardState) → ((slot : ℕ) → slot < slot_count → length (horizon_at b.checkpoints slot) ≡ block_logs)
     → least_horizon log (all_news b) ≡ 1
 least_is_one log high b nine =
     let a = one 0 (omega arith) in
@@ -55,7 +56,7 @@ least_is_one log high b nine =
     let j = one 7 (omega arith) in
     omega arith
   where
-    one : (slot : ℕ) → slot < 8 → horizon_of log (slot_news b slot) ≡ 1
+    one : (slot : ℕ) → slot < slot_count → horizon_of log (slot_news b slot) ≡ 1
     one slot below = beyond (horizon_at b.checkpoints slot) (log - 1) (let e = nine slot below in omega arith)
 
 -- ---- one log

@@ -45,6 +45,7 @@ use Rattle.run_laws.specs.world_reads.Chains.{Comes, Follows, IsManaged}
 use Rattle.run_laws.specs.world_reads.Joint.{Joint, k}
 use Rattle.xfs_base.specs.declared.node.NodeId.TheVariants.{Manager}
 use Rattle.xfs_base.specs.declared.segment.SegName.{SegName}
+use Rattle.xfs_base.specs.Limits.{slot_count}
 
 same_node : (a b : AnyNode) → Some a ≡ Some b → a ≡ b
 same_node a b fact = cc
@@ -110,7 +111,7 @@ none_anew c part limit j n p what w go e life past same apart held = ⊎_elim (�
         omega arith
 
 module _ (law : ManagerEventGoes) (base : Setting) (e : Estate AnyNode) (run : IsRun any_step any_start e.script e.events e.world) (lines : HasLines base e)
-    (texts : Texts base e lines) (part : ℕ) (of_eight : part < 8) (first : ℕ → ℕ → Segment) (j : ℕ)
+    (texts : Texts base e lines) (part : ℕ) (of_eight : part < slot_count) (first : ℕ → ℕ → Segment) (j : ℕ)
     (is_there : IsThere e.script.setup.clients e.script.setup.managers (OfManager j)) where
   abbrev cl : Cluster
   cl = k base e lines texts part first

@@ -13,7 +13,7 @@ use Rattle.takeover.specs.declared.report.Report.{Report}
 use Rattle.takeover.specs.declared.source.Present.{Present}
 use Rattle.takeover.specs.declared.source.Source.{Source}
 use Rattle.takeover.specs.Reports.{end_of, horizon_at}
-use Rattle.takeover.specs.Sources.{back_from, goes_back, is_none, log_source, log_sources, part_source, prior_of, sources_of}
+use Rattle.takeover.specs.Sources.{back_from, goes_back, log_source, log_sources, part_source, prior_of, sources_of}
 use Rattle.takeover.specs.TakeState.{TakeState}
 use Rattle.token_protocol.specs.Basics.{In}
 use Rattle.run_laws.proofs.world_reads.EntriesCourse.{PresentSo, SourcesSo, its_sources}
@@ -23,6 +23,8 @@ use Rattle.xfs_base.specs.declared.news.SlotNews.{SlotNews}
 use Rattle.xfs_base.specs.declared.segment.SegName.{SegName}
 use Rattle.xfs_base.specs.declared.segment.SegRef.{SegRef}
 use Rattle.xfs_base.proofs.Alls.{all_append}
+use Rattle.xfs_base.specs.Segments.{names_none}
+use Rattle.xfs_base.specs.Limits.{block_logs}
 
 none_below : (low seq : ℕ) (t : Bool) → low ≡ seq → (nat_lt low seq && t) ≡ true → ⊥
 none_below low seq t same back = grind (arith, nat_tests)
@@ -55,7 +57,7 @@ module _ (news : SlotNews) where
   pub record OfLog (source : Source) : Type 0 where
     pub log : ℕ
     pub some : 0 < log
-    pub limit : log ≤ 9
+    pub limit : log ≤ block_logs
     pub own : source.seg.name.log.0 ≡ log
     pub low : source.low ≡ horizon_at news.horizon log
 
@@ -66,7 +68,7 @@ module _ (news : SlotNews) where
 
   part_ends : (source : Source) (s : Segment) → ReadsPart news.parts source → s.name ≡ source.seg.name → goes_back source s ≡ true → ⊥
   part_ends source s part named back =
-      none_below source.low s.name.seq (not (is_none s.prior))
+      none_below source.low s.name.seq (not (names_none s.prior))
       (ap (λ (x : Source). x.low) part.of_part ∙ (ap (λ (x : Source). x.seg.name.seq) (sym part.of_part) ∙ ap (λ (n : SegName). n.seq) (sym named))) back
 
   leads_down : (source : Source) (s : Segment) → OfLog source → s.name ≡ source.seg.name → OfLog (record { seg = prior_of s; low = source.low })
@@ -90,7 +92,7 @@ module _ (news : SlotNews) where
   all_parts (ref ∷ parts) among =
       (inl (record { ref = ref; among = among ref (inl refl); of_part = refl }), all_parts parts (λ x later. among x (inr later)))
 
-  log_lies : (reports : List Report) (l : ℕ) → 0 < l → l ≤ 9 → AllByRecursion Lies (log_sources news.horizon reports l)
+  log_lies : (reports : List Report) (l : ℕ) → 0 < l → l ≤ block_logs → AllByRecursion Lies (log_sources news.horizon reports l)
   log_lies reports l some limit =
       by_test (AllByRecursion Lies) (nat_le (horizon_at news.horizon l) (end_of reports l).seq)
       (log_source l (horizon_at news.horizon l) (end_of reports l) ∷ []) []
@@ -99,7 +101,7 @@ module _ (news : SlotNews) where
   sources_lie : (reports : List Report) → AllByRecursion (λ (r : Report). Unit {0}) reports → AllByRecursion Lies (sources_of news reports)
   sources_lie reports any =
       all_append Lies (map part_source news.parts) _ (all_parts news.parts (λ ref among. among))
-      (all_logs Lies (log_sources news.horizon reports) 1 9 (λ l low high. log_lies reports l (omega arith) (omega arith)))
+      (all_logs Lies (log_sources news.horizon reports) 1 block_logs (λ l low high. log_lies reports l (omega arith) (omega arith)))
 
 -- ---- a takeover
 
@@ -123,7 +125,7 @@ module _ (part : ℕ) (texts : Texts) (n : Net) (epoch : ℕ) (take : TakeState)
   pub record IsLow (source : Source) : Type 0 where
     pub log : ℕ
     pub some : 0 < log
-    pub limit : log ≤ 9
+    pub limit : log ≤ block_logs
     pub own : source.seg.name.log.0 ≡ log
     pub low : of_log (n.horizon epoch) log ≡ source.low
 

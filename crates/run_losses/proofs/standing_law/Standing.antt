@@ -60,6 +60,7 @@ use Rattle.xfs_base.specs.Blocks.{slot_of}
 use Rattle.xfs_base.specs.declared.segment.LogId.{LogId}
 use Rattle.xfs_base.specs.declared.segment.SegName.{SegName}
 use Rattle.xfs_base.specs.declared.segment.SegRef.{SegRef}
+use Rattle.xfs_base.specs.Limits.{slot_count, block_logs}
 use Rattle.run_losses.proofs.standing_law.Deleting.{deleted_below, none_deleted}
 use Rattle.run_losses.proofs.standing_law.Holding.{ServesThere, has_begun, horizon_below, is_manager, nobody_yet, part_or_filed, parts_known, serves_there}
 use Rattle.run_losses.proofs.standing_law.Lapsing.{Lapsed, lapsed}
@@ -117,7 +118,7 @@ module _ (below : Below) (e : Estate AnyNode) (setup : IsSetup e.script.setup) (
   abbrev epoch : ℕ
   epoch = told.brings.gone.epoch
 
-  of_eight : part < 8
+  of_eight : part < slot_count
   of_eight = slot_below told.brings.gone.block.ino.0
 
   abbrev was : WasTornOrDeleted e told.manager told.said.when name
@@ -215,7 +216,7 @@ module _ (below : Below) (e : Estate AnyNode) (setup : IsSetup e.script.setup) (
         let low : least_horizon (log_by h.role) (all_news board) ≤ of_log (now.idx.net.horizon epoch) (log_by h.role) =
         polled_low below.managed below.promised true (k base e lines texts part first) part texts.text first (moment e count).nodes
         (moment e count).sent (moment e count).acts now.tok now.idx of_eight both epoch bound lapsed_now.begun (log_by h.role)
-        (subst (λ x. 0 < x) (sym h.numbered) nine.0) (subst (λ x. x ≤ 9) (sym h.numbered) nine.1) in
+        (subst (λ x. 0 < x) (sym h.numbered) nine.0) (subst (λ x. x ≤ block_logs) (sym h.numbered) nine.1) in
         let high : of_log (now.idx.net.horizon epoch) (log_by h.role) ≤ was.segment.name.seq =
         subst (λ x. of_log (now.idx.net.horizon epoch) x ≤ was.segment.name.seq) (of_its ∙ sym h.numbered) lapsed_now.low in
         let number : name.seq ≡ was.segment.name.seq = ap (λ (n : SegName). n.seq) was.named in

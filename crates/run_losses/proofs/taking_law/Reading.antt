@@ -28,7 +28,7 @@ use Rattle.takeover.specs.declared.report.Report.{Report}
 use Rattle.takeover.specs.declared.source.Present.{Present}
 use Rattle.takeover.specs.declared.source.Source.{Source}
 use Rattle.takeover.specs.Reports.{end_of, horizon_at}
-use Rattle.takeover.specs.Sources.{back_from, from_end, goes_back, is_none, log_source, log_sources, part_source, prior_of, sources_of}
+use Rattle.takeover.specs.Sources.{back_from, from_end, goes_back, log_source, log_sources, part_source, prior_of, sources_of}
 use Rattle.world_base.specs.declared.estate.Estate.{Estate}
 use Rattle.world_base.specs.Runs.{IsRun}
 use Rattle.run_laws.specs.world_law.Owners.{moment, node_named}
@@ -41,6 +41,8 @@ use Rattle.xfs_base.specs.declared.news.SlotNews.{SlotNews}
 use Rattle.xfs_base.specs.declared.node.NodeId.TheVariants as names
 use Rattle.xfs_base.specs.declared.segment.End.{End}
 use Rattle.xfs_base.proofs.Alls.{all_append, all_flat_map, all_map}
+use Rattle.xfs_base.specs.Segments.{names_none}
+use Rattle.xfs_base.specs.Limits.{block_logs}
 use Rattle.run_losses.proofs.taking_law.Always.{phase_fine}
 use Rattle.run_losses.proofs.taking_law.ManagerCounts.{IsNamed, NodeFine, all_good, named_is}
 use Rattle.run_losses.proofs.taking_law.SlotReads.{at_source}
@@ -71,9 +73,9 @@ end_above log low end = by (nat_le low end.seq) refl
 
 sources_above : (news : SlotNews) (reports : List Report) → AllByRecursion IsAbove (sources_of news reports)
 sources_above news reports =
-    all_append IsAbove (map part_source news.parts) (flat_map (log_sources news.horizon reports) (range_with_len 1 9))
+    all_append IsAbove (map part_source news.parts) (flat_map (log_sources news.horizon reports) (range_with_len 1 block_logs))
     (all_map IsAbove part_source (λ part. omega arith) news.parts)
-    (all_flat_map IsAbove (log_sources news.horizon reports) (λ log. end_above log (horizon_at news.horizon log) (end_of reports log)) (range_with_len 1 9))
+    (all_flat_map IsAbove (log_sources news.horizon reports) (λ log. end_above log (horizon_at news.horizon log) (end_of reports log)) (range_with_len 1 block_logs))
 
 same_source : (a b : Source) → Some a ≡ Some b → a ≡ b
 same_source a b fact = cc
@@ -84,7 +86,7 @@ back_above at s source = by (goes_back at s) refl
     by : (t : Bool) → goes_back at s ≡ t → cond t (Some (record { seg = prior_of s; low = at.low })) None ≡ Some source → IsAbove source
     by true fact e =
         subst IsAbove (same_source (record { seg = prior_of s; low = at.low }) source e)
-        (below_prior at.low s.name.seq (and_first (nat_lt at.low s.name.seq) (not (is_none s.prior)) fact))
+        (below_prior at.low s.name.seq (and_first (nat_lt at.low s.name.seq) (not (names_none s.prior)) fact))
     by false fact e = absurd cc
 
 module _ (came : Came) (striped : Striped) where

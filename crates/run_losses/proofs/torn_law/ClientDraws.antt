@@ -9,7 +9,7 @@ use Rattle.client_node.specs.declared.phase.Phase.{Phase}
 use Rattle.client_node.specs.Phases.{Went_to, after_opening, opened_on, item_begins, with_begun, wish_of, lasting_of, begins_item, on_begin, on_deliver, on_time, happens, client_room, takes}
 use Rattle.client_call.specs.Calls.{call_of, file_call, may_make}
 use Rattle.client_call.specs.declared.call.Going.{Going}
-use Rattle.client_call.specs.declared.lasting.Lasting.{Lasting}
+use Rattle.client_serving.specs.declared.lasting.Lasting.{Lasting}
 use Rattle.client_serving.specs.declared.serving.Serving.{Serving}
 use Rattle.client_running.specs.Opens.{begins_call, call_at, opens}
 use Rattle.client_running.specs.Running.{goes_on, runs}

@@ -22,22 +22,21 @@ use Rattle.file_plan.specs.declared.state.PlanState.{PlanState}
 use Rattle.file_plan.specs.Plan as plans
 use Rattle.client_call.specs.Calls.{after_answer, going_by}
 use Rattle.client_call.specs.Fitting.{put_fits}
-use Rattle.client_call.specs.Flights.{is_settling, is_giving}
-use Rattle.client_call.specs.Grants.{supplies, is_stamp}
-use Rattle.client_call.specs.Lasting.{log_of}
 use Rattle.client_call.specs.Reads.{block_read, Heard, heard, fetches_again, reading_in, value_at}
 use Rattle.client_serving.specs.Flights.{held_at, notes_settled, keeps_clean, gives_up, gives_if_clean, feeds, settled_rows, settles, writes_one, seals_again, writes}
 use Rattle.client_serving.specs.Follow.{notes_clean, notes_gone, seals, follows, hands, takes_back}
+use Rattle.client_serving.specs.Grants.{supplies, is_stamp}
+use Rattle.client_serving.specs.Lasting.{log_of}
 use Rattle.client_serving.specs.Packets.{on_grant, on_supply, on_forward, again, says_again, on_recall, is_gone, on_gone, is_acked, on_ack, ends_fetch, told_at, told_by, on_told, renews, promises, reports, may_report, polled, on_poll, promised_in, is_news, hears, regroups, takes_news, on_news, on_welcome, on_tick, on_body, asks_for_maps, on_packet}
 use Rattle.client_serving.specs.Reads.{with_reading, loses}
 use Rattle.client_running.specs.Running.{goes_on, Ran, answers_call, ran, runs_call, runs_once, runs_upto, runs, most_steps}
 use Rattle.client_serving.specs.Sends.{Done, gives, report}
 use Rattle.delta_feed.specs.Transition.{acknowledged, new_epoch}
-use Rattle.file_plan.specs.declared.block_call.BlockAnswer.{BlockAnswer}
 use Rattle.file_plan.specs.declared.block_call.BlockCall.{BlockCall}
 use Rattle.file_plan.specs.declared.block_call.BlockCall.TheVariants.{Get, Put, PutAt, Sync}
 use Rattle.group_map.specs.GroupMapState.{GroupMapState}
 use Rattle.log_owner.specs.Promised.{manager_set}
+use Rattle.log_owner.specs.Sealing.{is_settling}
 use Rattle.log_owner.specs.Sending.{fetch, name_of, pushes_all}
 use Rattle.node_base.specs.declared.effects.Effect.{Effect}
 use Rattle.node_base.specs.declared.effects.Effect.TheVariants.{Does}
@@ -62,6 +61,7 @@ use Rattle.token_client.specs.declared.input.In.TheVariants as input
 use Rattle.token_client.specs.declared.output.Out as outputs
 use Rattle.token_client.specs.declared.output.Out.TheVariants as output
 use Rattle.token_client.specs.Held.{is_dirty, may_write}
+use Rattle.token_client.specs.Settling.{is_giving}
 use Rattle.token_client.specs.State.{dirty_in}
 use Rattle.token_client.specs.Transition as client
 use Rattle.wire_msg.specs.declared.body.Body.{Body}
