@@ -1,0 +1,197 @@
+//! The marks of a picture: what is drawn, in the order in which it is.
+ghost use Rattle.std.specs.Prelude.{◌≡◌, ◌++◌, slice_get, IfOk, OnOk};
+ghost use Rattle.std.specs.List.{position};
+ghost use Rattle.run_chart.specs.Marks.{acts_from, arrow, arrow_at, comes, is_answer, is_coming, lost_from, marks_at, marks_of, out_from, sends};
+
+use crate::label::same_packet;
+use crate::row::Row;
+use crate::stretch::within;
+use core_world::AnyNode;
+use std::alloc::Global;
+use version_model::Act;
+use wire_msg::{Packet, SharedPacket};
+use world_base::{Estate, Event};
+use xfs_base::{List, Mem};
+
+/// A mark of a picture. Rows and columns count from 0.
+#[derive(Clone, Copy)]
+pub enum Mark {
+    /// At this row the node of this column doesn't serve: a grey bar.
+    Out {
+        /// The row.
+        row: usize,
+        /// The column.
+        column: usize,
+    },
+    /// The packet of the row's event comes: an arrow from the row in which it was sent, where that is drawn.
+    Arrow {
+        /// The row.
+        row: usize,
+        /// The row in which it was sent; none where that isn't drawn.
+        sent: Option<usize>,
+    },
+    /// A packet is sent that never comes: a short arrow that ends in a cross.
+    Lost {
+        /// The row.
+        row: usize,
+        /// Its number among those that are sent in the event, from 0.
+        nth: usize,
+    },
+    /// Something is done.
+    Done {
+        /// The row.
+        row: usize,
+        /// The number of the act among those of the event, from 0.
+        nth: usize,
+    },
+    /// What is written at a row: the line that begins or the packet that comes, and the answers.
+    Label {
+        /// The row.
+        row: usize,
+    },
+}
+
+/// Appends a bar for each node that doesn't serve.
+fn add_out(marks: &mut List<Mark>, number: usize, serving: &[bool]) -> Mem<()>
+    ensures { OnOk result (marks.new ≡ marks.old ++ out_from number 0 serving.now) }
+{
+    for column in 0..serving.len() {
+        if !serving[column] {
+            marks.push(Mark::Out {
+                row: number,
+                column,
+            })?;
+        }
+    }
+    Ok(())
+}
+
+/// Whether the packets that are sent in the event of a row are those of the sender of this one, with its clock.
+fn sends(packet: &Packet, row: &Row) -> bool
+    ensures { result ≡ sends packet.now row.now }
+{
+    row.clock == packet.clock && row.node.is_same(packet.from)
+}
+
+/// The row in which a packet was sent, where that is drawn.
+fn row_sent(rows: &[Row], packet: &Packet) -> Option<usize>
+    ensures { result ≡ position (sends packet.now) rows.now }
+{
+    rows.iter().position(|row| sends(packet, row))
+}
+
+/// Appends an arrow where a packet comes.
+fn add_arrow(marks: &mut List<Mark>, rows: &[Row], row: usize, event: &Event) -> Mem<()>
+    ensures { OnOk result (marks.new ≡ marks.old ++ arrow rows.now row event.now) }
+{
+    match event {
+        Event::Begin(_) => Ok(()),
+        Event::Deliver(packet) => marks.push(Mark::Arrow {
+            row,
+            sent: row_sent(rows, packet.as_packet()),
+        }),
+        Event::Tick(_) => Ok(()),
+    }
+}
+
+/// Appends an arrow where the event at a place is the coming of a packet.
+fn add_arrow_at(
+    marks: &mut List<Mark>,
+    rows: &[Row],
+    row: usize,
+    events: &List<Event>,
+    place: usize,
+) -> Mem<()>
+    ensures { OnOk result (marks.new ≡ marks.old ++ arrow_at rows.now row (slice_get events.now place)) }
+{
+    match events.get(place) {
+        None => Ok(()),
+        Some(event) => add_arrow(marks, rows, row, event),
+    }
+}
+
+/// Whether an event is the coming of a packet.
+fn is_coming(packet: &Packet, event: &Event) -> bool
+    ensures { result ≡ is_coming packet.now event.now }
+{
+    match event {
+        Event::Begin(_) => false,
+        Event::Deliver(other) => same_packet(packet, other.as_packet()),
+        Event::Tick(_) => false,
+    }
+}
+
+/// Whether a packet comes at any time.
+#[tactic(auto, unfolding(crate::specs::Marks::comes))]
+fn comes(events: &[Event], packet: &Packet) -> bool
+    ensures { result ≡ comes events.now packet.now }
+{
+    events.iter().any(|event| is_coming(packet, event))
+}
+
+/// Appends a mark for each packet that never comes, of those that are sent in the event of a row.
+fn add_lost(
+    marks: &mut List<Mark>,
+    number: usize,
+    events: &[Event],
+    packets: &[SharedPacket],
+) -> Mem<()>
+    ensures { OnOk result (marks.new ≡ marks.old ++ lost_from events.now number 0 packets.now) }
+{
+    for nth in 0..packets.len() {
+        if !comes(events, packets[nth].as_packet()) {
+            marks.push(Mark::Lost { row: number, nth })?;
+        }
+    }
+    Ok(())
+}
+
+/// Whether an act answers an item.
+fn is_answer(act: &Act) -> bool
+    ensures { result ≡ is_answer act.now }
+{
+    matches!(act, Act::Answered { .. })
+}
+
+/// Appends a mark for each act but answers, of those of the event of a row.
+fn add_acts(marks: &mut List<Mark>, number: usize, acts: &[Act]) -> Mem<()>
+    ensures { OnOk result (marks.new ≡ marks.old ++ acts_from number 0 acts.now) }
+{
+    for nth in 0..acts.len() {
+        if !is_answer(&acts[nth]) {
+            marks.push(Mark::Done { row: number, nth })?;
+        }
+    }
+    Ok(())
+}
+
+/// Appends the marks of a row.
+#[tactic(auto, unfolding(crate::specs::Marks::marks_at))]
+fn add_row(marks: &mut List<Mark>, estate: &Estate<AnyNode>, rows: &[Row], row: &Row) -> Mem<()>
+    ensures { OnOk result (marks.new ≡ marks.old ++ marks_at estate.now rows.now row.now) }
+{
+    let events = estate.events.as_slice();
+    let number = row.number;
+    add_out(marks, number, row.serving.as_slice())?;
+    add_arrow_at(marks, rows, number, &estate.events, row.event)?;
+    let sent = within(estate.world.sent.as_slice(), row.sent);
+    add_lost(marks, number, events, sent)?;
+    add_acts(
+        marks,
+        number,
+        within(estate.world.acts.as_slice(), row.acts),
+    )?;
+    marks.push(Mark::Label { row: number })
+}
+
+/// The marks of a picture.
+#[tactic(auto, unfolding(crate::specs::Marks::marks_of))]
+pub fn marks_of(alloc: Global, estate: &Estate<AnyNode>, rows: &[Row]) -> Mem<List<Mark>>
+    ensures { IfOk result (λ marks. marks ≡ marks_of estate.now rows.now) }
+{
+    let mut marks = List::new(alloc);
+    for row in rows {
+        add_row(&mut marks, estate, rows, row)?;
+    }
+    Ok(marks)
+}
