@@ -1,0 +1,12 @@
+pub mod Acting
+pub mod Begins
+pub mod Closing
+pub mod Each
+pub mod Linking
+pub mod Looks
+pub mod Pairs
+pub mod Parted
+pub mod Popping
+pub mod Pushing
+pub mod RingRows
+pub mod Turns

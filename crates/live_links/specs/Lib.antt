@@ -1,0 +1,5 @@
+pub mod Acts
+pub mod Ends
+pub mod Facts
+pub mod Made
+pub mod Parts

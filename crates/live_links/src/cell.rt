@@ -1,0 +1,161 @@
+//! A node with its journal and the ends of its rings.
+ghost use Rattle.std.specs.Prelude.{◌≡◌, ◌<◌, IfOk, MatchOption, IsTrue, ◌↔◌};
+ghost use Rattle.node_base.specs.Setups.{IsSetup};
+ghost use Rattle.wire_msg.specs.declared.packet.Do.TheVariants.{Begin, Deliver};
+ghost use Rattle.wire_msg.specs.declared.packet.Packet.{Packet as Sent};
+ghost use Rattle.world_base.specs.Cluster.{cluster_of, node_count};
+ghost use Rattle.journals.specs.Journals.{MayBegin, whats};
+ghost use Rattle.live_links.specs.Acts.{Acted, Turns};
+ghost use Rattle.live_links.specs.Ends.{AreStill, IsInsOf, IsOutsOf, IsUnused, Received, TookOne};
+ghost use Rattle.live_links.specs.Facts.{IsDone, IsLinked, dues_at, first_at, name_at};
+
+use crate::{Ins, Journal, Letter, Outs, RunName};
+use journals::Moment;
+use script_text::Script;
+use std::alloc::Global;
+use wire_msg::Do;
+use world_base::{Cluster, Member};
+use xfs_base::{List, Mem, NodeId};
+
+/// A node of the run R with its journal and the ends of its rings. Its type says what is true of it at all
+/// times: what it pushed it sent, and what it took was on its rings.
+#[derive(Drop)]
+pub struct Cell<N: Member, R: RunName> {
+    cluster: Cluster,
+    /// The node and its journal.
+    pub journal: Journal<N, R>,
+    /// Where it sends.
+    pub outs: Outs,
+    /// Where it receives.
+    pub ins: Ins,
+    ghost cluster_is: { cluster ≡ cluster_of R.script.setup },
+    ghost linked: { ∥ IsLinked N.transition (first_at N.first R.script journal.place) (cluster_of R.script.setup) R.outs journal.place journal.moments outs ins ∥₁ },
+}
+
+impl<N: Member, R: RunName> Cell<N, R> {
+    /// The node at a place of a script, to which nothing happened yet.
+    pub fn start(
+        alloc: Global,
+        script: &Script,
+        place: usize,
+        outs: Outs,
+        ins: Ins,
+    ) -> Mem<Cell<N, R>>
+        requires script { script.now ≡ R.script }
+        requires setup { IsSetup script.now.setup }
+        requires within { place < node_count (cluster_of script.now.setup) }
+        requires outs { IsOutsOf R.outs place outs }
+        requires ins { IsInsOf R.outs place ins }
+        requires unused { IsUnused outs }
+        ensures { IfOk result (λ c. c.journal.place ≡ place) }
+    {
+        let journal = Journal::start(alloc, script, place)?;
+        Ok(Cell {
+            cluster: Cluster::of(&script.setup),
+            journal,
+            outs,
+            ins,
+        })
+    }
+
+    /// The node's place.
+    pub fn place(&self) -> usize
+        ensures { result ≡ self.now.journal.place }
+    {
+        self.journal.place
+    }
+
+    /// The node's name.
+    pub fn name(&self) -> NodeId
+        ensures { result ≡ name_at R.script self.now.journal.place }
+    {
+        self.journal.name()
+    }
+
+    /// Whether each item was begun and is answered.
+    pub fn done(&self) -> bool
+        ensures { IsTrue result ↔ IsDone N.transition N.first R.script self.now.journal.place self.now.journal.moments }
+    {
+        self.journal.done()
+    }
+
+    /// What happened to the node, and its ends.
+    pub fn into_parts(self) -> (List<Moment>, Outs, Ins)
+        ensures moments { result.0 ≡ self.journal.moments }
+        ensures outs { result.1 ≡ self.outs }
+        ensures ins { result.2 ≡ self.ins }
+    {
+        (self.journal.into_moments(), self.outs, self.ins)
+    }
+
+    /// One turn: this happens to the node, and what it sends goes on the rings.
+    fn turn(self, alloc: Global, what: Do, from: usize, number: u64) -> Mem<Cell<N, R>>
+        requires due { what ≡ Begin → MayBegin N.transition (name_at R.script self.journal.place) (first_at N.first R.script self.journal.place) (dues_at R.script self.journal.place) (whats self.journal.moments) }
+        requires received { (x : Sent) → what ≡ Deliver x → Received self.ins (record { from = from; number = number; packet = x }) }
+        ensures place { IfOk result (λ c. c.journal.place ≡ self.journal.place) }
+        ensures same { IfOk result (λ c. c.ins ≡ self.ins) }
+        ensures turns { IfOk result (λ c. Turns N.transition (first_at N.first R.script self.journal.place) (cluster_of R.script.setup) self.journal.place what from number
+            (record { moments = self.journal.moments; outs = self.outs; ins = self.ins }) (record { moments = c.journal.moments; outs = c.outs; ins = c.ins })) }
+    {
+        let (journal, letters) = self.journal.turn(alloc, what, from, number)?;
+        let mut outs = self.outs;
+        outs.push_all(self.cluster, letters);
+        Ok(Cell {
+            cluster: self.cluster,
+            journal,
+            outs,
+            ins: self.ins,
+        })
+    }
+
+    /// Takes a packet from a ring.
+    fn receive(&mut self) -> Option<Letter>
+        ensures place { self.new.journal.place ≡ self.old.journal.place }
+        ensures moments { self.new.journal.moments ≡ self.old.journal.moments }
+        ensures outs { self.new.outs ≡ self.old.outs }
+        ensures taken { MatchOption result (AreStill self.old.ins self.new.ins) (λ letter. TookOne self.old.ins letter self.new.ins) }
+    {
+        self.ins.pop()
+    }
+
+    /// The turn of a letter that was received.
+    fn take(self, alloc: Global, letter: Letter) -> Mem<Cell<N, R>>
+        requires { Received self.ins letter }
+        ensures place { IfOk result (λ c. c.journal.place ≡ self.journal.place) }
+        ensures same { IfOk result (λ c. c.ins ≡ self.ins) }
+        ensures turns { IfOk result (λ c. Turns N.transition (first_at N.first R.script self.journal.place) (cluster_of R.script.setup) self.journal.place (Deliver letter.packet) letter.from letter.number
+            (record { moments = self.journal.moments; outs = self.outs; ins = self.ins }) (record { moments = c.journal.moments; outs = c.outs; ins = c.ins })) }
+    {
+        let from = letter.from;
+        let number = letter.number;
+        self.turn(alloc, Do::Deliver(letter.packet), from, number)
+    }
+
+    /// Makes at most one turn: begins the next item where it is due, else takes a packet, else lets time pass
+    /// where the worker is idle. It says whether it made one. What it took from a ring is delivered in this turn,
+    /// and what the node sends in it is pushed. Where memory is wanting the node is given up with its run.
+    pub fn act(self, alloc: Global, idle: bool) -> Mem<(Cell<N, R>, bool)>
+        ensures place { IfOk result (λ r. r.0.journal.place ≡ self.journal.place) }
+        ensures acted { IfOk result (λ r. Acted N.transition (first_at N.first R.script self.journal.place) (cluster_of R.script.setup) self.journal.place r.1
+            (record { moments = self.journal.moments; outs = self.outs; ins = self.ins }) (record { moments = r.0.journal.moments; outs = r.0.outs; ins = r.0.ins })) }
+    {
+        if self.journal.due() {
+            let begun = self.turn(alloc, Do::Begin, 0, 0)?;
+            return Ok((begun, true));
+        }
+        let mut cell = self;
+        match cell.receive() {
+            Some(letter) => {
+                let taken = cell.take(alloc, letter)?;
+                Ok((taken, true))
+            }
+            None => {
+                if !idle {
+                    return Ok((cell, false));
+                }
+                let ticked = cell.turn(alloc, Do::Tick, 0, 0)?;
+                Ok((ticked, true))
+            }
+        }
+    }
+}
