@@ -1,0 +1,38 @@
+-- The ends that were made are those of the cells.
+use Rattle.std.proofs.Common.{◌≡◌, refl, sym, ap, subst, ◌∙◌, ℕ, ◌+◌, List, [], ◌∷◌, ◌++◌, length, Some, length-append}
+use Rattle.std.specs.Prelude.{slice_get}
+use Rattle.journals.proofs.Gets.{get_end, get_front}
+use Rattle.live_links.specs.Ends.{In, IsInsOf, IsOutsOf, IsUnused, Out}
+use Rattle.live_links.specs.Made.{AreLinks}
+use Rattle.live_links.proofs.Each.{same_out}
+
+module _ (n : ℕ) (outs rings : List (List Out)) (ins : List (List In)) (l : AreLinks n n outs ins) (are : outs ≡ rings) where
+  pub outs_of : (p : ℕ) (row : List Out) → slice_get outs p ≡ Some row → IsOutsOf rings p row
+  outs_of p row at =
+      subst (λ r. IsOutsOf r p row) are (record {
+        count = (l.rows p row at).0 ∙ sym l.outs_count;
+        named = λ q o got. (o, (row, at, got), same_out o);
+      })
+
+  pub ins_of : (q : ℕ) (ends : List In) → slice_get ins q ≡ Some ends → IsInsOf rings q ends
+  ins_of q ends at =
+      subst (λ r. IsInsOf r q ends) are (record {
+        count = l.ends q ends at ∙ sym l.outs_count;
+        named = λ p c got. let m = l.pairs q ends p c at got in (m.1, (m.0, m.2, m.3), m.4);
+      })
+
+  pub unused_of : (p : ℕ) (row : List Out) → slice_get outs p ≡ Some row → IsUnused row
+  unused_of p row at = (l.rows p row at).1
+
+-- what is left stands where it stood
+abbrev pub IsFront : {X : Type 0} → List X → List X → Type 0
+IsFront {X} xs all = (k : ℕ) (x : X) → slice_get xs k ≡ Some x → slice_get all k ≡ Some x
+
+pub front_less : {X : Type 0} (xs less all : List X) (y : X) → IsFront xs all → xs ≡ less ++ y ∷ [] → IsFront less all
+front_less {X} xs less all y f is k x at = f k x (subst (λ (ys : List X). slice_get ys k ≡ Some x) (sym is) (get_front less y x k at))
+
+pub front_last : {X : Type 0} (xs less all : List X) (y : X) → IsFront xs all → xs ≡ less ++ y ∷ [] → slice_get all (length less) ≡ Some y
+front_last {X} xs less all y f is = f (length less) y (subst (λ (ys : List X). slice_get ys (length less) ≡ Some y) (sym is) (get_end less y (length less) refl))
+
+pub one_less : {X : Type 0} (xs less : List X) (y : X) → xs ≡ less ++ y ∷ [] → length xs ≡ length less + 1
+one_less {X} xs less y is = ap (λ (ys : List X). length ys) is ∙ length-append less (y ∷ [])

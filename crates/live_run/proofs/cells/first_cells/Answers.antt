@@ -1,0 +1,54 @@
+use Rattle.std.proofs.Common.{◌≡◌, subst, ℕ, length, Some, arith}
+use Rattle.std.specs.Prelude.{slice_get}
+use Rattle.std.proofs.lemmas.Option.{slice_get_within}
+use Rattle.live_run.proofs.Begun.{front_last, front_less, ins_of, one_less, outs_of, unused_of}
+use Rattle.live_run.proofs.cells.first_cells.Goals as goal
+
+pub loop-preserved : goal.loop-preserved
+loop-preserved g c =
+    let i = c.loop.invariant in
+    record {
+      outs = front_less c.loop.outs.items c.pop_last.new.all.items c.args.outs.items c.in-Some.row i.outs c.in-Some.ensures;
+      ins = front_less c.loop.ins.items c.pop_last-in-loop.new.all.items c.args.ins.items c.in-Some-pop_last.ends i.ins c.in-Some-pop_last.ensures;
+      count =
+          let a = one_less c.loop.outs.items c.pop_last.new.all.items c.in-Some.row c.in-Some.ensures in
+          let b = one_less c.loop.ins.items c.pop_last-in-loop.new.all.items c.in-Some-pop_last.ends c.in-Some-pop_last.ensures in
+          let same = i.count in
+          omega arith;
+      made =
+          let more = one_less c.push.new.self.items c.loop.cells.items c.in_ok-cell.cell c.in_ok-push.ensures.items in
+          let was = i.made in
+          omega arith;
+    }
+
+pub start-requires-clause-within : goal.start-requires-clause-within
+start-requires-clause-within g c =
+    let less = one_less c.loop.outs.items c.pop_last.new.all.items c.in-Some.row c.in-Some.ensures in
+    let at = front_last c.loop.outs.items c.pop_last.new.all.items c.args.outs.items c.in-Some.row c.loop.invariant.outs c.in-Some.ensures in
+    let within = slice_get_within c.args.outs.items (length c.pop_last.new.all.items) c.in-Some.row at in
+    let whole = c.requires.links.outs_count in
+    let count = c.requires.count in
+    let place : c.len.result ≡ length c.pop_last.new.all.items = let len = c.len.ensures in let known = c.pop_last.new.all.ok.0 in omega arith in
+    omega arith
+
+pub start-requires-clause-outs : goal.start-requires-clause-outs
+start-requires-clause-outs g c =
+    let at = front_last c.loop.outs.items c.pop_last.new.all.items c.args.outs.items c.in-Some.row c.loop.invariant.outs c.in-Some.ensures in
+    let place : length c.pop_last.new.all.items ≡ c.len.result = let len = c.len.ensures in let known = c.pop_last.new.all.ok.0 in omega arith in
+    outs_of c.args.count c.args.outs.items g.R.RunName.outs c.args.ins.items c.requires.links c.requires.outs c.len.result c.in-Some.row
+    (subst (λ (k : ℕ). slice_get c.args.outs.items k ≡ Some c.in-Some.row) place at)
+
+pub start-requires-clause-ins : goal.start-requires-clause-ins
+start-requires-clause-ins g c =
+    let at = front_last c.loop.ins.items c.pop_last-in-loop.new.all.items c.args.ins.items c.in-Some-pop_last.ends c.loop.invariant.ins c.in-Some-pop_last.ensures in
+    let a = one_less c.loop.outs.items c.pop_last.new.all.items c.in-Some.row c.in-Some.ensures in
+    let b = one_less c.loop.ins.items c.pop_last-in-loop.new.all.items c.in-Some-pop_last.ends c.in-Some-pop_last.ensures in
+    let same = c.loop.invariant.count in
+    let place : length c.pop_last-in-loop.new.all.items ≡ c.len.result = let len = c.len.ensures in let known = c.pop_last.new.all.ok.0 in omega arith in
+    ins_of c.args.count c.args.outs.items g.R.RunName.outs c.args.ins.items c.requires.links c.requires.outs c.len.result c.in-Some-pop_last.ends
+    (subst (λ (k : ℕ). slice_get c.args.ins.items k ≡ Some c.in-Some-pop_last.ends) place at)
+
+pub start-requires-clause-unused : goal.start-requires-clause-unused
+start-requires-clause-unused g c =
+    let at = front_last c.loop.outs.items c.pop_last.new.all.items c.args.outs.items c.in-Some.row c.loop.invariant.outs c.in-Some.ensures in
+    unused_of c.args.count c.args.outs.items g.R.RunName.outs c.args.ins.items c.requires.links c.requires.outs (length c.pop_last.new.all.items) c.in-Some.row at

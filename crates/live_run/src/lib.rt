@@ -1,0 +1,10 @@
+//! Runs by worker threads: each worker goes round over all nodes and lets one at a time have a turn, under
+//! that node's lock; at the end one thread has them all, takes the turns that are missing, and merges what
+//! happened to one run.
+#![tactic(auto)]
+
+pub mod cells;
+pub mod running;
+pub mod workers;
+
+pub use running::live;
