@@ -1,0 +1,5 @@
+pub mod BoardRuns
+pub mod BoardTurns
+pub mod NextBoards
+pub mod Projection
+pub mod Replicas
