@@ -1,0 +1,14 @@
+pub mod Begins
+pub mod Events
+pub mod Going
+pub mod Keeping
+pub mod OneRuns
+pub mod Places
+pub mod Projecting
+pub mod Registries
+pub mod Showing
+pub mod Starting
+pub mod Tied
+pub mod Turns
+pub mod TwoHad
+pub mod Worlds
