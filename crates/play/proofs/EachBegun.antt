@@ -22,7 +22,7 @@ use Rattle.play.specs.declared.player.Player.{Player}
 use Rattle.play.specs.Plays.{actors_of, begins, comes, delivered, goes_by, goes_on, goes_out, happens, opens, opens_for, played, plays_line, rounded, starts, ticks, with_one_more, with_schedule}
 use Rattle.play.specs.Plays as plays
 
-more_begun : (es fs : List Event) → begun_in (es ++ fs) ≡ begun_in es ++ begun_in fs
+pub more_begun : (es fs : List Event) → begun_in (es ++ fs) ≡ begun_in es ++ begun_in fs
 more_begun [] fs = refl
 more_begun (events.Begin node ∷ es) fs = ap (λ nodes. node ∷ nodes) (more_begun es fs)
 more_begun (events.Deliver packet ∷ es) fs = more_begun es fs
@@ -94,7 +94,7 @@ for_one node (Some actor) actors =
       | false ↦ omega arith
     ]
 
-for_each : (node : NodeId) (lines : List Line) → length (filter (λ begun. same_node begun node) (actors_of lines)) ≡ length (items_of lines node)
+pub for_each : (node : NodeId) (lines : List Line) → length (filter (λ begun. same_node begun node) (actors_of lines)) ≡ length (items_of lines node)
 for_each node [] = refl
 for_each node (l ∷ lines) =
     let mine = filter (is_for node) (works_of lines) in

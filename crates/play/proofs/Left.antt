@@ -61,7 +61,12 @@ all_sent_keep : (s : ScheduleState) (numbers : List ℕ) → left (fold sent s n
 all_sent_keep s [] = refl
 all_sent_keep s (n ∷ numbers) = all_sent_keep (sent s n) numbers ∙ sent_keeps s n
 
-repeated_keeps : (s : ScheduleState) (number : ℕ) → left (repeated s number) ≡ left s
+-- what was sent since there was so much changes nothing of it
+pub sent_since_keeps : (s : ScheduleState) (before now : ℕ) → left (sent_since s before now) ≡ left s
+unfolding sent_since
+sent_since_keeps s before now = all_sent_keep s (range_with_len before (now - before))
+
+pub repeated_keeps : (s : ScheduleState) (number : ℕ) → left (repeated s number) ≡ left s
 unfolding repeated
 repeated_keeps s number = elim (nat_lt 0 s.again) as (λ t. left (cond t (record s { again = s.again - 1; queue = s.queue ++ number ∷ [] }) s) ≡ left s) [
   | true ↦ refl
@@ -70,10 +75,8 @@ repeated_keeps s number = elim (nat_lt 0 s.again) as (λ t. left (cond t (record
 
 module _ {N : Type 0} (step : N → Do → NodeStep N) where
   happens_keeps : (p : Player N) (event : Event) → left (happens step p event).schedule ≡ left p.schedule
-  unfolding happens sent_since
-  happens_keeps p event =
-      let world = next_world step p.world event in
-      all_sent_keep p.schedule (range_with_len (length p.world.sent) (length world.sent - length p.world.sent))
+  unfolding happens
+  happens_keeps p event = sent_since_keeps p.schedule (length p.world.sent) (length (next_world step p.world event).sent)
 
   ticks_keep : (p : Player N) (nodes : List NodeId) → left (fold (ticks step) p nodes).schedule ≡ left p.schedule
   unfolding ticks

@@ -6,4 +6,4 @@ mod one_thread;
 mod player;
 
 pub use one_thread::play;
-pub use player::Player;
+pub use player::{Player, answers_since, send_since};

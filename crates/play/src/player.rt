@@ -62,7 +62,7 @@ fn answers(acts: &[Act]) -> u64
 }
 
 /// How many of the acts from a place on answer an item.
-fn answers_since(acts: &[Act], place: usize) -> u64
+pub fn answers_since(acts: &[Act], place: usize) -> u64
     ensures { result ≡ answers (drop place acts.now) }
 {
     if place >= acts.len() {
@@ -73,7 +73,7 @@ fn answers_since(acts: &[Act], place: usize) -> u64
 
 /// Hands the schedule the packets that were sent since there were so many.
 #[tactic(auto, unfolding(crate::specs::Plays::sent_since))]
-fn send_since(schedule: &mut Schedule, before: usize, now: usize) -> Mem<()>
+pub fn send_since(schedule: &mut Schedule, before: usize, now: usize) -> Mem<()>
     ensures { OnOk result (schedule.new ≡ sent_since schedule.old before now) }
 {
     for number in before..now {
@@ -98,7 +98,7 @@ impl<N: Member> Player<N> {
     }
 
     /// The play before the first line.
-    fn start(alloc: Global, script: &Script) -> Mem<Player<N>>
+    pub fn start(alloc: Global, script: &Script) -> Mem<Player<N>>
         requires { IsSetup script.now.setup }
         ensures { IfOk result (λ player. player ≡ starts N.first script.now) }
     {
@@ -112,7 +112,7 @@ impl<N: Member> Player<N> {
 
     /// An event happens.
     #[tactic(auto, unfolding(crate::specs::Plays::happens))]
-    fn happen(&mut self, alloc: Global, event: Event) -> Mem<()>
+    pub fn happen(&mut self, alloc: Global, event: Event) -> Mem<()>
         ensures exact { OnOk result (self.new ≡ happens N.transition self.old event) }
         ensures no_more { OnOk result (self.new.unanswered ≤ self.old.unanswered) }
     {
