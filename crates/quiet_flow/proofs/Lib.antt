@@ -1,0 +1,10 @@
+pub mod Arriving
+pub mod Beginning
+pub mod Counts
+pub mod Flowing
+pub mod Following
+pub mod Happening
+pub mod Lines
+pub mod Numbers
+pub mod Places
+pub mod Rounds

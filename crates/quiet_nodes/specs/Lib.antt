@@ -1,0 +1,4 @@
+pub mod Scene
+pub mod Start
+pub mod Moves
+pub mod Layers

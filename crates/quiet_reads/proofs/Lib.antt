@@ -1,0 +1,12 @@
+pub mod CopyGranted
+pub mod CopyReads
+pub mod CopyWanted
+pub mod Evicting
+pub mod FetchLayer
+pub mod Fetching
+pub mod FragmentComes
+pub mod FragmentLayer
+pub mod GetAsks
+pub mod PlaceGranted
+pub mod ReadRounds
+pub mod ReadingRuns

@@ -1,0 +1,4 @@
+pub mod Leading
+pub mod Privately
+pub mod Reading
+pub mod Writing

@@ -1,0 +1,15 @@
+//! The law of the runs of quiet scripts, by induction over their lines. It has no code: each function below has an empty body, and its contract is a law.
+#![tactic(auto)]
+
+ghost use Rattle.quiet_run.specs.Private.{PrivateScriptsAreAnswered};
+ghost use Rattle.quiet_run.specs.Runs.{LinesAnswerScripts};
+
+/// Where each quiet line leads from one drained state to the next, within 128 deliveries and a round, the run of each quiet script is answered within the bounds.
+pub fn quiet_scripts_are_answered()
+    ensures by_lines { LinesAnswerScripts }
+{}
+
+/// The run of each quiet script in which no block is named by two clients is answered within the bounds.
+pub fn private_scripts_are_answered()
+    ensures answered { PrivateScriptsAreAnswered }
+{}

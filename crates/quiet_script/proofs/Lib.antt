@@ -1,0 +1,5 @@
+pub mod Answered
+pub mod Induction
+pub mod Ranges
+pub mod Starting
+pub mod Within
